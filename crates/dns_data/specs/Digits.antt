@@ -5,16 +5,12 @@ use Rattle.dns_codec.specs.Base.{Base, encoded}
 use Rattle.dns_digits.specs.Reading.{PaddedBefore}
 use Rattle.dns_digits.specs.Spelled.{SpellsDigits, base_of, illegal, unfinished}
 use Rattle.dns_digits.specs.Tokens.{DigitsGoOn}
-use Rattle.dns_digits.specs.declared.error.DigitsError.{DigitsError}
-use Rattle.dns_digits.specs.declared.error.DigitsError.TheVariants.{TrailingBase64}
+use Rattle.dns_kinds.specs.declared.error.ErrorKind.{ErrorKind}
+use Rattle.dns_kinds.specs.declared.error.ErrorKind.TheVariants.{Quoted, TrailingBase64}
 use Rattle.dns_digits.specs.declared.kind.DigitsKind.{DigitsKind}
-use Rattle.dns_fields.specs.Errors.{of_digits}
-use Rattle.dns_fields.specs.declared.error.FieldError.TheVariants.{Quoted}
 use Rattle.dns_spelling.specs.Spelling.{AreOctetValues}
 use Rattle.dns_split.specs.EntryTokens.{TokenSeen}
 use Rattle.dns_data.specs.Rests.{RestForm, PrintedToken, BehindSome}
-use Rattle.dns_data.specs.declared.error.DataError.{DataError}
-use Rattle.dns_data.specs.declared.error.DataError.TheVariants.{Field}
 
 -- what words hold, one behind the other
 abbrev pub joined_words : List TokenSeen → List ℕ
@@ -30,17 +26,15 @@ SpellsJoined b tokens octets = AreUnquoted tokens × SpellsDigits b (joined_word
 
 -- why digits spell no octets: they end within a group; or whatever follows they spell none, and then whether something
 -- stands behind a padded group
-abbrev pub IsDigitsFault : DigitsKind → List ℕ → DigitsError → Type 0
+abbrev pub IsDigitsFault : DigitsKind → List ℕ → ErrorKind → Type 0
 IsDigitsFault kind text e =
     ((e ≡ unfinished kind) × DigitsGoOn kind text)
     ⊎ ((((e ≡ illegal kind) × (PaddedBefore (base_of kind) text → ⊥)) ⊎ ((e ≡ TrailingBase64) × PaddedBefore (base_of kind) text)) × (DigitsGoOn kind text → ⊥))
 
 -- behind words, why the next token is refused: it is a quoted text; or the digits up to its end have a fault
-abbrev pub JoinedReason : DigitsKind → List TokenSeen → List TokenSeen → DataError → Type 0
-JoinedReason kind before [] e = (d : DigitsError) × (e ≡ Field (of_digits d)) × IsDigitsFault kind (joined_words before) d
-JoinedReason kind before (t ∷ ts) e =
-    ((e ≡ Field Quoted) × (t.is_quoted ≡ true))
-    ⊎ ((t.is_quoted ≡ false) × ((d : DigitsError) × (e ≡ Field (of_digits d)) × IsDigitsFault kind (joined_words (before ++ t ∷ [])) d))
+abbrev pub JoinedReason : DigitsKind → List TokenSeen → List TokenSeen → ErrorKind → Type 0
+JoinedReason kind before [] e = IsDigitsFault kind (joined_words before) e
+JoinedReason kind before (t ∷ ts) e = ((e ≡ Quoted) × (t.is_quoted ≡ true)) ⊎ ((t.is_quoted ≡ false) × IsDigitsFault kind (joined_words (before ++ t ∷ [])) e)
 
 -- octets are printed as one word, and none as no word
 abbrev pub printed_digits : Base → List ℕ → List PrintedToken

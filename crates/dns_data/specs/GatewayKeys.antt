@@ -6,11 +6,12 @@ use Rattle.dns_octets.specs.Room.{Room}
 use Rattle.dns_digits.specs.declared.kind.DigitsKind.TheVariants.{Base64 as InBase64}
 use Rattle.dns_fields.specs.Fields.{field_form}
 use Rattle.dns_fields.specs.Taking.{SpellsField}
-use Rattle.dns_fields.specs.declared.error.FieldError.TheVariants.{EndOfEntry, Quoted}
+use Rattle.dns_fields.specs.declared.record_error.RecordError.{RecordError}
+use Rattle.dns_kinds.specs.declared.error.ErrorKind.{ErrorKind}
+use Rattle.dns_kinds.specs.declared.error.ErrorKind.TheVariants.{EndOfEntry, Quoted, ExpectedGateway, UnknownGateway}
 use Rattle.dns_fields.specs.declared.field.Field.TheVariants.{Number8 as OfNumber8, Name as OfName}
 use Rattle.dns_kinds.specs.Addresses.{shown_ipv6}
 use Rattle.dns_places.specs.Gateways.{IsGateway, gateway_type, SpellsGateway, gateway_octets}
-use Rattle.dns_places.specs.declared.error.PlaceError.TheVariants.{ExpectedGateway}
 use Rattle.dns_places.specs.declared.gateway.Gateway.{Gateway}
 use Rattle.dns_spelling.specs.NameSpelling.{IsWireName}
 use Rattle.dns_spelling.specs.PrintedNames.{wire_name_text}
@@ -18,9 +19,6 @@ use Rattle.dns_split.specs.EntryTokens.{TokenSeen}
 use Rattle.dns_data.specs.Digits.{digits_form}
 use Rattle.dns_data.specs.Rests.{RestForm, PrintedToken}
 use Rattle.dns_data.specs.TokenForms.{TokenForm, FieldReason, PartBehind, TakesTokenAs, then_form}
-use Rattle.dns_data.specs.declared.error.DataError.{DataError}
-use Rattle.dns_data.specs.declared.error.DataError.TheVariants.{Field, Place, UnknownGateway}
-use Rattle.dns_data.specs.declared.error.DataRefusal.{DataRefusal}
 
 abbrev pub plain_word : List ℕ → PrintedToken
 plain_word text = record { is_quoted = false; text = text }
@@ -36,7 +34,7 @@ octet_form = record {
 }
 
 -- why a token is no type of a gateway: it is no number; or a greater one
-abbrev pub GatewayTypeReason : TokenSeen → DataError → Type 0
+abbrev pub GatewayTypeReason : TokenSeen → ErrorKind → Type 0
 GatewayTypeReason t e = octet_form.reason t e ⊎ ((e ≡ UnknownGateway) × ((octets : List ℕ) × octet_form.spells t octets × (3 < slice_index octets 0)))
 
 -- the type of a gateway: 0 for none, 1 for an IPv4 address, 2 for an IPv6 address, 3 for a name
@@ -50,20 +48,20 @@ gateway_type_form = record {
 }
 
 -- the type that a token names, or why it names none
-abbrev pub ReadsGatewayType : TokenSeen → Result ℕ DataError → Type 0
+abbrev pub ReadsGatewayType : TokenSeen → Result ℕ ErrorKind → Type 0
 ReadsGatewayType t (Ok number) = gateway_type_form.spells t (number ∷ [])
 ReadsGatewayType t (Err e) = GatewayTypeReason t e × ((octets : List ℕ) → gateway_type_form.spells t octets → ⊥)
 
 -- the number that the next token spells is appended, and the token taken; or it is refused
-abbrev pub TakesNumberAs : TokenForm → Room → ℕ → List TokenSeen → List ℕ → Result ℕ DataRefusal → List TokenSeen → List ℕ → Type 0
+abbrev pub TakesNumberAs : TokenForm → Room → ℕ → List TokenSeen → List ℕ → Result ℕ RecordError → List TokenSeen → List ℕ → Type 0
 TakesNumberAs f room end tokens old (Ok number) left new = (t : TokenSeen) × (tokens ≡ t ∷ left) × f.spells t (number ∷ []) × (new ≡ old ++ number ∷ [])
 TakesNumberAs f room end tokens old (Err r) left new = TakesTokenAs room f.spells f.reason end tokens old (Err r) left new
 
 -- the type of a gateway so, and the algorithm of a key
-abbrev pub TakesGatewayType : Room → ℕ → List TokenSeen → List ℕ → Result ℕ DataRefusal → List TokenSeen → List ℕ → Type 0
+abbrev pub TakesGatewayType : Room → ℕ → List TokenSeen → List ℕ → Result ℕ RecordError → List TokenSeen → List ℕ → Type 0
 TakesGatewayType = TakesNumberAs gateway_type_form
 
-abbrev pub TakesAlgorithm : Room → ℕ → List TokenSeen → List ℕ → Result ℕ DataRefusal → List TokenSeen → List ℕ → Type 0
+abbrev pub TakesAlgorithm : Room → ℕ → List TokenSeen → List ℕ → Result ℕ RecordError → List TokenSeen → List ℕ → Type 0
 TakesAlgorithm = TakesNumberAs octet_form
 
 -- ---- the gateway of a type
@@ -73,8 +71,8 @@ abbrev pub SpellsAddress : ℕ → TokenSeen → List ℕ → Type 0
 SpellsAddress number t octets = (t.is_quoted ≡ false) × ((g : Gateway) × SpellsGateway number t.text g × (octets ≡ gateway_octets g))
 
 -- why a token spells none: it is a quoted text, or none of the type
-abbrev pub AddressReason : TokenSeen → DataError → Type 0
-AddressReason t e = ((e ≡ Field Quoted) × (t.is_quoted ≡ true)) ⊎ ((e ≡ Place ExpectedGateway) × (t.is_quoted ≡ false))
+abbrev pub AddressReason : TokenSeen → ErrorKind → Type 0
+AddressReason t e = ((e ≡ Quoted) × (t.is_quoted ≡ true)) ⊎ ((e ≡ ExpectedGateway) × (t.is_quoted ≡ false))
 
 -- the octets of a gateway that is no name
 abbrev pub IsAddressOf : ℕ → List ℕ → Type 0
@@ -109,7 +107,7 @@ gateway_form origin number = record {
 abbrev pub key_form : ℕ → RestForm
 key_form algorithm = record {
   spells = λ tokens octets. (digits_form InBase64).spells tokens octets × (octets ≡ [] → algorithm ≡ 0);
-  reason = λ tokens left e. (digits_form InBase64).reason tokens left e ⊎ ((e ≡ Field EndOfEntry) × (left ≡ []) × (algorithm ≢ 0) × (digits_form InBase64).spells tokens []);
+  reason = λ tokens left e. (digits_form InBase64).reason tokens left e ⊎ ((e ≡ EndOfEntry) × (left ≡ []) × (algorithm ≢ 0) × (digits_form InBase64).spells tokens []);
   is_wire = λ octets. (digits_form InBase64).is_wire octets × (octets ≡ [] → algorithm ≡ 0);
   printed = (digits_form InBase64).printed;
 }

@@ -4,15 +4,14 @@ use Rattle.dns_codec.specs.Base.{base16, encoded}
 use Rattle.dns_digits.specs.declared.kind.DigitsKind.TheVariants.{Hex}
 use Rattle.dns_fields.specs.Source.{next_place}
 use Rattle.dns_fields.specs.Words.{SpellsBelow, NumberReason}
-use Rattle.dns_fields.specs.declared.error.FieldError.TheVariants.{EndOfEntry, Quoted, Kind}
-use Rattle.dns_kinds.specs.declared.error.KindError.{KindError}
+use Rattle.dns_fields.specs.RecordErrors.{IsErrorAt}
+use Rattle.dns_fields.specs.declared.record_error.RecordError.{RecordError}
+use Rattle.dns_kinds.specs.declared.error.ErrorKind.{ErrorKind}
+use Rattle.dns_kinds.specs.declared.error.ErrorKind.TheVariants.{EndOfEntry, Quoted, WrongLength}
 use Rattle.dns_spelling.specs.Spelling.{AreOctetValues}
 use Rattle.dns_split.specs.EntryTokens.{TokenSeen}
 use Rattle.dns_data.specs.Digits.{SpellsJoined, digits_form, printed_digits}
 use Rattle.dns_data.specs.Rests.{RestForm, PrintedToken}
-use Rattle.dns_data.specs.declared.error.DataError.{DataError}
-use Rattle.dns_data.specs.declared.error.DataError.TheVariants.{Field, WrongLength}
-use Rattle.dns_data.specs.declared.error.DataRefusal.{DataRefusal}
 
 -- a backslash and a number sign, without quotes
 abbrev pub IsGenericMark : TokenSeen → Type 0
@@ -27,19 +26,17 @@ abbrev pub IsCount : TokenSeen → ℕ → Type 0
 IsCount t count = (t.is_quoted ≡ false) × SpellsBelow (2 ^ 16) t.text count
 
 -- why a token is none
-abbrev pub IsNoCount : TokenSeen → DataError → Type 0
-IsNoCount t e =
-    ((e ≡ Field Quoted) × (t.is_quoted ≡ true))
-    ⊎ ((t.is_quoted ≡ false) × ((why : KindError) × (e ≡ Field (Kind why)) × NumberReason (2 ^ 16) t.text why × ((n : ℕ) → SpellsBelow (2 ^ 16) t.text n → ⊥)))
+abbrev pub IsNoCount : TokenSeen → ErrorKind → Type 0
+IsNoCount t e = ((e ≡ Quoted) × (t.is_quoted ≡ true)) ⊎ ((t.is_quoted ≡ false) × NumberReason (2 ^ 16) t.text e × ((n : ℕ) → SpellsBelow (2 ^ 16) t.text n → ⊥))
 
-abbrev pub WhyNoCount : List TokenSeen → DataError → Type 0
-WhyNoCount [] e = e ≡ Field EndOfEntry
+abbrev pub WhyNoCount : List TokenSeen → ErrorKind → Type 0
+WhyNoCount [] e = e ≡ EndOfEntry
 WhyNoCount (t ∷ ts) e = IsNoCount t e
 
 -- the next token is taken as a number; or it is refused, and none is taken
-abbrev pub TakesCount : ℕ → List TokenSeen → Result ℕ DataRefusal → List TokenSeen → Type 0
+abbrev pub TakesCount : ℕ → List TokenSeen → Result ℕ RecordError → List TokenSeen → Type 0
 TakesCount end tokens (Ok count) left = (t : TokenSeen) × (tokens ≡ t ∷ left) × IsCount t count
-TakesCount end tokens (Err r) left = (left ≡ tokens) × (r.at ≡ next_place tokens end) × WhyNoCount tokens r.why
+TakesCount end tokens (Err r) left = (left ≡ tokens) × IsErrorAt (next_place tokens end) r × WhyNoCount tokens r.kind
 
 -- the mark, how many octets there are, and these in hexadecimal
 abbrev pub SpellsGeneric : List TokenSeen → List ℕ → Type 0
@@ -47,12 +44,16 @@ SpellsGeneric [] octets = ⊥
 SpellsGeneric (mark ∷ []) octets = ⊥
 SpellsGeneric (mark ∷ count ∷ digits) octets = IsGenericMark mark × IsCount count (length octets) × SpellsJoined base16 digits octets
 
+-- octets in digits are not as many as a word says, and the error says how many they are and how many it wants
+abbrev pub IsOtherCount : TokenSeen → List TokenSeen → ErrorKind → Type 0
+IsOtherCount count digits e = (wanted : ℕ) × (octets : List ℕ) × IsCount count wanted × SpellsJoined base16 digits octets × (length octets ≢ wanted) × (e ≡ WrongLength (length octets) wanted)
+
 -- behind the mark, why tokens are refused: the first is no number; the others are no octets in digits; or they are not so many
-abbrev pub GenericReason : List TokenSeen → List TokenSeen → DataError → Type 0
+abbrev pub GenericReason : List TokenSeen → List TokenSeen → ErrorKind → Type 0
 GenericReason [] left e = ⊥
 GenericReason (mark ∷ tokens) left e =
     ((left ≡ tokens) × WhyNoCount tokens e)
-    ⊎ ((count : TokenSeen) × (digits : List TokenSeen) × (tokens ≡ count ∷ digits) × ((digits_form Hex).reason digits left e ⊎ ((e ≡ WrongLength) × (left ≡ []))))
+    ⊎ ((count : TokenSeen) × (digits : List TokenSeen) × (tokens ≡ count ∷ digits) × ((digits_form Hex).reason digits left e ⊎ (IsOtherCount count digits e × (left ≡ []))))
 
 -- the mark and the number are printed as words, and the octets as one
 abbrev pub generic_form : RestForm

@@ -2,7 +2,6 @@ pub mod ByType
 pub mod Data
 pub mod DataLaws
 pub mod Digits
-pub mod Errors
 pub mod Generic
 pub mod Limits
 pub mod LocationRest

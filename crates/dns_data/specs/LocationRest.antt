@@ -6,8 +6,6 @@ use Rattle.dns_places.specs.LocationTaking.{RefusesTokens}
 use Rattle.dns_places.specs.LocationWords.{IsLocation, location_words}
 use Rattle.dns_places.specs.Locations.{SpellsLocation}
 use Rattle.dns_places.specs.declared.location.Location.{Location}
-use Rattle.dns_places.specs.declared.location_error.LocationError.{LocationError}
-use Rattle.dns_data.specs.Errors.{of_location}
 use Rattle.dns_data.specs.Rests.{RestForm}
 
 -- the location of 16 octets: a version, three sizes, and three numbers
@@ -26,7 +24,7 @@ is_other_version octets = not (slice_index octets 0 == 0)
 abbrev pub location_form : RestForm
 location_form = record {
   spells = SpellsLocation;
-  reason = λ tokens left e. (why : LocationError) × (e ≡ of_location why) × RefusesTokens why tokens left × IsFirstRefused tokens left;
+  reason = λ tokens left e. RefusesTokens e tokens left × IsFirstRefused tokens left;
   is_wire = λ octets. (l : Location) × IsLocation octets l;
   printed = λ octets. map (λ word. record { is_quoted = false; text = word }) (location_words (location_at octets));
 }

@@ -1,27 +1,19 @@
 -- Service parameters (RFC 9460 section 2.1), which go to the end of an entry.
-use Rattle.std.specs.Prelude.{◌≡◌, List, map}
+use Rattle.std.specs.Prelude.{List, map}
 use Rattle.dns_lists.specs.Params.{params_of}
 use Rattle.dns_lists.specs.ParamsFaults.{AreRightParams}
 use Rattle.dns_params.specs.ParamRefusals.{ParamsReason}
 use Rattle.dns_params.specs.ParamTokens.{SpellsParams}
 use Rattle.dns_params.specs.ShownParams.{param_text}
-use Rattle.dns_params.specs.declared.error.ParamError.{ParamError}
 use Rattle.dns_spelling.specs.Spelling.{AreOctetValues}
-use Rattle.dns_split.specs.EntryTokens.{TokenSeen}
-use Rattle.dns_data.specs.Errors.{of_params}
 use Rattle.dns_data.specs.GatewayKeys.{plain_word}
 use Rattle.dns_data.specs.Rests.{RestForm}
-use Rattle.dns_data.specs.declared.error.DataError.{DataError}
-
--- why the tokens that are left spell no parameters
-abbrev pub ServiceReason : List TokenSeen → List TokenSeen → DataError → Type 0
-ServiceReason tokens left e = (why : ParamError) × (e ≡ of_params why) × ParamsReason left why
 
 -- parameters in any order, each key once; they are printed in ascending order of keys, each as one word
 abbrev pub params_form : RestForm
 params_form = record {
   spells = SpellsParams;
-  reason = ServiceReason;
+  reason = λ tokens left e. ParamsReason left e;
   is_wire = λ octets. AreOctetValues octets × AreRightParams octets;
   printed = λ octets. map (λ p. plain_word (param_text p)) (params_of octets);
 }

@@ -3,14 +3,12 @@ use Rattle.std.specs.Prelude.{ℕ, ◌≡◌, ◌⊎◌, true, false, List, [], 
 use Rattle.dns_octets.specs.Room.{Room}
 use Rattle.dns_octets.specs.Appending.{Extends}
 use Rattle.dns_digits.specs.Reading.{DigitsState, TakesPiece, RefusesPiece}
-use Rattle.dns_digits.specs.declared.error.DigitsError.{DigitsError}
-use Rattle.dns_fields.specs.Errors.{of_digits}
+use Rattle.dns_fields.specs.RecordErrors.{IsErrorAt}
+use Rattle.dns_fields.specs.declared.record_error.RecordError.{RecordError}
+use Rattle.dns_kinds.specs.declared.error.ErrorKind.{ErrorKind}
+use Rattle.dns_kinds.specs.declared.error.ErrorKind.TheVariants.{EndOfEntry, Quoted}
 use Rattle.dns_fields.specs.Source.{next_place}
-use Rattle.dns_fields.specs.declared.error.FieldError.TheVariants.{Quoted, EndOfEntry}
 use Rattle.dns_split.specs.EntryTokens.{TokenSeen}
-use Rattle.dns_data.specs.declared.error.DataError.{DataError}
-use Rattle.dns_data.specs.declared.error.DataError.TheVariants.{Field}
-use Rattle.dns_data.specs.declared.error.DataRefusal.{DataRefusal}
 
 -- the next token is pushed as a piece, and the target gained the octets of its groups
 pub record PushesDigits (s : DigitsState) (t : TokenSeen) (old : List ℕ) (pushed : DigitsState) (new : List ℕ) : Type 0 where
@@ -20,13 +18,11 @@ pub record PushesDigits (s : DigitsState) (t : TokenSeen) (old : List ℕ) (push
   pub octets : new ≡ old ++ gained
 
 -- why the next token was not pushed
-abbrev pub RefusesPush : Room → DigitsState → List TokenSeen → List ℕ → DataError → Type 0
-RefusesPush room s [] old e = e ≡ Field EndOfEntry
-RefusesPush room s (t ∷ ts) old e =
-    ((e ≡ Field Quoted) × (t.is_quoted ≡ true))
-    ⊎ ((t.is_quoted ≡ false) × ((d : DigitsError) × (e ≡ Field (of_digits d)) × RefusesPiece room s t.text old d))
+abbrev pub RefusesPush : Room → DigitsState → List TokenSeen → List ℕ → ErrorKind → Type 0
+RefusesPush room s [] old e = e ≡ EndOfEntry
+RefusesPush room s (t ∷ ts) old e = ((e ≡ Quoted) × (t.is_quoted ≡ true)) ⊎ ((t.is_quoted ≡ false) × RefusesPiece room s t.text old e)
 
 -- the next token is pushed and taken; or it is refused, and none is taken
-abbrev pub PushesNext : Room → DigitsState → ℕ → List TokenSeen → List ℕ → Result (Unit {0}) DataRefusal → DigitsState → List TokenSeen → List ℕ → Type 0
+abbrev pub PushesNext : Room → DigitsState → ℕ → List TokenSeen → List ℕ → Result (Unit {0}) RecordError → DigitsState → List TokenSeen → List ℕ → Type 0
 PushesNext room s end tokens old (Ok _) pushed left new = (t : TokenSeen) × (tokens ≡ t ∷ left) × PushesDigits s t old pushed new
-PushesNext room s end tokens old (Err r) pushed left new = (left ≡ tokens) × (r.at ≡ next_place tokens end) × RefusesPush room s tokens old r.why × Extends old new
+PushesNext room s end tokens old (Err r) pushed left new = (left ≡ tokens) × IsErrorAt (next_place tokens end) r × RefusesPush room s tokens old r.kind × Extends old new

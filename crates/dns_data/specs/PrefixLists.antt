@@ -3,19 +3,17 @@ use Rattle.std.specs.Prelude.{ℕ, zero, suc, ◌≡◌, ◌≤◌, ◌⊎◌, �
 use Rattle.std.specs.Net.Addr.{segments_of}
 use Rattle.std.specs.declared.net.ip_addr.IpAddr.{IpAddr}
 use Rattle.std.specs.declared.net.ip_addr.IpAddr.TheVariants.{V4, V6}
-use Rattle.dns_fields.specs.declared.error.FieldError.TheVariants.{Quoted}
+use Rattle.dns_kinds.specs.declared.error.ErrorKind.{ErrorKind}
+use Rattle.dns_kinds.specs.declared.error.ErrorKind.TheVariants.{Quoted, ExpectedPrefix}
 use Rattle.dns_places.specs.Prefixes.{SpellsItem, IsPrefix, IsPrefixWire, prefix_text}
 use Rattle.dns_places.specs.declared.apl.Prefix.{Prefix}
-use Rattle.dns_places.specs.declared.error.PlaceError.TheVariants.{ExpectedPrefix}
 use Rattle.dns_split.specs.EntryTokens.{TokenSeen}
 use Rattle.dns_data.specs.Rests.{RestForm}
 use Rattle.dns_data.specs.TokenForms.{TokenForm, each_form}
-use Rattle.dns_data.specs.declared.error.DataError.{DataError}
-use Rattle.dns_data.specs.declared.error.DataError.TheVariants.{Field, Place}
 
 -- why a token is no item: it is a quoted text; or it spells none
-abbrev pub PrefixReason : TokenSeen → DataError → Type 0
-PrefixReason t e = ((e ≡ Field Quoted) × (t.is_quoted ≡ true)) ⊎ ((e ≡ Place ExpectedPrefix) × (t.is_quoted ≡ false))
+abbrev pub PrefixReason : TokenSeen → ErrorKind → Type 0
+PrefixReason t e = ((e ≡ Quoted) × (t.is_quoted ≡ true)) ⊎ ((e ≡ ExpectedPrefix) × (t.is_quoted ≡ false))
 
 -- the octets of an item
 abbrev pub IsPrefixItem : List ℕ → Type 0

@@ -6,7 +6,7 @@ use Rattle.dns_spelling.specs.Spelling.{AreOctetValues}
 use Rattle.dns_digits.specs.declared.kind.DigitsKind.TheVariants.{Hex as InHex, Base64 as InBase64}
 use Rattle.dns_fields.specs.Forms.{StringReason}
 use Rattle.dns_fields.specs.Taking.{SpellsEach}
-use Rattle.dns_fields.specs.declared.error.FieldError.{FieldError}
+use Rattle.dns_kinds.specs.declared.error.ErrorKind.{ErrorKind}
 use Rattle.dns_fields.specs.declared.field.Field.TheVariants.{String as OfString}
 use Rattle.dns_split.specs.EntryTokens.{TokenSeen}
 use Rattle.dns_data.specs.Digits.{digits_form}
@@ -18,15 +18,13 @@ use Rattle.dns_data.specs.LocationRest.{is_other_version, location_form}
 use Rattle.dns_data.specs.TokenForms.{AreParts}
 use Rattle.dns_data.specs.Texts.{nothing_form, text_form}
 use Rattle.dns_data.specs.TypeLists.{types_form}
-use Rattle.dns_data.specs.declared.error.DataError.{DataError}
-use Rattle.dns_data.specs.declared.error.DataError.TheVariants.{Field}
 use Rattle.dns_data.specs.declared.rest.Rest.{Rest}
 use Rattle.dns_data.specs.declared.rest.Rest.TheVariants.{Nothing, Strings, Hex, Base64, Types, SomeTypes, Text, QuotedText, Location as OfLocation, Prefixes, GatewayKey, Params}
 
 -- why the next token is no character string
-abbrev pub StringTokensReason : List TokenSeen → List TokenSeen → DataError → Type 0
+abbrev pub StringTokensReason : List TokenSeen → List TokenSeen → ErrorKind → Type 0
 StringTokensReason before [] e = ⊥
-StringTokensReason before (t ∷ ts) e = (why : FieldError) × (e ≡ Field why) × StringReason t.is_quoted t.text why
+StringTokensReason before (t ∷ ts) e = StringReason t.is_quoted t.text e
 
 -- strings behind their lengths, one after another
 abbrev pub strings_wire : List (List ℕ) → List ℕ

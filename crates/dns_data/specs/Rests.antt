@@ -1,15 +1,13 @@
 -- What goes to the end of an entry: the tokens that spell it, its octets, and the tokens that it is printed as.
-use Rattle.std.specs.Prelude.{ℕ, ◌≡◌, ◌≢◌, ◌⊎◌, length, ⊤, Bool, true, false, List, [], ◌∷◌, ◌++◌, Result, Ok, Err}
+use Rattle.std.specs.Prelude.{ℕ, ◌≡◌, ◌≢◌, ◌⊎◌, ◌+◌, length, ⊤, Bool, true, false, List, [], ◌∷◌, ◌++◌, Result, Ok, Err}
 use Rattle.dns_octets.specs.Room.{Room}
 use Rattle.dns_octets.specs.Appending.{Extends, Gains, LacksRoom}
 use Rattle.dns_split.specs.EntryTokens.{TokenSeen}
 use Rattle.dns_fields.specs.Source.{next_place}
-use Rattle.dns_data.specs.declared.error.DataError.{DataError}
-use Rattle.dns_data.specs.declared.error.DataRefusal.{DataRefusal}
-use Rattle.dns_data.specs.declared.error.RestRefusal.{RestRefusal}
-use Rattle.dns_fields.specs.declared.error.FieldError.TheVariants.{EndOfEntry}
-use Rattle.dns_data.specs.declared.error.DataError.TheVariants.{Field}
-use Rattle.dns_data.specs.Errors.{no_room}
+use Rattle.dns_fields.specs.RecordErrors.{error_at, error_in_field, IsErrorAt}
+use Rattle.dns_fields.specs.declared.record_error.RecordError.{RecordError}
+use Rattle.dns_kinds.specs.declared.error.ErrorKind.{ErrorKind}
+use Rattle.dns_kinds.specs.declared.error.ErrorKind.TheVariants.{ShortBuf, EndOfEntry}
 
 -- whether a token is printed as a quoted text, and what it holds
 pub record PrintedToken : Type 0 where
@@ -27,46 +25,47 @@ pub record RestForm : Type 1 where
   -- tokens, all that an entry has left, spell these octets
   pub spells : List TokenSeen → List ℕ → Type 0
   -- why the first of those that are left of tokens is refused, or that none is left
-  pub reason : List TokenSeen → List TokenSeen → DataError → Type 0
+  pub reason : List TokenSeen → List TokenSeen → ErrorKind → Type 0
   -- the octets that it can have
   pub is_wire : List ℕ → Type 0
   pub printed : List ℕ → List PrintedToken
 
 -- some of the tokens are taken, and this is why the next is refused
-abbrev pub BehindSome : (List TokenSeen → List TokenSeen → DataError → Type 0) → List TokenSeen → List TokenSeen → DataError → Type 0
+abbrev pub BehindSome : (List TokenSeen → List TokenSeen → ErrorKind → Type 0) → List TokenSeen → List TokenSeen → ErrorKind → Type 0
 BehindSome Why tokens left e = (before : List TokenSeen) × (tokens ≡ before ++ left) × Why before left e
 
 -- why tokens were not taken: the octets don't surely fit; or none are spelled, and this is why
-abbrev pub RefusesAs : Room → RestForm → List TokenSeen → List ℕ → List TokenSeen → DataError → Type 0
+abbrev pub RefusesAs : Room → RestForm → List TokenSeen → List ℕ → List TokenSeen → ErrorKind → Type 0
 RefusesAs room f tokens old left e =
-    ((e ≡ no_room) × LacksRoom room (f.spells tokens) old) ⊎ (f.reason tokens left e × ((octets : List ℕ) → f.spells tokens octets → ⊥))
+    ((e ≡ ShortBuf) × LacksRoom room (f.spells tokens) old) ⊎ (f.reason tokens left e × ((octets : List ℕ) → f.spells tokens octets → ⊥))
 
 -- some tokens are taken, and the next is refused, or the entry's end is
-pub record RefusesRest (room : Room) (f : RestForm) (end : ℕ) (tokens : List TokenSeen) (old : List ℕ) (r : DataRefusal) (left : List TokenSeen) (new : List ℕ) : Type 0 where
-  pub at : r.at ≡ next_place left end
-  pub why : RefusesAs room f tokens old left r.why
+pub record RefusesRest (room : Room) (f : RestForm) (end : ℕ) (tokens : List TokenSeen) (old : List ℕ) (r : RecordError) (left : List TokenSeen) (new : List ℕ) : Type 0 where
+  pub at : IsErrorAt (next_place left end) r
+  pub why : RefusesAs room f tokens old left r.kind
   pub extends : Extends old new
 
 -- all tokens are taken, and the target gained the octets that they spell; or one is refused
-abbrev pub TakesRest : Room → RestForm → ℕ → List TokenSeen → List ℕ → Result (Unit {0}) DataRefusal → List TokenSeen → List ℕ → Type 0
+abbrev pub TakesRest : Room → RestForm → ℕ → List TokenSeen → List ℕ → Result (Unit {0}) RecordError → List TokenSeen → List ℕ → Type 0
 TakesRest room f end tokens old (Ok _) left new = (left ≡ []) × Gains (f.spells tokens) old new
 TakesRest room f end tokens old (Err r) left new = RefusesRest room f end tokens old r left new
 
--- the same, of what has parts: of a token that is refused this tells the part, by its place among them
-abbrev pub TakesInParts : Room → RestForm → (List TokenSeen → List TokenSeen → ℕ → Type 0) → ℕ → List TokenSeen → List ℕ → Result (Unit {0}) RestRefusal → List TokenSeen → List ℕ → Type 0
-TakesInParts room f IsPart end tokens old (Ok x) left new = TakesRest room f end tokens old (Ok x) left new
-TakesInParts room f IsPart end tokens old (Err r) left new = RefusesRest room f end tokens old r.refusal left new × IsPart tokens left r.part
+-- the same, of what has parts, each a field of the data, of which so many are before; of a token that is refused the part is known
+abbrev pub TakesInParts : Room → RestForm → (List TokenSeen → List TokenSeen → ℕ → Type 0) → ℕ → ℕ → List TokenSeen → List ℕ → Result (Unit {0}) RecordError → List TokenSeen → List ℕ → Type 0
+TakesInParts room f IsPart before end tokens old (Ok x) left new = TakesRest room f end tokens old (Ok x) left new
+TakesInParts room f IsPart before end tokens old (Err r) left new =
+    (e : RecordError) × (part : ℕ) × (r ≡ error_in_field (before + part) e) × RefusesRest room f end tokens old e left new × IsPart tokens left part
 
 -- the same, with one octet at least
 abbrev pub some_form : RestForm → RestForm
 some_form f = record {
   spells = λ tokens octets. f.spells tokens octets × (octets ≢ []);
-  reason = λ tokens left e. f.reason tokens left e ⊎ ((e ≡ Field EndOfEntry) × (left ≡ []) × f.spells tokens []);
+  reason = λ tokens left e. f.reason tokens left e ⊎ ((e ≡ EndOfEntry) × (left ≡ []) × f.spells tokens []);
   is_wire = λ octets. f.is_wire octets × (octets ≢ []);
   printed = f.printed;
 }
 
 -- there are more octets than so many; or there are so many, and the place is that of what comes next
-abbrev pub WantsMore : ℕ → ℕ → List TokenSeen → List ℕ → Result (Unit {0}) DataRefusal → Type 0
+abbrev pub WantsMore : ℕ → ℕ → List TokenSeen → List ℕ → Result (Unit {0}) RecordError → Type 0
 WantsMore count end left octets (Ok _) = length octets ≢ count
-WantsMore count end left octets (Err r) = (length octets ≡ count) × (r ≡ record { at = next_place left end; why = Field EndOfEntry })
+WantsMore count end left octets (Err r) = (length octets ≡ count) × (r ≡ error_at (next_place left end) EndOfEntry)

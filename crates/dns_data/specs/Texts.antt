@@ -1,21 +1,20 @@
 -- Text of any length, as the one token that is left.
 use Rattle.std.specs.Prelude.{ℕ, ◌≡◌, ◌⊎◌, Bool, true, false, List, [], ◌∷◌, Result, Ok, Err}
 use Rattle.dns_fields.specs.Source.{next_place}
-use Rattle.dns_fields.specs.declared.error.FieldError.TheVariants.{EndOfEntry, Spelling}
+use Rattle.dns_fields.specs.RecordErrors.{error_at}
+use Rattle.dns_fields.specs.declared.record_error.RecordError.{RecordError}
+use Rattle.dns_kinds.specs.declared.error.ErrorKind.{ErrorKind}
+use Rattle.dns_kinds.specs.declared.error.ErrorKind.TheVariants.{EndOfEntry, TrailingToken, NotQuoted, BadEscape}
 use Rattle.dns_spelling.specs.Shown.{text_in_quotes}
 use Rattle.dns_spelling.specs.Spelling.{AreOctetValues, SpellsOctetList, SpellsToBadEscape}
-use Rattle.dns_spelling.specs.declared.error.SpellingError.TheVariants.{BadEscape}
 use Rattle.dns_split.specs.EntryTokens.{TokenSeen}
 use Rattle.dns_data.specs.Rests.{RestForm, PrintedToken, BehindSome}
-use Rattle.dns_data.specs.declared.error.DataError.{DataError}
-use Rattle.dns_data.specs.declared.error.DataError.TheVariants.{Field, TrailingToken, NotQuoted}
-use Rattle.dns_data.specs.declared.error.DataRefusal.{DataRefusal}
 
 -- no token is left, or the next is refused
-abbrev pub TakesNoToken : ℕ → List TokenSeen → Result (Unit {0}) DataRefusal → List TokenSeen → Type 0
+abbrev pub TakesNoToken : ℕ → List TokenSeen → Result (Unit {0}) RecordError → List TokenSeen → Type 0
 TakesNoToken end tokens (Ok _) left = (tokens ≡ []) × (left ≡ [])
 TakesNoToken end [] (Err r) left = ⊥
-TakesNoToken end (t ∷ ts) (Err r) left = (left ≡ t ∷ ts) × (r ≡ record { at = t.at; why = TrailingToken })
+TakesNoToken end (t ∷ ts) (Err r) left = (left ≡ t ∷ ts) × (r ≡ error_at t.at TrailingToken)
 
 -- no tokens and no octets
 abbrev pub nothing_form : RestForm
@@ -37,10 +36,10 @@ AreText wants_quotes (t ∷ []) octets = SpellsText wants_quotes t octets
 AreText wants_quotes (t ∷ u ∷ ts) octets = ⊥
 
 -- why: there is no token; it is a word where quotes are wanted; it has a bad escape; or another is left behind it
-abbrev pub TextReason : Bool → List TokenSeen → List TokenSeen → DataError → Type 0
-TextReason wants_quotes [] [] e = e ≡ Field EndOfEntry
+abbrev pub TextReason : Bool → List TokenSeen → List TokenSeen → ErrorKind → Type 0
+TextReason wants_quotes [] [] e = e ≡ EndOfEntry
 TextReason wants_quotes [] (t ∷ ts) e =
-    ((e ≡ NotQuoted) × (wants_quotes ≡ true) × (t.is_quoted ≡ false)) ⊎ ((e ≡ Field (Spelling BadEscape)) × SpellsToBadEscape t.text)
+    ((e ≡ NotQuoted) × (wants_quotes ≡ true) × (t.is_quoted ≡ false)) ⊎ ((e ≡ BadEscape) × SpellsToBadEscape t.text)
 TextReason wants_quotes (t ∷ ts) left e = (ts ≡ []) × (e ≡ TrailingToken)
 
 -- text without a length; it is printed in quotes

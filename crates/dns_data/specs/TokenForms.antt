@@ -5,21 +5,19 @@ use Rattle.dns_octets.specs.Room.{Room}
 use Rattle.dns_octets.specs.Appending.{Extends, Gains, LacksRoom}
 use Rattle.dns_fields.specs.Fields.{field_form}
 use Rattle.dns_fields.specs.Source.{next_place}
-use Rattle.dns_fields.specs.declared.error.FieldError.{FieldError}
-use Rattle.dns_fields.specs.declared.error.FieldError.TheVariants.{EndOfEntry}
+use Rattle.dns_fields.specs.RecordErrors.{IsErrorAt}
+use Rattle.dns_fields.specs.declared.record_error.RecordError.{RecordError}
+use Rattle.dns_kinds.specs.declared.error.ErrorKind.{ErrorKind}
+use Rattle.dns_kinds.specs.declared.error.ErrorKind.TheVariants.{ShortBuf, EndOfEntry}
 use Rattle.dns_fields.specs.declared.field.Field.{Field}
 use Rattle.dns_split.specs.EntryTokens.{TokenSeen}
-use Rattle.dns_data.specs.Errors.{no_room}
 use Rattle.dns_data.specs.Rests.{RestForm, PrintedToken, BehindSome}
-use Rattle.dns_data.specs.declared.error.DataError.{DataError}
-use Rattle.dns_data.specs.declared.error.DataError.TheVariants.{Field as OfField}
-use Rattle.dns_data.specs.declared.error.DataRefusal.{DataRefusal}
 
 pub record TokenForm : Type 1 where
   -- a token spells these octets
   pub spells : TokenSeen → List ℕ → Type 0
   -- why a token that spells none is refused
-  pub reason : TokenSeen → DataError → Type 0
+  pub reason : TokenSeen → ErrorKind → Type 0
   -- the octets that it can have
   pub is_wire : List ℕ → Type 0
   -- how many of octets are those in front
@@ -27,18 +25,18 @@ pub record TokenForm : Type 1 where
   pub printed : List ℕ → PrintedToken
 
 -- why a token is no field
-abbrev pub FieldReason : Option (List (List ℕ)) → Field → TokenSeen → DataError → Type 0
-FieldReason origin f t e = (why : FieldError) × (e ≡ OfField why) × (field_form origin f).reason t.is_quoted t.text why
+abbrev pub FieldReason : Option (List (List ℕ)) → Field → TokenSeen → ErrorKind → Type 0
+FieldReason origin f t e = (field_form origin f).reason t.is_quoted t.text e
 
 -- why the next token was not taken: there is none; its octets don't surely fit; or it spells none, and this is why
-abbrev pub RefusesTokenAs : Room → (TokenSeen → List ℕ → Type 0) → (TokenSeen → DataError → Type 0) → List TokenSeen → List ℕ → DataError → Type 0
-RefusesTokenAs room Spells Reason [] old e = e ≡ OfField EndOfEntry
-RefusesTokenAs room Spells Reason (t ∷ ts) old e = ((e ≡ no_room) × LacksRoom room (Spells t) old) ⊎ (Reason t e × ((octets : List ℕ) → Spells t octets → ⊥))
+abbrev pub RefusesTokenAs : Room → (TokenSeen → List ℕ → Type 0) → (TokenSeen → ErrorKind → Type 0) → List TokenSeen → List ℕ → ErrorKind → Type 0
+RefusesTokenAs room Spells Reason [] old e = e ≡ EndOfEntry
+RefusesTokenAs room Spells Reason (t ∷ ts) old e = ((e ≡ ShortBuf) × LacksRoom room (Spells t) old) ⊎ (Reason t e × ((octets : List ℕ) → Spells t octets → ⊥))
 
 -- the next token is taken, and the target gained the octets that it spells; or it is refused, and none is taken
-abbrev pub TakesTokenAs : Room → (TokenSeen → List ℕ → Type 0) → (TokenSeen → DataError → Type 0) → ℕ → List TokenSeen → List ℕ → Result (Unit {0}) DataRefusal → List TokenSeen → List ℕ → Type 0
+abbrev pub TakesTokenAs : Room → (TokenSeen → List ℕ → Type 0) → (TokenSeen → ErrorKind → Type 0) → ℕ → List TokenSeen → List ℕ → Result (Unit {0}) RecordError → List TokenSeen → List ℕ → Type 0
 TakesTokenAs room Spells Reason end tokens old (Ok _) left new = (t : TokenSeen) × (tokens ≡ t ∷ left) × Gains (Spells t) old new
-TakesTokenAs room Spells Reason end tokens old (Err r) left new = (left ≡ tokens) × (r.at ≡ next_place tokens end) × RefusesTokenAs room Spells Reason tokens old r.why × Extends old new
+TakesTokenAs room Spells Reason end tokens old (Err r) left new = (left ≡ tokens) × IsErrorAt (next_place tokens end) r × RefusesTokenAs room Spells Reason tokens old r.kind × Extends old new
 
 -- ---- any number of tokens of one form
 
@@ -48,7 +46,7 @@ SpellOctets f [] octets = octets ≡ []
 SpellOctets f (t ∷ ts) octets = (front : List ℕ) × (back : List ℕ) × (octets ≡ front ++ back) × f.spells t front × SpellOctets f ts back
 
 -- tokens spell octets, and behind them the next is refused
-abbrev pub ReasonBehind : TokenForm → List TokenSeen → List TokenSeen → DataError → Type 0
+abbrev pub ReasonBehind : TokenForm → List TokenSeen → List TokenSeen → ErrorKind → Type 0
 ReasonBehind f before [] e = ⊥
 ReasonBehind f before (t ∷ ts) e = ((octets : List ℕ) × SpellOctets f before octets) × f.reason t e
 
@@ -83,8 +81,8 @@ pub record SpellsThen (f : TokenForm) (behind : List ℕ → RestForm) (tokens :
   pub rest : (behind front).spells last back
 
 -- there is no token; the first is refused; or it spells octets, and what is behind it is refused
-abbrev pub ThenReason : TokenForm → (List ℕ → RestForm) → List TokenSeen → List TokenSeen → DataError → Type 0
-ThenReason f behind [] left e = (left ≡ []) × (e ≡ OfField EndOfEntry)
+abbrev pub ThenReason : TokenForm → (List ℕ → RestForm) → List TokenSeen → List TokenSeen → ErrorKind → Type 0
+ThenReason f behind [] left e = (left ≡ []) × (e ≡ EndOfEntry)
 ThenReason f behind (t ∷ ts) left e = ((left ≡ t ∷ ts) × f.reason t e) ⊎ ((front : List ℕ) × f.spells t front × (behind front).reason ts left e)
 
 pub record IsThen (f : TokenForm) (behind : List ℕ → RestForm) (octets : List ℕ) : Type 0 where

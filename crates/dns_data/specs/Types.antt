@@ -2,23 +2,25 @@
 use Rattle.std.specs.Prelude.{ℕ, ◌≡◌, ◌==◌, find, map, Option, option_map, List, [], ◌∷◌, codes}
 use Rattle.dns_digits.specs.declared.digests.Digests.TheVariants.{Ds, Sshfp, Zonemd}
 use Rattle.dns_fields.specs.declared.field.Field.{Field}
-use Rattle.dns_fields.specs.declared.field.Field.TheVariants.{Number8, Number16, Number32, Interval, Ipv4, Ipv6, RecordType, SigType, Algorithm, CertificateType, Eui48, Eui64, Time, Locator, String, PsdnAddress, Tag, Salt, Hash, Name}
+use Rattle.dns_fields.specs.declared.field.Field.TheVariants.{Number8, Number16, Number32, Interval, Ipv4, Ipv6, RecordType as OfType, SigType, Algorithm, CertificateType, Eui48, Eui64, Time, Locator, String, PsdnAddress, Tag, Salt, Hash, Name}
+use Rattle.dns_kinds.specs.Rtype as Rtype
+use Rattle.dns_kinds.specs.declared.types.RecordType.{RecordType}
 use Rattle.dns_data.specs.declared.rest.Rest.{Rest}
 use Rattle.dns_data.specs.declared.rest.Rest.TheVariants.{Base64, GatewayKey, Hex, Location as OfLocation, Nothing, Params, Prefixes, QuotedText, SomeTypes, Strings, Text, Types}
 use Rattle.dns_data.specs.declared.shape.Length.{Length}
 use Rattle.dns_data.specs.declared.shape.Length.TheVariants.{Any, Digest, Hash as HashLength}
 use Rattle.dns_data.specs.declared.types.TypeRow.{TypeRow}
 
--- a code, the fields of its data, what comes behind them, the lengths that are asked for, and the names of the fields and of what comes behind them
+-- a type, the fields of its data, what comes behind them, the lengths that are asked for, and the names of the fields and of what comes behind them
 pub record TypeShape : Type 0 where
-  pub code : ℕ
+  pub rtype : RecordType
   pub fields : List Field
   pub rest : Rest
   pub lengths : Length
   pub names : List (List ℕ)
 
-abbrev pub type_shape : ℕ → List Field → Rest → Length → List (List ℕ) → TypeShape
-type_shape c fs r l ns = record { code = c; fields = fs; rest = r; lengths = l; names = ns }
+abbrev pub type_shape : RecordType → List Field → Rest → Length → List (List ℕ) → TypeShape
+type_shape t fs r l ns = record { rtype = t; fields = fs; rest = r; lengths = l; names = ns }
 
 -- the names of the parts of a row
 abbrev pub row_names : TypeRow → List (List ℕ)
@@ -30,146 +32,80 @@ row_shape r = type_shape r.0 r.1.now r.2 r.3 (row_names r)
 abbrev pub row_shapes : List TypeRow → List TypeShape
 row_shapes = map row_shape
 
--- the first of these with the code is found, if there is one
-abbrev pub FindsShape : List TypeShape → ℕ → Option TypeRow → Type 0
-FindsShape shapes code r = option_map row_shape r ≡ find (λ (s : TypeShape). s.code == code) shapes
+-- the first of these of the type is found, if there is one
+abbrev pub FindsShape : List TypeShape → RecordType → Option TypeRow → Type 0
+FindsShape shapes rtype r = option_map row_shape r ≡ find (λ (s : TypeShape). s.rtype == rtype) shapes
 
 unfoldable pub type_shapes : List TypeShape
 type_shapes =
-    -- A
-    type_shape 1 (Ipv4 ∷ []) Nothing Any (codes "address" ∷ []) ∷
-    -- NS
-    type_shape 2 (Name ∷ []) Nothing Any (codes "name server" ∷ []) ∷
-    -- CNAME
-    type_shape 5 (Name ∷ []) Nothing Any (codes "target" ∷ []) ∷
-    -- SOA
-    type_shape 6 (Name ∷ Name ∷ Number32 ∷ Interval ∷ Interval ∷ Interval ∷ Interval ∷ []) Nothing Any
+    type_shape Rtype.a (Ipv4 ∷ []) Nothing Any (codes "address" ∷ []) ∷
+    type_shape Rtype.ns (Name ∷ []) Nothing Any (codes "name server" ∷ []) ∷
+    type_shape Rtype.cname (Name ∷ []) Nothing Any (codes "target" ∷ []) ∷
+    type_shape Rtype.soa (Name ∷ Name ∷ Number32 ∷ Interval ∷ Interval ∷ Interval ∷ Interval ∷ []) Nothing Any
     (codes "primary server" ∷ codes "mailbox" ∷ codes "serial" ∷ codes "refresh" ∷ codes "retry" ∷ codes "expire" ∷ codes "minimum" ∷ []) ∷
-    -- MB
-    type_shape 7 (Name ∷ []) Nothing Any (codes "host" ∷ []) ∷
-    -- MG
-    type_shape 8 (Name ∷ []) Nothing Any (codes "mailbox" ∷ []) ∷
-    -- MR
-    type_shape 9 (Name ∷ []) Nothing Any (codes "mailbox" ∷ []) ∷
-    -- PTR
-    type_shape 12 (Name ∷ []) Nothing Any (codes "target" ∷ []) ∷
-    -- HINFO
-    type_shape 13 (String ∷ String ∷ []) Nothing Any (codes "processor" ∷ codes "system" ∷ []) ∷
-    -- MINFO
-    type_shape 14 (Name ∷ Name ∷ []) Nothing Any (codes "mailbox" ∷ codes "errors mailbox" ∷ []) ∷
-    -- MX
-    type_shape 15 (Number16 ∷ Name ∷ []) Nothing Any (codes "preference" ∷ codes "exchange" ∷ []) ∷
-    -- TXT
-    type_shape 16 [] Strings Any (codes "text" ∷ []) ∷
-    -- RP
-    type_shape 17 (Name ∷ Name ∷ []) Nothing Any (codes "mailbox" ∷ codes "text name" ∷ []) ∷
-    -- AFSDB
-    type_shape 18 (Number16 ∷ Name ∷ []) Nothing Any (codes "subtype" ∷ codes "host" ∷ []) ∷
-    -- X25
-    type_shape 19 (PsdnAddress ∷ []) Nothing Any (codes "address" ∷ []) ∷
-    -- RT
-    type_shape 21 (Number16 ∷ Name ∷ []) Nothing Any (codes "preference" ∷ codes "host" ∷ []) ∷
-    -- NSAP-PTR
-    type_shape 23 (Name ∷ []) Nothing Any (codes "target" ∷ []) ∷
-    -- SIG
-    type_shape 24 (SigType ∷ Algorithm ∷ Number8 ∷ Number32 ∷ Time ∷ Time ∷ Number16 ∷ Name ∷ []) Base64 Any (codes "type covered" ∷ codes "algorithm" ∷ codes "labels" ∷ codes "original TTL" ∷ codes "expiration" ∷ codes "inception" ∷ codes "key tag" ∷ codes "signer" ∷ codes "signature" ∷ []) ∷
-    -- KEY
-    type_shape 25 (Number16 ∷ Number8 ∷ Algorithm ∷ []) Base64 Any (codes "flags" ∷ codes "protocol" ∷ codes "algorithm" ∷ codes "key" ∷ []) ∷
-    -- PX
-    type_shape 26 (Number16 ∷ Name ∷ Name ∷ []) Nothing Any (codes "preference" ∷ codes "RFC 822 name" ∷ codes "X.400 name" ∷ []) ∷
-    -- GPOS
-    type_shape 27 (String ∷ String ∷ String ∷ []) Nothing Any (codes "longitude" ∷ codes "latitude" ∷ codes "altitude" ∷ []) ∷
-    -- AAAA
-    type_shape 28 (Ipv6 ∷ []) Nothing Any (codes "address" ∷ []) ∷
-    -- LOC
-    type_shape 29 [] OfLocation Any (codes "location" ∷ []) ∷
-    -- SRV
-    type_shape 33 (Number16 ∷ Number16 ∷ Number16 ∷ Name ∷ []) Nothing Any (codes "priority" ∷ codes "weight" ∷ codes "port" ∷ codes "target" ∷ []) ∷
-    -- NAPTR
-    type_shape 35 (Number16 ∷ Number16 ∷ String ∷ String ∷ String ∷ Name ∷ []) Nothing Any
+    type_shape Rtype.mb (Name ∷ []) Nothing Any (codes "host" ∷ []) ∷
+    type_shape Rtype.mg (Name ∷ []) Nothing Any (codes "mailbox" ∷ []) ∷
+    type_shape Rtype.mr (Name ∷ []) Nothing Any (codes "mailbox" ∷ []) ∷
+    type_shape Rtype.ptr (Name ∷ []) Nothing Any (codes "target" ∷ []) ∷
+    type_shape Rtype.hinfo (String ∷ String ∷ []) Nothing Any (codes "processor" ∷ codes "system" ∷ []) ∷
+    type_shape Rtype.minfo (Name ∷ Name ∷ []) Nothing Any (codes "mailbox" ∷ codes "errors mailbox" ∷ []) ∷
+    type_shape Rtype.mx (Number16 ∷ Name ∷ []) Nothing Any (codes "preference" ∷ codes "exchange" ∷ []) ∷
+    type_shape Rtype.txt [] Strings Any (codes "text" ∷ []) ∷
+    type_shape Rtype.rp (Name ∷ Name ∷ []) Nothing Any (codes "mailbox" ∷ codes "text name" ∷ []) ∷
+    type_shape Rtype.afsdb (Number16 ∷ Name ∷ []) Nothing Any (codes "subtype" ∷ codes "host" ∷ []) ∷
+    type_shape Rtype.x25 (PsdnAddress ∷ []) Nothing Any (codes "address" ∷ []) ∷
+    type_shape Rtype.rt (Number16 ∷ Name ∷ []) Nothing Any (codes "preference" ∷ codes "host" ∷ []) ∷
+    type_shape Rtype.nsap_ptr (Name ∷ []) Nothing Any (codes "target" ∷ []) ∷
+    type_shape Rtype.sig (SigType ∷ Algorithm ∷ Number8 ∷ Number32 ∷ Time ∷ Time ∷ Number16 ∷ Name ∷ []) Base64 Any (codes "type covered" ∷ codes "algorithm" ∷ codes "labels" ∷ codes "original TTL" ∷ codes "expiration" ∷ codes "inception" ∷ codes "key tag" ∷ codes "signer" ∷ codes "signature" ∷ []) ∷
+    type_shape Rtype.key (Number16 ∷ Number8 ∷ Algorithm ∷ []) Base64 Any (codes "flags" ∷ codes "protocol" ∷ codes "algorithm" ∷ codes "key" ∷ []) ∷
+    type_shape Rtype.px (Number16 ∷ Name ∷ Name ∷ []) Nothing Any (codes "preference" ∷ codes "RFC 822 name" ∷ codes "X.400 name" ∷ []) ∷
+    type_shape Rtype.gpos (String ∷ String ∷ String ∷ []) Nothing Any (codes "longitude" ∷ codes "latitude" ∷ codes "altitude" ∷ []) ∷
+    type_shape Rtype.aaaa (Ipv6 ∷ []) Nothing Any (codes "address" ∷ []) ∷
+    type_shape Rtype.loc [] OfLocation Any (codes "location" ∷ []) ∷
+    type_shape Rtype.srv (Number16 ∷ Number16 ∷ Number16 ∷ Name ∷ []) Nothing Any (codes "priority" ∷ codes "weight" ∷ codes "port" ∷ codes "target" ∷ []) ∷
+    type_shape Rtype.naptr (Number16 ∷ Number16 ∷ String ∷ String ∷ String ∷ Name ∷ []) Nothing Any
     (codes "order" ∷ codes "preference" ∷ codes "flags" ∷ codes "services" ∷ codes "expression" ∷ codes "replacement" ∷ []) ∷
-    -- KX
-    type_shape 36 (Number16 ∷ Name ∷ []) Nothing Any (codes "preference" ∷ codes "exchanger" ∷ []) ∷
-    -- CERT
-    type_shape 37 (CertificateType ∷ Number16 ∷ Algorithm ∷ []) Base64 Any (codes "type" ∷ codes "key tag" ∷ codes "algorithm" ∷ codes "certificate" ∷ []) ∷
-    -- DNAME
-    type_shape 39 (Name ∷ []) Nothing Any (codes "target" ∷ []) ∷
-    -- APL
-    type_shape 42 [] Prefixes Any (codes "prefix" ∷ []) ∷
-    -- DS
-    type_shape 43 (Number16 ∷ Algorithm ∷ Number8 ∷ []) Hex (Digest Ds 3) (codes "key tag" ∷ codes "algorithm" ∷ codes "digest type" ∷ codes "digest" ∷ []) ∷
-    -- SSHFP
-    type_shape 44 (Number8 ∷ Number8 ∷ []) Hex (Digest Sshfp 1) (codes "algorithm" ∷ codes "fingerprint type" ∷ codes "fingerprint" ∷ []) ∷
-    -- IPSECKEY
-    type_shape 45 (Number8 ∷ []) GatewayKey Any (codes "precedence" ∷ codes "gateway type" ∷ codes "algorithm" ∷ codes "gateway" ∷ codes "public key" ∷ []) ∷
-    -- RRSIG
-    type_shape 46 (RecordType ∷ Algorithm ∷ Number8 ∷ Number32 ∷ Time ∷ Time ∷ Number16 ∷ Name ∷ []) Base64 Any
+    type_shape Rtype.kx (Number16 ∷ Name ∷ []) Nothing Any (codes "preference" ∷ codes "exchanger" ∷ []) ∷
+    type_shape Rtype.cert (CertificateType ∷ Number16 ∷ Algorithm ∷ []) Base64 Any (codes "type" ∷ codes "key tag" ∷ codes "algorithm" ∷ codes "certificate" ∷ []) ∷
+    type_shape Rtype.dname (Name ∷ []) Nothing Any (codes "target" ∷ []) ∷
+    type_shape Rtype.apl [] Prefixes Any (codes "prefix" ∷ []) ∷
+    type_shape Rtype.ds (Number16 ∷ Algorithm ∷ Number8 ∷ []) Hex (Digest Ds 3) (codes "key tag" ∷ codes "algorithm" ∷ codes "digest type" ∷ codes "digest" ∷ []) ∷
+    type_shape Rtype.sshfp (Number8 ∷ Number8 ∷ []) Hex (Digest Sshfp 1) (codes "algorithm" ∷ codes "fingerprint type" ∷ codes "fingerprint" ∷ []) ∷
+    type_shape Rtype.ipseckey (Number8 ∷ []) GatewayKey Any (codes "precedence" ∷ codes "gateway type" ∷ codes "algorithm" ∷ codes "gateway" ∷ codes "public key" ∷ []) ∷
+    type_shape Rtype.rrsig (OfType ∷ Algorithm ∷ Number8 ∷ Number32 ∷ Time ∷ Time ∷ Number16 ∷ Name ∷ []) Base64 Any
     (codes "type covered" ∷ codes "algorithm" ∷ codes "labels" ∷ codes "original TTL" ∷ codes "expiration" ∷ codes "inception" ∷ codes "key tag" ∷ codes "signer" ∷ codes "signature" ∷ []) ∷
-    -- NSEC
-    type_shape 47 (Name ∷ []) SomeTypes Any (codes "next name" ∷ codes "types" ∷ []) ∷
-    -- DNSKEY
-    type_shape 48 (Number16 ∷ Number8 ∷ Algorithm ∷ []) Base64 Any (codes "flags" ∷ codes "protocol" ∷ codes "algorithm" ∷ codes "key" ∷ []) ∷
-    -- DHCID
-    type_shape 49 [] Base64 Any (codes "digest" ∷ []) ∷
-    -- NSEC3
-    type_shape 50 (Number8 ∷ Number8 ∷ Number16 ∷ Salt ∷ Hash ∷ []) Types HashLength
+    type_shape Rtype.nsec (Name ∷ []) SomeTypes Any (codes "next name" ∷ codes "types" ∷ []) ∷
+    type_shape Rtype.dnskey (Number16 ∷ Number8 ∷ Algorithm ∷ []) Base64 Any (codes "flags" ∷ codes "protocol" ∷ codes "algorithm" ∷ codes "key" ∷ []) ∷
+    type_shape Rtype.dhcid [] Base64 Any (codes "digest" ∷ []) ∷
+    type_shape Rtype.nsec3 (Number8 ∷ Number8 ∷ Number16 ∷ Salt ∷ Hash ∷ []) Types HashLength
     (codes "hash algorithm" ∷ codes "flags" ∷ codes "iterations" ∷ codes "salt" ∷ codes "next hash" ∷ codes "types" ∷ []) ∷
-    -- NSEC3PARAM
-    type_shape 51 (Number8 ∷ Number8 ∷ Number16 ∷ Salt ∷ []) Nothing Any (codes "hash algorithm" ∷ codes "flags" ∷ codes "iterations" ∷ codes "salt" ∷ []) ∷
-    -- TLSA
-    type_shape 52 (Number8 ∷ Number8 ∷ Number8 ∷ []) Hex Any (codes "usage" ∷ codes "selector" ∷ codes "matching type" ∷ codes "data" ∷ []) ∷
-    -- SMIMEA
-    type_shape 53 (Number8 ∷ Number8 ∷ Number8 ∷ []) Hex Any (codes "usage" ∷ codes "selector" ∷ codes "matching type" ∷ codes "data" ∷ []) ∷
-    -- NINFO
-    type_shape 56 [] Strings Any (codes "text" ∷ []) ∷
-    -- RKEY
-    type_shape 57 (Number16 ∷ Number8 ∷ Algorithm ∷ []) Base64 Any (codes "flags" ∷ codes "protocol" ∷ codes "algorithm" ∷ codes "key" ∷ []) ∷
-    -- TALINK
-    type_shape 58 (Name ∷ Name ∷ []) Nothing Any (codes "previous" ∷ codes "next" ∷ []) ∷
-    -- CDS
-    type_shape 59 (Number16 ∷ Algorithm ∷ Number8 ∷ []) Hex (Digest Ds 3) (codes "key tag" ∷ codes "algorithm" ∷ codes "digest type" ∷ codes "digest" ∷ []) ∷
-    -- CDNSKEY
-    type_shape 60 (Number16 ∷ Number8 ∷ Algorithm ∷ []) Base64 Any (codes "flags" ∷ codes "protocol" ∷ codes "algorithm" ∷ codes "key" ∷ []) ∷
-    -- OPENPGPKEY
-    type_shape 61 [] Base64 Any (codes "key" ∷ []) ∷
-    -- CSYNC
-    type_shape 62 (Number32 ∷ Number16 ∷ []) Types Any (codes "serial" ∷ codes "flags" ∷ codes "types" ∷ []) ∷
-    -- ZONEMD
-    type_shape 63 (Number32 ∷ Number8 ∷ Number8 ∷ []) Hex (Digest Zonemd 5) (codes "serial" ∷ codes "scheme" ∷ codes "hash algorithm" ∷ codes "digest" ∷ []) ∷
-    -- SVCB
-    type_shape 64 (Number16 ∷ Name ∷ []) Params Any (codes "priority" ∷ codes "target" ∷ codes "parameter" ∷ []) ∷
-    -- HTTPS
-    type_shape 65 (Number16 ∷ Name ∷ []) Params Any (codes "priority" ∷ codes "target" ∷ codes "parameter" ∷ []) ∷
-    -- HHIT
-    type_shape 67 [] Base64 Any (codes "data" ∷ []) ∷
-    -- BRID
-    type_shape 68 [] Base64 Any (codes "data" ∷ []) ∷
-    -- SPF
-    type_shape 99 [] Strings Any (codes "text" ∷ []) ∷
-    -- NID
-    type_shape 104 (Number16 ∷ Locator ∷ []) Nothing Any (codes "preference" ∷ codes "node identifier" ∷ []) ∷
-    -- L32
-    type_shape 105 (Number16 ∷ Ipv4 ∷ []) Nothing Any (codes "preference" ∷ codes "locator" ∷ []) ∷
-    -- L64
-    type_shape 106 (Number16 ∷ Locator ∷ []) Nothing Any (codes "preference" ∷ codes "locator" ∷ []) ∷
-    -- LP
-    type_shape 107 (Number16 ∷ Name ∷ []) Nothing Any (codes "preference" ∷ codes "name" ∷ []) ∷
-    -- EUI48
-    type_shape 108 (Eui48 ∷ []) Nothing Any (codes "address" ∷ []) ∷
-    -- EUI64
-    type_shape 109 (Eui64 ∷ []) Nothing Any (codes "address" ∷ []) ∷
-    -- URI
-    type_shape 256 (Number16 ∷ Number16 ∷ []) QuotedText Any (codes "priority" ∷ codes "weight" ∷ codes "target" ∷ []) ∷
-    -- CAA
-    type_shape 257 (Number8 ∷ Tag ∷ []) Text Any (codes "flags" ∷ codes "tag" ∷ codes "value" ∷ []) ∷
-    -- AVC
-    type_shape 258 [] Strings Any (codes "text" ∷ []) ∷
-    -- RESINFO
-    type_shape 261 [] Strings Any (codes "text" ∷ []) ∷
-    -- WALLET
-    type_shape 262 [] Strings Any (codes "text" ∷ []) ∷
-    -- TA
-    type_shape 32768 (Number16 ∷ Algorithm ∷ Number8 ∷ []) Hex (Digest Ds 3) (codes "key tag" ∷ codes "algorithm" ∷ codes "digest type" ∷ codes "digest" ∷ []) ∷
-    -- DLV
-    type_shape 32769 (Number16 ∷ Algorithm ∷ Number8 ∷ []) Hex (Digest Ds 3) (codes "key tag" ∷ codes "algorithm" ∷ codes "digest type" ∷ codes "digest" ∷ []) ∷
+    type_shape Rtype.nsec3param (Number8 ∷ Number8 ∷ Number16 ∷ Salt ∷ []) Nothing Any (codes "hash algorithm" ∷ codes "flags" ∷ codes "iterations" ∷ codes "salt" ∷ []) ∷
+    type_shape Rtype.tlsa (Number8 ∷ Number8 ∷ Number8 ∷ []) Hex Any (codes "usage" ∷ codes "selector" ∷ codes "matching type" ∷ codes "data" ∷ []) ∷
+    type_shape Rtype.smimea (Number8 ∷ Number8 ∷ Number8 ∷ []) Hex Any (codes "usage" ∷ codes "selector" ∷ codes "matching type" ∷ codes "data" ∷ []) ∷
+    type_shape Rtype.ninfo [] Strings Any (codes "text" ∷ []) ∷
+    type_shape Rtype.rkey (Number16 ∷ Number8 ∷ Algorithm ∷ []) Base64 Any (codes "flags" ∷ codes "protocol" ∷ codes "algorithm" ∷ codes "key" ∷ []) ∷
+    type_shape Rtype.talink (Name ∷ Name ∷ []) Nothing Any (codes "previous" ∷ codes "next" ∷ []) ∷
+    type_shape Rtype.cds (Number16 ∷ Algorithm ∷ Number8 ∷ []) Hex (Digest Ds 3) (codes "key tag" ∷ codes "algorithm" ∷ codes "digest type" ∷ codes "digest" ∷ []) ∷
+    type_shape Rtype.cdnskey (Number16 ∷ Number8 ∷ Algorithm ∷ []) Base64 Any (codes "flags" ∷ codes "protocol" ∷ codes "algorithm" ∷ codes "key" ∷ []) ∷
+    type_shape Rtype.openpgpkey [] Base64 Any (codes "key" ∷ []) ∷
+    type_shape Rtype.csync (Number32 ∷ Number16 ∷ []) Types Any (codes "serial" ∷ codes "flags" ∷ codes "types" ∷ []) ∷
+    type_shape Rtype.zonemd (Number32 ∷ Number8 ∷ Number8 ∷ []) Hex (Digest Zonemd 5) (codes "serial" ∷ codes "scheme" ∷ codes "hash algorithm" ∷ codes "digest" ∷ []) ∷
+    type_shape Rtype.svcb (Number16 ∷ Name ∷ []) Params Any (codes "priority" ∷ codes "target" ∷ codes "parameter" ∷ []) ∷
+    type_shape Rtype.https (Number16 ∷ Name ∷ []) Params Any (codes "priority" ∷ codes "target" ∷ codes "parameter" ∷ []) ∷
+    type_shape Rtype.hhit [] Base64 Any (codes "data" ∷ []) ∷
+    type_shape Rtype.brid [] Base64 Any (codes "data" ∷ []) ∷
+    type_shape Rtype.spf [] Strings Any (codes "text" ∷ []) ∷
+    type_shape Rtype.nid (Number16 ∷ Locator ∷ []) Nothing Any (codes "preference" ∷ codes "node identifier" ∷ []) ∷
+    type_shape Rtype.l32 (Number16 ∷ Ipv4 ∷ []) Nothing Any (codes "preference" ∷ codes "locator" ∷ []) ∷
+    type_shape Rtype.l64 (Number16 ∷ Locator ∷ []) Nothing Any (codes "preference" ∷ codes "locator" ∷ []) ∷
+    type_shape Rtype.lp (Number16 ∷ Name ∷ []) Nothing Any (codes "preference" ∷ codes "name" ∷ []) ∷
+    type_shape Rtype.eui48 (Eui48 ∷ []) Nothing Any (codes "address" ∷ []) ∷
+    type_shape Rtype.eui64 (Eui64 ∷ []) Nothing Any (codes "address" ∷ []) ∷
+    type_shape Rtype.uri (Number16 ∷ Number16 ∷ []) QuotedText Any (codes "priority" ∷ codes "weight" ∷ codes "target" ∷ []) ∷
+    type_shape Rtype.caa (Number8 ∷ Tag ∷ []) Text Any (codes "flags" ∷ codes "tag" ∷ codes "value" ∷ []) ∷
+    type_shape Rtype.avc [] Strings Any (codes "text" ∷ []) ∷
+    type_shape Rtype.resinfo [] Strings Any (codes "text" ∷ []) ∷
+    type_shape Rtype.wallet [] Strings Any (codes "text" ∷ []) ∷
+    type_shape Rtype.ta (Number16 ∷ Algorithm ∷ Number8 ∷ []) Hex (Digest Ds 3) (codes "key tag" ∷ codes "algorithm" ∷ codes "digest type" ∷ codes "digest" ∷ []) ∷
+    type_shape Rtype.dlv (Number16 ∷ Algorithm ∷ Number8 ∷ []) Hex (Digest Ds 3) (codes "key tag" ∷ codes "algorithm" ∷ codes "digest type" ∷ codes "digest" ∷ []) ∷
     []

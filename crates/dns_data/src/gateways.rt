@@ -1,5 +1,5 @@
 //! A gateway and a public key (IPSECKEY, RFC 4025 section 2.1), behind the precedence.
-ghost use Rattle.std.specs.Prelude.{◌≡◌, ◌≤◌, ◌↔◌, IfErr, IsTrue, None};
+ghost use Rattle.std.specs.Prelude.{◌≡◌, ◌<◌, ◌^◌, ◌↔◌, IsTrue, None};
 ghost use Rattle.std.specs.Option.{option_copied};
 ghost use Rattle.dns_fields.specs.Taking.{SpellsField};
 ghost use Rattle.dns_spelling.specs.Forms.{FindsWidth};
@@ -9,10 +9,10 @@ ghost use Rattle.dns_data.specs.Rests.{TakesInParts, TakesRest};
 ghost use Rattle.dns_data.specs.TokenForms.{FieldReason, TakesTokenAs};
 
 use crate::digits::take_digits;
-use crate::error::{DataError, DataRefusal, RestRefusal};
 use crate::rest::take_some_digits;
 use dns_digits::DigitsKind;
-use dns_fields::{Field, FieldError, TokenSource, take_field};
+use dns_fields::{Field, FieldName, RecordError, TokenSource, take_field};
+use dns_kinds::ErrorKind;
 use dns_kinds::numbers::u8_from_text;
 use dns_octets::{AsOctets, OctetsBuilder};
 use dns_places::Gateway;
@@ -29,33 +29,24 @@ fn take_one<S: TokenSource, Octets: AsOctets, B: OctetsBuilder>(
     origin: Option<&Name<Octets>>,
     source: &mut S,
     target: &mut B,
-) -> Result<(), DataRefusal>
+) -> Result<(), RecordError>
     ensures takes { TakesTokenAs B.room (SpellsField (option_copied origin.entry) field) (FieldReason (option_copied origin.entry) field) (S.end source.old).at (S.left source.old) (B.octets target.old) result (S.left source.new) (B.octets target.new) }
     ensures end { S.end source.new ≡ S.end source.old }
 {
-    match take_field(field, origin, source, target) {
-        Ok(()) => Ok(()),
-        Err(refusal) => {
-            let why = DataError::Field(refusal.why);
-            Err(DataRefusal {
-                at: refusal.at,
-                why,
-            })
-        }
-    }
+    take_field(field, origin, source, target)
 }
 
 /// The type of a gateway that a token names.
-fn gateway_type(token: &EntryToken<'_>) -> Result<u8, DataError>
+fn gateway_type(token: &EntryToken<'_>) -> Result<u8, ErrorKind>
     ensures { ReadsGatewayType (token_seen token.now) result }
 {
     if token.is_quoted {
-        return Err(DataError::Field(FieldError::Quoted));
+        return Err(ErrorKind::Quoted);
     }
     match u8_from_text(token.text) {
         Ok(number) if number <= NAME => Ok(number),
-        Ok(_) => Err(DataError::UnknownGateway),
-        Err(error) => Err(DataError::from(error)),
+        Ok(_) => Err(ErrorKind::UnknownGateway),
+        Err(why) => Err(why),
     }
 }
 
@@ -63,22 +54,20 @@ fn gateway_type(token: &EntryToken<'_>) -> Result<u8, DataError>
 fn take_gateway_type<S: TokenSource, B: OctetsBuilder>(
     source: &mut S,
     target: &mut B,
-) -> Result<u8, DataRefusal>
+) -> Result<u8, RecordError>
     ensures takes { TakesGatewayType B.room (S.end source.old).at (S.left source.old) (B.octets target.old) result (S.left source.new) (B.octets target.new) }
     ensures end { S.end source.new ≡ S.end source.old }
 {
     let at = source.place();
     let Some(token) = source.current() else {
-        let why = DataError::Field(FieldError::EndOfEntry);
-        return Err(DataRefusal { at, why });
+        return Err(RecordError::at(at, ErrorKind::EndOfEntry));
     };
     let number = match gateway_type(&token) {
         Ok(number) => number,
-        Err(why) => return Err(DataRefusal { at, why }),
+        Err(why) => return Err(RecordError::at(at, why)),
     };
-    if let Err(error) = target.append_slice(&[number]) {
-        let why = DataError::from(error);
-        return Err(DataRefusal { at, why });
+    if let Err(why) = target.append_slice(&[number]) {
+        return Err(RecordError::at(at, why));
     }
     source.advance();
     Ok(number)
@@ -89,29 +78,23 @@ fn take_address<S: TokenSource, B: OctetsBuilder>(
     number: u8,
     source: &mut S,
     target: &mut B,
-) -> Result<(), DataRefusal>
+) -> Result<(), RecordError>
     ensures takes { TakesTokenAs B.room (SpellsAddress number) AddressReason (S.end source.old).at (S.left source.old) (B.octets target.old) result (S.left source.new) (B.octets target.new) }
     ensures end { S.end source.new ≡ S.end source.old }
 {
     let at = source.place();
     let Some(token) = source.current() else {
-        let why = DataError::Field(FieldError::EndOfEntry);
-        return Err(DataRefusal { at, why });
+        return Err(RecordError::at(at, ErrorKind::EndOfEntry));
     };
     if token.is_quoted {
-        let why = DataError::Field(FieldError::Quoted);
-        return Err(DataRefusal { at, why });
+        return Err(RecordError::at(at, ErrorKind::Quoted));
     }
     let gateway = match Gateway::from_text(number, token.text) {
         Ok(gateway) => gateway,
-        Err(error) => {
-            let why = DataError::from(error);
-            return Err(DataRefusal { at, why });
-        }
+        Err(why) => return Err(RecordError::at(at, why)),
     };
-    if let Err(error) = gateway.compose(target) {
-        let why = DataError::from(error);
-        return Err(DataRefusal { at, why });
+    if let Err(why) = gateway.compose(target) {
+        return Err(RecordError::at(at, why));
     }
     source.advance();
     Ok(())
@@ -123,7 +106,7 @@ fn take_gateway<S: TokenSource, Octets: AsOctets, B: OctetsBuilder>(
     origin: Option<&Name<Octets>>,
     source: &mut S,
     target: &mut B,
-) -> Result<(), DataRefusal>
+) -> Result<(), RecordError>
     ensures takes { TakesTokenAs B.room (gateway_form (option_copied origin.entry) number).spells (gateway_form (option_copied origin.entry) number).reason (S.end source.old).at (S.left source.old) (B.octets target.old) result (S.left source.new) (B.octets target.new) }
     ensures end { S.end source.new ≡ S.end source.old }
 {
@@ -139,14 +122,12 @@ fn take_algorithm<S: TokenSource, Octets: AsOctets, B: OctetsBuilder>(
     origin: Option<&Name<Octets>>,
     source: &mut S,
     target: &mut B,
-) -> Result<u8, DataRefusal>
+) -> Result<u8, RecordError>
     ensures takes { TakesAlgorithm B.room (S.end source.old).at (S.left source.old) (B.octets target.old) result (S.left source.new) (B.octets target.new) }
     ensures end { S.end source.new ≡ S.end source.old }
 {
     let begun = target.as_slice().len();
-    if let Err(refusal) = take_one(Field::Number8, origin, source, target) {
-        return Err(refusal);
-    }
+    take_one(Field::Number8, origin, source, target)?;
     Ok(target.as_slice()[begun])
 }
 
@@ -155,7 +136,7 @@ fn take_key<S: TokenSource, B: OctetsBuilder>(
     algorithm: u8,
     source: &mut S,
     target: &mut B,
-) -> Result<(), DataRefusal>
+) -> Result<(), RecordError>
     ensures takes { TakesRest B.room (key_form algorithm) (S.end source.old).at (S.left source.old) (B.octets target.old) result (S.left source.new) (B.octets target.new) }
     ensures end { S.end source.new ≡ S.end source.old }
 {
@@ -170,45 +151,48 @@ fn take_key<S: TokenSource, B: OctetsBuilder>(
 /// an IPv6 address, 3 for a name), an algorithm, the gateway, and a key in base 64, and appends their
 /// octets. A gateway of type 0 is written `.`. A name is uncompressed, and a relative one before
 /// the origin. Other types are refused. The key may be left out only if the algorithm is 0 (RFC 4025
-/// section 2.4).
+/// section 2.4). These are four fields of data, of which so many are before, and an error says which
+/// of them is refused.
 pub(crate) fn take_gateway_parts<S: TokenSource, Octets: AsOctets, B: OctetsBuilder>(
+    before: usize,
     origin: Option<&Name<Octets>>,
     source: &mut S,
     target: &mut B,
-) -> Result<(), RestRefusal>
-    ensures takes { TakesInParts B.room (gateway_key_form (option_copied origin.entry)) (IsGatewayPart (option_copied origin.entry)) (S.end source.old).at (S.left source.old) (B.octets target.old) result (S.left source.new) (B.octets target.new) }
-    ensures few { IfErr result (λ r. r.part ≤ 3) }
+) -> Result<(), RecordError>
+    requires { before < 2 ^ 63 }
+    ensures takes { TakesInParts B.room (gateway_key_form (option_copied origin.entry)) (IsGatewayPart (option_copied origin.entry)) before (S.end source.old).at (S.left source.old) (B.octets target.old) result (S.left source.new) (B.octets target.new) }
     ensures end { S.end source.new ≡ S.end source.old }
 {
     let number = match take_gateway_type(source, target) {
         Ok(number) => number,
-        Err(refusal) => return Err(RestRefusal { part: 0, refusal }),
+        Err(error) => return Err(error.in_field(FieldName(before))),
     };
     let algorithm = match take_algorithm(origin, source, target) {
         Ok(algorithm) => algorithm,
-        Err(refusal) => return Err(RestRefusal { part: 1, refusal }),
+        Err(error) => return Err(error.in_field(FieldName(before + 1))),
     };
-    if let Err(refusal) = take_gateway(number, origin, source, target) {
-        return Err(RestRefusal { part: 2, refusal });
+    if let Err(error) = take_gateway(number, origin, source, target) {
+        return Err(error.in_field(FieldName(before + 2)));
     }
-    if let Err(refusal) = take_key(algorithm, source, target) {
-        return Err(RestRefusal { part: 3, refusal });
+    if let Err(error) = take_key(algorithm, source, target) {
+        return Err(error.in_field(FieldName(before + 3)));
     }
     Ok(())
 }
 
-/// Takes the tokens that are left as a gateway and a key, as [`take_gateway_parts`] does.
+/// Takes the tokens that are left as a gateway and a key, as [`take_gateway_parts`] does. An error
+/// doesn't say which field is refused.
 pub fn take_gateway_key<S: TokenSource, Octets: AsOctets, B: OctetsBuilder>(
     origin: Option<&Name<Octets>>,
     source: &mut S,
     target: &mut B,
-) -> Result<(), DataRefusal>
+) -> Result<(), RecordError>
     ensures takes { TakesRest B.room (gateway_key_form (option_copied origin.entry)) (S.end source.old).at (S.left source.old) (B.octets target.old) result (S.left source.new) (B.octets target.new) }
     ensures end { S.end source.new ≡ S.end source.old }
 {
-    match take_gateway_parts(origin, source, target) {
+    match take_gateway_parts(0, origin, source, target) {
         Ok(()) => Ok(()),
-        Err(refused) => Err(refused.refusal),
+        Err(error) => Err(RecordError::at(error.offset, error.kind)),
     }
 }
 

@@ -4,9 +4,9 @@ ghost use Rattle.dns_data.specs.Generic.{BeginsGeneric, TakesCount, generic_form
 ghost use Rattle.dns_data.specs.Rests.{TakesRest};
 
 use crate::digits::take_digits;
-use crate::error::{DataError, DataRefusal};
 use dns_digits::DigitsKind;
-use dns_fields::{FieldError, TokenSource, Word};
+use dns_fields::{RecordError, TokenSource, Word};
+use dns_kinds::ErrorKind;
 use dns_octets::OctetsBuilder;
 
 /// Whether the token that comes next is the mark of the generic form, `\#` without quotes.
@@ -20,28 +20,23 @@ pub fn begins_generic<S: TokenSource>(source: &S) -> bool
 }
 
 /// Takes the word that comes next as a number of 16 bits.
-fn take_count<S: TokenSource>(source: &mut S) -> Result<u16, DataRefusal>
+fn take_count<S: TokenSource>(source: &mut S) -> Result<u16, RecordError>
     ensures takes { TakesCount (S.end source.old).at (S.left source.old) result (S.left source.new) }
     ensures end { S.end source.new ≡ S.end source.old }
 {
     let at = source.place();
     let Some(token) = source.current() else {
-        let why = DataError::Field(FieldError::EndOfEntry);
-        return Err(DataRefusal { at, why });
+        return Err(RecordError::at(at, ErrorKind::EndOfEntry));
     };
     if token.is_quoted {
-        let why = DataError::Field(FieldError::Quoted);
-        return Err(DataRefusal { at, why });
+        return Err(RecordError::at(at, ErrorKind::Quoted));
     }
     match u16::from_text(token.text) {
         Ok(count) => {
             source.advance();
             Ok(count)
         }
-        Err(error) => {
-            let why = DataError::from(error);
-            Err(DataRefusal { at, why })
-        }
+        Err(why) => Err(RecordError::at(at, why)),
     }
 }
 
@@ -50,25 +45,19 @@ fn take_count<S: TokenSource>(source: &mut S) -> Result<u16, DataRefusal>
 pub fn take_generic<S: TokenSource, B: OctetsBuilder>(
     source: &mut S,
     target: &mut B,
-) -> Result<(), DataRefusal>
+) -> Result<(), RecordError>
     requires { BeginsGeneric (S.left source.old) }
     ensures takes { TakesRest B.room generic_form (S.end source.old).at (S.left source.old) (B.octets target.old) result (S.left source.new) (B.octets target.new) }
     ensures end { S.end source.new ≡ S.end source.old }
 {
     source.advance();
-    let count = match take_count(source) {
-        Ok(count) => count,
-        Err(refusal) => return Err(refusal),
-    };
+    let wanted = usize::from(take_count(source)?);
     let begun = target.as_slice().len();
-    if let Err(refusal) = take_digits(DigitsKind::Hex, source, target) {
-        return Err(refusal);
-    }
-    let gained = target.as_slice().len() - begun;
-    if gained != usize::from(count) {
-        let at = source.place();
-        let why = DataError::WrongLength;
-        return Err(DataRefusal { at, why });
+    take_digits(DigitsKind::Hex, source, target)?;
+    let found = target.as_slice().len() - begun;
+    if found != wanted {
+        let why = ErrorKind::WrongLength { found, wanted };
+        return Err(RecordError::at(source.place(), why));
     }
     Ok(())
 }

@@ -3,8 +3,7 @@ ghost use Rattle.std.specs.Prelude.{◌≡◌};
 ghost use Rattle.dns_data.specs.LocationRest.{is_other_version, location_form};
 ghost use Rattle.dns_data.specs.Rests.{TakesRest};
 
-use crate::error::{DataError, DataRefusal};
-use dns_fields::TokenSource;
+use dns_fields::{RecordError, TokenSource};
 use dns_octets::OctetsBuilder;
 use dns_places::take_location;
 
@@ -19,15 +18,9 @@ pub(crate) fn is_other_version(octets: &[u8]) -> bool
 pub(crate) fn take_place<S: TokenSource, B: OctetsBuilder>(
     source: &mut S,
     target: &mut B,
-) -> Result<(), DataRefusal>
+) -> Result<(), RecordError>
     ensures takes { TakesRest B.room location_form (S.end source.old).at (S.left source.old) (B.octets target.old) result (S.left source.new) (B.octets target.new) }
     ensures end { S.end source.new ≡ S.end source.old }
 {
-    match take_location(source, target) {
-        Ok(()) => Ok(()),
-        Err(refusal) => Err(DataRefusal {
-            at: refusal.at,
-            why: DataError::from(refusal.why),
-        }),
-    }
+    take_location(source, target)
 }

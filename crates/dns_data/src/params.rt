@@ -3,8 +3,7 @@ ghost use Rattle.std.specs.Prelude.{◌≡◌, ◌↔◌, IsTrue};
 ghost use Rattle.dns_data.specs.ParamsRest.{params_form};
 ghost use Rattle.dns_data.specs.Rests.{TakesRest};
 
-use crate::error::{DataError, DataRefusal};
-use dns_fields::TokenSource;
+use dns_fields::{RecordError, TokenSource};
 use dns_lists::check_params;
 use dns_octets::{AsOctetsMut, OctetsBuilder};
 use dns_params::take_params;
@@ -14,17 +13,11 @@ use dns_params::take_params;
 pub(crate) fn take_service_params<S: TokenSource, B: OctetsBuilder + AsOctetsMut>(
     source: &mut S,
     target: &mut B,
-) -> Result<(), DataRefusal>
+) -> Result<(), RecordError>
     ensures takes { TakesRest B.room params_form (S.end source.old).at (S.left source.old) (B.octets target.old) result (S.left source.new) (B.octets target.new) }
     ensures end { S.end source.new ≡ S.end source.old }
 {
-    match take_params(source, target) {
-        Ok(()) => Ok(()),
-        Err(refusal) => Err(DataRefusal {
-            at: refusal.at,
-            why: DataError::from(refusal.why),
-        }),
-    }
+    take_params(source, target)
 }
 
 /// Whether octets are service parameters in ascending order of keys, each with a right value.

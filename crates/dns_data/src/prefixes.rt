@@ -5,8 +5,8 @@ ghost use Rattle.dns_data.specs.PrefixLists.{has_other_family, is_other_family, 
 ghost use Rattle.dns_data.specs.Rests.{TakesRest};
 ghost use Rattle.dns_data.specs.TokenForms.{AreParts, TakesTokenAs};
 
-use crate::error::{DataError, DataRefusal};
-use dns_fields::{FieldError, TokenSource};
+use dns_fields::{RecordError, TokenSource};
+use dns_kinds::ErrorKind;
 use dns_octets::OctetsBuilder;
 use dns_places::{append_prefix, item_width};
 
@@ -14,22 +14,19 @@ use dns_places::{append_prefix, item_width};
 fn take_prefix<S: TokenSource, B: OctetsBuilder>(
     source: &mut S,
     target: &mut B,
-) -> Result<(), DataRefusal>
+) -> Result<(), RecordError>
     ensures takes { TakesTokenAs B.room prefix_form.spells prefix_form.reason (S.end source.old).at (S.left source.old) (B.octets target.old) result (S.left source.new) (B.octets target.new) }
     ensures end { S.end source.new ≡ S.end source.old }
 {
     let at = source.place();
     let Some(token) = source.current() else {
-        let why = DataError::Field(FieldError::EndOfEntry);
-        return Err(DataRefusal { at, why });
+        return Err(RecordError::at(at, ErrorKind::EndOfEntry));
     };
     if token.is_quoted {
-        let why = DataError::Field(FieldError::Quoted);
-        return Err(DataRefusal { at, why });
+        return Err(RecordError::at(at, ErrorKind::Quoted));
     }
-    if let Err(error) = append_prefix(token.text, target) {
-        let why = DataError::from(error);
-        return Err(DataRefusal { at, why });
+    if let Err(why) = append_prefix(token.text, target) {
+        return Err(RecordError::at(at, why));
     }
     source.advance();
     Ok(())
@@ -40,14 +37,12 @@ fn take_prefix<S: TokenSource, B: OctetsBuilder>(
 pub fn take_prefixes<S: TokenSource, B: OctetsBuilder>(
     source: &mut S,
     target: &mut B,
-) -> Result<(), DataRefusal>
+) -> Result<(), RecordError>
     ensures takes { TakesRest B.room prefixes_form (S.end source.old).at (S.left source.old) (B.octets target.old) result (S.left source.new) (B.octets target.new) }
     ensures end { S.end source.new ≡ S.end source.old }
 {
     while source.current().is_some() {
-        if let Err(refusal) = take_prefix(source, target) {
-            return Err(refusal);
-        }
+        take_prefix(source, target)?;
     }
     Ok(())
 }

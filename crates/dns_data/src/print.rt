@@ -14,17 +14,17 @@ ghost use Rattle.dns_data.specs.RestKinds.{has_no_text, rest_form, strings_form}
 ghost use Rattle.dns_data.specs.TypeLists.{types_form};
 ghost use Rattle.dns_data.specs.Wire.{BeginsWithFields};
 
-use crate::field_text::FieldText;
 use crate::gateways::{NAME, gateway_width};
 use crate::locations::is_other_version;
 use crate::prefixes::has_other_family;
 use crate::rest::Rest;
 use crate::shape::Shape;
+use crate::shown_fields::FieldText;
 use crate::wire::split_fields;
 use dns_codec::{base16, base64};
 use dns_digits::DigitsKind;
 use dns_fields::{Field, field_width};
-use dns_kinds::{PortableType, RecordType};
+use dns_kinds::PortableType;
 use dns_lists::{BitmapTypes, Params};
 use dns_params::ParamText;
 use dns_places::{Gateway, Prefix, item_width, location_words};
@@ -77,8 +77,8 @@ fn write_types<F: FormatWriter>(octets: &[u8], p: &mut F) -> zonefile_fmt::Resul
     ensures gives { OnOk result (WritesSteps F.blocks F.step_gives p.old (token_steps (types_form.printed octets.now)) p.new) }
     ensures fails { OnErr result (FailsInSteps F.blocks F.step_gives F.step_fails p.old (token_steps (types_form.printed octets.now))) }
 {
-    for code in BitmapTypes::new(octets) {
-        p.write_token(PortableType(RecordType(code)))?;
+    for rtype in BitmapTypes::new(octets) {
+        p.write_token(PortableType(rtype))?;
     }
     Ok(())
 }

@@ -1,5 +1,5 @@
 //! What goes to the end of an entry, after the fields that are one token each.
-ghost use Rattle.std.specs.Prelude.{◌≡◌, ◌≤◌, IfErr};
+ghost use Rattle.std.specs.Prelude.{◌≡◌, ◌<◌, ◌^◌};
 ghost use Rattle.std.specs.Option.{option_copied};
 ghost use Rattle.dns_data.specs.Digits.{digits_form};
 ghost use Rattle.dns_data.specs.Rests.{TakesInParts, TakesRest, WantsMore, some_form};
@@ -7,7 +7,6 @@ ghost use Rattle.dns_data.specs.RestKinds.{IsRestPart, rest_form, strings_form};
 ghost use Rattle.dns_data.specs.TypeLists.{types_form};
 
 use crate::digits::take_digits;
-use crate::error::{DataError, DataRefusal, RestRefusal};
 use crate::gateways::{take_gateway_key, take_gateway_parts};
 use crate::locations::take_place;
 use crate::params::take_service_params;
@@ -15,7 +14,8 @@ use crate::prefixes::take_prefixes;
 use crate::texts::{take_no_token, take_text};
 use crate::type_lists::take_types;
 use dns_digits::DigitsKind;
-use dns_fields::{Field, FieldError, TokenSource, take_each};
+use dns_fields::{Field, FieldName, RecordError, TokenSource, take_each};
+use dns_kinds::ErrorKind;
 use dns_octets::{AsOctets, AsOctetsMut, OctetsBuilder};
 use dns_wire::Name;
 
@@ -54,13 +54,11 @@ fn want_more<S: TokenSource, B: OctetsBuilder>(
     length: usize,
     source: &S,
     target: &B,
-) -> Result<(), DataRefusal>
+) -> Result<(), RecordError>
     ensures { WantsMore length (S.end source.now).at (S.left source.now) (B.octets target.now) result }
 {
     if target.as_slice().len() == length {
-        let at = source.place();
-        let why = DataError::Field(FieldError::EndOfEntry);
-        return Err(DataRefusal { at, why });
+        return Err(RecordError::at(source.place(), ErrorKind::EndOfEntry));
     }
     Ok(())
 }
@@ -70,20 +68,11 @@ fn take_strings<S: TokenSource, Octets: AsOctets, B: OctetsBuilder>(
     origin: Option<&Name<Octets>>,
     source: &mut S,
     target: &mut B,
-) -> Result<(), DataRefusal>
+) -> Result<(), RecordError>
     ensures takes { TakesRest B.room (strings_form (option_copied origin.entry)) (S.end source.old).at (S.left source.old) (B.octets target.old) result (S.left source.new) (B.octets target.new) }
     ensures end { S.end source.new ≡ S.end source.old }
 {
-    match take_each(Field::String, origin, source, target) {
-        Ok(()) => Ok(()),
-        Err(refusal) => {
-            let why = DataError::Field(refusal.why);
-            Err(DataRefusal {
-                at: refusal.at,
-                why,
-            })
-        }
-    }
+    take_each(Field::String, origin, source, target)
 }
 
 /// Takes one character string or more.
@@ -91,7 +80,7 @@ fn take_some_strings<S: TokenSource, Octets: AsOctets, B: OctetsBuilder>(
     origin: Option<&Name<Octets>>,
     source: &mut S,
     target: &mut B,
-) -> Result<(), DataRefusal>
+) -> Result<(), RecordError>
     ensures takes { TakesRest B.room (some_form (strings_form (option_copied origin.entry))) (S.end source.old).at (S.left source.old) (B.octets target.old) result (S.left source.new) (B.octets target.new) }
     ensures end { S.end source.new ≡ S.end source.old }
 {
@@ -105,7 +94,7 @@ pub(crate) fn take_some_digits<S: TokenSource, B: OctetsBuilder>(
     kind: DigitsKind,
     source: &mut S,
     target: &mut B,
-) -> Result<(), DataRefusal>
+) -> Result<(), RecordError>
     ensures takes { TakesRest B.room (some_form (digits_form kind)) (S.end source.old).at (S.left source.old) (B.octets target.old) result (S.left source.new) (B.octets target.new) }
     ensures end { S.end source.new ≡ S.end source.old }
 {
@@ -118,7 +107,7 @@ pub(crate) fn take_some_digits<S: TokenSource, B: OctetsBuilder>(
 fn take_some_types<S: TokenSource, B: OctetsBuilder>(
     source: &mut S,
     target: &mut B,
-) -> Result<(), DataRefusal>
+) -> Result<(), RecordError>
     ensures takes { TakesRest B.room (some_form types_form) (S.end source.old).at (S.left source.old) (B.octets target.old) result (S.left source.new) (B.octets target.new) }
     ensures end { S.end source.new ≡ S.end source.old }
 {
@@ -133,7 +122,7 @@ pub fn take_rest<S: TokenSource, Octets: AsOctets, B: OctetsBuilder + AsOctetsMu
     origin: Option<&Name<Octets>>,
     source: &mut S,
     target: &mut B,
-) -> Result<(), DataRefusal>
+) -> Result<(), RecordError>
     ensures takes { TakesRest B.room (rest_form (option_copied origin.entry) rest) (S.end source.old).at (S.left source.old) (B.octets target.old) result (S.left source.new) (B.octets target.new) }
     ensures end { S.end source.new ≡ S.end source.old }
 {
@@ -153,23 +142,24 @@ pub fn take_rest<S: TokenSource, Octets: AsOctets, B: OctetsBuilder + AsOctetsMu
     }
 }
 
-/// Takes the tokens that are left, and appends the octets that they spell. A refusal tells which part of
-/// them is refused.
+/// Takes the tokens that are left, and appends the octets that they spell. They are fields of data, of
+/// which so many are before. An error says which of the fields is refused.
 pub(crate) fn take_parts<S: TokenSource, Octets: AsOctets, B: OctetsBuilder + AsOctetsMut>(
+    before: usize,
     rest: Rest,
     origin: Option<&Name<Octets>>,
     source: &mut S,
     target: &mut B,
-) -> Result<(), RestRefusal>
-    ensures takes { TakesInParts B.room (rest_form (option_copied origin.entry) rest) (IsRestPart (option_copied origin.entry) rest) (S.end source.old).at (S.left source.old) (B.octets target.old) result (S.left source.new) (B.octets target.new) }
-    ensures few { IfErr result (λ r. r.part ≤ 3) }
+) -> Result<(), RecordError>
+    requires { before < 2 ^ 63 }
+    ensures takes { TakesInParts B.room (rest_form (option_copied origin.entry) rest) (IsRestPart (option_copied origin.entry) rest) before (S.end source.old).at (S.left source.old) (B.octets target.old) result (S.left source.new) (B.octets target.new) }
     ensures end { S.end source.new ≡ S.end source.old }
 {
     if let Rest::GatewayKey = rest {
-        return take_gateway_parts(origin, source, target);
+        return take_gateway_parts(before, origin, source, target);
     }
     match take_rest(rest, origin, source, target) {
         Ok(()) => Ok(()),
-        Err(refusal) => Err(RestRefusal { part: 0, refusal }),
+        Err(error) => Err(error.in_field(FieldName(before))),
     }
 }

@@ -1,14 +1,17 @@
 //! Shapes of record data: fields that are one token each, and what goes to the entry's end.
 ghost use Rattle.std.specs.Prelude.{◌≡◌, ◌↔◌, IsTrue, slice_index};
 ghost use Rattle.std.specs.Option.{option_copied};
-ghost use Rattle.dns_data.specs.Data.{HasLength, HasWrongHash, ReadsData};
+ghost use Rattle.dns_data.specs.Data.{HasLength, HasWrongHash, wrong_length, ReadsData};
 
-use crate::error::DataError;
 use crate::rest::{Rest, take_parts};
-use dns_digits::{Digests, is_digest_length};
-use dns_fields::{Field, TokenSource, take_fields};
+use dns_digits::{Digests, is_digest_length, wanted_digest};
+use dns_fields::{Field, FieldName, RecordError, TokenSource, take_fields};
+use dns_kinds::ErrorKind;
 use dns_octets::{AsOctets, AsOctetsMut, OctetsBuilder};
 use dns_wire::Name;
+
+/// How many octets a hash of SHA-1 has.
+const SHA1_OCTETS: usize = 20;
 
 /// The lengths that octets of the data ask for.
 #[derive(Clone, Copy)]
@@ -31,16 +34,6 @@ pub struct Shape {
     pub rest: Rest,
     /// The lengths that are asked for.
     pub length: Length,
-}
-
-/// A part of record data that is refused, the place of the token, and why. The parts are the fields,
-/// and after them those of the rest: four of a gateway and a key, else one. A part is told by its place
-/// among these.
-#[derive(Clone, Copy)]
-pub struct PartRefusal {
-    pub part: usize,
-    pub at: usize,
-    pub why: DataError,
 }
 
 /// The octet at a place, or 0 behind the end.
@@ -67,7 +60,7 @@ pub(crate) fn has_length(length: Length, octets: &[u8]) -> bool
         }
         Length::Hash => {
             let place = 5 + usize::from(octet_at(octets, 4));
-            octet_at(octets, 0) != 1 || octet_at(octets, place) == 20
+            octet_at(octets, 0) != 1 || usize::from(octet_at(octets, place)) == SHA1_OCTETS
         }
     }
 }
@@ -84,50 +77,61 @@ fn has_wrong_hash(length: Length, octets: &[u8]) -> bool
     }
 }
 
+/// The error of data whose digest or hash has not the length that it asks for: how many octets it
+/// has, and how many it has to have.
+fn wrong_length(length: Length, octets: &[u8]) -> ErrorKind
+    ensures { result ≡ wrong_length length octets.now }
+{
+    match length {
+        Length::Any => ErrorKind::WrongLength {
+            found: 0,
+            wanted: 0,
+        },
+        Length::Digest(digests, place) => {
+            let place = usize::from(place);
+            ErrorKind::WrongLength {
+                found: octets.len().saturating_sub(place + 1),
+                wanted: wanted_digest(digests, octet_at(octets, place)),
+            }
+        }
+        Length::Hash => {
+            let place = 5 + usize::from(octet_at(octets, 4));
+            ErrorKind::WrongLength {
+                found: usize::from(octet_at(octets, place)),
+                wanted: SHA1_OCTETS,
+            }
+        }
+    }
+}
+
 /// Takes the tokens that are left as data of a shape, and appends its octets. A relative name stands
 /// before the origin.
+///
+/// An error says the field that is refused. The fields are those of one token each, and after them
+/// those of the rest: four of a gateway and a key, else one.
 pub fn read_data<S: TokenSource, Octets: AsOctets, B: OctetsBuilder + AsOctetsMut>(
     shape: &Shape,
     origin: Option<&Name<Octets>>,
     source: &mut S,
     target: &mut B,
-) -> Result<(), PartRefusal>
+) -> Result<(), RecordError>
     ensures reads { ReadsData (option_copied origin.entry) B.room shape.now (S.end source.old).at (S.left source.old) (B.octets target.old) result (S.left source.new) (B.octets target.new) }
     ensures end { S.end source.new ≡ S.end source.old }
 {
     let begun = target.as_slice().len();
-    let last = match take_fields(shape.fields, origin, source, target) {
-        Ok(at) => at,
-        Err(refused) => {
-            return Err(PartRefusal {
-                part: refused.field,
-                at: refused.refusal.at,
-                why: DataError::Field(refused.refusal.why),
-            });
-        }
-    };
-    let part = shape.fields.len();
-    if has_wrong_hash(shape.length, &target.as_slice()[begun..]) {
-        return Err(PartRefusal {
-            part: part.saturating_sub(1),
-            at: last,
-            why: DataError::WrongLength,
-        });
+    let last = take_fields(shape.fields, origin, source, target)?;
+    let count = shape.fields.len();
+    let octets = &target.as_slice()[begun..];
+    if has_wrong_hash(shape.length, octets) {
+        let why = wrong_length(shape.length, octets);
+        return Err(RecordError::at(last, why).in_field(FieldName(count.saturating_sub(1))));
     }
     let at = source.place();
-    if let Err(refused) = take_parts(shape.rest, origin, source, target) {
-        return Err(PartRefusal {
-            part: part + refused.part,
-            at: refused.refusal.at,
-            why: refused.refusal.why,
-        });
-    }
-    if !has_length(shape.length, &target.as_slice()[begun..]) {
-        return Err(PartRefusal {
-            part,
-            at,
-            why: DataError::WrongLength,
-        });
+    take_parts(count, shape.rest, origin, source, target)?;
+    let octets = &target.as_slice()[begun..];
+    if !has_length(shape.length, octets) {
+        let why = wrong_length(shape.length, octets);
+        return Err(RecordError::at(at, why).in_field(FieldName(count)));
     }
     Ok(())
 }

@@ -3,20 +3,18 @@ ghost use Rattle.std.specs.Prelude.{◌≡◌};
 ghost use Rattle.dns_data.specs.Rests.{TakesRest};
 ghost use Rattle.dns_data.specs.Texts.{TakesNoToken, nothing_form, text_form};
 
-use crate::error::{DataError, DataRefusal};
-use dns_fields::{FieldError, TokenSource};
+use dns_fields::{RecordError, TokenSource};
+use dns_kinds::ErrorKind;
 use dns_octets::OctetsBuilder;
 use dns_spelling::append_spelled;
 
 /// Sees that no token is left.
-pub fn take_nothing<S: TokenSource>(source: &mut S) -> Result<(), DataRefusal>
+pub fn take_nothing<S: TokenSource>(source: &mut S) -> Result<(), RecordError>
     ensures takes { TakesNoToken (S.end source.old).at (S.left source.old) result (S.left source.new) }
     ensures end { S.end source.new ≡ S.end source.old }
 {
     if source.current().is_some() {
-        let at = source.place();
-        let why = DataError::TrailingToken;
-        return Err(DataRefusal { at, why });
+        return Err(RecordError::at(source.place(), ErrorKind::TrailingToken));
     }
     Ok(())
 }
@@ -25,7 +23,7 @@ pub fn take_nothing<S: TokenSource>(source: &mut S) -> Result<(), DataRefusal>
 pub(crate) fn take_no_token<S: TokenSource, B: OctetsBuilder>(
     source: &mut S,
     _target: &mut B,
-) -> Result<(), DataRefusal>
+) -> Result<(), RecordError>
     ensures takes { TakesRest B.room nothing_form (S.end source.old).at (S.left source.old) (B.octets _target.old) result (S.left source.new) (B.octets _target.new) }
     ensures end { S.end source.new ≡ S.end source.old }
 {
@@ -39,22 +37,19 @@ pub fn take_text<S: TokenSource, B: OctetsBuilder>(
     wants_quotes: bool,
     source: &mut S,
     target: &mut B,
-) -> Result<(), DataRefusal>
+) -> Result<(), RecordError>
     ensures takes { TakesRest B.room (text_form wants_quotes) (S.end source.old).at (S.left source.old) (B.octets target.old) result (S.left source.new) (B.octets target.new) }
     ensures end { S.end source.new ≡ S.end source.old }
 {
     let at = source.place();
     let Some(token) = source.current() else {
-        let why = DataError::Field(FieldError::EndOfEntry);
-        return Err(DataRefusal { at, why });
+        return Err(RecordError::at(at, ErrorKind::EndOfEntry));
     };
     if wants_quotes && !token.is_quoted {
-        let why = DataError::NotQuoted;
-        return Err(DataRefusal { at, why });
+        return Err(RecordError::at(at, ErrorKind::NotQuoted));
     }
-    if let Err(error) = append_spelled(token.text, target) {
-        let why = DataError::from(error);
-        return Err(DataRefusal { at, why });
+    if let Err(why) = append_spelled(token.text, target) {
+        return Err(RecordError::at(at, why));
     }
     source.advance();
     take_nothing(source)

@@ -1,17 +1,18 @@
 //! The types of records whose data have a text form.
-ghost use Rattle.std.specs.Prelude.{◌≡◌, option_copied, slice_get};
-ghost use Rattle.dns_data.specs.Types.{row_names, row_shapes, FindsShape, type_shapes};
+ghost use Rattle.std.specs.Prelude.{◌≡◌, option_copied};
+ghost use Rattle.dns_data.specs.ByType.{name_of_field, shape_of_code};
+ghost use Rattle.dns_data.specs.Types.{row_shapes, FindsShape, type_shapes};
 
 use crate::rest::Rest;
 use crate::shape::{Length, Shape};
 use dns_digits::Digests;
-use dns_fields::Field;
+use dns_fields::{Field, FieldName};
+use dns_kinds::RecordType;
 
-/// A type of records: its code, the fields of its data, what comes behind them, the lengths that are
-/// asked for, and the names of its parts in refusals: of the fields, and after them of the parts of the
-/// rest.
+/// A type of records, the fields of its data, what comes behind them, the lengths that are asked for,
+/// and the names of the fields: of those that are one token each, and after them of those of the rest.
 pub struct TypeRow(
-    pub u16,
+    pub RecordType,
     pub &'static [Field],
     pub Rest,
     pub Length,
@@ -20,21 +21,33 @@ pub struct TypeRow(
 
 /// The types, by code.
 pub static TYPES: [TypeRow; 66] = [
-    // A (RFC 1035 section 3.4.1).
-    TypeRow(1, &[Field::Ipv4], Rest::Nothing, Length::Any, &["address"]),
-    // NS (RFC 1035 section 3.3.11).
+    // RFC 1035 section 3.4.1.
     TypeRow(
-        2,
+        RecordType::A,
+        &[Field::Ipv4],
+        Rest::Nothing,
+        Length::Any,
+        &["address"],
+    ),
+    // RFC 1035 section 3.3.11.
+    TypeRow(
+        RecordType::NS,
         &[Field::Name],
         Rest::Nothing,
         Length::Any,
         &["name server"],
     ),
-    // CNAME (RFC 1035 section 3.3.1).
-    TypeRow(5, &[Field::Name], Rest::Nothing, Length::Any, &["target"]),
-    // SOA (RFC 1035 section 3.3.13).
+    // RFC 1035 section 3.3.1.
     TypeRow(
-        6,
+        RecordType::CNAME,
+        &[Field::Name],
+        Rest::Nothing,
+        Length::Any,
+        &["target"],
+    ),
+    // RFC 1035 section 3.3.13.
+    TypeRow(
+        RecordType::SOA,
         &[
             Field::Name,
             Field::Name,
@@ -56,77 +69,107 @@ pub static TYPES: [TypeRow; 66] = [
             "minimum",
         ],
     ),
-    // MB (RFC 1035 section 3.3.3).
-    TypeRow(7, &[Field::Name], Rest::Nothing, Length::Any, &["host"]),
-    // MG (RFC 1035 section 3.3.6).
-    TypeRow(8, &[Field::Name], Rest::Nothing, Length::Any, &["mailbox"]),
-    // MR (RFC 1035 section 3.3.8).
-    TypeRow(9, &[Field::Name], Rest::Nothing, Length::Any, &["mailbox"]),
-    // PTR (RFC 1035 section 3.3.12).
-    TypeRow(12, &[Field::Name], Rest::Nothing, Length::Any, &["target"]),
-    // HINFO (RFC 1035 section 3.3.2).
+    // RFC 1035 section 3.3.3.
     TypeRow(
-        13,
+        RecordType::MB,
+        &[Field::Name],
+        Rest::Nothing,
+        Length::Any,
+        &["host"],
+    ),
+    // RFC 1035 section 3.3.6.
+    TypeRow(
+        RecordType::MG,
+        &[Field::Name],
+        Rest::Nothing,
+        Length::Any,
+        &["mailbox"],
+    ),
+    // RFC 1035 section 3.3.8.
+    TypeRow(
+        RecordType::MR,
+        &[Field::Name],
+        Rest::Nothing,
+        Length::Any,
+        &["mailbox"],
+    ),
+    // RFC 1035 section 3.3.12.
+    TypeRow(
+        RecordType::PTR,
+        &[Field::Name],
+        Rest::Nothing,
+        Length::Any,
+        &["target"],
+    ),
+    // RFC 1035 section 3.3.2.
+    TypeRow(
+        RecordType::HINFO,
         &[Field::String, Field::String],
         Rest::Nothing,
         Length::Any,
         &["processor", "system"],
     ),
-    // MINFO (RFC 1035 section 3.3.7).
+    // RFC 1035 section 3.3.7.
     TypeRow(
-        14,
+        RecordType::MINFO,
         &[Field::Name, Field::Name],
         Rest::Nothing,
         Length::Any,
         &["mailbox", "errors mailbox"],
     ),
-    // MX (RFC 1035 section 3.3.9).
+    // RFC 1035 section 3.3.9.
     TypeRow(
-        15,
+        RecordType::MX,
         &[Field::Number16, Field::Name],
         Rest::Nothing,
         Length::Any,
         &["preference", "exchange"],
     ),
-    // TXT (RFC 1035 section 3.3.14).
-    TypeRow(16, &[], Rest::Strings, Length::Any, &["text"]),
-    // RP (RFC 1183 section 2.2).
+    // RFC 1035 section 3.3.14.
+    TypeRow(RecordType::TXT, &[], Rest::Strings, Length::Any, &["text"]),
+    // RFC 1183 section 2.2.
     TypeRow(
-        17,
+        RecordType::RP,
         &[Field::Name, Field::Name],
         Rest::Nothing,
         Length::Any,
         &["mailbox", "text name"],
     ),
-    // AFSDB (RFC 1183 section 1).
+    // RFC 1183 section 1.
     TypeRow(
-        18,
+        RecordType::AFSDB,
         &[Field::Number16, Field::Name],
         Rest::Nothing,
         Length::Any,
         &["subtype", "host"],
     ),
-    // X25 (RFC 1183 section 3.1).
+    // RFC 1183 section 3.1.
     TypeRow(
-        19,
+        RecordType::X25,
         &[Field::PsdnAddress],
         Rest::Nothing,
         Length::Any,
         &["address"],
     ),
-    // RT (RFC 1183 section 3.3).
+    // RFC 1183 section 3.3.
     TypeRow(
-        21,
+        RecordType::RT,
         &[Field::Number16, Field::Name],
         Rest::Nothing,
         Length::Any,
         &["preference", "host"],
     ),
-    // NSAP-PTR (RFC 1348).
-    TypeRow(23, &[Field::Name], Rest::Nothing, Length::Any, &["target"]),
-    // SIG (RFC 2535 section 4.1).
+    // RFC 1348.
     TypeRow(
-        24,
+        RecordType::NSAP_PTR,
+        &[Field::Name],
+        Rest::Nothing,
+        Length::Any,
+        &["target"],
+    ),
+    // RFC 2535 section 4.1.
+    TypeRow(
+        RecordType::SIG,
         &[
             Field::SigType,
             Field::Algorithm,
@@ -151,37 +194,49 @@ pub static TYPES: [TypeRow; 66] = [
             "signature",
         ],
     ),
-    // KEY (RFC 2535 section 3.1, in the form of DNSKEY).
+    // RFC 2535 section 3.1, in the form of DNSKEY.
     TypeRow(
-        25,
+        RecordType::KEY,
         &[Field::Number16, Field::Number8, Field::Algorithm],
         Rest::Base64,
         Length::Any,
         &["flags", "protocol", "algorithm", "key"],
     ),
-    // PX (RFC 2163 section 4).
+    // RFC 2163 section 4.
     TypeRow(
-        26,
+        RecordType::PX,
         &[Field::Number16, Field::Name, Field::Name],
         Rest::Nothing,
         Length::Any,
         &["preference", "RFC 822 name", "X.400 name"],
     ),
-    // GPOS (RFC 1712 section 3).
+    // RFC 1712 section 3.
     TypeRow(
-        27,
+        RecordType::GPOS,
         &[Field::String, Field::String, Field::String],
         Rest::Nothing,
         Length::Any,
         &["longitude", "latitude", "altitude"],
     ),
-    // AAAA (RFC 3596 section 2.2).
-    TypeRow(28, &[Field::Ipv6], Rest::Nothing, Length::Any, &["address"]),
-    // LOC (RFC 1876 section 2).
-    TypeRow(29, &[], Rest::Location, Length::Any, &["location"]),
-    // SRV (RFC 2782).
+    // RFC 3596 section 2.2.
     TypeRow(
-        33,
+        RecordType::AAAA,
+        &[Field::Ipv6],
+        Rest::Nothing,
+        Length::Any,
+        &["address"],
+    ),
+    // RFC 1876 section 2.
+    TypeRow(
+        RecordType::LOC,
+        &[],
+        Rest::Location,
+        Length::Any,
+        &["location"],
+    ),
+    // RFC 2782.
+    TypeRow(
+        RecordType::SRV,
         &[
             Field::Number16,
             Field::Number16,
@@ -192,9 +247,9 @@ pub static TYPES: [TypeRow; 66] = [
         Length::Any,
         &["priority", "weight", "port", "target"],
     ),
-    // NAPTR (RFC 3403 section 4.1).
+    // RFC 3403 section 4.1.
     TypeRow(
-        35,
+        RecordType::NAPTR,
         &[
             Field::Number16,
             Field::Number16,
@@ -214,45 +269,57 @@ pub static TYPES: [TypeRow; 66] = [
             "replacement",
         ],
     ),
-    // KX (RFC 2230 section 3).
+    // RFC 2230 section 3.
     TypeRow(
-        36,
+        RecordType::KX,
         &[Field::Number16, Field::Name],
         Rest::Nothing,
         Length::Any,
         &["preference", "exchanger"],
     ),
-    // CERT (RFC 4398 section 2).
+    // RFC 4398 section 2.
     TypeRow(
-        37,
+        RecordType::CERT,
         &[Field::CertificateType, Field::Number16, Field::Algorithm],
         Rest::Base64,
         Length::Any,
         &["type", "key tag", "algorithm", "certificate"],
     ),
-    // DNAME (RFC 6672 section 2.1).
-    TypeRow(39, &[Field::Name], Rest::Nothing, Length::Any, &["target"]),
-    // APL (RFC 3123 section 4).
-    TypeRow(42, &[], Rest::Prefixes, Length::Any, &["prefix"]),
-    // DS (RFC 4034 section 5.1).
+    // RFC 6672 section 2.1.
     TypeRow(
-        43,
+        RecordType::DNAME,
+        &[Field::Name],
+        Rest::Nothing,
+        Length::Any,
+        &["target"],
+    ),
+    // RFC 3123 section 4.
+    TypeRow(
+        RecordType::APL,
+        &[],
+        Rest::Prefixes,
+        Length::Any,
+        &["prefix"],
+    ),
+    // RFC 4034 section 5.1.
+    TypeRow(
+        RecordType::DS,
         &[Field::Number16, Field::Algorithm, Field::Number8],
         Rest::Hex,
         Length::Digest(Digests::Ds, 3),
         &["key tag", "algorithm", "digest type", "digest"],
     ),
-    // SSHFP (RFC 4255 section 3.1).
+    // RFC 4255 section 3.1.
     TypeRow(
-        44,
+        RecordType::SSHFP,
         &[Field::Number8, Field::Number8],
         Rest::Hex,
         Length::Digest(Digests::Sshfp, 1),
         &["algorithm", "fingerprint type", "fingerprint"],
     ),
-    // IPSECKEY (RFC 4025 section 2.1).
+    // RFC 4025 section 2.1.
     TypeRow(
-        45,
+        RecordType::IPSECKEY,
         &[Field::Number8],
         Rest::GatewayKey,
         Length::Any,
@@ -264,9 +331,9 @@ pub static TYPES: [TypeRow; 66] = [
             "public key",
         ],
     ),
-    // RRSIG (RFC 4034 section 3.1).
+    // RFC 4034 section 3.1.
     TypeRow(
-        46,
+        RecordType::RRSIG,
         &[
             Field::RecordType,
             Field::Algorithm,
@@ -291,27 +358,33 @@ pub static TYPES: [TypeRow; 66] = [
             "signature",
         ],
     ),
-    // NSEC (RFC 4034 section 4.1).
+    // RFC 4034 section 4.1.
     TypeRow(
-        47,
+        RecordType::NSEC,
         &[Field::Name],
         Rest::SomeTypes,
         Length::Any,
         &["next name", "types"],
     ),
-    // DNSKEY (RFC 4034 section 2.1).
+    // RFC 4034 section 2.1.
     TypeRow(
-        48,
+        RecordType::DNSKEY,
         &[Field::Number16, Field::Number8, Field::Algorithm],
         Rest::Base64,
         Length::Any,
         &["flags", "protocol", "algorithm", "key"],
     ),
-    // DHCID (RFC 4701 section 3.1).
-    TypeRow(49, &[], Rest::Base64, Length::Any, &["digest"]),
-    // NSEC3 (RFC 5155 section 3.2).
+    // RFC 4701 section 3.1.
     TypeRow(
-        50,
+        RecordType::DHCID,
+        &[],
+        Rest::Base64,
+        Length::Any,
+        &["digest"],
+    ),
+    // RFC 5155 section 3.2.
+    TypeRow(
+        RecordType::NSEC3,
         &[
             Field::Number8,
             Field::Number8,
@@ -330,185 +403,209 @@ pub static TYPES: [TypeRow; 66] = [
             "types",
         ],
     ),
-    // NSEC3PARAM (RFC 5155 section 4.2).
+    // RFC 5155 section 4.2.
     TypeRow(
-        51,
+        RecordType::NSEC3PARAM,
         &[Field::Number8, Field::Number8, Field::Number16, Field::Salt],
         Rest::Nothing,
         Length::Any,
         &["hash algorithm", "flags", "iterations", "salt"],
     ),
-    // TLSA (RFC 6698 section 2.1).
+    // RFC 6698 section 2.1.
     TypeRow(
-        52,
+        RecordType::TLSA,
         &[Field::Number8, Field::Number8, Field::Number8],
         Rest::Hex,
         Length::Any,
         &["usage", "selector", "matching type", "data"],
     ),
-    // SMIMEA (RFC 8162 section 2).
+    // RFC 8162 section 2.
     TypeRow(
-        53,
+        RecordType::SMIMEA,
         &[Field::Number8, Field::Number8, Field::Number8],
         Rest::Hex,
         Length::Any,
         &["usage", "selector", "matching type", "data"],
     ),
-    // NINFO (draft-reid-dnsext-zs).
-    TypeRow(56, &[], Rest::Strings, Length::Any, &["text"]),
-    // RKEY (draft-reid-dnsext-rkey).
+    // Draft-reid-dnsext-zs.
     TypeRow(
-        57,
+        RecordType::NINFO,
+        &[],
+        Rest::Strings,
+        Length::Any,
+        &["text"],
+    ),
+    // Draft-reid-dnsext-rkey.
+    TypeRow(
+        RecordType::RKEY,
         &[Field::Number16, Field::Number8, Field::Algorithm],
         Rest::Base64,
         Length::Any,
         &["flags", "protocol", "algorithm", "key"],
     ),
-    // TALINK (draft-wijngaards-dnsop-trust-history).
+    // Draft-wijngaards-dnsop-trust-history.
     TypeRow(
-        58,
+        RecordType::TALINK,
         &[Field::Name, Field::Name],
         Rest::Nothing,
         Length::Any,
         &["previous", "next"],
     ),
-    // CDS (RFC 7344 section 3.1).
+    // RFC 7344 section 3.1.
     TypeRow(
-        59,
+        RecordType::CDS,
         &[Field::Number16, Field::Algorithm, Field::Number8],
         Rest::Hex,
         Length::Digest(Digests::Ds, 3),
         &["key tag", "algorithm", "digest type", "digest"],
     ),
-    // CDNSKEY (RFC 7344 section 3.2).
+    // RFC 7344 section 3.2.
     TypeRow(
-        60,
+        RecordType::CDNSKEY,
         &[Field::Number16, Field::Number8, Field::Algorithm],
         Rest::Base64,
         Length::Any,
         &["flags", "protocol", "algorithm", "key"],
     ),
-    // OPENPGPKEY (RFC 7929 section 2.1).
-    TypeRow(61, &[], Rest::Base64, Length::Any, &["key"]),
-    // CSYNC (RFC 7477 section 2.1).
+    // RFC 7929 section 2.1.
     TypeRow(
-        62,
+        RecordType::OPENPGPKEY,
+        &[],
+        Rest::Base64,
+        Length::Any,
+        &["key"],
+    ),
+    // RFC 7477 section 2.1.
+    TypeRow(
+        RecordType::CSYNC,
         &[Field::Number32, Field::Number16],
         Rest::Types,
         Length::Any,
         &["serial", "flags", "types"],
     ),
-    // ZONEMD (RFC 8976 section 2).
+    // RFC 8976 section 2.
     TypeRow(
-        63,
+        RecordType::ZONEMD,
         &[Field::Number32, Field::Number8, Field::Number8],
         Rest::Hex,
         Length::Digest(Digests::Zonemd, 5),
         &["serial", "scheme", "hash algorithm", "digest"],
     ),
-    // SVCB (RFC 9460 section 2.1).
+    // RFC 9460 section 2.1.
     TypeRow(
-        64,
+        RecordType::SVCB,
         &[Field::Number16, Field::Name],
         Rest::Params,
         Length::Any,
         &["priority", "target", "parameter"],
     ),
-    // HTTPS (RFC 9460 section 9).
+    // RFC 9460 section 9.
     TypeRow(
-        65,
+        RecordType::HTTPS,
         &[Field::Number16, Field::Name],
         Rest::Params,
         Length::Any,
         &["priority", "target", "parameter"],
     ),
-    // HHIT (RFC 9886).
-    TypeRow(67, &[], Rest::Base64, Length::Any, &["data"]),
-    // BRID (RFC 9886).
-    TypeRow(68, &[], Rest::Base64, Length::Any, &["data"]),
-    // SPF (RFC 7208 section 3.1).
-    TypeRow(99, &[], Rest::Strings, Length::Any, &["text"]),
-    // NID (RFC 6742 section 2.1).
+    // RFC 9886.
+    TypeRow(RecordType::HHIT, &[], Rest::Base64, Length::Any, &["data"]),
+    // RFC 9886.
+    TypeRow(RecordType::BRID, &[], Rest::Base64, Length::Any, &["data"]),
+    // RFC 7208 section 3.1.
+    TypeRow(RecordType::SPF, &[], Rest::Strings, Length::Any, &["text"]),
+    // RFC 6742 section 2.1.
     TypeRow(
-        104,
+        RecordType::NID,
         &[Field::Number16, Field::Locator],
         Rest::Nothing,
         Length::Any,
         &["preference", "node identifier"],
     ),
-    // L32 (RFC 6742 section 2.2).
+    // RFC 6742 section 2.2.
     TypeRow(
-        105,
+        RecordType::L32,
         &[Field::Number16, Field::Ipv4],
         Rest::Nothing,
         Length::Any,
         &["preference", "locator"],
     ),
-    // L64 (RFC 6742 section 2.3).
+    // RFC 6742 section 2.3.
     TypeRow(
-        106,
+        RecordType::L64,
         &[Field::Number16, Field::Locator],
         Rest::Nothing,
         Length::Any,
         &["preference", "locator"],
     ),
-    // LP (RFC 6742 section 2.4).
+    // RFC 6742 section 2.4.
     TypeRow(
-        107,
+        RecordType::LP,
         &[Field::Number16, Field::Name],
         Rest::Nothing,
         Length::Any,
         &["preference", "name"],
     ),
-    // EUI48 (RFC 7043 section 3.1).
+    // RFC 7043 section 3.1.
     TypeRow(
-        108,
+        RecordType::EUI48,
         &[Field::Eui48],
         Rest::Nothing,
         Length::Any,
         &["address"],
     ),
-    // EUI64 (RFC 7043 section 4.1).
+    // RFC 7043 section 4.1.
     TypeRow(
-        109,
+        RecordType::EUI64,
         &[Field::Eui64],
         Rest::Nothing,
         Length::Any,
         &["address"],
     ),
-    // URI (RFC 7553 section 4).
+    // RFC 7553 section 4.
     TypeRow(
-        256,
+        RecordType::URI,
         &[Field::Number16, Field::Number16],
         Rest::QuotedText,
         Length::Any,
         &["priority", "weight", "target"],
     ),
-    // CAA (RFC 8659 section 4.1).
+    // RFC 8659 section 4.1.
     TypeRow(
-        257,
+        RecordType::CAA,
         &[Field::Number8, Field::Tag],
         Rest::Text,
         Length::Any,
         &["flags", "tag", "value"],
     ),
-    // AVC (IANA, by Cisco).
-    TypeRow(258, &[], Rest::Strings, Length::Any, &["text"]),
-    // RESINFO (RFC 9606 section 4).
-    TypeRow(261, &[], Rest::Strings, Length::Any, &["text"]),
-    // WALLET (IANA).
-    TypeRow(262, &[], Rest::Strings, Length::Any, &["text"]),
-    // TA (S. Weiler, Deploying DNSSEC Without a Signed Root, 2004).
+    // IANA, by Cisco.
+    TypeRow(RecordType::AVC, &[], Rest::Strings, Length::Any, &["text"]),
+    // RFC 9606 section 4.
     TypeRow(
-        32768,
+        RecordType::RESINFO,
+        &[],
+        Rest::Strings,
+        Length::Any,
+        &["text"],
+    ),
+    // IANA.
+    TypeRow(
+        RecordType::WALLET,
+        &[],
+        Rest::Strings,
+        Length::Any,
+        &["text"],
+    ),
+    // S. Weiler, Deploying DNSSEC Without a Signed Root, 2004.
+    TypeRow(
+        RecordType::TA,
         &[Field::Number16, Field::Algorithm, Field::Number8],
         Rest::Hex,
         Length::Digest(Digests::Ds, 3),
         &["key tag", "algorithm", "digest type", "digest"],
     ),
-    // DLV (RFC 4431 section 2).
+    // RFC 4431 section 2.
     TypeRow(
-        32769,
+        RecordType::DLV,
         &[Field::Number16, Field::Algorithm, Field::Number8],
         Rest::Hex,
         Length::Digest(Digests::Ds, 3),
@@ -531,21 +628,12 @@ impl TypeRow {
     }
 }
 
-impl TypeRow {
-    /// The name of a part, by its place.
-    pub(crate) fn part_name(&self, part: usize) -> Option<&'static str>
-        ensures { option_copied result ≡ slice_get (row_names self.now) part }
-    {
-        self.4.get(part).copied()
-    }
-}
-
-/// The row of a code in a table.
-fn find_row(table: &'static [TypeRow], code: u16) -> Option<&'static TypeRow>
-    ensures { FindsShape (row_shapes table.now) code (option_copied result) }
+/// The row of a type in a table.
+fn find_row(table: &'static [TypeRow], rtype: RecordType) -> Option<&'static TypeRow>
+    ensures { FindsShape (row_shapes table.now) rtype (option_copied result) }
 {
     for row in table {
-        if row.0 == code {
+        if row.0 == rtype {
             return Some(row);
         }
     }
@@ -553,8 +641,16 @@ fn find_row(table: &'static [TypeRow], code: u16) -> Option<&'static TypeRow>
 }
 
 /// The row of a type, if its data have a text form.
-pub fn type_row(code: u16) -> Option<&'static TypeRow>
-    ensures { FindsShape type_shapes code (option_copied result) }
+pub fn type_row(rtype: RecordType) -> Option<&'static TypeRow>
+    ensures { FindsShape type_shapes rtype (option_copied result) }
 {
-    find_row(&TYPES, code)
+    find_row(&TYPES, rtype)
+}
+
+/// The name of a field in data of a type, if the type has the field.
+pub fn field_text(rtype: RecordType, field: FieldName) -> Option<&'static str>
+    ensures { option_copied result ≡ name_of_field (shape_of_code rtype) field }
+{
+    let names = type_row(rtype)?.4;
+    names.get(field.0).copied()
 }

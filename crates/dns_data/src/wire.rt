@@ -50,7 +50,7 @@ fn has_type_zero(octets: &[u8]) -> bool
 {
     let mut types = BitmapTypes::new(octets);
     match types.next() {
-        Some(code) => code == 0,
+        Some(first) => first.0 == 0,
         None => false,
     }
 }

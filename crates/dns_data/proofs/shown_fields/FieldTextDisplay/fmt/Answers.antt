@@ -1,7 +1,7 @@
 use Rattle.std.proofs.Common.{None, subst, sym}
 use Rattle.dns_fields.specs.Fields.{field_form}
 use Rattle.dns_data.proofs.Sizes.{surely_wire}
-use Rattle.dns_data.proofs.field_text.FieldTextDisplay.fmt.Goals as goal
+use Rattle.dns_data.proofs.shown_fields.FieldTextDisplay.fmt.Goals as goal
 
 pub write_field-requires : goal.write_field-requires
 write_field-requires g c =
