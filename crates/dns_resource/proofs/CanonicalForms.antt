@@ -51,14 +51,14 @@ contains_any (y ∷ ys) x h = by h.0 h.1 h.2 (contains_any ys x)
     by (suc k) within is more = later (y == x) (more (k, omega (arith, within), is))
 
 -- the fields of a type whose names are lowered, and of another
-pub fields_lowered : (code : ℕ) (octets : List ℕ) → Contains lowered_types code → fields_in_data (shape_of_code code) code octets ≡ fields_to_lower code octets
-fields_lowered code octets h = sym (ap (λ b. if b then fields_in_data (shape_of_code code) code octets else []) (contains_any lowered_types code h))
+pub fields_lowered : (rtype : ℕ) (octets : List ℕ) → Contains lowered_types rtype → fields_in_data (shape_of_code rtype) rtype octets ≡ fields_to_lower rtype octets
+fields_lowered rtype octets h = sym (ap (λ b. if b then fields_in_data (shape_of_code rtype) rtype octets else []) (contains_any lowered_types rtype h))
 
-pub fields_kept : (code : ℕ) (octets : List ℕ) → (Contains lowered_types code → ⊥) → [] ≡ fields_to_lower code octets
-fields_kept code octets h = by (list_any (λ t. t == code) lowered_types) refl
+pub fields_kept : (rtype : ℕ) (octets : List ℕ) → (Contains lowered_types rtype → ⊥) → [] ≡ fields_to_lower rtype octets
+fields_kept rtype octets h = by (list_any (λ t. t == rtype) lowered_types) refl
   where
-    by : (b : Bool) → list_any (λ t. t == code) lowered_types ≡ b → [] ≡ (if b then fields_in_data (shape_of_code code) code octets else [])
-    by true is = absurd (h (any_contains lowered_types code is))
+    by : (b : Bool) → list_any (λ t. t == rtype) lowered_types ≡ b → [] ≡ (if b then fields_in_data (shape_of_code rtype) rtype octets else [])
+    by true is = absurd (h (any_contains lowered_types rtype is))
     by false is = refl
 
 -- ---- one form
@@ -86,65 +86,65 @@ begins_start (f ∷ fs) octets back h = (h.0, h.1, h.3, h.2, begins_start fs h.1
 
 -- ---- data of a type
 
-pub data_starts : (code : ℕ) (octets : List ℕ) → IsTypeData code octets → StartsWithFields (fields_to_lower code octets) octets
-data_starts code octets is = by (list_any (λ t. t == code) lowered_types) (shape_of_code code) refl
+pub data_starts : (rtype : ℕ) (octets : List ℕ) → IsTypeData rtype octets → StartsWithFields (fields_to_lower rtype octets) octets
+data_starts rtype octets is = by (list_any (λ t. t == rtype) lowered_types) (shape_of_code rtype) refl
   where
-    by : (b : Bool) (found : Option TypeShape) → shape_of_code code ≡ found → StartsWithFields (if b then fields_in_data found code octets else []) octets
+    by : (b : Bool) (found : Option TypeShape) → shape_of_code rtype ≡ found → StartsWithFields (if b then fields_in_data found rtype octets else []) octets
     by false found same = tt
-    by true None same = untexted_starts code octets
+    by true None same = untexted_starts rtype octets
     by true (Some s) same =
         let own = is.shaped (shape_with s) (subst (λ f. HasShape f (shape_with s)) (sym same) (refl, refl, refl)) in
         begins_start s.fields octets own.back own.fields
 
-pub data_form : (code : ℕ) (octets : List ℕ) → IsTypeData code octets → CanonicalFields (fields_to_lower code octets) octets (canonical_data code octets)
-data_form code octets is = form_of (fields_to_lower code octets) octets (data_starts code octets is)
+pub data_form : (rtype : ℕ) (octets : List ℕ) → IsTypeData rtype octets → CanonicalFields (fields_to_lower rtype octets) octets (canonical_data rtype octets)
+data_form rtype octets is = form_of (fields_to_lower rtype octets) octets (data_starts rtype octets is)
 
-pub data_long : (code : ℕ) (octets : List ℕ) → IsTypeData code octets → length (canonical_data code octets) ≡ length octets
-data_long code octets is = forms_long (fields_to_lower code octets) octets (canonical_data code octets) (data_form code octets is)
+pub data_long : (rtype : ℕ) (octets : List ℕ) → IsTypeData rtype octets → length (canonical_data rtype octets) ≡ length octets
+data_long rtype octets is = forms_long (fields_to_lower rtype octets) octets (canonical_data rtype octets) (data_form rtype octets is)
 
 -- data of a type whose names are not lowered, of one with a text form, and of another
-pub data_kept : (code : ℕ) (octets : List ℕ) → (Contains lowered_types code → ⊥) → octets ≡ canonical_data code octets
-data_kept code octets h = ap (λ fs. lowered_in fs octets) (fields_kept code octets h)
+pub data_kept : (rtype : ℕ) (octets : List ℕ) → (Contains lowered_types rtype → ⊥) → octets ≡ canonical_data rtype octets
+data_kept rtype octets h = ap (λ fs. lowered_in fs octets) (fields_kept rtype octets h)
 
-pub data_lowered : (code : ℕ) (octets : List ℕ) (s : TypeShape) (fields : List Field) → Contains lowered_types code → Some s ≡ shape_of_code code → fields ≡ s.fields → lowered_in fields octets ≡ canonical_data code octets
-data_lowered code octets s fields h found same = ap (λ fs. lowered_in fs octets) (same ∙ ap (λ f. fields_in_data f code octets) found ∙ fields_lowered code octets h)
+pub data_lowered : (rtype : ℕ) (octets : List ℕ) (s : TypeShape) (fields : List Field) → Contains lowered_types rtype → Some s ≡ shape_of_code rtype → fields ≡ s.fields → lowered_in fields octets ≡ canonical_data rtype octets
+data_lowered rtype octets s fields h found same = ap (λ fs. lowered_in fs octets) (same ∙ ap (λ f. fields_in_data f rtype octets) found ∙ fields_lowered rtype octets h)
 
-pub untexted_form_is : (code : ℕ) (octets : List ℕ) → IsTypeData code octets → Contains lowered_types code → None ≡ shape_of_code code → CanonicalFields (untexted_front code octets) octets (canonical_data code octets)
-untexted_form_is code octets is h none =
-    subst (λ fs. CanonicalFields fs octets (canonical_data code octets)) (sym (ap (λ f. fields_in_data f code octets) none ∙ fields_lowered code octets h)) (data_form code octets is)
+pub untexted_form_is : (rtype : ℕ) (octets : List ℕ) → IsTypeData rtype octets → Contains lowered_types rtype → None ≡ shape_of_code rtype → CanonicalFields (untexted_front rtype octets) octets (canonical_data rtype octets)
+untexted_form_is rtype octets is h none =
+    subst (λ fs. CanonicalFields fs octets (canonical_data rtype octets)) (sym (ap (λ f. fields_in_data f rtype octets) none ∙ fields_lowered rtype octets h)) (data_form rtype octets is)
 
 -- ---- what is appended
 
 -- the form that is gained is that of the type
-pub form_gained : (code : ℕ) (fields : List Field) (octets old new : List ℕ) → fields ≡ fields_to_lower code octets → Gains (CanonicalFields fields octets) old new → new ≡ old ++ canonical_data code octets
-form_gained code fields octets old new same h = h.2 ∙ ap (λ o. old ++ o) (form_is fields octets h.0 h.1 ∙ ap (λ fs. lowered_in fs octets) same)
+pub form_gained : (rtype : ℕ) (fields : List Field) (octets old new : List ℕ) → fields ≡ fields_to_lower rtype octets → Gains (CanonicalFields fields octets) old new → new ≡ old ++ canonical_data rtype octets
+form_gained rtype fields octets old new same h = h.2 ∙ ap (λ o. old ++ o) (form_is fields octets h.0 h.1 ∙ ap (λ fs. lowered_in fs octets) same)
 
 -- data of a type has a form, which doesn't surely fit where that is refused
-pub form_lacks : (room : Room) (code : ℕ) (octets old : List ℕ) (e : CanonicalError) → IsTypeData code octets → RefusesFields room (fields_to_lower code octets) octets old e → room.fits < length old + length octets
-form_lacks room code octets old BadData is h = absurd (h (data_starts code octets is))
-form_lacks room code octets old ShortBuf is h = let few = h (canonical_data code octets) (data_form code octets is) in omega (arith, few, data_long code octets is)
+pub form_lacks : (room : Room) (rtype : ℕ) (octets old : List ℕ) (e : CanonicalError) → IsTypeData rtype octets → RefusesFields room (fields_to_lower rtype octets) octets old e → room.fits < length old + length octets
+form_lacks room rtype octets old BadData is h = absurd (h (data_starts rtype octets is))
+form_lacks room rtype octets old ShortBuf is h = let few = h (canonical_data rtype octets) (data_form rtype octets is) in omega (arith, few, data_long rtype octets is)
 
 abbrev pub middle : ℕ → ℕ → ℕ → ℕ → List ℕ
-middle code class ttl count = to_be_bytes w16 code ++ to_be_bytes w16 class ++ to_be_bytes w32 ttl ++ to_be_bytes w16 count
+middle rtype class ttl count = to_be_bytes w16 rtype ++ to_be_bytes w16 class ++ to_be_bytes w32 ttl ++ to_be_bytes w16 count
 
 three_parts : (a b c d : List ℕ) → ((a ++ b) ++ c) ++ d ≡ a ++ (b ++ (c ++ d))
 three_parts a b c d = append_assoc (a ++ b) c d ∙ append_assoc a b (c ++ d)
 
-module _ {N O : Type 0} (r : Record N O) (is : IsTypeData (data_of r).code (data_of r).octets) where
+module _ {N O : Type 0} (r : Record N O) (is : IsTypeData (data_of r).rtype (data_of r).octets) where
   -- the parts that are appended are the record's form
-  pub record_gained : (old first second new owner : List ℕ) (code count : ℕ) → owner ≡ wire r.owner → code ≡ (data_of r).code → count ≡ length (data_of r).octets → first ≡ old ++ lowered owner
-      → second ≡ first ++ middle code r.class r.ttl count → new ≡ second ++ canonical_data (data_of r).code (data_of r).octets → new ≡ old ++ canonical_record r
-  record_gained old first second new owner code count p q n a b c =
-      let form = canonical_data (data_of r).code (data_of r).octets in
-      let count_is : count ≡ length form = n ∙ sym (data_long (data_of r).code (data_of r).octets is) in
-      c ∙ ap (λ t. t ++ form) (b ∙ ap (λ t. t ++ middle code r.class r.ttl count) a) ∙ three_parts old (lowered owner) (middle code r.class r.ttl count) form
+  pub record_gained : (old first second new owner : List ℕ) (rtype count : ℕ) → owner ≡ wire r.owner → rtype ≡ (data_of r).rtype → count ≡ length (data_of r).octets → first ≡ old ++ lowered owner
+      → second ≡ first ++ middle rtype r.class r.ttl count → new ≡ second ++ canonical_data (data_of r).rtype (data_of r).octets → new ≡ old ++ canonical_record r
+  record_gained old first second new owner rtype count p q n a b c =
+      let form = canonical_data (data_of r).rtype (data_of r).octets in
+      let count_is : count ≡ length form = n ∙ sym (data_long (data_of r).rtype (data_of r).octets is) in
+      c ∙ ap (λ t. t ++ form) (b ∙ ap (λ t. t ++ middle rtype r.class r.ttl count) a) ∙ three_parts old (lowered owner) (middle rtype r.class r.ttl count) form
       ∙ (λ i. old ++ (lowered (p i) ++ (middle (q i) r.class r.ttl (count_is i) ++ form)))
 
   pub record_long : length (canonical_record r) ≡ length (wire r.owner) + 10 + length (data_of r).octets
   record_long =
-      let form = canonical_data (data_of r).code (data_of r).octets in
+      let form = canonical_data (data_of r).rtype (data_of r).octets in
       let owner = lowered (wire r.owner) in
-      omega (arith, length-append owner (behind_owner (data_of r).code r.class r.ttl form), length_lowered (wire r.owner), data_long (data_of r).code (data_of r).octets is)
+      omega (arith, length-append owner (behind_owner (data_of r).rtype r.class r.ttl form), length_lowered (wire r.owner), data_long (data_of r).rtype (data_of r).octets is)
 
   pub record_lacks : (room : Room) (old first second owner part : List ℕ) → owner ≡ wire r.owner → first ≡ old ++ lowered owner → second ≡ first ++ part → length part ≡ 10
       → room.fits < length second + length (data_of r).octets → room.fits < length old + length (canonical_record r)

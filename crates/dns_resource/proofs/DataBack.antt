@@ -50,19 +50,19 @@ generic_back octets (mark ∷ count ∷ digits) values short p =
 abbrev pub shape_with : TypeShape → Shape
 shape_with s = record { fields = record { ref_ptr = (0, 0); now = s.fields }; rest = s.rest; length = s.lengths }
 
-shape_back : (origin : Option (List (List ℕ))) (code : ℕ) (octets : List ℕ) (tokens : List TokenSeen) → IsOrigin origin → AreOctetValues octets → IsTypeData code octets
-    → (found : Option TypeShape) → shape_of_code code ≡ found → ArePrinted (tokens_of_shape found octets) tokens → SpellsTypeData origin code tokens octets
-shape_back origin code octets tokens known values is None found p =
+shape_back : (origin : Option (List (List ℕ))) (rtype : ℕ) (octets : List ℕ) (tokens : List TokenSeen) → IsOrigin origin → AreOctetValues octets → IsTypeData rtype octets
+    → (found : Option TypeShape) → shape_of_code rtype ≡ found → ArePrinted (tokens_of_shape found octets) tokens → SpellsTypeData origin rtype tokens octets
+shape_back origin rtype octets tokens known values is None found p =
     (is.in_zones, inl (generic_back octets tokens values is.short p, λ shape has. absurd (subst (λ f. HasShape f shape) found has)))
-shape_back origin code octets tokens known values is (Some s) found p =
-    let has : HasShape (shape_of_code code) (shape_with s) = subst (λ f. HasShape f (shape_with s)) (sym found) (refl, refl, refl) in
+shape_back origin rtype octets tokens known values is (Some s) found p =
+    let has : HasShape (shape_of_code rtype) (shape_with s) = subst (λ f. HasShape f (shape_with s)) (sym found) (refl, refl, refl) in
     by has (text_or_none (shape_with s) octets (is.shaped (shape_with s) has))
   where
-    by : HasShape (shape_of_code code) (shape_with s) → IsTextData (shape_with s) octets ⊎ HasNoText (shape_with s) octets → SpellsTypeData origin code tokens octets
+    by : HasShape (shape_of_code rtype) (shape_with s) → IsTextData (shape_with s) octets ⊎ HasNoText (shape_with s) octets → SpellsTypeData origin rtype tokens octets
     by has (inl own) = (
       is.in_zones,
       inr (
-        λ generic. shape_unmarked code s octets own.back found own.fields own.rest
+        λ generic. shape_unmarked rtype s octets own.back found own.fields own.rest
             (from_generic (printed_parts s.fields s.rest octets) tokens (subst (λ ts. ArePrinted ts tokens) (text_printed (shape_with s) octets own) p) generic),
         (shape_with s, has, data_back origin known (shape_with s) octets tokens own p),
       ),
@@ -72,4 +72,4 @@ shape_back origin code octets tokens known values is (Some s) found p =
         (is.in_zones, inl (generic_back octets tokens values is.short generic, is.shaped))
 
 pub type_data_back : IsTypeDataReadBack
-type_data_back origin code octets tokens known values is p = shape_back origin code octets tokens known values is (shape_of_code code) refl p
+type_data_back origin rtype octets tokens known values is p = shape_back origin rtype octets tokens known values is (shape_of_code rtype) refl p

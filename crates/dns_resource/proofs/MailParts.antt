@@ -7,6 +7,7 @@ use Rattle.dns_spelling.specs.NameSpelling.{IsWireName}
 use Rattle.dns_fields.specs.Words.{AreOctetsOf}
 use Rattle.dns_fields.specs.declared.field.Field.TheVariants.{Number16, Name}
 use Rattle.dns_data.specs.ByType.{HasShape, shape_of_code}
+use Rattle.dns_kinds.specs.Rtype as Rtype
 use Rattle.dns_data.specs.Types.{TypeShape, type_shape, type_shapes}
 use Rattle.dns_data.specs.declared.rest.Rest.TheVariants.{Nothing}
 use Rattle.dns_data.specs.declared.shape.Length.TheVariants.{Any}
@@ -17,9 +18,9 @@ use Rattle.dns_resource.proofs.CanonicalForms.{front_cut}
 use Rattle.dns_resource.proofs.DataBack.{shape_with}
 
 abbrev mail_shape : TypeShape
-mail_shape = type_shape 15 (Number16 ∷ Name ∷ []) Nothing Any (codes "preference" ∷ codes "exchange" ∷ [])
+mail_shape = type_shape Rtype.mx (Number16 ∷ Name ∷ []) Nothing Any (codes "preference" ∷ codes "exchange" ∷ [])
 
-mail_found : shape_of_code 15 ≡ Some mail_shape
+mail_found : shape_of_code Rtype.mx ≡ Some mail_shape
 unfolding type_shapes
 mail_found = refl
 
@@ -32,7 +33,7 @@ pub record AreMailParts (d : TypeData) : Type 0 where
   pub first : data_part d 0 ≡ Some preference
   pub second : data_part d 1 ≡ Some exchange
 
-mail_parts_of : (octets : List ℕ) → IsTypeData 15 octets → AreMailParts (record { code = 15; octets = octets })
+mail_parts_of : (octets : List ℕ) → IsTypeData Rtype.mx octets → AreMailParts (record { rtype = Rtype.mx; octets = octets })
 mail_parts_of octets is =
     let own = is.shaped (shape_with mail_shape) (subst (λ f. HasShape f (shape_with mail_shape)) (sym mail_found) (refl, refl, refl)) in
     let begins = own.fields in
@@ -48,23 +49,23 @@ mail_parts_of octets is =
       second = ap (λ f. field_part (fields_of_shape f) 1 octets) mail_found ∙ ap (field_part (Name ∷ []) 0) cut.1 ∙ ap Some name_cut.0;
     }
 
-pub mail_parts : (d : TypeData) → d.code ≡ 15 → IsTypeData d.code d.octets → AreMailParts d
-mail_parts d same is = subst (λ c. AreMailParts (record { code = c; octets = d.octets })) (sym same) (mail_parts_of d.octets (subst (λ c. IsTypeData c d.octets) same is))
+pub mail_parts : (d : TypeData) → d.rtype ≡ Rtype.mx → IsTypeData d.rtype d.octets → AreMailParts d
+mail_parts d same is = subst (λ c. AreMailParts (record { rtype = c; octets = d.octets })) (sym same) (mail_parts_of d.octets (subst (λ c. IsTypeData c d.octets) same is))
 
 -- a part that is found is that one
 some_same : (x y : List ℕ) → Some x ≡ Some y → x ≡ y
 some_same x y h = cc
 
-pub first_two : (d : TypeData) (octets : List ℕ) → d.code ≡ 15 → IsTypeData d.code d.octets → data_part d 0 ≡ Some octets → AreOctetsOf 2 octets
+pub first_two : (d : TypeData) (octets : List ℕ) → d.rtype ≡ Rtype.mx → IsTypeData d.rtype d.octets → data_part d 0 ≡ Some octets → AreOctetsOf 2 octets
 first_two d octets same is found = let parts = mail_parts d same is in subst (AreOctetsOf 2) (some_same parts.preference octets (sym parts.first ∙ found)) parts.two
 
-pub second_name : (d : TypeData) (octets : List ℕ) → d.code ≡ 15 → IsTypeData d.code d.octets → data_part d 1 ≡ Some octets → IsWireName octets
+pub second_name : (d : TypeData) (octets : List ℕ) → d.rtype ≡ Rtype.mx → IsTypeData d.rtype d.octets → data_part d 1 ≡ Some octets → IsWireName octets
 second_name d octets same is found = let parts = mail_parts d same is in subst IsWireName (some_same parts.exchange octets (sym parts.second ∙ found)) parts.name
 
 none_some : (x : List ℕ) (o : Option (List ℕ)) → o ≡ None → o ≡ Some x → ⊥
 none_some x o h k = cc
 
-pub has_parts : (d : TypeData) → d.code ≡ 15 → IsTypeData d.code d.octets → (data_part d 0 ≡ None → ⊥) × (data_part d 1 ≡ None → ⊥)
+pub has_parts : (d : TypeData) → d.rtype ≡ Rtype.mx → IsTypeData d.rtype d.octets → (data_part d 0 ≡ None → ⊥) × (data_part d 1 ≡ None → ⊥)
 has_parts d same is =
     let parts = mail_parts d same is in (λ none. none_some parts.preference (data_part d 0) none parts.first, λ none. none_some parts.exchange (data_part d 1) none parts.second)
 

@@ -45,6 +45,6 @@ part_passed fields f more place (suc count) octets rest width left w some found 
     }
 
 -- data of a type with a row begins with the fields of the row
-pub row_starts : (code : ℕ) (octets : List ℕ) (row : TypeRow) (shape : Shape) → Some (row_shape row) ≡ shape_of_code code → IsShapeOf (row_shape row) shape → IsTypeData code octets → StartsWithFields shape.fields.now octets
-row_starts code octets row shape found same is =
-    let own = is.shaped shape (has_shape (shape_of_code code) row shape found same) in begins_start shape.fields.now octets own.back own.fields
+pub row_starts : (rtype : ℕ) (octets : List ℕ) (row : TypeRow) (shape : Shape) → Some (row_shape row) ≡ shape_of_code rtype → IsShapeOf (row_shape row) shape → IsTypeData rtype octets → StartsWithFields shape.fields.now octets
+row_starts rtype octets row shape found same is =
+    let own = is.shaped shape (has_shape (shape_of_code rtype) row shape found same) in begins_start shape.fields.now octets own.back own.fields

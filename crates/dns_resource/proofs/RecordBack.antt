@@ -72,12 +72,12 @@ owner_word form h =
 -- ---- records
 
 -- what a record's type is printed as spells it
-type_spelled : (code : ℕ) → code < 2 ^ 16 → SpellsType (record_type_text code) (record { 0 = code })
-type_spelled code small = by (is_some (shape_of_code code))
+type_spelled : (rtype : ℕ) → rtype < 2 ^ 16 → SpellsType (record_type_text rtype) rtype
+type_spelled rtype small = by (is_some (shape_of_code rtype))
   where
-    by : (shaped : Bool) → SpellsType (if shaped then type_text (record { 0 = code }) else portable_text (record { 0 = code })) (record { 0 = code })
-    by true = types_are_kind.spelled (record { 0 = code }) small
-    by false = portable_types_are_kind.spelled (record { 0 = record { 0 = code } }) small
+    by : (shaped : Bool) → SpellsType (if shaped then type_text rtype else portable_text rtype) rtype
+    by true = types_are_kind.spelled rtype small
+    by false = portable_types_are_kind.spelled (record { 0 = rtype }) small
 
 pub record_back : {N O : Type 0} (r : Record N O) (origin : Option (List (List ℕ))) (tokens : List TokenSeen) → AreRecordValues r → IsOrigin origin → r.ttl < 2 ^ 31 → ArePrinted (record_tokens r) tokens
     → SpellsRecord origin tokens r
@@ -90,8 +90,8 @@ record_back r origin (owner ∷ ttl ∷ class ∷ type ∷ others) values known 
     unquoted = (p.0, p.3.0, p.3.3.0, p.3.3.3.0);
     owner_is = subst (λ text. SpellsName origin text (wire r.owner)) (sym p.1) ((names_spelled origin known).back (wire r.owner) values.owner);
     ttl_is = subst (λ text. SpellsTtl text r.ttl) (sym p.3.1) (ttls_are_kind.spelled r.ttl small);
-    class_is = subst (λ text. SpellsClass text (record { 0 = r.class })) (sym p.3.3.1) (classes_are_kind.spelled (record { 0 = r.class }) values.class);
-    type_is = subst (λ text. SpellsType text (record { 0 = (data_of r).code })) (sym p.3.3.3.1) (type_spelled (data_of r).code values.type);
+    class_is = subst (λ text. SpellsClass text r.class) (sym p.3.3.1) (classes_are_kind.spelled r.class values.class);
+    type_is = subst (λ text. SpellsType text (data_of r).rtype) (sym p.3.3.3.1) (type_spelled (data_of r).rtype values.type);
   },
-  type_data_back origin (data_of r).code (data_of r).octets others known values.octets values.typed p.3.3.3.3,
+  type_data_back origin (data_of r).rtype (data_of r).octets others known values.octets values.typed p.3.3.3.3,
 )

@@ -17,21 +17,21 @@ use Rattle.dns_resource.specs.declared.record.Record.{Record}
 use Rattle.dns_resource.proofs.CanonicalOrders.{front_same}
 
 pub data_total : IsTotalOrder data_order
-data_total = then_total (on_total (λ d. d.code) nat_cmp_total) (on_total (λ d. canonical_data d.code d.octets) octets_total)
+data_total = then_total (on_total (λ d. d.rtype) nat_cmp_total) (on_total (λ d. canonical_data d.rtype d.octets) octets_total)
 
 same_number : (a b : ℕ) → a < 2 ^ 16 → b < 2 ^ 16 → a / 256 % 256 ≡ b / 256 % 256 → a % 256 ≡ b % 256 → a ≡ b
 same_number a b p q h k = omega (arith, p, q, h, k)
 
 -- what is behind the owner is of the same numbers and data
-record AreSame (code others class classes : ℕ) (form other : List ℕ) : Type 0 where
-  pub codes : code ≡ others
+record AreSame (rtype others class classes : ℕ) (form other : List ℕ) : Type 0 where
+  pub codes : rtype ≡ others
   pub both : class ≡ classes
   pub forms : form ≡ other
 
-same_behind : (code others class classes ttl : ℕ) (form other : List ℕ) → code < 2 ^ 16 → others < 2 ^ 16 → class < 2 ^ 16 → classes < 2 ^ 16 → behind_owner code class ttl form ≡ behind_owner others classes ttl other
-    → AreSame code others class classes form other
-same_behind code others class classes ttl form other p q r s e = record {
-  codes = same_number code others p q (ap (λ l. get_or l 0 0) e) (ap (λ l. get_or l 1 0) e);
+same_behind : (rtype others class classes ttl : ℕ) (form other : List ℕ) → rtype < 2 ^ 16 → others < 2 ^ 16 → class < 2 ^ 16 → classes < 2 ^ 16 → behind_owner rtype class ttl form ≡ behind_owner others classes ttl other
+    → AreSame rtype others class classes form other
+same_behind rtype others class classes ttl form other p q r s e = record {
+  codes = same_number rtype others p q (ap (λ l. get_or l 0 0) e) (ap (λ l. get_or l 1 0) e);
   both = same_number class classes r s (ap (λ l. get_or l 2 0) e) (ap (λ l. get_or l 3 0) e);
   forms = ap (drop 10) e;
 }
@@ -41,9 +41,9 @@ module _ {N O M P : Type 0} (a : Record N O) (b : Record M P) (p : AreRecordValu
   tied_from_forms e =
       let first = lowered (wire a.owner) in
       let second = lowered (wire b.owner) in
-      let parts = front_same OfName first second (behind_owner (data_of a).code a.class ttl (canonical_data (data_of a).code (data_of a).octets)) (behind_owner (data_of b).code b.class ttl (canonical_data (data_of b).code (data_of b).octets))
+      let parts = front_same OfName first second (behind_owner (data_of a).rtype a.class ttl (canonical_data (data_of a).rtype (data_of a).octets)) (behind_owner (data_of b).rtype b.class ttl (canonical_data (data_of b).rtype (data_of b).octets))
       (lowered_name (wire a.owner) p.owner) (lowered_name (wire b.owner) q.owner) e in
-      let rest = same_behind (data_of a).code (data_of b).code a.class b.class ttl (canonical_data (data_of a).code (data_of a).octets) (canonical_data (data_of b).code (data_of b).octets) p.type q.type p.class q.class parts.1 in
+      let rest = same_behind (data_of a).rtype (data_of b).rtype a.class b.class ttl (canonical_data (data_of a).rtype (data_of a).octets) (canonical_data (data_of b).rtype (data_of b).octets) p.type q.type p.class q.class parts.1 in
       (records_tied (record_key a) (record_key b)).1 ((names_tied a.owner b.owner p.owner_is q.owner_is).1 parts.0, rest.both, rest.codes, rest.forms)
 
   forms_from_tied : record_order (record_key a) (record_key b) ≡ Equal → canonical_with_ttl ttl a ≡ canonical_with_ttl ttl b

@@ -33,39 +33,39 @@ same_data (Some s) a b octets h k own = record {
 }
 
 -- data of a type without a row, and with one
-pub without_row : (code : ℕ) (octets : List ℕ) → IsDataType code → length octets ≤ max_data → None ≡ shape_of_code code → IsTypeData code octets
-without_row code octets is short none = record { in_zones = is; short = short; shaped = λ shape has. absurd (subst (λ f. HasShape f shape) (sym none) has) }
+pub without_row : (rtype : ℕ) (octets : List ℕ) → IsDataType rtype → length octets ≤ max_data → None ≡ shape_of_code rtype → IsTypeData rtype octets
+without_row rtype octets is short none = record { in_zones = is; short = short; shaped = λ shape has. absurd (subst (λ f. HasShape f shape) (sym none) has) }
 
-pub with_row : (code : ℕ) (octets : List ℕ) (row : TypeRow) (shape : Shape) → IsDataType code → length octets ≤ max_data → Some (row_shape row) ≡ shape_of_code code → IsShapeOf (row_shape row) shape → IsDataOf shape octets
-    → IsTypeData code octets
-with_row code octets row shape is short found same own = record {
+pub with_row : (rtype : ℕ) (octets : List ℕ) (row : TypeRow) (shape : Shape) → IsDataType rtype → length octets ≤ max_data → Some (row_shape row) ≡ shape_of_code rtype → IsShapeOf (row_shape row) shape → IsDataOf shape octets
+    → IsTypeData rtype octets
+with_row rtype octets row shape is short found same own = record {
   in_zones = is;
   short = short;
-  shaped = λ other has. same_data (shape_of_code code) shape other octets (has_shape (shape_of_code code) row shape found same) has own;
+  shaped = λ other has. same_data (shape_of_code rtype) shape other octets (has_shape (shape_of_code rtype) row shape found same) has own;
 }
 
-pub no_data_of_row : (code : ℕ) (octets : List ℕ) (row : TypeRow) (shape : Shape) → IsDataType code → length octets ≤ max_data → Some (row_shape row) ≡ shape_of_code code → IsShapeOf (row_shape row) shape
-    → (IsDataOf shape octets → ⊥) → RefusesWire code octets NotOfType
-no_data_of_row code octets row shape is short found same other = (is, short, (shape, has_shape (shape_of_code code) row shape found same, other))
+pub no_data_of_row : (rtype : ℕ) (octets : List ℕ) (row : TypeRow) (shape : Shape) → IsDataType rtype → length octets ≤ max_data → Some (row_shape row) ≡ shape_of_code rtype → IsShapeOf (row_shape row) shape
+    → (IsDataOf shape octets → ⊥) → RefusesWire rtype octets NotOfType
+no_data_of_row rtype octets row shape is short found same other = (is, short, (shape, has_shape (shape_of_code rtype) row shape found same, other))
 
 -- what is refused is no data of the type
-pub refused_is_none : (code : ℕ) (octets : List ℕ) (e : WireError) → RefusesWire code octets e → IsTypeData code octets → ⊥
-refused_is_none code octets NoDataType h is = h is.in_zones
-refused_is_none code octets LongData h is = omega (arith, h.1, is.short)
-refused_is_none code octets NotOfType h is = h.2.2 (is.shaped h.2.0 h.2.1)
+pub refused_is_none : (rtype : ℕ) (octets : List ℕ) (e : WireError) → RefusesWire rtype octets e → IsTypeData rtype octets → ⊥
+refused_is_none rtype octets NoDataType h is = h is.in_zones
+refused_is_none rtype octets LongData h is = omega (arith, h.1, is.short)
+refused_is_none rtype octets NotOfType h is = h.2.2 (is.shaped h.2.0 h.2.1)
 
 -- what tokens spell is data of the type
-pub spelled_is_type_data : (origin : Option (List (List ℕ))) (code : ℕ) (tokens : List TokenSeen) (octets : List ℕ) → IsOrigin origin → HoldOctets tokens → length octets ≤ max_data → SpellsTypeData origin code tokens octets
-    → IsTypeData code octets
-spelled_is_type_data origin code tokens octets known held short sp = record { in_zones = sp.0; short = short; shaped = by sp.1 }
+pub spelled_is_type_data : (origin : Option (List (List ℕ))) (rtype : ℕ) (tokens : List TokenSeen) (octets : List ℕ) → IsOrigin origin → HoldOctets tokens → length octets ≤ max_data → SpellsTypeData origin rtype tokens octets
+    → IsTypeData rtype octets
+spelled_is_type_data origin rtype tokens octets known held short sp = record { in_zones = sp.0; short = short; shaped = by sp.1 }
   where
-    by : SpellsGenericData (shape_of_code code) tokens octets ⊎ ((BeginsGeneric tokens → ⊥) × ((shape : Shape) × HasShape (shape_of_code code) shape × SpellsData origin shape tokens octets)) → (shape : Shape) → HasShape (shape_of_code code) shape → IsDataOf shape octets
+    by : SpellsGenericData (shape_of_code rtype) tokens octets ⊎ ((BeginsGeneric tokens → ⊥) × ((shape : Shape) × HasShape (shape_of_code rtype) shape × SpellsData origin shape tokens octets)) → (shape : Shape) → HasShape (shape_of_code rtype) shape → IsDataOf shape octets
     by (inl generic) shape has = generic.1 shape has
     by (inr own) shape has =
         let spelled : Shape = own.1.0 in
-        same_data (shape_of_code code) spelled shape octets own.1.1 has (text_is_data spelled octets ((data_are_spelled origin known spelled).are_data tokens octets held own.1.2))
+        same_data (shape_of_code rtype) spelled shape octets own.1.1 has (text_is_data spelled octets ((data_are_spelled origin known spelled).are_data tokens octets held own.1.2))
 
 -- the tokens of a row
-pub row_tokens : (code : ℕ) (octets : List ℕ) (row : TypeRow) (shape : Shape) → Some (row_shape row) ≡ shape_of_code code → IsShapeOf (row_shape row) shape → printed_data shape octets ≡ data_tokens code octets
-row_tokens code octets row shape found same =
+pub row_tokens : (rtype : ℕ) (octets : List ℕ) (row : TypeRow) (shape : Shape) → Some (row_shape row) ≡ shape_of_code rtype → IsShapeOf (row_shape row) shape → printed_data shape octets ≡ data_tokens rtype octets
+row_tokens rtype octets row shape found same =
     ap (λ fs. printed_with fs shape.rest octets) same.0 ∙ ap (λ r. printed_with (row_shape row).fields r octets) same.1 ∙ ap (λ f. tokens_of_shape f octets) found

@@ -133,25 +133,25 @@ types_plain : are_plain type_rows ≡ true
 unfolding type_rows
 types_plain = refl
 
-type_plain : (code : ℕ) → begins_escaped (portable_text (record { 0 = code })) ≡ false
-type_plain code = by (is_portable code)
+type_plain : (rtype : ℕ) → begins_escaped (portable_text rtype) ≡ false
+type_plain rtype = by (is_portable rtype)
   where
-    by : (known : Bool) → begins_escaped (if known then type_text (record { 0 = code }) else type_prefix ++ decimal code) ≡ false
-    by true = code_plain type_rows type_prefix code types_plain refl
+    by : (known : Bool) → begins_escaped (if known then type_text rtype else type_prefix ++ decimal rtype) ≡ false
+    by true = code_plain type_rows type_prefix rtype types_plain refl
     by false = refl
 
-sig_type_plain : (code : ℕ) → begins_escaped (sig_type_text (record { 0 = code })) ≡ false
-sig_type_plain code = by (code == 0)
+sig_type_plain : (rtype : ℕ) → begins_escaped (sig_type_text rtype) ≡ false
+sig_type_plain rtype = by (rtype == 0)
   where
-    by : (none : Bool) → begins_escaped (if none then codes "0" else portable_text (record { 0 = code })) ≡ false
+    by : (none : Bool) → begins_escaped (if none then codes "0" else portable_text rtype) ≡ false
     by true = refl
-    by false = type_plain code
+    by false = type_plain rtype
 
-no_type : (code : ℕ) → portable_text (record { 0 = code }) ≡ mark → ⊥
-no_type code is = not_escaped (portable_text (record { 0 = code })) (type_plain code) is
+no_type : (rtype : ℕ) → portable_text rtype ≡ mark → ⊥
+no_type rtype is = not_escaped (portable_text rtype) (type_plain rtype) is
 
-no_sig_type : (code : ℕ) → sig_type_text (record { 0 = code }) ≡ mark → ⊥
-no_sig_type code is = not_escaped (sig_type_text (record { 0 = code })) (sig_type_plain code) is
+no_sig_type : (rtype : ℕ) → sig_type_text rtype ≡ mark → ⊥
+no_sig_type rtype is = not_escaped (sig_type_text rtype) (sig_type_plain rtype) is
 
 no_certificate : (code : ℕ) → SpellsCode certificate_rows [] 65535 mark code → ⊥
 no_certificate code h = omega (arith, h.1.0.1.0)
@@ -304,17 +304,17 @@ types_show_no_mark : all_show_no_mark type_shapes ≡ true
 unfolding type_shapes
 types_show_no_mark = refl
 
-found_shows_no_mark : (shapes : List TypeShape) (code : ℕ) (s : TypeShape) → all_show_no_mark shapes ≡ true → find (λ (s : TypeShape). s.code == code) shapes ≡ Some s → first_shows_no_mark s.fields s.rest ≡ true
-found_shows_no_mark [] code s all found = cc
-found_shows_no_mark (x ∷ xs) code s all found = by (first_shows_no_mark x.fields x.rest) (x.code == code) refl refl all found (λ h k. found_shows_no_mark xs code s h k)
+found_shows_no_mark : (shapes : List TypeShape) (rtype : ℕ) (s : TypeShape) → all_show_no_mark shapes ≡ true → find (λ (s : TypeShape). s.rtype == rtype) shapes ≡ Some s → first_shows_no_mark s.fields s.rest ≡ true
+found_shows_no_mark [] rtype s all found = cc
+found_shows_no_mark (x ∷ xs) rtype s all found = by (first_shows_no_mark x.fields x.rest) (x.rtype == rtype) refl refl all found (λ h k. found_shows_no_mark xs rtype s h k)
   where
-    by : (shown same : Bool) → first_shows_no_mark x.fields x.rest ≡ shown → (x.code == code) ≡ same → (shown && all_show_no_mark xs) ≡ true → (if same then Some x else find (λ (s : TypeShape). s.code == code) xs) ≡ Some s
-        → (all_show_no_mark xs ≡ true → find (λ (s : TypeShape). s.code == code) xs ≡ Some s → first_shows_no_mark s.fields s.rest ≡ true) → first_shows_no_mark s.fields s.rest ≡ true
+    by : (shown same : Bool) → first_shows_no_mark x.fields x.rest ≡ shown → (x.rtype == rtype) ≡ same → (shown && all_show_no_mark xs) ≡ true → (if same then Some x else find (λ (s : TypeShape). s.rtype == rtype) xs) ≡ Some s
+        → (all_show_no_mark xs ≡ true → find (λ (s : TypeShape). s.rtype == rtype) xs ≡ Some s → first_shows_no_mark s.fields s.rest ≡ true) → first_shows_no_mark s.fields s.rest ≡ true
     by false same shown e all found later = absurd (true≢false (sym all))
     by true true shown e all found later = let same : x ≡ s = cc in subst (λ (t : TypeShape). first_shows_no_mark t.fields t.rest ≡ true) same shown
     by true false shown e all found later = later all found
 
 -- data of a shape that a type has is not printed with the mark in front
-pub shape_unmarked : (code : ℕ) (s : TypeShape) (octets back : List ℕ) → find (λ (s : TypeShape). s.code == code) type_shapes ≡ Some s → BeginsWithFields s.fields octets back → (rest_form None s.rest).is_wire back
+pub shape_unmarked : (rtype : ℕ) (s : TypeShape) (octets back : List ℕ) → find (λ (s : TypeShape). s.rtype == rtype) type_shapes ≡ Some s → BeginsWithFields s.fields octets back → (rest_form None s.rest).is_wire back
     → BeginsMarked (printed_parts s.fields s.rest octets) → ⊥
-shape_unmarked code s octets back found b is m = parts_unmarked s.fields s.rest octets back (found_shows_no_mark type_shapes code s types_show_no_mark found) b is m
+shape_unmarked rtype s octets back found b is m = parts_unmarked s.fields s.rest octets back (found_shows_no_mark type_shapes rtype s types_show_no_mark found) b is m

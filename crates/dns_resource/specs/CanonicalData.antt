@@ -11,6 +11,8 @@ use Rattle.dns_canonical.specs.FieldForms.{lowered_types, canonical_field}
 use Rattle.dns_canonical.specs.Names.{octet_order}
 use Rattle.dns_canonical.specs.Records.{RecordKey}
 use Rattle.dns_canonical.specs.Untexted.{untexted_front}
+use Rattle.dns_kinds.specs.declared.classes.Class.{Class}
+use Rattle.dns_kinds.specs.declared.types.RecordType.{RecordType}
 use Rattle.dns_data.specs.ByType.{shape_of_code}
 use Rattle.dns_data.specs.Printing.{field_size}
 use Rattle.dns_data.specs.Types.{TypeShape}
@@ -23,13 +25,13 @@ fields_of_shape None = []
 fields_of_shape (Some s) = s.fields
 
 -- the fields of a type with a text form, and of one without the octets and names with which the data begins
-abbrev pub fields_in_data : Option TypeShape → ℕ → List ℕ → List Field
-fields_in_data None code octets = untexted_front code octets
-fields_in_data (Some s) code octets = s.fields
+abbrev pub fields_in_data : Option TypeShape → RecordType → List ℕ → List Field
+fields_in_data None rtype octets = untexted_front rtype octets
+fields_in_data (Some s) rtype octets = s.fields
 
 -- the fields of data of a type whose names are lowered, and none of another type
-abbrev pub fields_to_lower : ℕ → List ℕ → List Field
-fields_to_lower code octets = if list_any (λ t. t == code) lowered_types then fields_in_data (shape_of_code code) code octets else []
+abbrev pub fields_to_lower : RecordType → List ℕ → List Field
+fields_to_lower rtype octets = if list_any (λ t. t == rtype) lowered_types then fields_in_data (shape_of_code rtype) rtype octets else []
 
 -- octets with each of these fields in front in canonical form, and what is behind them as it is
 abbrev pub lowered_in : List Field → List ℕ → List ℕ
@@ -37,16 +39,16 @@ lowered_in [] octets = octets
 lowered_in (f ∷ fs) octets = canonical_field f (take (field_size f octets) octets) ++ lowered_in fs (drop (field_size f octets) octets)
 
 -- data with its names in lower case where the type wants that
-abbrev pub canonical_data : ℕ → List ℕ → List ℕ
-canonical_data code octets = lowered_in (fields_to_lower code octets) octets
+abbrev pub canonical_data : RecordType → List ℕ → List ℕ
+canonical_data rtype octets = lowered_in (fields_to_lower rtype octets) octets
 
 -- type, class, time to live, the number of octets of the data, and these
-abbrev pub behind_owner : ℕ → ℕ → ℕ → List ℕ → List ℕ
-behind_owner code class ttl form = to_be_bytes w16 code ++ (to_be_bytes w16 class ++ (to_be_bytes w32 ttl ++ (to_be_bytes w16 (length form) ++ form)))
+abbrev pub behind_owner : RecordType → Class → ℕ → List ℕ → List ℕ
+behind_owner rtype class ttl form = to_be_bytes w16 rtype ++ (to_be_bytes w16 class ++ (to_be_bytes w32 ttl ++ (to_be_bytes w16 (length form) ++ form)))
 
 -- the owner in lower case, and behind it the data in canonical form
 abbrev pub canonical_with_ttl : {N O : Type 0} → ℕ → Record N O → List ℕ
-canonical_with_ttl ttl r = lowered (wire r.owner) ++ behind_owner (data_of r).code r.class ttl (canonical_data (data_of r).code (data_of r).octets)
+canonical_with_ttl ttl r = lowered (wire r.owner) ++ behind_owner (data_of r).rtype r.class ttl (canonical_data (data_of r).rtype (data_of r).octets)
 
 abbrev pub canonical_record : {N O : Type 0} → Record N O → List ℕ
 canonical_record r = canonical_with_ttl r.ttl r
@@ -55,8 +57,8 @@ canonical_record r = canonical_with_ttl r.ttl r
 
 -- by the type, then by the octets in canonical form
 abbrev pub data_order : TypeData → TypeData → Ordering
-data_order a b = ordering_then (nat_cmp a.code b.code) (octet_order (canonical_data a.code a.octets) (canonical_data b.code b.octets))
+data_order a b = ordering_then (nat_cmp a.rtype b.rtype) (octet_order (canonical_data a.rtype a.octets) (canonical_data b.rtype b.octets))
 
 -- what a record is sorted by
 abbrev pub record_key : {N O : Type 0} → Record N O → RecordKey
-record_key r = record { owner = r.owner; class = r.class; record_type = (data_of r).code; octets = canonical_data (data_of r).code (data_of r).octets }
+record_key r = record { owner = r.owner; class = r.class; rtype = (data_of r).rtype; octets = canonical_data (data_of r).rtype (data_of r).octets }

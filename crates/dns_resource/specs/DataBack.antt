@@ -1,5 +1,6 @@
 -- What record data is printed as spells it again.
 use Rattle.std.specs.Prelude.{ℕ, Option, List}
+use Rattle.dns_kinds.specs.declared.types.RecordType.{RecordType}
 use Rattle.dns_spelling.specs.NameSpelling.{IsOrigin}
 use Rattle.dns_spelling.specs.Spelling.{AreOctetValues}
 use Rattle.dns_split.specs.EntryTokens.{TokenSeen}
@@ -10,5 +11,5 @@ use Rattle.dns_resource.specs.TypeData.{IsTypeData}
 
 -- whatever the origin is, the tokens that data of a type is printed as spell it
 abbrev pub IsTypeDataReadBack : Type 0
-IsTypeDataReadBack = (origin : Option (List (List ℕ))) (code : ℕ) (octets : List ℕ) (tokens : List TokenSeen) → IsOrigin origin → AreOctetValues octets → IsTypeData code octets
-    → ArePrinted (data_tokens code octets) tokens → SpellsTypeData origin code tokens octets
+IsTypeDataReadBack = (origin : Option (List (List ℕ))) (rtype : RecordType) (octets : List ℕ) (tokens : List TokenSeen) → IsOrigin origin → AreOctetValues octets → IsTypeData rtype octets
+    → ArePrinted (data_tokens rtype octets) tokens → SpellsTypeData origin rtype tokens octets

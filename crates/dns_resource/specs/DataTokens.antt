@@ -2,6 +2,7 @@
 use Rattle.std.specs.Prelude.{◌≡◌, ℕ, false, Option, Some, None, List, [], ◌∷◌, refl}
 use Rattle.dns_zone.specs.Layout.{Step}
 use Rattle.dns_zone.specs.Nesting.{IsNested, has_line}
+use Rattle.dns_kinds.specs.declared.types.RecordType.{RecordType}
 use Rattle.dns_data.specs.ByType.{shape_of_code}
 use Rattle.dns_data.specs.Generic.{generic_form}
 use Rattle.dns_data.specs.Printing.{printed_with, token_steps}
@@ -15,11 +16,11 @@ tokens_of_shape None octets = generic_form.printed octets
 tokens_of_shape (Some s) octets = printed_with s.fields s.rest octets
 
 -- data of a type in its text form, and in the generic form where it has none, or the type has none
-abbrev pub data_tokens : ℕ → List ℕ → List PrintedToken
-data_tokens code octets = tokens_of_shape (shape_of_code code) octets
+abbrev pub data_tokens : RecordType → List ℕ → List PrintedToken
+data_tokens rtype octets = tokens_of_shape (shape_of_code rtype) octets
 
 abbrev pub data_document : TypeData → List Step
-data_document d = token_steps (data_tokens d.code d.octets)
+data_document d = token_steps (data_tokens d.rtype d.octets)
 
 -- ---- tokens alone have no blocks and no line ends
 
@@ -32,4 +33,4 @@ tokens_have_no_line [] = refl
 tokens_have_no_line (t ∷ ts) = tokens_have_no_line ts
 
 pub data_nests : (d : TypeData) → IsNested (data_document d)
-data_nests d = tokens_are_nested (data_tokens d.code d.octets)
+data_nests d = tokens_are_nested (data_tokens d.rtype d.octets)

@@ -13,4 +13,4 @@ field_part (f ∷ fs) zero octets = Some (take (field_size f octets) octets)
 field_part (f ∷ fs) (suc place) octets = field_part fs place (drop (field_size f octets) octets)
 
 abbrev pub data_part : TypeData → ℕ → Option (List ℕ)
-data_part d place = field_part (fields_of_shape (shape_of_code d.code)) place d.octets
+data_part d place = field_part (fields_of_shape (shape_of_code d.rtype)) place d.octets

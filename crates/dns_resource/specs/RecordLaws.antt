@@ -6,6 +6,7 @@ use Rattle.dns_canonical.specs.Records.{record_order}
 use Rattle.dns_kinds.specs.Classes.{SpellsClass}
 use Rattle.dns_kinds.specs.Ttl.{SpellsTtl}
 use Rattle.dns_kinds.specs.Types.{SpellsType}
+use Rattle.dns_kinds.specs.declared.types.RecordType.{RecordType}
 use Rattle.dns_spelling.specs.NameSpelling.{IsOrigin, IsWireName, SpellsName, at_sign}
 use Rattle.dns_spelling.specs.PrintedNames.{dollar}
 use Rattle.dns_spelling.specs.Spelling.{AreOctetValues}
@@ -24,17 +25,17 @@ pub record AreRecordValues {N O : Type 0} (r : Record N O) : Type 0 where
   pub owner : IsWireName (wire r.owner)
   pub owner_is : IsName r.owner
   pub class : r.class < 2 ^ 16
-  pub type : (data_of r).code < 2 ^ 16
+  pub type : (data_of r).rtype < 2 ^ 16
   pub octets : AreOctetValues (data_of r).octets
-  pub typed : IsTypeData (data_of r).code (data_of r).octets
+  pub typed : IsTypeData (data_of r).rtype (data_of r).octets
 
 -- words spell the owner, the time to live, the class and the type
 pub record SpellsHead {N O : Type 0} (origin : Option (List (List ℕ))) (owner ttl class type : TokenSeen) (r : Record N O) : Type 0 where
   pub unquoted : (owner.is_quoted ≡ false) × (ttl.is_quoted ≡ false) × (class.is_quoted ≡ false) × (type.is_quoted ≡ false)
   pub owner_is : SpellsName origin owner.text (wire r.owner)
   pub ttl_is : SpellsTtl ttl.text r.ttl
-  pub class_is : SpellsClass class.text (record { 0 = r.class })
-  pub type_is : SpellsType type.text (record { 0 = (data_of r).code })
+  pub class_is : SpellsClass class.text r.class
+  pub type_is : SpellsType type.text (data_of r).rtype
 
 -- the first four tokens spell these, and those behind them the data
 abbrev pub SpellsRecord : {N O : Type 0} → Option (List (List ℕ)) → List TokenSeen → Record N O → Type 0
@@ -42,7 +43,7 @@ SpellsRecord origin [] r = ⊥
 SpellsRecord origin (owner ∷ []) r = ⊥
 SpellsRecord origin (owner ∷ ttl ∷ []) r = ⊥
 SpellsRecord origin (owner ∷ ttl ∷ class ∷ []) r = ⊥
-SpellsRecord origin (owner ∷ ttl ∷ class ∷ type ∷ others) r = SpellsHead origin owner ttl class type r × SpellsTypeData origin (data_of r).code others (data_of r).octets
+SpellsRecord origin (owner ∷ ttl ∷ class ∷ type ∷ others) r = SpellsHead origin owner ttl class type r × SpellsTypeData origin (data_of r).rtype others (data_of r).octets
 
 -- the tokens that a record is printed as spell it, whatever the origin is, where its time to live is one
 abbrev pub IsRecordReadBack : {N O : Type 0} → Record N O → Type 0
@@ -61,5 +62,5 @@ abbrev pub IsTiedByForm : {N O M P : Type 0} → Record N O → Record M P → T
 IsTiedByForm a b = (ttl : ℕ) → (record_order (record_key a) (record_key b) ≡ Equal) ↔ (canonical_with_ttl ttl a ≡ canonical_with_ttl ttl b)
 
 -- the names among the fields of a type are lowered, and nothing else is
-abbrev pub HasCanonicalForm : ℕ → List ℕ → Type 0
-HasCanonicalForm code octets = CanonicalFields (fields_to_lower code octets) octets (canonical_data code octets)
+abbrev pub HasCanonicalForm : RecordType → List ℕ → Type 0
+HasCanonicalForm rtype octets = CanonicalFields (fields_to_lower rtype octets) octets (canonical_data rtype octets)

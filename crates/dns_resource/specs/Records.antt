@@ -2,6 +2,7 @@
 use Rattle.std.specs.Prelude.{ℕ, List, [], ◌∷◌, ◌++◌, decimal, is_some, if◌then◌else◌}
 use Rattle.dns_kinds.specs.Classes.{class_text}
 use Rattle.dns_kinds.specs.Types.{type_text, portable_text}
+use Rattle.dns_kinds.specs.declared.types.RecordType.{RecordType}
 use Rattle.dns_spelling.specs.PrintedNames.{wire_name_text}
 use Rattle.dns_wire.specs.Wire.{wire}
 use Rattle.dns_zone.specs.Layout.{Step, begin, end}
@@ -15,8 +16,8 @@ use Rattle.dns_resource.specs.TypeData.{TypeData}
 use Rattle.dns_resource.specs.declared.record.Record.{Record}
 
 -- the type of a record: its name where data of the type is printed in text form, and before the generic form the name only if every reader knows it
-abbrev pub record_type_text : ℕ → List ℕ
-record_type_text code = if is_some (shape_of_code code) then type_text (record { 0 = code }) else portable_text (record { 0 = code })
+abbrev pub record_type_text : RecordType → List ℕ
+record_type_text rtype = if is_some (shape_of_code rtype) then type_text rtype else portable_text rtype
 
 abbrev pub data_of : {N O : Type 0} → Record N O → TypeData
 data_of r = r.«data»
@@ -24,12 +25,12 @@ data_of r = r.«data»
 -- the owner, the time to live, the class and the type, each a word
 abbrev pub head_tokens : {N O : Type 0} → Record N O → List PrintedToken
 head_tokens r =
-    plain_word (wire_name_text (wire r.owner)) ∷ plain_word (decimal r.ttl) ∷ plain_word (class_text (record { 0 = r.class }))
-    ∷ plain_word (record_type_text (data_of r).code) ∷ []
+    plain_word (wire_name_text (wire r.owner)) ∷ plain_word (decimal r.ttl) ∷ plain_word (class_text r.class)
+    ∷ plain_word (record_type_text (data_of r).rtype) ∷ []
 
 -- and behind them the data
 abbrev pub record_tokens : {N O : Type 0} → Record N O → List PrintedToken
-record_tokens r = head_tokens r ++ data_tokens (data_of r).code (data_of r).octets
+record_tokens r = head_tokens r ++ data_tokens (data_of r).rtype (data_of r).octets
 
 -- the data stands in a block
 abbrev pub record_document : {N O : Type 0} → Record N O → List Step
@@ -37,4 +38,4 @@ record_document r = token_steps (head_tokens r) ++ begin ∷ (data_document (dat
 
 pub record_nests : {N O : Type 0} (r : Record N O) → IsNested (record_document r)
 record_nests r =
-    nested_in_block (data_document (data_of r)) (data_nests (data_of r)) (tokens_have_no_line (data_tokens (data_of r).code (data_of r).octets))
+    nested_in_block (data_document (data_of r)) (data_nests (data_of r)) (tokens_have_no_line (data_tokens (data_of r).rtype (data_of r).octets))

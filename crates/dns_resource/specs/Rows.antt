@@ -5,6 +5,8 @@ use Rattle.std.specs.List.{list_all}
 use Rattle.std.specs.declared.cmp.Ordering.TheVariants.{Less, Equal, Greater}
 use Rattle.dns_codec.specs.Base.{base16, encoded}
 use Rattle.dns_kinds.specs.Types.{type_rows, portable_types}
+use Rattle.dns_kinds.specs.Rtype as Rtype
+use Rattle.dns_kinds.specs.declared.types.RecordType.{RecordType}
 use Rattle.dns_spelling.specs.PrintedNames.{labels_in_octets}
 use Rattle.dns_wire.specs.Wire.{wire}
 use Rattle.dns_zone.specs.Layout.{layout, simple_piece, tabbed_piece, multiline_piece}
@@ -22,7 +24,7 @@ abbrev below_example : List ℕ → List (List ℕ)
 below_example label = label ∷ codes "example" ∷ [] ∷ []
 
 -- a preference and a host (MX, RFC 1035 section 3.3.9)
-mail_row : data_tokens 15 (0 ∷ 10 ∷ wire (below_example (codes "mail"))) ≡ plain_word (codes "10") ∷ plain_word (codes "mail.example.") ∷ []
+mail_row : data_tokens Rtype.mx (0 ∷ 10 ∷ wire (below_example (codes "mail"))) ≡ plain_word (codes "10") ∷ plain_word (codes "mail.example.") ∷ []
 unfolding type_shapes labels_in_octets digits
 mail_row = refl
 
@@ -38,26 +40,26 @@ no_octets_row = refl
 
 -- data of MX in a record
 abbrev mail_record : Record ℕ ℕ
-mail_record = record { owner = below_example (codes "a"); ttl = 3600; class = 1; «data» = record { code = 15; octets = 0 ∷ 10 ∷ wire (below_example (codes "mail")) } }
+mail_record = record { owner = below_example (codes "a"); ttl = 3600; class = 1; «data» = record { rtype = Rtype.mx; octets = 0 ∷ 10 ∷ wire (below_example (codes "mail")) } }
 
 simple_row : layout simple_piece (record_document mail_record) ≡ codes "a.example. 3600 IN MX 10 mail.example."
 unfolding type_shapes type_rows labels_in_octets digits
 simple_row = refl
 
 -- the type is WALLET, which has a text form, and before the generic form a number, as of CLA, which has none
-abbrev other_record : ℕ → List ℕ → Record ℕ ℕ
-other_record code octets = record { owner = below_example (codes "a"); ttl = 3600; class = 1; «data» = record { code = code; octets = octets } }
+abbrev other_record : RecordType → List ℕ → Record ℕ ℕ
+other_record rtype octets = record { owner = below_example (codes "a"); ttl = 3600; class = 1; «data» = record { rtype = rtype; octets = octets } }
 
-own_type_row : layout simple_piece (record_document (other_record 262 (1 ∷ 65 ∷ []))) ≡ codes "a.example. 3600 IN WALLET \"A\""
+own_type_row : layout simple_piece (record_document (other_record Rtype.wallet (1 ∷ 65 ∷ []))) ≡ codes "a.example. 3600 IN WALLET \"A\""
 unfolding type_shapes type_rows labels_in_octets digits
 own_type_row = refl
 
-numbered_row : layout simple_piece (record_document (other_record 263 [])) ≡ codes "a.example. 3600 IN TYPE263 \\# 0"
+numbered_row : layout simple_piece (record_document (other_record Rtype.cla [])) ≡ codes "a.example. 3600 IN TYPE263 \\# 0"
 unfolding type_shapes type_rows labels_in_octets digits
 numbered_row = refl
 
 -- each type whose name is known to every reader has a text form
-portable_row : list_all (λ code. is_some (shape_of_code code)) portable_types ≡ true
+portable_row : list_all (λ rtype. is_some (shape_of_code rtype)) portable_types ≡ true
 unfolding type_shapes
 portable_row = refl
 
@@ -70,66 +72,66 @@ unfolding type_shapes type_rows labels_in_octets digits
 multiline_row = refl
 
 -- a name in data of NS is lowered, and none in data of NSEC (RFC 6840 section 5.1)
-lowered_row : canonical_data 2 (wire (below_example (codes "NS"))) ≡ wire (below_example (codes "ns"))
+lowered_row : canonical_data Rtype.ns (wire (below_example (codes "NS"))) ≡ wire (below_example (codes "ns"))
 unfolding type_shapes
 lowered_row = refl
 
-kept_row : canonical_data 47 (wire (below_example (codes "NS")) ++ 0 ∷ 1 ∷ 64 ∷ []) ≡ wire (below_example (codes "NS")) ++ 0 ∷ 1 ∷ 64 ∷ []
+kept_row : canonical_data Rtype.nsec (wire (below_example (codes "NS")) ++ 0 ∷ 1 ∷ 64 ∷ []) ≡ wire (below_example (codes "NS")) ++ 0 ∷ 1 ∷ 64 ∷ []
 unfolding type_shapes
 kept_row = refl
 
 -- the numbers of NAPTR and its strings stay, and its name is lowered
-last_name_row : canonical_data 35 (0 ∷ 65 ∷ 0 ∷ 66 ∷ 1 ∷ 85 ∷ 0 ∷ 0 ∷ wire (below_example (codes "SIP"))) ≡ 0 ∷ 65 ∷ 0 ∷ 66 ∷ 1 ∷ 85 ∷ 0 ∷ 0 ∷ wire (below_example (codes "sip"))
+last_name_row : canonical_data Rtype.naptr (0 ∷ 65 ∷ 0 ∷ 66 ∷ 1 ∷ 85 ∷ 0 ∷ 0 ∷ wire (below_example (codes "SIP"))) ≡ 0 ∷ 65 ∷ 0 ∷ 66 ∷ 1 ∷ 85 ∷ 0 ∷ 0 ∷ wire (below_example (codes "sip"))
 unfolding type_shapes
 last_name_row = refl
 
 -- owner, type, class, time to live, length and data, as signatures cover them (RFC 4034 section 3.1.8.1)
 abbrev server_record : Record ℕ ℕ
-server_record = record { owner = below_example (codes "A"); ttl = 3600; class = 1; «data» = record { code = 2; octets = wire (below_example (codes "NS")) } }
+server_record = record { owner = below_example (codes "A"); ttl = 3600; class = 1; «data» = record { rtype = Rtype.ns; octets = wire (below_example (codes "NS")) } }
 
 signed_row : canonical_record server_record
     ≡ wire (below_example (codes "a")) ++ 0 ∷ 2 ∷ 0 ∷ 1 ∷ 0 ∷ 0 ∷ 14 ∷ 16 ∷ 0 ∷ 12 ∷ wire (below_example (codes "ns"))
 unfolding type_shapes
 signed_row = refl
 
-abbrev named_data : ℕ → List ℕ → TypeData
-named_data code label = record { code = code; octets = wire (below_example label) }
+abbrev named_data : RecordType → List ℕ → TypeData
+named_data rtype label = record { rtype = rtype; octets = wire (below_example label) }
 
 -- the case of names counts in LP and not in NS, and the type decides first
-alike_row : data_order (named_data 2 (codes "NS")) (named_data 2 (codes "ns")) ≡ Equal
+alike_row : data_order (named_data Rtype.ns (codes "NS")) (named_data Rtype.ns (codes "ns")) ≡ Equal
 unfolding type_shapes
 alike_row = refl
 
 abbrev preferred_data : List ℕ → TypeData
-preferred_data label = record { code = 107; octets = 0 ∷ 10 ∷ wire (below_example label) }
+preferred_data label = record { rtype = Rtype.lp; octets = 0 ∷ 10 ∷ wire (below_example label) }
 
 apart_row : data_order (preferred_data (codes "NS")) (preferred_data (codes "ns")) ≡ Less
 unfolding type_shapes
 apart_row = refl
 
-type_row : data_order (named_data 5 (codes "a")) (named_data 2 (codes "b")) ≡ Greater
+type_row : data_order (named_data Rtype.cname (codes "a")) (named_data Rtype.ns (codes "b")) ≡ Greater
 unfolding type_shapes
 type_row = refl
 
 -- the names of PX are lowered (RFC 2163 section 4), and what is behind the name of NXT stays
-map_row : canonical_data 26 (0 ∷ 10 ∷ (wire (below_example (codes "MAP")) ++ wire (below_example (codes "X4")))) ≡ 0 ∷ 10 ∷ (wire (below_example (codes "map")) ++ wire (below_example (codes "x4")))
+map_row : canonical_data Rtype.px (0 ∷ 10 ∷ (wire (below_example (codes "MAP")) ++ wire (below_example (codes "X4")))) ≡ 0 ∷ 10 ∷ (wire (below_example (codes "map")) ++ wire (below_example (codes "x4")))
 unfolding type_shapes
 map_row = refl
 
-next_row : canonical_data 30 (wire (below_example (codes "NXT")) ++ codes "@A") ≡ wire (below_example (codes "nxt")) ++ codes "@A"
+next_row : canonical_data Rtype.nxt (wire (below_example (codes "NXT")) ++ codes "@A") ≡ wire (below_example (codes "nxt")) ++ codes "@A"
 unfolding type_shapes
 next_row = refl
 
 -- the address of A6 stays, and the name of its prefix is lowered
-prefix_row : canonical_data 38 (120 ∷ 65 ∷ wire (below_example (codes "NET"))) ≡ 120 ∷ 65 ∷ wire (below_example (codes "net"))
+prefix_row : canonical_data Rtype.a6 (120 ∷ 65 ∷ wire (below_example (codes "NET"))) ≡ 120 ∷ 65 ∷ wire (below_example (codes "net"))
 unfolding type_shapes
 prefix_row = refl
 
 -- an A6 whose name is cut off stays as it is
-cut_row : canonical_data 38 (120 ∷ 65 ∷ 3 ∷ codes "NE") ≡ 120 ∷ 65 ∷ 3 ∷ codes "NE"
+cut_row : canonical_data Rtype.a6 (120 ∷ 65 ∷ 3 ∷ codes "NE") ≡ 120 ∷ 65 ∷ 3 ∷ codes "NE"
 unfolding type_shapes
 cut_row = refl
 
-maps_row : data_order (record { code = 26; octets = 0 ∷ 10 ∷ (wire (below_example (codes "MAP")) ++ 0 ∷ []) }) (record { code = 26; octets = 0 ∷ 10 ∷ (wire (below_example (codes "map")) ++ 0 ∷ []) }) ≡ Equal
+maps_row : data_order (record { rtype = Rtype.px; octets = 0 ∷ 10 ∷ (wire (below_example (codes "MAP")) ++ 0 ∷ []) }) (record { rtype = Rtype.px; octets = 0 ∷ 10 ∷ (wire (below_example (codes "map")) ++ 0 ∷ []) }) ≡ Equal
 unfolding type_shapes
 maps_row = refl

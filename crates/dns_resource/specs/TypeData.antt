@@ -1,17 +1,18 @@
 -- Record data of a type.
 use Rattle.std.specs.Prelude.{ℕ, ◌≤◌, List, length}
+use Rattle.dns_kinds.specs.declared.types.RecordType.{RecordType}
 use Rattle.dns_data.specs.ByType.{IsDataType, HasShape, shape_of_code}
 use Rattle.dns_data.specs.Data.{IsDataOf}
 use Rattle.dns_data.specs.Limits.{max_data}
 use Rattle.dns_data.specs.declared.shape.Shape.{Shape}
 
--- the code of a type, and octets
+-- a type, and octets
 pub record TypeData : Type 0 where
-  pub code : ℕ
+  pub rtype : RecordType
   pub octets : List ℕ
 
 -- octets are data of a type: its records can stand in a zone, the octets are not too many, and data of its shape where it has a text form
-pub record IsTypeData (code : ℕ) (octets : List ℕ) : Type 0 where
-  pub in_zones : IsDataType code
+pub record IsTypeData (rtype : RecordType) (octets : List ℕ) : Type 0 where
+  pub in_zones : IsDataType rtype
   pub short : length octets ≤ max_data
-  pub shaped : (shape : Shape) → HasShape (shape_of_code code) shape → IsDataOf shape octets
+  pub shaped : (shape : Shape) → HasShape (shape_of_code rtype) shape → IsDataOf shape octets

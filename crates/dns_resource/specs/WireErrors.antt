@@ -1,5 +1,6 @@
 -- Why octets are no data of a type.
 use Rattle.std.specs.Prelude.{ℕ, ◌<◌, ◌≤◌, List, length, codes}
+use Rattle.dns_kinds.specs.declared.types.RecordType.{RecordType}
 use Rattle.dns_data.specs.ByType.{IsDataType, HasShape, shape_of_code}
 use Rattle.dns_data.specs.Data.{IsDataOf}
 use Rattle.dns_data.specs.Limits.{max_data}
@@ -8,10 +9,10 @@ use Rattle.dns_resource.specs.declared.error.WireError.{WireError}
 use Rattle.dns_resource.specs.declared.error.WireError.TheVariants.{NoDataType, LongData, NotOfType}
 
 -- of all reasons the first
-abbrev pub RefusesWire : ℕ → List ℕ → WireError → Type 0
-RefusesWire code octets NoDataType = IsDataType code → ⊥
-RefusesWire code octets LongData = IsDataType code × (max_data < length octets)
-RefusesWire code octets NotOfType = IsDataType code × (length octets ≤ max_data) × ((shape : Shape) × HasShape (shape_of_code code) shape × (IsDataOf shape octets → ⊥))
+abbrev pub RefusesWire : RecordType → List ℕ → WireError → Type 0
+RefusesWire rtype octets NoDataType = IsDataType rtype → ⊥
+RefusesWire rtype octets LongData = IsDataType rtype × (max_data < length octets)
+RefusesWire rtype octets NotOfType = IsDataType rtype × (length octets ≤ max_data) × ((shape : Shape) × HasShape (shape_of_code rtype) shape × (IsDataOf shape octets → ⊥))
 
 abbrev pub wire_error_text : WireError → List ℕ
 wire_error_text NoDataType = codes "type has no data in zones"

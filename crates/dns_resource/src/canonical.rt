@@ -13,18 +13,19 @@ use dns_canonical::{
 };
 use dns_data::type_row;
 use dns_fields::Field;
+use dns_kinds::{Class, RecordType};
 use dns_octets::{AsOctets, OctetsBuilder, ShortBuf};
 
 /// The fields of data of a type whose names are lowered, and none of another type.
-fn lowered_fields(code: u16, octets: &[u8]) -> &'static [Field]
-    ensures { result.now ≡ fields_to_lower code octets.now }
+fn lowered_fields(rtype: RecordType, octets: &[u8]) -> &'static [Field]
+    ensures { result.now ≡ fields_to_lower rtype octets.now }
 {
-    if !lowers_names(code) {
+    if !lowers_names(rtype) {
         return &[];
     }
-    match type_row(code) {
+    match type_row(rtype) {
         Some(row) => row.shape().fields,
-        None => untexted_fields(code, octets),
+        None => untexted_fields(rtype, octets),
     }
 }
 
@@ -36,28 +37,28 @@ fn lowered_fields(code: u16, octets: &[u8]) -> &'static [Field]
 /// it stands as it is (RFC 3597 section 7). Octets that don't begin with the fields of a text form
 /// are [`CanonicalError::BadData`]. After an error some octets may have been appended.
 pub fn append_canonical_data<B: OctetsBuilder>(
-    code: u16,
+    rtype: RecordType,
     octets: &[u8],
     target: &mut B,
 ) -> Result<(), CanonicalError>
-    ensures ok { OnOk result (B.octets target.new ≡ B.octets target.old ++ canonical_data code octets.now) }
-    ensures err { IfErr result (RefusesFields B.room (fields_to_lower code octets.now) octets.now (B.octets target.old)) }
+    ensures ok { OnOk result (B.octets target.new ≡ B.octets target.old ++ canonical_data rtype octets.now) }
+    ensures err { IfErr result (RefusesFields B.room (fields_to_lower rtype octets.now) octets.now (B.octets target.old)) }
     ensures extends { OnErr result (Extends (B.octets target.old) (B.octets target.new)) }
 {
-    append_canonical_fields(lowered_fields(code, octets), octets, target)
+    append_canonical_fields(lowered_fields(rtype, octets), octets, target)
 }
 
 /// The octets between owner and data of a record on the wire: type, class, time to live, and how
 /// many octets the data has.
-fn middle_octets(code: u16, class: u16, ttl: u32, count: u16) -> [u8; 10]
-    ensures { result ≡ to_be_bytes w16 code ++ to_be_bytes w16 class ++ to_be_bytes w32 ttl ++ to_be_bytes w16 count }
+fn middle_octets(rtype: RecordType, class: Class, ttl: u32, count: u16) -> [u8; 10]
+    ensures { result ≡ to_be_bytes w16 rtype ++ to_be_bytes w16 class ++ to_be_bytes w32 ttl ++ to_be_bytes w16 count }
 {
-    let code = code.to_be_bytes();
-    let class = class.to_be_bytes();
+    let rtype = rtype.0.to_be_bytes();
+    let class = class.0.to_be_bytes();
     let ttl = ttl.to_be_bytes();
     let count = count.to_be_bytes();
     [
-        code[0], code[1], class[0], class[1], ttl[0], ttl[1], ttl[2], ttl[3], count[0], count[1],
+        rtype[0], rtype[1], class[0], class[1], ttl[0], ttl[1], ttl[2], ttl[3], count[0], count[1],
     ]
 }
 
@@ -65,11 +66,11 @@ impl<Octets: AsOctets> Data<Octets> {
     /// Appends the canonical form of the data, as [`append_canonical_data`] does. Where it doesn't
     /// fit, the first octets of it may have been appended.
     pub fn append_canonical<B: OctetsBuilder>(&self, target: &mut B) -> Result<(), ShortBuf>
-        ensures ok { OnOk result (B.octets target.new ≡ B.octets target.old ++ canonical_data self.now.code self.now.octets) }
+        ensures ok { OnOk result (B.octets target.new ≡ B.octets target.old ++ canonical_data self.now.rtype self.now.octets) }
         ensures err { OnErr result (B.room.fits < length (B.octets target.old) + length self.now.octets) }
         ensures extends { OnErr result (Extends (B.octets target.old) (B.octets target.new)) }
     {
-        match append_canonical_data(self.code(), self.as_slice(), target) {
+        match append_canonical_data(self.rtype(), self.as_slice(), target) {
             Ok(()) => Ok(()),
             Err(_) => Err(ShortBuf),
         }
@@ -85,10 +86,10 @@ impl<Owner: AsOctets, Octets: AsOctets> Record<Owner, Octets> {
         ensures err { OnErr result (B.room.fits < length (B.octets target.old) + length (canonical_record self.now)) }
         ensures extends { OnErr result (Extends (B.octets target.old) (B.octets target.new)) }
     {
-        let code = self.data.code();
+        let rtype = self.data.rtype();
         let count = self.data.as_slice().len() as u16;
         append_lowered(name_octets(&self.owner), target)?;
-        target.append_slice(&middle_octets(code, self.class, self.ttl, count))?;
+        target.append_slice(&middle_octets(rtype, self.class, self.ttl, count))?;
         self.data.append_canonical(target)
     }
 }

@@ -6,16 +6,17 @@ ghost use Rattle.dns_resource.specs.WireErrors.{RefusesWire};
 
 use crate::error::WireError;
 use dns_data::{MAX_DATA, check_data, is_data_type, type_row};
+use dns_kinds::RecordType;
 use dns_octets::{AsOctets, OctetsBuilder, ShortBuf};
 use std::marker::Model;
 
-/// The data of a record: the code of its type and its octets on the wire.
+/// The data of a record: its type and its octets on the wire.
 ///
 /// The octets are at most 65,535, and the wire form of the type where the type has a text form. Of
 /// a type without one they are any octets (RFC 3597).
 #[derive(Drop)]
 pub struct Data<Octets: AsOctets> {
-    code: u16,
+    rtype: RecordType,
     octets: Octets,
 }
 
@@ -24,22 +25,22 @@ impl<Octets: AsOctets> Model for Data<Octets> {
 
     ghost Value = { TypeData };
 
-    ghost view = { λ d. record { code = d.code; octets = Octets.octets d.octets } };
+    ghost view = { λ d. record { rtype = d.rtype; octets = Octets.octets d.octets } };
 
-    ghost invariant = { λ d. IsTypeData d.code (Octets.octets d.octets) };
+    ghost invariant = { λ d. IsTypeData d.rtype (Octets.octets d.octets) };
 }
 
 /// Whether octets are data of a type, or why they are none.
-fn check_octets(code: u16, octets: &[u8]) -> Result<(), WireError>
-    ensures { MatchResult result (λ _. IsTypeData code octets.now) (RefusesWire code octets.now) }
+fn check_octets(rtype: RecordType, octets: &[u8]) -> Result<(), WireError>
+    ensures { MatchResult result (λ _. IsTypeData rtype octets.now) (RefusesWire rtype octets.now) }
 {
-    if !is_data_type(code) {
+    if !is_data_type(rtype) {
         return Err(WireError::NoDataType);
     }
     if octets.len() > MAX_DATA {
         return Err(WireError::LongData);
     }
-    let Some(row) = type_row(code) else {
+    let Some(row) = type_row(rtype) else {
         return Ok(());
     };
     if !check_data(&row.shape(), octets) {
@@ -54,31 +55,31 @@ impl<Octets: AsOctets> Data<Octets> {
     /// A type that has no data in zones is [`WireError::NoDataType`], more than 65,535 octets are
     /// [`WireError::LongData`], and octets that are not the wire form of the type
     /// [`WireError::NotOfType`]; the first of these is returned.
-    pub fn from_octets(code: u16, octets: Octets) -> Result<Self, WireError>
+    pub fn from_octets(rtype: RecordType, octets: Octets) -> Result<Self, WireError>
     where
         Octets: Drop,
-        ensures ok { IfOk result (λ d. d ≡ record { code = code; octets = Octets.octets octets }) }
-        ensures accepts { IsOk result ↔ IsTypeData code (Octets.octets octets) }
-        ensures err { IfErr result (RefusesWire code (Octets.octets octets)) }
+        ensures ok { IfOk result (λ d. d ≡ record { rtype = rtype; octets = Octets.octets octets }) }
+        ensures accepts { IsOk result ↔ IsTypeData rtype (Octets.octets octets) }
+        ensures err { IfErr result (RefusesWire rtype (Octets.octets octets)) }
     {
-        match check_octets(code, octets.as_slice()) {
-            Ok(()) => Ok(Data { code, octets }),
+        match check_octets(rtype, octets.as_slice()) {
+            Ok(()) => Ok(Data { rtype, octets }),
             Err(why) => Err(why),
         }
     }
 
-    /// The code of the type.
-    pub fn code(&self) -> u16
-        ensures { result ≡ self.now.code }
+    /// The type.
+    pub fn rtype(&self) -> RecordType
+        ensures { result ≡ self.now.rtype }
     {
-        self.code
+        self.rtype
     }
 
     /// The octets on the wire.
     pub fn as_slice(&self) -> &[u8]
         ensures value { result.now ≡ self.now.octets }
         ensures bytes { AreOctetValues self.now.octets }
-        ensures is_data { IsTypeData self.now.code self.now.octets }
+        ensures is_data { IsTypeData self.now.rtype self.now.octets }
     {
         self.octets.as_slice()
     }

@@ -1,6 +1,7 @@
 //! What holds of record data and of records.
 ghost use Rattle.std.specs.Prelude.{ℕ, ◌≡◌, ◌<◌, ◌^◌, List, length};
 ghost use Rattle.std.specs.Cmp.{IsTotalOrder};
+ghost use Rattle.dns_kinds.specs.declared.types.RecordType.{RecordType};
 ghost use Rattle.dns_spelling.specs.NameSpelling.{IsWireName};
 ghost use Rattle.dns_spelling.specs.PrintedNames.{wire_name_text};
 ghost use Rattle.dns_resource.specs.CanonicalData.{canonical_data, data_order};
@@ -37,8 +38,8 @@ pub fn records_hold_values<Owner: AsOctets, Octets: AsOctets>(one: &Record<Owner
     ensures { AreRecordValues one.now }
 {
     let _owner = name_octets(&one.owner);
-    let _class = number(one.class);
-    let _code = one.data.code();
+    let _class = number(one.class.0);
+    let _type = number(one.data.rtype().0);
     let _octets = one.data.as_slice();
 }
 
@@ -53,8 +54,8 @@ pub fn records_are_read_back<Owner: AsOctets, Octets: AsOctets>(one: &Record<Own
 /// States that data of a type has a canonical form (RFC 4034 section 6.2), which has as many octets.
 /// It does nothing else.
 pub fn type_data_has_a_canonical_form()
-    ensures form { (code : ℕ) (octets : List ℕ) → IsTypeData code octets → HasCanonicalForm code octets }
-    ensures long { (code : ℕ) (octets : List ℕ) → IsTypeData code octets → length (canonical_data code octets) ≡ length octets }
+    ensures form { (rtype : RecordType) (octets : List ℕ) → IsTypeData rtype octets → HasCanonicalForm rtype octets }
+    ensures long { (rtype : RecordType) (octets : List ℕ) → IsTypeData rtype octets → length (canonical_data rtype octets) ≡ length octets }
 {}
 
 /// States that the order of data of types is total. It does nothing else.

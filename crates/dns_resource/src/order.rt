@@ -13,6 +13,7 @@ use crate::record::{Record, name_octets};
 use dns_canonical::{compare_names, compare_octets, compare_untexted, lowers_names};
 use dns_data::type_row;
 use dns_fields::Field;
+use dns_kinds::RecordType;
 use dns_octets::AsOctets;
 use dns_octets::lowered::compare_lowered;
 use std::cmp::Ordering;
@@ -49,28 +50,28 @@ fn compare_in_fields(fields: &[Field], left: &[u8], right: &[u8]) -> Ordering
 }
 
 /// The order of the canonical forms of data of one type.
-fn compare_data(code: u16, left: &[u8], right: &[u8]) -> Ordering
-    requires left { IsTypeData code left.now }
-    requires right { IsTypeData code right.now }
-    ensures { result ≡ octet_order (canonical_data code left.now) (canonical_data code right.now) }
+fn compare_data(rtype: RecordType, left: &[u8], right: &[u8]) -> Ordering
+    requires left { IsTypeData rtype left.now }
+    requires right { IsTypeData rtype right.now }
+    ensures { result ≡ octet_order (canonical_data rtype left.now) (canonical_data rtype right.now) }
 {
-    if !lowers_names(code) {
+    if !lowers_names(rtype) {
         return compare_octets(left, right);
     }
-    match type_row(code) {
+    match type_row(rtype) {
         Some(row) => compare_in_fields(row.shape().fields, left, right),
-        None => compare_untexted(code, left, right),
+        None => compare_untexted(rtype, left, right),
     }
 }
 
 impl<Octets: AsOctets> Data<Octets> {
-    /// The canonical order: by the code of the type, and then by the octets of the canonical form,
+    /// The canonical order: by the number of the type, and then by the octets of the canonical form,
     /// as unsigned numbers. It takes no memory.
     pub fn compare<Others: AsOctets>(&self, other: &Data<Others>) -> Ordering
         ensures { result ≡ data_order self.now other.now }
     {
-        match self.code().cmp(&other.code()) {
-            Ordering::Equal => compare_data(self.code(), self.as_slice(), other.as_slice()),
+        match self.rtype().0.cmp(&other.rtype().0) {
+            Ordering::Equal => compare_data(self.rtype(), self.as_slice(), other.as_slice()),
             order => order,
         }
     }
@@ -86,7 +87,7 @@ impl<Owner: AsOctets, Octets: AsOctets> Record<Owner, Octets> {
         ensures { result ≡ record_order (record_key self.now) (record_key other.now) }
     {
         compare_names(name_octets(&self.owner), name_octets(&other.owner))
-            .then(self.class.cmp(&other.class))
+            .then(self.class.0.cmp(&other.class.0))
             .then_with(|| self.data.compare(&other.data))
     }
 }

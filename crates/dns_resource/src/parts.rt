@@ -34,7 +34,7 @@ impl<Octets: AsOctets> Data<Octets> {
     pub fn part(&self, place: usize) -> Option<&[u8]>
         ensures { MatchOption result (data_part self.now place ≡ None) (λ part. data_part self.now place ≡ Some part.now) }
     {
-        let row = type_row(self.code())?;
+        let row = type_row(self.rtype())?;
         part_in_front(row.shape().fields, place, self.as_slice())
     }
 }

@@ -15,7 +15,7 @@ impl<Octets: AsOctets> ZonefileFmt for Data<Octets> {
     ghost nested = { data_nests };
 
     fn fmt<F: FormatWriter>(&self, p: &mut F) -> zonefile_fmt::Result {
-        match type_row(self.code()) {
+        match type_row(self.rtype()) {
             Some(row) => write_data(&row.shape(), self.as_slice(), p),
             None => write_generic(self.as_slice(), p),
         }

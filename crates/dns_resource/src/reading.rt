@@ -7,8 +7,9 @@ ghost use Rattle.dns_data.specs.Limits.{max_data};
 ghost use Rattle.dns_data.specs.RestLaws.{HoldOctets};
 
 use crate::data::Data;
-use dns_data::{DataError, TypeRefusal, data_of_type};
-use dns_fields::TokenSource;
+use dns_data::data_of_type;
+use dns_fields::{RecordError, TokenSource};
+use dns_kinds::{ErrorKind, RecordType};
 use dns_octets::{AsOctets, AsOctetsMut, EmptyBuilder, FreezeBuilder, OctetsBuilder};
 use dns_wire::Name;
 
@@ -24,33 +25,29 @@ fn know_origin<Octets: AsOctets>(origin: Option<&Name<Octets>>)
 /// The data of a type that the tokens that are left spell, in the text form of the type or as `\#`.
 /// A relative name stands before the origin.
 ///
-/// What is refused is told as by [`data_of_type`], of tokens that hold octets, as those of every text
+/// Errors are those of [`data_of_type`], of tokens that hold octets, as those of every text
 /// do.
 pub fn data_of_tokens<S: TokenSource, Origin: AsOctets, B>(
     alloc: B::Alloc,
-    code: u16,
+    rtype: RecordType,
     origin: Option<&Name<Origin>>,
     source: &mut S,
-) -> Result<Data<B::Octets>, TypeRefusal>
+) -> Result<Data<B::Octets>, RecordError>
 where
     B: OctetsBuilder + AsOctetsMut + EmptyBuilder + FreezeBuilder + Drop,
     B::Octets: Drop,
-    ensures ok { IfOk result (λ d. (d.code ≡ code) × (S.left source.new ≡ []) × SpellsTypeData (option_copied origin.entry) code (S.left source.old) d.octets) }
-    ensures err { HoldOctets (S.left source.old) → IfErr result (λ refusal. (new : List ℕ) × RefusesType (option_copied origin.entry) (within max_data B.room) code (S.end source.old).at (S.left source.old) [] refusal (S.left source.new) new) }
+    ensures ok { IfOk result (λ d. (d.rtype ≡ rtype) × (S.left source.new ≡ []) × SpellsTypeData (option_copied origin.entry) rtype (S.left source.old) d.octets) }
+    ensures err { HoldOctets (S.left source.old) → IfErr result (λ error. (new : List ℕ) × RefusesType (option_copied origin.entry) (within max_data B.room) rtype (S.end source.old).at (S.left source.old) [] error (S.left source.new) new) }
     ensures end { S.end source.new ≡ S.end source.old }
 {
     know_origin(origin);
     let at = source.place();
-    let octets = match data_of_type::<S, Origin, B>(alloc, code, origin, source) {
+    let octets = match data_of_type::<S, Origin, B>(alloc, rtype, origin, source) {
         Ok(octets) => octets,
-        Err(refusal) => return Err(refusal),
+        Err(error) => return Err(error),
     };
-    match Data::from_octets(code, octets) {
+    match Data::from_octets(rtype, octets) {
         Ok(data) => Ok(data),
-        Err(_) => Err(TypeRefusal {
-            part: None,
-            at,
-            why: DataError::NotOfType,
-        }),
+        Err(_) => Err(RecordError::at(at, ErrorKind::NotOfType).of_type(rtype)),
     }
 }

@@ -27,27 +27,26 @@ pub(crate) fn name_octets<Octets: AsOctets>(name: &Name<Octets>) -> &[u8]
 /// The type of a record. It prints as its name where record data of the type print in text form, and
 /// before the generic form as its name only if every reader knows that (RFC 3597 section 5).
 #[derive(Clone, Copy)]
-struct OwnType(u16);
+struct OwnType(RecordType);
 
 impl fmt::Display for OwnType {
     ghost output = { λ t. Some (record_type_text t.0) };
 
     fn fmt<W: fmt::Write>(&self, f: &mut fmt::Formatter<W>) -> fmt::Result {
-        let own = RecordType(self.0);
         match type_row(self.0) {
-            Some(_) => write!(f, "{own}"),
-            None => write!(f, "{}", PortableType(own)),
+            Some(_) => write!(f, "{}", self.0),
+            None => write!(f, "{}", PortableType(self.0)),
         }
     }
 }
 
-/// A record (RFC 1035 section 3.2): its owner, its time to live in seconds, the code of its class,
+/// A record (RFC 1035 section 3.2): its owner, its time to live in seconds, its class,
 /// and its data, which has the type.
 #[derive(Drop)]
 pub struct Record<Owner: AsOctets, Octets: AsOctets> {
     pub owner: Name<Owner>,
     pub ttl: u32,
-    pub class: u16,
+    pub class: Class,
     pub data: Data<Octets>,
 }
 
@@ -61,8 +60,8 @@ impl<Owner: AsOctets, Octets: AsOctets> ZonefileFmt for Record<Owner, Octets> {
     fn fmt<F: FormatWriter>(&self, p: &mut F) -> zonefile_fmt::Result {
         p.write_token(NameText(name_octets(&self.owner)))?;
         p.write_token(self.ttl)?;
-        p.write_token(Class(self.class))?;
-        p.write_token(OwnType(self.data.code()))?;
+        p.write_token(self.class)?;
+        p.write_token(OwnType(self.data.rtype()))?;
         p.block(&self.data)
     }
 }

@@ -1,10 +1,12 @@
 //! Record data whose type a program knows.
 ghost use Rattle.std.specs.Prelude.{◌≡◌, ◌↔◌, Some, IsOk, IfOk, IfErr};
 ghost use Rattle.std.specs.Int.{to_be_bytes, w16};
+ghost use Rattle.dns_kinds.specs.Rtype.{mx};
 ghost use Rattle.dns_spelling.specs.NameSpelling.{IsWireName};
 ghost use Rattle.dns_resource.specs.Parts.{data_part};
 
 use crate::data::Data;
+use dns_kinds::RecordType;
 use dns_octets::AsOctets;
 use std::marker::Model;
 
@@ -22,17 +24,17 @@ impl<const CODE: u16, Octets: AsOctets> Model for TypedData<CODE, Octets> {
 
     ghost view = { λ t. t.«data» };
 
-    ghost invariant = { λ t. t.«data».code ≡ CODE };
+    ghost invariant = { λ t. t.«data».rtype ≡ CODE };
 }
 
 impl<const CODE: u16, Octets: AsOctets> TypedData<CODE, Octets> {
     /// The data, if it has the type. Data of another type comes back.
     pub fn new(data: Data<Octets>) -> Result<Self, Data<Octets>>
         ensures ok { IfOk result (λ t. t ≡ «data») }
-        ensures accepts { IsOk result ↔ («data».code ≡ CODE) }
+        ensures accepts { IsOk result ↔ («data».rtype ≡ CODE) }
         ensures err { IfErr result (λ d. d ≡ «data») }
     {
-        if data.code() != CODE {
+        if data.rtype().0 != CODE {
             return Err(data);
         }
         Ok(TypedData { data })
@@ -41,7 +43,7 @@ impl<const CODE: u16, Octets: AsOctets> TypedData<CODE, Octets> {
     /// The data.
     pub fn as_data(&self) -> &Data<Octets>
         ensures value { result.now ≡ self.now }
-        ensures code { self.now.code ≡ CODE }
+        ensures rtype { self.now.rtype ≡ CODE }
     {
         &self.data
     }
@@ -55,26 +57,26 @@ impl<const CODE: u16, Octets: AsOctets> TypedData<CODE, Octets> {
 }
 
 /// Data of A (RFC 1035 section 3.4.1).
-pub type A<Octets> = TypedData<1, Octets>;
+pub type A<Octets> = TypedData<{ RecordType::A.0 }, Octets>;
 
 /// Data of NS (RFC 1035 section 3.3.11).
-pub type Ns<Octets> = TypedData<2, Octets>;
+pub type Ns<Octets> = TypedData<{ RecordType::NS.0 }, Octets>;
 
 /// Data of CNAME (RFC 1035 section 3.3.1).
-pub type Cname<Octets> = TypedData<5, Octets>;
+pub type Cname<Octets> = TypedData<{ RecordType::CNAME.0 }, Octets>;
 
 /// Data of SOA (RFC 1035 section 3.3.13).
-pub type Soa<Octets> = TypedData<6, Octets>;
+pub type Soa<Octets> = TypedData<{ RecordType::SOA.0 }, Octets>;
 
 /// Data of PTR (RFC 1035 section 3.3.12).
-pub type Ptr<Octets> = TypedData<12, Octets>;
+pub type Ptr<Octets> = TypedData<{ RecordType::PTR.0 }, Octets>;
 
 /// Data of MX (RFC 1035 section 3.3.9).
-pub type Mx<Octets> = TypedData<15, Octets>;
+pub type Mx<Octets> = TypedData<{ RecordType::MX.0 }, Octets>;
 
 /// The preference in data of MX.
 fn preference_of<Octets: AsOctets>(mail: &Data<Octets>) -> u16
-    requires { mail.now.code ≡ 15 }
+    requires { mail.now.rtype ≡ mx }
     ensures { data_part mail.now 0 ≡ Some (to_be_bytes w16 result) }
 {
     // No effect at run time: the proof reads that the octets are data of the type.
@@ -87,7 +89,7 @@ fn preference_of<Octets: AsOctets>(mail: &Data<Octets>) -> u16
 
 /// The host in data of MX.
 fn exchange_of<Octets: AsOctets>(mail: &Data<Octets>) -> &[u8]
-    requires { mail.now.code ≡ 15 }
+    requires { mail.now.rtype ≡ mx }
     ensures part { data_part mail.now 1 ≡ Some result.now }
     ensures name { IsWireName result.now }
 {
@@ -116,31 +118,31 @@ impl<Octets: AsOctets> Mx<Octets> {
 }
 
 /// Data of TXT (RFC 1035 section 3.3.14).
-pub type Txt<Octets> = TypedData<16, Octets>;
+pub type Txt<Octets> = TypedData<{ RecordType::TXT.0 }, Octets>;
 
 /// Data of AAAA (RFC 3596 section 2.2).
-pub type Aaaa<Octets> = TypedData<28, Octets>;
+pub type Aaaa<Octets> = TypedData<{ RecordType::AAAA.0 }, Octets>;
 
 /// Data of SRV (RFC 2782).
-pub type Srv<Octets> = TypedData<33, Octets>;
+pub type Srv<Octets> = TypedData<{ RecordType::SRV.0 }, Octets>;
 
 /// Data of DNAME (RFC 6672 section 2.1).
-pub type Dname<Octets> = TypedData<39, Octets>;
+pub type Dname<Octets> = TypedData<{ RecordType::DNAME.0 }, Octets>;
 
 /// Data of DS (RFC 4034 section 5.1).
-pub type Ds<Octets> = TypedData<43, Octets>;
+pub type Ds<Octets> = TypedData<{ RecordType::DS.0 }, Octets>;
 
 /// Data of RRSIG (RFC 4034 section 3.1).
-pub type Rrsig<Octets> = TypedData<46, Octets>;
+pub type Rrsig<Octets> = TypedData<{ RecordType::RRSIG.0 }, Octets>;
 
 /// Data of NSEC (RFC 4034 section 4.1).
-pub type Nsec<Octets> = TypedData<47, Octets>;
+pub type Nsec<Octets> = TypedData<{ RecordType::NSEC.0 }, Octets>;
 
 /// Data of DNSKEY (RFC 4034 section 2.1).
-pub type Dnskey<Octets> = TypedData<48, Octets>;
+pub type Dnskey<Octets> = TypedData<{ RecordType::DNSKEY.0 }, Octets>;
 
 /// Data of NSEC3 (RFC 5155 section 3.2).
-pub type Nsec3<Octets> = TypedData<50, Octets>;
+pub type Nsec3<Octets> = TypedData<{ RecordType::NSEC3.0 }, Octets>;
 
 /// Data of CAA (RFC 8659 section 4.1).
-pub type Caa<Octets> = TypedData<257, Octets>;
+pub type Caa<Octets> = TypedData<{ RecordType::CAA.0 }, Octets>;

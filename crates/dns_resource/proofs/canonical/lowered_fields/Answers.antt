@@ -3,4 +3,4 @@ use Rattle.dns_resource.proofs.CanonicalForms.{fields_kept}
 use Rattle.dns_resource.proofs.canonical.lowered_fields.Goals as goal
 
 pub returns-then-not-lowers_names : goal.returns-then-not-lowers_names
-returns-then-not-lowers_names c = fields_kept c.args.code c.args.octets.now (λ h. true≢false (sym (c.lowers_names.ensures.1 h) ∙ c.if-not-lowers_names.true))
+returns-then-not-lowers_names c = fields_kept c.args.rtype c.args.octets.now (λ h. true≢false (sym (c.lowers_names.ensures.1 h) ∙ c.if-not-lowers_names.true))

@@ -4,9 +4,9 @@ use Rattle.std.proofs.lemmas.Cmp.{ranked}
 use Rattle.dns_resource.proofs.data.Data.compare.Goals as goal
 
 pub compare_data-requires-clause-left : goal.compare_data-requires-clause-left
-compare_data-requires-clause-left g c = rw (c.as_slice.ensures.value, c.code-in-Equal.ensures) c.as_slice.ensures.is_data
+compare_data-requires-clause-left g c = rw (c.as_slice.ensures.value, c.rtype-in-Equal.ensures) c.as_slice.ensures.is_data
 
 pub compare_data-requires-clause-right : goal.compare_data-requires-clause-right
 compare_data-requires-clause-right g c =
-    let same = sym c.code.ensures ∙ ranked c.code.result c.code-2.result Equal (sym c.in-Equal.is ∙ c.cmp.ensures) ∙ c.code-2.ensures in
-    rw (c.as_slice-in-Equal.ensures.value, c.code-in-Equal.ensures, same) c.as_slice-in-Equal.ensures.is_data
+    let same = sym c.rtype.ensures ∙ ranked c.rtype.result c.rtype-2.result Equal (sym c.in-Equal.is ∙ c.cmp.ensures) ∙ c.rtype-2.ensures in
+    rw (c.as_slice-in-Equal.ensures.value, c.rtype-in-Equal.ensures, same) c.as_slice-in-Equal.ensures.is_data

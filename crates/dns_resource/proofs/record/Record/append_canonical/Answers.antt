@@ -8,8 +8,8 @@ returns-clause-ok g c =
     let octets = g.B.AsOctets.octets in
     let first = octets c.append_lowered.new.target in
     on_ok_weaker c.append_canonical.result
-    (record_gained c.args.self.now c.as_slice.ensures.is_data (octets c.args.target.now) first (octets c.append_slice.new.self) (octets c.append_canonical.new.target) c.name_octets.result.now c.code-code.result
-    (length c.as_slice.result.now) c.name_octets.ensures.value c.code-code.ensures (ap length c.as_slice.ensures.value) c.in_ok-append_lowered.ensures.ok
+    (record_gained c.args.self.now c.as_slice.ensures.is_data (octets c.args.target.now) first (octets c.append_slice.new.self) (octets c.append_canonical.new.target) c.name_octets.result.now c.rtype-rtype.result
+    (length c.as_slice.result.now) c.name_octets.ensures.value c.rtype-rtype.ensures (ap length c.as_slice.ensures.value) c.in_ok-append_lowered.ensures.ok
     (c.in_ok-append_slice.ensures.ok ∙ ap (λ m. first ++ m) c.middle_octets.ensures))
     c.append_canonical.ensures.ok
 

@@ -4,4 +4,4 @@ use Rattle.dns_resource.specs.Records.{data_of}
 use Rattle.dns_resource.proofs.record.RecordZonefileFmt.fmt.Goals as goal
 
 pub block-requires : goal.block-requires
-block-requires g c = let own = data_of c.args.self.now in λ line. absurd (true≢false (sym line ∙ tokens_have_no_line (data_tokens own.code own.octets)))
+block-requires g c = let own = data_of c.args.self.now in λ line. absurd (true≢false (sym line ∙ tokens_have_no_line (data_tokens own.rtype own.octets)))
