@@ -1,4 +1,5 @@
 use Rattle.std.proofs.Common.{ap, inl, ◌∙◌}
+use Rattle.dns_fields.specs.RecordErrors.{error_at}
 use Rattle.dns_fields.specs.Source.{next_place}
 use Rattle.dns_places.proofs.LocationOnce.{refused_none}
 use Rattle.dns_places.proofs.LocationPlaceLemmas.{first_refused}
@@ -6,7 +7,8 @@ use Rattle.dns_places.proofs.location.take_location.Goals as goal
 
 pub returns-in-Err-clause-why : goal.returns-in-Err-clause-why
 returns-in-Err-clause-why g c =
-    let h = c.in-Err.ensures.takes in (
-      c.place-in-Err.ensures ∙ ap (λ e. next_place (g.S.TokenSource.left c.read_location.new.source) e.at) c.in-Err.ensures.end,
-      inl (h, first_refused c.in-Err.why _ _ h, λ octets k. refused_none c.in-Err.why _ _ h k.0 k.1),
+    let h = c.in-Err.ensures.takes in let why = c.in-Err.why in
+    rw c.at-in-Err.ensures (
+      ap (λ p. error_at p why) (c.place-in-Err.ensures ∙ ap (λ e. next_place (g.S.TokenSource.left c.read_location.new.source) e.at) c.in-Err.ensures.end),
+      inl (h, first_refused why _ _ h, λ octets k. refused_none why _ _ h k.0 k.1),
     )
