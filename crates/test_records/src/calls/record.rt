@@ -31,7 +31,7 @@ fn rtype_of(text: &[u8], answer: &mut Answer) -> RecordType {
         Ok(rtype) => rtype,
         Err(_) => {
             answer.fail(Failure::BadInputs);
-            RecordType(0)
+            RecordType::A
         }
     }
 }
