@@ -298,7 +298,10 @@ impl<'a> Checker<'a> {
         if self.seen.is_some() {
             return Ok(());
         }
-        let (Ok(owner), Ok(data)) = (entry.state.owner(), Data::from_octets(RecordType::SOA, entry.data)) else {
+        let (Ok(owner), Ok(data)) = (
+            entry.state.owner(),
+            Data::from_octets(RecordType::SOA, entry.data),
+        ) else {
             return Err(Stop::Damaged);
         };
         let (Ok(zone), Some(serial)) = (NameBuffer::from_labels((), owner), serial_of(&data)) else {
@@ -421,11 +424,7 @@ impl<'a> Checker<'a> {
     }
 
     /// Stores the RRset of a refused record, if records are held and its owner and its type are known.
-    fn hold_refused(
-        &mut self,
-        entry: &Entry<'_>,
-        rtype: Option<RecordType>,
-    ) -> Result<(), Stop> {
+    fn hold_refused(&mut self, entry: &Entry<'_>, rtype: Option<RecordType>) -> Result<(), Stop> {
         match (&mut self.held, rtype, entry.state.owner()) {
             (Some(held), Some(rtype), Ok(owner)) => held.refused.add(owner.as_slice(), rtype),
             _ => Ok(()),

@@ -473,7 +473,10 @@ fn put(rt: &HostRuntime, original: Original, text: &[u8]) -> Result<(), Unwritte
 /// Whether records are signed.
 fn is_signed(set: &NumberedSet<'_>) -> bool {
     for record in set.as_slice() {
-        if matches!(record.data.rtype(), RecordType::RRSIG | RecordType::NSEC | RecordType::NSEC3) {
+        if matches!(
+            record.data.rtype(),
+            RecordType::RRSIG | RecordType::NSEC | RecordType::NSEC3
+        ) {
             return true;
         }
     }

@@ -21,11 +21,7 @@ fn refused_field(error: &RecordError, rtype: RecordType) -> Option<&'static str>
 }
 
 /// What is said of a refused entry.
-pub fn refusal_text(
-    alloc: Global,
-    error: &RecordError,
-    code: Code,
-) -> Result<String, AllocError> {
+pub fn refusal_text(alloc: Global, error: &RecordError, code: Code) -> Result<String, AllocError> {
     let why = reason_of(error.kind);
     match error.rtype {
         Some(rtype) => match refused_field(error, rtype) {

@@ -1,8 +1,8 @@
 //! Octets in digits, and how long hashes, salts and digests are.
 use super::tell::{Octets, number8, tell, tell_width};
 use dns_digits::{
-    Digests, DigitsKind, DigitsReader, append_base32hex, append_base64, append_hex,
-    hash_width, is_digest_length, salt_width,
+    Digests, DigitsKind, DigitsReader, append_base32hex, append_base64, append_hex, hash_width,
+    is_digest_length, salt_width,
 };
 use dns_kinds::ErrorKind;
 use row_table::input::number_of;
