@@ -12,7 +12,7 @@ use Rattle.dns_kinds.specs.Time.{IsDate, SpellsDate, seconds_at, date_at, date_t
 use Rattle.dns_kinds.specs.Ttl.{SpellsInterval}
 use Rattle.dns_kinds.specs.Types.{SpellsPortable, portable_text, SpellsSigType, sig_type_text}
 use Rattle.dns_kinds.specs.declared.addresses.Ipv6Shown.{Ipv6Shown}
-use Rattle.dns_kinds.specs.declared.error.KindError.TheVariants.{ExpectedIpv4, ExpectedIpv6, ExpectedInterval, UnknownType, UnknownAlgorithm, UnknownCertificate, ExpectedEui48, ExpectedEui64, ExpectedTime, ExpectedLocator}
+use Rattle.dns_kinds.specs.declared.error.ErrorKind.TheVariants.{ExpectedIpv4, ExpectedIpv6, ExpectedInterval, UnknownType, UnknownAlgorithm, UnknownCertificate, ExpectedEui48, ExpectedEui64, ExpectedTime, ExpectedLocator}
 use Rattle.dns_fields.specs.declared.field.Field.{Field}
 use Rattle.dns_fields.specs.declared.field.Field.TheVariants.{Number8 as OfNumber8, Number16 as OfNumber16, Number32 as OfNumber32, Interval as OfInterval, Ipv4 as OfIpv4, Ipv6 as OfIpv6, RecordType as OfRecordType, SigType as OfSigType, Algorithm as OfAlgorithm, CertificateType as OfCertificateType, Eui48 as OfEui48, Eui64 as OfEui64, Time as OfTime, Locator as OfLocator, String as OfString, PsdnAddress as OfPsdnAddress, Tag as OfTag, Salt as OfSalt, Hash as OfHash, Name as OfName}
 use Rattle.dns_fields.specs.declared.words.Interval.{Interval as Seconds}
@@ -28,8 +28,8 @@ field_form origin OfNumber32 = word_form 4 (λ n. n < 2 ^ 32) (SpellsBelow (2 ^ 
 field_form origin OfInterval = word_form 4 (λ (n : Seconds). n.0 < 2 ^ 32) (λ text n. SpellsInterval text n.0) (λ _ e. e ≡ ExpectedInterval) (λ n. to_be_bytes w32 n.0) (λ octets. decimal (from_be_bytes w32 octets))
 field_form origin OfIpv4 = word_form 4 IsIpv4Addr IsIpv4Text (λ _ e. e ≡ ExpectedIpv4) ipv4_octets ipv4_text
 field_form origin OfIpv6 = word_form 16 (λ (a : Ipv6Shown). IsIpv6Addr a.0) (λ text a. IsIpv6Text text a.0) (λ _ e. e ≡ ExpectedIpv6) (λ a. ipv6_octets a.0) (λ octets. shown_ipv6 (segments_of octets))
-field_form origin OfRecordType = word_form 2 (λ t. t.0.0 < 2 ^ 16) SpellsPortable (λ _ e. e ≡ UnknownType) (λ t. to_be_bytes w16 t.0.0) (λ octets. portable_text (record { 0 = from_be_bytes w16 octets }))
-field_form origin OfSigType = word_form 2 (λ t. t.0.0 < 2 ^ 16) SpellsSigType (λ _ e. e ≡ UnknownType) (λ t. to_be_bytes w16 t.0.0) (λ octets. sig_type_text (record { 0 = from_be_bytes w16 octets }))
+field_form origin OfRecordType = word_form 2 (λ t. t.0 < 2 ^ 16) SpellsPortable (λ _ e. e ≡ UnknownType) (λ t. to_be_bytes w16 t.0) (λ octets. portable_text (from_be_bytes w16 octets))
+field_form origin OfSigType = word_form 2 (λ t. t.0 < 2 ^ 16) SpellsSigType (λ _ e. e ≡ UnknownType) (λ t. to_be_bytes w16 t.0) (λ octets. sig_type_text (from_be_bytes w16 octets))
 field_form origin OfAlgorithm = word_form 1 (λ a. a.0 < 2 ^ 8) SpellsAlgorithm (λ _ e. e ≡ UnknownAlgorithm) (λ a. a.0 ∷ []) (λ octets. decimal (slice_index octets 0))
 field_form origin OfCertificateType = word_form 2 (λ t. t.0 < 2 ^ 16) SpellsCertificate (λ _ e. e ≡ UnknownCertificate) (λ t. to_be_bytes w16 t.0) (λ octets. certificate_text (record { 0 = from_be_bytes w16 octets }))
 field_form origin OfEui48 = word_form 6 (λ e. AreEuiOctets 6 e.0) SpellsEui48 (λ _ e. e ≡ ExpectedEui48) (λ e. e.0) dashed_text

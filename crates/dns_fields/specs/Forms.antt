@@ -10,23 +10,19 @@ use Rattle.dns_spelling.specs.Spelling.{AreOctetValues, SpellsToBadEscape, Spell
 use Rattle.dns_spelling.specs.Forms.{StandInFront, IsWireString, SpellsString, IsTag, IsWireTag, SpellsTag}
 use Rattle.dns_spelling.specs.NameSpelling.{SpellsName, IsWireName, WhyNoName}
 use Rattle.dns_spelling.specs.PrintedNames.{wire_name_text}
-use Rattle.dns_spelling.specs.declared.error.SpellingError.{SpellingError}
 use Rattle.dns_spelling.specs.Shown.{string_in_quotes, tag_text}
-use Rattle.dns_spelling.specs.declared.error.SpellingError.TheVariants.{BadEscape, LongString, BadTag}
 use Rattle.dns_codec.specs.Base.{base32hex, encoded}
 use Rattle.dns_digits.specs.Hashes.{SpellsHash, hash_refusal}
 use Rattle.dns_kinds.specs.Salt.{SpellsSalt, salt_text}
-use Rattle.dns_kinds.specs.declared.error.KindError.TheVariants.{ExpectedSalt, ExpectedPsdnAddress}
-use Rattle.dns_kinds.specs.declared.error.KindError.{KindError}
-use Rattle.dns_fields.specs.declared.error.FieldError.{FieldError}
-use Rattle.dns_fields.specs.declared.error.FieldError.TheVariants.{ShortBuf, EndOfEntry, Quoted, Kind, Spelling, Digits}
+use Rattle.dns_kinds.specs.declared.error.ErrorKind.{ErrorKind}
+use Rattle.dns_kinds.specs.declared.error.ErrorKind.TheVariants.{ShortBuf, Quoted, BadEscape, LongString, BadTag, ExpectedSalt, ExpectedPsdnAddress}
 use Rattle.dns_fields.specs.Words.{SpellsAs, AreOctetsOf}
 
 pub record FieldForm : Type 1 where
   -- a token, by whether it is a quoted text and by what it holds, spells a field of these octets
   pub spells : Bool → List ℕ → List ℕ → Type 0
   -- why a token that spells none is refused
-  pub reason : Bool → List ℕ → FieldError → Type 0
+  pub reason : Bool → List ℕ → ErrorKind → Type 0
   -- the octets that a field can have
   pub is_wire : List ℕ → Type 0
   -- whether it is printed as a quoted text, and what that token holds
@@ -46,16 +42,11 @@ pub record IsFieldForm (f : FieldForm) : Type 0 where
   pub in_front : StandInFront f.is_wire
 
 -- why a word is refused: it is a quoted text; or it spells no value of its kind
-abbrev pub WordReason : (List ℕ → KindError → Type 0) → Bool → List ℕ → FieldError → Type 0
-WordReason reason quoted text ShortBuf = ⊥
-WordReason reason quoted text EndOfEntry = ⊥
-WordReason reason quoted text Quoted = quoted ≡ true
-WordReason reason quoted text (Kind e) = (quoted ≡ false) × reason text e
-WordReason reason quoted text (Spelling e) = ⊥
-WordReason reason quoted text (Digits e) = ⊥
+abbrev pub WordReason : (List ℕ → ErrorKind → Type 0) → Bool → List ℕ → ErrorKind → Type 0
+WordReason reason quoted text e = ((e ≡ Quoted) × (quoted ≡ true)) ⊎ ((quoted ≡ false) × reason text e)
 
 -- a word of a kind whose values have so many octets
-abbrev pub word_form : {V : Type 0} → ℕ → (V → Type 0) → (List ℕ → V → Type 0) → (List ℕ → KindError → Type 0) → (V → List ℕ) → (List ℕ → List ℕ) → FieldForm
+abbrev pub word_form : {V : Type 0} → ℕ → (V → Type 0) → (List ℕ → V → Type 0) → (List ℕ → ErrorKind → Type 0) → (V → List ℕ) → (List ℕ → List ℕ) → FieldForm
 word_form width valid spells reason wire printed = record {
   spells = λ quoted text octets. (quoted ≡ false) × SpellsAs valid spells wire text octets;
   reason = WordReason reason;
@@ -65,15 +56,10 @@ word_form width valid spells reason wire printed = record {
 }
 
 -- why a text spells no character string: it has a bad escape, or spells too many octets
-abbrev pub StringReason : Bool → List ℕ → FieldError → Type 0
-StringReason quoted text ShortBuf = ⊥
-StringReason quoted text EndOfEntry = ⊥
-StringReason quoted text Quoted = ⊥
-StringReason quoted text (Kind e) = ⊥
-StringReason quoted text (Spelling BadEscape) = SpellsToBadEscape text
-StringReason quoted text (Spelling LongString) = (octets : List ℕ) × SpellsOctetList text octets × (255 < length octets)
-StringReason quoted text (Spelling e) = ⊥
-StringReason quoted text (Digits e) = ⊥
+abbrev pub StringReason : Bool → List ℕ → ErrorKind → Type 0
+StringReason quoted text BadEscape = SpellsToBadEscape text
+StringReason quoted text LongString = (octets : List ℕ) × SpellsOctetList text octets × (255 < length octets)
+StringReason quoted text other = ⊥
 
 -- a character string, whether in quotes or not; it is printed in quotes
 abbrev pub string_form : FieldForm
@@ -101,8 +87,8 @@ pub record IsWirePsdnAddress (form : List ℕ) : Type 0 where
 abbrev pub SpellsPsdnAddress : List ℕ → List ℕ → Type 0
 SpellsPsdnAddress text form = IsPsdnAddress text × (form ≡ length text ∷ text)
 
-abbrev pub PsdnAddressReason : Bool → List ℕ → FieldError → Type 0
-PsdnAddressReason quoted text e = (e ≡ Kind ExpectedPsdnAddress) × (IsPsdnAddress text → ⊥)
+abbrev pub PsdnAddressReason : Bool → List ℕ → ErrorKind → Type 0
+PsdnAddressReason quoted text e = (e ≡ ExpectedPsdnAddress) × (IsPsdnAddress text → ⊥)
 
 -- an address, whether in quotes or not; it is printed in quotes
 abbrev pub psdn_address_form : FieldForm
@@ -115,8 +101,8 @@ psdn_address_form = record {
 }
 
 -- why a token is no tag
-abbrev pub TagReason : Bool → List ℕ → FieldError → Type 0
-TagReason quoted text e = ((e ≡ Quoted) × (quoted ≡ true)) ⊎ ((e ≡ Spelling BadTag) × (quoted ≡ false) × (IsTag text → ⊥))
+abbrev pub TagReason : Bool → List ℕ → ErrorKind → Type 0
+TagReason quoted text e = ((e ≡ Quoted) × (quoted ≡ true)) ⊎ ((e ≡ BadTag) × (quoted ≡ false) × (IsTag text → ⊥))
 
 -- a tag, without quotes
 abbrev pub tag_form : FieldForm
@@ -152,8 +138,8 @@ pub record IsWireHash (form : List ℕ) : Type 0 where
   pub whole : form ≡ length octets ∷ octets
 
 -- why a token is no hash: it is a quoted text; or its digits are none of a hash
-abbrev pub HashReason : Bool → List ℕ → FieldError → Type 0
-HashReason quoted text e = ((e ≡ Quoted) × (quoted ≡ true)) ⊎ ((e ≡ Digits (hash_refusal text)) × (quoted ≡ false))
+abbrev pub HashReason : Bool → List ℕ → ErrorKind → Type 0
+HashReason quoted text e = ((e ≡ Quoted) × (quoted ≡ true)) ⊎ ((e ≡ hash_refusal text) × (quoted ≡ false))
 
 -- a hash in base 32 hex without padding, as one word
 abbrev pub hash_form : FieldForm
@@ -166,8 +152,8 @@ hash_form = record {
 }
 
 -- why a token is no name: it is a quoted text; or something is wrong with the text
-abbrev pub NameReason : Option (List (List ℕ)) → Bool → List ℕ → FieldError → Type 0
-NameReason origin quoted text e = ((e ≡ Quoted) × (quoted ≡ true)) ⊎ ((why : SpellingError) × (e ≡ Spelling why) × (quoted ≡ false) × WhyNoName origin text why)
+abbrev pub NameReason : Option (List (List ℕ)) → Bool → List ℕ → ErrorKind → Type 0
+NameReason origin quoted text e = ((e ≡ Quoted) × (quoted ≡ true)) ⊎ ((quoted ≡ false) × WhyNoName origin text e)
 
 -- a name, without quotes; a relative one stands before the origin
 abbrev pub name_form : Option (List (List ℕ)) → FieldForm
@@ -180,12 +166,12 @@ name_form origin = record {
 }
 
 -- why a token was not taken as a field: its octets don't surely fit; or it spells none, and this is why
-abbrev pub RefusesField : Room → (List ℕ → Type 0) → (FieldError → Type 0) → List ℕ → FieldError → Type 0
+abbrev pub RefusesField : Room → (List ℕ → Type 0) → (ErrorKind → Type 0) → List ℕ → ErrorKind → Type 0
 RefusesField room spelled reason old e = ((e ≡ ShortBuf) × LacksRoom room spelled old) ⊎ (reason e × ((octets : List ℕ) → spelled octets → ⊥))
 
 -- A token is read as a field: the target gains the octets that it spells; or it is refused, and the
 -- target has what it had, with more behind it.
-pub record ReadsField (room : Room) (f : FieldForm) (quoted : Bool) (text old : List ℕ) (r : Result (Unit {0}) FieldError) (new : List ℕ) : Type 0 where
+pub record ReadsField (room : Room) (f : FieldForm) (quoted : Bool) (text old : List ℕ) (r : Result (Unit {0}) ErrorKind) (new : List ℕ) : Type 0 where
   pub gains : OnOk r (Gains (f.spells quoted text) old new)
   pub refused : IfErr r (RefusesField room (f.spells quoted text) (f.reason quoted text) old)
   pub extends : OnErr r (Extends old new)

@@ -3,13 +3,13 @@ use Rattle.std.specs.Prelude.{ℕ, Option, suc, length, replicate, ◌≡◌, �
 use Rattle.dns_octets.specs.Room.{Room}
 use Rattle.dns_octets.specs.Appending.{Extends, Gains}
 use Rattle.dns_split.specs.EntryTokens.{TokenSeen}
-use Rattle.dns_fields.specs.declared.error.FieldError.{FieldError}
-use Rattle.dns_fields.specs.declared.error.FieldError.TheVariants.{EndOfEntry}
+use Rattle.dns_kinds.specs.declared.error.ErrorKind.{ErrorKind}
+use Rattle.dns_kinds.specs.declared.error.ErrorKind.TheVariants.{EndOfEntry}
 use Rattle.dns_fields.specs.declared.field.Field.{Field}
-use Rattle.dns_fields.specs.declared.taking.FieldRefusal.{FieldRefusal}
-use Rattle.dns_fields.specs.declared.taking.Refusal.{Refusal}
+use Rattle.dns_fields.specs.declared.record_error.RecordError.{RecordError}
 use Rattle.dns_fields.specs.Fields.{field_form}
 use Rattle.dns_fields.specs.Forms.{RefusesField}
+use Rattle.dns_fields.specs.RecordErrors.{IsErrorAt, IsErrorInField}
 use Rattle.dns_fields.specs.Source.{next_place}
 
 -- the token spells the field
@@ -24,14 +24,14 @@ SpellsFields origin (f ∷ fs) [] octets = ⊥
 SpellsFields origin (f ∷ fs) (t ∷ ts) octets = (front : List ℕ) × (back : List ℕ) × (octets ≡ front ++ back) × SpellsField origin f t front × SpellsFields origin fs ts back
 
 -- why the next token is not taken as a field: there is none; or it is refused
-abbrev pub RefusesNext : Option (List (List ℕ)) → Room → Field → List TokenSeen → List ℕ → FieldError → Type 0
+abbrev pub RefusesNext : Option (List (List ℕ)) → Room → Field → List TokenSeen → List ℕ → ErrorKind → Type 0
 RefusesNext origin room f [] old e = e ≡ EndOfEntry
 RefusesNext origin room f (t ∷ ts) old e = RefusesField room (SpellsField origin f t) ((field_form origin f).reason t.is_quoted t.text) old e
 
 -- the next token is taken as a field; or it is refused at its place, and nothing is taken
-abbrev pub TakesField : Option (List (List ℕ)) → Room → Field → ℕ → List TokenSeen → List ℕ → Result (Unit {0}) Refusal → List TokenSeen → List ℕ → Type 0
+abbrev pub TakesField : Option (List (List ℕ)) → Room → Field → ℕ → List TokenSeen → List ℕ → Result (Unit {0}) RecordError → List TokenSeen → List ℕ → Type 0
 TakesField origin room f end tokens old (Ok _) left new = (t : TokenSeen) × (tokens ≡ t ∷ left) × Gains (SpellsField origin f t) old new
-TakesField origin room f end tokens old (Err r) left new = (left ≡ tokens) × (r.at ≡ next_place tokens end) × RefusesNext origin room f tokens old r.why × Extends old new
+TakesField origin room f end tokens old (Err e) left new = (left ≡ tokens) × IsErrorAt (next_place tokens end) e × RefusesNext origin room f tokens old e.kind × Extends old new
 
 -- the first of the tokens are taken as the fields, one each, and the target gained their octets
 pub record HasTaken (origin : Option (List (List ℕ))) (fields : List Field) (tokens : List TokenSeen) (old : List ℕ) (left : List TokenSeen) (new : List ℕ) : Type 0 where
@@ -41,14 +41,13 @@ pub record HasTaken (origin : Option (List (List ℕ))) (fields : List Field) (t
   pub spelled : SpellsFields origin fields taken octets
   pub gained : new ≡ old ++ octets
 
--- the fields before one are taken, and that one is refused
-pub record RefusesAField (origin : Option (List (List ℕ))) (room : Room) (fields : List Field) (end : ℕ) (tokens : List TokenSeen) (old : List ℕ) (r : FieldRefusal) (left : List TokenSeen) (new : List ℕ) : Type 0 where
+-- the fields before a place are taken, and the one there is refused
+pub record RefusesAField (origin : Option (List (List ℕ))) (room : Room) (fields : List Field) (tokens : List TokenSeen) (old : List ℕ) (place : ℕ) (e : ErrorKind) (left : List TokenSeen) (new : List ℕ) : Type 0 where
   pub field : Field
-  pub is_field : slice_get fields r.field ≡ Some field
+  pub is_field : slice_get fields place ≡ Some field
   pub middle : List ℕ
-  pub before : HasTaken origin (take r.field fields) tokens old left middle
-  pub at : r.refusal.at ≡ next_place left end
-  pub why : RefusesNext origin room field left middle r.refusal.why
+  pub before : HasTaken origin (take place fields) tokens old left middle
+  pub why : RefusesNext origin room field left middle e
   pub extends : Extends middle new
 
 -- the place of the last of the tokens that are taken as fields
@@ -56,15 +55,15 @@ abbrev pub last_place : List Field → List TokenSeen → ℕ → ℕ
 last_place fields tokens end = next_place (drop (length fields - 1) tokens) end
 
 -- all fields are taken, and this is the place of the last; or one is refused
-abbrev pub TakesAllFields : Option (List (List ℕ)) → Room → List Field → ℕ → List TokenSeen → List ℕ → Result ℕ FieldRefusal → List TokenSeen → List ℕ → Type 0
+abbrev pub TakesAllFields : Option (List (List ℕ)) → Room → List Field → ℕ → List TokenSeen → List ℕ → Result ℕ RecordError → List TokenSeen → List ℕ → Type 0
 TakesAllFields origin room fields end tokens old (Ok at) left new = HasTaken origin fields tokens old left new × (at ≡ last_place fields tokens end)
-TakesAllFields origin room fields end tokens old (Err r) left new = RefusesAField origin room fields end tokens old r left new
+TakesAllFields origin room fields end tokens old (Err e) left new = (place : ℕ) × RefusesAField origin room fields tokens old place e.kind left new × IsErrorInField place (next_place left end) e
 
 -- each of the tokens spells the field, and the octets are theirs, one after another
 abbrev pub SpellsEach : Option (List (List ℕ)) → Field → List TokenSeen → List ℕ → Type 0
 SpellsEach origin f tokens octets = SpellsFields origin (replicate (length tokens) f) tokens octets
 
 -- all tokens are taken; or one is refused
-abbrev pub TakesEachAs : Option (List (List ℕ)) → Room → Field → ℕ → List TokenSeen → List ℕ → Result (Unit {0}) Refusal → List TokenSeen → List ℕ → Type 0
+abbrev pub TakesEachAs : Option (List (List ℕ)) → Room → Field → ℕ → List TokenSeen → List ℕ → Result (Unit {0}) RecordError → List TokenSeen → List ℕ → Type 0
 TakesEachAs origin room f end tokens old (Ok _) left new = (left ≡ []) × Gains (SpellsEach origin f tokens) old new
-TakesEachAs origin room f end tokens old (Err r) left new = (count : ℕ) × RefusesAField origin room (replicate (suc count) f) end tokens old (record { field = count; refusal = r }) left new
+TakesEachAs origin room f end tokens old (Err e) left new = (count : ℕ) × RefusesAField origin room (replicate (suc count) f) tokens old count e.kind left new × IsErrorAt (next_place left end) e

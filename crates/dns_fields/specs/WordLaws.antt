@@ -170,11 +170,11 @@ ipv6_is_word = record {
     address : List ℕ → Ipv6Shown
     address octets = record { 0 = record { segments = segments_of octets } }
 
-pub type_is_word : IsWordKind 2 (λ t. t.0.0 < 2 ^ 16) SpellsPortable (λ t. to_be_bytes w16 t.0.0) (λ octets. portable_text (record { 0 = from_be_bytes w16 octets }))
-type_is_word = of_kind 2 (λ t. t.0.0 < 2 ^ 16) SpellsPortable (λ t. portable_text t.0) (λ t. to_be_bytes w16 t.0.0) (λ octets. record { 0 = record { 0 = from_be_bytes w16 octets } }) portable_types_are_kind (λ t small. octets16 t.0.0) number16_of
+pub type_is_word : IsWordKind 2 (λ t. t.0 < 2 ^ 16) SpellsPortable (λ t. to_be_bytes w16 t.0) (λ octets. portable_text (from_be_bytes w16 octets))
+type_is_word = of_kind 2 (λ t. t.0 < 2 ^ 16) SpellsPortable (λ t. portable_text t.0) (λ t. to_be_bytes w16 t.0) (λ octets. record { 0 = from_be_bytes w16 octets }) portable_types_are_kind (λ t small. octets16 t.0) number16_of
 
-pub sig_type_is_word : IsWordKind 2 (λ t. t.0.0 < 2 ^ 16) SpellsSigType (λ t. to_be_bytes w16 t.0.0) (λ octets. sig_type_text (record { 0 = from_be_bytes w16 octets }))
-sig_type_is_word = of_kind 2 (λ t. t.0.0 < 2 ^ 16) SpellsSigType (λ t. sig_type_text t.0) (λ t. to_be_bytes w16 t.0.0) (λ octets. record { 0 = record { 0 = from_be_bytes w16 octets } }) sig_types_are_kind (λ t small. octets16 t.0.0) number16_of
+pub sig_type_is_word : IsWordKind 2 (λ t. t.0 < 2 ^ 16) SpellsSigType (λ t. to_be_bytes w16 t.0) (λ octets. sig_type_text (from_be_bytes w16 octets))
+sig_type_is_word = of_kind 2 (λ t. t.0 < 2 ^ 16) SpellsSigType (λ t. sig_type_text t.0) (λ t. to_be_bytes w16 t.0) (λ octets. record { 0 = from_be_bytes w16 octets }) sig_types_are_kind (λ t small. octets16 t.0) number16_of
 
 pub certificate_is_word : IsWordKind 2 (λ t. t.0 < 2 ^ 16) SpellsCertificate (λ t. to_be_bytes w16 t.0) (λ octets. certificate_text (record { 0 = from_be_bytes w16 octets }))
 certificate_is_word = of_kind 2 (λ t. t.0 < 2 ^ 16) SpellsCertificate certificate_text (λ t. to_be_bytes w16 t.0) (λ octets. record { 0 = from_be_bytes w16 octets }) certificates_are_kind (λ t small. octets16 t.0) number16_of

@@ -1,9 +1,9 @@
 -- Fields that are one word of text, and always have so many octets.
-use Rattle.std.specs.Prelude.{ℕ, ◌≡◌, ◌<◌, ◌≤◌, ◌⊎◌, List, length, All}
+use Rattle.std.specs.Prelude.{ℕ, ◌≡◌, ◌-◌, ◌<◌, ◌≤◌, ◌⊎◌, List, length, All}
 use Rattle.std.specs.Str.Parse.{IsNumeral, digits_value}
 use Rattle.dns_kinds.specs.Numbers.{SpellsNumber}
-use Rattle.dns_kinds.specs.declared.error.KindError.{KindError}
-use Rattle.dns_kinds.specs.declared.error.KindError.TheVariants.{ExpectedNumber, NumberOverflow}
+use Rattle.dns_kinds.specs.declared.error.ErrorKind.{ErrorKind}
+use Rattle.dns_kinds.specs.declared.error.ErrorKind.TheVariants.{ExpectedNumber, NumberOverflow}
 
 -- a text spells a value that has these octets
 abbrev pub SpellsAs : {V : Type 0} → (V → Type 0) → (List ℕ → V → Type 0) → (V → List ℕ) → List ℕ → List ℕ → Type 0
@@ -21,7 +21,7 @@ pub record IsWordKind {V : Type 0} (width : ℕ) (valid : V → Type 0) (spells 
   pub once : (text : List ℕ) (v w : V) → spells text v → spells text w → wire v ≡ wire w
 
 -- no value is spelled, and this is why
-abbrev pub RefusesWord : {V : Type 0} → (V → Type 0) → (KindError → Type 0) → KindError → Type 0
+abbrev pub RefusesWord : {V : Type 0} → (V → Type 0) → (ErrorKind → Type 0) → ErrorKind → Type 0
 RefusesWord {V} spelled reason e = reason e × ((v : V) → spelled v → ⊥)
 
 -- decimal digits of a number below a limit
@@ -29,6 +29,6 @@ abbrev pub SpellsBelow : ℕ → List ℕ → ℕ → Type 0
 SpellsBelow limit text n = SpellsNumber text n × (n < limit)
 
 -- why there is no number below a limit: there are no decimal digits alone, or they are those of a greater number
-abbrev pub NumberReason : ℕ → List ℕ → KindError → Type 0
+abbrev pub NumberReason : ℕ → List ℕ → ErrorKind → Type 0
 NumberReason limit text e =
-    ((e ≡ ExpectedNumber) × (IsNumeral 10 text → ⊥)) ⊎ ((e ≡ NumberOverflow) × IsNumeral 10 text × (limit ≤ digits_value 10 text))
+    ((e ≡ ExpectedNumber) × (IsNumeral 10 text → ⊥)) ⊎ ((e ≡ NumberOverflow (limit - 1)) × IsNumeral 10 text × (limit ≤ digits_value 10 text))

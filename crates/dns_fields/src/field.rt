@@ -6,7 +6,6 @@ ghost use Rattle.dns_spelling.specs.Forms.{FindsWidth};
 ghost use Rattle.dns_fields.specs.Fields.{field_form};
 ghost use Rattle.dns_fields.specs.Forms.{ReadsField, token_text};
 
-use crate::error::FieldError;
 use crate::texts::{
     append_hash_field, append_name_field, append_psdn_address, append_salt_field,
     append_string_field, append_tag_field, hash_field_width, psdn_address_width, write_hash,
@@ -15,7 +14,8 @@ use crate::texts::{
 use crate::word::{append_word, word_width, write_word};
 use crate::words::Interval;
 use dns_kinds::{
-    Algorithm, CertificateType, Date, Eui48, Eui64, Ipv6Shown, Locator, PortableType, SigType,
+    Algorithm, CertificateType, Date, ErrorKind, Eui48, Eui64, Ipv6Shown, Locator, PortableType,
+    SigType,
 };
 use dns_octets::{AsOctets, OctetsBuilder};
 use dns_spelling::{NameText, name_width, string_width, tag_width};
@@ -75,7 +75,7 @@ pub fn append_field<Octets: AsOctets, B: OctetsBuilder>(
     token: &EntryToken<'_>,
     origin: Option<&Name<Octets>>,
     target: &mut B,
-) -> Result<(), FieldError>
+) -> Result<(), ErrorKind>
     ensures { ReadsField B.room (field_form (option_copied origin.entry) field) token.now.is_quoted token.now.text.now (B.octets target.old) result (B.octets target.new) }
 {
     match field {

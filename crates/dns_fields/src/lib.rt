@@ -2,20 +2,18 @@
 //! printed.
 #![tactic(auto)]
 
-pub mod error;
 pub mod field;
-pub mod record_error;
 pub mod laws;
+pub mod record_error;
 pub mod source;
 pub mod taking;
 mod texts;
 pub mod word;
 pub mod words;
 
-pub use error::FieldError;
-pub use record_error::{FieldName, RecordError};
 pub use field::{Field, append_field, field_width, write_field};
+pub use record_error::{FieldName, RecordError};
 pub use source::{TokenList, TokenSource};
-pub use taking::{FieldRefusal, Refusal, take_each, take_field, take_fields};
+pub use taking::{take_each, take_field, take_fields};
 pub use word::{Word, append_word};
 pub use words::Interval;

@@ -3,25 +3,12 @@ ghost use Rattle.std.specs.Prelude.{◌≡◌, ◌≢◌, [], OnErr};
 ghost use Rattle.std.specs.Option.{option_copied};
 ghost use Rattle.dns_fields.specs.Taking.{TakesField, TakesAllFields, TakesEachAs};
 
-use crate::error::FieldError;
 use crate::field::{Field, append_field};
+use crate::record_error::{FieldName, RecordError};
 use crate::source::TokenSource;
+use dns_kinds::ErrorKind;
 use dns_octets::{AsOctets, OctetsBuilder};
 use dns_wire::Name;
-
-/// A token that is refused, by its place, and why. Where none is left, the place is the entry's end.
-#[derive(Clone, Copy)]
-pub struct Refusal {
-    pub at: usize,
-    pub why: FieldError,
-}
-
-/// A field that is refused, by its place among the fields of a record, and why.
-#[derive(Clone, Copy)]
-pub struct FieldRefusal {
-    pub field: usize,
-    pub refusal: Refusal,
-}
 
 /// Takes the next token, and appends the octets of the field that it spells. A relative name
 /// stands before the origin.
@@ -30,17 +17,16 @@ pub fn take_field<S: TokenSource, Octets: AsOctets, B: OctetsBuilder>(
     origin: Option<&Name<Octets>>,
     source: &mut S,
     target: &mut B,
-) -> Result<(), Refusal>
+) -> Result<(), RecordError>
     ensures takes { TakesField (option_copied origin.entry) B.room field (S.end source.old).at (S.left source.old) (B.octets target.old) result (S.left source.new) (B.octets target.new) }
     ensures end { S.end source.new ≡ S.end source.old }
 {
     let at = source.place();
     let Some(token) = source.current() else {
-        let why = FieldError::EndOfEntry;
-        return Err(Refusal { at, why });
+        return Err(RecordError::at(at, ErrorKind::EndOfEntry));
     };
     if let Err(why) = append_field(field, &token, origin, target) {
-        return Err(Refusal { at, why });
+        return Err(RecordError::at(at, why));
     }
     source.advance();
     Ok(())
@@ -54,18 +40,15 @@ pub fn take_fields<S: TokenSource, Octets: AsOctets, B: OctetsBuilder>(
     origin: Option<&Name<Octets>>,
     source: &mut S,
     target: &mut B,
-) -> Result<usize, FieldRefusal>
+) -> Result<usize, RecordError>
     ensures takes { TakesAllFields (option_copied origin.entry) B.room fields.now (S.end source.old).at (S.left source.old) (B.octets target.old) result (S.left source.new) (B.octets target.new) }
     ensures end { S.end source.new ≡ S.end source.old }
 {
     let mut last = source.place();
     for (place, field) in fields.iter().enumerate() {
         last = source.place();
-        if let Err(refusal) = take_field(*field, origin, source, target) {
-            return Err(FieldRefusal {
-                field: place,
-                refusal,
-            });
+        if let Err(error) = take_field(*field, origin, source, target) {
+            return Err(error.in_field(FieldName(place)));
         }
     }
     Ok(last)
@@ -78,15 +61,13 @@ pub fn take_each<S: TokenSource, Octets: AsOctets, B: OctetsBuilder>(
     origin: Option<&Name<Octets>>,
     source: &mut S,
     target: &mut B,
-) -> Result<(), Refusal>
+) -> Result<(), RecordError>
     ensures takes { TakesEachAs (option_copied origin.entry) B.room field (S.end source.old).at (S.left source.old) (B.octets target.old) result (S.left source.new) (B.octets target.new) }
     ensures left { OnErr result (S.left source.new ≢ []) }
     ensures end { S.end source.new ≡ S.end source.old }
 {
     while source.current().is_some() {
-        if let Err(refusal) = take_field(field, origin, source, target) {
-            return Err(refusal);
-        }
+        take_field(field, origin, source, target)?;
     }
     Ok(())
 }

@@ -7,10 +7,9 @@ ghost use Rattle.std.specs.Fmt.{WritesOnOk};
 ghost use Rattle.dns_spelling.specs.Forms.{FindsWidth, IsWireString, IsWireTag};
 ghost use Rattle.dns_fields.specs.Forms.{IsPsdnAddress, IsWireHash, IsWirePsdnAddress, ReadsField, token_text, hash_form, name_form, psdn_address_form, salt_form, string_form, tag_form};
 
-use crate::error::FieldError;
 use dns_codec::base32;
 use dns_digits::append_base32hex;
-use dns_kinds::{KindError, Salt};
+use dns_kinds::{ErrorKind, Salt};
 use dns_octets::{AsOctets, OctetsBuilder};
 use dns_spelling::{QuotedOctets, TagText, append_name, append_string, append_tag, string_width};
 use dns_split::entry_tokens::EntryToken;
@@ -21,13 +20,10 @@ use std::fmt;
 pub(crate) fn append_string_field<B: OctetsBuilder>(
     token: &EntryToken<'_>,
     target: &mut B,
-) -> Result<(), FieldError>
+) -> Result<(), ErrorKind>
     ensures { ReadsField B.room string_form token.now.is_quoted token.now.text.now (B.octets target.old) result (B.octets target.new) }
 {
-    match append_string(token.text, target) {
-        Ok(()) => Ok(()),
-        Err(why) => Err(FieldError::from(why)),
-    }
+    append_string(token.text, target)
 }
 
 /// The fewest digits of an address of X25: those of the network.
@@ -54,11 +50,11 @@ fn is_psdn_address(octets: &[u8]) -> bool
 pub(crate) fn append_psdn_address<B: OctetsBuilder>(
     token: &EntryToken<'_>,
     target: &mut B,
-) -> Result<(), FieldError>
+) -> Result<(), ErrorKind>
     ensures { ReadsField B.room psdn_address_form token.now.is_quoted token.now.text.now (B.octets target.old) result (B.octets target.new) }
 {
     if !is_psdn_address(token.text) {
-        return Err(FieldError::Kind(KindError::ExpectedPsdnAddress));
+        return Err(ErrorKind::ExpectedPsdnAddress);
     }
     target.append_slice(&[token.text.len() as u8])?;
     target.append_slice(token.text)?;
@@ -80,11 +76,11 @@ pub(crate) fn psdn_address_width(octets: &[u8]) -> Option<usize>
 pub(crate) fn append_tag_field<B: OctetsBuilder>(
     token: &EntryToken<'_>,
     target: &mut B,
-) -> Result<(), FieldError>
+) -> Result<(), ErrorKind>
     ensures { ReadsField B.room tag_form token.now.is_quoted token.now.text.now (B.octets target.old) result (B.octets target.new) }
 {
     if token.is_quoted {
-        return Err(FieldError::Quoted);
+        return Err(ErrorKind::Quoted);
     }
     append_tag(token.text, target)?;
     Ok(())
@@ -94,11 +90,11 @@ pub(crate) fn append_tag_field<B: OctetsBuilder>(
 pub(crate) fn append_salt_field<B: OctetsBuilder>(
     token: &EntryToken<'_>,
     target: &mut B,
-) -> Result<(), FieldError>
+) -> Result<(), ErrorKind>
     ensures { ReadsField B.room salt_form token.now.is_quoted token.now.text.now (B.octets target.old) result (B.octets target.new) }
 {
     if token.is_quoted {
-        return Err(FieldError::Quoted);
+        return Err(ErrorKind::Quoted);
     }
     let salt = Salt::from_text(token.text)?;
     let octets = salt.as_slice();
@@ -111,16 +107,13 @@ pub(crate) fn append_salt_field<B: OctetsBuilder>(
 pub(crate) fn append_hash_field<B: OctetsBuilder>(
     token: &EntryToken<'_>,
     target: &mut B,
-) -> Result<(), FieldError>
+) -> Result<(), ErrorKind>
     ensures { ReadsField B.room hash_form token.now.is_quoted token.now.text.now (B.octets target.old) result (B.octets target.new) }
 {
     if token.is_quoted {
-        return Err(FieldError::Quoted);
+        return Err(ErrorKind::Quoted);
     }
-    match append_base32hex(token.text, target) {
-        Ok(()) => Ok(()),
-        Err(why) => Err(FieldError::from(why)),
-    }
+    append_base32hex(token.text, target)
 }
 
 /// How many of the octets in front are a hash.
@@ -139,16 +132,13 @@ pub(crate) fn append_name_field<Octets: AsOctets, B: OctetsBuilder>(
     token: &EntryToken<'_>,
     origin: Option<&Name<Octets>>,
     target: &mut B,
-) -> Result<(), FieldError>
+) -> Result<(), ErrorKind>
     ensures { ReadsField B.room (name_form (option_copied origin.entry)) token.now.is_quoted token.now.text.now (B.octets target.old) result (B.octets target.new) }
 {
     if token.is_quoted {
-        return Err(FieldError::Quoted);
+        return Err(ErrorKind::Quoted);
     }
-    match append_name(token.text, origin, target) {
-        Ok(()) => Ok(()),
-        Err(why) => Err(FieldError::from(why)),
-    }
+    append_name(token.text, origin, target)
 }
 
 /// Prints a character string in quotes.

@@ -1,13 +1,12 @@
 //! Kinds of fields that are one word of text, and always have so many octets.
 ghost use Rattle.std.specs.Prelude.{◌≡◌, ◌≤◌, ◌-◌, ◌++◌, ℕ, List, Some, IsOk, MatchResult, OnOk, OnErr, length};
 ghost use Rattle.std.specs.Fmt.{WritesOnOk};
-ghost use Rattle.dns_kinds.specs.declared.error.KindError.{KindError};
+ghost use Rattle.dns_kinds.specs.declared.error.ErrorKind.{ErrorKind};
 ghost use Rattle.dns_spelling.specs.Forms.{FindsWidth};
 ghost use Rattle.dns_fields.specs.Forms.{ReadsField, word_form};
 ghost use Rattle.dns_fields.specs.Words.{AreOctetsOf, IsWordKind, RefusesWord};
 
-use crate::error::FieldError;
-use dns_kinds::KindError;
+use dns_kinds::ErrorKind;
 use dns_octets::{OctetsBuilder, ShortBuf};
 use dns_split::entry_tokens::EntryToken;
 use std::fmt;
@@ -26,7 +25,7 @@ pub trait Word: Display + Sized {
     ghost spells: { List ℕ → Self → Type 0 };
 
     // Why a text that spells none is refused.
-    ghost reason: { List ℕ → KindError → Type 0 };
+    ghost reason: { List ℕ → ErrorKind → Type 0 };
 
     // The octets of a value.
     ghost wire: { Self → List ℕ };
@@ -39,7 +38,7 @@ pub trait Word: Display + Sized {
         ensures { result ≡ width };
 
     /// The value that a text spells.
-    fn from_text(text: &[u8]) -> Result<Self, KindError>
+    fn from_text(text: &[u8]) -> Result<Self, ErrorKind>
         ensures { MatchResult result (λ v. valid v × spells text.now v) (RefusesWord (spells text.now) (reason text.now)) };
 
     /// The value of octets.
@@ -64,12 +63,12 @@ pub trait Word: Display + Sized {
 pub fn append_word<W: Word + Drop, B: OctetsBuilder>(
     token: &EntryToken<'_>,
     target: &mut B,
-) -> Result<(), FieldError>
+) -> Result<(), ErrorKind>
     ensures reads { ReadsField B.room (word_form W.width W.valid W.spells W.reason W.wire W.printed) token.now.is_quoted token.now.text.now (B.octets target.old) result (B.octets target.new) }
     ensures left { OnErr result (B.octets target.new ≡ B.octets target.old) }
 {
     if token.is_quoted {
-        return Err(FieldError::Quoted);
+        return Err(ErrorKind::Quoted);
     }
     let value = W::from_text(token.text)?;
     value.append(target)?;

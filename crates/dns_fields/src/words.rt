@@ -11,14 +11,14 @@ ghost use Rattle.dns_kinds.specs.Locator.{SpellsLocator, locator_text};
 ghost use Rattle.dns_kinds.specs.Time.{IsDate, SpellsDate, seconds_at, date_at, date_text};
 ghost use Rattle.dns_kinds.specs.Ttl.{SpellsInterval};
 ghost use Rattle.dns_kinds.specs.Types.{SpellsPortable, portable_text, SpellsSigType, sig_type_text};
-ghost use Rattle.dns_kinds.specs.declared.error.KindError.TheVariants.{ExpectedIpv4, ExpectedIpv6, ExpectedInterval, UnknownType, UnknownAlgorithm, UnknownCertificate, ExpectedEui48, ExpectedEui64, ExpectedTime, ExpectedLocator};
+ghost use Rattle.dns_kinds.specs.declared.error.ErrorKind.TheVariants.{ExpectedIpv4, ExpectedIpv6, ExpectedInterval, UnknownType, UnknownAlgorithm, UnknownCertificate, ExpectedEui48, ExpectedEui64, ExpectedTime, ExpectedLocator};
 ghost use Rattle.dns_fields.specs.Words.{SpellsBelow, NumberReason};
 ghost use Rattle.dns_fields.specs.WordLaws.{number8_is_kind, number16_is_kind, number32_is_kind, interval_is_kind, ipv4_is_word, ipv6_is_word, type_is_word, sig_type_is_word, algorithm_is_word, certificate_is_word, eui48_is_word, eui64_is_word, date_is_word, locator_is_word};
 
 use crate::word::Word;
 use dns_kinds::numbers::{u8_from_text, u16_from_text, u32_from_text};
 use dns_kinds::{
-    Algorithm, CertificateType, Date, Eui48, Eui64, Ipv6Shown, KindError, Locator, PortableType,
+    Algorithm, CertificateType, Date, ErrorKind, Eui48, Eui64, Ipv6Shown, Locator, PortableType,
     RecordType, SigType, interval_from_text, ipv4_from_text, ipv6_from_text,
 };
 use dns_octets::{OctetsBuilder, ShortBuf};
@@ -65,7 +65,7 @@ impl Word for u8 {
         1
     }
 
-    fn from_text(text: &[u8]) -> Result<Self, KindError> {
+    fn from_text(text: &[u8]) -> Result<Self, ErrorKind> {
         u8_from_text(text)
     }
 
@@ -97,7 +97,7 @@ impl Word for u16 {
         2
     }
 
-    fn from_text(text: &[u8]) -> Result<Self, KindError> {
+    fn from_text(text: &[u8]) -> Result<Self, ErrorKind> {
         u16_from_text(text)
     }
 
@@ -129,7 +129,7 @@ impl Word for u32 {
         4
     }
 
-    fn from_text(text: &[u8]) -> Result<Self, KindError> {
+    fn from_text(text: &[u8]) -> Result<Self, ErrorKind> {
         u32_from_text(text)
     }
 
@@ -161,7 +161,7 @@ impl Word for Interval {
         4
     }
 
-    fn from_text(text: &[u8]) -> Result<Self, KindError> {
+    fn from_text(text: &[u8]) -> Result<Self, ErrorKind> {
         match interval_from_text(text) {
             Ok(value) => Ok(Interval(value)),
             Err(why) => Err(why),
@@ -196,7 +196,7 @@ impl Word for Ipv4Addr {
         4
     }
 
-    fn from_text(text: &[u8]) -> Result<Self, KindError> {
+    fn from_text(text: &[u8]) -> Result<Self, ErrorKind> {
         ipv4_from_text(text)
     }
 
@@ -228,7 +228,7 @@ impl Word for Ipv6Shown {
         16
     }
 
-    fn from_text(text: &[u8]) -> Result<Self, KindError> {
+    fn from_text(text: &[u8]) -> Result<Self, ErrorKind> {
         match ipv6_from_text(text) {
             Ok(address) => {
                 let _segments = address.segments();
@@ -252,21 +252,21 @@ impl Word for Ipv6Shown {
 impl Word for PortableType {
     ghost width = { 2 };
 
-    ghost valid = { λ t. t.0.0 < 2 ^ 16 };
+    ghost valid = { λ t. t.0 < 2 ^ 16 };
 
     ghost spells = { SpellsPortable };
 
     ghost reason = { λ _ e. e ≡ UnknownType };
 
-    ghost wire = { λ t. to_be_bytes w16 t.0.0 };
+    ghost wire = { λ t. to_be_bytes w16 t.0 };
 
-    ghost printed = { λ octets. portable_text (record { 0 = from_be_bytes w16 octets }) };
+    ghost printed = { λ octets. portable_text (from_be_bytes w16 octets) };
 
     fn width() -> usize {
         2
     }
 
-    fn from_text(text: &[u8]) -> Result<Self, KindError> {
+    fn from_text(text: &[u8]) -> Result<Self, ErrorKind> {
         match RecordType::from_text(text) {
             Ok(value) => Ok(PortableType(value)),
             Err(why) => Err(why),
@@ -287,21 +287,21 @@ impl Word for PortableType {
 impl Word for SigType {
     ghost width = { 2 };
 
-    ghost valid = { λ t. t.0.0 < 2 ^ 16 };
+    ghost valid = { λ t. t.0 < 2 ^ 16 };
 
     ghost spells = { SpellsSigType };
 
     ghost reason = { λ _ e. e ≡ UnknownType };
 
-    ghost wire = { λ t. to_be_bytes w16 t.0.0 };
+    ghost wire = { λ t. to_be_bytes w16 t.0 };
 
-    ghost printed = { λ octets. sig_type_text (record { 0 = from_be_bytes w16 octets }) };
+    ghost printed = { λ octets. sig_type_text (from_be_bytes w16 octets) };
 
     fn width() -> usize {
         2
     }
 
-    fn from_text(text: &[u8]) -> Result<Self, KindError> {
+    fn from_text(text: &[u8]) -> Result<Self, ErrorKind> {
         SigType::from_text(text)
     }
 
@@ -333,7 +333,7 @@ impl Word for CertificateType {
         2
     }
 
-    fn from_text(text: &[u8]) -> Result<Self, KindError> {
+    fn from_text(text: &[u8]) -> Result<Self, ErrorKind> {
         CertificateType::from_text(text)
     }
 
@@ -365,7 +365,7 @@ impl Word for Algorithm {
         1
     }
 
-    fn from_text(text: &[u8]) -> Result<Self, KindError> {
+    fn from_text(text: &[u8]) -> Result<Self, ErrorKind> {
         Algorithm::from_text(text)
     }
 
@@ -397,7 +397,7 @@ impl Word for Eui48 {
         6
     }
 
-    fn from_text(text: &[u8]) -> Result<Self, KindError> {
+    fn from_text(text: &[u8]) -> Result<Self, ErrorKind> {
         Eui48::from_text(text)
     }
 
@@ -429,7 +429,7 @@ impl Word for Eui64 {
         8
     }
 
-    fn from_text(text: &[u8]) -> Result<Self, KindError> {
+    fn from_text(text: &[u8]) -> Result<Self, ErrorKind> {
         Eui64::from_text(text)
     }
 
@@ -461,7 +461,7 @@ impl Word for Date {
         4
     }
 
-    fn from_text(text: &[u8]) -> Result<Self, KindError> {
+    fn from_text(text: &[u8]) -> Result<Self, ErrorKind> {
         Date::from_text(text)
     }
 
@@ -493,7 +493,7 @@ impl Word for Locator {
         8
     }
 
-    fn from_text(text: &[u8]) -> Result<Self, KindError> {
+    fn from_text(text: &[u8]) -> Result<Self, ErrorKind> {
         match Locator::from_text(text) {
             Ok(locator) => {
                 let octets = locator.0;
