@@ -1,7 +1,8 @@
 //! Digests by their lengths: the data of DS, CDS, DLV, SSHFP and ZONEMD say in an octet which
 //! digest follows.
-ghost use Rattle.std.specs.Prelude.{IsTrue, ◌≡◌, ◌↔◌};
-ghost use Rattle.dns_digits.specs.DigestLengths.{IsDigestLength, wanted_digest};
+ghost use Rattle.std.specs.Prelude.{IsTrue, ◌≡◌, ◌==◌, ◌↔◌};
+ghost use Rattle.std.specs.Map.{lookup};
+ghost use Rattle.dns_digits.specs.DigestLengths.{digest_rows, least_digest, IsDigestLength, wanted_digest};
 
 /// The lists of digests.
 #[derive(Clone, Copy, Debug, PartialEq, Eq)]
@@ -15,21 +16,39 @@ pub enum Digests {
     Zonemd,
 }
 
+/// How many octets a digest behind a number has, if the list names the number.
+fn named_length(digests: Digests, number: u8) -> Option<usize>
+    ensures { result ≡ lookup (λ n. n == number) (digest_rows digests) }
+{
+    match (digests, number) {
+        (Digests::Ds | Digests::Sshfp, 1) => Some(20),
+        (Digests::Ds, 2 | 3 | 5 | 6) => Some(32),
+        (Digests::Ds, 4) => Some(48),
+        (Digests::Sshfp, 2) => Some(32),
+        (Digests::Zonemd, 1) => Some(48),
+        (Digests::Zonemd, 2) => Some(64),
+        _ => None,
+    }
+}
+
+/// The fewest octets of a digest behind a number that the list doesn't name.
+fn least_length(digests: Digests) -> usize
+    ensures { result ≡ least_digest digests }
+{
+    match digests {
+        Digests::Ds | Digests::Sshfp => 1,
+        Digests::Zonemd => 12,
+    }
+}
+
 /// Whether a digest of so many octets may stand behind a number: the length of a number that the
 /// list names, and else any but none, and in ZONEMD 12 or more (RFC 8976 section 2.2.4).
 pub fn is_digest_length(digests: Digests, number: u8, length: usize) -> bool
     ensures { IsTrue result ↔ IsDigestLength digests number length }
 {
-    match (digests, number) {
-        (Digests::Ds, 1) => length == 20,
-        (Digests::Ds, 2 | 3 | 5 | 6) => length == 32,
-        (Digests::Ds, 4) => length == 48,
-        (Digests::Sshfp, 1) => length == 20,
-        (Digests::Sshfp, 2) => length == 32,
-        (Digests::Zonemd, 1) => length == 48,
-        (Digests::Zonemd, 2) => length == 64,
-        (Digests::Zonemd, _) => length >= 12,
-        _ => length > 0,
+    match named_length(digests, number) {
+        Some(named) => length == named,
+        None => length >= least_length(digests),
     }
 }
 
@@ -38,14 +57,8 @@ pub fn is_digest_length(digests: Digests, number: u8, length: usize) -> bool
 pub fn wanted_digest(digests: Digests, number: u8) -> usize
     ensures { result ≡ wanted_digest digests number }
 {
-    match (digests, number) {
-        (Digests::Ds | Digests::Sshfp, 1) => 20,
-        (Digests::Ds, 2 | 3 | 5 | 6) => 32,
-        (Digests::Ds, 4) => 48,
-        (Digests::Sshfp, 2) => 32,
-        (Digests::Zonemd, 1) => 48,
-        (Digests::Zonemd, 2) => 64,
-        (Digests::Zonemd, _) => 12,
-        _ => 1,
+    match named_length(digests, number) {
+        Some(named) => named,
+        None => least_length(digests),
     }
 }
