@@ -15,7 +15,7 @@ use Rattle.dns_codec.specs.Grammar.{IsEncodingOf}
 use Rattle.dns_digits.specs.Spelled.{SpellsDigits}
 use Rattle.dns_digits.proofs.Spelling.{spelled_decodes}
 use Rattle.dns_fields.specs.Words.{NumberReason}
-use Rattle.dns_kinds.specs.declared.error.KindError.TheVariants.{ExpectedNumber}
+use Rattle.dns_kinds.specs.declared.error.ErrorKind.TheVariants.{ExpectedNumber, EmptyLabel}
 use Rattle.dns_name.specs.Reading.{Names, ReadsAs, ReadsName}
 use Rattle.dns_name.specs.declared.name.UncertainName.TheVariants.{Relative}
 use Rattle.dns_name.specs.declared.name.error.FromStrError.TheVariants.{BadOctet, BinaryLabel}
@@ -23,7 +23,6 @@ use Rattle.dns_name.proofs.Naming.{named_none, spelling_none}
 use Rattle.dns_scan.specs.Reads.{NumberReads}
 use Rattle.dns_spelling.specs.NameSpelling.{IsLabelPart, SpellsLabels, WhyNoName, origin_alone, absolute}
 use Rattle.dns_spelling.specs.Spelling.{SpellsOctetList}
-use Rattle.dns_spelling.specs.declared.error.SpellingError.TheVariants.{EmptyLabel}
 use Rattle.dns_laws.proofs.ReaderDigits.{digits_same, decoded_plain}
 use Rattle.dns_laws.proofs.ReaderNumbers.{nothing_read}
 
