@@ -66,8 +66,8 @@ fn take_gateway_type<S: TokenSource, B: OctetsBuilder>(
         Ok(number) => number,
         Err(why) => return Err(RecordError::at(at, why)),
     };
-    if let Err(why) = target.append_slice(&[number]) {
-        return Err(RecordError::at(at, why));
+    if let Err(error) = target.append_slice(&[number]) {
+        return Err(RecordError::at(at, ErrorKind::from(error)));
     }
     source.advance();
     Ok(number)
@@ -93,8 +93,8 @@ fn take_address<S: TokenSource, B: OctetsBuilder>(
         Ok(gateway) => gateway,
         Err(why) => return Err(RecordError::at(at, why)),
     };
-    if let Err(why) = gateway.compose(target) {
-        return Err(RecordError::at(at, why));
+    if let Err(error) = gateway.compose(target) {
+        return Err(RecordError::at(at, ErrorKind::from(error)));
     }
     source.advance();
     Ok(())

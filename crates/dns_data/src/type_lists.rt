@@ -45,8 +45,8 @@ pub fn take_types<S: TokenSource, B: OctetsBuilder>(
     while source.current().is_some() {
         insert_next(&mut types, source)?;
     }
-    if types.append_to(target).is_err() {
-        return Err(RecordError::at(source.place(), ErrorKind::ShortBuf));
+    if let Err(error) = types.append_to(target) {
+        return Err(RecordError::at(source.place(), ErrorKind::from(error)));
     }
     Ok(())
 }

@@ -9,10 +9,11 @@ use dns_digits::Digests;
 use dns_fields::{Field, FieldName};
 use dns_kinds::RecordType;
 
-/// A type of records, the fields of its data, what comes behind them, the lengths that are asked for,
-/// and the names of the fields: of those that are one token each, and after them of those of the rest.
+/// A type of records by its number, the fields of its data, what comes behind them, the lengths that
+/// are asked for, and the names of the fields: of those that are one token each, and after them of
+/// those of the rest.
 pub struct TypeRow(
-    pub RecordType,
+    pub u16,
     pub &'static [Field],
     pub Rest,
     pub Length,
@@ -23,7 +24,7 @@ pub struct TypeRow(
 pub static TYPES: [TypeRow; 66] = [
     // RFC 1035 section 3.4.1.
     TypeRow(
-        RecordType::A,
+        RecordType::A.0,
         &[Field::Ipv4],
         Rest::Nothing,
         Length::Any,
@@ -31,7 +32,7 @@ pub static TYPES: [TypeRow; 66] = [
     ),
     // RFC 1035 section 3.3.11.
     TypeRow(
-        RecordType::NS,
+        RecordType::NS.0,
         &[Field::Name],
         Rest::Nothing,
         Length::Any,
@@ -39,7 +40,7 @@ pub static TYPES: [TypeRow; 66] = [
     ),
     // RFC 1035 section 3.3.1.
     TypeRow(
-        RecordType::CNAME,
+        RecordType::CNAME.0,
         &[Field::Name],
         Rest::Nothing,
         Length::Any,
@@ -47,7 +48,7 @@ pub static TYPES: [TypeRow; 66] = [
     ),
     // RFC 1035 section 3.3.13.
     TypeRow(
-        RecordType::SOA,
+        RecordType::SOA.0,
         &[
             Field::Name,
             Field::Name,
@@ -71,7 +72,7 @@ pub static TYPES: [TypeRow; 66] = [
     ),
     // RFC 1035 section 3.3.3.
     TypeRow(
-        RecordType::MB,
+        RecordType::MB.0,
         &[Field::Name],
         Rest::Nothing,
         Length::Any,
@@ -79,7 +80,7 @@ pub static TYPES: [TypeRow; 66] = [
     ),
     // RFC 1035 section 3.3.6.
     TypeRow(
-        RecordType::MG,
+        RecordType::MG.0,
         &[Field::Name],
         Rest::Nothing,
         Length::Any,
@@ -87,7 +88,7 @@ pub static TYPES: [TypeRow; 66] = [
     ),
     // RFC 1035 section 3.3.8.
     TypeRow(
-        RecordType::MR,
+        RecordType::MR.0,
         &[Field::Name],
         Rest::Nothing,
         Length::Any,
@@ -95,7 +96,7 @@ pub static TYPES: [TypeRow; 66] = [
     ),
     // RFC 1035 section 3.3.12.
     TypeRow(
-        RecordType::PTR,
+        RecordType::PTR.0,
         &[Field::Name],
         Rest::Nothing,
         Length::Any,
@@ -103,7 +104,7 @@ pub static TYPES: [TypeRow; 66] = [
     ),
     // RFC 1035 section 3.3.2.
     TypeRow(
-        RecordType::HINFO,
+        RecordType::HINFO.0,
         &[Field::String, Field::String],
         Rest::Nothing,
         Length::Any,
@@ -111,7 +112,7 @@ pub static TYPES: [TypeRow; 66] = [
     ),
     // RFC 1035 section 3.3.7.
     TypeRow(
-        RecordType::MINFO,
+        RecordType::MINFO.0,
         &[Field::Name, Field::Name],
         Rest::Nothing,
         Length::Any,
@@ -119,17 +120,23 @@ pub static TYPES: [TypeRow; 66] = [
     ),
     // RFC 1035 section 3.3.9.
     TypeRow(
-        RecordType::MX,
+        RecordType::MX.0,
         &[Field::Number16, Field::Name],
         Rest::Nothing,
         Length::Any,
         &["preference", "exchange"],
     ),
     // RFC 1035 section 3.3.14.
-    TypeRow(RecordType::TXT, &[], Rest::Strings, Length::Any, &["text"]),
+    TypeRow(
+        RecordType::TXT.0,
+        &[],
+        Rest::Strings,
+        Length::Any,
+        &["text"],
+    ),
     // RFC 1183 section 2.2.
     TypeRow(
-        RecordType::RP,
+        RecordType::RP.0,
         &[Field::Name, Field::Name],
         Rest::Nothing,
         Length::Any,
@@ -137,7 +144,7 @@ pub static TYPES: [TypeRow; 66] = [
     ),
     // RFC 1183 section 1.
     TypeRow(
-        RecordType::AFSDB,
+        RecordType::AFSDB.0,
         &[Field::Number16, Field::Name],
         Rest::Nothing,
         Length::Any,
@@ -145,7 +152,7 @@ pub static TYPES: [TypeRow; 66] = [
     ),
     // RFC 1183 section 3.1.
     TypeRow(
-        RecordType::X25,
+        RecordType::X25.0,
         &[Field::PsdnAddress],
         Rest::Nothing,
         Length::Any,
@@ -153,7 +160,7 @@ pub static TYPES: [TypeRow; 66] = [
     ),
     // RFC 1183 section 3.3.
     TypeRow(
-        RecordType::RT,
+        RecordType::RT.0,
         &[Field::Number16, Field::Name],
         Rest::Nothing,
         Length::Any,
@@ -161,7 +168,7 @@ pub static TYPES: [TypeRow; 66] = [
     ),
     // RFC 1348.
     TypeRow(
-        RecordType::NSAP_PTR,
+        RecordType::NSAP_PTR.0,
         &[Field::Name],
         Rest::Nothing,
         Length::Any,
@@ -169,7 +176,7 @@ pub static TYPES: [TypeRow; 66] = [
     ),
     // RFC 2535 section 4.1.
     TypeRow(
-        RecordType::SIG,
+        RecordType::SIG.0,
         &[
             Field::SigType,
             Field::Algorithm,
@@ -196,7 +203,7 @@ pub static TYPES: [TypeRow; 66] = [
     ),
     // RFC 2535 section 3.1, in the form of DNSKEY.
     TypeRow(
-        RecordType::KEY,
+        RecordType::KEY.0,
         &[Field::Number16, Field::Number8, Field::Algorithm],
         Rest::Base64,
         Length::Any,
@@ -204,7 +211,7 @@ pub static TYPES: [TypeRow; 66] = [
     ),
     // RFC 2163 section 4.
     TypeRow(
-        RecordType::PX,
+        RecordType::PX.0,
         &[Field::Number16, Field::Name, Field::Name],
         Rest::Nothing,
         Length::Any,
@@ -212,7 +219,7 @@ pub static TYPES: [TypeRow; 66] = [
     ),
     // RFC 1712 section 3.
     TypeRow(
-        RecordType::GPOS,
+        RecordType::GPOS.0,
         &[Field::String, Field::String, Field::String],
         Rest::Nothing,
         Length::Any,
@@ -220,7 +227,7 @@ pub static TYPES: [TypeRow; 66] = [
     ),
     // RFC 3596 section 2.2.
     TypeRow(
-        RecordType::AAAA,
+        RecordType::AAAA.0,
         &[Field::Ipv6],
         Rest::Nothing,
         Length::Any,
@@ -228,7 +235,7 @@ pub static TYPES: [TypeRow; 66] = [
     ),
     // RFC 1876 section 2.
     TypeRow(
-        RecordType::LOC,
+        RecordType::LOC.0,
         &[],
         Rest::Location,
         Length::Any,
@@ -236,7 +243,7 @@ pub static TYPES: [TypeRow; 66] = [
     ),
     // RFC 2782.
     TypeRow(
-        RecordType::SRV,
+        RecordType::SRV.0,
         &[
             Field::Number16,
             Field::Number16,
@@ -249,7 +256,7 @@ pub static TYPES: [TypeRow; 66] = [
     ),
     // RFC 3403 section 4.1.
     TypeRow(
-        RecordType::NAPTR,
+        RecordType::NAPTR.0,
         &[
             Field::Number16,
             Field::Number16,
@@ -271,7 +278,7 @@ pub static TYPES: [TypeRow; 66] = [
     ),
     // RFC 2230 section 3.
     TypeRow(
-        RecordType::KX,
+        RecordType::KX.0,
         &[Field::Number16, Field::Name],
         Rest::Nothing,
         Length::Any,
@@ -279,7 +286,7 @@ pub static TYPES: [TypeRow; 66] = [
     ),
     // RFC 4398 section 2.
     TypeRow(
-        RecordType::CERT,
+        RecordType::CERT.0,
         &[Field::CertificateType, Field::Number16, Field::Algorithm],
         Rest::Base64,
         Length::Any,
@@ -287,7 +294,7 @@ pub static TYPES: [TypeRow; 66] = [
     ),
     // RFC 6672 section 2.1.
     TypeRow(
-        RecordType::DNAME,
+        RecordType::DNAME.0,
         &[Field::Name],
         Rest::Nothing,
         Length::Any,
@@ -295,7 +302,7 @@ pub static TYPES: [TypeRow; 66] = [
     ),
     // RFC 3123 section 4.
     TypeRow(
-        RecordType::APL,
+        RecordType::APL.0,
         &[],
         Rest::Prefixes,
         Length::Any,
@@ -303,7 +310,7 @@ pub static TYPES: [TypeRow; 66] = [
     ),
     // RFC 4034 section 5.1.
     TypeRow(
-        RecordType::DS,
+        RecordType::DS.0,
         &[Field::Number16, Field::Algorithm, Field::Number8],
         Rest::Hex,
         Length::Digest(Digests::Ds, 3),
@@ -311,7 +318,7 @@ pub static TYPES: [TypeRow; 66] = [
     ),
     // RFC 4255 section 3.1.
     TypeRow(
-        RecordType::SSHFP,
+        RecordType::SSHFP.0,
         &[Field::Number8, Field::Number8],
         Rest::Hex,
         Length::Digest(Digests::Sshfp, 1),
@@ -319,7 +326,7 @@ pub static TYPES: [TypeRow; 66] = [
     ),
     // RFC 4025 section 2.1.
     TypeRow(
-        RecordType::IPSECKEY,
+        RecordType::IPSECKEY.0,
         &[Field::Number8],
         Rest::GatewayKey,
         Length::Any,
@@ -333,7 +340,7 @@ pub static TYPES: [TypeRow; 66] = [
     ),
     // RFC 4034 section 3.1.
     TypeRow(
-        RecordType::RRSIG,
+        RecordType::RRSIG.0,
         &[
             Field::RecordType,
             Field::Algorithm,
@@ -360,7 +367,7 @@ pub static TYPES: [TypeRow; 66] = [
     ),
     // RFC 4034 section 4.1.
     TypeRow(
-        RecordType::NSEC,
+        RecordType::NSEC.0,
         &[Field::Name],
         Rest::SomeTypes,
         Length::Any,
@@ -368,7 +375,7 @@ pub static TYPES: [TypeRow; 66] = [
     ),
     // RFC 4034 section 2.1.
     TypeRow(
-        RecordType::DNSKEY,
+        RecordType::DNSKEY.0,
         &[Field::Number16, Field::Number8, Field::Algorithm],
         Rest::Base64,
         Length::Any,
@@ -376,7 +383,7 @@ pub static TYPES: [TypeRow; 66] = [
     ),
     // RFC 4701 section 3.1.
     TypeRow(
-        RecordType::DHCID,
+        RecordType::DHCID.0,
         &[],
         Rest::Base64,
         Length::Any,
@@ -384,7 +391,7 @@ pub static TYPES: [TypeRow; 66] = [
     ),
     // RFC 5155 section 3.2.
     TypeRow(
-        RecordType::NSEC3,
+        RecordType::NSEC3.0,
         &[
             Field::Number8,
             Field::Number8,
@@ -405,7 +412,7 @@ pub static TYPES: [TypeRow; 66] = [
     ),
     // RFC 5155 section 4.2.
     TypeRow(
-        RecordType::NSEC3PARAM,
+        RecordType::NSEC3PARAM.0,
         &[Field::Number8, Field::Number8, Field::Number16, Field::Salt],
         Rest::Nothing,
         Length::Any,
@@ -413,7 +420,7 @@ pub static TYPES: [TypeRow; 66] = [
     ),
     // RFC 6698 section 2.1.
     TypeRow(
-        RecordType::TLSA,
+        RecordType::TLSA.0,
         &[Field::Number8, Field::Number8, Field::Number8],
         Rest::Hex,
         Length::Any,
@@ -421,7 +428,7 @@ pub static TYPES: [TypeRow; 66] = [
     ),
     // RFC 8162 section 2.
     TypeRow(
-        RecordType::SMIMEA,
+        RecordType::SMIMEA.0,
         &[Field::Number8, Field::Number8, Field::Number8],
         Rest::Hex,
         Length::Any,
@@ -429,7 +436,7 @@ pub static TYPES: [TypeRow; 66] = [
     ),
     // Draft-reid-dnsext-zs.
     TypeRow(
-        RecordType::NINFO,
+        RecordType::NINFO.0,
         &[],
         Rest::Strings,
         Length::Any,
@@ -437,7 +444,7 @@ pub static TYPES: [TypeRow; 66] = [
     ),
     // Draft-reid-dnsext-rkey.
     TypeRow(
-        RecordType::RKEY,
+        RecordType::RKEY.0,
         &[Field::Number16, Field::Number8, Field::Algorithm],
         Rest::Base64,
         Length::Any,
@@ -445,7 +452,7 @@ pub static TYPES: [TypeRow; 66] = [
     ),
     // Draft-wijngaards-dnsop-trust-history.
     TypeRow(
-        RecordType::TALINK,
+        RecordType::TALINK.0,
         &[Field::Name, Field::Name],
         Rest::Nothing,
         Length::Any,
@@ -453,7 +460,7 @@ pub static TYPES: [TypeRow; 66] = [
     ),
     // RFC 7344 section 3.1.
     TypeRow(
-        RecordType::CDS,
+        RecordType::CDS.0,
         &[Field::Number16, Field::Algorithm, Field::Number8],
         Rest::Hex,
         Length::Digest(Digests::Ds, 3),
@@ -461,7 +468,7 @@ pub static TYPES: [TypeRow; 66] = [
     ),
     // RFC 7344 section 3.2.
     TypeRow(
-        RecordType::CDNSKEY,
+        RecordType::CDNSKEY.0,
         &[Field::Number16, Field::Number8, Field::Algorithm],
         Rest::Base64,
         Length::Any,
@@ -469,7 +476,7 @@ pub static TYPES: [TypeRow; 66] = [
     ),
     // RFC 7929 section 2.1.
     TypeRow(
-        RecordType::OPENPGPKEY,
+        RecordType::OPENPGPKEY.0,
         &[],
         Rest::Base64,
         Length::Any,
@@ -477,7 +484,7 @@ pub static TYPES: [TypeRow; 66] = [
     ),
     // RFC 7477 section 2.1.
     TypeRow(
-        RecordType::CSYNC,
+        RecordType::CSYNC.0,
         &[Field::Number32, Field::Number16],
         Rest::Types,
         Length::Any,
@@ -485,7 +492,7 @@ pub static TYPES: [TypeRow; 66] = [
     ),
     // RFC 8976 section 2.
     TypeRow(
-        RecordType::ZONEMD,
+        RecordType::ZONEMD.0,
         &[Field::Number32, Field::Number8, Field::Number8],
         Rest::Hex,
         Length::Digest(Digests::Zonemd, 5),
@@ -493,7 +500,7 @@ pub static TYPES: [TypeRow; 66] = [
     ),
     // RFC 9460 section 2.1.
     TypeRow(
-        RecordType::SVCB,
+        RecordType::SVCB.0,
         &[Field::Number16, Field::Name],
         Rest::Params,
         Length::Any,
@@ -501,21 +508,39 @@ pub static TYPES: [TypeRow; 66] = [
     ),
     // RFC 9460 section 9.
     TypeRow(
-        RecordType::HTTPS,
+        RecordType::HTTPS.0,
         &[Field::Number16, Field::Name],
         Rest::Params,
         Length::Any,
         &["priority", "target", "parameter"],
     ),
     // RFC 9886.
-    TypeRow(RecordType::HHIT, &[], Rest::Base64, Length::Any, &["data"]),
+    TypeRow(
+        RecordType::HHIT.0,
+        &[],
+        Rest::Base64,
+        Length::Any,
+        &["data"],
+    ),
     // RFC 9886.
-    TypeRow(RecordType::BRID, &[], Rest::Base64, Length::Any, &["data"]),
+    TypeRow(
+        RecordType::BRID.0,
+        &[],
+        Rest::Base64,
+        Length::Any,
+        &["data"],
+    ),
     // RFC 7208 section 3.1.
-    TypeRow(RecordType::SPF, &[], Rest::Strings, Length::Any, &["text"]),
+    TypeRow(
+        RecordType::SPF.0,
+        &[],
+        Rest::Strings,
+        Length::Any,
+        &["text"],
+    ),
     // RFC 6742 section 2.1.
     TypeRow(
-        RecordType::NID,
+        RecordType::NID.0,
         &[Field::Number16, Field::Locator],
         Rest::Nothing,
         Length::Any,
@@ -523,7 +548,7 @@ pub static TYPES: [TypeRow; 66] = [
     ),
     // RFC 6742 section 2.2.
     TypeRow(
-        RecordType::L32,
+        RecordType::L32.0,
         &[Field::Number16, Field::Ipv4],
         Rest::Nothing,
         Length::Any,
@@ -531,7 +556,7 @@ pub static TYPES: [TypeRow; 66] = [
     ),
     // RFC 6742 section 2.3.
     TypeRow(
-        RecordType::L64,
+        RecordType::L64.0,
         &[Field::Number16, Field::Locator],
         Rest::Nothing,
         Length::Any,
@@ -539,7 +564,7 @@ pub static TYPES: [TypeRow; 66] = [
     ),
     // RFC 6742 section 2.4.
     TypeRow(
-        RecordType::LP,
+        RecordType::LP.0,
         &[Field::Number16, Field::Name],
         Rest::Nothing,
         Length::Any,
@@ -547,7 +572,7 @@ pub static TYPES: [TypeRow; 66] = [
     ),
     // RFC 7043 section 3.1.
     TypeRow(
-        RecordType::EUI48,
+        RecordType::EUI48.0,
         &[Field::Eui48],
         Rest::Nothing,
         Length::Any,
@@ -555,7 +580,7 @@ pub static TYPES: [TypeRow; 66] = [
     ),
     // RFC 7043 section 4.1.
     TypeRow(
-        RecordType::EUI64,
+        RecordType::EUI64.0,
         &[Field::Eui64],
         Rest::Nothing,
         Length::Any,
@@ -563,7 +588,7 @@ pub static TYPES: [TypeRow; 66] = [
     ),
     // RFC 7553 section 4.
     TypeRow(
-        RecordType::URI,
+        RecordType::URI.0,
         &[Field::Number16, Field::Number16],
         Rest::QuotedText,
         Length::Any,
@@ -571,17 +596,23 @@ pub static TYPES: [TypeRow; 66] = [
     ),
     // RFC 8659 section 4.1.
     TypeRow(
-        RecordType::CAA,
+        RecordType::CAA.0,
         &[Field::Number8, Field::Tag],
         Rest::Text,
         Length::Any,
         &["flags", "tag", "value"],
     ),
     // IANA, by Cisco.
-    TypeRow(RecordType::AVC, &[], Rest::Strings, Length::Any, &["text"]),
+    TypeRow(
+        RecordType::AVC.0,
+        &[],
+        Rest::Strings,
+        Length::Any,
+        &["text"],
+    ),
     // RFC 9606 section 4.
     TypeRow(
-        RecordType::RESINFO,
+        RecordType::RESINFO.0,
         &[],
         Rest::Strings,
         Length::Any,
@@ -589,7 +620,7 @@ pub static TYPES: [TypeRow; 66] = [
     ),
     // IANA.
     TypeRow(
-        RecordType::WALLET,
+        RecordType::WALLET.0,
         &[],
         Rest::Strings,
         Length::Any,
@@ -597,7 +628,7 @@ pub static TYPES: [TypeRow; 66] = [
     ),
     // S. Weiler, Deploying DNSSEC Without a Signed Root, 2004.
     TypeRow(
-        RecordType::TA,
+        RecordType::TA.0,
         &[Field::Number16, Field::Algorithm, Field::Number8],
         Rest::Hex,
         Length::Digest(Digests::Ds, 3),
@@ -605,7 +636,7 @@ pub static TYPES: [TypeRow; 66] = [
     ),
     // RFC 4431 section 2.
     TypeRow(
-        RecordType::DLV,
+        RecordType::DLV.0,
         &[Field::Number16, Field::Algorithm, Field::Number8],
         Rest::Hex,
         Length::Digest(Digests::Ds, 3),
@@ -633,7 +664,7 @@ fn find_row(table: &'static [TypeRow], rtype: RecordType) -> Option<&'static Typ
     ensures { FindsShape (row_shapes table.now) rtype (option_copied result) }
 {
     for row in table {
-        if row.0 == rtype {
+        if row.0 == rtype.0 {
             return Some(row);
         }
     }
