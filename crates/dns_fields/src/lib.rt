@@ -5,6 +5,7 @@
 pub mod field;
 pub mod laws;
 pub mod record_error;
+pub mod record_ref;
 pub mod source;
 pub mod taking;
 mod texts;
@@ -13,6 +14,7 @@ pub mod words;
 
 pub use field::{Field, append_field, field_width, write_field};
 pub use record_error::{FieldName, RecordError};
+pub use record_ref::RecordRef;
 pub use source::{TokenList, TokenSource};
 pub use taking::{take_each, take_field, take_fields};
 pub use word::{Word, append_word};
