@@ -15,7 +15,7 @@ use Rattle.dns_codec.specs.Base.{base32hex, encoded}
 use Rattle.dns_digits.specs.Hashes.{SpellsHash, hash_refusal}
 use Rattle.dns_kinds.specs.Salt.{SpellsSalt, salt_text}
 use Rattle.dns_kinds.specs.declared.error.ErrorKind.{ErrorKind}
-use Rattle.dns_kinds.specs.declared.error.ErrorKind.TheVariants.{ShortBuf, Quoted, BadEscape, LongString, BadTag, ExpectedSalt, ExpectedPsdnAddress}
+use Rattle.dns_kinds.specs.declared.error.ErrorKind.TheVariants.{ShortBuf, Quoted, QuotedName, BadEscape, LongString, BadTag, ExpectedSalt, ExpectedPsdnAddress}
 use Rattle.dns_fields.specs.Words.{SpellsAs, AreOctetsOf}
 
 pub record FieldForm : Type 1 where
@@ -153,7 +153,7 @@ hash_form = record {
 
 -- why a token is no name: it is a quoted text; or something is wrong with the text
 abbrev pub NameReason : Option (List (List ℕ)) → Bool → List ℕ → ErrorKind → Type 0
-NameReason origin quoted text e = ((e ≡ Quoted) × (quoted ≡ true)) ⊎ ((quoted ≡ false) × WhyNoName origin text e)
+NameReason origin quoted text e = ((e ≡ QuotedName) × (quoted ≡ true)) ⊎ ((quoted ≡ false) × WhyNoName origin text e)
 
 -- a name, without quotes; a relative one stands before the origin
 abbrev pub name_form : Option (List (List ℕ)) → FieldForm

@@ -136,7 +136,7 @@ pub(crate) fn append_name_field<Octets: AsOctets, B: OctetsBuilder>(
     ensures { ReadsField B.room (name_form (option_copied origin.entry)) token.now.is_quoted token.now.text.now (B.octets target.old) result (B.octets target.new) }
 {
     if token.is_quoted {
-        return Err(ErrorKind::Quoted);
+        return Err(ErrorKind::QuotedName);
     }
     append_name(token.text, origin, target)
 }
