@@ -2,6 +2,7 @@
 //! and compared.
 #![tactic(auto)]
 
+pub mod borrowed;
 pub mod canonical;
 pub mod data;
 pub mod error;
@@ -14,6 +15,7 @@ pub mod reading;
 pub mod record;
 pub mod typed;
 
+pub use borrowed::{owned_record, record_of};
 pub use canonical::append_canonical_data;
 pub use data::Data;
 pub use error::WireError;
