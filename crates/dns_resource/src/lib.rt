@@ -4,6 +4,7 @@
 
 pub mod borrowed;
 pub mod canonical;
+mod codes;
 pub mod data;
 pub mod error;
 mod fronts;

@@ -5,8 +5,8 @@ ghost use Rattle.dns_kinds.specs.Rtype.{mx};
 ghost use Rattle.dns_spelling.specs.NameSpelling.{IsWireName};
 ghost use Rattle.dns_resource.specs.Parts.{data_part};
 
+use crate::codes;
 use crate::data::Data;
-use dns_kinds::RecordType;
 use dns_octets::AsOctets;
 use std::marker::Model;
 
@@ -57,22 +57,22 @@ impl<const CODE: u16, Octets: AsOctets> TypedData<CODE, Octets> {
 }
 
 /// Data of A (RFC 1035 section 3.4.1).
-pub type A<Octets> = TypedData<{ RecordType::A.0 }, Octets>;
+pub type A<Octets> = TypedData<{ codes::A }, Octets>;
 
 /// Data of NS (RFC 1035 section 3.3.11).
-pub type Ns<Octets> = TypedData<{ RecordType::NS.0 }, Octets>;
+pub type Ns<Octets> = TypedData<{ codes::NS }, Octets>;
 
 /// Data of CNAME (RFC 1035 section 3.3.1).
-pub type Cname<Octets> = TypedData<{ RecordType::CNAME.0 }, Octets>;
+pub type Cname<Octets> = TypedData<{ codes::CNAME }, Octets>;
 
 /// Data of SOA (RFC 1035 section 3.3.13).
-pub type Soa<Octets> = TypedData<{ RecordType::SOA.0 }, Octets>;
+pub type Soa<Octets> = TypedData<{ codes::SOA }, Octets>;
 
 /// Data of PTR (RFC 1035 section 3.3.12).
-pub type Ptr<Octets> = TypedData<{ RecordType::PTR.0 }, Octets>;
+pub type Ptr<Octets> = TypedData<{ codes::PTR }, Octets>;
 
 /// Data of MX (RFC 1035 section 3.3.9).
-pub type Mx<Octets> = TypedData<{ RecordType::MX.0 }, Octets>;
+pub type Mx<Octets> = TypedData<{ codes::MX }, Octets>;
 
 /// The preference in data of MX.
 fn preference_of<Octets: AsOctets>(mail: &Data<Octets>) -> u16
@@ -118,31 +118,31 @@ impl<Octets: AsOctets> Mx<Octets> {
 }
 
 /// Data of TXT (RFC 1035 section 3.3.14).
-pub type Txt<Octets> = TypedData<{ RecordType::TXT.0 }, Octets>;
+pub type Txt<Octets> = TypedData<{ codes::TXT }, Octets>;
 
 /// Data of AAAA (RFC 3596 section 2.2).
-pub type Aaaa<Octets> = TypedData<{ RecordType::AAAA.0 }, Octets>;
+pub type Aaaa<Octets> = TypedData<{ codes::AAAA }, Octets>;
 
 /// Data of SRV (RFC 2782).
-pub type Srv<Octets> = TypedData<{ RecordType::SRV.0 }, Octets>;
+pub type Srv<Octets> = TypedData<{ codes::SRV }, Octets>;
 
 /// Data of DNAME (RFC 6672 section 2.1).
-pub type Dname<Octets> = TypedData<{ RecordType::DNAME.0 }, Octets>;
+pub type Dname<Octets> = TypedData<{ codes::DNAME }, Octets>;
 
 /// Data of DS (RFC 4034 section 5.1).
-pub type Ds<Octets> = TypedData<{ RecordType::DS.0 }, Octets>;
+pub type Ds<Octets> = TypedData<{ codes::DS }, Octets>;
 
 /// Data of RRSIG (RFC 4034 section 3.1).
-pub type Rrsig<Octets> = TypedData<{ RecordType::RRSIG.0 }, Octets>;
+pub type Rrsig<Octets> = TypedData<{ codes::RRSIG }, Octets>;
 
 /// Data of NSEC (RFC 4034 section 4.1).
-pub type Nsec<Octets> = TypedData<{ RecordType::NSEC.0 }, Octets>;
+pub type Nsec<Octets> = TypedData<{ codes::NSEC }, Octets>;
 
 /// Data of DNSKEY (RFC 4034 section 2.1).
-pub type Dnskey<Octets> = TypedData<{ RecordType::DNSKEY.0 }, Octets>;
+pub type Dnskey<Octets> = TypedData<{ codes::DNSKEY }, Octets>;
 
 /// Data of NSEC3 (RFC 5155 section 3.2).
-pub type Nsec3<Octets> = TypedData<{ RecordType::NSEC3.0 }, Octets>;
+pub type Nsec3<Octets> = TypedData<{ codes::NSEC3 }, Octets>;
 
 /// Data of CAA (RFC 8659 section 4.1).
-pub type Caa<Octets> = TypedData<{ RecordType::CAA.0 }, Octets>;
+pub type Caa<Octets> = TypedData<{ codes::CAA }, Octets>;
