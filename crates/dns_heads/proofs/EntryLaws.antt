@@ -1,7 +1,10 @@
 -- Heads are found in one way, and an entry says one thing.
 use Rattle.std.proofs.Common.{◌≡◌, ℕ, Bool, true, false, List, [], ◌∷◌, inl, inr, Option, Some, None, Result, Ok, Err, refl, sym, ap, subst, ◌∙◌}
 use Rattle.std.specs.Prelude.{◌≢◌, is_none}
+use Rattle.dns_fields.specs.RecordErrors.{IsErrorAt, error_at}
 use Rattle.dns_fields.specs.Source.{next_place}
+use Rattle.dns_fields.specs.declared.record_error.RecordError.{RecordError}
+use Rattle.dns_kinds.specs.declared.error.ErrorKind.{ErrorKind}
 use Rattle.dns_split.specs.EntryTokens.{TokenSeen}
 use Rattle.dns_heads.specs.Arguments.{TakesDefaultTtl, TakesEnd, TakesTtl, WhyNoTtl}
 use Rattle.dns_heads.specs.Directives.{TakesDirective, directive_of}
@@ -11,8 +14,6 @@ use Rattle.dns_heads.specs.HeadWords.{SaysTtl, SaysClass, SaysType}
 use Rattle.dns_heads.specs.Heads.{WhyNoType, TakesWords}
 use Rattle.dns_heads.specs.declared.directive.Directive.{Directive}
 use Rattle.dns_heads.specs.declared.directive.Directive.TheVariants.{Origin, Ttl, Include}
-use Rattle.dns_heads.specs.declared.error.HeadError.{HeadError}
-use Rattle.dns_heads.specs.declared.error.HeadRefusal.{HeadRefusal}
 use Rattle.dns_heads.specs.declared.head.Words.{Words}
 use Rattle.dns_heads.specs.declared.head.WordsRefusal.{WordsRefusal}
 use Rattle.dns_heads.proofs.Once.{heads_once}
@@ -21,7 +22,11 @@ use Rattle.dns_heads.proofs.WordLemmas.{ttl_once, class_once, type_once, apart}
 pub heads_found_once : HeadsFoundOnce
 heads_found_once = heads_once SaysTtl SaysClass ttl_once class_once apart.ttl_and_class
 
-why_once : (b : Bool) (tokens : List TokenSeen) (e f : HeadError) → WhyNoType b tokens e → WhyNoType b tokens f → e ≡ f
+-- errors at one place and of one kind are one
+same_error : (at from : ℕ) (e f : RecordError) → IsErrorAt at e → IsErrorAt from f → at ≡ from → e.kind ≡ f.kind → e ≡ f
+same_error at from e f h k place kind = h ∙ (λ i. error_at (place i) (kind i)) ∙ sym k
+
+why_once : (b : Bool) (tokens : List TokenSeen) (e f : ErrorKind) → WhyNoType b tokens e → WhyNoType b tokens f → e ≡ f
 why_once b [] e f h k = h ∙ sym k
 why_once b (t ∷ ts) e f h k = h.0 ∙ sym k.0
 
@@ -31,46 +36,43 @@ same_token t u ts us h = (cc, cc)
 no_type : (end : ℕ) (tokens left rest : List TokenSeen) (w : Words) (r : WordsRefusal) → TakesWords end tokens (Ok w) left → TakesWords end tokens (Err r) rest → ⊥
 no_type end tokens left rest w r h k =
     let same = heads_found_once tokens (h.0 ∷ left) rest w.ttl w.class r.ttl r.class h.1 k.0 in
-    let why : WhyNoType (is_none r.ttl) (h.0 ∷ left) r.why = subst (λ l. WhyNoType (is_none r.ttl) l r.why) (sym same.2) k.2 in
-    why.1 w.code h.2
+    let why : WhyNoType (is_none r.ttl) (h.0 ∷ left) r.error.kind = subst (λ l. WhyNoType (is_none r.ttl) l r.error.kind) (sym same.2) k.2 in
+    why.1 w.rtype h.2
 
 pub words_found_once : WordsFoundOnce
 words_found_once end tokens left rest (Ok w) (Ok v) h k =
     let same = heads_found_once tokens (h.0 ∷ left) (k.0 ∷ rest) w.ttl w.class v.ttl v.class h.1 k.1 in
     let parts = same_token h.0 k.0 left rest same.2 in
-    let code = type_once k.0 w.code v.code (subst (λ t. SaysType t w.code) parts.0 h.2) k.2 in
-    let words : w ≡ v = λ i. record { ttl = same.0 i; class = same.1 i; code = code i } in
+    let rtype = type_once k.0 w.rtype v.rtype (subst (λ t. SaysType t w.rtype) parts.0 h.2) k.2 in
+    let words : w ≡ v = λ i. record { ttl = same.0 i; class = same.1 i; rtype = rtype i } in
     (ap Ok words, parts.1)
 words_found_once end tokens left rest (Ok w) (Err s) h k = absurd (no_type end tokens left rest w s h k)
 words_found_once end tokens left rest (Err r) (Ok v) h k = absurd (no_type end tokens rest left v r k h)
 words_found_once end tokens left rest (Err r) (Err s) h k =
     let same = heads_found_once tokens left rest r.ttl r.class s.ttl s.class h.0 k.0 in
-    let at : r.at ≡ s.at = h.1 ∙ ap (λ l. next_place l end) same.2 ∙ sym k.1 in
-    let first : WhyNoType (is_none s.ttl) rest r.why = subst (λ l. WhyNoType (is_none s.ttl) l r.why) same.2 (subst (λ o. WhyNoType (is_none o) left r.why) same.0 h.2) in
-    let why = why_once (is_none s.ttl) rest r.why s.why first k.2 in
-    let refused : r ≡ s = λ i. record { at = at i; why = why i; ttl = same.0 i; class = same.1 i } in
+    let first : WhyNoType (is_none s.ttl) rest r.error.kind = subst (λ l. WhyNoType (is_none s.ttl) l r.error.kind) same.2 (subst (λ o. WhyNoType (is_none o) left r.error.kind) same.0 h.2) in
+    let why = why_once (is_none s.ttl) rest r.error.kind s.error.kind first k.2 in
+    let error = same_error (next_place left end) (next_place rest end) r.error s.error h.1 k.1 (ap (λ l. next_place l end) same.2) why in
+    let refused : r ≡ s = λ i. record { error = error i; ttl = same.0 i; class = same.1 i } in
     (ap Err refused, same.2)
 
 -- ---- `$TTL`
 
-why_no_ttl_once : (tokens : List TokenSeen) (e f : HeadError) → WhyNoTtl tokens e → WhyNoTtl tokens f → e ≡ f
+why_no_ttl_once : (tokens : List TokenSeen) (e f : ErrorKind) → WhyNoTtl tokens e → WhyNoTtl tokens f → e ≡ f
 why_no_ttl_once [] e f h k = h ∙ sym k
 why_no_ttl_once (t ∷ ts) e f h k = h.0 ∙ sym k.0
 
-refused_once : (r s : HeadRefusal) → r.at ≡ s.at → r.why ≡ s.why → r ≡ s
-refused_once r s at why = λ i. record { at = at i; why = why i }
-
-ends_once : (tokens left rest : List TokenSeen) (r s : HeadRefusal) → TakesEnd tokens (Err r) left → TakesEnd tokens (Err s) rest → r ≡ s
+ends_once : (tokens left rest : List TokenSeen) (r s : RecordError) → TakesEnd tokens (Err r) left → TakesEnd tokens (Err s) rest → r ≡ s
 ends_once [] left rest r s h k = absurd h
 ends_once (t ∷ ts) left rest r s h k = h.1 ∙ sym k.1
 
-no_end : (tokens left : List TokenSeen) (r : HeadRefusal) → tokens ≡ [] → TakesEnd tokens (Err r) left → ⊥
+no_end : (tokens left : List TokenSeen) (r : RecordError) → tokens ≡ [] → TakesEnd tokens (Err r) left → ⊥
 no_end [] left r e h = h
 no_end (t ∷ ts) left r e h = cc
 
-no_ttl : (end : ℕ) (tokens left rest : List TokenSeen) (n : ℕ) (r : HeadRefusal) → TakesTtl end tokens (Ok n) left → TakesTtl end tokens (Err r) rest → ⊥
+no_ttl : (end : ℕ) (tokens left rest : List TokenSeen) (n : ℕ) (r : RecordError) → TakesTtl end tokens (Ok n) left → TakesTtl end tokens (Err r) rest → ⊥
 no_ttl end tokens left rest n r h k =
-    let why : WhyNoTtl (h.0 ∷ left) r.why = subst (λ l. WhyNoTtl l r.why) h.1 k.2 in
+    let why : WhyNoTtl (h.0 ∷ left) r.kind = subst (λ l. WhyNoTtl l r.kind) h.1 k.2 in
     why.1 n h.2
 
 ttl_taken_once : (end : ℕ) (tokens left rest : List TokenSeen) (n m : ℕ) → TakesTtl end tokens (Ok n) left → TakesTtl end tokens (Ok m) rest → (n ≡ m) × (left ≡ rest)
@@ -79,19 +81,19 @@ ttl_taken_once end tokens left rest n m h k =
     (ttl_once k.0 n m (subst (λ t. SaysTtl t n) parts.0 h.2) k.2, parts.1)
 
 -- one default is taken, and none is refused
-not_refused : (end : ℕ) (tokens rest : List TokenSeen) (n : ℕ) (r : HeadRefusal) → TakesTtl end tokens (Ok n) [] → TakesDefaultTtl end tokens (Err r) rest → ⊥
+not_refused : (end : ℕ) (tokens rest : List TokenSeen) (n : ℕ) (r : RecordError) → TakesTtl end tokens (Ok n) [] → TakesDefaultTtl end tokens (Err r) rest → ⊥
 not_refused end tokens rest n r h (inl k) = no_ttl end tokens [] rest n r h k
 not_refused end tokens rest n r h (inr k) = no_end rest rest r (sym (ttl_taken_once end tokens [] rest n k.0 h k.1).1) k.2
 
-refusals_once : (end : ℕ) (tokens left rest : List TokenSeen) (r s : HeadRefusal) → TakesDefaultTtl end tokens (Err r) left → TakesDefaultTtl end tokens (Err s) rest → r ≡ s
-refusals_once end tokens left rest r s (inl h) (inl k) = refused_once r s (h.1 ∙ sym k.1) (why_no_ttl_once tokens r.why s.why h.2 k.2)
+refusals_once : (end : ℕ) (tokens left rest : List TokenSeen) (r s : RecordError) → TakesDefaultTtl end tokens (Err r) left → TakesDefaultTtl end tokens (Err s) rest → r ≡ s
+refusals_once end tokens left rest r s (inl h) (inl k) = same_error (next_place tokens end) (next_place tokens end) r s h.1 k.1 refl (why_no_ttl_once tokens r.kind s.kind h.2 k.2)
 refusals_once end tokens left rest r s (inl h) (inr k) = absurd (no_ttl end tokens rest left k.0 r k.1 h)
 refusals_once end tokens left rest r s (inr h) (inl k) = absurd (no_ttl end tokens left rest h.0 s h.1 k)
 refusals_once end tokens left rest r s (inr h) (inr k) =
     let same = (ttl_taken_once end tokens left rest h.0 k.0 h.1 k.1).1 in
     ends_once rest left rest r s (subst (λ l. TakesEnd l (Err r) left) same h.2) k.2
 
-default_ttl_once : (end : ℕ) (tokens left rest : List TokenSeen) (r s : Result ℕ HeadRefusal) → TakesDefaultTtl end tokens r left → TakesDefaultTtl end tokens s rest → r ≡ s
+default_ttl_once : (end : ℕ) (tokens left rest : List TokenSeen) (r s : Result ℕ RecordError) → TakesDefaultTtl end tokens r left → TakesDefaultTtl end tokens s rest → r ≡ s
 default_ttl_once end tokens left rest (Ok n) (Ok m) h k = ap Ok (ttl_taken_once end tokens [] [] n m h.0 k.0).0
 default_ttl_once end tokens left rest (Ok n) (Err s) h k = absurd (not_refused end tokens rest n s h.0 k)
 default_ttl_once end tokens left rest (Err r) (Ok m) h k = absurd (not_refused end tokens left m r k.0 h)
@@ -115,7 +117,7 @@ record_says_once owner end tokens m n h k =
     let meaning : says_record owner h.0 h.1 ≡ says_record owner k.0 k.1 = λ i. says_record owner (same.0 i) (same.1 i) in
     h.3 ∙ meaning ∙ sym k.3
 
-first_says_once : (found : Option (Result Directive HeadError)) (end : ℕ) (t : TokenSeen) (ts : List TokenSeen) (m n : EntryMeaning) → FirstSays found end t ts m → FirstSays found end t ts n → m ≡ n
+first_says_once : (found : Option (Result Directive ErrorKind)) (end : ℕ) (t : TokenSeen) (ts : List TokenSeen) (m n : EntryMeaning) → FirstSays found end t ts m → FirstSays found end t ts n → m ≡ n
 first_says_once None end t ts m n h k = record_says_once (Some t) end ts m n h k
 first_says_once (Some (Ok d)) end t ts m n h k = directive_says_once d end ts m n h k
 first_says_once (Some (Err why)) end t ts m n h k = h ∙ sym k
@@ -140,11 +142,11 @@ directive_says true end tokens left d m h k = let e = h.1 in cc
 directive_says false end [] left d m h k = let e = h.1 in cc
 directive_says false end (t ∷ ts) left d m h k = subst (λ found. FirstSays found end t ts m) (sym h.1) (subst (λ l. DirectiveSays d end l m) h.0 k)
 
-refused_says : (blank : Bool) (end : ℕ) (tokens left : List TokenSeen) (r : HeadRefusal) → TakesDirective blank end tokens (Err r) left → EntrySays blank end tokens (says_refused r)
+refused_says : (blank : Bool) (end : ℕ) (tokens left : List TokenSeen) (r : RecordError) → TakesDirective blank end tokens (Err r) left → EntrySays blank end tokens (says_refused r)
 refused_says true end tokens left r h = let e = h.1 in cc
 refused_says false end [] left r h = let e = h.1 in cc
 refused_says false end (t ∷ ts) left r h =
-    subst (λ found. FirstSays found end t ts (says_refused r)) (sym h.1) (ap says_refused (refused_once r (record { at = t.at; why = r.why }) h.2 refl))
+    subst (λ found. FirstSays found end t ts (says_refused r)) (sym h.1) (ap says_refused h.2)
 
 pub entries_say_taken : EntriesSayTaken
 entries_say_taken = record { blank = blank_says; owner = owner_says; directive = directive_says; refused = refused_says }

@@ -2,15 +2,14 @@
 use Rattle.std.proofs.Common.{ℕ, false, List, [], ◌∷◌, inl, inr, Some, None, Ok, Err, refl, arith}
 use Rattle.std.specs.Prelude.{codes}
 use Rattle.std.proofs.lemmas.List.Elements.{All-nil, All-cons}
-use Rattle.dns_fields.specs.declared.error.FieldError.TheVariants.{Kind}
+use Rattle.dns_fields.specs.RecordErrors.{error_at}
 use Rattle.dns_kinds.specs.Ttl.{Period, IsPeriod}
 use Rattle.dns_kinds.specs.Types.{type_rows}
-use Rattle.dns_kinds.specs.declared.error.KindError.TheVariants.{UnknownType}
+use Rattle.dns_kinds.specs.declared.error.ErrorKind.TheVariants.{UnknownType}
 use Rattle.dns_split.specs.EntryTokens.{TokenSeen}
 use Rattle.dns_heads.specs.EntrySays.{EntrySays, says_default_ttl, says_record}
 use Rattle.dns_heads.specs.HeadWords.{SaysTtl, SaysClass, SaysType}
 use Rattle.dns_heads.specs.Heads.{TakesHead}
-use Rattle.dns_heads.specs.declared.error.HeadError.TheVariants.{Field}
 use Rattle.dns_heads.proofs.WordLemmas.{apart}
 
 -- a word at a place
@@ -67,7 +66,7 @@ unfolding type_rows
 address at = (refl, refl)
 
 -- w 1h30m A
-units_row : let w = word_at (codes "w") 0 in EntrySays false 9 (w ∷ word_at (codes "1h30m") 2 ∷ word_at (codes "A") 8 ∷ []) (says_record (Some w) (Ok (record { ttl = Some 5400; class = None; code = 1 })) [])
+units_row : let w = word_at (codes "w") 0 in EntrySays false 9 (w ∷ word_at (codes "1h30m") 2 ∷ word_at (codes "A") 8 ∷ []) (says_record (Some w) (Ok (record { ttl = Some 5400; class = None; rtype = 1 })) [])
 units_row =
     let t = word_at (codes "1h30m") 2 in
     let a = word_at (codes "A") 8 in
@@ -77,10 +76,10 @@ units_row =
       is = record { front = t ∷ []; back = []; whole = refl; order = inl (hour_and_half 2, refl) };
       ends = (λ e. cc, λ e n h. apart.class_and_type a n 1 h (address 8));
     } in
-    (Ok (record { ttl = Some 5400; class = None; code = 1 }), [], (a, head, address 8), refl)
+    (Ok (record { ttl = Some 5400; class = None; rtype = 1 }), [], (a, head, address 8), refl)
 
 -- 60 IN A: its owner is 60
-owner_row : let owner = word_at (codes "60") 0 in EntrySays false 7 (owner ∷ word_at (codes "IN") 3 ∷ word_at (codes "A") 6 ∷ []) (says_record (Some owner) (Ok (record { ttl = None; class = Some 1; code = 1 })) [])
+owner_row : let owner = word_at (codes "60") 0 in EntrySays false 7 (owner ∷ word_at (codes "IN") 3 ∷ word_at (codes "A") 6 ∷ []) (says_record (Some owner) (Ok (record { ttl = None; class = Some 1; rtype = 1 })) [])
 owner_row =
     let c = word_at (codes "IN") 3 in
     let a = word_at (codes "A") 6 in
@@ -90,10 +89,10 @@ owner_row =
       is = record { front = []; back = c ∷ []; whole = refl; order = inl (refl, internet 3) };
       ends = (λ e n h. apart.ttl_and_type a n 1 h (address 6), λ e. cc);
     } in
-    (Ok (record { ttl = None; class = Some 1; code = 1 }), [], (a, head, address 6), refl)
+    (Ok (record { ttl = None; class = Some 1; rtype = 1 }), [], (a, head, address 6), refl)
 
 -- w IN 5 A
-class_first_row : let w = word_at (codes "w") 0 in EntrySays false 8 (w ∷ word_at (codes "IN") 2 ∷ word_at (codes "5") 5 ∷ word_at (codes "A") 7 ∷ []) (says_record (Some w) (Ok (record { ttl = Some 5; class = Some 1; code = 1 })) [])
+class_first_row : let w = word_at (codes "w") 0 in EntrySays false 8 (w ∷ word_at (codes "IN") 2 ∷ word_at (codes "5") 5 ∷ word_at (codes "A") 7 ∷ []) (says_record (Some w) (Ok (record { ttl = Some 5; class = Some 1; rtype = 1 })) [])
 class_first_row =
     let c = word_at (codes "IN") 2 in
     let t = word_at (codes "5") 5 in
@@ -104,11 +103,11 @@ class_first_row =
       is = record { front = c ∷ []; back = t ∷ []; whole = refl; order = inr (internet 2, five 5) };
       ends = (λ e. cc, λ e. cc);
     } in
-    (Ok (record { ttl = Some 5; class = Some 1; code = 1 }), [], (a, head, address 7), refl)
+    (Ok (record { ttl = Some 5; class = Some 1; rtype = 1 }), [], (a, head, address 7), refl)
 
 -- w 5 IN 6 A: the second time to live is an unknown type
 second_ttl_row : let w = word_at (codes "w") 0 in let six = word_at (codes "6") 7 in let a = word_at (codes "A") 9 in
-    EntrySays false 10 (w ∷ word_at (codes "5") 2 ∷ word_at (codes "IN") 4 ∷ six ∷ a ∷ []) (says_record (Some w) (Err (record { at = 7; why = Field (Kind UnknownType); ttl = Some 5; class = Some 1 })) (six ∷ a ∷ []))
+    EntrySays false 10 (w ∷ word_at (codes "5") 2 ∷ word_at (codes "IN") 4 ∷ six ∷ a ∷ []) (says_record (Some w) (Err (record { error = error_at 7 UnknownType; ttl = Some 5; class = Some 1 })) (six ∷ a ∷ []))
 second_ttl_row =
     let t = word_at (codes "5") 2 in
     let c = word_at (codes "IN") 4 in
@@ -120,7 +119,7 @@ second_ttl_row =
       is = record { front = t ∷ []; back = c ∷ []; whole = refl; order = inl (five 2, internet 4) };
       ends = (λ e. cc, λ e. cc);
     } in
-    (Err (record { at = 7; why = Field (Kind UnknownType); ttl = Some 5; class = Some 1 }), u ∷ a ∷ [], (head, refl, (refl, λ code h. apart.ttl_and_type u 6 code (six 7) h)), refl)
+    (Err (record { error = error_at 7 UnknownType; ttl = Some 5; class = Some 1 }), u ∷ a ∷ [], (head, refl, (refl, λ rtype h. apart.ttl_and_type u 6 rtype (six 7) h)), refl)
 
 -- $ttl 1h
 default_ttl_row : EntrySays false 7 (word_at (codes "$ttl") 0 ∷ word_at (codes "1h") 5 ∷ []) (says_default_ttl (Ok 3600))

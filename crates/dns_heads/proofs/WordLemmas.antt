@@ -26,10 +26,10 @@ pub ttl_once : (t : TokenSeen) (n m : ℕ) → SaysTtl t n → SaysTtl t m → n
 ttl_once t n m h k = h.1.2 ∙ ap ttl_of_seconds (seconds_once t.text h.1.0 k.1.0 h.1.1.0 k.1.1.0) ∙ sym k.1.2
 
 pub class_once : (t : TokenSeen) (n m : ℕ) → SaysClass t n → SaysClass t m → n ≡ m
-class_once t n m h k = ap (λ c. c.0) (classes_are_kind.once t.text (record { 0 = n }) (record { 0 = m }) h.1 k.1)
+class_once t n m h k = classes_are_kind.once t.text n m h.1 k.1
 
 pub type_once : (t : TokenSeen) (n m : ℕ) → SaysType t n → SaysType t m → n ≡ m
-type_once t n m h k = ap (λ c. c.0) (types_are_kind.once t.text (record { 0 = n }) (record { 0 = m }) h.1 k.1)
+type_once t n m h k = types_are_kind.once t.text n m h.1 k.1
 
 -- ---- below 2^31 a time to live is as it is spelled
 
@@ -89,14 +89,14 @@ type_names_begin : (text : List ℕ) → lowered (take 4 text) ≡ codes "type" 
 type_names_begin [] h = cc
 type_names_begin (c ∷ cs) h = let first : to_ascii_lowercase c ≡ 116 = cc in ap is_ascii_lowercase first
 
-class_letter : (text : List ℕ) (code : ℕ) → SpellsClass text (record { 0 = code }) → begins_with_letter (lowered text) ≡ true
+class_letter : (text : List ℕ) (code : ℕ) → SpellsClass text code → begins_with_letter (lowered text) ≡ true
 class_letter = spelled_like begins_with_letter class_rows class_prefix 65535 refl class_names_begin
 
 type_rows_begin : all_like begins_with_letter type_rows ≡ true
 unfolding type_rows
 type_rows_begin = refl
 
-type_letter : (text : List ℕ) (code : ℕ) → SpellsType text (record { 0 = code }) → begins_with_letter (lowered text) ≡ true
+type_letter : (text : List ℕ) (code : ℕ) → SpellsType text code → begins_with_letter (lowered text) ≡ true
 type_letter = spelled_like begins_with_letter type_rows type_prefix 65535 type_rows_begin type_names_begin
 
 no_letter : (c : ℕ) → is_ascii_digit c ≡ true → is_ascii_lowercase (to_ascii_lowercase c) ≡ true → ⊥
@@ -127,14 +127,14 @@ type_prefix_unlike : (text : List ℕ) → lowered (take 4 text) ≡ codes "type
 type_prefix_unlike [] h = cc
 type_prefix_unlike (c ∷ cs) h = let first : to_ascii_lowercase c ≡ 116 = cc in ap (λ d. not (is_like_class (d ∷ lowered cs))) first
 
-class_like : (text : List ℕ) (code : ℕ) → SpellsClass text (record { 0 = code }) → is_like_class (lowered text) ≡ true
+class_like : (text : List ℕ) (code : ℕ) → SpellsClass text code → is_like_class (lowered text) ≡ true
 class_like = spelled_like is_like_class class_rows class_prefix 65535 refl class_prefix_like
 
 type_rows_unlike : all_like (λ small. not (is_like_class small)) type_rows ≡ true
 unfolding type_rows
 type_rows_unlike = refl
 
-type_unlike : (text : List ℕ) (code : ℕ) → SpellsType text (record { 0 = code }) → not (is_like_class (lowered text)) ≡ true
+type_unlike : (text : List ℕ) (code : ℕ) → SpellsType text code → not (is_like_class (lowered text)) ≡ true
 type_unlike = spelled_like (λ small. not (is_like_class small)) type_rows type_prefix 65535 type_rows_unlike type_prefix_unlike
 
 not_both : (b : Bool) → b ≡ true → not b ≡ true → ⊥

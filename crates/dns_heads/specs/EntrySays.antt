@@ -1,15 +1,15 @@
 -- What the tokens of an entry say.
 use Rattle.std.specs.Prelude.{ℕ, ◌≡◌, Bool, true, false, List, [], ◌∷◌, Option, Some, None, Result, Ok, Err}
-use Rattle.dns_fields.specs.declared.error.FieldError.TheVariants.{EndOfEntry}
+use Rattle.dns_fields.specs.RecordErrors.{error_at}
+use Rattle.dns_fields.specs.declared.record_error.RecordError.{RecordError}
+use Rattle.dns_kinds.specs.declared.error.ErrorKind.{ErrorKind}
+use Rattle.dns_kinds.specs.declared.error.ErrorKind.TheVariants.{EndOfEntry, TrailingArgument}
 use Rattle.dns_split.specs.EntryTokens.{TokenSeen}
 use Rattle.dns_heads.specs.Arguments.{TakesDefaultTtl}
 use Rattle.dns_heads.specs.Directives.{directive_of}
 use Rattle.dns_heads.specs.Heads.{TakesWords}
 use Rattle.dns_heads.specs.declared.directive.Directive.{Directive}
 use Rattle.dns_heads.specs.declared.directive.Directive.TheVariants.{Origin, Ttl, Include}
-use Rattle.dns_heads.specs.declared.error.HeadError.{HeadError}
-use Rattle.dns_heads.specs.declared.error.HeadError.TheVariants.{Field, TrailingToken}
-use Rattle.dns_heads.specs.declared.error.HeadRefusal.{HeadRefusal}
 use Rattle.dns_heads.specs.declared.head.Words.{Words}
 use Rattle.dns_heads.specs.declared.head.WordsRefusal.{WordsRefusal}
 
@@ -19,34 +19,34 @@ pub data EntryMeaning : Type 0 where
   -- the token of a name is the origin from here
   says_origin : TokenSeen → EntryMeaning
   -- so many seconds are the time to live of records that say none, or why they are not
-  says_default_ttl : Result ℕ HeadRefusal → EntryMeaning
+  says_default_ttl : Result ℕ RecordError → EntryMeaning
   -- a file, and the token of the origin that stands in it, if one is said
   says_include : List ℕ → Option TokenSeen → EntryMeaning
   -- a record: the token of its owner, unless the entry begins with a blank; its words, or why they are refused; and the tokens that are left
   says_record : Option TokenSeen → Result Words WordsRefusal → List TokenSeen → EntryMeaning
   -- a directive is refused
-  says_refused : HeadRefusal → EntryMeaning
+  says_refused : RecordError → EntryMeaning
 
-abbrev says_refused_at : ℕ → HeadError → EntryMeaning
-says_refused_at at why = says_refused (record { at = at; why = why })
+abbrev says_refused_at : ℕ → ErrorKind → EntryMeaning
+says_refused_at at why = says_refused (error_at at why)
 
 -- the tokens behind a directive's word
 abbrev pub DirectiveSays : Directive → ℕ → List TokenSeen → EntryMeaning → Type 0
-DirectiveSays Origin end [] m = m ≡ says_refused_at end (Field EndOfEntry)
+DirectiveSays Origin end [] m = m ≡ says_refused_at end EndOfEntry
 DirectiveSays Origin end (name ∷ []) m = m ≡ says_origin name
-DirectiveSays Origin end (name ∷ t ∷ ts) m = m ≡ says_refused_at t.at TrailingToken
-DirectiveSays Ttl end tokens m = (r : Result ℕ HeadRefusal) × (left : List TokenSeen) × TakesDefaultTtl end tokens r left × (m ≡ says_default_ttl r)
-DirectiveSays Include end [] m = m ≡ says_refused_at end (Field EndOfEntry)
+DirectiveSays Origin end (name ∷ t ∷ ts) m = m ≡ says_refused_at t.at TrailingArgument
+DirectiveSays Ttl end tokens m = (r : Result ℕ RecordError) × (left : List TokenSeen) × TakesDefaultTtl end tokens r left × (m ≡ says_default_ttl r)
+DirectiveSays Include end [] m = m ≡ says_refused_at end EndOfEntry
 DirectiveSays Include end (file ∷ []) m = m ≡ says_include file.text None
 DirectiveSays Include end (file ∷ origin ∷ []) m = m ≡ says_include file.text (Some origin)
-DirectiveSays Include end (file ∷ origin ∷ t ∷ ts) m = m ≡ says_refused_at t.at TrailingToken
+DirectiveSays Include end (file ∷ origin ∷ t ∷ ts) m = m ≡ says_refused_at t.at TrailingArgument
 
 -- the tokens behind a record's owner
 abbrev pub RecordSays : Option TokenSeen → ℕ → List TokenSeen → EntryMeaning → Type 0
 RecordSays owner end tokens m = (r : Result Words WordsRefusal) × (left : List TokenSeen) × TakesWords end tokens r left × (m ≡ says_record owner r left)
 
 -- the first token names a directive, or is a record's owner
-abbrev pub FirstSays : Option (Result Directive HeadError) → ℕ → TokenSeen → List TokenSeen → EntryMeaning → Type 0
+abbrev pub FirstSays : Option (Result Directive ErrorKind) → ℕ → TokenSeen → List TokenSeen → EntryMeaning → Type 0
 FirstSays None end t ts m = RecordSays (Some t) end ts m
 FirstSays (Some (Ok d)) end t ts m = DirectiveSays d end ts m
 FirstSays (Some (Err why)) end t ts m = m ≡ says_refused_at t.at why

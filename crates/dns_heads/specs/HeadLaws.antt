@@ -1,12 +1,12 @@
 -- Heads are found in one way, and an entry says one thing.
 use Rattle.std.specs.Prelude.{ℕ, ◌≡◌, ◌≢◌, Bool, true, false, List, [], ◌∷◌, Option, Some, None, Result, Ok, Err}
+use Rattle.dns_fields.specs.declared.record_error.RecordError.{RecordError}
 use Rattle.dns_split.specs.EntryTokens.{TokenSeen}
 use Rattle.dns_heads.specs.Directives.{TakesDirective}
 use Rattle.dns_heads.specs.EntrySays.{EntryMeaning, DirectiveSays, EntrySays, says_record, says_refused}
 use Rattle.dns_heads.specs.HeadWords.{SaysTtl, SaysClass}
 use Rattle.dns_heads.specs.Heads.{TakesHead, TakesWords}
 use Rattle.dns_heads.specs.declared.directive.Directive.{Directive}
-use Rattle.dns_heads.specs.declared.error.HeadRefusal.{HeadRefusal}
 use Rattle.dns_heads.specs.declared.head.Words.{Words}
 use Rattle.dns_heads.specs.declared.head.WordsRefusal.{WordsRefusal}
 
@@ -26,4 +26,4 @@ pub record EntriesSayTaken : Type 0 where
   pub blank : (end : ℕ) (tokens left : List TokenSeen) (r : Result Words WordsRefusal) → tokens ≢ [] → TakesWords end tokens r left → EntrySays true end tokens (says_record None r left)
   pub owner : (end : ℕ) (t : TokenSeen) (ts rest left : List TokenSeen) (r : Result Words WordsRefusal) → TakesDirective false end (t ∷ ts) (Ok None) rest → TakesWords end ts r left → EntrySays false end (t ∷ ts) (says_record (Some t) r left)
   pub directive : (blank : Bool) (end : ℕ) (tokens left : List TokenSeen) (d : Directive) (m : EntryMeaning) → TakesDirective blank end tokens (Ok (Some d)) left → DirectiveSays d end left m → EntrySays blank end tokens m
-  pub refused : (blank : Bool) (end : ℕ) (tokens left : List TokenSeen) (r : HeadRefusal) → TakesDirective blank end tokens (Err r) left → EntrySays blank end tokens (says_refused r)
+  pub refused : (blank : Bool) (end : ℕ) (tokens left : List TokenSeen) (e : RecordError) → TakesDirective blank end tokens (Err e) left → EntrySays blank end tokens (says_refused e)

@@ -1,14 +1,12 @@
 -- The words in front of a record's data, and which tokens are one.
 use Rattle.std.specs.Prelude.{ℕ, ◌≡◌, ◌&&◌, Bool, false, if◌then◌else◌, ◌^◌, nat_lt, List, [], ◌∷◌, Option, MatchOption}
 use Rattle.std.specs.Char.{is_ascii_digit}
-use Rattle.dns_fields.specs.declared.error.FieldError.TheVariants.{Quoted, Kind}
 use Rattle.dns_kinds.specs.Classes.{SpellsClass}
 use Rattle.dns_kinds.specs.Ttl.{SpellsInterval}
 use Rattle.dns_kinds.specs.Types.{SpellsType}
-use Rattle.dns_kinds.specs.declared.error.KindError.TheVariants.{ExpectedTtl, UnknownType}
+use Rattle.dns_kinds.specs.declared.error.ErrorKind.{ErrorKind}
+use Rattle.dns_kinds.specs.declared.error.ErrorKind.TheVariants.{ExpectedTtl, Quoted, UnknownType}
 use Rattle.dns_split.specs.EntryTokens.{TokenSeen}
-use Rattle.dns_heads.specs.declared.error.HeadError.{HeadError}
-use Rattle.dns_heads.specs.declared.error.HeadError.TheVariants.{Field}
 
 -- a time to live of a number of seconds: from 2^31 on it is 0 (RFC 2181 section 8)
 abbrev pub ttl_of_seconds : ℕ → ℕ
@@ -18,12 +16,12 @@ ttl_of_seconds seconds = if nat_lt seconds (2 ^ 31) then seconds else 0
 abbrev pub SaysTtl : TokenSeen → ℕ → Type 0
 SaysTtl t ttl = (t.is_quoted ≡ false) × ((seconds : ℕ) × SpellsInterval t.text seconds × (ttl ≡ ttl_of_seconds seconds))
 
--- or a class, or a type, of such a code
+-- or a class, or a type
 abbrev pub SaysClass : TokenSeen → ℕ → Type 0
-SaysClass t code = (t.is_quoted ≡ false) × SpellsClass t.text (record { 0 = code })
+SaysClass t class = (t.is_quoted ≡ false) × SpellsClass t.text class
 
 abbrev pub SaysType : TokenSeen → ℕ → Type 0
-SaysType t code = (t.is_quoted ≡ false) × SpellsType t.text (record { 0 = code })
+SaysType t rtype = (t.is_quoted ≡ false) × SpellsType t.text rtype
 
 -- what a token says of a kind, if it says anything
 abbrev pub FindsWord : (TokenSeen → ℕ → Type 0) → TokenSeen → Option ℕ → Type 0
@@ -34,13 +32,13 @@ begins_with_digit [] = false
 begins_with_digit (c ∷ cs) = is_ascii_digit c
 
 -- why a token that is no type is refused: it is a quoted text; it looks like a time to live, where it may be one; or it names no type
-abbrev pub type_refusal : Bool → TokenSeen → HeadError
+abbrev pub type_refusal : Bool → TokenSeen → ErrorKind
 type_refusal may_be_ttl t =
-    if t.is_quoted then Field Quoted
-    else (if may_be_ttl && begins_with_digit t.text then Field (Kind ExpectedTtl) else Field (Kind UnknownType))
+    if t.is_quoted then Quoted
+    else (if may_be_ttl && begins_with_digit t.text then ExpectedTtl else UnknownType)
 
 -- no word is two of them
 pub record HeadWordsApart : Type 0 where
-  pub ttl_and_class : (t : TokenSeen) (ttl code : ℕ) → SaysTtl t ttl → SaysClass t code → ⊥
-  pub ttl_and_type : (t : TokenSeen) (ttl code : ℕ) → SaysTtl t ttl → SaysType t code → ⊥
-  pub class_and_type : (t : TokenSeen) (class code : ℕ) → SaysClass t class → SaysType t code → ⊥
+  pub ttl_and_class : (t : TokenSeen) (ttl class : ℕ) → SaysTtl t ttl → SaysClass t class → ⊥
+  pub ttl_and_type : (t : TokenSeen) (ttl rtype : ℕ) → SaysTtl t ttl → SaysType t rtype → ⊥
+  pub class_and_type : (t : TokenSeen) (class rtype : ℕ) → SaysClass t class → SaysType t rtype → ⊥

@@ -1,12 +1,12 @@
 -- What stands in front of a record's data: a time to live and a class, each at most once and in either order, and the type.
 use Rattle.std.specs.Prelude.{⊤, ℕ, ◌≡◌, ◌⊎◌, Bool, is_none, List, [], ◌∷◌, ◌++◌, Option, Some, None, Result, Ok, Err}
+use Rattle.dns_fields.specs.RecordErrors.{IsErrorAt}
 use Rattle.dns_fields.specs.Source.{next_place}
-use Rattle.dns_fields.specs.declared.error.FieldError.TheVariants.{EndOfEntry}
+use Rattle.dns_fields.specs.declared.record_error.RecordError.{RecordError}
+use Rattle.dns_kinds.specs.declared.error.ErrorKind.{ErrorKind}
+use Rattle.dns_kinds.specs.declared.error.ErrorKind.TheVariants.{EndOfEntry}
 use Rattle.dns_split.specs.EntryTokens.{TokenSeen}
 use Rattle.dns_heads.specs.HeadWords.{SaysTtl, SaysClass, SaysType, type_refusal}
-use Rattle.dns_heads.specs.declared.error.HeadError.{HeadError}
-use Rattle.dns_heads.specs.declared.error.HeadError.TheVariants.{Field}
-use Rattle.dns_heads.specs.declared.error.HeadRefusal.{HeadRefusal}
 use Rattle.dns_heads.specs.declared.head.Words.{Words}
 use Rattle.dns_heads.specs.declared.head.WordsRefusal.{WordsRefusal}
 
@@ -46,16 +46,16 @@ module _ {T : Type 0} (SaysTtl SaysClass : T → ℕ → Type 0) where
     pub ends : EndsHead ttl class left
 
 -- why there is no type: no token is left; or the next is none
-abbrev pub WhyNoType : Bool → List TokenSeen → HeadError → Type 0
-WhyNoType may_be_ttl [] e = e ≡ Field EndOfEntry
-WhyNoType may_be_ttl (t ∷ ts) e = (e ≡ type_refusal may_be_ttl t) × ((code : ℕ) → SaysType t code → ⊥)
+abbrev pub WhyNoType : Bool → List TokenSeen → ErrorKind → Type 0
+WhyNoType may_be_ttl [] e = e ≡ EndOfEntry
+WhyNoType may_be_ttl (t ∷ ts) e = (e ≡ type_refusal may_be_ttl t) × ((rtype : ℕ) → SaysType t rtype → ⊥)
 
 -- the next token is taken as a type; or it is refused at its place, and none is taken
-abbrev pub TakesType : Bool → ℕ → List TokenSeen → Result ℕ HeadRefusal → List TokenSeen → Type 0
-TakesType may_be_ttl end tokens (Ok code) left = (t : TokenSeen) × (tokens ≡ t ∷ left) × SaysType t code
-TakesType may_be_ttl end tokens (Err r) left = (left ≡ tokens) × (r.at ≡ next_place tokens end) × WhyNoType may_be_ttl tokens r.why
+abbrev pub TakesType : Bool → ℕ → List TokenSeen → Result ℕ RecordError → List TokenSeen → Type 0
+TakesType may_be_ttl end tokens (Ok rtype) left = (t : TokenSeen) × (tokens ≡ t ∷ left) × SaysType t rtype
+TakesType may_be_ttl end tokens (Err e) left = (left ≡ tokens) × IsErrorAt (next_place tokens end) e × WhyNoType may_be_ttl tokens e.kind
 
 -- behind a time to live and a class comes the type; or there is none, and this is why
 abbrev pub TakesWords : ℕ → List TokenSeen → Result Words WordsRefusal → List TokenSeen → Type 0
-TakesWords end tokens (Ok w) left = (t : TokenSeen) × TakesHead SaysTtl SaysClass tokens w.ttl w.class (t ∷ left) × SaysType t w.code
-TakesWords end tokens (Err r) left = TakesHead SaysTtl SaysClass tokens r.ttl r.class left × (r.at ≡ next_place left end) × WhyNoType (is_none r.ttl) left r.why
+TakesWords end tokens (Ok w) left = (t : TokenSeen) × TakesHead SaysTtl SaysClass tokens w.ttl w.class (t ∷ left) × SaysType t w.rtype
+TakesWords end tokens (Err r) left = TakesHead SaysTtl SaysClass tokens r.ttl r.class left × IsErrorAt (next_place left end) r.error × WhyNoType (is_none r.ttl) left r.error.kind

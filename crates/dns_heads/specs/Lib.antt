@@ -1,7 +1,6 @@
 pub mod Arguments
 pub mod Directives
 pub mod EntrySays
-pub mod HeadErrors
 pub mod HeadLaws
 pub mod HeadWords
 pub mod Heads

@@ -3,49 +3,46 @@ ghost use Rattle.std.specs.Prelude.{◌≡◌};
 ghost use Rattle.dns_split.specs.EntryTokens.{token_seen};
 ghost use Rattle.dns_heads.specs.Arguments.{TakesDefaultTtl, TakesEnd, TakesFile, TakesTtl, ttl_refusal};
 
-use crate::error::{HeadError, HeadRefusal};
 use crate::words::ttl_word;
-use dns_fields::{FieldError, TokenSource};
-use dns_kinds::KindError;
+use dns_fields::{RecordError, TokenSource};
+use dns_kinds::ErrorKind;
 use dns_octets::OctetsBuilder;
 use dns_split::entry_tokens::EntryToken;
 
 /// Sees that no token is left behind a directive's arguments.
-pub fn take_end<S: TokenSource>(source: &mut S) -> Result<(), HeadRefusal>
+pub fn take_end<S: TokenSource>(source: &mut S) -> Result<(), RecordError>
     ensures takes { TakesEnd (S.left source.old) result (S.left source.new) }
     ensures end { S.end source.new ≡ S.end source.old }
 {
     if source.current().is_some() {
         let at = source.place();
-        let why = HeadError::TrailingToken;
-        return Err(HeadRefusal { at, why });
+        return Err(RecordError::at(at, ErrorKind::TrailingArgument));
     }
     Ok(())
 }
 
 /// Why a token that is no time to live is refused.
-fn ttl_refusal(token: &EntryToken<'_>) -> HeadError
+fn ttl_refusal(token: &EntryToken<'_>) -> ErrorKind
     ensures { result ≡ ttl_refusal (token_seen token.now) }
 {
     if token.is_quoted {
-        return HeadError::Field(FieldError::Quoted);
+        return ErrorKind::Quoted;
     }
-    HeadError::Field(FieldError::Kind(KindError::ExpectedTtl))
+    ErrorKind::ExpectedTtl
 }
 
 /// Takes the next token as a time to live.
-fn take_ttl_argument<S: TokenSource>(source: &mut S) -> Result<u32, HeadRefusal>
+fn take_ttl_argument<S: TokenSource>(source: &mut S) -> Result<u32, RecordError>
     ensures takes { TakesTtl (S.end source.old).at (S.left source.old) result (S.left source.new) }
     ensures end { S.end source.new ≡ S.end source.old }
 {
     let at = source.place();
     let Some(token) = source.current() else {
-        let why = HeadError::Field(FieldError::EndOfEntry);
-        return Err(HeadRefusal { at, why });
+        return Err(RecordError::at(at, ErrorKind::EndOfEntry));
     };
     let Some(ttl) = ttl_word(&token) else {
         let why = ttl_refusal(&token);
-        return Err(HeadRefusal { at, why });
+        return Err(RecordError::at(at, why));
     };
     source.advance();
     Ok(ttl)
@@ -55,7 +52,7 @@ fn take_ttl_argument<S: TokenSource>(source: &mut S) -> Result<u32, HeadRefusal>
 /// periods such as `1h30m`, below 2^32. From 2^31 on they are 0 (RFC 2181 section 8).
 ///
 /// A token that is no time to live is refused, and left. So is one behind it.
-pub fn take_default_ttl<S: TokenSource>(source: &mut S) -> Result<u32, HeadRefusal>
+pub fn take_default_ttl<S: TokenSource>(source: &mut S) -> Result<u32, RecordError>
     ensures takes { TakesDefaultTtl (S.end source.old).at (S.left source.old) result (S.left source.new) }
     ensures end { S.end source.new ≡ S.end source.old }
 {
@@ -71,18 +68,16 @@ pub fn take_default_ttl<S: TokenSource>(source: &mut S) -> Result<u32, HeadRefus
 pub fn take_file<S: TokenSource, B: OctetsBuilder>(
     source: &mut S,
     target: &mut B,
-) -> Result<(), HeadRefusal>
+) -> Result<(), RecordError>
     ensures takes { TakesFile B.room (S.end source.old).at (S.left source.old) (B.octets target.old) result (S.left source.new) (B.octets target.new) }
     ensures end { S.end source.new ≡ S.end source.old }
 {
     let at = source.place();
     let Some(token) = source.current() else {
-        let why = HeadError::Field(FieldError::EndOfEntry);
-        return Err(HeadRefusal { at, why });
+        return Err(RecordError::at(at, ErrorKind::EndOfEntry));
     };
     if target.append_slice(token.text).is_err() {
-        let why = HeadError::Field(FieldError::ShortBuf);
-        return Err(HeadRefusal { at, why });
+        return Err(RecordError::at(at, ErrorKind::ShortBuf));
     }
     source.advance();
     Ok(())

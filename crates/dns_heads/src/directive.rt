@@ -3,8 +3,8 @@ ghost use Rattle.std.specs.Prelude.{◌≡◌};
 ghost use Rattle.dns_split.specs.EntryTokens.{token_seen};
 ghost use Rattle.dns_heads.specs.Directives.{TakesDirective, directive_in, directive_of};
 
-use crate::error::{HeadError, HeadRefusal};
-use dns_fields::TokenSource;
+use dns_fields::{RecordError, TokenSource};
+use dns_kinds::ErrorKind;
 use dns_split::entry_tokens::EntryToken;
 
 /// What a directive sets.
@@ -19,7 +19,7 @@ pub enum Directive {
 }
 
 /// The directive that a word names, or why it is refused.
-fn directive_in(word: &[u8]) -> Result<Directive, HeadError>
+fn directive_in(word: &[u8]) -> Result<Directive, ErrorKind>
     ensures { result ≡ directive_in word.now }
 {
     if word.eq_ignore_ascii_case(b"$ORIGIN") {
@@ -32,14 +32,14 @@ fn directive_in(word: &[u8]) -> Result<Directive, HeadError>
         return Ok(Directive::Include);
     }
     if word.eq_ignore_ascii_case(b"$GENERATE") {
-        return Err(HeadError::NotSupported);
+        return Err(ErrorKind::NotSupported);
     }
-    Err(HeadError::UnknownDirective)
+    Err(ErrorKind::UnknownDirective)
 }
 
 /// The directive that a token names, in any case of its letters, or why it is refused; or none where
 /// it is a quoted text, or does not begin with a dollar sign as it is spelled: `\$x` is a label.
-pub fn directive_word(token: &EntryToken<'_>) -> Option<Result<Directive, HeadError>>
+pub fn directive_word(token: &EntryToken<'_>) -> Option<Result<Directive, ErrorKind>>
     ensures { result ≡ directive_of (token_seen token.now) }
 {
     if token.is_quoted {
@@ -58,7 +58,7 @@ pub fn directive_word(token: &EntryToken<'_>) -> Option<Result<Directive, HeadEr
 pub fn take_directive<S: TokenSource>(
     begins_blank: bool,
     source: &mut S,
-) -> Result<Option<Directive>, HeadRefusal>
+) -> Result<Option<Directive>, RecordError>
     ensures takes { TakesDirective begins_blank (S.end source.old).at (S.left source.old) result (S.left source.new) }
     ensures end { S.end source.new ≡ S.end source.old }
 {
@@ -74,7 +74,7 @@ pub fn take_directive<S: TokenSource>(
             source.advance();
             Ok(Some(directive))
         }
-        Some(Err(why)) => Err(HeadRefusal { at, why }),
+        Some(Err(why)) => Err(RecordError::at(at, why)),
         None => Ok(None),
     }
 }

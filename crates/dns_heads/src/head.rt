@@ -4,10 +4,9 @@ ghost use Rattle.dns_split.specs.EntryTokens.{token_seen};
 ghost use Rattle.dns_heads.specs.HeadWords.{SaysTtl, SaysClass, type_refusal};
 ghost use Rattle.dns_heads.specs.Heads.{TakesHead, TakesSaid, TakesType, TakesWords};
 
-use crate::error::{HeadError, HeadRefusal};
 use crate::words::{begins_with_digit, class_word, ttl_word, type_word};
-use dns_fields::{FieldError, TokenSource};
-use dns_kinds::KindError;
+use dns_fields::{RecordError, TokenSource};
+use dns_kinds::{Class, ErrorKind, RecordType};
 use dns_split::entry_tokens::EntryToken;
 
 /// What the words in front of a record's data say.
@@ -15,27 +14,28 @@ use dns_split::entry_tokens::EntryToken;
 pub struct Words {
     /// Seconds, where a time to live is said.
     pub ttl: Option<u32>,
-    /// The code of the class, where one is said.
-    pub class: Option<u16>,
-    /// The code of the type.
-    pub code: u16,
+    /// The class, where one is said.
+    pub class: Option<Class>,
+    /// The type.
+    pub rtype: RecordType,
 }
 
-/// A token that is refused as a type, or is none that is asked for: its place, or that of the
-/// entry's end, and why; and what was said before it.
+/// Why the words before a record's data are refused, and what was said before the refused token.
 #[derive(Clone, Copy, Debug, PartialEq, Eq)]
 pub struct WordsRefusal {
-    pub at: usize,
-    pub why: HeadError,
+    /// Why no type comes where one is asked for.
+    pub error: RecordError,
+    /// Seconds, where a time to live is said.
     pub ttl: Option<u32>,
-    pub class: Option<u16>,
+    /// The class, where one is said.
+    pub class: Option<Class>,
 }
 
 /// A time to live and a class, where they are said.
 #[derive(Clone, Copy)]
 struct Head {
     ttl: Option<u32>,
-    class: Option<u16>,
+    class: Option<Class>,
 }
 
 /// Takes the next token if it is a time to live.
@@ -50,7 +50,7 @@ fn take_ttl<S: TokenSource>(source: &mut S) -> Option<u32>
 }
 
 /// Takes the next token if it is a class.
-fn take_class<S: TokenSource>(source: &mut S) -> Option<u16>
+fn take_class<S: TokenSource>(source: &mut S) -> Option<Class>
     ensures takes { TakesSaid SaysClass (S.left source.old) result (S.left source.new) }
     ensures end { S.end source.new ≡ S.end source.old }
 {
@@ -81,34 +81,33 @@ fn take_head<S: TokenSource>(source: &mut S) -> Head
 }
 
 /// Why a token that names no type is refused.
-fn type_refusal(may_be_ttl: bool, token: &EntryToken<'_>) -> HeadError
+fn type_refusal(may_be_ttl: bool, token: &EntryToken<'_>) -> ErrorKind
     ensures { result ≡ type_refusal may_be_ttl (token_seen token.now) }
 {
     if token.is_quoted {
-        return HeadError::Field(FieldError::Quoted);
+        return ErrorKind::Quoted;
     }
     if may_be_ttl && begins_with_digit(token.text) {
-        return HeadError::Field(FieldError::Kind(KindError::ExpectedTtl));
+        return ErrorKind::ExpectedTtl;
     }
-    HeadError::Field(FieldError::Kind(KindError::UnknownType))
+    ErrorKind::UnknownType
 }
 
 /// Takes the next token as a type.
-fn take_type<S: TokenSource>(may_be_ttl: bool, source: &mut S) -> Result<u16, HeadRefusal>
+fn take_type<S: TokenSource>(may_be_ttl: bool, source: &mut S) -> Result<RecordType, RecordError>
     ensures takes { TakesType may_be_ttl (S.end source.old).at (S.left source.old) result (S.left source.new) }
     ensures end { S.end source.new ≡ S.end source.old }
 {
     let at = source.place();
     let Some(token) = source.current() else {
-        let why = HeadError::Field(FieldError::EndOfEntry);
-        return Err(HeadRefusal { at, why });
+        return Err(RecordError::at(at, ErrorKind::EndOfEntry));
     };
-    let Some(code) = type_word(&token) else {
+    let Some(rtype) = type_word(&token) else {
         let why = type_refusal(may_be_ttl, &token);
-        return Err(HeadRefusal { at, why });
+        return Err(RecordError::at(at, why));
     };
     source.advance();
-    Ok(code)
+    Ok(rtype)
 }
 
 /// Takes the words in front of a record's data: a time to live and a class, each at most once and in
@@ -125,12 +124,7 @@ pub fn take_words<S: TokenSource>(source: &mut S) -> Result<Words, WordsRefusal>
     let ttl = head.ttl;
     let class = head.class;
     match take_type(ttl.is_none(), source) {
-        Ok(code) => Ok(Words { ttl, class, code }),
-        Err(refusal) => Err(WordsRefusal {
-            at: refusal.at,
-            why: refusal.why,
-            ttl,
-            class,
-        }),
+        Ok(rtype) => Ok(Words { ttl, class, rtype }),
+        Err(error) => Err(WordsRefusal { error, ttl, class }),
     }
 }

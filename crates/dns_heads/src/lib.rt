@@ -4,13 +4,11 @@
 
 pub mod arguments;
 pub mod directive;
-pub mod error;
 pub mod head;
 pub mod laws;
 pub mod words;
 
 pub use arguments::{take_default_ttl, take_end, take_file};
 pub use directive::{Directive, directive_word, take_directive};
-pub use error::{HeadError, HeadRefusal};
 pub use head::{Words, WordsRefusal, take_words};
 pub use words::{class_word, ttl_of_seconds, ttl_word, type_word};

@@ -32,30 +32,30 @@ pub fn ttl_word(token: &EntryToken<'_>) -> Option<u32>
     }
 }
 
-/// The code of the class that a token names: `IN`, `CH`, `HS`, or `CLASS` and a code, in any case of
+/// The class that a token names: `IN`, `CH`, `HS`, or `CLASS` and a code, in any case of
 /// its letters.
-pub fn class_word(token: &EntryToken<'_>) -> Option<u16>
+pub fn class_word(token: &EntryToken<'_>) -> Option<Class>
     ensures { FindsWord SaysClass (token_seen token.now) result }
 {
     if token.is_quoted {
         return None;
     }
     match Class::from_text(token.text) {
-        Ok(class) => Some(class.0),
+        Ok(class) => Some(class),
         Err(_) => None,
     }
 }
 
-/// The code of the type that a token names: a name of IANA's registry, or `TYPE` and a code, in any
+/// The type that a token names: a name of IANA's registry, or `TYPE` and a code, in any
 /// case of its letters.
-pub fn type_word(token: &EntryToken<'_>) -> Option<u16>
+pub fn type_word(token: &EntryToken<'_>) -> Option<RecordType>
     ensures { FindsWord SaysType (token_seen token.now) result }
 {
     if token.is_quoted {
         return None;
     }
     match RecordType::from_text(token.text) {
-        Ok(record_type) => Some(record_type.0),
+        Ok(rtype) => Some(rtype),
         Err(_) => None,
     }
 }
