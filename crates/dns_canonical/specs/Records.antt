@@ -6,7 +6,7 @@ use Rattle.dns_wire.specs.Wire.{wire}
 use Rattle.dns_kinds.specs.declared.classes.Class.{Class}
 use Rattle.dns_kinds.specs.declared.types.RecordType.{RecordType}
 use Rattle.dns_canonical.specs.Names.{name_order, octet_order}
-use Rattle.dns_canonical.specs.declared.records.RecordParts.{RecordParts}
+use Rattle.dns_fields.specs.declared.record_ref.RecordRef.{RecordRef}
 
 -- what a record is sorted by: the labels of its owner, its class and type, and the octets of its data
 pub record RecordKey : Type 0 where
@@ -21,9 +21,9 @@ record_order =
     then_cmp (on (λ k. k.owner) name_order) (then_cmp (on (λ k. k.class) nat_cmp) (then_cmp (on (λ k. k.rtype) nat_cmp) (on (λ k. k.octets) octet_order)))
 
 -- what a record is sorted by, where its owner has these labels
-abbrev pub key_of : List (List ℕ) → RecordParts → RecordKey
+abbrev pub key_of : List (List ℕ) → RecordRef → RecordKey
 key_of labels parts = record { owner = labels; class = parts.class; rtype = parts.rtype; octets = parts.data.now }
 
 -- the order of the records that have these parts
-abbrev pub IsRecordOrder : RecordParts → RecordParts → Ordering → Type 0
+abbrev pub IsRecordOrder : RecordRef → RecordRef → Ordering → Type 0
 IsRecordOrder left right order = (a b : List (List ℕ)) → left.owner.now ≡ wire a → right.owner.now ≡ wire b → order ≡ record_order (key_of a left) (key_of b right)

@@ -11,5 +11,5 @@ pub mod untexted;
 pub use fields::{CanonicalError, append_canonical_fields, lowers_names};
 pub use keys::{compare_keys, push_order_key};
 pub use names::{append_lowered, compare_names};
-pub use records::{RecordParts, compare_octets, compare_records};
+pub use records::{compare_octets, compare_records};
 pub use untexted::{compare_untexted, untexted_fields};

@@ -5,7 +5,7 @@ ghost use Rattle.dns_canonical.specs.Names.{octet_order};
 ghost use Rattle.dns_canonical.specs.Records.{IsRecordOrder};
 
 use crate::names::compare_names;
-use dns_kinds::{Class, RecordType};
+use dns_fields::RecordRef;
 use std::cmp::Ordering;
 
 /// The canonical order of record data (RFC 4034 section 6.3): octet by octet, as unsigned numbers.
@@ -16,19 +16,10 @@ pub fn compare_octets(left: &[u8], right: &[u8]) -> Ordering
     left.cmp(right)
 }
 
-/// What a record is sorted by: its owner on the wire, its class and type, and its data, whose
-/// canonical form is meant.
-#[derive(Clone, Copy)]
-pub struct RecordParts<'a> {
-    pub owner: &'a [u8],
-    pub class: Class,
-    pub rtype: RecordType,
-    pub data: &'a [u8],
-}
-
 /// The order of two records: by their owners, then by class and by type as numbers, and then by
-/// their data (RFC 4034 section 6, RFC 8976 section 3.3.1).
-pub fn compare_records(left: &RecordParts<'_>, right: &RecordParts<'_>) -> Ordering
+/// their data, which is in canonical form (RFC 4034 section 6, RFC 8976 section 3.3.1). Times to live
+/// don't count.
+pub fn compare_records(left: &RecordRef<'_>, right: &RecordRef<'_>) -> Ordering
     requires left { IsWireName left.now.owner.now }
     requires right { IsWireName right.now.owner.now }
     ensures { IsRecordOrder left.now right.now result }

@@ -3,6 +3,7 @@
 #![tactic(auto)]
 
 pub mod entry;
+pub mod given;
 pub mod known;
 pub mod records;
 pub mod source;

@@ -2,12 +2,13 @@
 use Rattle.std.proofs.Common.{◌≡◌, ℕ, true, List, [], ◌∷◌, ◌++◌, refl}
 use Rattle.std.specs.Borrow.{Bor}
 use Rattle.dns_data.specs.Printing.{token_steps}
+use Rattle.dns_resource.specs.Borrowed.{IsRecordOf}
 use Rattle.dns_resource.specs.Records.{record_document}
 use Rattle.dns_zone.specs.Layout.{Step, token, begin, end, comment, newline}
 use Rattle.dns_zone.specs.Nesting.{has_line, lines_of}
-use Rattle.zone_cut.specs.Heads.{BeginsPart, IsRecordOf, PushesHead, default_ttl_lines, head_document, line_of, origin_lines, repeated_document, state_of}
+use Rattle.zone_cut.specs.Heads.{BeginsPart, PushesHead, default_ttl_lines, head_document, line_of, origin_lines, repeated_document, state_of}
 use Rattle.dns_reader.specs.declared.state.State.{State}
-use Rattle.zone_cut.specs.declared.cutter.RecordRead.{RecordRead}
+use Rattle.dns_fields.specs.declared.record_ref.RecordRef.{RecordRef}
 use Rattle.zone_cut.specs.declared.head.PartHead.{PartHead}
 
 line_behind : (xs ys : List Step) → has_line ys ≡ true → has_line (xs ++ ys) ≡ true
@@ -26,5 +27,5 @@ head_has_line h =
     (line_behind default records (line_behind (repeated_document h.repeated) (line_of h.first) (line_behind (record_document h.first) (newline ∷ []) refl)))
 
 -- the lines of a head that were appended begin a part
-pub part_begins : (state : State) (read : RecordRead) (old new : List ℕ) (head : PartHead (Bor (List ℕ)) (Bor (List ℕ))) → state_of head ≡ state → IsRecordOf read head.first → PushesHead head old new → BeginsPart state read old new
+pub part_begins : (state : State) (read : RecordRef) (old new : List ℕ) (head : PartHead (Bor (List ℕ)) (Bor (List ℕ))) → state_of head ≡ state → IsRecordOf read head.first → PushesHead head old new → BeginsPart state read old new
 part_begins state read old new head same first pushes = record { head = head; state_is = same; first = first; pushes = pushes }

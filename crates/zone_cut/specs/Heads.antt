@@ -6,11 +6,13 @@ use Rattle.std.specs.Option.{option_to_list}
 use Rattle.dns_data.specs.GatewayKeys.{plain_word}
 use Rattle.dns_data.specs.Printing.{token_steps}
 use Rattle.dns_data.specs.Rests.{PrintedToken}
+use Rattle.dns_fields.specs.declared.record_ref.RecordRef.{RecordRef}
 use Rattle.dns_reader.specs.declared.known.Known.{Known}
 use Rattle.dns_reader.specs.declared.known.Known.TheVariants.{Unsaid, Name, Refused}
 use Rattle.dns_reader.specs.declared.state.State.{State}
+use Rattle.dns_resource.specs.Borrowed.{IsRecordOf}
 use Rattle.dns_resource.specs.DataTokens.{tokens_are_nested}
-use Rattle.dns_resource.specs.Records.{data_of, record_document, record_nests, record_tokens}
+use Rattle.dns_resource.specs.Records.{record_document, record_nests, record_tokens}
 use Rattle.dns_resource.specs.declared.record.Record.{Record}
 use Rattle.dns_spelling.specs.PrintedNames.{wire_name_text}
 use Rattle.dns_wire.specs.Wire.{wire}
@@ -18,7 +20,6 @@ use Rattle.dns_zone.specs.Layout.{Step, newline}
 use Rattle.dns_zone.specs.Nesting.{IsNested, lines_of, nested_append, nested_lines}
 use Rattle.dns_zone.specs.Printed.{printed}
 use Rattle.dns_zone.specs.declared.zonefile_fmt.DisplayKind.TheVariants.{Simple}
-use Rattle.zone_cut.specs.declared.cutter.RecordRead.{RecordRead}
 use Rattle.zone_cut.specs.declared.head.PartHead.{PartHead}
 
 -- the tokens of a line
@@ -68,15 +69,8 @@ HasShortTtls h = (unwrap_or (state_of h).default_ttl 0 < 2 ^ 31) × AllByRecursi
 abbrev pub PushesHead : {N O : Type 0} → PartHead N O → List ℕ → List ℕ → Type 0
 PushesHead h old new = HasShortTtls h × (new ≡ old ++ printed Simple (head_document h))
 
--- a record has what was read of it
-pub record IsRecordOf {N O : Type 0} (read : RecordRead) (r : Record N O) : Type 0 where
-  pub ttl : r.ttl ≡ read.ttl
-  pub class : r.class ≡ read.class
-  pub rtype : (data_of r).rtype ≡ read.rtype
-  pub octets : (data_of r).octets ≡ read.«data».now
-
 -- the lines of a head are appended whose first record is the one that was read last
-pub record BeginsPart (state : State) (read : RecordRead) (old new : List ℕ) : Type 0 where
+pub record BeginsPart (state : State) (read : RecordRef) (old new : List ℕ) : Type 0 where
   pub head : PartHead (Bor (List ℕ)) (Bor (List ℕ))
   pub state_is : state_of head ≡ state
   pub first : IsRecordOf read head.first

@@ -1,7 +1,8 @@
 //! With which records of a zone file parts begin.
 ghost use Rattle.std.specs.Prelude.{◌≡◌, ◌↔◌, IfOk, IsTrue, OnOk, false, true};
 ghost use Rattle.std.specs.String.{string_bytes};
-ghost use Rattle.zone_cut.specs.Heads.{BeginsPart, IsRecordOf, PushesHead};
+ghost use Rattle.dns_resource.specs.Borrowed.{IsRecordOf};
+ghost use Rattle.zone_cut.specs.Heads.{BeginsPart, PushesHead};
 ghost use Rattle.dns_reader.specs.declared.known.Known.TheVariants.{Unsaid};
 ghost use Rattle.zone_cut.specs.Cutting.{BeginsHere, PassesRecord, owner_changes};
 ghost use Rattle.zone_cut.specs.Shares.{no_shares};
@@ -9,33 +10,13 @@ ghost use Rattle.zone_cut.specs.Shares.{no_shares};
 use crate::error::CutError;
 use crate::head::PartHead;
 use crate::shares::Shares;
-use dns_kinds::{Class, RecordType};
+use dns_fields::RecordRef;
+use dns_kinds::RecordType;
 use dns_octets::AsOctets;
 use dns_reader::{Known, State};
-use dns_resource::{Data, Record};
-use dns_wire::Name;
+use dns_resource::{Record, owned_record, record_of};
 use dns_zone::zonefile_fmt::{DisplayKind, ZonefileFmt};
 use std::alloc::Allocator;
-
-/// What was read of a record, but for its owner.
-#[derive(Clone, Copy)]
-pub struct RecordRead<'a> {
-    /// Its time to live, in seconds.
-    pub ttl: u32,
-    pub class: Class,
-    pub rtype: RecordType,
-    /// Its data on the wire.
-    pub data: &'a [u8],
-}
-
-/// A record that is held, to be repeated: its owner and its data on the wire.
-#[derive(Drop)]
-struct HeldRecord<A: Allocator> {
-    ttl: u32,
-    class: Class,
-    owner: Vec<u8, A>,
-    data: Vec<u8, A>,
-}
 
 /// Tells with which records of a file parts begin: with the first, and with each whose owner is
 /// another than that of the record before, and that stands in another share of the file than the
@@ -48,40 +29,16 @@ pub struct Cutter<A: Allocator> {
     owner: Known,
     /// Whether parts behind the first SOA begin with it.
     repeats_soa: bool,
-    soa: Option<HeldRecord<A>>,
+    soa: Option<Record<Vec<u8, A>, Vec<u8, A>>>,
 }
 
-/// The record of an owner's octets and what was read.
-fn record_of<'a>(
-    owner: &'a [u8],
-    read: RecordRead<'a>,
-) -> Result<Record<&'a [u8], &'a [u8]>, CutError>
-    ensures { IfOk result (IsRecordOf read.entry) }
+/// Returns the record that was read.
+fn checked<'a>(record: RecordRef<'a>) -> Result<Record<&'a [u8], &'a [u8]>, CutError>
+    ensures { IfOk result (IsRecordOf record.entry) }
 {
-    let Ok(owner) = Name::from_octets(owner) else {
-        return Err(CutError::NoRecord);
-    };
-    let Ok(data) = Data::from_octets(read.rtype, read.data) else {
-        return Err(CutError::NoRecord);
-    };
-    Ok(Record {
-        owner,
-        ttl: read.ttl,
-        class: read.class,
-        data,
-    })
-}
-
-/// The record of a state's owner and what was read.
-fn first_of<'a>(
-    state: &'a State,
-    read: RecordRead<'a>,
-) -> Result<Record<&'a [u8], &'a [u8]>, CutError>
-    ensures { IfOk result (IsRecordOf read.entry) }
-{
-    match state.owner() {
-        Ok(owner) => record_of(owner.as_slice(), read),
-        Err(_) => Err(CutError::NoRecord),
+    match record_of(record) {
+        Some(one) => Ok(one),
+        None => Err(CutError::NoRecord),
     }
 }
 
@@ -97,36 +54,6 @@ fn push_head<Owner: AsOctets, Octets: AsOctets, A: Allocator>(
     }
     write!(lines, "{}", head.display_zonefile(DisplayKind::Simple))?;
     Ok(())
-}
-
-impl<A: Allocator + Copy> HeldRecord<A> {
-    /// The SOA of a state's owner and what was read.
-    fn soa(alloc: A, state: &State, read: RecordRead<'_>) -> Result<HeldRecord<A>, CutError> {
-        let Ok(name) = state.owner() else {
-            return Err(CutError::NoRecord);
-        };
-        let mut owner = Vec::new(alloc);
-        owner.extend_from_slice(name.as_slice())?;
-        let mut data = Vec::new(alloc);
-        data.extend_from_slice(read.data)?;
-        Ok(HeldRecord {
-            ttl: read.ttl,
-            class: read.class,
-            owner,
-            data,
-        })
-    }
-
-    /// The record.
-    fn record(&self) -> Result<Record<&[u8], &[u8]>, CutError> {
-        let read = RecordRead {
-            ttl: self.ttl,
-            class: self.class,
-            rtype: RecordType::SOA,
-            data: self.data.as_slice(),
-        };
-        record_of(self.owner.as_slice(), read)
-    }
 }
 
 impl<A: Allocator + Copy> Cutter<A> {
@@ -165,7 +92,7 @@ impl<A: Allocator + Copy> Cutter<A> {
     /// The record that is repeated in front of a part.
     fn repeated(&self) -> Result<Option<Record<&[u8], &[u8]>>, CutError> {
         match &self.soa {
-            Some(soa) => Ok(Some(soa.record()?)),
+            Some(soa) => Ok(Some(checked(soa.borrowed())?)),
             None => Ok(None),
         }
     }
@@ -174,12 +101,12 @@ impl<A: Allocator + Copy> Cutter<A> {
     fn push_lines(
         &self,
         state: &State,
-        read: RecordRead<'_>,
+        record: RecordRef<'_>,
         lines: &mut String<A>,
     ) -> Result<(), CutError>
-        ensures { OnOk result (BeginsPart state.now read.entry (string_bytes lines.old) (string_bytes lines.new)) }
+        ensures { OnOk result (BeginsPart state.now record.entry (string_bytes lines.old) (string_bytes lines.new)) }
     {
-        let first = first_of(state, read)?;
+        let first = checked(record)?;
         let repeated = self.repeated()?;
         let head = PartHead {
             state,
@@ -190,12 +117,15 @@ impl<A: Allocator + Copy> Cutter<A> {
     }
 
     /// Keeps the first SOA, if it is to be repeated.
-    fn keep_soa(&mut self, state: &State, read: RecordRead<'_>) -> Result<(), CutError>
+    fn keep_soa(&mut self, record: RecordRef<'_>) -> Result<(), CutError>
         ensures shares { self.new.shares ≡ self.old.shares }
         ensures owner { self.new.owner ≡ self.old.owner }
     {
-        if self.repeats_soa && read.rtype == RecordType::SOA && self.soa.is_none() {
-            self.soa = Some(HeldRecord::soa(self.alloc, state, read)?);
+        if self.repeats_soa && record.rtype == RecordType::SOA && self.soa.is_none() {
+            let Some(soa) = owned_record(self.alloc, record)? else {
+                return Err(CutError::NoRecord);
+            };
+            self.soa = Some(soa);
         }
         Ok(())
     }
@@ -210,20 +140,20 @@ impl<A: Allocator + Copy> Cutter<A> {
         &mut self,
         state: &State,
         at: usize,
-        read: RecordRead<'_>,
+        record: RecordRef<'_>,
         lines: &mut String<A>,
     ) -> Result<bool, CutError>
         ensures is { IfOk result (λ begins. IsTrue begins ↔ BeginsHere self.old state.now at) }
         ensures passes { IfOk result (λ begins. PassesRecord self.old state.now at begins self.new) }
-        ensures begins { IfOk result (λ begins. begins ≡ true → BeginsPart state.now read.entry (string_bytes lines.old) (string_bytes lines.new)) }
+        ensures begins { IfOk result (λ begins. begins ≡ true → BeginsPart state.now record.entry (string_bytes lines.old) (string_bytes lines.new)) }
         ensures goes_on { IfOk result (λ begins. begins ≡ false → string_bytes lines.new ≡ string_bytes lines.old) }
     {
         let begins = self.begins(state, at);
         if begins {
-            self.push_lines(state, read, lines)?;
+            self.push_lines(state, record, lines)?;
             self.shares.begin(at);
         }
-        self.keep_soa(state, read)?;
+        self.keep_soa(record)?;
         self.owner = state.owner.copied();
         Ok(begins)
     }

@@ -11,7 +11,7 @@ pub mod head;
 pub mod laws;
 pub mod shares;
 
-pub use cutter::{Cutter, RecordRead};
+pub use cutter::Cutter;
 pub use error::CutError;
 pub use head::PartHead;
 pub use shares::Shares;

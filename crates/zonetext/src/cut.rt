@@ -3,11 +3,12 @@ use crate::part_files::PartFiles;
 use crate::reading::{Outcome, Reading, TakeEntry, give_entries};
 use crate::shown::Shown;
 use crate::stop::{Stop, TROUBLE, conclude};
-use crate::zone_files::{Entry, Given};
+use crate::zone_files::Entry;
+use dns_fields::RecordRef;
 use std::alloc::Global;
 use std::fs::metadata;
 use std::io;
-use zone_cut::{CutError, Cutter, RecordRead};
+use zone_cut::{CutError, Cutter};
 
 /// What is asked for.
 #[derive(Clone, Copy)]
@@ -55,16 +56,10 @@ impl<'p> Parter<'p> {
     }
 
     /// Takes the record of an entry.
-    fn take_record(&mut self, entry: &Entry<'_>, given: Given<'_>) -> Result<(), Stop> {
-        let read = RecordRead {
-            ttl: given.ttl,
-            class: given.class,
-            rtype: given.rtype,
-            data: given.data,
-        };
+    fn take_record(&mut self, entry: &Entry<'_>, given: RecordRef<'_>) -> Result<(), Stop> {
         match self
             .cutter
-            .take(entry.state, entry.offset, read, &mut self.lines)
+            .take(entry.state, entry.offset, given, &mut self.lines)
         {
             Ok(true) => self.begin_part(),
             Ok(false) => self.files.write(entry.octets),

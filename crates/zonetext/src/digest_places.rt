@@ -3,11 +3,12 @@ use crate::gathered::{Gathered, Gatherer};
 use crate::reading::{Outcome, Reading, TakeEntry, give_entries};
 use crate::spots::{tokens_of, width};
 use crate::stop::Stop;
-use crate::zone_files::{Entry, Given};
-use dns_fields::TokenSource;
+use crate::zone_files::Entry;
+use dns_fields::{RecordRef, TokenSource};
 use dns_heads::take_words;
-use dns_kinds::{Class, RecordType};
+use dns_kinds::RecordType;
 use dns_reader::EntrySource;
+use dns_resource::{Record, owned_record};
 use dns_split::pieces::Span;
 use std::alloc::Global;
 use zone_set::Selection;
@@ -15,12 +16,7 @@ use zone_set::Selection;
 /// A record, and where it stands in its file.
 #[derive(Drop)]
 pub struct Placed {
-    pub owner: Vec<u8>,
-    /// In seconds.
-    pub ttl: u32,
-    pub class: Class,
-    pub rtype: RecordType,
-    pub data: Vec<u8>,
+    pub record: Record<Vec<u8>, Vec<u8>>,
     /// Whether its file is included by another.
     pub is_included: bool,
     /// Whether its owner is the origin where it is.
@@ -61,18 +57,17 @@ fn data_tokens(alloc: Global, entry: &Entry<'_>) -> Result<Vec<Span>, Stop> {
     Ok(spans)
 }
 
-/// The record of an entry, and where it stands.
-fn placed_of(alloc: Global, entry: &Entry<'_>, given: Given<'_>) -> Result<Placed, Stop> {
+/// Returns the record of an entry, and where it stands. Fails with `Damaged` if it is no record.
+fn placed_of(alloc: Global, entry: &Entry<'_>, given: RecordRef<'_>) -> Result<Placed, Stop> {
     let is_origin = match entry.state.origin.name() {
         Some(origin) => origin.as_slice().eq_ignore_ascii_case(given.owner),
         None => false,
     };
+    let Some(record) = owned_record(alloc, given)? else {
+        return Err(Stop::Damaged);
+    };
     Ok(Placed {
-        owner: given.owner.to_vec(alloc)?,
-        ttl: given.ttl,
-        class: given.class,
-        rtype: given.rtype,
-        data: given.data.to_vec(alloc)?,
+        record,
         is_included: entry.number > 0,
         is_origin,
         tokens: data_tokens(alloc, entry)?,

@@ -8,11 +8,11 @@ use crate::reading::Reading;
 use crate::shown::Shown;
 use crate::stop::{Stop, TROUBLE, conclude};
 use dns_codec::base16::encode_string;
+use dns_fields::RecordRef;
 use dns_kinds::RecordType;
 use dns_reader::NameBuffer;
-use dns_resource::{Data, Record};
+use dns_resource::{Data, record_of};
 use dns_split::pieces::Span;
-use dns_wire::Name;
 use std::alloc::{AllocError, Global};
 use std::fs::File;
 use std::io::{ErrorKind, Read};
@@ -181,15 +181,13 @@ fn line_of(alloc: Global, soa: &Placed, data: &[u8]) -> Result<String, Stop> {
 /// The line of a digest that is beside an SOA, with its owner in full.
 fn full_line_of(alloc: Global, soa: &Placed, data: &[u8]) -> Result<String, Stop> {
     let mut line = String::new(alloc);
-    let owner = Name::from_octets(soa.owner.as_slice());
-    let (Ok(owner), Some(data)) = (owner, data_of(data)) else {
-        return Err(Stop::Damaged);
-    };
-    let record = Record {
-        owner,
-        ttl: soa.ttl,
-        class: soa.class,
+    let of_digest = RecordRef {
+        rtype: RecordType::ZONEMD,
         data,
+        ..soa.record.borrowed()
+    };
+    let Some(record) = record_of(of_digest) else {
+        return Err(Stop::Damaged);
     };
     push_record(&mut line, &record)?;
     Ok(line)
@@ -267,17 +265,14 @@ impl<'p> Plan<'p> {
         apex: &NameBuffer,
         set: &NumberedSet<'_>,
     ) -> Result<(), Unwritten> {
-        let Some(data) = data_of(one.data.as_slice()) else {
-            return Err(Unwritten::Stop(Stop::Damaged));
-        };
-        let Some(old) = Zonemd::of_data(&data) else {
+        let Some(old) = Zonemd::of_data(&one.record.data) else {
             return Err(Unwritten::Stop(Stop::Damaged));
         };
         let Some(algorithm) = algorithm_of(&old) else {
             return self.leave(&old, apex, set);
         };
         let right = right_of(self.alloc, apex, set, algorithm)?;
-        if right.as_slice() == one.data.as_slice() {
+        if right.as_slice() == one.record.data.as_slice() {
             self.tell(&old, "matches")?;
             return Ok(());
         }
@@ -373,10 +368,7 @@ impl<'p> Plan<'p> {
 
 /// Whether a record stands at the apex of a zone.
 fn is_at(one: &Placed, apex: &NameBuffer) -> bool {
-    match Name::from_octets(one.owner.as_slice()) {
-        Ok(owner) => is_apex(&owner, apex),
-        Err(_) => false,
-    }
+    is_apex(&one.record.owner, apex)
 }
 
 /// The SOA of a zone, and its digests.
@@ -398,7 +390,7 @@ fn parts_of<'f>(
         if !is_at(one, apex) {
             continue;
         }
-        let is_soa = one.rtype == RecordType::SOA;
+        let is_soa = one.record.data.rtype() == RecordType::SOA;
         if one.is_included {
             let what = if is_soa { "SOA" } else { "ZONEMD" };
             return Err(Unwritten::Included { what });

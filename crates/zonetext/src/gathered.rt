@@ -3,8 +3,9 @@ use crate::checking::Seen;
 use crate::held::Held;
 use crate::reading::{Outcome, Reading, TakeEntry, give_entries};
 use crate::stop::Stop;
-use crate::zone_files::{Entry, Given};
+use crate::zone_files::Entry;
 use dns_canonical::append_lowered;
+use dns_fields::RecordRef;
 use dns_resource::{Record, append_canonical_data};
 use std::alloc::Global;
 use zone_set::{CanonicalSet, Selection, TaggedOctets};
@@ -55,19 +56,19 @@ impl Lowerer {
     }
 
     /// The canonical form of a record.
-    pub fn lower<'l>(&'l mut self, given: Given<'_>) -> Result<Given<'l>, Stop> {
+    pub fn lower<'l>(&'l mut self, record: RecordRef<'_>) -> Result<RecordRef<'l>, Stop> {
         self.owner.truncate(0);
         self.data.truncate(0);
-        if append_lowered(given.owner, &mut self.owner).is_err()
-            || append_canonical_data(given.rtype, given.data, &mut self.data).is_err()
+        if append_lowered(record.owner, &mut self.owner).is_err()
+            || append_canonical_data(record.rtype, record.data, &mut self.data).is_err()
         {
             return Err(Stop::OutOfMemory);
         }
-        Ok(Given {
+        Ok(RecordRef {
             owner: self.owner.as_slice(),
-            ttl: given.ttl,
-            class: given.class,
-            rtype: given.rtype,
+            ttl: record.ttl,
+            class: record.class,
+            rtype: record.rtype,
             data: self.data.as_slice(),
         })
     }

@@ -1,6 +1,6 @@
 //! Records that are held in memory.
 use crate::stop::Stop;
-use crate::zone_files::Given;
+use dns_fields::RecordRef;
 use dns_kinds::{Class, RecordType};
 use dns_resource::{Data, Record};
 use dns_wire::Name;
@@ -78,15 +78,15 @@ impl<Tag: Copy> Held<Tag> {
     }
 
     /// Takes a record.
-    pub fn add(&mut self, given: Given<'_>, tag: Tag) -> Result<(), Stop> {
-        let owner = self.append_owner(given.owner)?;
-        let data = self.append(given.data)?;
+    pub fn add(&mut self, record: RecordRef<'_>, tag: Tag) -> Result<(), Stop> {
+        let owner = self.append_owner(record.owner)?;
+        let data = self.append(record.data)?;
         self.rows.push(Row {
             owner,
             data,
-            ttl: given.ttl,
-            class: given.class,
-            rtype: given.rtype,
+            ttl: record.ttl,
+            class: record.class,
+            rtype: record.rtype,
             tag,
         })?;
         Ok(())

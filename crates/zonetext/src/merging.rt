@@ -1,16 +1,12 @@
 //! Sorted runs that are read again, record by record, and merged.
 use crate::run_files::{Run, RunFile, TakeRecord};
 use crate::stop::Stop;
-use dns_resource::{Data, Record};
-use dns_wire::Name;
+use dns_resource::{Record, owned_record};
 use std::alloc::Global;
 use zone_set::{Front, Fronts, take_run_record};
 
 /// More octets than a record of a run has: an owner has 255 at most, and data 65,535.
 const LONGEST: usize = 66 * 1024;
-
-/// A record that holds its octets itself.
-pub type OwnRecord = Record<Vec<u8>, Vec<u8>>;
 
 /// A run that is read from its file in blocks.
 #[derive(Drop)]
@@ -30,20 +26,10 @@ struct RunReader {
 }
 
 /// Returns a copy of a record. Fails with `Damaged` if its octets are no record.
-fn own(alloc: Global, one: &Record<&[u8], &[u8]>) -> Result<OwnRecord, Stop> {
-    let owner = Vec::from_slice(alloc, one.owner.as_slice())?;
-    let octets = Vec::from_slice(alloc, one.data.as_slice())?;
-    match (
-        Name::from_octets(owner),
-        Data::from_octets(one.data.rtype(), octets),
-    ) {
-        (Ok(owner), Ok(data)) => Ok(Record {
-            owner,
-            ttl: one.ttl,
-            class: one.class,
-            data,
-        }),
-        _ => Err(Stop::Damaged),
+fn own(alloc: Global, one: &Record<&[u8], &[u8]>) -> Result<Record<Vec<u8>, Vec<u8>>, Stop> {
+    match owned_record(alloc, one.borrowed())? {
+        Some(owned) => Ok(owned),
+        None => Err(Stop::Damaged),
     }
 }
 
@@ -86,7 +72,7 @@ impl RunReader {
     }
 
     /// The next record, if what was read has all of it.
-    fn read_record(&mut self) -> Result<Option<OwnRecord>, Stop> {
+    fn read_record(&mut self) -> Result<Option<Record<Vec<u8>, Vec<u8>>>, Stop> {
         let octets = self.octets.get(self.given..).unwrap_or(&[]);
         let Some((one, rest)) = take_run_record(octets) else {
             return Ok(None);
@@ -96,7 +82,7 @@ impl RunReader {
     }
 
     /// The next record. A run that ends before or behind its last record is damaged.
-    fn next_record(&mut self, file: &RunFile<'_>) -> Result<Option<OwnRecord>, Stop> {
+    fn next_record(&mut self, file: &RunFile<'_>) -> Result<Option<Record<Vec<u8>, Vec<u8>>>, Stop> {
         if self.left == 0 {
             let is_read = self.start == self.end && self.given == self.octets.len();
             return if is_read {
@@ -153,7 +139,7 @@ impl Merger {
     }
 
     /// The record that comes next in canonical order.
-    fn next_record(&mut self, file: &RunFile<'_>) -> Result<Option<OwnRecord>, Stop> {
+    fn next_record(&mut self, file: &RunFile<'_>) -> Result<Option<Record<Vec<u8>, Vec<u8>>>, Stop> {
         let Some(Front { record, run }) = self.fronts.take_first() else {
             return Ok(None);
         };
@@ -172,7 +158,7 @@ pub fn merge<T: TakeRecord>(
     taker: &mut T,
 ) -> Result<u64, Stop> {
     let mut merger = Merger::new(alloc, file, runs, block)?;
-    let mut last: Option<OwnRecord> = None;
+    let mut last: Option<Record<Vec<u8>, Vec<u8>>> = None;
     let mut duplicates: u64 = 0;
     for _ in 0..u64::MAX {
         let Some(record) = merger.next_record(file)? else {

@@ -3,8 +3,7 @@ use crate::lines::Lines;
 use crate::reading::{Reading, TakeEntry, give_entries};
 use crate::stop::{Stop, conclude};
 use crate::zone_files::Entry;
-use dns_resource::{Data, Record};
-use dns_wire::Name;
+use dns_resource::record_of;
 use zone_set::push_record;
 
 impl TakeEntry for Lines<'_> {
@@ -12,17 +11,8 @@ impl TakeEntry for Lines<'_> {
         let Some(given) = entry.record()? else {
             return Ok(());
         };
-        let owner = Name::from_octets(given.owner);
-        let data = Data::from_octets(given.rtype, given.data);
-        let (Ok(owner), Ok(data)) = (owner, data) else {
+        let Some(record) = record_of(given) else {
             return Err(Stop::Damaged);
-        };
-        let (ttl, class) = (given.ttl, given.class);
-        let record = Record {
-            owner,
-            ttl,
-            class,
-            data,
         };
         push_record(&mut self.text, &record)?;
         self.flush_block()?;

@@ -4,7 +4,7 @@ use crate::data_buffer::DataBuffer;
 use crate::open_file::{Includer, Input, OpenFile, behind, place_from};
 use crate::progress::Progress;
 use crate::stop::Stop;
-use dns_kinds::{Class, RecordType};
+use dns_fields::RecordRef;
 use dns_reader::{EntryRead, Known, NameBuffer, State};
 use dns_zonefile::{BlockReader, BlockRefusal};
 use std::alloc::{AllocError, Global};
@@ -46,17 +46,6 @@ pub struct Entry<'e> {
     pub state: &'e State,
 }
 
-/// A record that was read of an entry.
-#[derive(Clone, Copy)]
-pub struct Given<'e> {
-    pub owner: &'e [u8],
-    /// In seconds.
-    pub ttl: u32,
-    pub class: Class,
-    pub rtype: RecordType,
-    pub data: &'e [u8],
-}
-
 impl<'e> Entry<'e> {
     /// Returns the place of its first octet.
     pub fn place(&self) -> Place {
@@ -65,28 +54,15 @@ impl<'e> Entry<'e> {
 
     /// Returns the record that was read of it, if it is one. Fails with `Damaged` if no owner is known of
     /// a record.
-    pub fn record(&self) -> Result<Option<Given<'e>>, Stop> {
-        let Ok(
-            EntryRead::Record {
-                ttl,
-                class,
-                rtype,
-                ..
-            },
-        ) = self.read
-        else {
+    pub fn record(&self) -> Result<Option<RecordRef<'e>>, Stop> {
+        let Ok(read) = self.read else {
             return Ok(None);
         };
-        let Ok(owner) = self.state.owner() else {
-            return Err(Stop::Damaged);
-        };
-        Ok(Some(Given {
-            owner: owner.as_slice(),
-            ttl: ttl.seconds(),
-            class: *class,
-            rtype: *rtype,
-            data: self.data,
-        }))
+        match self.state.record(read, self.data) {
+            Some(record) => Ok(Some(record)),
+            None if matches!(read, EntryRead::Record { .. }) => Err(Stop::Damaged),
+            None => Ok(None),
+        }
     }
 }
 

@@ -5,9 +5,10 @@ ghost use Rattle.dns_spelling.specs.NameSpelling.{IsWireName};
 use super::fields::fields_of;
 use super::tell::{Octets, number16, tell};
 use dns_canonical::{
-    RecordParts, append_canonical_fields, append_lowered, compare_keys, compare_names,
+    append_canonical_fields, append_lowered, compare_keys, compare_names,
     compare_octets, compare_records, lowers_names, push_order_key,
 };
+use dns_fields::RecordRef;
 use dns_kinds::{Class, RecordType};
 use dns_octets::ShortBuf;
 use dns_spelling::name_width;
@@ -146,14 +147,16 @@ fn records(inputs: &[Vec<u8>], answer: &mut Answer) {
     let Some(right_owner) = name_of(e.as_slice()) else {
         return answer.fail(Failure::BadInputs);
     };
-    let left = RecordParts {
+    let left = RecordRef {
         owner: left_owner,
+        ttl: 1,
         class: Class(number16(b.as_slice(), answer)),
         rtype: RecordType(number16(c.as_slice(), answer)),
         data: d.as_slice(),
     };
-    let right = RecordParts {
+    let right = RecordRef {
         owner: right_owner,
+        ttl: 0,
         class: Class(number16(f.as_slice(), answer)),
         rtype: RecordType(number16(g.as_slice(), answer)),
         data: h.as_slice(),

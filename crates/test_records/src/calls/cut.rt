@@ -7,7 +7,7 @@ use dns_reader::{EntryRead, RecordReader, State};
 use dns_zonefile::BlockReader;
 use row_table::input::number_of;
 use row_table::{Answer, Failure, Heap, Inputs};
-use zone_cut::{CutError, Cutter, RecordRead};
+use zone_cut::{CutError, Cutter};
 
 /// What is said where memory is refused.
 const SHORT: &str = "buffer size exceeded";
@@ -115,20 +115,12 @@ fn fill<'a>(
         let Some(given) = reader.next_entry(&mut state, &mut data) else {
             break;
         };
-        let (ttl, class, rtype) = match given {
-            Ok(
-                EntryRead::Record {
-                    ttl,
-                    class,
-                    rtype,
-                    ..
-                },
-            ) => (ttl.seconds(), class, rtype),
+        let read = match given {
             Ok(EntryRead::Include { .. }) => {
                 answer.refuse_text("include");
                 return false;
             }
-            Ok(_) => continue,
+            Ok(read) => read,
             Err(refusal) => {
                 if let Some(error) = record_error(refusal) {
                     let _memory = tell_not_given(error, answer);
@@ -136,14 +128,11 @@ fn fill<'a>(
                 return false;
             }
         };
-        let read = RecordRead {
-            ttl,
-            class,
-            rtype,
-            data: data.as_slice(),
+        let Some(record) = state.record(&read, data.as_slice()) else {
+            continue;
         };
         let mut lines = String::new(answer.heap());
-        match cutter.take(&state, reader.began(), read, &mut lines) {
+        match cutter.take(&state, reader.began(), record, &mut lines) {
             Ok(true) => {
                 if !parts.fill_up(text, reader.began())
                     || !parts.begin(lines.as_str(), reader.place())

@@ -1,0 +1,26 @@
+-- The record that was read of an entry.
+use Rattle.std.specs.Prelude.{◌≡◌, ℕ, List, Option, IfSome, MatchOption, None}
+use Rattle.dns_fields.specs.declared.record_ref.RecordRef.{RecordRef}
+use Rattle.dns_kinds.specs.declared.classes.Class.{Class}
+use Rattle.dns_kinds.specs.declared.types.RecordType.{RecordType}
+use Rattle.dns_wire.specs.Wire.{wire}
+use Rattle.dns_reader.specs.Past.{known_name, seconds_of}
+use Rattle.dns_reader.specs.declared.entry.EntryRead.{EntryRead}
+use Rattle.dns_reader.specs.declared.entry.EntryRead.TheVariants.{Record}
+use Rattle.dns_reader.specs.declared.known.Known.TheVariants.{Name}
+use Rattle.dns_reader.specs.declared.state.State.{State}
+use Rattle.dns_reader.specs.declared.ttl.RecordTtl.{RecordTtl}
+
+-- a record has an owner of these labels, and what an entry says of it
+pub record IsGiven (labels : List (List ℕ)) (ttl : RecordTtl) (class : Class) (rtype : RecordType) (octets : List ℕ) (r : RecordRef) : Type 0 where
+  pub owner : r.owner.now ≡ wire labels
+  pub ttl_is : r.ttl ≡ seconds_of ttl
+  pub class_is : r.class ≡ class
+  pub rtype_is : r.rtype ≡ rtype
+  pub data_is : r.«data».now ≡ octets
+
+-- the record that was read has the owner that is known, and is given unless none is; nothing else is given
+abbrev pub GivesRecord : State → EntryRead → List ℕ → Option RecordRef → Type 0
+GivesRecord state (Record at ttl class rtype) octets given =
+    MatchOption given (known_name state.owner ≡ None) (λ r. (labels : List (List ℕ)) × (state.owner ≡ Name labels) × IsGiven labels ttl class rtype octets r)
+GivesRecord state _ octets given = IfSome given (λ r. ⊥)

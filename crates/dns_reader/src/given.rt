@@ -1,0 +1,31 @@
+//! The record that was read of an entry.
+ghost use Rattle.dns_reader.specs.Given.{GivesRecord};
+
+use crate::entry::EntryRead;
+use crate::state::State;
+use dns_fields::RecordRef;
+
+impl State {
+    /// Returns the record that was read of the last entry, whose data is `data`, or `None` if no record
+    /// was read or no owner is known.
+    pub fn record<'a>(&'a self, read: &EntryRead, data: &'a [u8]) -> Option<RecordRef<'a>>
+        ensures { GivesRecord self.now read.now data.now result }
+    {
+        let EntryRead::Record {
+            ttl, class, rtype, ..
+        } = read
+        else {
+            return None;
+        };
+        let Ok(owner) = self.owner() else {
+            return None;
+        };
+        Some(RecordRef {
+            owner: owner.as_slice(),
+            ttl: ttl.seconds(),
+            class: *class,
+            rtype: *rtype,
+            data,
+        })
+    }
+}
