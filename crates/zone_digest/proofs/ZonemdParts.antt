@@ -5,6 +5,7 @@ use Rattle.std.specs.Int.{from_be_bytes, to_be_bytes, w32}
 use Rattle.std.proofs.lemmas.Nat.{be_bytes_4}
 use Rattle.std.proofs.lemmas.List.Elements.{recursion_from_All}
 use Rattle.dns_digits.specs.declared.digests.Digests.TheVariants.{Zonemd}
+use Rattle.dns_kinds.specs.Rtype as Rtype
 use Rattle.dns_fields.specs.declared.field.Field.TheVariants.{Number8, Number32}
 use Rattle.dns_data.specs.ByType.{HasShape, shape_of_code}
 use Rattle.dns_data.specs.Types.{TypeShape, type_shape, type_shapes}
@@ -14,13 +15,13 @@ use Rattle.dns_resource.specs.TypeData.{IsTypeData, TypeData}
 use Rattle.dns_resource.proofs.DataBack.{shape_with}
 
 abbrev zonemd_shape : TypeShape
-zonemd_shape = type_shape 63 (Number32 ∷ Number8 ∷ Number8 ∷ []) Hex (Digest Zonemd 5) (codes "serial" ∷ codes "scheme" ∷ codes "hash algorithm" ∷ codes "digest" ∷ [])
+zonemd_shape = type_shape Rtype.zonemd (Number32 ∷ Number8 ∷ Number8 ∷ []) Hex (Digest Zonemd 5) (codes "serial" ∷ codes "scheme" ∷ codes "hash algorithm" ∷ codes "digest" ∷ [])
 
-zonemd_found : shape_of_code 63 ≡ Some zonemd_shape
+zonemd_found : shape_of_code Rtype.zonemd ≡ Some zonemd_shape
 unfolding type_shapes
 zonemd_found = refl
 
-long_of : (octets : List ℕ) → IsTypeData 63 octets → 6 ≤ length octets
+long_of : (octets : List ℕ) → IsTypeData Rtype.zonemd octets → 6 ≤ length octets
 long_of octets is =
     let own = is.shaped (shape_with zonemd_shape) (subst (λ f. HasShape f (shape_with zonemd_shape)) (sym zonemd_found) (refl, refl, refl)) in
     let serial = own.fields in
@@ -32,7 +33,7 @@ long_of octets is =
     omega (arith, first, second, third, serial.3.0, scheme.3.0, hash.3.0)
 
 -- a serial number, a scheme and a hash algorithm stand in front
-pub zonemd_long : (d : TypeData) → d.code ≡ 63 → IsTypeData d.code d.octets → 6 ≤ length d.octets
+pub zonemd_long : (d : TypeData) → d.rtype ≡ Rtype.zonemd → IsTypeData d.rtype d.octets → 6 ≤ length d.octets
 zonemd_long d same is = long_of d.octets (subst (λ c. IsTypeData c d.octets) same is)
 
 four : (a b c d : ℕ) → a < 256 → b < 256 → c < 256 → d < 256 → (i : ℕ) → get_or (a ∷ b ∷ c ∷ d ∷ []) i 0 < 256

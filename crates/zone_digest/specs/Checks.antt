@@ -1,5 +1,7 @@
 -- The check of all ZONEMD records of a zone (RFC 8976 section 4).
 use Rattle.std.specs.Prelude.{◌≡◌, ℕ, Bool, ◌==◌, ◌&&◌, Some, List, [], ◌∷◌, map, filter, count_by, slice_index}
+use Rattle.dns_kinds.specs.Rtype as Rtype
+use Rattle.dns_kinds.specs.declared.types.RecordType.{RecordType}
 use Rattle.dns_resource.specs.Records.{data_of}
 use Rattle.dns_resource.specs.TypeData.{TypeData}
 use Rattle.dns_resource.specs.declared.record.Record.{Record}
@@ -12,12 +14,12 @@ use Rattle.zone_digest.specs.declared.verdict.Verdict.{Verdict}
 use Rattle.zone_digest.specs.declared.zonemd.Zonemd.{Zonemd}
 
 -- a record of a type at the apex
-abbrev pub is_at_apex : {N O : Type 0} → ℕ → List (List ℕ) → Record N O → Bool
-is_at_apex code apex r = ((data_of r).code == code) && is_apex apex r.owner
+abbrev pub is_at_apex : {N O : Type 0} → RecordType → List (List ℕ) → Record N O → Bool
+is_at_apex rtype apex r = ((data_of r).rtype == rtype) && is_apex apex r.owner
 
 -- their data, in order
-abbrev pub apex_data : {N O : Type 0} → ℕ → List (List ℕ) → List (Record N O) → List TypeData
-apex_data code apex records = map data_of (filter (is_at_apex code apex) records)
+abbrev pub apex_data : {N O : Type 0} → RecordType → List (List ℕ) → List (Record N O) → List TypeData
+apex_data rtype apex records = map data_of (filter (is_at_apex rtype apex) records)
 
 -- data of ZONEMD with the scheme and the hash algorithm of another
 abbrev pub is_alike : Zonemd → TypeData → Bool
@@ -39,11 +41,11 @@ HaveVerdicts serial octets all (d ∷ zonemds) (v ∷ verdicts) = HasVerdict ser
 
 -- the apex has one SOA, with this serial number
 abbrev pub HasSerial : {N O : Type 0} → List (List ℕ) → List (Record N O) → ℕ → Type 0
-HasSerial apex records serial = (soa : TypeData) × (apex_data 6 apex records ≡ soa ∷ []) × (soa_serial soa ≡ Some serial)
+HasSerial apex records serial = (soa : TypeData) × (apex_data Rtype.soa apex records ≡ soa ∷ []) × (soa_serial soa ≡ Some serial)
 
 -- the verdicts of all ZONEMD records at the apex
 abbrev pub IsChecked : {N O : Type 0} → List (List ℕ) → List (Record N O) → List Verdict → Type 0
-IsChecked apex records verdicts = (serial : ℕ) × HasSerial apex records serial × HaveVerdicts serial (hashed_octets apex records) (apex_data 63 apex records) (apex_data 63 apex records) verdicts
+IsChecked apex records verdicts = (serial : ℕ) × HasSerial apex records serial × HaveVerdicts serial (hashed_octets apex records) (apex_data Rtype.zonemd apex records) (apex_data Rtype.zonemd apex records) verdicts
 
 -- memory was lacking, or there is no single SOA
 abbrev pub IsCheckError : {N O : Type 0} → List (List ℕ) → List (Record N O) → CheckError → Type 0

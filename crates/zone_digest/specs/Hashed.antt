@@ -1,8 +1,10 @@
 -- Which records of a zone are hashed, and as which octets (RFC 8976 section 3.3).
 use Rattle.std.specs.Prelude.{ℕ, Bool, false, not, ◌&&◌, ◌||◌, ◌==◌, nat_eq, List, [], ◌∷◌, filter}
+use Rattle.std.specs.Int.{to_be_bytes, w16}
 use Rattle.std.specs.List.{flat_map, starts_with}
 use Rattle.dns_octets.specs.Lowered.{same_lowered}
 use Rattle.dns_wire.specs.Wire.{wire}
+use Rattle.dns_kinds.specs.Rtype as Rtype
 use Rattle.dns_resource.specs.CanonicalData.{canonical_record}
 use Rattle.dns_resource.specs.Records.{data_of}
 use Rattle.dns_resource.specs.TypeData.{TypeData}
@@ -19,7 +21,7 @@ is_in_zone apex (label ∷ above) = is_apex apex (label ∷ above) || is_in_zone
 
 -- data of ZONEMD, or an RRSIG whose first field, the type that it covers, is ZONEMD
 abbrev pub is_of_digest : TypeData → Bool
-is_of_digest d = (d.code == 63) || ((d.code == 46) && starts_with nat_eq d.octets (0 ∷ 63 ∷ []))
+is_of_digest d = (d.rtype == Rtype.zonemd) || ((d.rtype == Rtype.rrsig) && starts_with nat_eq d.octets (to_be_bytes w16 Rtype.zonemd))
 
 -- every record of the zone is hashed, but at the apex ZONEMD and the RRSIG that covers it
 abbrev pub is_hashed : {N O : Type 0} → List (List ℕ) → Record N O → Bool

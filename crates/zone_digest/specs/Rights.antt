@@ -1,5 +1,6 @@
 -- The ZONEMD that is right for a zone (RFC 8976 section 3).
 use Rattle.std.specs.Prelude.{◌≡◌, ℕ, List, ◌++◌}
+use Rattle.dns_kinds.specs.Rtype as Rtype
 use Rattle.dns_resource.specs.declared.record.Record.{Record}
 use Rattle.zone_digest.specs.Checks.{HasSerial}
 use Rattle.zone_digest.specs.Hashed.{hashed_octets}
@@ -20,5 +21,5 @@ AppendsDigest apex records hash front «data» = (digest : List ℕ) × IsDigest
 
 -- data of a ZONEMD with a hash algorithm of this number, of which the check of the zone says that it matches if it is the only one of its scheme and algorithm
 abbrev pub IsRightData : {N O : Type 0} → List (List ℕ) → List (Record N O) → ℕ → List ℕ → Type 0
-IsRightData apex records hash «data» = (serial : ℕ) × HasSerial apex records serial × (z : Zonemd) × IsZonemd (record { code = 63; octets = «data» }) z × (z.hash ≡ hash)
+IsRightData apex records hash «data» = (serial : ℕ) × HasSerial apex records serial × (z : Zonemd) × IsZonemd (record { rtype = Rtype.zonemd; octets = «data» }) z × (z.hash ≡ hash)
     × IsVerdict serial (hashed_octets apex records) 1 z Matches

@@ -1,5 +1,7 @@
 -- Worked rows of the definitions.
 use Rattle.std.specs.Prelude.{◌≡◌, ℕ, true, false, List, [], ◌∷◌, ◌++◌, codes, refl}
+use Rattle.dns_kinds.specs.Rtype as Rtype
+use Rattle.dns_kinds.specs.declared.types.RecordType.{RecordType}
 use Rattle.dns_resource.specs.declared.record.Record.{Record}
 use Rattle.zone_digest.specs.Checks.{alike_count}
 use Rattle.zone_digest.specs.Hashed.{hashed_octets, is_hashed, is_in_zone}
@@ -25,32 +27,32 @@ within_row : is_in_zone apex ((97 ∷ 7 ∷ codes "example") ∷ [] ∷ []) ≡ 
 within_row = refl
 
 -- records
-abbrev one : List (List ℕ) → ℕ → List ℕ → Record ℕ ℕ
-one owner code octets = record { owner = owner; ttl = 60; class = 1; «data» = record { code = code; octets = octets } }
+abbrev one : List (List ℕ) → RecordType → List ℕ → Record ℕ ℕ
+one owner rtype octets = record { owner = owner; ttl = 60; class = 1; «data» = record { rtype = rtype; octets = octets } }
 
 abbrev below : List (List ℕ)
 below = codes "a" ∷ apex
 
 -- of the digest's types only what stands at the apex is left out
-digest_row : is_hashed apex (one apex 63 []) ≡ false
+digest_row : is_hashed apex (one apex Rtype.zonemd []) ≡ false
 digest_row = refl
 
-deep_digest_row : is_hashed apex (one below 63 []) ≡ true
+deep_digest_row : is_hashed apex (one below Rtype.zonemd []) ≡ true
 deep_digest_row = refl
 
-signature_row : is_hashed apex (one (codes "EXAMPLE" ∷ [] ∷ []) 46 (0 ∷ 63 ∷ 13 ∷ [])) ≡ false
+signature_row : is_hashed apex (one (codes "EXAMPLE" ∷ [] ∷ []) Rtype.rrsig (0 ∷ 63 ∷ 13 ∷ [])) ≡ false
 signature_row = refl
 
-other_signature_row : is_hashed apex (one apex 46 (0 ∷ 6 ∷ 13 ∷ [])) ≡ true
+other_signature_row : is_hashed apex (one apex Rtype.rrsig (0 ∷ 6 ∷ 13 ∷ [])) ≡ true
 other_signature_row = refl
 
 -- an address 192.0.2.1 of `A.example.`, and one outside of the zone
-octets_row : hashed_octets apex (one (codes "A" ∷ apex) 1 (192 ∷ 0 ∷ 2 ∷ 1 ∷ []) ∷ one (codes "test" ∷ [] ∷ []) 1 (192 ∷ 0 ∷ 2 ∷ 1 ∷ []) ∷ [])
+octets_row : hashed_octets apex (one (codes "A" ∷ apex) Rtype.a (192 ∷ 0 ∷ 2 ∷ 1 ∷ []) ∷ one (codes "test" ∷ [] ∷ []) Rtype.a (192 ∷ 0 ∷ 2 ∷ 1 ∷ []) ∷ [])
     ≡ 1 ∷ 97 ∷ 7 ∷ codes "example" ++ 0 ∷ 0 ∷ 1 ∷ 0 ∷ 1 ∷ 0 ∷ 0 ∷ 0 ∷ 60 ∷ 0 ∷ 4 ∷ 192 ∷ 0 ∷ 2 ∷ 1 ∷ []
 octets_row = refl
 
 -- two of one scheme and algorithm, among three
 alike_row : alike_count (record { serial = 9; scheme = 1; hash = 2; digest = record { ref_ptr = (0, 0); now = [] } })
-    (record { code = 63; octets = 0 ∷ 0 ∷ 0 ∷ 1 ∷ 1 ∷ 2 ∷ [] } ∷ record { code = 63; octets = 0 ∷ 0 ∷ 0 ∷ 1 ∷ 1 ∷ 1 ∷ [] } ∷ record { code = 63; octets = 0 ∷ 0 ∷ 0 ∷ 2 ∷ 1 ∷ 2 ∷ [] } ∷ [])
+    (record { rtype = Rtype.zonemd; octets = 0 ∷ 0 ∷ 0 ∷ 1 ∷ 1 ∷ 2 ∷ [] } ∷ record { rtype = Rtype.zonemd; octets = 0 ∷ 0 ∷ 0 ∷ 1 ∷ 1 ∷ 1 ∷ [] } ∷ record { rtype = Rtype.zonemd; octets = 0 ∷ 0 ∷ 0 ∷ 2 ∷ 1 ∷ 2 ∷ [] } ∷ [])
     ≡ 2
 alike_row = refl

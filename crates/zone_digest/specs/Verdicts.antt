@@ -2,6 +2,7 @@
 use Rattle.std.specs.Prelude.{◌≡◌, ◌≢◌, ◌<◌, ◌≤◌, ℕ, ◌⊎◌, List, ◌∷◌, ◌++◌}
 use Rattle.std.specs.Int.{to_be_bytes, w32}
 use Rattle.sha2.specs.Sha512.{sha384, sha512}
+use Rattle.dns_kinds.specs.Rtype as Rtype
 use Rattle.dns_resource.specs.TypeData.{TypeData}
 use Rattle.zone_digest.specs.declared.verdict.Verdict.{Verdict}
 use Rattle.zone_digest.specs.declared.verdict.Verdict.TheVariants.{Matches, Differs, OtherSerial, UnknownScheme, UnknownHash, Repeated}
@@ -9,7 +10,7 @@ use Rattle.zone_digest.specs.declared.zonemd.Zonemd.{Zonemd}
 
 -- data of ZONEMD: a serial number, a scheme, a hash algorithm, and the digest (RFC 8976 section 2.2)
 abbrev pub IsZonemd : TypeData → Zonemd → Type 0
-IsZonemd d z = (d.code ≡ 63) × (d.octets ≡ to_be_bytes w32 z.serial ++ z.scheme ∷ z.hash ∷ z.digest.now)
+IsZonemd d z = (d.rtype ≡ Rtype.zonemd) × (d.octets ≡ to_be_bytes w32 z.serial ++ z.scheme ∷ z.hash ∷ z.digest.now)
 
 -- octets have a digest under an algorithm: 1 is SHA-384, and 2 SHA-512 (RFC 8976 section 5.3)
 abbrev pub IsDigest : ℕ → List ℕ → List ℕ → Type 0

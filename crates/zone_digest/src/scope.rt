@@ -2,6 +2,7 @@
 ghost use Rattle.std.specs.Prelude.{◌≡◌};
 ghost use Rattle.zone_digest.specs.Hashed.{is_apex, is_hashed, is_in_zone, is_of_digest};
 
+use dns_kinds::RecordType;
 use dns_octets::AsOctets;
 use dns_octets::lowered::same_octets;
 use dns_resource::{Data, Record};
@@ -32,9 +33,11 @@ pub fn is_in_zone<Owner: AsOctets, Apex: AsOctets>(name: &Name<Owner>, apex: &Na
 fn is_of_digest<Octets: AsOctets>(data: &Data<Octets>) -> bool
     ensures { result ≡ is_of_digest «data».now }
 {
-    match data.code() {
-        63 => true,
-        46 => data.as_slice().starts_with(&[0, 63]),
+    match data.rtype() {
+        RecordType::ZONEMD => true,
+        RecordType::RRSIG => data
+            .as_slice()
+            .starts_with(&RecordType::ZONEMD.0.to_be_bytes()),
         _ => false,
     }
 }

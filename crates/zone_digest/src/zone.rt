@@ -1,5 +1,6 @@
 //! The check of all digests of a zone.
 ghost use Rattle.std.specs.Prelude.{◌≡◌, ◌&&◌, IfOk, IfErr, MatchOption};
+ghost use Rattle.dns_kinds.specs.Rtype as Rtype;
 ghost use Rattle.dns_resource.specs.Records.{data_of};
 ghost use Rattle.zone_digest.specs.Checks.{HasSerial, HasVerdict, IsCheckError, IsChecked, alike_count, apex_data, is_alike, is_at_apex};
 ghost use Rattle.zone_digest.specs.Hashed.{hashed_octets};
@@ -8,27 +9,22 @@ use crate::error::CheckError;
 use crate::scope::is_apex;
 use crate::verdict::{Verdict, check_zonemd};
 use crate::zonemd::Zonemd;
+use dns_kinds::RecordType;
 use dns_octets::AsOctets;
 use dns_resource::{Data, Record};
 use dns_wire::Name;
 use std::alloc::Allocator;
 use zone_set::{CanonicalSet, serial_of};
 
-/// The code of SOA.
-const SOA: u16 = 6;
-
-/// The code of ZONEMD.
-const ZONEMD: u16 = 63;
-
 /// Whether a record has a type, and stands at the apex of a zone.
 fn is_at_apex<Owner: AsOctets, Octets: AsOctets, Apex: AsOctets>(
     one: &Record<Owner, Octets>,
-    code: u16,
+    rtype: RecordType,
     apex: &Name<Apex>,
 ) -> bool
-    ensures { result ≡ is_at_apex code apex.now one.now }
+    ensures { result ≡ is_at_apex rtype apex.now one.now }
 {
-    one.data.code() == code && is_apex(&one.owner, apex)
+    one.data.rtype() == rtype && is_apex(&one.owner, apex)
 }
 
 /// The serial number of the SOA at the apex, if there is one SOA.
@@ -40,7 +36,7 @@ pub(crate) fn apex_serial<Owner: AsOctets, Octets: AsOctets, Apex: AsOctets>(
 {
     let mut found = None;
     for one in records {
-        if is_at_apex(one, SOA, apex) {
+        if is_at_apex(one, RecordType::SOA, apex) {
             match found {
                 Some(_) => return None,
                 None => found = Some(&one.data),
@@ -59,9 +55,9 @@ fn is_alike_at_apex<Owner: AsOctets, Octets: AsOctets, Apex: AsOctets>(
     zonemd: &Zonemd<'_>,
     apex: &Name<Apex>,
 ) -> bool
-    ensures { result ≡ (is_at_apex 63 apex.now one.now && is_alike zonemd.now (data_of one.now)) }
+    ensures { result ≡ (is_at_apex Rtype.zonemd apex.now one.now && is_alike zonemd.now (data_of one.now)) }
 {
-    is_at_apex(one, ZONEMD, apex) && zonemd.is_alike(&one.data)
+    is_at_apex(one, RecordType::ZONEMD, apex) && zonemd.is_alike(&one.data)
 }
 
 /// How many ZONEMD records at the apex have the scheme and the hash algorithm of one.
@@ -70,7 +66,7 @@ fn count_alike<Owner: AsOctets, Octets: AsOctets, Apex: AsOctets>(
     apex: &Name<Apex>,
     records: &[Record<Owner, Octets>],
 ) -> usize
-    ensures { result ≡ alike_count zonemd.now (apex_data 63 apex.now records.now) }
+    ensures { result ≡ alike_count zonemd.now (apex_data Rtype.zonemd apex.now records.now) }
 {
     let mut count = 0;
     for one in records {
@@ -89,8 +85,8 @@ fn check_data<Owner: AsOctets, Octets: AsOctets, Apex: AsOctets, A: Allocator, B
     serial: u32,
     one: &Data<Octets>,
 ) -> Result<Verdict, CheckError>
-    requires { one.now.code ≡ 63 }
-    ensures ok { IfOk result (HasVerdict serial (hashed_octets apex.now records.now) (apex_data 63 apex.now records.now) one.now) }
+    requires { one.now.rtype ≡ Rtype.zonemd }
+    ensures ok { IfOk result (HasVerdict serial (hashed_octets apex.now records.now) (apex_data Rtype.zonemd apex.now records.now) one.now) }
     ensures err { IfErr result (λ e. e ≡ CheckError.ShortBuf) }
 {
     let Some(zonemd) = Zonemd::of_data(one) else {
@@ -126,7 +122,7 @@ pub fn check_zone<
     };
     let mut verdicts = Vec::new(alloc);
     for one in all {
-        if is_at_apex(one, ZONEMD, apex) {
+        if is_at_apex(one, RecordType::ZONEMD, apex) {
             let verdict = check_data(alloc, apex, records, serial, &one.data)?;
             if verdicts.push(verdict).is_err() {
                 return Err(CheckError::ShortBuf);

@@ -1,8 +1,10 @@
 //! Data of ZONEMD.
 ghost use Rattle.std.specs.Prelude.{◌≡◌, ◌≢◌, MatchOption};
+ghost use Rattle.dns_kinds.specs.Rtype as Rtype;
 ghost use Rattle.zone_digest.specs.Checks.{is_alike};
 ghost use Rattle.zone_digest.specs.Verdicts.{IsZonemd};
 
+use dns_kinds::RecordType;
 use dns_octets::AsOctets;
 use dns_resource::Data;
 
@@ -22,9 +24,9 @@ pub struct Zonemd<'a> {
 impl<'a> Zonemd<'a> {
     /// The parts of data of ZONEMD, and none of other data.
     pub fn of_data<Octets: AsOctets>(data: &'a Data<Octets>) -> Option<Zonemd<'a>>
-        ensures { MatchOption result («data».now.code ≢ 63) (IsZonemd «data».now) }
+        ensures { MatchOption result («data».now.rtype ≢ Rtype.zonemd) (IsZonemd «data».now) }
     {
-        if data.code() != 63 {
+        if data.rtype() != RecordType::ZONEMD {
             return None;
         }
         let octets = data.as_slice();
@@ -39,7 +41,7 @@ impl<'a> Zonemd<'a> {
 
     /// Whether data of ZONEMD has the same scheme and hash algorithm.
     pub(crate) fn is_alike<Octets: AsOctets>(&self, data: &Data<Octets>) -> bool
-        requires { «data».now.code ≡ 63 }
+        requires { «data».now.rtype ≡ Rtype.zonemd }
         ensures { result ≡ is_alike self.now «data».now }
     {
         let octets = data.as_slice();

@@ -3,6 +3,7 @@ use Rattle.std.specs.Prelude.{ℕ, nat_eq, ◌==◌, ◌&&◌, ◌||◌, not, Bo
 use Rattle.std.specs.Cmp.Lexicographic.{pointwise}
 use Rattle.std.specs.List.{list_any}
 use Rattle.dns_wire.specs.Order.{same_name}
+use Rattle.dns_kinds.specs.Rtype as Rtype
 use Rattle.dns_resource.specs.Records.{data_of}
 use Rattle.dns_resource.specs.declared.record.Record.{Record}
 use Rattle.zone_rules.specs.Zones.{type_of}
@@ -10,11 +11,11 @@ use Rattle.zone_rules.specs.Zones.{type_of}
 -- `CDS 0 0 0 00` or `CDNSKEY 0 3 0 AA==`
 abbrev pub is_delete_form : {N O : Type 0} → Record N O → Bool
 is_delete_form r =
-    type_of r == 59 && pointwise nat_eq (data_of r).octets (0 ∷ 0 ∷ 0 ∷ 0 ∷ 0 ∷ []) || type_of r == 60 && pointwise nat_eq (data_of r).octets (0 ∷ 0 ∷ 3 ∷ 0 ∷ 0 ∷ [])
+    type_of r == Rtype.cds && pointwise nat_eq (data_of r).octets (0 ∷ 0 ∷ 0 ∷ 0 ∷ 0 ∷ []) || type_of r == Rtype.cdnskey && pointwise nat_eq (data_of r).octets (0 ∷ 0 ∷ 3 ∷ 0 ∷ 0 ∷ [])
 
 -- a CDS or CDNSKEY that is none
 abbrev pub asks_for_key : {N O : Type 0} → Record N O → Bool
-asks_for_key r = (type_of r == 59 || type_of r == 60) && not (is_delete_form r)
+asks_for_key r = (type_of r == Rtype.cds || type_of r == Rtype.cdnskey) && not (is_delete_form r)
 
 -- one at the apex, where another asks for keys
 abbrev pub deletes_beside_keys : {N O : Type 0} → List (List ℕ) → List (Record N O) → Record N O → Bool

@@ -5,6 +5,7 @@ use Rattle.std.specs.List.{find, list_all, list_any}
 use Rattle.std.specs.Option.{option_map, option_map_or}
 use Rattle.dns_wire.specs.Order.{same_name}
 use Rattle.dns_wire.specs.Wire.{wire}
+use Rattle.dns_kinds.specs.Rtype as Rtype
 use Rattle.dns_resource.specs.declared.record.Record.{Record}
 use Rattle.zone_rules.specs.Above.{names_above, parent_of}
 use Rattle.zone_rules.specs.Rules.{is_zone_cut}
@@ -17,8 +18,8 @@ use Rattle.zone_dnssec.specs.SignedSets.{belongs_to_parent}
 -- an RRSIG or NSEC below a delegation, or an RRSIG at one over what is not the parent's (RFC 4035 sections 2.2 and 2.3)
 abbrev pub is_occluded : {N O : Type 0} → List (List ℕ) → List (Record N O) → Record N O → Bool
 is_occluded origin records r =
-    (type_of r == 46 || type_of r == 47) && list_any (is_zone_cut origin records) (names_above r.owner)
-    || type_of r == 46 && (not (belongs_to_parent (set_type r)) && is_zone_cut origin records r.owner)
+    (type_of r == Rtype.rrsig || type_of r == Rtype.nsec) && list_any (is_zone_cut origin records) (names_above r.owner)
+    || type_of r == Rtype.rrsig && (not (belongs_to_parent (set_type r)) && is_zone_cut origin records r.owner)
 
 -- ---- owners of NSEC3 (RFC 5155 section 3)
 
@@ -39,7 +40,7 @@ abbrev pub is_link_owner : {N O : Type 0} → List (List ℕ) → Record N O →
 is_link_owner origin r = is_child r.owner origin && (not (pointwise nat_eq (field_octets 0 r) (1 ∷ [])) || begins_with_hash (wire r.owner))
 
 abbrev pub has_other_link_owner : {N O : Type 0} → List (List ℕ) → Record N O → Bool
-has_other_link_owner origin r = type_of r == 50 && not (is_link_owner origin r)
+has_other_link_owner origin r = type_of r == Rtype.nsec3 && not (is_link_owner origin r)
 
 -- ---- iterations (RFC 9276 section 3)
 
@@ -52,8 +53,8 @@ iterates_within above most origin r =
 
 -- the lesser of the SOA's TTL and its minimum, the seventh field
 abbrev pub denial_ttl : {N O : Type 0} → List (List ℕ) → List (Record N O) → Option ℕ
-denial_ttl origin records = option_map (λ r. min r.ttl (number_in (field_octets 6 r))) (find (λ r. same_name r.owner origin && type_of r == 6) records)
+denial_ttl origin records = option_map (λ r. min r.ttl (number_in (field_octets 6 r))) (find (λ r. same_name r.owner origin && type_of r == Rtype.soa) records)
 
 -- an NSEC or NSEC3 has another
 abbrev pub has_other_denial_ttl : {N O : Type 0} → Option ℕ → Record N O → Bool
-has_other_denial_ttl wanted r = (type_of r == 47 || type_of r == 50) && option_map_or (λ ttl. not (r.ttl == ttl)) wanted false
+has_other_denial_ttl wanted r = (type_of r == Rtype.nsec || type_of r == Rtype.nsec3) && option_map_or (λ ttl. not (r.ttl == ttl)) wanted false

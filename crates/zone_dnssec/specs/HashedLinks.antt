@@ -3,6 +3,7 @@ use Rattle.std.specs.Prelude.{ℕ, nat_le, ◌==◌, ◌&&◌, ◌||◌, not, Bo
 use Rattle.std.specs.List.{list_any}
 use Rattle.std.specs.Option.{option_map_or}
 use Rattle.dns_wire.specs.Order.{same_name}
+use Rattle.dns_kinds.specs.Rtype as Rtype
 use Rattle.dns_resource.specs.declared.record.Record.{Record}
 use Rattle.zone_rules.specs.Above.{names_above, is_within}
 use Rattle.zone_rules.specs.Rules.{is_zone_cut}
@@ -25,7 +26,7 @@ points_to_next origin records chain r = option_map_or (is_hash_of origin (next_h
 
 -- an NSEC3 of a chain names another than the next hash
 abbrev pub names_other_hash : {N O : Type 0} → List (List ℕ) → List (Record N O) → Record N O → Bool
-names_other_hash origin records r = type_of r == 50 && some_chain (λ chain. is_link chain r && not (points_to_next origin records chain r)) origin records
+names_other_hash origin records r = type_of r == Rtype.nsec3 && some_chain (λ chain. is_link chain r && not (points_to_next origin records chain r)) origin records
 
 -- no NSEC3 matches a name
 abbrev pub lacks_link : {N O : Type 0} → List (List ℕ) → List (Record N O) → Record N O → List (List ℕ) → Bool
@@ -39,7 +40,7 @@ is_covered_by_opt_out origin records chain name =
 -- a name is a delegation without DS, which a chain leaves out
 abbrev pub is_opted_out : {N O : Type 0} → List (List ℕ) → List (Record N O) → Record N O → List (List ℕ) → Bool
 is_opted_out origin records chain name =
-    is_zone_cut origin records name && (not (has_type_at 43 name records) && is_covered_by_opt_out origin records chain name)
+    is_zone_cut origin records name && (not (has_type_at Rtype.ds name records) && is_covered_by_opt_out origin records chain name)
 
 -- the NSEC3 that matches a name lists other types than those at the name
 abbrev pub lists_other_hashed_types : {N O : Type 0} → List (List ℕ) → List (Record N O) → Record N O → List (List ℕ) → Bool
@@ -63,7 +64,7 @@ fails_at_or_above fault origin records chain name =
 -- a name is represented in a chain: it has authority, is no owner of NSEC3s, and isn't left out
 abbrev pub is_represented : {N O : Type 0} → List (List ℕ) → List (Record N O) → Record N O → List (List ℕ) → Bool
 is_represented origin records chain name =
-    is_authoritative origin records name && (not (has_type_at 50 name records) && not (is_opted_out origin records chain name))
+    is_authoritative origin records name && (not (has_type_at Rtype.nsec3 name records) && not (is_opted_out origin records chain name))
 
 -- names are hashed for a chain of at most 150 iterations (RFC 9276 section 3.2)
 abbrev pub is_bounded : {N O : Type 0} → Record N O → Bool

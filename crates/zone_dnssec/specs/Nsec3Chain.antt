@@ -6,6 +6,7 @@ use Rattle.std.specs.List.{find, list_any}
 use Rattle.std.specs.Option.{option_or}
 use Rattle.std.specs.Ordering.{is_lt}
 use Rattle.dns_wire.specs.Order.{same_name}
+use Rattle.dns_kinds.specs.Rtype as Rtype
 use Rattle.dns_canonical.specs.Names.{name_order}
 use Rattle.dns_resource.specs.Records.{data_of}
 use Rattle.dns_resource.specs.declared.record.Record.{Record}
@@ -48,7 +49,7 @@ is_same_field place a b = pointwise nat_eq (field_octets place a) (field_octets 
 
 -- an NSEC3 is of the chain of an NSEC3PARAM: hash algorithm, iterations and salt are the same
 abbrev pub is_link : {N O : Type 0} → Record N O → Record N O → Bool
-is_link chain r = type_of r == 50 && (is_same_field 0 chain r && (is_same_field 2 chain r && is_same_field 3 chain r))
+is_link chain r = type_of r == Rtype.nsec3 && (is_same_field 0 chain r && (is_same_field 2 chain r && is_same_field 3 chain r))
 
 -- some NSEC3PARAM at the apex names a chain that passes the test
 abbrev pub some_chain : {N O : Type 0} → (Record N O → Bool) → List (List ℕ) → List (Record N O) → Bool

@@ -6,6 +6,7 @@ use Rattle.std.specs.Ordering.{is_le}
 use Rattle.dns_octets.specs.Lowered.{same_lowered}
 use Rattle.dns_wire.specs.Order.{same_name}
 use Rattle.dns_wire.specs.Wire.{wire}
+use Rattle.dns_kinds.specs.Rtype as Rtype
 use Rattle.dns_canonical.specs.Names.{name_order}
 use Rattle.dns_resource.specs.Parts.{data_part}
 use Rattle.dns_resource.specs.Records.{data_of}
@@ -21,7 +22,7 @@ are_at_one_name a b = same_name a.owner b.owner
 -- the record is the first at a name with authority that has no NSEC, in a zone of which no NSEC3PARAM names a chain
 abbrev pub lacks_nsec : {N O : Type 0} → List (List ℕ) → List (Record N O) → ℕ → Record N O → Bool
 lacks_nsec origin records place r =
-    starts are_at_one_name records place r && (not (has_named_chain origin records) && (is_authoritative origin records r.owner && not (has_type_at 47 r.owner records)))
+    starts are_at_one_name records place r && (not (has_named_chain origin records) && (is_authoritative origin records r.owner && not (has_type_at Rtype.nsec r.owner records)))
 
 -- a name comes after another in canonical order (RFC 4034 section 6.1)
 abbrev pub comes_after : List (List ℕ) → List (List ℕ) → Bool
@@ -38,4 +39,4 @@ next_name origin records name = option_map_or (λ r. r.owner) (next_record origi
 -- an NSEC with authority names another than the next name
 abbrev pub names_other_next : {N O : Type 0} → List (List ℕ) → List (Record N O) → Record N O → Bool
 names_other_next origin records r =
-    type_of r == 47 && (is_authoritative origin records r.owner && option_map_or (λ octets. not (same_lowered octets (wire (next_name origin records r.owner)))) (data_part (data_of r) 0) false)
+    type_of r == Rtype.nsec && (is_authoritative origin records r.owner && option_map_or (λ octets. not (same_lowered octets (wire (next_name origin records r.owner)))) (data_part (data_of r) 0) false)

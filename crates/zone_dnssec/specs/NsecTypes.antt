@@ -4,6 +4,8 @@ use Rattle.std.specs.List.{list_all}
 use Rattle.std.specs.Option.{option_map_or}
 use Rattle.dns_lists.specs.Bitmap.{has, types_of}
 use Rattle.dns_wire.specs.Order.{same_name}
+use Rattle.dns_kinds.specs.Rtype as Rtype
+use Rattle.dns_kinds.specs.declared.types.RecordType.{RecordType}
 use Rattle.dns_resource.specs.Parts.{data_part}
 use Rattle.dns_resource.specs.Records.{data_of}
 use Rattle.dns_resource.specs.TypeData.{TypeData}
@@ -17,15 +19,15 @@ abbrev pub bitmap_octets : TypeData → List ℕ
 bitmap_octets d = option_map_or (λ next. drop (length next) d.octets) (data_part d 0) []
 
 -- at a delegation NS, DS, RRSIG and NSEC are listed alone
-abbrev pub stands_at_delegation : ℕ → Bool
-stands_at_delegation type = type == 2 || (type == 43 || (type == 46 || type == 47))
+abbrev pub stands_at_delegation : RecordType → Bool
+stands_at_delegation rtype = rtype == Rtype.ns || (rtype == Rtype.ds || (rtype == Rtype.rrsig || rtype == Rtype.nsec))
 
 -- a type is listed at a name, if it stands there
-abbrev pub may_be_listed : {N O : Type 0} → List (List ℕ) → List (Record N O) → List (List ℕ) → ℕ → Bool
-may_be_listed origin records name type = stands_at_delegation type || not (is_zone_cut origin records name)
+abbrev pub may_be_listed : {N O : Type 0} → List (List ℕ) → List (Record N O) → List (List ℕ) → RecordType → Bool
+may_be_listed origin records name rtype = stands_at_delegation rtype || not (is_zone_cut origin records name)
 
-abbrev pub has_listed_type : {N O : Type 0} → List (List ℕ) → List (Record N O) → List (List ℕ) → ℕ → Bool
-has_listed_type origin records name type = has_type_at type name records && may_be_listed origin records name type
+abbrev pub has_listed_type : {N O : Type 0} → List (List ℕ) → List (Record N O) → List (List ℕ) → RecordType → Bool
+has_listed_type origin records name rtype = has_type_at rtype name records && may_be_listed origin records name rtype
 
 -- a bitmap lists the type of a record, or it is not listed at the name
 abbrev pub is_in_bitmap : {N O : Type 0} → List (List ℕ) → List (Record N O) → List (List ℕ) → List ℕ → Record N O → Bool
@@ -39,4 +41,4 @@ lists_exactly origin records name octets =
 -- an NSEC with authority lists other types than those at its owner
 abbrev pub lists_other_types : {N O : Type 0} → List (List ℕ) → List (Record N O) → Record N O → Bool
 lists_other_types origin records r =
-    type_of r == 47 && (is_authoritative origin records r.owner && not (lists_exactly origin records r.owner (bitmap_octets (data_of r))))
+    type_of r == Rtype.nsec && (is_authoritative origin records r.owner && not (lists_exactly origin records r.owner (bitmap_octets (data_of r))))

@@ -4,6 +4,7 @@ use Rattle.std.specs.Cmp.Lexicographic.{pointwise}
 use Rattle.std.specs.List.{list_any}
 use Rattle.std.specs.Option.{option_map_or}
 use Rattle.dns_wire.specs.Order.{same_name}
+use Rattle.dns_kinds.specs.Rtype as Rtype
 use Rattle.dns_resource.specs.Parts.{data_part}
 use Rattle.dns_resource.specs.Records.{data_of}
 use Rattle.dns_resource.specs.declared.record.Record.{Record}
@@ -15,7 +16,7 @@ field_octets place r = option_map_or (λ octets. octets) (data_part (data_of r) 
 
 -- an NSEC3PARAM names a chain: its hash algorithm is 1, SHA-1, and with flags it doesn't count (RFC 5155 section 4.1.2)
 abbrev pub names_chain : {N O : Type 0} → Record N O → Bool
-names_chain r = type_of r == 51 && (pointwise nat_eq (field_octets 0 r) (1 ∷ []) && pointwise nat_eq (field_octets 1 r) (0 ∷ []))
+names_chain r = type_of r == Rtype.nsec3param && (pointwise nat_eq (field_octets 0 r) (1 ∷ []) && pointwise nat_eq (field_octets 1 r) (0 ∷ []))
 
 -- some NSEC3PARAM at the apex names one
 abbrev pub has_named_chain : {N O : Type 0} → List (List ℕ) → List (Record N O) → Bool

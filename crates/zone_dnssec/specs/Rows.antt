@@ -1,5 +1,7 @@
 -- Worked rows of the rules, each computed.
 use Rattle.std.specs.Prelude.{◌≡◌, ℕ, Some, None, true, false, List, [], ◌∷◌, codes, refl}
+use Rattle.dns_kinds.specs.Rtype as Rtype
+use Rattle.dns_kinds.specs.declared.types.RecordType.{RecordType}
 use Rattle.dns_resource.specs.declared.record.Record.{Record}
 use Rattle.dns_data.specs.Types.{type_shapes}
 use Rattle.dns_wire.specs.Wire.{wire}
@@ -38,33 +40,33 @@ origin = codes "example" ∷ [] ∷ []
 abbrev sub : List (List ℕ)
 sub = codes "sub" ∷ origin
 
-abbrev at : List (List ℕ) → ℕ → List ℕ → Record ℕ ℕ
-at owner type octets = record { owner = owner; ttl = 60; class = 1; «data» = record { code = type; octets = octets } }
+abbrev at : List (List ℕ) → RecordType → List ℕ → Record ℕ ℕ
+at owner rtype octets = record { owner = owner; ttl = 60; class = 1; «data» = record { rtype = rtype; octets = octets } }
 
 -- a delegation, with glue at its own name and below it
 abbrev delegated : List (Record ℕ ℕ)
-delegated = at sub 2 [] ∷ at sub 1 [] ∷ at sub 43 [] ∷ at (codes "ns" ∷ sub) 1 [] ∷ []
+delegated = at sub Rtype.ns [] ∷ at sub Rtype.a [] ∷ at sub Rtype.ds [] ∷ at (codes "ns" ∷ sub) Rtype.a [] ∷ []
 
-apex_row : must_be_signed origin delegated (at origin 2 []) ≡ true
+apex_row : must_be_signed origin delegated (at origin Rtype.ns []) ≡ true
 apex_row = refl
 
-delegation_row : must_be_signed origin delegated (at sub 2 []) ≡ false
+delegation_row : must_be_signed origin delegated (at sub Rtype.ns []) ≡ false
 delegation_row = refl
 
-glue_row : must_be_signed origin delegated (at sub 1 []) ≡ false
+glue_row : must_be_signed origin delegated (at sub Rtype.a []) ≡ false
 glue_row = refl
 
-ds_row : must_be_signed origin delegated (at sub 43 []) ≡ true
+ds_row : must_be_signed origin delegated (at sub Rtype.ds []) ≡ true
 ds_row = refl
 
-below_row : must_be_signed origin delegated (at (codes "ns" ∷ sub) 1 []) ≡ false
+below_row : must_be_signed origin delegated (at (codes "ns" ∷ sub) Rtype.a []) ≡ false
 below_row = refl
 
 -- an RRSIG that covers DS
 abbrev signature : Record ℕ ℕ
-signature = at sub 46 (0 ∷ 43 ∷ [])
+signature = at sub Rtype.rrsig (0 ∷ 43 ∷ [])
 
-signed_row : has_signature 43 sub (signature ∷ []) ≡ true
+signed_row : has_signature Rtype.ds sub (signature ∷ []) ≡ true
 signed_row = refl
 
 nothing_row : signs_nothing (signature ∷ []) signature ≡ true
@@ -88,7 +90,7 @@ last_row = refl
 -- ---- parameters of chains: hash algorithm, flags, iterations, and a salt of no octets
 
 abbrev parameters : ℕ → ℕ → Record ℕ ℕ
-parameters algorithm flags = at origin 51 (algorithm ∷ flags ∷ 0 ∷ 0 ∷ 0 ∷ [])
+parameters algorithm flags = at origin Rtype.nsec3param (algorithm ∷ flags ∷ 0 ∷ 0 ∷ 0 ∷ [])
 
 chain_row : has_named_chain origin (parameters 1 0 ∷ []) ≡ true
 unfolding type_shapes
@@ -119,19 +121,19 @@ root_labels_row = refl
 
 -- ---- what may be signed at and below a delegation
 
-nsec_at_row : is_occluded origin delegated (at sub 47 []) ≡ false
+nsec_at_row : is_occluded origin delegated (at sub Rtype.nsec []) ≡ false
 nsec_at_row = refl
 
-nsec_below_row : is_occluded origin delegated (at (codes "ns" ∷ sub) 47 []) ≡ true
+nsec_below_row : is_occluded origin delegated (at (codes "ns" ∷ sub) Rtype.nsec []) ≡ true
 nsec_below_row = refl
 
 signed_ds_row : is_occluded origin delegated signature ≡ false
 signed_ds_row = refl
 
-signed_ns_row : is_occluded origin delegated (at sub 46 (0 ∷ 2 ∷ [])) ≡ true
+signed_ns_row : is_occluded origin delegated (at sub Rtype.rrsig (0 ∷ 2 ∷ [])) ≡ true
 signed_ns_row = refl
 
-signed_below_row : is_occluded origin delegated (at (codes "ns" ∷ sub) 46 (0 ∷ 1 ∷ [])) ≡ true
+signed_below_row : is_occluded origin delegated (at (codes "ns" ∷ sub) Rtype.rrsig (0 ∷ 1 ∷ [])) ≡ true
 signed_below_row = refl
 
 -- ---- key tags: of `256 3 8 AQID`, and of RSA/MD5 with the exponent 3 (RFC 4034 appendix B)
@@ -170,11 +172,11 @@ grandchild_row = refl
 
 -- ---- forms that ask to delete (RFC 8078 section 4)
 
-delete_row : is_delete_form (at origin 59 (0 ∷ 0 ∷ 0 ∷ 0 ∷ 0 ∷ [])) ≡ true
+delete_row : is_delete_form (at origin Rtype.cds (0 ∷ 0 ∷ 0 ∷ 0 ∷ 0 ∷ [])) ≡ true
 delete_row = refl
 
-key_delete_row : is_delete_form (at origin 60 (0 ∷ 0 ∷ 3 ∷ 0 ∷ 0 ∷ [])) ≡ true
+key_delete_row : is_delete_form (at origin Rtype.cdnskey (0 ∷ 0 ∷ 3 ∷ 0 ∷ 0 ∷ [])) ≡ true
 key_delete_row = refl
 
-key_row : asks_for_key (at origin 60 (1 ∷ 1 ∷ 3 ∷ 8 ∷ 1 ∷ [])) ≡ true
+key_row : asks_for_key (at origin Rtype.cdnskey (1 ∷ 1 ∷ 3 ∷ 8 ∷ 1 ∷ [])) ≡ true
 key_row = refl

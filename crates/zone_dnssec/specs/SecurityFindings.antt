@@ -2,6 +2,7 @@
 use Rattle.std.specs.Prelude.{ℕ, if◌then◌else◌, Bool, false, List, [], ◌∷◌, length, slice_get}
 use Rattle.std.specs.List.{flat_map, range_with_len}
 use Rattle.std.specs.Option.{option_map_or}
+use Rattle.dns_kinds.specs.Rtype as Rtype
 use Rattle.dns_resource.specs.declared.record.Record.{Record}
 use Rattle.zone_rules.specs.Zones.{has_type_at}
 use Rattle.zone_dnssec.specs.DeleteForms.{deletes_beside_keys}
@@ -71,4 +72,4 @@ insecure_at origin times records place = flat_map (insecure_of origin times reco
 
 -- the rules that each record breaks, record by record, if the zone is signed: with DNSKEY at its apex
 abbrev pub insecure_in_zone : {N O : Type 0} → List (List ℕ) → Times → List (Record N O) → List SecurityFinding
-insecure_in_zone origin times records = if has_type_at 48 origin records then flat_map (insecure_at origin times records) (range_with_len 0 (length records)) else []
+insecure_in_zone origin times records = if has_type_at Rtype.dnskey origin records then flat_map (insecure_at origin times records) (range_with_len 0 (length records)) else []

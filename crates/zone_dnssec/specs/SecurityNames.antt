@@ -1,5 +1,5 @@
--- The names of the rules, and which are faults.
-use Rattle.std.specs.Prelude.{ℕ, Bool, true, false, List, codes}
+-- The names of the rules.
+use Rattle.std.specs.Prelude.{ℕ, List, codes}
 use Rattle.zone_dnssec.specs.declared.rule.SecurityRule.{SecurityRule}
 use Rattle.zone_dnssec.specs.declared.rule.SecurityRule.TheVariants.{Expired, ExpiresSoon, NotYetValid, TimesReversed, OtherSigner, OtherLabels, OtherOriginalTtl, OtherSignatureTtl, Unsigned, NoKey, KeyMissing, RevokedKey, SignsNothing, Occluded, NoNsec, OtherNext, OtherTypes, NoNsec3, OtherNextHash, OtherHashedTypes, OtherLinkOwner, TooManyIterations, ManyIterations, SomeIterations, OtherDenialTtl, DeleteBesideKeys}
 
@@ -30,32 +30,3 @@ security_name ManyIterations = codes "nsec3-iterations-50"
 security_name SomeIterations = codes "nsec3-iterations-0"
 security_name OtherDenialTtl = codes "nsec-ttl"
 security_name DeleteBesideKeys = codes "cds-delete"
-
--- what may be so while keys change, or is advised against, is a warning
-abbrev pub is_security_fault : SecurityRule → Bool
-is_security_fault Expired = true
-is_security_fault ExpiresSoon = false
-is_security_fault NotYetValid = true
-is_security_fault TimesReversed = true
-is_security_fault OtherSigner = true
-is_security_fault OtherLabels = true
-is_security_fault OtherOriginalTtl = true
-is_security_fault OtherSignatureTtl = false
-is_security_fault Unsigned = true
-is_security_fault NoKey = true
-is_security_fault KeyMissing = false
-is_security_fault RevokedKey = true
-is_security_fault SignsNothing = true
-is_security_fault Occluded = true
-is_security_fault NoNsec = true
-is_security_fault OtherNext = true
-is_security_fault OtherTypes = true
-is_security_fault NoNsec3 = true
-is_security_fault OtherNextHash = true
-is_security_fault OtherHashedTypes = true
-is_security_fault OtherLinkOwner = true
-is_security_fault TooManyIterations = true
-is_security_fault ManyIterations = false
-is_security_fault SomeIterations = false
-is_security_fault OtherDenialTtl = false
-is_security_fault DeleteBesideKeys = true

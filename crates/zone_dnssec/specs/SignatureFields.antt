@@ -5,6 +5,8 @@ use Rattle.std.specs.Option.{option_map_or}
 use Rattle.dns_octets.specs.Lowered.{same_lowered}
 use Rattle.dns_wire.specs.Order.{same_name}
 use Rattle.dns_wire.specs.Wire.{wire}
+use Rattle.dns_kinds.specs.Rtype as Rtype
+use Rattle.dns_kinds.specs.declared.types.RecordType.{RecordType}
 use Rattle.dns_resource.specs.Parts.{data_part}
 use Rattle.dns_resource.specs.Records.{data_of}
 use Rattle.dns_resource.specs.declared.record.Record.{Record}
@@ -15,7 +17,7 @@ use Rattle.zone_dnssec.specs.SignatureTimes.{number_in}
 
 -- an RRSIG whose signer, the eighth field, is not the zone (RFC 4034 section 3.1.7)
 abbrev pub has_other_signer : {N O : Type 0} → List (List ℕ) → Record N O → Bool
-has_other_signer origin r = type_of r == 46 && option_map_or (λ signer. not (same_lowered signer (wire origin))) (data_part (data_of r) 7) false
+has_other_signer origin r = type_of r == Rtype.rrsig && option_map_or (λ signer. not (same_lowered signer (wire origin))) (data_part (data_of r) 7) false
 
 -- how many labels a name has, without the root and without an asterisk as the first label (RFC 4034 section 3.1.3)
 abbrev pub label_count : List (List ℕ) → ℕ
@@ -23,15 +25,15 @@ label_count name = length name - (if is_wildcard name then 2 else 1)
 
 -- an RRSIG whose labels, the third field, are not as many as those of its owner
 abbrev pub has_other_labels : {N O : Type 0} → Record N O → Bool
-has_other_labels r = type_of r == 46 && not (slice_index (field_octets 2 r) 0 == label_count r.owner)
+has_other_labels r = type_of r == Rtype.rrsig && not (slice_index (field_octets 2 r) 0 == label_count r.owner)
 
 -- some record of a type at a name has a TTL
-abbrev pub is_ttl_in_set : {N O : Type 0} → ℕ → ℕ → List (List ℕ) → List (Record N O) → Bool
-is_ttl_in_set ttl type name records = list_any (λ s. same_name s.owner name && (type_of s == type && s.ttl == ttl)) records
+abbrev pub is_ttl_in_set : {N O : Type 0} → ℕ → RecordType → List (List ℕ) → List (Record N O) → Bool
+is_ttl_in_set ttl rtype name records = list_any (λ s. same_name s.owner name && (type_of s == rtype && s.ttl == ttl)) records
 
 -- an RRSIG covers a set, of which no record has a TTL
 abbrev pub covers_other_ttl : {N O : Type 0} → ℕ → List (Record N O) → Record N O → Bool
-covers_other_ttl ttl records r = type_of r == 46 && (has_type_at (set_type r) r.owner records && not (is_ttl_in_set ttl (set_type r) r.owner records))
+covers_other_ttl ttl records r = type_of r == Rtype.rrsig && (has_type_at (set_type r) r.owner records && not (is_ttl_in_set ttl (set_type r) r.owner records))
 
 -- the TTL is the RRSIG's original TTL, the fourth field (RFC 4034 section 3.1.4)
 abbrev pub has_other_original_ttl : {N O : Type 0} → List (Record N O) → Record N O → Bool

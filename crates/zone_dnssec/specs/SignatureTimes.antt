@@ -2,6 +2,7 @@
 use Rattle.std.specs.Prelude.{ℕ, ◌+◌, ◌-◌, ◌%◌, ◌^◌, ◌==◌, ◌&&◌, not, nat_lt, nat_le, Bool, false, List, [], ◌∷◌}
 use Rattle.std.specs.Int.{from_be_bytes, w32}
 use Rattle.std.specs.Option.{option_map_or}
+use Rattle.dns_kinds.specs.Rtype as Rtype
 use Rattle.dns_resource.specs.Parts.{data_part}
 use Rattle.dns_resource.specs.Records.{data_of}
 use Rattle.dns_resource.specs.declared.record.Record.{Record}
@@ -25,7 +26,7 @@ number_in (a ∷ b ∷ c ∷ d ∷ others) = from_be_bytes w32 (a ∷ b ∷ c �
 
 -- the record is an RRSIG, and its number at a place among the fields passes the test
 abbrev pub signature_number : {N O : Type 0} → ℕ → (ℕ → Bool) → Record N O → Bool
-signature_number place test r = type_of r == 46 && option_map_or (λ octets. test (number_in octets)) (data_part (data_of r) place) false
+signature_number place test r = type_of r == Rtype.rrsig && option_map_or (λ octets. test (number_in octets)) (data_part (data_of r) place) false
 
 -- the expiration, the fifth field, is before the inception, the sixth
 abbrev pub has_reversed_times : {N O : Type 0} → Record N O → Bool

@@ -2,6 +2,8 @@
 use Rattle.std.specs.Prelude.{ℕ, ◌==◌, ◌&&◌, ◌||◌, not, Bool, List}
 use Rattle.std.specs.List.{list_any}
 use Rattle.dns_wire.specs.Order.{same_name}
+use Rattle.dns_kinds.specs.Rtype as Rtype
+use Rattle.dns_kinds.specs.declared.types.RecordType.{RecordType}
 use Rattle.dns_resource.specs.declared.record.Record.{Record}
 use Rattle.zone_rules.specs.Above.{names_above, is_within}
 use Rattle.zone_rules.specs.Rules.{follows, is_zone_cut}
@@ -12,21 +14,21 @@ abbrev pub is_authoritative : {N O : Type 0} → List (List ℕ) → List (Recor
 is_authoritative origin records name = is_within name origin && not (list_any (is_zone_cut origin records) (names_above name))
 
 -- at a delegation the parent has authority over DS and NSEC alone
-abbrev pub belongs_to_parent : ℕ → Bool
-belongs_to_parent type = type == 43 || type == 47
+abbrev pub belongs_to_parent : RecordType → Bool
+belongs_to_parent rtype = rtype == Rtype.ds || rtype == Rtype.nsec
 
 -- the set of the record is to be signed: it has authority, and is no RRSIG; neither NS nor glue at a delegation is
 abbrev pub must_be_signed : {N O : Type 0} → List (List ℕ) → List (Record N O) → Record N O → Bool
 must_be_signed origin records r =
-    not (type_of r == 46) && (is_authoritative origin records r.owner && (belongs_to_parent (type_of r) || not (is_zone_cut origin records r.owner)))
+    not (type_of r == Rtype.rrsig) && (is_authoritative origin records r.owner && (belongs_to_parent (type_of r) || not (is_zone_cut origin records r.owner)))
 
 -- the record is an RRSIG that covers the type
-abbrev pub covers : {N O : Type 0} → ℕ → Record N O → Bool
-covers type r = type_of r == 46 && set_type r == type
+abbrev pub covers : {N O : Type 0} → RecordType → Record N O → Bool
+covers rtype r = type_of r == Rtype.rrsig && set_type r == rtype
 
 -- an RRSIG at a name covers the type
-abbrev pub has_signature : {N O : Type 0} → ℕ → List (List ℕ) → List (Record N O) → Bool
-has_signature type name records = list_any (λ r. same_name r.owner name && covers type r) records
+abbrev pub has_signature : {N O : Type 0} → RecordType → List (List ℕ) → List (Record N O) → Bool
+has_signature rtype name records = list_any (λ r. same_name r.owner name && covers rtype r) records
 
 -- the record before the place doesn't pass the test with this one, or there is none
 abbrev pub starts : {N O : Type 0} → (Record N O → Record N O → Bool) → List (Record N O) → ℕ → Record N O → Bool
@@ -39,4 +41,4 @@ is_left_unsigned origin records place r =
 
 -- an RRSIG covers a type of which no record stands at its owner
 abbrev pub signs_nothing : {N O : Type 0} → List (Record N O) → Record N O → Bool
-signs_nothing records r = type_of r == 46 && not (has_type_at (set_type r) r.owner records)
+signs_nothing records r = type_of r == Rtype.rrsig && not (has_type_at (set_type r) r.owner records)

@@ -4,6 +4,8 @@ use Rattle.std.specs.Int.{from_be_bytes, w16}
 use Rattle.std.specs.List.{flat_map, list_any}
 use Rattle.std.specs.Option.{option_map, option_map_or}
 use Rattle.dns_wire.specs.Order.{same_name}
+use Rattle.dns_kinds.specs.Rtype as Rtype
+use Rattle.dns_kinds.specs.declared.types.RecordType.{RecordType}
 use Rattle.dns_resource.specs.Records.{data_of}
 use Rattle.dns_resource.specs.declared.record.Record.{Record}
 use Rattle.zone_rules.specs.Zones.{type_of, set_type, is_one_set}
@@ -66,7 +68,7 @@ key_in (high ∷ low ∷ protocol ∷ algorithm ∷ key) =
 
 -- the key of a DNSKEY, if it is one that signs zones
 abbrev pub keys_of : {N O : Type 0} → Record N O → List Key
-keys_of r = if type_of r == 48 then option_map_or (λ key. key ∷ []) (key_in (data_of r).octets) [] else []
+keys_of r = if type_of r == Rtype.dnskey then option_map_or (λ key. key ∷ []) (key_in (data_of r).octets) [] else []
 
 -- the keys at the apex
 abbrev pub zone_keys : {N O : Type 0} → List (List ℕ) → List (Record N O) → List Key
@@ -82,8 +84,8 @@ abbrev pub fits_key : {N O : Type 0} → List Key → Record N O → Bool
 fits_key keys r = list_any (is_named r) keys
 
 -- some RRSIG at a name covers the type, and fits a key
-abbrev pub has_fitting_signature : {N O : Type 0} → List Key → ℕ → List (List ℕ) → List (Record N O) → Bool
-has_fitting_signature keys type name records = list_any (λ r. same_name r.owner name && (covers type r && fits_key keys r)) records
+abbrev pub has_fitting_signature : {N O : Type 0} → List Key → RecordType → List (List ℕ) → List (Record N O) → Bool
+has_fitting_signature keys rtype name records = list_any (λ r. same_name r.owner name && (covers rtype r && fits_key keys r)) records
 
 -- the record is the first of a set that is to be signed and is, but by no key
 abbrev pub lacks_known_key : {N O : Type 0} → List Key → List (List ℕ) → List (Record N O) → ℕ → Record N O → Bool
@@ -93,9 +95,9 @@ lacks_known_key keys origin records place r =
 
 -- an RRSIG fits no key, and another of the same set does
 abbrev pub misses_key : {N O : Type 0} → List Key → List (Record N O) → Record N O → Bool
-misses_key keys records r = type_of r == 46 && (not (fits_key keys r) && has_fitting_signature keys (set_type r) r.owner records)
+misses_key keys records r = type_of r == Rtype.rrsig && (not (fits_key keys r) && has_fitting_signature keys (set_type r) r.owner records)
 
 -- an RRSIG over another set than DNSKEY fits a key, and each that it fits is revoked (RFC 5011 section 2.1)
 abbrev pub is_by_revoked_key : {N O : Type 0} → List Key → Record N O → Bool
 is_by_revoked_key keys r =
-    type_of r == 46 && (not (set_type r == 48) && (fits_key keys r && not (list_any (λ key. is_named r key && not key.is_revoked) keys)))
+    type_of r == Rtype.rrsig && (not (set_type r == Rtype.dnskey) && (fits_key keys r && not (list_any (λ key. is_named r key && not key.is_revoked) keys)))

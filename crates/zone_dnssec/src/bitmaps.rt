@@ -6,7 +6,7 @@ ghost use Rattle.dns_wire.specs.Order.{same_name};
 ghost use Rattle.zone_dnssec.specs.NsecTypes.{bitmap_octets, has_listed_type, is_in_bitmap, lists_exactly, lists_other_types, may_be_listed, stands_at_delegation};
 
 use crate::sets::has_authority;
-use crate::types::{DS, NS, NSEC, RRSIG};
+use dns_kinds::RecordType;
 use dns_lists::BitmapTypes;
 use dns_octets::AsOctets;
 use dns_resource::{Data, Record};
@@ -39,17 +39,20 @@ fn types_octets<Octets: AsOctets>(data: &Data<Octets>) -> &[u8]
 }
 
 /// Whether a bitmap lists a type.
-fn lists(bitmap: &[u8], code: u16) -> bool
-    ensures { result ≡ has (types_of bitmap.now) code }
+fn lists(bitmap: &[u8], rtype: RecordType) -> bool
+    ensures { result ≡ has (types_of bitmap.now) rtype }
 {
-    BitmapTypes::new(bitmap).any(|listed| listed == code)
+    BitmapTypes::new(bitmap).any(|listed| listed == rtype.0)
 }
 
 /// Whether an NSEC at a delegation lists a type, if it stands there.
-fn is_for_delegation(code: u16) -> bool
-    ensures { result ≡ stands_at_delegation code }
+fn is_for_delegation(rtype: RecordType) -> bool
+    ensures { result ≡ stands_at_delegation rtype }
 {
-    matches!(code, NS | DS | RRSIG | NSEC)
+    matches!(
+        rtype,
+        RecordType::NS | RecordType::DS | RecordType::RRSIG | RecordType::NSEC
+    )
 }
 
 /// Whether an NSEC at a name lists a type, if it stands there.
@@ -57,11 +60,11 @@ fn is_listable<Owner: AsOctets, Octets: AsOctets>(
     origin: &Name<&[u8]>,
     records: &SortedRecords<'_, Owner, Octets>,
     name: &Name<&[u8]>,
-    code: u16,
+    rtype: RecordType,
 ) -> bool
-    ensures { result ≡ may_be_listed origin.now records.now name.now code }
+    ensures { result ≡ may_be_listed origin.now records.now name.now rtype }
 {
-    is_for_delegation(code) || !is_cut(origin, records, name)
+    is_for_delegation(rtype) || !is_cut(origin, records, name)
 }
 
 /// Whether an NSEC at a name has to list a type.
@@ -69,11 +72,11 @@ fn is_to_be_listed<Owner: AsOctets, Octets: AsOctets>(
     origin: &Name<&[u8]>,
     records: &SortedRecords<'_, Owner, Octets>,
     name: &Name<&[u8]>,
-    code: u16,
+    rtype: RecordType,
 ) -> bool
-    ensures { result ≡ has_listed_type origin.now records.now name.now code }
+    ensures { result ≡ has_listed_type origin.now records.now name.now rtype }
 {
-    has_type(records, name, code) && is_listable(origin, records, name, code)
+    has_type(records, name, rtype) && is_listable(origin, records, name, rtype)
 }
 
 /// Whether each type that a bitmap lists is to be listed at a name.
@@ -85,7 +88,7 @@ fn lists_only<Owner: AsOctets, Octets: AsOctets>(
 ) -> bool
     ensures { result ≡ list_all (has_listed_type origin.now records.now name.now) (types_of bitmap.now) }
 {
-    BitmapTypes::new(bitmap).all(|code| is_to_be_listed(origin, records, name, code))
+    BitmapTypes::new(bitmap).all(|code| is_to_be_listed(origin, records, name, RecordType(code)))
 }
 
 /// Whether a bitmap lists the type of a record, or needn't.
@@ -98,8 +101,8 @@ fn is_listed<Owner: AsOctets, Octets: AsOctets>(
 ) -> bool
     ensures { result ≡ is_in_bitmap origin.now records.now name.now bitmap.now «record».now }
 {
-    let code = record.data.code();
-    !is_listable(origin, records, name, code) || lists(bitmap, code)
+    let rtype = record.data.rtype();
+    !is_listable(origin, records, name, rtype) || lists(bitmap, rtype)
 }
 
 /// Whether a bitmap lists the type of each record at a name that is to be listed.
@@ -137,7 +140,7 @@ pub fn has_wrong_types<Owner: AsOctets, Octets: AsOctets>(
     ensures { result ≡ lists_other_types origin.now records.now «record».now }
 {
     let owner = view(&record.owner);
-    if record.data.code() != NSEC || !has_authority(origin, records, &owner) {
+    if record.data.rtype() != RecordType::NSEC || !has_authority(origin, records, &owner) {
         return false;
     }
     !lists_types(origin, records, &owner, types_octets(&record.data))

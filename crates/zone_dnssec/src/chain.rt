@@ -6,7 +6,7 @@ ghost use Rattle.zone_dnssec.specs.SignedSets.{starts};
 
 use crate::nsec3::is_chain;
 use crate::sets::has_authority;
-use crate::types::NSEC;
+use dns_kinds::RecordType;
 use dns_octets::AsOctets;
 use dns_resource::Record;
 use dns_wire::Name;
@@ -54,5 +54,5 @@ pub fn is_without_nsec<Owner: AsOctets, Octets: AsOctets>(
         return false;
     }
     let owner = view(&record.owner);
-    has_authority(origin, records, &owner) && !has_type(records, &owner, NSEC)
+    has_authority(origin, records, &owner) && !has_type(records, &owner, RecordType::NSEC)
 }

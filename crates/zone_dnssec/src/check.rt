@@ -22,7 +22,7 @@ use crate::signatures::{
     has_wrong_labels, has_wrong_original_ttl, has_wrong_own_ttl, has_wrong_signer,
 };
 use crate::times::{Times, has_expired, has_reversed_times, is_expiring, is_too_early};
-use crate::types::DNSKEY;
+use dns_kinds::RecordType;
 use dns_octets::AsOctets;
 use dns_resource::Record;
 use dns_wire::Name;
@@ -242,7 +242,7 @@ pub fn check_signed<Owner: AsOctets, Octets: AsOctets, Origin: AsOctets, A: Allo
 {
     let apex = view(origin);
     let mut found = Vec::new(alloc);
-    if !has_type(records, &apex, DNSKEY) {
+    if !has_type(records, &apex, RecordType::DNSKEY) {
         return Ok(found);
     }
     let keys = keys_at_apex(alloc, &apex, records)?;

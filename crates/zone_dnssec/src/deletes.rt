@@ -5,7 +5,7 @@ ghost use Rattle.std.specs.List.{list_any};
 ghost use Rattle.dns_wire.specs.Order.{same_name};
 ghost use Rattle.zone_dnssec.specs.DeleteForms.{asks_for_key, deletes_beside_keys, is_delete_form};
 
-use crate::types::{CDNSKEY, CDS};
+use dns_kinds::RecordType;
 use dns_octets::AsOctets;
 use dns_resource::Record;
 use dns_wire::Name;
@@ -18,9 +18,9 @@ fn is_delete<Owner: AsOctets, Octets: AsOctets>(record: &Record<Owner, Octets>) 
     ensures { result ≡ is_delete_form «record».now }
 {
     let octets = record.data.as_slice();
-    match record.data.code() {
-        CDS => matches!(octets, [0, 0, 0, 0, 0]),
-        CDNSKEY => matches!(octets, [0, 0, 3, 0, 0]),
+    match record.data.rtype() {
+        RecordType::CDS => matches!(octets, [0, 0, 0, 0, 0]),
+        RecordType::CDNSKEY => matches!(octets, [0, 0, 3, 0, 0]),
         _ => false,
     }
 }
@@ -29,7 +29,7 @@ fn is_delete<Owner: AsOctets, Octets: AsOctets>(record: &Record<Owner, Octets>) 
 fn is_for_key<Owner: AsOctets, Octets: AsOctets>(record: &Record<Owner, Octets>) -> bool
     ensures { result ≡ asks_for_key «record».now }
 {
-    matches!(record.data.code(), CDS | CDNSKEY) && !is_delete(record)
+    matches!(record.data.rtype(), RecordType::CDS | RecordType::CDNSKEY) && !is_delete(record)
 }
 
 /// Returns whether a CDS or CDNSKEY at the apex does not ask to delete.

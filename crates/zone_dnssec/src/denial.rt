@@ -4,6 +4,7 @@ ghost use Rattle.std.specs.Prelude.{◌≡◌, ◌&&◌, ◌==◌, ◌∷◌, []
 ghost use Rattle.std.specs.Cmp.Lexicographic.{pointwise};
 ghost use Rattle.std.specs.List.{find, list_all};
 ghost use Rattle.std.specs.Option.{option_copied};
+ghost use Rattle.dns_kinds.specs.Rtype as Rtype;
 ghost use Rattle.dns_wire.specs.Order.{same_name};
 ghost use Rattle.zone_dnssec.specs.DenialRecords.{begins_with_hash, denial_ttl, has_other_denial_ttl, has_other_link_owner, is_child, is_hash_digit, is_link_owner, is_occluded, iterates_within};
 ghost use Rattle.zone_dnssec.specs.Parameters.{field_octets};
@@ -13,7 +14,7 @@ use crate::bitmaps::behind;
 use crate::nsec3::{field, is_chain, iterations};
 use crate::sets::is_of_parent;
 use crate::times::number;
-use crate::types::{NSEC, NSEC3, RRSIG, SOA};
+use dns_kinds::RecordType;
 use dns_octets::AsOctets;
 use dns_resource::Record;
 use dns_wire::Name;
@@ -38,10 +39,12 @@ pub fn is_out_of_place<Owner: AsOctets, Octets: AsOctets>(
 ) -> bool
     ensures { result ≡ is_occluded origin.now records.now «record».now }
 {
-    let code = record.data.code();
+    let rtype = record.data.rtype();
     let owner = view(&record.owner);
-    (matches!(code, RRSIG | NSEC) && is_under_cut(origin, records, &owner))
-        || (code == RRSIG && !is_of_parent(set_type_of(record)) && is_cut(origin, records, &owner))
+    (matches!(rtype, RecordType::RRSIG | RecordType::NSEC) && is_under_cut(origin, records, &owner))
+        || (rtype == RecordType::RRSIG
+            && !is_of_parent(set_type_of(record))
+            && is_cut(origin, records, &owner))
 }
 
 /// Returns whether an octet is a digit of base 32 hex, in any case.
@@ -115,7 +118,7 @@ pub fn has_wrong_owner<Owner: AsOctets, Octets: AsOctets>(
 ) -> bool
     ensures { result ≡ has_other_link_owner origin.now «record».now }
 {
-    record.data.code() == NSEC3 && !has_link_owner(origin, record)
+    record.data.rtype() == RecordType::NSEC3 && !has_link_owner(origin, record)
 }
 
 /// Returns whether a record is an NSEC3PARAM at the apex that names a chain, with more iterations
@@ -137,11 +140,11 @@ fn soa<'a, Owner: AsOctets, Octets: AsOctets>(
     origin: &Name<&[u8]>,
     records: &SortedRecords<'a, Owner, Octets>,
 ) -> Option<&'a Record<Owner, Octets>>
-    ensures { option_copied result ≡ find (λ r. same_name r.owner origin.now && type_of r == 6) records.now }
+    ensures { option_copied result ≡ find (λ r. same_name r.owner origin.now && type_of r == Rtype.soa) records.now }
 {
     owned_by(records, origin)
         .iter()
-        .find(|record| record.data.code() == SOA)
+        .find(|record| record.data.rtype() == RecordType::SOA)
 }
 
 /// Returns the lesser of the SOA's TTL and its minimum.
@@ -171,7 +174,7 @@ pub fn has_wrong_denial_ttl<Owner: AsOctets, Octets: AsOctets>(
 ) -> bool
     ensures { result ≡ has_other_denial_ttl wanted «record».now }
 {
-    if !matches!(record.data.code(), NSEC | NSEC3) {
+    if !matches!(record.data.rtype(), RecordType::NSEC | RecordType::NSEC3) {
         return false;
     }
     match wanted {

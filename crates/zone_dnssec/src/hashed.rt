@@ -16,7 +16,7 @@ use crate::nsec3::{
 };
 use crate::nsec3_hash::hashed_name;
 use crate::sets::has_authority;
-use crate::types::{DS, NSEC3};
+use dns_kinds::RecordType;
 use dns_octets::AsOctets;
 use dns_resource::Record;
 use dns_wire::Name;
@@ -100,7 +100,7 @@ pub fn has_wrong_next_hash<Owner: AsOctets, Octets: AsOctets>(
 ) -> bool
     ensures { result ≡ names_other_hash origin.now records.now «record».now }
 {
-    record.data.code() == NSEC3 && breaks_order(origin, records, record)
+    record.data.rtype() == RecordType::NSEC3 && breaks_order(origin, records, record)
 }
 
 /// Whether no NSEC3 matches a name.
@@ -149,7 +149,7 @@ fn is_left_out<'a, Owner: AsOctets, Octets: AsOctets>(
     ensures { result ≡ is_opted_out origin.now records.now chain.now name.now }
 {
     is_cut(origin, records, name)
-        && !has_type(records, name, DS)
+        && !has_type(records, name, RecordType::DS)
         && is_in_opt_out(hashes, origin, records, chain, name)
 }
 
@@ -255,7 +255,7 @@ fn is_in_chain<'a, Owner: AsOctets, Octets: AsOctets>(
     ensures { result ≡ is_represented origin.now records.now chain.now name.now }
 {
     has_authority(origin, records, name)
-        && !has_type(records, name, NSEC3)
+        && !has_type(records, name, RecordType::NSEC3)
         && !is_left_out(hashes, origin, records, chain, name)
 }
 

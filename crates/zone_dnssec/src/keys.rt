@@ -9,7 +9,7 @@ use crate::bitmaps::behind;
 use crate::nsec3::{field, short_number};
 use crate::sets::{is_first_of_set, is_signature_of, is_signed, needs_signature};
 use crate::signatures::first;
-use crate::types::{DNSKEY, RRSIG};
+use dns_kinds::RecordType;
 use dns_octets::AsOctets;
 use dns_resource::Record;
 use dns_wire::Name;
@@ -148,7 +148,7 @@ fn add_key<Owner: AsOctets, Octets: AsOctets, A: Allocator>(
 ) -> Result<(), AllocError>
     ensures { OnOk result (keys.new.items ≡ keys.old.items ++ keys_of «record».now) }
 {
-    if record.data.code() != DNSKEY {
+    if record.data.rtype() != RecordType::DNSKEY {
         return Ok(());
     }
     if let Some(key) = key_in(record.data.as_slice()) {
@@ -202,11 +202,11 @@ fn fits_valid<Owner: AsOctets, Octets: AsOctets>(
 fn is_fitting<Owner: AsOctets, Octets: AsOctets>(
     keys: &[Key],
     record: &Record<Owner, Octets>,
-    code: u16,
+    rtype: RecordType,
 ) -> bool
-    ensures { result ≡ covers code «record».now && fits_key keys.now «record».now }
+    ensures { result ≡ covers rtype «record».now && fits_key keys.now «record».now }
 {
-    is_signature_of(record, code) && fits(keys, record)
+    is_signature_of(record, rtype) && fits(keys, record)
 }
 
 /// Returns whether an RRSIG at a name covers a type and fits a key.
@@ -214,13 +214,13 @@ fn has_fitting<Owner: AsOctets, Octets: AsOctets>(
     keys: &[Key],
     records: &SortedRecords<'_, Owner, Octets>,
     name: &Name<&[u8]>,
-    code: u16,
+    rtype: RecordType,
 ) -> bool
-    ensures { result ≡ has_fitting_signature keys.now code name.now records.now }
+    ensures { result ≡ has_fitting_signature keys.now rtype name.now records.now }
 {
     owned_by(records, name)
         .iter()
-        .any(|record| is_fitting(keys, record, code))
+        .any(|record| is_fitting(keys, record, rtype))
 }
 
 /// Returns whether a record is the first of a set that has to be signed and is, but by no key.
@@ -233,12 +233,12 @@ pub fn is_without_key<Owner: AsOctets, Octets: AsOctets>(
 ) -> bool
     ensures { result ≡ lacks_known_key keys.now origin.now records.now place «record».now }
 {
-    let code = record.data.code();
+    let rtype = record.data.rtype();
     let owner = view(&record.owner);
     is_first_of_set(records, place, record)
         && needs_signature(origin, records, record)
-        && is_signed(records, &owner, code)
-        && !has_fitting(keys, records, &owner, code)
+        && is_signed(records, &owner, rtype)
+        && !has_fitting(keys, records, &owner, rtype)
 }
 
 /// Returns whether a record is an RRSIG that fits no key, and another of the same set does.
@@ -249,7 +249,7 @@ pub fn is_of_unknown_key<Owner: AsOctets, Octets: AsOctets>(
 ) -> bool
     ensures { result ≡ misses_key keys.now records.now «record».now }
 {
-    record.data.code() == RRSIG
+    record.data.rtype() == RecordType::RRSIG
         && !fits(keys, record)
         && has_fitting(keys, records, &view(&record.owner), set_type_of(record))
 }
@@ -262,8 +262,8 @@ pub fn is_of_revoked_key<Owner: AsOctets, Octets: AsOctets>(
 ) -> bool
     ensures { result ≡ is_by_revoked_key keys.now «record».now }
 {
-    record.data.code() == RRSIG
-        && set_type_of(record) != DNSKEY
+    record.data.rtype() == RecordType::RRSIG
+        && set_type_of(record) != RecordType::DNSKEY
         && fits(keys, record)
         && !fits_valid(keys, record)
 }

@@ -17,7 +17,6 @@ pub mod rule;
 pub mod sets;
 pub mod signatures;
 pub mod times;
-mod types;
 
 pub use check::check_signed;
 pub use rule::{SecurityFinding, SecurityRule};

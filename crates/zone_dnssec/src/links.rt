@@ -6,7 +6,7 @@ ghost use Rattle.dns_wire.specs.Wire.{wire};
 ghost use Rattle.zone_dnssec.specs.NsecChain.{names_other_next, next_name, next_record};
 
 use crate::sets::has_authority;
-use crate::types::NSEC;
+use dns_kinds::RecordType;
 use dns_octets::AsOctets;
 use dns_octets::lowered::same_octets;
 use dns_resource::Record;
@@ -52,7 +52,7 @@ pub fn has_wrong_next<Owner: AsOctets, Octets: AsOctets>(
     ensures { result ≡ names_other_next origin.now records.now «record».now }
 {
     let owner = view(&record.owner);
-    if record.data.code() != NSEC || !has_authority(origin, records, &owner) {
+    if record.data.rtype() != RecordType::NSEC || !has_authority(origin, records, &owner) {
         return false;
     }
     match record.data.part(0) {

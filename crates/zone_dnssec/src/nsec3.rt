@@ -12,8 +12,8 @@ ghost use Rattle.zone_dnssec.specs.Parameters.{field_octets, names_chain};
 use crate::bitmaps::behind;
 use crate::hashes::Hashes;
 use crate::nsec3_hash::hashed_name;
-use crate::types::{NSEC3, NSEC3PARAM};
 use arrayvec::ArrayVec;
+use dns_kinds::RecordType;
 use dns_octets::AsOctets;
 use dns_resource::Record;
 use dns_wire::Name;
@@ -82,7 +82,7 @@ pub fn has_opt_out<Owner: AsOctets, Octets: AsOctets>(record: &Record<Owner, Oct
 pub fn is_chain<Owner: AsOctets, Octets: AsOctets>(record: &Record<Owner, Octets>) -> bool
     ensures { result ≡ names_chain «record».now }
 {
-    record.data.code() == NSEC3PARAM
+    record.data.rtype() == RecordType::NSEC3PARAM
         && matches!(field(record, ALGORITHM), [1])
         && matches!(field(record, FLAGS), [0])
 }
@@ -112,7 +112,7 @@ pub fn is_of_chain<Owner: AsOctets, Octets: AsOctets>(
 ) -> bool
     ensures { result ≡ is_link chain.now «record».now }
 {
-    record.data.code() == NSEC3
+    record.data.rtype() == RecordType::NSEC3
         && has_same_field(ALGORITHM, chain, record)
         && has_same_field(ITERATIONS, chain, record)
         && has_same_field(SALT, chain, record)

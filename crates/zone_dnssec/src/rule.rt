@@ -1,6 +1,6 @@
 //! The rules, and what is found of them.
 ghost use Rattle.std.specs.Prelude.{◌≡◌};
-ghost use Rattle.zone_dnssec.specs.SecurityNames.{security_name, is_security_fault};
+ghost use Rattle.zone_dnssec.specs.SecurityNames.{security_name};
 
 /// A rule of DNSSEC that a record of a signed zone breaks.
 ///
@@ -122,21 +122,6 @@ impl SecurityRule {
             SecurityRule::OtherDenialTtl => "nsec-ttl",
             SecurityRule::DeleteBesideKeys => "cds-delete",
         }
-    }
-
-    /// Whether the rule is a fault. Else it is a warning.
-    pub fn is_fault(&self) -> bool
-        ensures { result ≡ is_security_fault self.now }
-    {
-        !matches!(
-            self,
-            SecurityRule::ExpiresSoon
-                | SecurityRule::OtherSignatureTtl
-                | SecurityRule::KeyMissing
-                | SecurityRule::ManyIterations
-                | SecurityRule::SomeIterations
-                | SecurityRule::OtherDenialTtl
-        )
     }
 }
 

@@ -3,7 +3,7 @@ ghost use Rattle.std.specs.Prelude.{◌≡◌};
 ghost use Rattle.zone_dnssec.specs.SignedSets.{belongs_to_parent, covers, has_signature, is_authoritative, is_left_unsigned, must_be_signed, signs_nothing, starts};
 ghost use Rattle.zone_rules.specs.Zones.{is_one_set};
 
-use crate::types::{DS, NSEC, RRSIG};
+use dns_kinds::RecordType;
 use dns_octets::AsOctets;
 use dns_resource::Record;
 use dns_wire::Name;
@@ -25,10 +25,10 @@ pub fn has_authority<Owner: AsOctets, Octets: AsOctets>(
 }
 
 /// Whether sets of a type at a delegation are the parent's.
-pub(crate) fn is_of_parent(code: u16) -> bool
-    ensures { result ≡ belongs_to_parent code }
+pub(crate) fn is_of_parent(rtype: RecordType) -> bool
+    ensures { result ≡ belongs_to_parent rtype }
 {
-    matches!(code, DS | NSEC)
+    matches!(rtype, RecordType::DS | RecordType::NSEC)
 }
 
 /// Whether the set of a record has to be signed.
@@ -40,32 +40,32 @@ pub(crate) fn needs_signature<Owner: AsOctets, Octets: AsOctets>(
     ensures { result ≡ must_be_signed origin.now records.now «record».now }
 {
     let owner = view(&record.owner);
-    record.data.code() != RRSIG
+    record.data.rtype() != RecordType::RRSIG
         && has_authority(origin, records, &owner)
-        && (is_of_parent(record.data.code()) || !is_cut(origin, records, &owner))
+        && (is_of_parent(record.data.rtype()) || !is_cut(origin, records, &owner))
 }
 
 /// Whether a record is an RRSIG that covers a type.
 pub(crate) fn is_signature_of<Owner: AsOctets, Octets: AsOctets>(
     record: &Record<Owner, Octets>,
-    code: u16,
+    rtype: RecordType,
 ) -> bool
-    ensures { result ≡ covers code «record».now }
+    ensures { result ≡ covers rtype «record».now }
 {
-    record.data.code() == RRSIG && set_type_of(record) == code
+    record.data.rtype() == RecordType::RRSIG && set_type_of(record) == rtype
 }
 
 /// Whether an RRSIG at a name covers a type.
 pub(crate) fn is_signed<Owner: AsOctets, Octets: AsOctets>(
     records: &SortedRecords<'_, Owner, Octets>,
     name: &Name<&[u8]>,
-    code: u16,
+    rtype: RecordType,
 ) -> bool
-    ensures { result ≡ has_signature code name.now records.now }
+    ensures { result ≡ has_signature rtype name.now records.now }
 {
     owned_by(records, name)
         .iter()
-        .any(|record| is_signature_of(record, code))
+        .any(|record| is_signature_of(record, rtype))
 }
 
 /// Whether a record is the first of its set: the one before it is of another.
@@ -93,7 +93,7 @@ pub fn is_unsigned<Owner: AsOctets, Octets: AsOctets>(
 {
     is_first_of_set(records, place, record)
         && needs_signature(origin, records, record)
-        && !is_signed(records, &view(&record.owner), record.data.code())
+        && !is_signed(records, &view(&record.owner), record.data.rtype())
 }
 
 /// Whether a record is an RRSIG that covers a set which isn't there.
@@ -103,5 +103,6 @@ pub fn is_without_set<Owner: AsOctets, Octets: AsOctets>(
 ) -> bool
     ensures { result ≡ signs_nothing records.now «record».now }
 {
-    record.data.code() == RRSIG && !has_type(records, &view(&record.owner), set_type_of(record))
+    record.data.rtype() == RecordType::RRSIG
+        && !has_type(records, &view(&record.owner), set_type_of(record))
 }

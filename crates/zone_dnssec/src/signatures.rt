@@ -6,7 +6,7 @@ ghost use Rattle.zone_rules.specs.Zones.{type_of};
 
 use crate::nsec3::field;
 use crate::times::number;
-use crate::types::RRSIG;
+use dns_kinds::RecordType;
 use dns_octets::AsOctets;
 use dns_octets::lowered::same_octets;
 use dns_resource::Record;
@@ -30,7 +30,7 @@ pub fn has_wrong_signer<Owner: AsOctets, Octets: AsOctets>(
 ) -> bool
     ensures { result ≡ has_other_signer origin.now «record».now }
 {
-    if record.data.code() != RRSIG {
+    if record.data.rtype() != RecordType::RRSIG {
         return false;
     }
     match record.data.part(SIGNER) {
@@ -85,7 +85,7 @@ pub(crate) fn first(octets: &[u8]) -> u8
 pub fn has_wrong_labels<Owner: AsOctets, Octets: AsOctets>(record: &Record<Owner, Octets>) -> bool
     ensures { result ≡ has_other_labels «record».now }
 {
-    if record.data.code() != RRSIG {
+    if record.data.rtype() != RecordType::RRSIG {
         return false;
     }
     usize::from(first(field(record, LABELS))) != signed_labels(&view(&record.owner))
@@ -94,12 +94,12 @@ pub fn has_wrong_labels<Owner: AsOctets, Octets: AsOctets>(record: &Record<Owner
 /// Returns whether a record has a type and a TTL.
 fn has_type_and_ttl<Owner: AsOctets, Octets: AsOctets>(
     record: &Record<Owner, Octets>,
-    code: u16,
+    rtype: RecordType,
     ttl: u32,
 ) -> bool
-    ensures { result ≡ type_of «record».now == code && «record».now.ttl == ttl }
+    ensures { result ≡ type_of «record».now == rtype && «record».now.ttl == ttl }
 {
-    record.data.code() == code && record.ttl == ttl
+    record.data.rtype() == rtype && record.ttl == ttl
 }
 
 /// Returns whether a record of a type at a name has a TTL.
@@ -107,13 +107,13 @@ fn has_ttl_in_set<Owner: AsOctets, Octets: AsOctets>(
     ttl: u32,
     records: &SortedRecords<'_, Owner, Octets>,
     name: &Name<&[u8]>,
-    code: u16,
+    rtype: RecordType,
 ) -> bool
-    ensures { result ≡ is_ttl_in_set ttl code name.now records.now }
+    ensures { result ≡ is_ttl_in_set ttl rtype name.now records.now }
 {
     owned_by(records, name)
         .iter()
-        .any(|record| has_type_and_ttl(record, code, ttl))
+        .any(|record| has_type_and_ttl(record, rtype, ttl))
 }
 
 /// Returns whether a record is an RRSIG that covers a set, of which no record has a TTL.
@@ -125,10 +125,10 @@ fn is_ttl_missing<Owner: AsOctets, Octets: AsOctets>(
     ensures { result ≡ covers_other_ttl ttl records.now «record».now }
 {
     let owner = view(&record.owner);
-    let code = set_type_of(record);
-    record.data.code() == RRSIG
-        && has_type(records, &owner, code)
-        && !has_ttl_in_set(ttl, records, &owner, code)
+    let rtype = set_type_of(record);
+    record.data.rtype() == RecordType::RRSIG
+        && has_type(records, &owner, rtype)
+        && !has_ttl_in_set(ttl, records, &owner, rtype)
 }
 
 /// Returns whether a record is an RRSIG, and no record of the set that it covers has its original

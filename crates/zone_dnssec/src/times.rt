@@ -5,7 +5,7 @@ ghost use Rattle.std.specs.Option.{option_map_or};
 ghost use Rattle.dns_resource.specs.Parts.{data_part};
 ghost use Rattle.zone_dnssec.specs.SignatureTimes.{expires_within, has_passed, has_reversed_times, is_early, is_expired, number_in, seconds_between};
 
-use crate::types::RRSIG;
+use dns_kinds::RecordType;
 use dns_octets::AsOctets;
 use dns_resource::Record;
 
@@ -54,7 +54,7 @@ pub(crate) fn number(octets: &[u8]) -> u32
 pub fn has_reversed_times<Owner: AsOctets, Octets: AsOctets>(record: &Record<Owner, Octets>) -> bool
     ensures { result ≡ has_reversed_times «record».now }
 {
-    if record.data.code() != RRSIG {
+    if record.data.rtype() != RecordType::RRSIG {
         return false;
     }
     match record.data.part(EXPIRATION) {
@@ -73,7 +73,7 @@ pub fn has_expired<Owner: AsOctets, Octets: AsOctets>(
 ) -> bool
     ensures { result ≡ is_expired instant «record».now }
 {
-    if record.data.code() != RRSIG || has_reversed_times(record) {
+    if record.data.rtype() != RecordType::RRSIG || has_reversed_times(record) {
         return false;
     }
     match record.data.part(EXPIRATION) {
@@ -89,7 +89,7 @@ pub fn is_expiring<Owner: AsOctets, Octets: AsOctets>(
 ) -> bool
     ensures { result ≡ expires_within times.margin times.instant «record».now }
 {
-    if record.data.code() != RRSIG || has_reversed_times(record) {
+    if record.data.rtype() != RecordType::RRSIG || has_reversed_times(record) {
         return false;
     }
     match record.data.part(EXPIRATION) {
@@ -108,7 +108,7 @@ pub fn is_too_early<Owner: AsOctets, Octets: AsOctets>(
 ) -> bool
     ensures { result ≡ is_early instant «record».now }
 {
-    if record.data.code() != RRSIG || has_reversed_times(record) {
+    if record.data.rtype() != RecordType::RRSIG || has_reversed_times(record) {
         return false;
     }
     match record.data.part(INCEPTION) {

@@ -22,38 +22,38 @@ use Rattle.zone_rules.proofs.NameParts.{longer_is, longer_name}
 
 -- ---- fields
 
-in_shape : (code field : ℕ) (octets part : List ℕ) (found : Option TypeShape) → shape_of_code code ≡ found → slice_get (fields_of_shape found) field ≡ Some Name → IsTypeData code octets
+in_shape : (rtype field : ℕ) (octets part : List ℕ) (found : Option TypeShape) → shape_of_code rtype ≡ found → slice_get (fields_of_shape found) field ≡ Some Name → IsTypeData rtype octets
     → field_part (fields_of_shape found) field octets ≡ Some part → IsWireName part
-in_shape code field octets part None same k is h = cc
-in_shape code field octets part (Some s) same k is h =
+in_shape rtype field octets part None same k is h = cc
+in_shape rtype field octets part (Some s) same k is h =
     let own = is.shaped (shape_with s) (subst (λ f. HasShape f (shape_with s)) (sym same) (refl, refl, refl)) in
     part_name s.fields field octets part (begins_start s.fields octets own.back own.fields) k h
 
 -- the part of data in a field that is a name is a name
-pub field_name : (d : TypeData) (field : ℕ) (part : List ℕ) → IsNameField d.code field → IsTypeData d.code d.octets → data_part d field ≡ Some part → IsWireName part
-field_name d field part k is h = in_shape d.code field d.octets part (shape_of_code d.code) refl k is h
+pub field_name : (d : TypeData) (field : ℕ) (part : List ℕ) → IsNameField d.rtype field → IsTypeData d.rtype d.octets → data_part d field ≡ Some part → IsWireName part
+field_name d field part k is h = in_shape d.rtype field d.octets part (shape_of_code d.rtype) refl k is h
 
-named_if : (code n place field : ℕ) (others : Option ℕ) → IsNameField n place → (others ≡ Some field → IsNameField code field) → (if code == n then Some place else others) ≡ Some field → IsNameField code field
-named_if code n place field others known more h = by (code == n) refl h
+named_if : (rtype n place field : ℕ) (others : Option ℕ) → IsNameField n place → (others ≡ Some field → IsNameField rtype field) → (if rtype == n then Some place else others) ≡ Some field → IsNameField rtype field
+named_if rtype n place field others known more h = by (rtype == n) refl h
   where
-    by : (b : Bool) → (code == n) ≡ b → (if b then Some place else others) ≡ Some field → IsNameField code field
+    by : (b : Bool) → (rtype == n) ≡ b → (if b then Some place else others) ≡ Some field → IsNameField rtype field
     by true e k =
         let is : place ≡ field = cc in
-        subst (λ c. IsNameField c field) (sym (eqb-true code n e)) (subst (IsNameField n) is known)
+        subst (λ c. IsNameField c field) (sym (eqb-true rtype n e)) (subst (IsNameField n) is known)
     by false e k = more k
 
-pub target_named : (code field : ℕ) → target_field code ≡ Some field → IsNameField code field
+pub target_named : (rtype field : ℕ) → target_field rtype ≡ Some field → IsNameField rtype field
 unfolding type_shapes
-target_named code field =
-    named_if code 2 0 field _ refl
-    (named_if code 6 0 field _ refl
-    (named_if code 12 0 field _ refl
-    (named_if code 15 1 field _ refl
-    (named_if code 18 1 field _ refl
-    (named_if code 21 1 field _ refl
-    (named_if code 33 3 field _ refl
-    (named_if code 64 1 field _ refl
-    (named_if code 65 1 field _ refl (λ e. cc)))))))))
+target_named rtype field =
+    named_if rtype 2 0 field _ refl
+    (named_if rtype 6 0 field _ refl
+    (named_if rtype 12 0 field _ refl
+    (named_if rtype 15 1 field _ refl
+    (named_if rtype 18 1 field _ refl
+    (named_if rtype 21 1 field _ refl
+    (named_if rtype 33 3 field _ refl
+    (named_if rtype 64 1 field _ refl
+    (named_if rtype 65 1 field _ refl (λ e. cc)))))))))
 
 pub mailbox_named : IsNameField 6 1
 unfolding type_shapes

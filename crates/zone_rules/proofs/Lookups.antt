@@ -154,9 +154,9 @@ module _ {X : Type 0} (p q : X → Bool) where
   none_both (x ∷ xs) h = none_step (p x) (q x) (list_any q xs) _ h (none_both xs)
 
 -- where no record is of a type, none of it stands at any of these names
-pub none_at_names : {N O : Type 0} (type : ℕ) (records : List (Record N O)) (names : List (List (List ℕ))) → has_type_among type records ≡ false → list_any (λ name. has_type_at type name records) names ≡ false
-none_at_names type records names h =
-    none_any (λ name. has_type_at type name records) (λ name. none_both (λ r. same_name r.owner name) (λ r. type_of r == type) records h) names
+pub none_at_names : {N O : Type 0} (rtype : ℕ) (records : List (Record N O)) (names : List (List (List ℕ))) → has_type_among rtype records ≡ false → list_any (λ name. has_type_at rtype name records) names ≡ false
+none_at_names rtype records names h =
+    none_any (λ name. has_type_at rtype name records) (λ name. none_both (λ r. same_name r.owner name) (λ r. type_of r == rtype) records h) names
 
 -- ---- steps that grow
 

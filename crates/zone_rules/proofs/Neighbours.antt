@@ -16,6 +16,7 @@ use Rattle.std.proofs.lemmas.List.Folds.{Any-from_list_any}
 use Rattle.std.proofs.lemmas.Option.{slice_get-get_or}
 use Rattle.dns_wire.specs.Order.{same_name}
 use Rattle.dns_wire.specs.Wire.{wire_length, IsName}
+use Rattle.dns_kinds.specs.Rtype as Rtype
 use Rattle.dns_spelling.proofs.LabelParts.{wire_length_cons}
 use Rattle.dns_canonical.specs.Names.{name_order}
 use Rattle.dns_canonical.proofs.Orders.{names_total}
@@ -410,20 +411,20 @@ module _ {N O : Type 0} (records : List (Record N O)) (refused : List RrsetName)
   abbrev pub is_at_owner : List (List ℕ) → Bool
   is_at_owner above = is_above_earlier rrset_of_record records name above || is_above_earlier (λ s. s) refused name above
 
-  present_owners : (type : ℕ) (f : List (List ℕ) → Bool) → ((above : List (List ℕ)) → f above ≡ true → is_present type above records refused ≡ true)
+  present_owners : (rtype : ℕ) (f : List (List ℕ) → Bool) → ((above : List (List ℕ)) → f above ≡ true → is_present rtype above records refused ≡ true)
       → All (λ a. f a ≡ true → is_at_owner a ≡ true) (names_above name)
-  present_owners type f h = owners_of_two rrset_of_record records (λ s. s) refused f name (λ r. type_of r == type) (λ s. s.code == type) h
+  present_owners rtype f h = owners_of_two rrset_of_record records (λ s. s) refused f name (λ r. type_of r == rtype) (λ s. s.rtype == rtype) h
 
   pub cuts_above : (origin : List (List ℕ))
       → list_any (is_cut_in origin records refused) (names_above name)
       ≡ option_map_or (λ a. is_cut_in origin records refused a || list_any (is_cut_in origin records refused) (names_above a)) (find is_at_owner (names_above name)) false
   cuts_above origin =
       any_closest (is_cut_in origin records refused) is_at_owner name
-      (present_owners 2 (is_cut_in origin records refused) (λ above e. and_right (is_below above origin) (is_present 2 above records refused) e))
+      (present_owners Rtype.ns (is_cut_in origin records refused) (λ above e. and_right (is_below above origin) (is_present Rtype.ns above records refused) e))
 
   pub dnames_above : closest_dname name records refused
-      ≡ option_and_then (λ a. cond (is_present 39 a records refused) (Some a) (closest_dname a records refused)) (find is_at_owner (names_above name))
-  dnames_above = find_closest (λ a. is_present 39 a records refused) is_at_owner name (present_owners 39 (λ a. is_present 39 a records refused) (λ above e. e))
+      ≡ option_and_then (λ a. cond (is_present Rtype.dname a records refused) (Some a) (closest_dname a records refused)) (find is_at_owner (names_above name))
+  dnames_above = find_closest (λ a. is_present Rtype.dname a records refused) is_at_owner name (present_owners Rtype.dname (λ a. is_present Rtype.dname a records refused) (λ above e. e))
 
 -- of a type among the records
 module _ {N O : Type 0} (records : List (Record N O)) (name : List (List ℕ)) where
@@ -431,7 +432,7 @@ module _ {N O : Type 0} (records : List (Record N O)) (name : List (List ℕ)) w
       → list_any (is_zone_cut origin records) (names_above name)
       ≡ option_map_or (λ a. is_zone_cut origin records a || list_any (is_zone_cut origin records) (names_above a)) (find (is_above_earlier rrset_of_record records name) (names_above name)) false
   zone_cuts_above origin =
-      walk_one rrset_of_record records (is_zone_cut origin records) name (λ above e. ((λ r. type_of r == 2), and_right (is_below above origin) (has_type_at 2 above records) e))
+      walk_one rrset_of_record records (is_zone_cut origin records) name (λ above e. ((λ r. type_of r == Rtype.ns), and_right (is_below above origin) (has_type_at Rtype.ns above records) e))
 
   pub zone_cuts_some : (origin above : List (List ℕ)) → find (is_above_earlier rrset_of_record records name) (names_above name) ≡ Some above
       → list_any (is_zone_cut origin records) (names_above name) ≡ (is_zone_cut origin records above || list_any (is_zone_cut origin records) (names_above above))
@@ -442,29 +443,29 @@ module _ {N O : Type 0} (records : List (Record N O)) (name : List (List ℕ)) w
   zone_cuts_none origin h =
       zone_cuts_above origin ∙ ap (λ o. option_map_or (λ a. is_zone_cut origin records a || list_any (is_zone_cut origin records) (names_above a)) o false) h
 
-  record_dnames_above : list_any (λ a. has_type_at 39 a records) (names_above name)
-      ≡ option_map_or (λ a. has_type_at 39 a records || list_any (λ b. has_type_at 39 b records) (names_above a)) (find (is_above_earlier rrset_of_record records name) (names_above name)) false
-  record_dnames_above = walk_one rrset_of_record records (λ a. has_type_at 39 a records) name (λ above e. ((λ r. type_of r == 39), e))
+  record_dnames_above : list_any (λ a. has_type_at Rtype.dname a records) (names_above name)
+      ≡ option_map_or (λ a. has_type_at Rtype.dname a records || list_any (λ b. has_type_at Rtype.dname b records) (names_above a)) (find (is_above_earlier rrset_of_record records name) (names_above name)) false
+  record_dnames_above = walk_one rrset_of_record records (λ a. has_type_at Rtype.dname a records) name (λ above e. ((λ r. type_of r == Rtype.dname), e))
 
   pub dnames_some : (above : List (List ℕ)) → find (is_above_earlier rrset_of_record records name) (names_above name) ≡ Some above
-      → list_any (λ b. has_type_at 39 b records) (names_above name) ≡ (has_type_at 39 above records || list_any (λ b. has_type_at 39 b records) (names_above above))
-  dnames_some above h = record_dnames_above ∙ ap (λ o. option_map_or (λ a. has_type_at 39 a records || list_any (λ b. has_type_at 39 b records) (names_above a)) o false) h
+      → list_any (λ b. has_type_at Rtype.dname b records) (names_above name) ≡ (has_type_at Rtype.dname above records || list_any (λ b. has_type_at Rtype.dname b records) (names_above above))
+  dnames_some above h = record_dnames_above ∙ ap (λ o. option_map_or (λ a. has_type_at Rtype.dname a records || list_any (λ b. has_type_at Rtype.dname b records) (names_above a)) o false) h
 
-  pub dnames_none : find (is_above_earlier rrset_of_record records name) (names_above name) ≡ None → list_any (λ b. has_type_at 39 b records) (names_above name) ≡ false
-  dnames_none h = record_dnames_above ∙ ap (λ o. option_map_or (λ a. has_type_at 39 a records || list_any (λ b. has_type_at 39 b records) (names_above a)) o false) h
+  pub dnames_none : find (is_above_earlier rrset_of_record records name) (names_above name) ≡ None → list_any (λ b. has_type_at Rtype.dname b records) (names_above name) ≡ false
+  dnames_none h = record_dnames_above ∙ ap (λ o. option_map_or (λ a. has_type_at Rtype.dname a records || list_any (λ b. has_type_at Rtype.dname b records) (names_above a)) o false) h
 
 -- of a type among those that were refused
 module _ (refused : List RrsetName) (name : List (List ℕ)) where
-  listed_dnames_above : list_any (λ a. is_listed 39 a refused) (names_above name)
-      ≡ option_map_or (λ a. is_listed 39 a refused || list_any (λ b. is_listed 39 b refused) (names_above a)) (find (is_above_earlier (λ s. s) refused name) (names_above name)) false
-  listed_dnames_above = walk_one (λ s. s) refused (λ a. is_listed 39 a refused) name (λ above e. ((λ s. s.code == 39), e))
+  listed_dnames_above : list_any (λ a. is_listed Rtype.dname a refused) (names_above name)
+      ≡ option_map_or (λ a. is_listed Rtype.dname a refused || list_any (λ b. is_listed Rtype.dname b refused) (names_above a)) (find (is_above_earlier (λ s. s) refused name) (names_above name)) false
+  listed_dnames_above = walk_one (λ s. s) refused (λ a. is_listed Rtype.dname a refused) name (λ above e. ((λ s. s.rtype == Rtype.dname), e))
 
   pub listed_some : (above : List (List ℕ)) → find (is_above_earlier (λ s. s) refused name) (names_above name) ≡ Some above
-      → list_any (λ b. is_listed 39 b refused) (names_above name) ≡ (is_listed 39 above refused || list_any (λ b. is_listed 39 b refused) (names_above above))
-  listed_some above h = listed_dnames_above ∙ ap (λ o. option_map_or (λ a. is_listed 39 a refused || list_any (λ b. is_listed 39 b refused) (names_above a)) o false) h
+      → list_any (λ b. is_listed Rtype.dname b refused) (names_above name) ≡ (is_listed Rtype.dname above refused || list_any (λ b. is_listed Rtype.dname b refused) (names_above above))
+  listed_some above h = listed_dnames_above ∙ ap (λ o. option_map_or (λ a. is_listed Rtype.dname a refused || list_any (λ b. is_listed Rtype.dname b refused) (names_above a)) o false) h
 
-  pub listed_none : find (is_above_earlier (λ s. s) refused name) (names_above name) ≡ None → list_any (λ b. is_listed 39 b refused) (names_above name) ≡ false
-  listed_none h = listed_dnames_above ∙ ap (λ o. option_map_or (λ a. is_listed 39 a refused || list_any (λ b. is_listed 39 b refused) (names_above a)) o false) h
+  pub listed_none : find (is_above_earlier (λ s. s) refused name) (names_above name) ≡ None → list_any (λ b. is_listed Rtype.dname b refused) (names_above name) ≡ false
+  listed_none h = listed_dnames_above ∙ ap (λ o. option_map_or (λ a. is_listed Rtype.dname a refused || list_any (λ b. is_listed Rtype.dname b refused) (names_above a)) o false) h
 
 -- of a type among both
 module _ {N O : Type 0} (records : List (Record N O)) (refused : List RrsetName) (name : List (List ℕ)) where
@@ -478,11 +479,11 @@ module _ {N O : Type 0} (records : List (Record N O)) (refused : List RrsetName)
       cuts_above records refused name origin ∙ ap (λ o. option_map_or (λ a. is_cut_in origin records refused a || list_any (is_cut_in origin records refused) (names_above a)) o false) h
 
   pub dname_some : (above : List (List ℕ)) → find (is_at_owner records refused name) (names_above name) ≡ Some above
-      → closest_dname name records refused ≡ cond (is_present 39 above records refused) (Some above) (closest_dname above records refused)
-  dname_some above h = dnames_above records refused name ∙ ap (option_and_then (λ a. cond (is_present 39 a records refused) (Some a) (closest_dname a records refused))) h
+      → closest_dname name records refused ≡ cond (is_present Rtype.dname above records refused) (Some above) (closest_dname above records refused)
+  dname_some above h = dnames_above records refused name ∙ ap (option_and_then (λ a. cond (is_present Rtype.dname a records refused) (Some a) (closest_dname a records refused))) h
 
   pub dname_none : find (is_at_owner records refused name) (names_above name) ≡ None → closest_dname name records refused ≡ None
-  dname_none h = dnames_above records refused name ∙ ap (option_and_then (λ a. cond (is_present 39 a records refused) (Some a) (closest_dname a records refused))) h
+  dname_none h = dnames_above records refused name ∙ ap (option_and_then (λ a. cond (is_present Rtype.dname a records refused) (Some a) (closest_dname a records refused))) h
 
 -- the first of two tests was answered
 pub first_true : (b c whole r : Bool) → whole ≡ (b || c) → r ≡ b → r ≡ true → r ≡ whole

@@ -84,20 +84,20 @@ then_tied Equal p = refl
 then_tied Greater p = refl
 
 sets_total : IsTotalOrder set_order
-sets_total = then_total (on_total (λ s. s.owner) names_total) (on_total (λ s. s.code) nat_cmp_total)
+sets_total = then_total (on_total (λ s. s.owner) names_total) (on_total (λ s. s.rtype) nat_cmp_total)
 
 -- ---- by owner and type
 
-module _ {X : Type 0} (set_of : X → RrsetName) (name : List (List ℕ)) (code : ℕ) where
+module _ {X : Type 0} (set_of : X → RrsetName) (name : List (List ℕ)) (rtype : ℕ) where
   abbrev pub wanted : RrsetName
-  wanted = record { owner = name; code = code }
+  wanted = record { owner = name; rtype = rtype }
 
   abbrev pub is_wanted : X → Bool
-  is_wanted x = same_name (set_of x).owner name && (set_of x).code == code
+  is_wanted x = same_name (set_of x).owner name && (set_of x).rtype == rtype
 
   pub wanted_is : (x : X) → is_wanted x ≡ is_eq (set_order (set_of x) wanted)
   wanted_is x =
-      (λ i. same_is (set_of x).owner name i && number_tied (set_of x).code code i) ∙ sym (then_tied (name_order (set_of x).owner name) (nat_cmp (set_of x).code code))
+      (λ i. same_is (set_of x).owner name i && number_tied (set_of x).rtype rtype i) ∙ sym (then_tied (name_order (set_of x).owner name) (nat_cmp (set_of x).rtype rtype))
 
   sets_rise : (xs : List X) → AllAdjacentBelow (λ a b. is_le (set_order (set_of a) (set_of b)) ≡ true) xs (length xs) → IsNonDecreasingBy (λ x. ordering_index (set_order (set_of x) wanted)) xs
   sets_rise xs h =
@@ -136,16 +136,16 @@ first_rest Equal n = none_less n
 first_rest Greater n = refl
 
 -- before the first RRset of a name are the RRsets of names before it
-pub before_first : (set : RrsetName) (name : List (List ℕ)) → is_lt (set_order set (record { owner = name; code = 0 })) ≡ is_lt (name_order set.owner name)
-before_first set name = first_rest (name_order set.owner name) set.code
+pub before_first : (set : RrsetName) (name : List (List ℕ)) → is_lt (set_order set (record { owner = name; rtype = 0 })) ≡ is_lt (name_order set.owner name)
+before_first set name = first_rest (name_order set.owner name) set.rtype
 
 pub first_parted : {X : Type 0} (set_of : X → RrsetName) (name : List (List ℕ)) (xs : List X) → IsPartitionedBy (λ x. is_lt (name_order (set_of x).owner name)) xs
-    → IsPartitionedBy (λ x. is_lt (set_order (set_of x) (record { owner = name; code = 0 }))) xs
+    → IsPartitionedBy (λ x. is_lt (set_order (set_of x) (record { owner = name; rtype = 0 }))) xs
 first_parted set_of name xs h i j d le lt t =
     before_first (set_of (get_or xs i d)) name ∙ h i j d le lt (sym (before_first (set_of (get_or xs j d)) name) ∙ t)
 
 pub first_point : {X : Type 0} (set_of : X → RrsetName) (name : List (List ℕ)) (xs : List X) (place : ℕ)
-    → IsPartitionPoint (λ x. is_lt (set_order (set_of x) (record { owner = name; code = 0 })) ≡ true) (λ x. is_lt (set_order (set_of x) (record { owner = name; code = 0 })) ≡ false) xs place
+    → IsPartitionPoint (λ x. is_lt (set_order (set_of x) (record { owner = name; rtype = 0 })) ≡ true) (λ x. is_lt (set_order (set_of x) (record { owner = name; rtype = 0 })) ≡ false) xs place
     → IsPartitionPoint (λ x. is_lt (name_order (set_of x).owner name) ≡ true) (λ x. is_lt (name_order (set_of x).owner name) ≡ false) xs place
 first_point set_of name xs place h = (
   λ i d low lt. sym (before_first (set_of (get_or xs i d)) name) ∙ h.0 i d low lt,

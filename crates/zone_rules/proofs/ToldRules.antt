@@ -4,6 +4,7 @@ use Rattle.std.specs.Prelude.{not}
 use Rattle.std.specs.List.{Contains, flat_map, range_with_len}
 use Rattle.std.proofs.lemmas.List.Elements.{Contains-append_left, Contains-append_right, Contains-append_cases}
 use Rattle.std.proofs.lemmas.List.FromFn.{length-range_with_len, get_or-range_with_len}
+use Rattle.dns_kinds.specs.Rtype as Rtype
 use Rattle.dns_resource.specs.declared.record.Record.{Record}
 use Rattle.zone_rules.specs.Findings.{found_if, found_at_apex, record_rules, breaks_at, found_of, found_at, found_in_zone, TellsBrokenRules}
 use Rattle.zone_rules.specs.Present.{is_present}
@@ -71,9 +72,9 @@ module _ {N O : Type 0} (origin : List (List ℕ)) (records : List (Record N O))
   not_at_apex rule place h =
       let told : Finding = record { rule = rule; «record» = Some place } in
       ⊎_elim
-      (λ a. none_is place (from_found (not (is_present 6 origin records refused)) NoSoa None told a).2)
-      (λ a. none_is place (from_found (not (is_present 2 origin records refused)) NoNs None told a).2)
-      (Contains-append_cases (found_if (not (is_present 6 origin records refused)) NoSoa None) (found_if (not (is_present 2 origin records refused)) NoNs None) told h)
+      (λ a. none_is place (from_found (not (is_present Rtype.soa origin records refused)) NoSoa None told a).2)
+      (λ a. none_is place (from_found (not (is_present Rtype.ns origin records refused)) NoNs None told a).2)
+      (Contains-append_cases (found_if (not (is_present Rtype.soa origin records refused)) NoSoa None) (found_if (not (is_present Rtype.ns origin records refused)) NoNs None) told h)
 
   told_is_broken : (rule : Rule) (place : ℕ) → Contains (found_in_zone origin records refused) (record { rule = rule; «record» = Some place })
       → Contains record_rules rule × (place < length records) × (breaks_at origin records refused place rule ≡ true)

@@ -95,15 +95,15 @@ record_sets rs h one k d lt =
     by_type (name_order a.owner b.owner) (nat_cmp a.class b.class) (nat_cmp (type_of a) (type_of b)) _ (same_class rs k d one lt) (h k d lt)
 
 abbrev pub is_record_of : {N O : Type 0} → List (List ℕ) → ℕ → Record N O → Bool
-is_record_of name code r = same_name r.owner name && type_of r == code
+is_record_of name rtype r = same_name r.owner name && type_of r == rtype
 
-pub types_parted : {N O : Type 0} (name : List (List ℕ)) (code : ℕ) (rs : List (Record N O)) → AreInOrder rs → is_one_class rs ≡ true → IsPartitionedBy (λ r. is_lt (ordering_then (name_order r.owner name) (nat_cmp (type_of r) code))) rs
-types_parted name code rs h one = sets_parted (λ r. rrset_of_record r) name code rs (record_sets rs h one)
+pub types_parted : {N O : Type 0} (name : List (List ℕ)) (rtype : ℕ) (rs : List (Record N O)) → AreInOrder rs → is_one_class rs ≡ true → IsPartitionedBy (λ r. is_lt (ordering_then (name_order r.owner name) (nat_cmp (type_of r) rtype))) rs
+types_parted name rtype rs h one = sets_parted (λ r. rrset_of_record r) name rtype rs (record_sets rs h one)
 
-pub type_found : {N O : Type 0} (name : List (List ℕ)) (code : ℕ) (rs : List (Record N O)) (place : ℕ) → AreInOrder rs → is_one_class rs ≡ true
-    → IsPartitionPoint (λ r. is_lt (ordering_then (name_order r.owner name) (nat_cmp (type_of r) code)) ≡ true) (λ r. is_lt (ordering_then (name_order r.owner name) (nat_cmp (type_of r) code)) ≡ false) rs place
-    → has_type_at code name rs ≡ option_map_or (λ r. same_name r.owner name && type_of r == code) (slice_get rs place) false
-type_found name code rs place h one point = set_found (λ r. rrset_of_record r) name code rs place (record_sets rs h one) point
+pub type_found : {N O : Type 0} (name : List (List ℕ)) (rtype : ℕ) (rs : List (Record N O)) (place : ℕ) → AreInOrder rs → is_one_class rs ≡ true
+    → IsPartitionPoint (λ r. is_lt (ordering_then (name_order r.owner name) (nat_cmp (type_of r) rtype)) ≡ true) (λ r. is_lt (ordering_then (name_order r.owner name) (nat_cmp (type_of r) rtype)) ≡ false) rs place
+    → has_type_at rtype name rs ≡ option_map_or (λ r. same_name r.owner name && type_of r == rtype) (slice_get rs place) false
+type_found name rtype rs place h one point = set_found (λ r. rrset_of_record r) name rtype rs place (record_sets rs h one) point
 
 -- ---- RRsets that are not in order
 

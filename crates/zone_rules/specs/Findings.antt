@@ -2,6 +2,7 @@
 use Rattle.std.specs.Prelude.{ℕ, ◌<◌, ◌↔◌, IsTrue, not, if◌then◌else◌, Bool, false, Option, Some, None, List, [], ◌∷◌, ◌++◌, length, slice_get}
 use Rattle.std.specs.List.{Contains, flat_map, range_with_len}
 use Rattle.std.specs.Option.{option_map_or}
+use Rattle.dns_kinds.specs.Rtype as Rtype
 use Rattle.dns_resource.specs.declared.record.Record.{Record}
 use Rattle.zone_rules.specs.Present.{is_present}
 use Rattle.zone_rules.specs.Rules.{breaks}
@@ -16,7 +17,7 @@ found_if is_broken rule place = if is_broken then record { rule = rule; «record
 
 -- what the zone lacks at its apex
 abbrev pub found_at_apex : {N O : Type 0} → List (List ℕ) → List (Record N O) → List RrsetName → List Finding
-found_at_apex origin records refused = found_if (not (is_present 6 origin records refused)) NoSoa None ++ found_if (not (is_present 2 origin records refused)) NoNs None
+found_at_apex origin records refused = found_if (not (is_present Rtype.soa origin records refused)) NoSoa None ++ found_if (not (is_present Rtype.ns origin records refused)) NoNs None
 
 -- the rules for records
 abbrev pub record_rules : List Rule

@@ -5,6 +5,8 @@ use Rattle.std.specs.Cmp.Lexicographic.{pointwise}
 use Rattle.std.specs.List.{list_all}
 use Rattle.std.specs.Option.{option_map, option_map_or}
 use Rattle.dns_octets.specs.Lowered.{same_lowered}
+use Rattle.dns_kinds.specs.Rtype as Rtype
+use Rattle.dns_kinds.specs.declared.types.RecordType.{RecordType}
 use Rattle.dns_spelling.specs.PrintedNames.{labels_in_octets}
 use Rattle.dns_fields.specs.declared.field.Field.TheVariants.{Name as OfName}
 use Rattle.dns_data.specs.ByType.{shape_of_code}
@@ -57,30 +59,30 @@ is_reverse_name name = is_below name (codes "in-addr" ∷ codes "arpa" ∷ [] �
 -- ---- records
 
 -- the owner of an address, A, AAAA, WKS or A6
-abbrev pub is_address_type : ℕ → Bool
-is_address_type type = type == 1 || (type == 28 || (type == 11 || type == 38))
+abbrev pub is_address_type : RecordType → Bool
+is_address_type rtype = rtype == Rtype.a || (rtype == Rtype.aaaa || (rtype == Rtype.wks || rtype == Rtype.a6))
 
 -- the owner of A, AAAA, WKS, A6 and MX is no host name; that of A and AAAA may be one of a global catalog
 abbrev pub is_bad_owner : {N O : Type 0} → Record N O → Bool
-is_bad_owner r = (is_address_type (type_of r) || type_of r == 15) && (not (is_host_owner r.owner) && not ((type_of r == 1 || type_of r == 28) && is_catalog_name r.owner))
+is_bad_owner r = (is_address_type (type_of r) || type_of r == Rtype.mx) && (not (is_host_owner r.owner) && not ((type_of r == Rtype.a || type_of r == Rtype.aaaa) && is_catalog_name r.owner))
 
 -- the field that is a host name: the name server of NS, the primary server of SOA and the target of PTR first, the exchange of MX and the target or host of AFSDB, RT, SVCB and HTTPS second, the target of SRV fourth
-abbrev pub target_field : ℕ → Option ℕ
-target_field type =
-    if type == 2 then Some 0
-    else if type == 6 then Some 0
-    else if type == 12 then Some 0
-    else if type == 15 then Some 1
-    else if type == 18 then Some 1
-    else if type == 21 then Some 1
-    else if type == 33 then Some 3
-    else if type == 64 then Some 1
-    else if type == 65 then Some 1
+abbrev pub target_field : RecordType → Option ℕ
+target_field rtype =
+    if rtype == Rtype.ns then Some 0
+    else if rtype == Rtype.soa then Some 0
+    else if rtype == Rtype.ptr then Some 0
+    else if rtype == Rtype.mx then Some 1
+    else if rtype == Rtype.afsdb then Some 1
+    else if rtype == Rtype.rt then Some 1
+    else if rtype == Rtype.srv then Some 3
+    else if rtype == Rtype.svcb then Some 1
+    else if rtype == Rtype.https then Some 1
     else None
 
 -- data of a type have a name in a field
-abbrev pub IsNameField : ℕ → ℕ → Type 0
-IsNameField type field = slice_get (fields_of_shape (shape_of_code type)) field ≡ Some OfName
+abbrev pub IsNameField : RecordType → ℕ → Type 0
+IsNameField rtype field = slice_get (fields_of_shape (shape_of_code rtype)) field ≡ Some OfName
 
 -- the name in a field of a record
 abbrev pub name_in : {N O : Type 0} → Record N O → Option ℕ → Option (List (List ℕ))
@@ -88,14 +90,14 @@ name_in r field = option_map labels_in_octets (option_and_then (data_part (data_
 
 -- a PTR names a host in the reverse trees only
 abbrev pub asks_for_host : {N O : Type 0} → Record N O → Bool
-asks_for_host r = not (type_of r == 12) || is_reverse_name r.owner
+asks_for_host r = not (type_of r == Rtype.ptr) || is_reverse_name r.owner
 
 abbrev pub is_bad_target : {N O : Type 0} → Record N O → Bool
 is_bad_target r = asks_for_host r && option_map_or (λ name. not (is_host_name name)) (name_in r (target_field (type_of r))) false
 
 -- the mailbox of an SOA
 abbrev pub is_bad_mailbox : {N O : Type 0} → Record N O → Bool
-is_bad_mailbox r = type_of r == 6 && option_map_or (λ name. not (is_mailbox_name name)) (name_in r (Some 1)) false
+is_bad_mailbox r = type_of r == Rtype.soa && option_map_or (λ name. not (is_mailbox_name name)) (name_in r (Some 1)) false
 
 -- a record names a host by what is no host name
 abbrev pub is_bad_host_name : {N O : Type 0} → Record N O → Bool

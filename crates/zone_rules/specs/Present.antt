@@ -5,6 +5,8 @@ use Rattle.std.specs.Option.{option_map_or}
 use Rattle.std.specs.Ordering.{is_le, nat_cmp, ordering_then}
 use Rattle.std.specs.declared.cmp.Ordering.{Ordering}
 use Rattle.dns_wire.specs.Order.{same_name}
+use Rattle.dns_kinds.specs.Rtype as Rtype
+use Rattle.dns_kinds.specs.declared.types.RecordType.{RecordType}
 use Rattle.dns_canonical.specs.Names.{name_order}
 use Rattle.dns_resource.specs.declared.record.Record.{Record}
 use Rattle.zone_rules.specs.Above.{names_above, is_below, is_within}
@@ -13,30 +15,30 @@ use Rattle.zone_rules.specs.declared.refused.RrsetName.{RrsetName}
 
 -- the RRset of a record
 abbrev pub rrset_of_record : {N O : Type 0} → Record N O → RrsetName
-rrset_of_record r = record { owner = r.owner; code = type_of r }
+rrset_of_record r = record { owner = r.owner; rtype = type_of r }
 
 -- by the owner, then by the type
 abbrev pub set_order : RrsetName → RrsetName → Ordering
-set_order a b = ordering_then (name_order a.owner b.owner) (nat_cmp a.code b.code)
+set_order a b = ordering_then (name_order a.owner b.owner) (nat_cmp a.rtype b.rtype)
 
 abbrev pub AreSetsInOrder : List RrsetName → Type 0
 AreSetsInOrder sets = AllAdjacentBelow (λ a b. IsTrue (is_le (set_order a b))) sets (length sets)
 
 -- an RRset of a type at a name is listed
-abbrev pub is_listed : ℕ → List (List ℕ) → List RrsetName → Bool
-is_listed type name sets = list_any (λ s. same_name s.owner name && s.code == type) sets
+abbrev pub is_listed : RecordType → List (List ℕ) → List RrsetName → Bool
+is_listed rtype name sets = list_any (λ s. same_name s.owner name && s.rtype == rtype) sets
 
 -- an RRset at a name or below it is listed
 abbrev pub is_listed_within : List (List ℕ) → List RrsetName → Bool
 is_listed_within name sets = list_any (λ s. is_within s.owner name) sets
 
 -- the zone has an RRset of a type at a name: a record of it, or an entry that was refused
-abbrev pub is_present : {N O : Type 0} → ℕ → List (List ℕ) → List (Record N O) → List RrsetName → Bool
-is_present type name records refused = has_type_at type name records || is_listed type name refused
+abbrev pub is_present : {N O : Type 0} → RecordType → List (List ℕ) → List (Record N O) → List RrsetName → Bool
+is_present rtype name records refused = has_type_at rtype name records || is_listed rtype name refused
 
 -- a name has A or AAAA
 abbrev pub has_address_in : {N O : Type 0} → List (List ℕ) → List (Record N O) → List RrsetName → Bool
-has_address_in name records refused = is_present 1 name records refused || is_present 28 name records refused
+has_address_in name records refused = is_present Rtype.a name records refused || is_present Rtype.aaaa name records refused
 
 -- ---- wildcards
 
@@ -49,22 +51,22 @@ abbrev pub closest_encloser : {N O : Type 0} → List (List ℕ) → List (Recor
 closest_encloser name records refused = find (λ above. is_existing above records refused) (names_above name)
 
 -- the wildcard below it, which is the source of synthesis, has a type
-abbrev pub source_has : {N O : Type 0} → ℕ → List (List ℕ) → List (Record N O) → List RrsetName → Bool
-source_has type name records refused = option_map_or (λ encloser. is_present type ((42 ∷ []) ∷ encloser) records refused) (closest_encloser name records refused) false
+abbrev pub source_has : {N O : Type 0} → RecordType → List (List ℕ) → List (Record N O) → List RrsetName → Bool
+source_has rtype name records refused = option_map_or (λ encloser. is_present rtype ((42 ∷ []) ∷ encloser) records refused) (closest_encloser name records refused) false
 
 -- a name that doesn't exist gets a type from a wildcard
-abbrev pub is_synthesized : {N O : Type 0} → ℕ → List (List ℕ) → List (Record N O) → List RrsetName → Bool
-is_synthesized type name records refused = not (is_existing name records refused) && source_has type name records refused
+abbrev pub is_synthesized : {N O : Type 0} → RecordType → List (List ℕ) → List (Record N O) → List RrsetName → Bool
+is_synthesized rtype name records refused = not (is_existing name records refused) && source_has rtype name records refused
 
 -- a name has an address, of its own or from a wildcard
 abbrev pub gives_address : {N O : Type 0} → List (List ℕ) → List (Record N O) → List RrsetName → Bool
-gives_address name records refused = has_address_in name records refused || (is_synthesized 1 name records refused || is_synthesized 28 name records refused)
+gives_address name records refused = has_address_in name records refused || (is_synthesized Rtype.a name records refused || is_synthesized Rtype.aaaa name records refused)
 
 -- ---- delegations and renamed subtrees
 
 -- an NS is at a name below the apex
 abbrev pub is_cut_in : {N O : Type 0} → List (List ℕ) → List (Record N O) → List RrsetName → List (List ℕ) → Bool
-is_cut_in origin records refused name = is_below name origin && is_present 2 name records refused
+is_cut_in origin records refused name = is_below name origin && is_present Rtype.ns name records refused
 
 -- a delegation is at a name or above it
 abbrev pub is_delegated_in : {N O : Type 0} → List (List ℕ) → List (Record N O) → List RrsetName → List (List ℕ) → Bool
@@ -76,8 +78,8 @@ is_own origin records refused name = is_within name origin && not (is_delegated_
 
 -- a DNAME is above a name (RFC 6672 section 2.3)
 abbrev pub is_renamed : {N O : Type 0} → List (List ℕ) → List (Record N O) → List RrsetName → Bool
-is_renamed name records refused = list_any (λ above. has_type_at 39 above records) (names_above name) || list_any (λ above. is_listed 39 above refused) (names_above name)
+is_renamed name records refused = list_any (λ above. has_type_at Rtype.dname above records) (names_above name) || list_any (λ above. is_listed Rtype.dname above refused) (names_above name)
 
 -- the closest DNAME above a name
 abbrev pub closest_dname : {N O : Type 0} → List (List ℕ) → List (Record N O) → List RrsetName → Option (List (List ℕ))
-closest_dname name records refused = find (λ above. is_present 39 above records refused) (names_above name)
+closest_dname name records refused = find (λ above. is_present Rtype.dname above records refused) (names_above name)

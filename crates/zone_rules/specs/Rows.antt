@@ -1,5 +1,7 @@
 -- Worked rows of the rules, each computed.
 use Rattle.std.specs.Prelude.{◌≡◌, ℕ, true, false, Some, None, List, [], ◌∷◌, codes, refl}
+use Rattle.dns_kinds.specs.Rtype as Rtype
+use Rattle.dns_kinds.specs.declared.types.RecordType.{RecordType}
 use Rattle.dns_spelling.specs.PrintedNames.{labels_in_octets}
 use Rattle.dns_wire.specs.Wire.{wire}
 use Rattle.dns_data.specs.Types.{type_shapes}
@@ -24,11 +26,11 @@ under label = label ∷ apex
 abbrev two_under : List ℕ → List ℕ → List (List ℕ)
 two_under label other = label ∷ under other
 
-abbrev entry : List (List ℕ) → ℕ → List ℕ → Record ℕ ℕ
-entry owner type octets = record { owner = owner; ttl = 60; class = 1; «data» = record { code = type; octets = octets } }
+abbrev entry : List (List ℕ) → RecordType → List ℕ → Record ℕ ℕ
+entry owner rtype octets = record { owner = owner; ttl = 60; class = 1; «data» = record { rtype = rtype; octets = octets } }
 
-abbrev slow_entry : List (List ℕ) → ℕ → List ℕ → Record ℕ ℕ
-slow_entry owner type octets = record { owner = owner; ttl = 3600; class = 1; «data» = record { code = type; octets = octets } }
+abbrev slow_entry : List (List ℕ) → RecordType → List ℕ → Record ℕ ℕ
+slow_entry owner rtype octets = record { owner = owner; ttl = 3600; class = 1; «data» = record { rtype = rtype; octets = octets } }
 
 abbrev address : List ℕ
 address = 192 ∷ 0 ∷ 2 ∷ 1 ∷ []
@@ -56,123 +58,123 @@ no_wildcard_row = refl
 
 -- ---- hosts: behind a preference in MX, and behind three numbers in SRV (RFC 2782)
 
-mail_row : host_of (entry apex 15 (0 ∷ 10 ∷ wire (under (codes "mail")))) ≡ Some (under (codes "mail"))
+mail_row : host_of (entry apex Rtype.mx (0 ∷ 10 ∷ wire (under (codes "mail")))) ≡ Some (under (codes "mail"))
 unfolding type_shapes labels_in_octets
 mail_row = refl
 
-service_row : host_of (entry apex 33 (0 ∷ 1 ∷ 0 ∷ 2 ∷ 0 ∷ 53 ∷ wire (under (codes "ns")))) ≡ Some (under (codes "ns"))
+service_row : host_of (entry apex Rtype.srv (0 ∷ 1 ∷ 0 ∷ 2 ∷ 0 ∷ 53 ∷ wire (under (codes "ns")))) ≡ Some (under (codes "ns"))
 unfolding type_shapes labels_in_octets
 service_row = refl
 
-no_mail_row : host_of (entry apex 15 (0 ∷ 0 ∷ 0 ∷ [])) ≡ None
+no_mail_row : host_of (entry apex Rtype.mx (0 ∷ 0 ∷ 0 ∷ [])) ≡ None
 unfolding type_shapes labels_in_octets
 no_mail_row = refl
 
-alias_host_row : host_of (entry apex 5 (wire (under (codes "ns")))) ≡ None
+alias_host_row : host_of (entry apex Rtype.cname (wire (under (codes "ns")))) ≡ None
 alias_host_row = refl
 
 -- ---- rules
 
 -- an NS at the apex whose host has an address, and none
 abbrev server : Record ℕ ℕ
-server = entry apex 2 (wire (under (codes "ns")))
+server = entry apex Rtype.ns (wire (under (codes "ns")))
 
-address_row : lacks_ns_address apex (server ∷ entry (under (codes "NS")) 28 address ∷ []) [] server ≡ false
+address_row : lacks_ns_address apex (server ∷ entry (under (codes "NS")) Rtype.aaaa address ∷ []) [] server ≡ false
 unfolding type_shapes labels_in_octets
 address_row = refl
 
-no_address_row : lacks_ns_address apex (server ∷ entry (under (codes "ns")) 16 (0 ∷ []) ∷ []) [] server ≡ true
+no_address_row : lacks_ns_address apex (server ∷ entry (under (codes "ns")) Rtype.txt (0 ∷ []) ∷ []) [] server ≡ true
 unfolding type_shapes labels_in_octets
 no_address_row = refl
 
 -- an address whose entry was refused is there
-abbrev named : List (List ℕ) → ℕ → RrsetName
-named owner code = record { owner = owner; code = code }
+abbrev named : List (List ℕ) → RecordType → RrsetName
+named owner rtype = record { owner = owner; rtype = rtype }
 
-refused_address_row : lacks_ns_address apex (server ∷ []) (named (under (codes "ns")) 1 ∷ []) server ≡ false
+refused_address_row : lacks_ns_address apex (server ∷ []) (named (under (codes "ns")) Rtype.a ∷ []) server ≡ false
 unfolding type_shapes labels_in_octets
 refused_address_row = refl
 
 -- a wildcard gives an address, but not where the name or a closer one exists, and an alias is none
-star_address_row : lacks_ns_address apex (server ∷ entry (under (codes "*")) 1 address ∷ []) [] server ≡ false
+star_address_row : lacks_ns_address apex (server ∷ entry (under (codes "*")) Rtype.a address ∷ []) [] server ≡ false
 unfolding type_shapes labels_in_octets
 star_address_row = refl
 
-own_text_row : lacks_ns_address apex (server ∷ entry (under (codes "*")) 1 address ∷ entry (under (codes "ns")) 16 (0 ∷ []) ∷ []) [] server ≡ true
+own_text_row : lacks_ns_address apex (server ∷ entry (under (codes "*")) Rtype.a address ∷ entry (under (codes "ns")) Rtype.txt (0 ∷ []) ∷ []) [] server ≡ true
 unfolding type_shapes labels_in_octets
 own_text_row = refl
 
-star_alias_row : lacks_ns_address apex (server ∷ entry (under (codes "*")) 5 (wire (under (codes "o"))) ∷ []) [] server ≡ true
+star_alias_row : lacks_ns_address apex (server ∷ entry (under (codes "*")) Rtype.cname (wire (under (codes "o"))) ∷ []) [] server ≡ true
 unfolding type_shapes labels_in_octets
 star_alias_row = refl
 
 -- RFC 4592 section 2.2.2: `ns.b` exists by what is below it, so `*` is not the source of synthesis
 abbrev below_b : List (Record ℕ ℕ)
-below_b = entry (under (codes "*")) 1 address ∷ entry (codes "x" ∷ two_under (codes "ns") (codes "b")) 1 address ∷ []
+below_b = entry (under (codes "*")) Rtype.a address ∷ entry (codes "x" ∷ two_under (codes "ns") (codes "b")) Rtype.a address ∷ []
 
 encloser_row : closest_encloser (codes "a" ∷ two_under (codes "ns") (codes "b")) below_b [] ≡ Some (two_under (codes "ns") (codes "b"))
 encloser_row = refl
 
-closer_row : is_synthesized 1 (two_under (codes "a") (codes "b")) below_b [] ≡ false
+closer_row : is_synthesized Rtype.a (two_under (codes "a") (codes "b")) below_b [] ≡ false
 closer_row = refl
 
 -- an RRSIG and an equal alias may stand beside an alias, a TXT must not
 abbrev alias : Record ℕ ℕ
-alias = entry (under (codes "www")) 5 (wire (under (codes "a")))
+alias = entry (under (codes "www")) Rtype.cname (wire (under (codes "a")))
 
-signed_alias_row : is_alias_in_company (alias ∷ slow_entry (under (codes "WWW")) 5 (wire (under (codes "A"))) ∷ entry (under (codes "www")) 46 [] ∷ []) alias ≡ false
+signed_alias_row : is_alias_in_company (alias ∷ slow_entry (under (codes "WWW")) Rtype.cname (wire (under (codes "A"))) ∷ entry (under (codes "www")) Rtype.rrsig [] ∷ []) alias ≡ false
 unfolding type_shapes
 signed_alias_row = refl
 
-text_alias_row : is_alias_in_company (alias ∷ entry (under (codes "www")) 16 (0 ∷ []) ∷ []) alias ≡ true
+text_alias_row : is_alias_in_company (alias ∷ entry (under (codes "www")) Rtype.txt (0 ∷ []) ∷ []) alias ≡ true
 unfolding type_shapes
 text_alias_row = refl
 
-two_alias_row : is_alias_in_company (alias ∷ entry (under (codes "www")) 5 (wire (under (codes "b"))) ∷ []) alias ≡ true
+two_alias_row : is_alias_in_company (alias ∷ entry (under (codes "www")) Rtype.cname (wire (under (codes "b"))) ∷ []) alias ≡ true
 unfolding type_shapes
 two_alias_row = refl
 
 -- a DNAME is not below itself
 abbrev renaming : Record ℕ ℕ
-renaming = entry (under (codes "d")) 39 (wire (under (codes "e")))
+renaming = entry (under (codes "d")) Rtype.dname (wire (under (codes "e")))
 
 dname_row : is_below_dname (renaming ∷ []) renaming ≡ false
 dname_row = refl
 
 -- NSEC3 and its RRSIGs are, of a DNAME at the apex; a TXT and its RRSIGs must not be
 abbrev apex_renaming : Record ℕ ℕ
-apex_renaming = entry apex 39 (wire (codes "o" ∷ [] ∷ []))
+apex_renaming = entry apex Rtype.dname (wire (codes "o" ∷ [] ∷ []))
 
-hashed_below_row : is_below_dname (apex_renaming ∷ []) (entry (under (codes "0p9mhaveqvm6t7vbl5lop2u3t2rp3tom")) 50 []) ≡ false
+hashed_below_row : is_below_dname (apex_renaming ∷ []) (entry (under (codes "0p9mhaveqvm6t7vbl5lop2u3t2rp3tom")) Rtype.nsec3 []) ≡ false
 hashed_below_row = refl
 
-signed_hashed_row : is_below_dname (apex_renaming ∷ []) (entry (under (codes "0p9mhaveqvm6t7vbl5lop2u3t2rp3tom")) 46 (0 ∷ 50 ∷ [])) ≡ false
+signed_hashed_row : is_below_dname (apex_renaming ∷ []) (entry (under (codes "0p9mhaveqvm6t7vbl5lop2u3t2rp3tom")) Rtype.rrsig (0 ∷ 50 ∷ [])) ≡ false
 signed_hashed_row = refl
 
-signed_text_row : is_below_dname (apex_renaming ∷ []) (entry (under (codes "t")) 46 (0 ∷ 16 ∷ [])) ≡ true
+signed_text_row : is_below_dname (apex_renaming ∷ []) (entry (under (codes "t")) Rtype.rrsig (0 ∷ 16 ∷ [])) ≡ true
 signed_text_row = refl
 
-text_row : is_below_dname (apex_renaming ∷ []) (entry (under (codes "t")) 16 (0 ∷ [])) ≡ true
+text_row : is_below_dname (apex_renaming ∷ []) (entry (under (codes "t")) Rtype.txt (0 ∷ [])) ≡ true
 text_row = refl
 
 -- an SOA at the apex, below it, and outside of the zone
-apex_soa_row : is_soa_below_apex apex (entry (codes "EXAMPLE" ∷ [] ∷ []) 6 []) ≡ false
+apex_soa_row : is_soa_below_apex apex (entry (codes "EXAMPLE" ∷ [] ∷ []) Rtype.soa []) ≡ false
 apex_soa_row = refl
 
-lower_soa_row : is_soa_below_apex apex (entry (under (codes "sub")) 6 []) ≡ true
+lower_soa_row : is_soa_below_apex apex (entry (under (codes "sub")) Rtype.soa []) ≡ true
 lower_soa_row = refl
 
-outer_soa_row : is_soa_below_apex apex (entry (codes "sub" ∷ codes "test" ∷ [] ∷ []) 6 []) ≡ false
+outer_soa_row : is_soa_below_apex apex (entry (codes "sub" ∷ codes "test" ∷ [] ∷ []) Rtype.soa []) ≡ false
 outer_soa_row = refl
 
 -- an NS beside a DNAME, at the apex and below it
 apex_ns_row : is_dname_at_cut apex (apex_renaming ∷ server ∷ []) apex_renaming ≡ false
 apex_ns_row = refl
 
-lower_ns_row : is_dname_at_cut apex (renaming ∷ entry (under (codes "D")) 2 (wire (under (codes "ns"))) ∷ []) renaming ≡ true
+lower_ns_row : is_dname_at_cut apex (renaming ∷ entry (under (codes "D")) Rtype.ns (wire (under (codes "ns"))) ∷ []) renaming ≡ true
 lower_ns_row = refl
 
-star_hash_row : is_unhashed_nsec3 (entry (under (codes "*")) 50 []) ≡ true
+star_hash_row : is_unhashed_nsec3 (entry (under (codes "*")) Rtype.nsec3 []) ≡ true
 star_hash_row = refl
 
 -- RFC 5155 appendix A, and two digits of which the second has spare bits that are not zero
@@ -185,18 +187,18 @@ spare_row = refl
 odd_row : is_base32_text (codes "000") ≡ false
 odd_row = refl
 
-below_dname_row : is_below_dname (renaming ∷ []) (entry (two_under (codes "a") (codes "D")) 1 address) ≡ true
+below_dname_row : is_below_dname (renaming ∷ []) (entry (two_under (codes "a") (codes "D")) Rtype.a address) ≡ true
 below_dname_row = refl
 
-two_row : are_two_of 6 (entry apex 6 (0 ∷ [])) (slow_entry apex 6 (0 ∷ [])) ≡ false
+two_row : are_two_of Rtype.soa (entry apex Rtype.soa (0 ∷ [])) (slow_entry apex Rtype.soa (0 ∷ [])) ≡ false
 unfolding type_shapes
 two_row = refl
 
 -- a delegation, its glue, and a host beside it
 abbrev delegation : Record ℕ ℕ
-delegation = entry (under (codes "sub")) 2 (wire (two_under (codes "ns") (codes "sub")))
+delegation = entry (under (codes "sub")) Rtype.ns (wire (two_under (codes "ns") (codes "sub")))
 
-glue_row : lacks_glue apex (delegation ∷ entry (two_under (codes "ns") (codes "sub")) 1 address ∷ []) [] delegation ≡ false
+glue_row : lacks_glue apex (delegation ∷ entry (two_under (codes "ns") (codes "sub")) Rtype.a address ∷ []) [] delegation ≡ false
 unfolding type_shapes labels_in_octets
 glue_row = refl
 
@@ -204,12 +206,12 @@ no_glue_row : lacks_glue apex (delegation ∷ []) [] delegation ≡ true
 unfolding type_shapes labels_in_octets
 no_glue_row = refl
 
-beside_row : lacks_glue apex [] [] (entry (under (codes "sub")) 2 (wire (under (codes "ns")))) ≡ false
+beside_row : lacks_glue apex [] [] (entry (under (codes "sub")) Rtype.ns (wire (under (codes "ns")))) ≡ false
 unfolding type_shapes labels_in_octets
 beside_row = refl
 
 abbrev mail_to : List (List ℕ) → Record ℕ ℕ
-mail_to host = entry apex 15 (0 ∷ 10 ∷ wire host)
+mail_to host = entry apex Rtype.mx (0 ∷ 10 ∷ wire host)
 
 delegated_row : names_missing apex (delegation ∷ []) [] (mail_to (two_under (codes "mx") (codes "sub"))) ≡ false
 unfolding type_shapes labels_in_octets
@@ -219,12 +221,12 @@ missing_row : names_missing apex (delegation ∷ []) [] (mail_to (under (codes "
 unfolding type_shapes labels_in_octets
 missing_row = refl
 
-under_star_row : names_missing apex (entry (under (codes "*")) 1 address ∷ []) [] (mail_to (under (codes "mx"))) ≡ false
+under_star_row : names_missing apex (entry (under (codes "*")) Rtype.a address ∷ []) [] (mail_to (under (codes "mx"))) ≡ false
 unfolding type_shapes labels_in_octets
 under_star_row = refl
 
 -- no host is asked for where the target is the root, also in the zone that has all names
-no_target_row : names_missing ([] ∷ []) [] [] (entry apex 33 (0 ∷ 0 ∷ 0 ∷ 0 ∷ 0 ∷ 0 ∷ 0 ∷ [])) ≡ false
+no_target_row : names_missing ([] ∷ []) [] [] (entry apex Rtype.srv (0 ∷ 0 ∷ 0 ∷ 0 ∷ 0 ∷ 0 ∷ 0 ∷ [])) ≡ false
 unfolding type_shapes labels_in_octets
 no_target_row = refl
 
@@ -237,7 +239,7 @@ mail_alias_row : names_alias apex (alias ∷ []) [] (mail_to (under (codes "www"
 unfolding type_shapes labels_in_octets
 mail_alias_row = refl
 
-star_target_row : names_alias apex (entry (under (codes "*")) 5 (wire (under (codes "o"))) ∷ []) [] (mail_to (under (codes "mx"))) ≡ true
+star_target_row : names_alias apex (entry (under (codes "*")) Rtype.cname (wire (under (codes "o"))) ∷ []) [] (mail_to (under (codes "mx"))) ≡ true
 unfolding type_shapes labels_in_octets
 star_target_row = refl
 
@@ -274,51 +276,51 @@ mail_target_row : is_bad_host_name (mail_to (under (codes "a_b"))) ≡ true
 unfolding type_shapes labels_in_octets
 mail_target_row = refl
 
-star_owner_row : is_bad_host_name (entry (under (codes "*")) 1 address) ≡ false
+star_owner_row : is_bad_host_name (entry (under (codes "*")) Rtype.a address) ≡ false
 unfolding type_shapes labels_in_octets
 star_owner_row = refl
 
-catalog_row : is_bad_host_name (entry (two_under (codes "GC") (codes "_msdcs")) 1 address) ≡ false
+catalog_row : is_bad_host_name (entry (two_under (codes "GC") (codes "_msdcs")) Rtype.a address) ≡ false
 unfolding type_shapes labels_in_octets
 catalog_row = refl
 
-service_owner_row : is_bad_host_name (entry (two_under (codes "_sip") (codes "_tcp")) 33 []) ≡ false
+service_owner_row : is_bad_host_name (entry (two_under (codes "_sip") (codes "_tcp")) Rtype.srv []) ≡ false
 unfolding type_shapes labels_in_octets
 service_owner_row = refl
 
-host_owner_row : is_bad_host_name (entry (under (codes "a_b")) 28 []) ≡ true
+host_owner_row : is_bad_host_name (entry (under (codes "a_b")) Rtype.aaaa []) ≡ true
 unfolding type_shapes labels_in_octets
 host_owner_row = refl
 
 -- ---- keys
 
 -- the one that asks to delete (RFC 8078 section 4), and another
-deletion_row : lacks_key apex [] [] (entry apex 59 (0 ∷ 0 ∷ 0 ∷ 0 ∷ 0 ∷ [])) ≡ false
+deletion_row : lacks_key apex [] [] (entry apex Rtype.cds (0 ∷ 0 ∷ 0 ∷ 0 ∷ 0 ∷ [])) ≡ false
 deletion_row = refl
 
-key_row : lacks_key apex [] [] (entry apex 60 (1 ∷ 1 ∷ 3 ∷ 8 ∷ 1 ∷ [])) ≡ true
+key_row : lacks_key apex [] [] (entry apex Rtype.cdnskey (1 ∷ 1 ∷ 3 ∷ 8 ∷ 1 ∷ [])) ≡ true
 key_row = refl
 
-no_delegation_row : lacks_ns apex [] [] (entry (under (codes "d")) 43 []) ≡ true
+no_delegation_row : lacks_ns apex [] [] (entry (under (codes "d")) Rtype.ds []) ≡ true
 no_delegation_row = refl
 
-key_at_cut_row : is_below_its_apex apex (entry (under (codes "d")) 2 [] ∷ []) [] (entry (under (codes "d")) 48 []) ≡ false
+key_at_cut_row : is_below_its_apex apex (entry (under (codes "d")) Rtype.ns [] ∷ []) [] (entry (under (codes "d")) Rtype.dnskey []) ≡ false
 key_at_cut_row = refl
 
-lower_key_row : is_below_its_apex apex [] [] (entry (under (codes "d")) 48 []) ≡ true
+lower_key_row : is_below_its_apex apex [] [] (entry (under (codes "d")) Rtype.dnskey []) ≡ true
 lower_key_row = refl
 
-protocol_row : has_other_protocol (entry apex 48 (1 ∷ 0 ∷ 2 ∷ 8 ∷ 1 ∷ [])) ≡ true
+protocol_row : has_other_protocol (entry apex Rtype.dnskey (1 ∷ 0 ∷ 2 ∷ 8 ∷ 1 ∷ [])) ≡ true
 protocol_row = refl
 
-algorithm_row : has_no_algorithm (entry apex 43 (0 ∷ 1 ∷ 0 ∷ 1 ∷ [])) ≡ true
+algorithm_row : has_no_algorithm (entry apex Rtype.ds (0 ∷ 1 ∷ 0 ∷ 1 ∷ [])) ≡ true
 algorithm_row = refl
 
 -- RRSIGs of one owner are of the set of the type that they cover
-one_set_row : is_one_set (entry apex 46 (0 ∷ 1 ∷ [])) (entry apex 46 (0 ∷ 2 ∷ [])) ≡ false
+one_set_row : is_one_set (entry apex Rtype.rrsig (0 ∷ 1 ∷ [])) (entry apex Rtype.rrsig (0 ∷ 2 ∷ [])) ≡ false
 one_set_row = refl
 
-ttl_row : have_other_ttls (entry apex 1 address) (slow_entry apex 1 (192 ∷ 0 ∷ 2 ∷ 2 ∷ [])) ≡ true
+ttl_row : have_other_ttls (entry apex Rtype.a address) (slow_entry apex Rtype.a (192 ∷ 0 ∷ 2 ∷ 2 ∷ [])) ≡ true
 ttl_row = refl
 
 -- ---- a zone of one record

@@ -4,6 +4,8 @@ use Rattle.std.specs.Cmp.Lexicographic.{pointwise}
 use Rattle.std.specs.List.{list_any}
 use Rattle.std.specs.Option.{option_map_or}
 use Rattle.dns_wire.specs.Order.{same_name}
+use Rattle.dns_kinds.specs.Rtype as Rtype
+use Rattle.dns_kinds.specs.declared.types.RecordType.{RecordType}
 use Rattle.dns_resource.specs.Records.{data_of}
 use Rattle.dns_resource.specs.declared.record.Record.{Record}
 use Rattle.zone_rules.specs.Above.{first_label_of, names_above, is_below, is_within, is_wildcard}
@@ -20,12 +22,12 @@ abbrev pub is_out_of_zone : {N O : Type 0} → List (List ℕ) → Record N O �
 is_out_of_zone origin r = not (is_within r.owner origin)
 
 -- the record has the type, and stands at the apex, whose name is the origin
-abbrev pub is_record_at_apex : {N O : Type 0} → ℕ → List (List ℕ) → Record N O → Bool
-is_record_at_apex type origin r = type_of r == type && same_name r.owner origin
+abbrev pub is_record_at_apex : {N O : Type 0} → RecordType → List (List ℕ) → Record N O → Bool
+is_record_at_apex rtype origin r = type_of r == rtype && same_name r.owner origin
 
 -- both have the type and one owner, and they differ
-abbrev pub are_two_of : {N O : Type 0} → ℕ → Record N O → Record N O → Bool
-are_two_of type a b = type_of a == type && (type_of b == type && (same_name a.owner b.owner && not (is_equal_record a b)))
+abbrev pub are_two_of : {N O : Type 0} → RecordType → Record N O → Record N O → Bool
+are_two_of rtype a b = type_of a == rtype && (type_of b == rtype && (same_name a.owner b.owner && not (is_equal_record a b)))
 
 -- both are of one set, and their times to live differ
 abbrev pub have_other_ttls : {N O : Type 0} → Record N O → Record N O → Bool
@@ -37,19 +39,19 @@ follows test records place r = option_map_or (λ before. test before r) (record_
 
 -- the record stands at the owner of an alias, isn't equal to it, and is neither an RRSIG nor an NSEC
 abbrev pub is_beside_alias : {N O : Type 0} → Record N O → Record N O → Bool
-is_beside_alias alias r = same_name r.owner alias.owner && (not (type_of r == 46) && (not (type_of r == 47) && not (is_equal_record alias r)))
+is_beside_alias alias r = same_name r.owner alias.owner && (not (type_of r == Rtype.rrsig) && (not (type_of r == Rtype.nsec) && not (is_equal_record alias r)))
 
 -- the record is an alias, and some record must not stand beside it
 abbrev pub is_alias_in_company : {N O : Type 0} → List (Record N O) → Record N O → Bool
-is_alias_in_company records r = type_of r == 5 && list_any (is_beside_alias r) records
+is_alias_in_company records r = type_of r == Rtype.cname && list_any (is_beside_alias r) records
 
 -- a DNAME stands at a name above the record
 abbrev pub has_dname_over : {N O : Type 0} → List (Record N O) → Record N O → Bool
-has_dname_over records r = list_any (λ above. has_type_at 39 above records) (names_above r.owner)
+has_dname_over records r = list_any (λ above. has_type_at Rtype.dname above records) (names_above r.owner)
 
 -- the record is an NSEC3, or an RRSIG over such
 abbrev pub is_of_hashed_chain : {N O : Type 0} → Record N O → Bool
-is_of_hashed_chain r = type_of r == 50 || set_type r == 50
+is_of_hashed_chain r = type_of r == Rtype.nsec3 || set_type r == Rtype.nsec3
 
 -- and so; but the chain of NSEC3 is below the apex, also where that has a DNAME (RFC 5155 section 3)
 abbrev pub is_below_dname : {N O : Type 0} → List (Record N O) → Record N O → Bool
@@ -57,25 +59,25 @@ is_below_dname records r = not (is_of_hashed_chain r) && has_dname_over records 
 
 -- the record is an SOA below the apex
 abbrev pub is_soa_below_apex : {N O : Type 0} → List (List ℕ) → Record N O → Bool
-is_soa_below_apex origin r = type_of r == 6 && is_below r.owner origin
+is_soa_below_apex origin r = type_of r == Rtype.soa && is_below r.owner origin
 
 -- the record is an NS at a wildcard
 abbrev pub is_wildcard_ns : {N O : Type 0} → Record N O → Bool
-is_wildcard_ns r = type_of r == 2 && is_wildcard r.owner
+is_wildcard_ns r = type_of r == Rtype.ns && is_wildcard r.owner
 
 -- the record is an NSEC3, and the first label of its owner no hash in base 32 hex
 abbrev pub is_unhashed_nsec3 : {N O : Type 0} → Record N O → Bool
-is_unhashed_nsec3 r = type_of r == 50 && not (is_base32_text (first_label_of r.owner))
+is_unhashed_nsec3 r = type_of r == Rtype.nsec3 && not (is_base32_text (first_label_of r.owner))
 
 -- ---- delegations
 
 -- an NS is at a name below the apex
 abbrev pub is_zone_cut : {N O : Type 0} → List (List ℕ) → List (Record N O) → List (List ℕ) → Bool
-is_zone_cut origin records name = is_below name origin && has_type_at 2 name records
+is_zone_cut origin records name = is_below name origin && has_type_at Rtype.ns name records
 
 -- the record is a DNAME at a delegation
 abbrev pub is_dname_at_cut : {N O : Type 0} → List (List ℕ) → List (Record N O) → Record N O → Bool
-is_dname_at_cut origin records r = type_of r == 39 && is_zone_cut origin records r.owner
+is_dname_at_cut origin records r = type_of r == Rtype.dname && is_zone_cut origin records r.owner
 
 -- ---- hosts
 
@@ -89,7 +91,7 @@ names_internet_host test r = r.class == 1 && names_host test r
 
 -- a name has CNAME, of its own or, where the zone has its data, from a wildcard
 abbrev pub is_alias : {N O : Type 0} → List (List ℕ) → List (Record N O) → List RrsetName → List (List ℕ) → Bool
-is_alias origin records refused name = is_present 5 name records refused || (is_synthesized 5 name records refused && is_own origin records refused name)
+is_alias origin records refused name = is_present Rtype.cname name records refused || (is_synthesized Rtype.cname name records refused && is_own origin records refused name)
 
 -- the zone has the data of a name, and a DNAME is above it
 abbrev pub is_below_own_dname : {N O : Type 0} → List (List ℕ) → List (Record N O) → List RrsetName → List (List ℕ) → Bool
@@ -101,7 +103,7 @@ lacks_address origin records refused name = (is_renamed name records refused || 
 
 -- an NS at the apex names a host without an address
 abbrev pub lacks_ns_address : {N O : Type 0} → List (List ℕ) → List (Record N O) → List RrsetName → Record N O → Bool
-lacks_ns_address origin records refused r = is_record_at_apex 2 origin r && names_internet_host (lacks_address origin records refused) r
+lacks_ns_address origin records refused r = is_record_at_apex Rtype.ns origin r && names_internet_host (lacks_address origin records refused) r
 
 -- a name is at or below a delegation, and no A or AAAA is there
 abbrev pub is_without_glue : {N O : Type 0} → List (List ℕ) → List (Record N O) → List RrsetName → List (List ℕ) → Bool
@@ -109,7 +111,7 @@ is_without_glue delegation records refused name = is_within name delegation && n
 
 -- an NS below the apex names a host at or below its owner without address
 abbrev pub lacks_glue : {N O : Type 0} → List (List ℕ) → List (Record N O) → List RrsetName → Record N O → Bool
-lacks_glue origin records refused r = type_of r == 2 && (is_below r.owner origin && names_internet_host (is_without_glue r.owner records refused) r)
+lacks_glue origin records refused r = type_of r == Rtype.ns && (is_below r.owner origin && names_internet_host (is_without_glue r.owner records refused) r)
 
 -- an MX, SRV or NS names an alias
 abbrev pub names_alias : {N O : Type 0} → List (List ℕ) → List (Record N O) → List RrsetName → Record N O → Bool
@@ -125,30 +127,30 @@ is_missing origin records refused name = lacks_address origin records refused na
 
 -- an MX, SRV or NS names a host that is missing; of an NS at the apex that is an error of its own
 abbrev pub names_missing : {N O : Type 0} → List (List ℕ) → List (Record N O) → List RrsetName → Record N O → Bool
-names_missing origin records refused r = not (is_record_at_apex 2 origin r) && names_internet_host (is_missing origin records refused) r
+names_missing origin records refused r = not (is_record_at_apex Rtype.ns origin r) && names_internet_host (is_missing origin records refused) r
 
 -- ---- keys
 
 -- DNSKEY (RFC 4034 section 2), DS (section 5), and those for the parent (RFC 7344)
 abbrev pub is_delete_request : {N O : Type 0} → Record N O → Bool
 is_delete_request r =
-    (type_of r == 59 && pointwise nat_eq (data_of r).octets (0 ∷ 0 ∷ 0 ∷ 0 ∷ 0 ∷ [])) || (type_of r == 60 && pointwise nat_eq (data_of r).octets (0 ∷ 0 ∷ 3 ∷ 0 ∷ 0 ∷ []))
+    (type_of r == Rtype.cds && pointwise nat_eq (data_of r).octets (0 ∷ 0 ∷ 0 ∷ 0 ∷ 0 ∷ [])) || (type_of r == Rtype.cdnskey && pointwise nat_eq (data_of r).octets (0 ∷ 0 ∷ 3 ∷ 0 ∷ 0 ∷ []))
 
 -- a CDS or CDNSKEY that asks for more than to delete (RFC 8078 section 4), and no DNSKEY at the apex
 abbrev pub lacks_key : {N O : Type 0} → List (List ℕ) → List (Record N O) → List RrsetName → Record N O → Bool
-lacks_key origin records refused r = (type_of r == 59 || type_of r == 60) && (not (is_delete_request r) && not (is_present 48 origin records refused))
+lacks_key origin records refused r = (type_of r == Rtype.cds || type_of r == Rtype.cdnskey) && (not (is_delete_request r) && not (is_present Rtype.dnskey origin records refused))
 
 -- a DS below the apex, and no NS at its owner
 abbrev pub lacks_ns : {N O : Type 0} → List (List ℕ) → List (Record N O) → List RrsetName → Record N O → Bool
-lacks_ns origin records refused r = type_of r == 43 && (is_below r.owner origin && not (is_present 2 r.owner records refused))
+lacks_ns origin records refused r = type_of r == Rtype.ds && (is_below r.owner origin && not (is_present Rtype.ns r.owner records refused))
 
 -- the types that belong at an apex: NSEC3PARAM, CDS, CDNSKEY, CSYNC and ZONEMD
-abbrev pub is_apex_type : ℕ → Bool
-is_apex_type type = type == 51 || (type == 59 || (type == 60 || (type == 62 || type == 63)))
+abbrev pub is_apex_type : RecordType → Bool
+is_apex_type rtype = rtype == Rtype.nsec3param || (rtype == Rtype.cds || (rtype == Rtype.cdnskey || (rtype == Rtype.csync || rtype == Rtype.zonemd)))
 
 -- such a record below the apex, or a DNSKEY below it at no delegation
 abbrev pub is_below_its_apex : {N O : Type 0} → List (List ℕ) → List (Record N O) → List RrsetName → Record N O → Bool
-is_below_its_apex origin records refused r = (is_apex_type (type_of r) || (type_of r == 48 && not (is_present 2 r.owner records refused))) && is_below r.owner origin
+is_below_its_apex origin records refused r = (is_apex_type (type_of r) || (type_of r == Rtype.dnskey && not (is_present Rtype.ns r.owner records refused))) && is_below r.owner origin
 
 -- the octet at a place of a record's data
 abbrev pub has_octet_at : {N O : Type 0} → (ℕ → Bool) → ℕ → Record N O → Bool
@@ -156,11 +158,11 @@ has_octet_at test place r = option_map_or test (slice_get (data_of r).octets pla
 
 -- a DNSKEY of another protocol than 3 (RFC 4034 section 2.1.2)
 abbrev pub has_other_protocol : {N O : Type 0} → Record N O → Bool
-has_other_protocol r = type_of r == 48 && has_octet_at (λ o. not (o == 3)) 2 r
+has_other_protocol r = type_of r == Rtype.dnskey && has_octet_at (λ o. not (o == 3)) 2 r
 
 -- a DNSKEY or DS of algorithm 0, which is reserved (RFC 4034 appendix A.1)
 abbrev pub has_no_algorithm : {N O : Type 0} → Record N O → Bool
-has_no_algorithm r = (type_of r == 48 && has_octet_at (λ o. o == 0) 3 r) || (type_of r == 43 && has_octet_at (λ o. o == 0) 2 r)
+has_no_algorithm r = (type_of r == Rtype.dnskey && has_octet_at (λ o. o == 0) 3 r) || (type_of r == Rtype.ds && has_octet_at (λ o. o == 0) 2 r)
 
 -- ---- all rules
 
@@ -169,12 +171,12 @@ abbrev pub breaks : {N O : Type 0} → Rule → List (List ℕ) → List (Record
 breaks NoSoa origin records refused place r = false
 breaks NoNs origin records refused place r = false
 breaks Outside origin records refused place r = is_out_of_zone origin r
-breaks TwoSoas origin records refused place r = follows (are_two_of 6) records place r
+breaks TwoSoas origin records refused place r = follows (are_two_of Rtype.soa) records place r
 breaks NsAddress origin records refused place r = lacks_ns_address origin records refused r
 breaks Cname origin records refused place r = is_alias_in_company records r
-breaks TwoDnames origin records refused place r = follows (are_two_of 39) records place r
+breaks TwoDnames origin records refused place r = follows (are_two_of Rtype.dname) records place r
 breaks BelowDname origin records refused place r = is_below_dname records r
-breaks DsAtApex origin records refused place r = is_record_at_apex 43 origin r
+breaks DsAtApex origin records refused place r = is_record_at_apex Rtype.ds origin r
 breaks WildcardNs origin records refused place r = is_wildcard_ns r
 breaks SoaNotApex origin records refused place r = is_soa_below_apex origin r
 breaks NsBesideDname origin records refused place r = is_dname_at_cut origin records r

@@ -5,6 +5,8 @@ use Rattle.std.specs.List.{AllAdjacentBelow, list_all, list_any}
 use Rattle.std.specs.Option.{option_map, option_map_or}
 use Rattle.std.specs.Ordering.{is_eq, is_le}
 use Rattle.dns_wire.specs.Order.{same_name}
+use Rattle.dns_kinds.specs.Rtype as Rtype
+use Rattle.dns_kinds.specs.declared.types.RecordType.{RecordType}
 use Rattle.dns_spelling.specs.PrintedNames.{labels_in_octets}
 use Rattle.dns_canonical.specs.Records.{record_order}
 use Rattle.dns_resource.specs.CanonicalData.{record_key}
@@ -14,16 +16,16 @@ use Rattle.dns_resource.specs.TypeData.{TypeData}
 use Rattle.dns_resource.specs.declared.record.Record.{Record}
 use Rattle.zone_rules.specs.Above.{is_within}
 
-abbrev pub type_of : {N O : Type 0} → Record N O → ℕ
-type_of r = (data_of r).code
+abbrev pub type_of : {N O : Type 0} → Record N O → RecordType
+type_of r = (data_of r).rtype
 
 -- some record at a name is of a type
-abbrev pub has_type_at : {N O : Type 0} → ℕ → List (List ℕ) → List (Record N O) → Bool
-has_type_at type name records = list_any (λ r. same_name r.owner name && type_of r == type) records
+abbrev pub has_type_at : {N O : Type 0} → RecordType → List (List ℕ) → List (Record N O) → Bool
+has_type_at rtype name records = list_any (λ r. same_name r.owner name && type_of r == rtype) records
 
 -- some record is of a type
-abbrev pub has_type_among : {N O : Type 0} → ℕ → List (Record N O) → Bool
-has_type_among type records = list_any (λ r. type_of r == type) records
+abbrev pub has_type_among : {N O : Type 0} → RecordType → List (Record N O) → Bool
+has_type_among rtype records = list_any (λ r. type_of r == rtype) records
 
 -- some record stands at a name
 abbrev pub has_owner : {N O : Type 0} → List (List ℕ) → List (Record N O) → Bool
@@ -48,7 +50,7 @@ is_one_class records = option_map_or (λ first. list_all (λ r. r.class == first
 -- records are in canonical order, and flags say whether one is a DNAME, and whether they have one class
 pub record IsSortedWith {N O : Type 0} (records : List (Record N O)) (has_dname in_one_class : Bool) : Type 0 where
   pub in_order : AreInOrder records
-  pub dname : has_dname ≡ has_type_among 39 records
+  pub dname : has_dname ≡ has_type_among Rtype.dname records
   pub one_class : in_one_class ≡ is_one_class records
 
 -- the record before a place
@@ -56,11 +58,11 @@ abbrev pub record_before : {N O : Type 0} → List (Record N O) → ℕ → Opti
 record_before records place = if place == 0 then None else slice_get records (place - 1)
 
 -- the host that a record names: in data of NS the first field, of MX the second, and of SRV the fourth
-abbrev pub host_field : ℕ → Option ℕ
-host_field type = if type == 2 then Some 0 else (if type == 15 then Some 1 else (if type == 33 then Some 3 else None))
+abbrev pub host_field : RecordType → Option ℕ
+host_field rtype = if rtype == Rtype.ns then Some 0 else (if rtype == Rtype.mx then Some 1 else (if rtype == Rtype.srv then Some 3 else None))
 
 abbrev pub host_octets : TypeData → Option (List ℕ)
-host_octets d = option_and_then (data_part d) (host_field d.code)
+host_octets d = option_and_then (data_part d) (host_field d.rtype)
 
 -- the root is no host: as a target it says that there is none (RFC 7505 section 3, RFC 2782)
 abbrev pub but_root : List (List ℕ) → Option (List (List ℕ))
@@ -72,14 +74,14 @@ abbrev pub host_of : {N O : Type 0} → Record N O → Option (List (List ℕ))
 host_of r = option_and_then but_root (option_map labels_in_octets (host_octets (data_of r)))
 
 -- the type that an RRSIG covers, in the first two octets of its data (RFC 4034 section 3.1.1)
-abbrev pub covered_type : List ℕ → ℕ
+abbrev pub covered_type : List ℕ → RecordType
 covered_type [] = 0
 covered_type (high ∷ []) = 0
 covered_type (high ∷ low ∷ others) = from_be_bytes w16 (high ∷ low ∷ [])
 
 -- RRSIGs are of a set with those that cover the same type, others with those of their type
-abbrev pub set_type : {N O : Type 0} → Record N O → ℕ
-set_type r = if type_of r == 46 then covered_type (data_of r).octets else 0
+abbrev pub set_type : {N O : Type 0} → Record N O → RecordType
+set_type r = if type_of r == Rtype.rrsig then covered_type (data_of r).octets else 0
 
 -- the records are of one set
 abbrev pub is_one_set : {N O : Type 0} → Record N O → Record N O → Bool

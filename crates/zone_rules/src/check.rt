@@ -23,7 +23,7 @@ use crate::present::has_set;
 use crate::refused::SortedSets;
 use crate::rule::{Finding, Rule};
 use crate::sorted::SortedRecords;
-use crate::types::{DNAME, DS, NS, SOA};
+use dns_kinds::RecordType;
 use dns_octets::AsOctets;
 use dns_resource::Record;
 use dns_wire::Name;
@@ -70,12 +70,12 @@ fn breaks_rule<Owner: AsOctets, Octets: AsOctets>(
     match rule {
         Rule::NoSoa | Rule::NoNs => false,
         Rule::Outside => is_outside_zone(origin, record),
-        Rule::TwoSoas => is_second(SOA, records, place, record),
+        Rule::TwoSoas => is_second(RecordType::SOA, records, place, record),
         Rule::NsAddress => is_ns_without_address(origin, records, refused, record),
         Rule::Cname => has_company(records, record),
-        Rule::TwoDnames => is_second(DNAME, records, place, record),
+        Rule::TwoDnames => is_second(RecordType::DNAME, records, place, record),
         Rule::BelowDname => is_under_dname(records, record),
-        Rule::DsAtApex => is_apex_record(DS, origin, record),
+        Rule::DsAtApex => is_apex_record(RecordType::DS, origin, record),
         Rule::WildcardNs => is_ns_at_wildcard(record),
         Rule::SoaNotApex => is_soa_elsewhere(origin, record),
         Rule::NsBesideDname => is_dname_at_delegation(origin, records, record),
@@ -171,13 +171,13 @@ fn add_lacking<Owner: AsOctets, Octets: AsOctets, A: Allocator>(
     ensures { OnOk result (found.new.items ≡ found.old.items ++ found_at_apex origin.now records.now refused.now) }
 {
     add_if(
-        !has_set(records, refused, origin, SOA),
+        !has_set(records, refused, origin, RecordType::SOA),
         Rule::NoSoa,
         None,
         found,
     )?;
     add_if(
-        !has_set(records, refused, origin, NS),
+        !has_set(records, refused, origin, RecordType::NS),
         Rule::NoNs,
         None,
         found,

@@ -6,7 +6,7 @@ ghost use Rattle.zone_rules.specs.Base32Texts.{are_whole_octets, base32_value, e
 ghost use Rattle.zone_rules.specs.Rules.{is_unhashed_nsec3};
 
 use crate::names::{first_label, view};
-use crate::types::NSEC3;
+use dns_kinds::RecordType;
 use dns_octets::AsOctets;
 use dns_resource::Record;
 
@@ -89,5 +89,5 @@ pub(crate) fn is_nsec3_without_hash<Owner: AsOctets, Octets: AsOctets>(
 ) -> bool
     ensures { result ≡ is_unhashed_nsec3 «record».now }
 {
-    record.data.code() == NSEC3 && !is_base32(first_label(&view(&record.owner)))
+    record.data.rtype() == RecordType::NSEC3 && !is_base32(first_label(&view(&record.owner)))
 }

@@ -2,6 +2,7 @@
 ghost use Rattle.std.specs.Prelude.{◌≡◌, ◌-◌, ◌∷◌, [], Some, IfSome, codes, length, true};
 ghost use Rattle.std.specs.List.{list_all};
 ghost use Rattle.std.specs.Option.{option_copied, option_map_or};
+ghost use Rattle.dns_kinds.specs.Rtype as Rtype;
 ghost use Rattle.dns_spelling.specs.NameSpelling.{IsWireName};
 ghost use Rattle.dns_resource.specs.Parts.{data_part};
 ghost use Rattle.zone_rules.specs.Above.{first_label_of, is_below, parent_of};
@@ -9,7 +10,7 @@ ghost use Rattle.zone_rules.specs.HostNames.{asks_for_host, has_hyphen_at, is_ad
 ghost use Rattle.zone_rules.specs.Zones.{type_of};
 
 use crate::names::{first_label, is_name_below, name_of, parent, view};
-use crate::types::{A, A6, AAAA, AFSDB, HTTPS, MX, NS, PTR, RT, SOA, SRV, SVCB, WKS};
+use dns_kinds::RecordType;
 use dns_octets::AsOctets;
 use dns_octets::lowered::same_octets;
 use dns_resource::{Data, Record};
@@ -155,27 +156,31 @@ fn is_reverse(name: &Name<&[u8]>) -> bool
 }
 
 /// Returns whether a type has an address of its owner.
-fn is_of_address(code: u16) -> bool
-    ensures { result ≡ is_address_type code }
+fn is_of_address(rtype: RecordType) -> bool
+    ensures { result ≡ is_address_type rtype }
 {
-    matches!(code, A | AAAA | WKS | A6)
+    matches!(
+        rtype,
+        RecordType::A | RecordType::AAAA | RecordType::WKS | RecordType::A6
+    )
 }
 
 /// Returns whether the owner of a record has to be a host name, and isn't.
 fn has_bad_owner<Owner: AsOctets, Octets: AsOctets>(record: &Record<Owner, Octets>) -> bool
     ensures { result ≡ is_bad_owner «record».now }
 {
-    let code = record.data.code();
-    if !(is_of_address(code) || code == MX) {
+    let rtype = record.data.rtype();
+    if !(is_of_address(rtype) || rtype == RecordType::MX) {
         return false;
     }
     let owner = view(&record.owner);
-    !is_owner_of_host(&owner) && !((code == A || code == AAAA) && is_catalog(&owner))
+    !is_owner_of_host(&owner)
+        && !((rtype == RecordType::A || rtype == RecordType::AAAA) && is_catalog(&owner))
 }
 
 /// Returns the octets of a field of data that is a name.
 fn name_part<Octets: AsOctets>(data: &Data<Octets>, field: usize) -> Option<&[u8]>
-    requires { IsNameField «data».now.code field }
+    requires { IsNameField «data».now.rtype field }
     ensures value { option_copied result ≡ data_part «data».now field }
     ensures name { IfSome result (λ name. IsWireName name.now) }
 {
@@ -185,13 +190,17 @@ fn name_part<Octets: AsOctets>(data: &Data<Octets>, field: usize) -> Option<&[u8
 }
 
 /// Returns which field of data of a type names a host.
-fn host_place(code: u16) -> Option<usize>
-    ensures { result ≡ target_field code }
+fn host_place(rtype: RecordType) -> Option<usize>
+    ensures { result ≡ target_field rtype }
 {
-    match code {
-        NS | SOA | PTR => Some(0),
-        MX | AFSDB | RT | SVCB | HTTPS => Some(1),
-        SRV => Some(3),
+    match rtype {
+        RecordType::NS | RecordType::SOA | RecordType::PTR => Some(0),
+        RecordType::MX
+        | RecordType::AFSDB
+        | RecordType::RT
+        | RecordType::SVCB
+        | RecordType::HTTPS => Some(1),
+        RecordType::SRV => Some(3),
         _ => None,
     }
 }
@@ -202,7 +211,7 @@ fn named_host<Owner: AsOctets, Octets: AsOctets>(
 ) -> Option<Name<&[u8]>>
     ensures { result ≡ name_in «record».now (target_field (type_of «record».now)) }
 {
-    let Some(field) = host_place(record.data.code()) else {
+    let Some(field) = host_place(record.data.rtype()) else {
         return None;
     };
     match name_part(&record.data, field) {
@@ -215,7 +224,7 @@ fn named_host<Owner: AsOctets, Octets: AsOctets>(
 fn has_bad_target<Owner: AsOctets, Octets: AsOctets>(record: &Record<Owner, Octets>) -> bool
     ensures { result ≡ is_bad_target «record».now }
 {
-    if record.data.code() == PTR && !is_reverse(&view(&record.owner)) {
+    if record.data.rtype() == RecordType::PTR && !is_reverse(&view(&record.owner)) {
         return false;
     }
     match named_host(record) {
@@ -226,7 +235,7 @@ fn has_bad_target<Owner: AsOctets, Octets: AsOctets>(record: &Record<Owner, Octe
 
 /// Returns the name of the mailbox in the data of an SOA.
 fn mailbox<Owner: AsOctets, Octets: AsOctets>(record: &Record<Owner, Octets>) -> Option<Name<&[u8]>>
-    requires { type_of «record».now ≡ 6 }
+    requires { type_of «record».now ≡ Rtype.soa }
     ensures { result ≡ name_in «record».now (Some 1) }
 {
     match name_part(&record.data, 1) {
@@ -239,7 +248,7 @@ fn mailbox<Owner: AsOctets, Octets: AsOctets>(record: &Record<Owner, Octets>) ->
 fn has_bad_mailbox<Owner: AsOctets, Octets: AsOctets>(record: &Record<Owner, Octets>) -> bool
     ensures { result ≡ is_bad_mailbox «record».now }
 {
-    if record.data.code() != SOA {
+    if record.data.rtype() != RecordType::SOA {
         return false;
     }
     match mailbox(record) {

@@ -16,13 +16,10 @@ use crate::present::{
 };
 use crate::refused::SortedSets;
 use crate::sorted::{SortedRecords, has_type};
-use crate::types::{CNAME, DNAME, MX, NS, SRV};
+use dns_kinds::{Class, RecordType};
 use dns_octets::AsOctets;
 use dns_resource::{Data, Record};
 use dns_wire::Name;
-
-/// The code of class IN.
-const IN: u16 = 1;
 
 /// The octets of the host that data of NS, MX or SRV names.
 fn host_part<Octets: AsOctets>(data: &Data<Octets>) -> Option<&[u8]>
@@ -31,10 +28,10 @@ fn host_part<Octets: AsOctets>(data: &Data<Octets>) -> Option<&[u8]>
 {
     // No effect at run time: the proof reads that the octets are data of the type.
     let _octets = data.as_slice();
-    match data.code() {
-        NS => data.part(0),
-        MX => data.part(1),
-        SRV => data.part(3),
+    match data.rtype() {
+        RecordType::NS => data.part(0),
+        RecordType::MX => data.part(1),
+        RecordType::SRV => data.part(3),
         _ => None,
     }
 }
@@ -68,7 +65,7 @@ pub fn is_cut<Owner: AsOctets, Octets: AsOctets>(
 ) -> bool
     ensures { result ≡ is_zone_cut origin.now records.now name.now }
 {
-    is_name_below(name, origin) && has_type(records, name, NS)
+    is_name_below(name, origin) && has_type(records, name, RecordType::NS)
 }
 
 /// Whether a record is a DNAME at a delegation.
@@ -79,7 +76,7 @@ pub(crate) fn is_dname_at_delegation<Owner: AsOctets, Octets: AsOctets>(
 ) -> bool
     ensures { result ≡ is_dname_at_cut origin.now records.now «record».now }
 {
-    record.data.code() == DNAME && is_cut(origin, records, &view(&record.owner))
+    record.data.rtype() == RecordType::DNAME && is_cut(origin, records, &view(&record.owner))
 }
 
 /// Whether a delegation is above a name.
@@ -129,8 +126,8 @@ fn is_alias_name<Owner: AsOctets, Octets: AsOctets>(
 ) -> bool
     ensures { result ≡ is_alias origin.now records.now refused.now name.now }
 {
-    has_set(records, refused, name, CNAME)
-        || (gets_by_wildcard(records, refused, name, CNAME)
+    has_set(records, refused, name, RecordType::CNAME)
+        || (gets_by_wildcard(records, refused, name, RecordType::CNAME)
             && is_of_zone(origin, records, refused, name))
 }
 
@@ -168,7 +165,7 @@ pub(crate) fn is_ns_without_address<Owner: AsOctets, Octets: AsOctets>(
 ) -> bool
     ensures { result ≡ lacks_ns_address origin.now records.now refused.now «record».now }
 {
-    if !is_apex_record(NS, origin, record) || record.class != IN {
+    if !is_apex_record(RecordType::NS, origin, record) || record.class != Class::IN {
         return false;
     }
     match host(record) {
@@ -199,7 +196,10 @@ pub(crate) fn is_ns_without_glue<Owner: AsOctets, Octets: AsOctets>(
     ensures { result ≡ lacks_glue origin.now records.now refused.now «record».now }
 {
     let owner = view(&record.owner);
-    if record.data.code() != NS || !is_name_below(&owner, origin) || record.class != IN {
+    if record.data.rtype() != RecordType::NS
+        || !is_name_below(&owner, origin)
+        || record.class != Class::IN
+    {
         return false;
     }
     match host(record) {
@@ -275,7 +275,7 @@ pub(crate) fn is_to_missing<Owner: AsOctets, Octets: AsOctets>(
 ) -> bool
     ensures { result ≡ names_missing origin.now records.now refused.now «record».now }
 {
-    if is_apex_record(NS, origin, record) || record.class != IN {
+    if is_apex_record(RecordType::NS, origin, record) || record.class != Class::IN {
         return false;
     }
     match host(record) {

@@ -7,7 +7,7 @@ use crate::names::{is_name_below, view};
 use crate::present::has_set;
 use crate::refused::SortedSets;
 use crate::sorted::SortedRecords;
-use crate::types::{CDNSKEY, CDS, CSYNC, DNSKEY, DS, NS, NSEC3PARAM, ZONEMD};
+use dns_kinds::RecordType;
 use dns_octets::AsOctets;
 use dns_resource::Record;
 use dns_wire::Name;
@@ -17,9 +17,9 @@ fn is_deletion<Owner: AsOctets, Octets: AsOctets>(record: &Record<Owner, Octets>
     ensures { result ≡ is_delete_request «record».now }
 {
     let octets = record.data.as_slice();
-    match record.data.code() {
-        CDS => matches!(octets, [0, 0, 0, 0, 0]),
-        CDNSKEY => matches!(octets, [0, 0, 3, 0, 0]),
+    match record.data.rtype() {
+        RecordType::CDS => matches!(octets, [0, 0, 0, 0, 0]),
+        RecordType::CDNSKEY => matches!(octets, [0, 0, 3, 0, 0]),
         _ => false,
     }
 }
@@ -33,9 +33,9 @@ pub(crate) fn is_without_key<Owner: AsOctets, Octets: AsOctets>(
 ) -> bool
     ensures { result ≡ lacks_key origin.now records.now refused.now «record».now }
 {
-    matches!(record.data.code(), CDS | CDNSKEY)
+    matches!(record.data.rtype(), RecordType::CDS | RecordType::CDNSKEY)
         && !is_deletion(record)
-        && !has_set(records, refused, origin, DNSKEY)
+        && !has_set(records, refused, origin, RecordType::DNSKEY)
 }
 
 /// Whether a record is a DS below the apex, and no NS is at its owner.
@@ -47,18 +47,25 @@ pub(crate) fn is_ds_without_ns<Owner: AsOctets, Octets: AsOctets>(
 ) -> bool
     ensures { result ≡ lacks_ns origin.now records.now refused.now «record».now }
 {
-    if record.data.code() != DS {
+    if record.data.rtype() != RecordType::DS {
         return false;
     }
     let owner = view(&record.owner);
-    is_name_below(&owner, origin) && !has_set(records, refused, &owner, NS)
+    is_name_below(&owner, origin) && !has_set(records, refused, &owner, RecordType::NS)
 }
 
 /// Whether records of a type belong at an apex.
-fn is_for_apex(code: u16) -> bool
-    ensures { result ≡ is_apex_type code }
+fn is_for_apex(rtype: RecordType) -> bool
+    ensures { result ≡ is_apex_type rtype }
 {
-    matches!(code, NSEC3PARAM | CDS | CDNSKEY | CSYNC | ZONEMD)
+    matches!(
+        rtype,
+        RecordType::NSEC3PARAM
+            | RecordType::CDS
+            | RecordType::CDNSKEY
+            | RecordType::CSYNC
+            | RecordType::ZONEMD
+    )
 }
 
 /// Whether a record is below the apex and belongs there.
@@ -70,9 +77,10 @@ pub(crate) fn is_not_at_apex<Owner: AsOctets, Octets: AsOctets>(
 ) -> bool
     ensures { result ≡ is_below_its_apex origin.now records.now refused.now «record».now }
 {
-    let code = record.data.code();
+    let rtype = record.data.rtype();
     let owner = view(&record.owner);
-    (is_for_apex(code) || (code == DNSKEY && !has_set(records, refused, &owner, NS)))
+    (is_for_apex(rtype)
+        || (rtype == RecordType::DNSKEY && !has_set(records, refused, &owner, RecordType::NS)))
         && is_name_below(&owner, origin)
 }
 
@@ -92,7 +100,7 @@ pub(crate) fn is_of_other_protocol<Owner: AsOctets, Octets: AsOctets>(
 ) -> bool
     ensures { result ≡ has_other_protocol «record».now }
 {
-    if record.data.code() != DNSKEY {
+    if record.data.rtype() != RecordType::DNSKEY {
         return false;
     }
     match octet_at(record, 2) {
@@ -120,9 +128,9 @@ pub(crate) fn is_without_algorithm<Owner: AsOctets, Octets: AsOctets>(
 ) -> bool
     ensures { result ≡ has_no_algorithm «record».now }
 {
-    match record.data.code() {
-        DNSKEY => is_zero_at(record, 3),
-        DS => is_zero_at(record, 2),
+    match record.data.rtype() {
+        RecordType::DNSKEY => is_zero_at(record, 3),
+        RecordType::DS => is_zero_at(record, 2),
         _ => false,
     }
 }

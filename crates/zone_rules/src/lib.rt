@@ -15,7 +15,6 @@ pub mod refused;
 pub mod rule;
 mod search;
 pub mod sorted;
-mod types;
 
 pub use check::check_zone;
 pub use refused::{RrsetName, SortedSets};

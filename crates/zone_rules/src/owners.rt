@@ -1,6 +1,7 @@
 //! Rules for a record by its owner, and by what stands there.
 ghost use Rattle.std.specs.Prelude.{◌≡◌};
 ghost use Rattle.std.specs.List.{list_any};
+ghost use Rattle.dns_kinds.specs.Rtype as Rtype;
 ghost use Rattle.zone_rules.specs.Above.{names_above};
 ghost use Rattle.zone_rules.specs.Rules.{is_alias_in_company, is_record_at_apex, is_below_dname, is_beside_alias, is_of_hashed_chain, is_out_of_zone, is_soa_below_apex, is_wildcard_ns};
 ghost use Rattle.zone_rules.specs.Zones.{has_type_at};
@@ -8,7 +9,7 @@ ghost use Rattle.zone_rules.specs.Zones.{has_type_at};
 use crate::names::{is_name_below, is_name_within, is_same, is_wildcard_name, view};
 use crate::pairs::{are_equal, have_one_owner, set_type_of};
 use crate::sorted::{SortedRecords, has_type, owned_by};
-use crate::types::{CNAME, DNAME, NS, NSEC, NSEC3, RRSIG, SOA};
+use dns_kinds::RecordType;
 use dns_octets::AsOctets;
 use dns_resource::Record;
 use dns_wire::Name;
@@ -25,13 +26,13 @@ pub(crate) fn is_outside_zone<Owner: AsOctets, Octets: AsOctets>(
 
 /// Whether a record has a type and stands at the apex.
 pub(crate) fn is_apex_record<Owner: AsOctets, Octets: AsOctets>(
-    code: u16,
+    rtype: RecordType,
     origin: &Name<&[u8]>,
     record: &Record<Owner, Octets>,
 ) -> bool
-    ensures { result ≡ is_record_at_apex code origin.now «record».now }
+    ensures { result ≡ is_record_at_apex rtype origin.now «record».now }
 {
-    record.data.code() == code && is_same(&view(&record.owner), origin)
+    record.data.rtype() == rtype && is_same(&view(&record.owner), origin)
 }
 
 /// Whether a record stands beside an alias and must not.
@@ -42,8 +43,8 @@ fn is_beside<Owner: AsOctets, Octets: AsOctets>(
     ensures { result ≡ is_beside_alias alias.now «record».now }
 {
     have_one_owner(record, alias)
-        && record.data.code() != RRSIG
-        && record.data.code() != NSEC
+        && record.data.rtype() != RecordType::RRSIG
+        && record.data.rtype() != RecordType::NSEC
         && !are_equal(alias, record)
 }
 
@@ -54,7 +55,7 @@ pub(crate) fn has_company<Owner: AsOctets, Octets: AsOctets>(
 ) -> bool
     ensures { result ≡ is_alias_in_company records.now «record».now }
 {
-    record.data.code() == CNAME
+    record.data.rtype() == RecordType::CNAME
         && owned_by(records, &view(&record.owner))
             .iter()
             .any(|other| is_beside(record, other))
@@ -66,10 +67,11 @@ fn is_below_some_dname<Owner: AsOctets, Octets: AsOctets>(
     records: &SortedRecords<'_, Owner, Octets>,
     name: &Name<&[u8]>,
 ) -> bool
-    ensures { result ≡ list_any (λ above. has_type_at 39 above records.now) (names_above name.now) }
+    ensures { result ≡ list_any (λ above. has_type_at Rtype.dname above records.now) (names_above name.now) }
 {
     match records.closest_before(name) {
-        Some(above) => has_type(records, &above, DNAME) || is_below_some_dname(records, &above),
+        Some(above) => has_type(records, &above, RecordType::DNAME)
+            || is_below_some_dname(records, &above),
         None => false,
     }
 }
@@ -79,7 +81,7 @@ pub(crate) fn has_dname_above<Owner: AsOctets, Octets: AsOctets>(
     records: &SortedRecords<'_, Owner, Octets>,
     name: &Name<&[u8]>,
 ) -> bool
-    ensures { result ≡ list_any (λ above. has_type_at 39 above records.now) (names_above name.now) }
+    ensures { result ≡ list_any (λ above. has_type_at Rtype.dname above records.now) (names_above name.now) }
 {
     records.has_dname() && is_below_some_dname(records, name)
 }
@@ -88,7 +90,7 @@ pub(crate) fn has_dname_above<Owner: AsOctets, Octets: AsOctets>(
 fn is_of_hashed_chain<Owner: AsOctets, Octets: AsOctets>(record: &Record<Owner, Octets>) -> bool
     ensures { result ≡ is_of_hashed_chain «record».now }
 {
-    record.data.code() == NSEC3 || set_type_of(record) == NSEC3
+    record.data.rtype() == RecordType::NSEC3 || set_type_of(record) == RecordType::NSEC3
 }
 
 /// Whether a record is below a DNAME and must not.
@@ -108,7 +110,7 @@ pub(crate) fn is_soa_elsewhere<Owner: AsOctets, Octets: AsOctets>(
 ) -> bool
     ensures { result ≡ is_soa_below_apex origin.now «record».now }
 {
-    record.data.code() == SOA && is_name_below(&view(&record.owner), origin)
+    record.data.rtype() == RecordType::SOA && is_name_below(&view(&record.owner), origin)
 }
 
 /// Whether a record is an NS at a wildcard.
@@ -117,5 +119,5 @@ pub(crate) fn is_ns_at_wildcard<Owner: AsOctets, Octets: AsOctets>(
 ) -> bool
     ensures { result ≡ is_wildcard_ns «record».now }
 {
-    record.data.code() == NS && is_wildcard_name(&view(&record.owner))
+    record.data.rtype() == RecordType::NS && is_wildcard_name(&view(&record.owner))
 }

@@ -8,7 +8,7 @@ ghost use Rattle.zone_rules.specs.Zones.{covered_type, is_equal_record, is_one_s
 use crate::names::{is_same, view};
 use crate::search::item_before;
 use crate::sorted::SortedRecords;
-use crate::types::RRSIG;
+use dns_kinds::RecordType;
 use dns_octets::AsOctets;
 use dns_resource::Record;
 
@@ -23,21 +23,21 @@ pub fn before<'a, Owner: AsOctets, Octets: AsOctets>(
 }
 
 /// The type that an RRSIG with this data covers.
-fn covered(octets: &[u8]) -> u16
+fn covered(octets: &[u8]) -> RecordType
     ensures { result ≡ covered_type octets.now }
 {
     match octets {
-        [high, low, ..] => u16::from_be_bytes([*high, *low]),
-        _ => 0,
+        [high, low, ..] => RecordType(u16::from_be_bytes([*high, *low])),
+        _ => RecordType(0),
     }
 }
 
-/// The type by which a record is of a set: of an RRSIG the type that it covers.
-pub fn set_type_of<Owner: AsOctets, Octets: AsOctets>(record: &Record<Owner, Octets>) -> u16
+/// The type by which a record is of a set: of an RRSIG the type that it covers, and else type 0.
+pub fn set_type_of<Owner: AsOctets, Octets: AsOctets>(record: &Record<Owner, Octets>) -> RecordType
     ensures { result ≡ set_type «record».now }
 {
-    if record.data.code() != RRSIG {
-        return 0;
+    if record.data.rtype() != RecordType::RRSIG {
+        return RecordType(0);
     }
     covered(record.data.as_slice())
 }
@@ -71,23 +71,23 @@ pub fn are_one_set<Owner: AsOctets, Octets: AsOctets>(
 {
     have_one_owner(left, right)
         && left.class == right.class
-        && left.data.code() == right.data.code()
+        && left.data.rtype() == right.data.rtype()
         && set_type_of(left) == set_type_of(right)
 }
 
 /// Whether a record and the one before it are two of a type at one owner, and differ.
 pub(crate) fn is_second<Owner: AsOctets, Octets: AsOctets>(
-    code: u16,
+    rtype: RecordType,
     records: &SortedRecords<'_, Owner, Octets>,
     place: usize,
     record: &Record<Owner, Octets>,
 ) -> bool
-    ensures { result ≡ follows (are_two_of code) records.now place «record».now }
+    ensures { result ≡ follows (are_two_of rtype) records.now place «record».now }
 {
     match before(records, place) {
         Some(earlier) => {
-            earlier.data.code() == code
-                && record.data.code() == code
+            earlier.data.rtype() == rtype
+                && record.data.rtype() == rtype
                 && have_one_owner(earlier, record)
                 && !are_equal(earlier, record)
         }

@@ -1,6 +1,7 @@
 //! What is in a zone: records, and RRsets of which an entry was refused.
 ghost use Rattle.std.specs.Prelude.{◌≡◌, ◌≤◌, ◌||◌, ◌∷◌, [], length};
 ghost use Rattle.std.specs.List.{find, list_any};
+ghost use Rattle.dns_kinds.specs.Rtype as Rtype;
 ghost use Rattle.dns_wire.specs.Wire.{wire_length};
 ghost use Rattle.zone_rules.specs.Above.{names_above};
 ghost use Rattle.zone_rules.specs.Present.{closest_dname, gives_address, has_address_in, is_cut_in, is_delegated_in, is_existing, is_listed, is_present, is_synthesized, rrset_of_record};
@@ -10,8 +11,8 @@ use crate::names::{is_name_below, name_of, octets_of};
 use crate::refused::{SortedSets, lists_set};
 use crate::search::longer;
 use crate::sorted::{SortedRecords, has_type};
-use crate::types::{A, AAAA, DNAME, NS};
 use arrayvec::ArrayVec;
+use dns_kinds::RecordType;
 use dns_octets::AsOctets;
 use dns_wire::Name;
 
@@ -20,11 +21,11 @@ pub(crate) fn has_set<Owner: AsOctets, Octets: AsOctets>(
     records: &SortedRecords<'_, Owner, Octets>,
     refused: &SortedSets<'_>,
     name: &Name<&[u8]>,
-    code: u16,
+    rtype: RecordType,
 ) -> bool
-    ensures { result ≡ is_present code name.now records.now refused.now }
+    ensures { result ≡ is_present rtype name.now records.now refused.now }
 {
-    has_type(records, name, code) || lists_set(refused, name, code)
+    has_type(records, name, rtype) || lists_set(refused, name, rtype)
 }
 
 /// Returns whether a name has A or AAAA.
@@ -35,7 +36,8 @@ pub(crate) fn has_address_set<Owner: AsOctets, Octets: AsOctets>(
 ) -> bool
     ensures { result ≡ has_address_in name.now records.now refused.now }
 {
-    has_set(records, refused, name, A) || has_set(records, refused, name, AAAA)
+    has_set(records, refused, name, RecordType::A)
+        || has_set(records, refused, name, RecordType::AAAA)
 }
 
 /// Returns the closest name at or above this one that exists: it is an owner, or has owners below it
@@ -67,13 +69,13 @@ fn has_wildcard<Owner: AsOctets, Octets: AsOctets>(
     records: &SortedRecords<'_, Owner, Octets>,
     refused: &SortedSets<'_>,
     name: &Name<&[u8]>,
-    code: u16,
+    rtype: RecordType,
 ) -> bool
     requires { wire_length name.now ≤ 253 }
-    ensures { result ≡ is_present code ((42 ∷ []) ∷ name.now) records.now refused.now }
+    ensures { result ≡ is_present rtype ((42 ∷ []) ∷ name.now) records.now refused.now }
 {
     let octets = wildcard_octets(octets_of(name));
-    has_set(records, refused, &name_of(octets.as_slice()), code)
+    has_set(records, refused, &name_of(octets.as_slice()), rtype)
 }
 
 /// Returns whether a name doesn't exist, and gets a type from the wildcard below the closest name
@@ -83,15 +85,15 @@ pub(crate) fn gets_by_wildcard<Owner: AsOctets, Octets: AsOctets>(
     records: &SortedRecords<'_, Owner, Octets>,
     refused: &SortedSets<'_>,
     name: &Name<&[u8]>,
-    code: u16,
+    rtype: RecordType,
 ) -> bool
-    ensures { result ≡ is_synthesized code name.now records.now refused.now }
+    ensures { result ≡ is_synthesized rtype name.now records.now refused.now }
 {
     // No effect at run time: the proof reads that the name has at most 255 octets.
     let _octets = octets_of(name);
     match closest_existing(records, refused, name) {
         Some(closest) => {
-            closest.len() < name.len() && has_wildcard(records, refused, &closest, code)
+            closest.len() < name.len() && has_wildcard(records, refused, &closest, rtype)
         }
         None => false,
     }
@@ -106,8 +108,8 @@ pub(crate) fn gets_address<Owner: AsOctets, Octets: AsOctets>(
     ensures { result ≡ gives_address name.now records.now refused.now }
 {
     has_address_set(records, refused, name)
-        || gets_by_wildcard(records, refused, name, A)
-        || gets_by_wildcard(records, refused, name, AAAA)
+        || gets_by_wildcard(records, refused, name, RecordType::A)
+        || gets_by_wildcard(records, refused, name, RecordType::AAAA)
 }
 
 /// Returns whether a name is a delegation.
@@ -119,7 +121,7 @@ fn is_cut_name<Owner: AsOctets, Octets: AsOctets>(
 ) -> bool
     ensures { result ≡ is_cut_in origin.now records.now refused.now name.now }
 {
-    is_name_below(name, origin) && has_set(records, refused, name, NS)
+    is_name_below(name, origin) && has_set(records, refused, name, RecordType::NS)
 }
 
 /// Returns the closest name above this one that is at or above an owner before it. Between them no
@@ -168,11 +170,11 @@ pub(crate) fn is_delegated_name<Owner: AsOctets, Octets: AsOctets>(
 /// Returns whether a DNAME of which an entry was refused is above a name.
 #[tactic(auto, using(crate::proofs::Neighbours::listed_none, crate::proofs::Neighbours::found_fewer))]
 pub(crate) fn is_under_refused_dname(refused: &SortedSets<'_>, name: &Name<&[u8]>) -> bool
-    ensures { result ≡ list_any (λ above. is_listed 39 above refused.now) (names_above name.now) }
+    ensures { result ≡ list_any (λ above. is_listed Rtype.dname above refused.now) (names_above name.now) }
 {
     match refused.closest_before(name) {
         Some(above) => {
-            lists_set(refused, &above, DNAME) || is_under_refused_dname(refused, &above)
+            lists_set(refused, &above, RecordType::DNAME) || is_under_refused_dname(refused, &above)
         }
         None => false,
     }
@@ -190,7 +192,7 @@ pub(crate) fn dname_above<'a, Owner: AsOctets, Octets: AsOctets>(
     let Some(above) = owner_above(records, refused, name) else {
         return None;
     };
-    if has_set(records, refused, &above, DNAME) {
+    if has_set(records, refused, &above, RecordType::DNAME) {
         return Some(above);
     }
     dname_above(records, refused, &above)

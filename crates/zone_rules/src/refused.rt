@@ -7,15 +7,16 @@ ghost use Rattle.zone_rules.specs.Searches.{is_above_earlier};
 
 use crate::names::{order_of, view};
 use crate::search::{OfRrset, closest, closest_before, finds};
+use dns_kinds::RecordType;
 use dns_wire::Name;
 use std::cmp::Ordering;
 use std::marker::Model;
 
-/// An RRset by its owner and the code of its type.
+/// An RRset by its owner and its type.
 #[derive(Drop)]
 pub struct RrsetName<'a> {
     pub owner: Name<&'a [u8]>,
-    pub code: u16,
+    pub rtype: RecordType,
 }
 
 impl<'a> RrsetName<'a> {
@@ -23,7 +24,7 @@ impl<'a> RrsetName<'a> {
     pub fn compare(&self, other: &RrsetName<'_>) -> Ordering
         ensures { result ≡ set_order self.now other.now }
     {
-        order_of(&self.owner, &other.owner).then(self.code.cmp(&other.code))
+        order_of(&self.owner, &other.owner).then(self.rtype.0.cmp(&other.rtype.0))
     }
 }
 
@@ -102,8 +103,8 @@ impl<'a> SortedSets<'a> {
 }
 
 /// Returns whether an RRset of a type at a name is listed.
-pub(crate) fn lists_set(sets: &SortedSets<'_>, name: &Name<&[u8]>, code: u16) -> bool
-    ensures { result ≡ is_listed code name.now sets.now }
+pub(crate) fn lists_set(sets: &SortedSets<'_>, name: &Name<&[u8]>, rtype: RecordType) -> bool
+    ensures { result ≡ is_listed rtype name.now sets.now }
 {
-    finds(sets.as_slice(), name, code)
+    finds(sets.as_slice(), name, rtype)
 }

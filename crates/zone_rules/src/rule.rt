@@ -1,6 +1,6 @@
 //! The rules, and what is found of them.
 ghost use Rattle.std.specs.Prelude.{◌≡◌};
-ghost use Rattle.zone_rules.specs.RuleNames.{rule_name, is_fault_rule};
+ghost use Rattle.zone_rules.specs.RuleNames.{rule_name};
 
 /// A rule that a zone, or one of its records, breaks.
 ///
@@ -105,19 +105,6 @@ impl Rule {
             Rule::KeyAlgorithm => "key-algorithm",
             Rule::TtlDiffers => "ttl-differs",
             Rule::Duplicate => "duplicate",
-        }
-    }
-
-    /// Whether the rule is a fault. Else it is a warning.
-    pub fn is_fault(&self) -> bool
-        ensures { result ≡ is_fault_rule self.now }
-    {
-        match self {
-            Rule::NoSoa | Rule::NoNs | Rule::Outside | Rule::TwoSoas | Rule::NsAddress => true,
-            Rule::Cname | Rule::TwoDnames | Rule::BelowDname | Rule::DsAtApex => true,
-            Rule::WildcardNs | Rule::SoaNotApex => true,
-            Rule::NsBesideDname | Rule::Nsec3Owner => true,
-            _ => false,
         }
     }
 }

@@ -11,6 +11,7 @@ ghost use Rattle.zone_rules.specs.Searches.{AreOwnersInOrder, AreRrsetsInOrder, 
 
 use crate::names::{octets_of, shared_name, view};
 use crate::refused::RrsetName;
+use dns_kinds::RecordType;
 use dns_wire::Name;
 use std::cmp::Ordering;
 
@@ -33,13 +34,13 @@ pub(crate) trait OfRrset {
 }
 
 /// Returns whether an item of a type is at a name.
-pub(crate) fn finds<T: OfRrset>(items: &[T], name: &Name<&[u8]>, code: u16) -> bool
+pub(crate) fn finds<T: OfRrset>(items: &[T], name: &Name<&[u8]>, rtype: RecordType) -> bool
     requires { AreRrsetsInOrder T.rrset items.now }
-    ensures { result ≡ list_any (λ x. same_name (T.rrset x).owner name.now && (T.rrset x).code == code) items.now }
+    ensures { result ≡ list_any (λ x. same_name (T.rrset x).owner name.now && (T.rrset x).rtype == rtype) items.now }
 {
     let wanted = RrsetName {
         owner: view(name),
-        code,
+        rtype,
     };
     let place = items.partition_point(|item| item.compare_to(&wanted).is_lt());
     match items.get(place) {
@@ -56,7 +57,7 @@ fn count_before<T: OfRrset>(items: &[T], name: &Name<&[u8]>) -> usize
 {
     let first = RrsetName {
         owner: view(name),
-        code: 0,
+        rtype: RecordType(0),
     };
     items.partition_point(|item| item.compare_to(&first).is_lt())
 }

@@ -3,6 +3,7 @@ ghost use Rattle.std.specs.Prelude.{◌≡◌, ◌≤◌, ◌↔◌, ◌∷◌, 
 ghost use Rattle.std.specs.List.{find, list_all};
 ghost use Rattle.std.specs.List.Sorted.{IsPartitionPoint, IsPartitionedBy};
 ghost use Rattle.std.specs.Ordering.{is_le};
+ghost use Rattle.dns_kinds.specs.Rtype as Rtype;
 ghost use Rattle.dns_wire.specs.Order.{same_name};
 ghost use Rattle.dns_canonical.specs.Names.{name_order};
 ghost use Rattle.zone_rules.specs.Above.{names_above};
@@ -13,7 +14,7 @@ ghost use Rattle.zone_rules.specs.Zones.{AreInOrder, has_owner_within, has_type_
 use crate::names::{order_of, view};
 use crate::refused::RrsetName;
 use crate::search::{OfRrset, closest, closest_before, finds};
-use crate::types::DNAME;
+use dns_kinds::{Class, RecordType};
 use dns_octets::AsOctets;
 use dns_resource::Record;
 use dns_wire::Name;
@@ -23,7 +24,7 @@ use std::marker::Model;
 /// Returns whether records have a class.
 fn are_of_class<Owner: AsOctets, Octets: AsOctets>(
     records: &[Record<Owner, Octets>],
-    class: u16,
+    class: Class,
 ) -> bool
     ensures { result ≡ list_all (λ r. r.class == class) records.now }
 {
@@ -61,7 +62,7 @@ impl<Owner: AsOctets, Octets: AsOctets> OfRrset for Record<Owner, Octets> {
     }
 
     fn compare_to(&self, other: &RrsetName<'_>) -> Ordering {
-        order_of(&self.owner, &other.owner).then(self.data.code().cmp(&other.code))
+        order_of(&self.owner, &other.owner).then(self.data.rtype().0.cmp(&other.rtype.0))
     }
 }
 
@@ -86,7 +87,9 @@ impl<'a, Owner: AsOctets, Octets: AsOctets> SortedRecords<'a, Owner, Octets> {
         if !records.is_sorted_by(|left, right| left.compare(right).is_le()) {
             return None;
         }
-        let has_dname = records.iter().any(|record| record.data.code() == DNAME);
+        let has_dname = records
+            .iter()
+            .any(|record| record.data.rtype() == RecordType::DNAME);
         Some(SortedRecords {
             records,
             has_dname,
@@ -96,7 +99,7 @@ impl<'a, Owner: AsOctets, Octets: AsOctets> SortedRecords<'a, Owner, Octets> {
 
     /// Returns whether one of the records is a DNAME, as `new` found.
     pub(crate) fn has_dname(&self) -> bool
-        ensures { result ≡ has_type_among 39 self.now }
+        ensures { result ≡ has_type_among Rtype.dname self.now }
     {
         self.has_dname
     }
@@ -174,14 +177,14 @@ pub fn owned_by<'a, Owner: AsOctets, Octets: AsOctets>(
 pub fn has_type<Owner: AsOctets, Octets: AsOctets>(
     records: &SortedRecords<'_, Owner, Octets>,
     name: &Name<&[u8]>,
-    code: u16,
+    rtype: RecordType,
 ) -> bool
-    ensures { result ≡ has_type_at code name.now records.now }
+    ensures { result ≡ has_type_at rtype name.now records.now }
 {
     if records.is_one_class() {
-        return finds(records.as_slice(), name, code);
+        return finds(records.as_slice(), name, rtype);
     }
     owned_by(records, name)
         .iter()
-        .any(|record| record.data.code() == code)
+        .any(|record| record.data.rtype() == rtype)
 }

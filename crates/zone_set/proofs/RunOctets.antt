@@ -69,15 +69,15 @@ module _ {N O M P : Type 0} where
   run_octets_same a b xs ys p q few few' h =
       let ttls =
       number32_same a.ttl b.ttl
-      (to_be_bytes w16 a.class ++ (to_be_bytes w16 (data_of a).code ++ (behind_length (wire a.owner) ++ (behind_length (data_of a).octets ++ xs))))
-      (to_be_bytes w16 b.class ++ (to_be_bytes w16 (data_of b).code ++ (behind_length (wire b.owner) ++ (behind_length (data_of b).octets ++ ys)))) few few'
-      (sym (five (to_be_bytes w32 a.ttl) (to_be_bytes w16 a.class) (to_be_bytes w16 (data_of a).code) (behind_length (wire a.owner)) (behind_length (data_of a).octets) xs) ∙ h
-      ∙ five (to_be_bytes w32 b.ttl) (to_be_bytes w16 b.class) (to_be_bytes w16 (data_of b).code) (behind_length (wire b.owner)) (behind_length (data_of b).octets) ys) in
+      (to_be_bytes w16 a.class ++ (to_be_bytes w16 (data_of a).rtype ++ (behind_length (wire a.owner) ++ (behind_length (data_of a).octets ++ xs))))
+      (to_be_bytes w16 b.class ++ (to_be_bytes w16 (data_of b).rtype ++ (behind_length (wire b.owner) ++ (behind_length (data_of b).octets ++ ys)))) few few'
+      (sym (five (to_be_bytes w32 a.ttl) (to_be_bytes w16 a.class) (to_be_bytes w16 (data_of a).rtype) (behind_length (wire a.owner)) (behind_length (data_of a).octets) xs) ∙ h
+      ∙ five (to_be_bytes w32 b.ttl) (to_be_bytes w16 b.class) (to_be_bytes w16 (data_of b).rtype) (behind_length (wire b.owner)) (behind_length (data_of b).octets) ys) in
       let classes =
-      number16_same a.class b.class (to_be_bytes w16 (data_of a).code ++ (behind_length (wire a.owner) ++ (behind_length (data_of a).octets ++ xs)))
-      (to_be_bytes w16 (data_of b).code ++ (behind_length (wire b.owner) ++ (behind_length (data_of b).octets ++ ys))) p.class q.class ttls.1 in
+      number16_same a.class b.class (to_be_bytes w16 (data_of a).rtype ++ (behind_length (wire a.owner) ++ (behind_length (data_of a).octets ++ xs)))
+      (to_be_bytes w16 (data_of b).rtype ++ (behind_length (wire b.owner) ++ (behind_length (data_of b).octets ++ ys))) p.class q.class ttls.1 in
       let codes =
-      number16_same (data_of a).code (data_of b).code (behind_length (wire a.owner) ++ (behind_length (data_of a).octets ++ xs))
+      number16_same (data_of a).rtype (data_of b).rtype (behind_length (wire a.owner) ++ (behind_length (data_of a).octets ++ xs))
       (behind_length (wire b.owner) ++ (behind_length (data_of b).octets ++ ys)) p.type q.type classes.1 in
       let owners =
       counted_same (wire a.owner) (wire b.owner) (behind_length (data_of a).octets ++ xs) (behind_length (data_of b).octets ++ ys)
@@ -87,7 +87,7 @@ module _ {N O M P : Type 0} where
           owner = wire_same a.owner b.owner owners.0;
           ttl = ttls.0;
           class = classes.0;
-          code = codes.0;
+          rtype = codes.0;
           octets = octets.0;
         },
         octets.1,

@@ -1,6 +1,7 @@
 -- The serial number in data of SOA.
 use Rattle.std.proofs.Common.{ℕ, ◌≡◌, Some, List, [], ◌∷◌, refl, sym, ap, subst, ◌∙◌}
 use Rattle.std.specs.Prelude.{codes}
+use Rattle.dns_kinds.specs.Rtype as Rtype
 use Rattle.dns_fields.specs.Words.{AreOctetsOf}
 use Rattle.dns_fields.specs.declared.field.Field.TheVariants.{Interval, Name, Number32}
 use Rattle.dns_data.specs.ByType.{HasShape, shape_of_code}
@@ -15,10 +16,10 @@ use Rattle.dns_resource.proofs.DataBack.{shape_with}
 
 abbrev soa_shape : TypeShape
 soa_shape =
-    type_shape 6 (Name ∷ Name ∷ Number32 ∷ Interval ∷ Interval ∷ Interval ∷ Interval ∷ []) Nothing Any
+    type_shape Rtype.soa (Name ∷ Name ∷ Number32 ∷ Interval ∷ Interval ∷ Interval ∷ Interval ∷ []) Nothing Any
     (codes "primary server" ∷ codes "mailbox" ∷ codes "serial" ∷ codes "refresh" ∷ codes "retry" ∷ codes "expire" ∷ codes "minimum" ∷ [])
 
-soa_found : shape_of_code 6 ≡ Some soa_shape
+soa_found : shape_of_code Rtype.soa ≡ Some soa_shape
 unfolding type_shapes
 soa_found = refl
 
@@ -28,7 +29,7 @@ record HasSerial (d : TypeData) : Type 0 where
   pub four : AreOctetsOf 4 serial
   pub third : data_part d 2 ≡ Some serial
 
-soa_parts_of : (octets : List ℕ) → IsTypeData 6 octets → HasSerial (record { code = 6; octets = octets })
+soa_parts_of : (octets : List ℕ) → IsTypeData Rtype.soa octets → HasSerial (record { rtype = Rtype.soa; octets = octets })
 soa_parts_of octets is =
     let own = is.shaped (shape_with soa_shape) (subst (λ f. HasShape f (shape_with soa_shape)) (sym soa_found) (refl, refl, refl)) in
     let host = own.fields in
@@ -45,12 +46,12 @@ soa_parts_of octets is =
       third = ap (λ f. field_part (fields_of_shape f) 2 octets) soa_found ∙ ap (field_part behind_host 1) cut.1 ∙ ap (field_part behind_mailbox 0) mail_cut.1 ∙ ap Some number_cut.0;
     }
 
-soa_parts : (d : TypeData) → d.code ≡ 6 → IsTypeData d.code d.octets → HasSerial d
-soa_parts d same is = subst (λ c. HasSerial (record { code = c; octets = d.octets })) (sym same) (soa_parts_of d.octets (subst (λ c. IsTypeData c d.octets) same is))
+soa_parts : (d : TypeData) → d.rtype ≡ Rtype.soa → IsTypeData d.rtype d.octets → HasSerial d
+soa_parts d same is = subst (λ c. HasSerial (record { rtype = c; octets = d.octets })) (sym same) (soa_parts_of d.octets (subst (λ c. IsTypeData c d.octets) same is))
 
 some_same : (x y : List ℕ) → Some x ≡ Some y → x ≡ y
 some_same x y h = cc
 
 -- what is found there are four octets
-pub serial_four : (d : TypeData) (octets : List ℕ) → d.code ≡ 6 → IsTypeData d.code d.octets → data_part d 2 ≡ Some octets → AreOctetsOf 4 octets
+pub serial_four : (d : TypeData) (octets : List ℕ) → d.rtype ≡ Rtype.soa → IsTypeData d.rtype d.octets → data_part d 2 ≡ Some octets → AreOctetsOf 4 octets
 serial_four d octets same is found = let parts = soa_parts d same is in subst (AreOctetsOf 4) (some_same parts.serial octets (sym parts.third ∙ found)) parts.four

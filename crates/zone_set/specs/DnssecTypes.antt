@@ -1,6 +1,8 @@
 -- The types of records that the signing of a zone adds.
-use Rattle.std.specs.Prelude.{ℕ, List, [], ◌∷◌}
+use Rattle.std.specs.Prelude.{List, [], ◌∷◌}
+use Rattle.dns_kinds.specs.Rtype as Rtype
+use Rattle.dns_kinds.specs.declared.types.RecordType.{RecordType}
 
--- RRSIG, NSEC and DNSKEY (RFC 4034), NSEC3 and NSEC3PARAM (RFC 5155)
-abbrev pub dnssec_types : List ℕ
-dnssec_types = 46 ∷ 47 ∷ 48 ∷ 50 ∷ 51 ∷ []
+-- those of RFC 4034 but DS, and those of RFC 5155
+abbrev pub dnssec_types : List RecordType
+dnssec_types = Rtype.rrsig ∷ Rtype.nsec ∷ Rtype.dnskey ∷ Rtype.nsec3 ∷ Rtype.nsec3param ∷ []

@@ -3,6 +3,8 @@ use Rattle.std.specs.Prelude.{ℕ, List, [], ◌∷◌, ◌++◌, ◌==◌, map,
 use Rattle.std.specs.Char.{to_ascii_lowercase}
 use Rattle.dns_codec.specs.Base.{base16, encoded}
 use Rattle.dns_kinds.specs.Classes.{class_text}
+use Rattle.dns_kinds.specs.declared.classes.Class.{Class}
+use Rattle.dns_kinds.specs.declared.types.RecordType.{RecordType}
 use Rattle.dns_resource.specs.Records.{data_of, record_document}
 use Rattle.dns_resource.specs.declared.record.Record.{Record}
 use Rattle.dns_spelling.specs.PrintedNames.{wire_name_text}
@@ -29,13 +31,13 @@ abbrev pub hex_word : List ℕ → List ℕ
 hex_word octets = if length octets == 0 then [] else codes " " ++ lower_hex_text octets
 
 -- a time to live, a class, a type by its code, and how many octets there are
-abbrev pub middle_text : ℕ → ℕ → ℕ → ℕ → List ℕ
-middle_text ttl class code count =
-    codes "\t" ++ decimal ttl ++ codes "\t" ++ class_text (record { 0 = class }) ++ codes "\tTYPE" ++ decimal code ++ codes "\t\\# " ++ decimal count
+abbrev pub middle_text : ℕ → Class → RecordType → ℕ → List ℕ
+middle_text ttl class rtype count =
+    codes "\t" ++ decimal ttl ++ codes "\t" ++ class_text class ++ codes "\tTYPE" ++ decimal rtype ++ codes "\t\\# " ++ decimal count
 
 -- the type by its code, and the data as octets
 abbrev pub generic_line : {N O : Type 0} → Record N O → List ℕ
-generic_line r = owner_text r ++ middle_text r.ttl r.class (data_of r).code (length (data_of r).octets) ++ hex_word (data_of r).octets ++ line_feed ∷ []
+generic_line r = owner_text r ++ middle_text r.ttl r.class (data_of r).rtype (length (data_of r).octets) ++ hex_word (data_of r).octets ++ line_feed ∷ []
 
 -- two times to live, and an arrow between
 abbrev pub ttls_text : ℕ → ℕ → List ℕ

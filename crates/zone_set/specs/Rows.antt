@@ -1,6 +1,7 @@
 -- Worked rows of the definitions.
 use Rattle.std.specs.Prelude.{◌≡◌, ℕ, ◌-◌, ◌^◌, Some, None, true, false, List, [], ◌∷◌, ◌++◌, codes, refl}
 use Rattle.std.proofs.Common.{arith, inl, inr}
+use Rattle.dns_kinds.specs.Rtype as Rtype
 use Rattle.dns_resource.specs.declared.record.Record.{Record}
 use Rattle.zone_set.specs.Differences.{ttl_under}
 use Rattle.zone_set.specs.Lines.{hex_word}
@@ -11,7 +12,7 @@ use Rattle.zone_set.specs.Serials.{IsSerialLess}
 
 -- an address below `example.`
 abbrev address : List ℕ → ℕ → List ℕ → Record ℕ ℕ
-address label ttl octets = record { owner = label ∷ codes "example" ∷ [] ∷ []; ttl = ttl; class = 1; «data» = record { code = 1; octets = octets } }
+address label ttl octets = record { owner = label ∷ codes "example" ∷ [] ∷ []; ttl = ttl; class = 1; «data» = record { rtype = Rtype.a; octets = octets } }
 
 abbrev two : List (Record ℕ ℕ)
 two = address (codes "a") 60 (192 ∷ 0 ∷ 2 ∷ 1 ∷ []) ∷ address (codes "A") 90 (192 ∷ 0 ∷ 2 ∷ 1 ∷ []) ∷ []

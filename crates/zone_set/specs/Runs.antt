@@ -12,12 +12,12 @@ behind_length octets = to_be_bytes w16 (length octets) ++ octets
 -- the time to live, the class, the type, the owner and the data
 abbrev pub run_octets : {N O : Type 0} → Record N O → List ℕ
 run_octets r =
-    to_be_bytes w32 r.ttl ++ to_be_bytes w16 r.class ++ to_be_bytes w16 (data_of r).code ++ behind_length (wire r.owner) ++ behind_length (data_of r).octets
+    to_be_bytes w32 r.ttl ++ to_be_bytes w16 r.class ++ to_be_bytes w16 (data_of r).rtype ++ behind_length (wire r.owner) ++ behind_length (data_of r).octets
 
 -- two records have the same owner, letter by letter, numbers and data
 pub record IsSameRecord {N O M P : Type 0} (a : Record N O) (b : Record M P) : Type 0 where
   pub owner : a.owner ≡ b.owner
   pub ttl : a.ttl ≡ b.ttl
   pub class : a.class ≡ b.class
-  pub code : (data_of a).code ≡ (data_of b).code
+  pub rtype : (data_of a).rtype ≡ (data_of b).rtype
   pub octets : (data_of a).octets ≡ (data_of b).octets

@@ -1,6 +1,7 @@
 -- Serial numbers (RFC 1982, with 32 bits).
 use Rattle.std.specs.Prelude.{ℕ, ◌==◌, if◌then◌else◌, ◌<◌, ◌-◌, ◌^◌, ◌⊎◌, Option, None, option_map}
 use Rattle.std.specs.Int.{from_be_bytes, w32}
+use Rattle.dns_kinds.specs.Rtype as Rtype
 use Rattle.dns_resource.specs.Parts.{data_part}
 use Rattle.dns_resource.specs.TypeData.{TypeData}
 
@@ -10,4 +11,4 @@ IsSerialLess first second = ((first < second) × (second - first < 2 ^ 31)) ⊎ 
 
 -- the third field of an SOA (RFC 1035 section 3.3.13)
 abbrev pub soa_serial : TypeData → Option ℕ
-soa_serial d = if d.code == 6 then option_map (from_be_bytes w32) (data_part d 2) else None
+soa_serial d = if d.rtype == Rtype.soa then option_map (from_be_bytes w32) (data_part d 2) else None

@@ -3,10 +3,19 @@ ghost use Rattle.std.specs.Prelude.{◌≡◌, ◌==◌};
 ghost use Rattle.std.specs.List.{list_any};
 ghost use Rattle.zone_set.specs.DnssecTypes.{dnssec_types};
 
+use dns_kinds::RecordType;
+
 /// Whether records of a type are added where a zone is signed: RRSIG, NSEC, DNSKEY (RFC 4034), NSEC3
 /// and NSEC3PARAM (RFC 5155). DS, CDS, CDNSKEY and ZONEMD are not among them.
-pub fn is_dnssec(code: u16) -> bool
-    ensures { result ≡ list_any (λ t. t == code) dnssec_types }
+pub fn is_dnssec(rtype: RecordType) -> bool
+    ensures { result ≡ list_any (λ t. t == rtype) dnssec_types }
 {
-    matches!(code, 46 | 47 | 48 | 50 | 51)
+    matches!(
+        rtype,
+        RecordType::RRSIG
+            | RecordType::NSEC
+            | RecordType::DNSKEY
+            | RecordType::NSEC3
+            | RecordType::NSEC3PARAM
+    )
 }

@@ -5,7 +5,7 @@ ghost use Rattle.zone_set.specs.Lines.{change_line, generic_line, lower_hex_text
 
 use crate::changes::Change;
 use dns_codec::base16;
-use dns_kinds::Class;
+use dns_kinds::{Class, RecordType};
 use dns_octets::AsOctets;
 use dns_resource::Record;
 use dns_spelling::NameText;
@@ -58,14 +58,13 @@ fn push_owner<Owner: AsOctets, Octets: AsOctets, A: Allocator>(
 fn push_middle<A: Allocator>(
     out: &mut String<A>,
     ttl: u32,
-    class: u16,
-    code: u16,
+    class: Class,
+    rtype: RecordType,
     count: usize,
 ) -> Result<(), AllocError>
-    ensures { OnOk result (string_bytes out.new ≡ string_bytes out.old ++ middle_text ttl class code count) }
+    ensures { OnOk result (string_bytes out.new ≡ string_bytes out.old ++ middle_text ttl class rtype count) }
 {
-    let class = Class(class);
-    write!(out, "\t{ttl}\t{class}\tTYPE{code}\t\\# {count}")
+    write!(out, "\t{ttl}\t{class}\tTYPE{}\t\\# {count}", rtype.0)
 }
 
 /// Appends the line of a record in the form for unknown types (RFC 3597 section 5), its digits in
@@ -78,7 +77,7 @@ pub fn push_generic<Owner: AsOctets, Octets: AsOctets, A: Allocator + Copy>(
 {
     let octets = one.data.as_slice();
     push_owner(out, one)?;
-    push_middle(out, one.ttl, one.class, one.data.code(), octets.len())?;
+    push_middle(out, one.ttl, one.class, one.data.rtype(), octets.len())?;
     push_hex_word(out, octets)?;
     out.push_str("\n")
 }

@@ -4,6 +4,7 @@ ghost use Rattle.std.specs.Int.{to_be_bytes, w16, w32};
 ghost use Rattle.dns_octets.specs.Appending.{Extends};
 ghost use Rattle.zone_set.specs.Runs.{behind_length, run_octets};
 
+use dns_kinds::{Class, RecordType};
 use dns_octets::AsOctets;
 use dns_resource::{Data, Record};
 use dns_wire::Name;
@@ -30,8 +31,8 @@ pub fn push_run_record<Owner: AsOctets, Octets: AsOctets, A: Allocator>(
     ensures err { OnErr result (Extends out.old.items out.new.items) }
 {
     out.extend_from_slice(&one.ttl.to_be_bytes())?;
-    out.extend_from_slice(&one.class.to_be_bytes())?;
-    out.extend_from_slice(&one.data.code().to_be_bytes())?;
+    out.extend_from_slice(&one.class.0.to_be_bytes())?;
+    out.extend_from_slice(&one.data.rtype().0.to_be_bytes())?;
     push_counted(out, one.owner.as_slice())?;
     push_counted(out, one.data.as_slice())
 }
@@ -67,15 +68,15 @@ pub fn take_run_record<'a>(octets: &'a [u8]) -> Option<(Record<&'a [u8], &'a [u8
 {
     let (ttl, rest) = take_number32(octets)?;
     let (class, rest) = take_number16(rest)?;
-    let (code, rest) = take_number16(rest)?;
+    let (rtype, rest) = take_number16(rest)?;
     let (owner, rest) = take_counted(rest)?;
     let (data, rest) = take_counted(rest)?;
     let owner = Name::from_octets(owner).ok()?;
-    let data = Data::from_octets(code, data).ok()?;
+    let data = Data::from_octets(RecordType(rtype), data).ok()?;
     let one = Record {
         owner,
         ttl,
-        class,
+        class: Class(class),
         data,
     };
     Some((one, rest))

@@ -3,15 +3,13 @@ ghost use Rattle.std.specs.Prelude.{◌≡◌};
 ghost use Rattle.zone_set.specs.Selections.{is_selected, is_wanted, takes_signing, takes_soa};
 
 use crate::dnssec::is_dnssec;
-
-/// The code of SOA.
-const SOA: u16 = 6;
+use dns_kinds::RecordType;
 
 /// Which records of a zone are taken, by their types.
 #[derive(Clone, Copy)]
 pub struct Selection<'t> {
     /// Records of these types alone; of all types where there are none.
-    pub types: &'t [u16],
+    pub types: &'t [RecordType],
     /// Whether SOAs are left out.
     pub without_soa: bool,
     /// Whether the records are left out that the signing of a zone adds ([`is_dnssec`]).
@@ -21,10 +19,10 @@ pub struct Selection<'t> {
 }
 
 /// Whether a type is listed, or there is no list.
-fn is_wanted(types: &[u16], code: u16) -> bool
-    ensures { result ≡ is_wanted types.now code }
+fn is_wanted(types: &[RecordType], rtype: RecordType) -> bool
+    ensures { result ≡ is_wanted types.now rtype }
 {
-    types.is_empty() || types.contains(&code)
+    types.is_empty() || types.contains(&rtype)
 }
 
 impl Selection<'_> {
@@ -37,17 +35,17 @@ impl Selection<'_> {
     };
 
     /// Whether a type is taken where all are wanted but SOAs.
-    fn takes_soa(&self, code: u16) -> bool
-        ensures { result ≡ takes_soa self.now code }
+    fn takes_soa(&self, rtype: RecordType) -> bool
+        ensures { result ≡ takes_soa self.now rtype }
     {
-        !(self.without_soa && code == SOA)
+        !(self.without_soa && rtype == RecordType::SOA)
     }
 
     /// Whether a type is taken by whether signing adds it.
-    fn takes_signing(&self, code: u16) -> bool
-        ensures { result ≡ takes_signing self.now code }
+    fn takes_signing(&self, rtype: RecordType) -> bool
+        ensures { result ≡ takes_signing self.now rtype }
     {
-        if is_dnssec(code) {
+        if is_dnssec(rtype) {
             !self.without_dnssec
         } else {
             !self.only_dnssec
@@ -55,9 +53,9 @@ impl Selection<'_> {
     }
 
     /// Whether records of a type are taken.
-    pub fn takes(&self, code: u16) -> bool
-        ensures { result ≡ is_selected self.now code }
+    pub fn takes(&self, rtype: RecordType) -> bool
+        ensures { result ≡ is_selected self.now rtype }
     {
-        is_wanted(self.types, code) && self.takes_soa(code) && self.takes_signing(code)
+        is_wanted(self.types, rtype) && self.takes_soa(rtype) && self.takes_signing(rtype)
     }
 }

@@ -2,6 +2,7 @@
 ghost use Rattle.std.specs.Prelude.{◌↔◌, ◌≡◌, IsTrue};
 ghost use Rattle.zone_set.specs.Serials.{IsSerialLess, soa_serial};
 
+use dns_kinds::RecordType;
 use dns_octets::AsOctets;
 use dns_resource::Data;
 
@@ -18,7 +19,7 @@ pub fn serial_rises(old: u32, new: u32) -> bool
 pub fn serial_of<Octets: AsOctets>(data: &Data<Octets>) -> Option<u32>
     ensures { result ≡ soa_serial «data».now }
 {
-    if data.code() != 6 {
+    if data.rtype() != RecordType::SOA {
         return None;
     }
     // No effect at run time: the proof reads that the octets are data of the type.

@@ -7,4 +7,4 @@ use Rattle.zone_dnssec.proofs.bitmaps.lists.Goals as goal
 
 pub returns : goal.returns
 returns c =
-    any_from_yields_List (λ t. t == c.args.code) _ _ c.any.result c.any.ensures.ran (YieldsList-from_first (λ x. x) (λ left. left) (types_of c.args.bitmap.now) c.new.ensures) (λ x b q k. search (rules, tests))
+    any_from_yields_List (λ t. t == c.args.rtype) _ _ c.any.result c.any.ensures.ran (YieldsList-from_first (λ x. x) (λ left. left) (types_of c.args.bitmap.now) c.new.ensures) (λ x b q k. search (rules, tests))

@@ -12,11 +12,11 @@ use Rattle.zone_dnssec.specs.declared.keys.Key.{Key}
 use Rattle.zone_dnssec.proofs.keys.has_fitting.Goals as goal
 
 abbrev covers_and_fits : {N O : Type 0} → List Key → ℕ → Record N O → Bool
-covers_and_fits keys code r = covers code r && fits_key keys r
+covers_and_fits keys rtype r = covers rtype r && fits_key keys r
 
 pub returns : goal.returns
 returns g c =
-    let test = covers_and_fits c.args.keys.now c.args.code in
+    let test = covers_and_fits c.args.keys.now c.args.rtype in
     let found : c.any.result ≡ list_any test c.owned_by.result.now =
     any_from_yields_List test _ _ c.any.result c.any.ensures.ran (YieldsList-from_slice c.owned_by.result.now cc) (λ x b q k. search (rules, tests)) in
     found ∙ ap (list_any test) c.owned_by.ensures ∙ any_in_filter (λ r. same_name r.owner c.args.name.now) test c.args.records.now

@@ -9,6 +9,6 @@ use Rattle.zone_dnssec.proofs.sets.is_signed.Goals as goal
 
 pub returns : goal.returns
 returns g c =
-    let found : c.any.result ≡ list_any (covers c.args.code) c.owned_by.result.now =
-    any_from_yields_List (covers c.args.code) _ _ c.any.result c.any.ensures.ran (YieldsList-from_slice c.owned_by.result.now cc) (λ x b q k. search (rules, tests)) in
-    found ∙ ap (list_any (covers c.args.code)) c.owned_by.ensures ∙ any_in_filter (λ r. same_name r.owner c.args.name.now) (covers c.args.code) c.args.records.now
+    let found : c.any.result ≡ list_any (covers c.args.rtype) c.owned_by.result.now =
+    any_from_yields_List (covers c.args.rtype) _ _ c.any.result c.any.ensures.ran (YieldsList-from_slice c.owned_by.result.now cc) (λ x b q k. search (rules, tests)) in
+    found ∙ ap (list_any (covers c.args.rtype)) c.owned_by.ensures ∙ any_in_filter (λ r. same_name r.owner c.args.name.now) (covers c.args.rtype) c.args.records.now

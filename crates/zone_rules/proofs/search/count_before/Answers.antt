@@ -16,5 +16,5 @@ returns-clause-point g c =
     let place = c.partition_point.result in
     subst (λ n. IsPartitionPoint (λ x. is_lt (name_order (rrset x).owner n) ≡ true) (λ x. is_lt (name_order (rrset x).owner n) ≡ false) all place) c.view.ensures
     (first_point rrset name all place
-    (IsPartitionPoint-from_clause (λ s. is_lt (set_order (rrset s) (record { owner = name; code = 0 }))) all place c.partition_point.ensures.partitioned
+    (IsPartitionPoint-from_clause (λ s. is_lt (set_order (rrset s) (record { owner = name; rtype = 0 }))) all place c.partition_point.ensures.partitioned
     (first_parted rrset name all (owners_parted (λ x. (rrset x).owner) name all c.requires)) (λ a r q k. search rules)))

@@ -15,7 +15,7 @@ finds-requires g c =
 
 pub returns : goal.returns
 returns g c =
-    let found : c.any.result ≡ list_any (λ r. type_of r == c.args.code) c.owned_by.result.now =
-    any_from_yields_List (λ r. type_of r == c.args.code) _ _ c.any.result c.any.ensures.ran (YieldsList-from_slice c.owned_by.result.now cc) (λ x b q k. search (rules, tests)) in
-    found ∙ ap (list_any (λ r. type_of r == c.args.code)) c.owned_by.ensures
-    ∙ any_in_filter (λ r. same_name r.owner c.args.name.now) (λ r. type_of r == c.args.code) c.args.records.now
+    let found : c.any.result ≡ list_any (λ r. type_of r == c.args.rtype) c.owned_by.result.now =
+    any_from_yields_List (λ r. type_of r == c.args.rtype) _ _ c.any.result c.any.ensures.ran (YieldsList-from_slice c.owned_by.result.now cc) (λ x b q k. search (rules, tests)) in
+    found ∙ ap (list_any (λ r. type_of r == c.args.rtype)) c.owned_by.ensures
+    ∙ any_in_filter (λ r. same_name r.owner c.args.name.now) (λ r. type_of r == c.args.rtype) c.args.records.now
