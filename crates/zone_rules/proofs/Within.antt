@@ -1,9 +1,8 @@
--- What a search finds at a name and below it.
+-- Orders in which records and RRsets can be searched.
 use Rattle.std.proofs.Common.{ℕ, ◌≡◌, ◌+◌, ◌<◌, Bool, true, false, List, [], ◌∷◌, length, get_or, refl, sym, ap, ◌∙◌, arith}
-use Rattle.std.specs.Prelude.{◌==◌, ◌&&◌, slice_get}
-use Rattle.std.specs.List.{AllAdjacentBelow, list_all, list_any}
-use Rattle.std.specs.List.Sorted.{IsNonDecreasingBy, IsPartitionedBy, IsPartitionPoint}
-use Rattle.std.specs.Option.{option_map_or}
+use Rattle.std.specs.Prelude.{◌==◌}
+use Rattle.std.specs.List.{AllAdjacentBelow, list_all}
+use Rattle.std.specs.List.Sorted.{IsNonDecreasingBy, IsPartitionedBy}
 use Rattle.std.specs.Ordering.{is_lt, is_le, nat_cmp, ordering_index, ordering_then}
 use Rattle.std.specs.declared.cmp.Ordering.{Ordering}
 use Rattle.std.specs.declared.cmp.Ordering.TheVariants.{Less, Equal, Greater}
@@ -11,16 +10,13 @@ use Rattle.std.proofs.lemmas.Bool.{eqb-true, false≢true}
 use Rattle.std.proofs.lemmas.Cmp.{nat_cmp_total, tied_itself}
 use Rattle.std.proofs.lemmas.List.Folds.{list_all_at}
 use Rattle.std.proofs.lemmas.List.Sorted.{searchable_from_sorted, IsPartitionedBy-leb}
-use Rattle.dns_wire.specs.Order.{same_name}
 use Rattle.dns_canonical.specs.Names.{name_order}
 use Rattle.dns_canonical.proofs.Orders.{names_total}
 use Rattle.dns_resource.specs.declared.record.Record.{Record}
-use Rattle.zone_rules.specs.Above.{is_within}
 use Rattle.zone_rules.specs.Present.{AreSetsInOrder, rrset_of_record, set_order}
-use Rattle.zone_rules.specs.Zones.{AreInOrder, has_type_at, is_one_class, type_of}
+use Rattle.zone_rules.specs.Zones.{AreInOrder, is_one_class, type_of}
 use Rattle.zone_rules.specs.declared.refused.RrsetName.{RrsetName}
-use Rattle.zone_rules.proofs.BelowNames.{within_not_before, within_between}
-use Rattle.zone_rules.proofs.Searches.{any_at, back_not, lt_index, le_index, sets_parted, set_found}
+use Rattle.zone_rules.proofs.Searches.{back_not, lt_index, le_index}
 
 front_le : (o rest : Ordering) → is_le (ordering_then o rest) ≡ true → is_le o ≡ true
 front_le Less rest h = refl
@@ -32,12 +28,6 @@ record_owners rs h k d lt = front_le (name_order (get_or rs k d).owner (get_or r
 
 pub set_owners : (ss : List RrsetName) → AreSetsInOrder ss → AllAdjacentBelow (λ a b. is_le (name_order a.owner b.owner) ≡ true) ss (length ss)
 set_owners ss h k d lt = front_le (name_order (get_or ss k d).owner (get_or ss (k + 1) d).owner) _ (h k d lt)
-
-abbrev pub is_record_within : {N O : Type 0} → List (List ℕ) → Record N O → Bool
-is_record_within top r = is_within r.owner top
-
-abbrev pub is_set_within : List (List ℕ) → RrsetName → Bool
-is_set_within top s = is_within s.owner top
 
 module _ {X : Type 0} (owner : X → List (List ℕ)) where
   rise : (name : List (List ℕ)) (xs : List X) → AllAdjacentBelow (λ a b. is_le (name_order (owner a) (owner b)) ≡ true) xs (length xs) → IsNonDecreasingBy (λ x. ordering_index (name_order (owner x) name)) xs
@@ -54,17 +44,6 @@ module _ {X : Type 0} (owner : X → List (List ℕ)) where
   upto name xs h i j d le lt t =
       sym (le_index (name_order (owner (get_or xs i d)) name))
       ∙ IsPartitionedBy-leb (λ x. ordering_index (name_order (owner x) name)) xs 1 (rise name xs h) i j d le lt (le_index (name_order (owner (get_or xs j d)) name) ∙ t)
-
-  pub within_found : (top : List (List ℕ)) (xs : List X) (place : ℕ) → 0 < length top → AllAdjacentBelow (λ a b. is_le (name_order (owner a) (owner b)) ≡ true) xs (length xs)
-      → IsPartitionPoint (λ x. is_lt (name_order (owner x) top) ≡ true) (λ x. is_lt (name_order (owner x) top) ≡ false) xs place
-      → list_any (λ x. is_within (owner x) top) xs ≡ option_map_or (λ x. is_within (owner x) top) (slice_get xs place) false
-  within_found top xs place some h point =
-      any_at (λ x. is_within (owner x) top) xs place
-      (λ i d low lt. within_not_before (owner (get_or xs i d)) top some (point.0 i d low lt))
-      (λ i d low lt t.
-      let name = owner (get_or xs i d) in
-      within_between (owner (get_or xs place d)) name top some (point.1 place d (omega arith) (omega (arith, low, lt)))
-      (upto name xs h place i d low lt (ap is_le (tied_itself names_total name))) t)
 
 -- ---- records of one class are in the order of owner and type
 
@@ -93,17 +72,6 @@ record_sets rs h one k d lt =
     let a = get_or rs k d in
     let b = get_or rs (k + 1) d in
     by_type (name_order a.owner b.owner) (nat_cmp a.class b.class) (nat_cmp (type_of a) (type_of b)) _ (same_class rs k d one lt) (h k d lt)
-
-abbrev pub is_record_of : {N O : Type 0} → List (List ℕ) → ℕ → Record N O → Bool
-is_record_of name rtype r = same_name r.owner name && type_of r == rtype
-
-pub types_parted : {N O : Type 0} (name : List (List ℕ)) (rtype : ℕ) (rs : List (Record N O)) → AreInOrder rs → is_one_class rs ≡ true → IsPartitionedBy (λ r. is_lt (ordering_then (name_order r.owner name) (nat_cmp (type_of r) rtype))) rs
-types_parted name rtype rs h one = sets_parted (λ r. rrset_of_record r) name rtype rs (record_sets rs h one)
-
-pub type_found : {N O : Type 0} (name : List (List ℕ)) (rtype : ℕ) (rs : List (Record N O)) (place : ℕ) → AreInOrder rs → is_one_class rs ≡ true
-    → IsPartitionPoint (λ r. is_lt (ordering_then (name_order r.owner name) (nat_cmp (type_of r) rtype)) ≡ true) (λ r. is_lt (ordering_then (name_order r.owner name) (nat_cmp (type_of r) rtype)) ≡ false) rs place
-    → has_type_at rtype name rs ≡ option_map_or (λ r. same_name r.owner name && type_of r == rtype) (slice_get rs place) false
-type_found name rtype rs place h one point = set_found (λ r. rrset_of_record r) name rtype rs place (record_sets rs h one) point
 
 -- ---- RRsets that are not in order
 
