@@ -6,8 +6,7 @@ use crate::sorter::Sorter;
 use crate::stop::Stop;
 use crate::zone_files::Entry;
 use dns_kinds::RecordType;
-use dns_resource::{Data, Record};
-use dns_wire::Name;
+use dns_resource::record_of;
 use zone_set::Selection;
 
 /// SOAs take this part of memory.
@@ -52,16 +51,8 @@ impl TakeEntry for Sorting<'_> {
             return Ok(());
         }
         let lowered = self.lowerer.lower(given)?;
-        let owner = Name::from_octets(lowered.owner);
-        let data = Data::from_octets(lowered.rtype, lowered.data);
-        let (Ok(owner), Ok(data)) = (owner, data) else {
+        let Some(one) = record_of(lowered) else {
             return Err(Stop::Damaged);
-        };
-        let one = Record {
-            owner,
-            ttl: lowered.ttl,
-            class: lowered.class,
-            data,
         };
         if lowered.rtype == RecordType::SOA {
             self.soas.add(&one)
