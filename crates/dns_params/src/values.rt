@@ -16,7 +16,7 @@ use crate::strings::append_strings;
 use dns_digits::append_base64;
 use dns_fields::Word;
 use dns_kinds::{ErrorKind, Ipv6Shown};
-use dns_lists::TypeSet;
+use dns_lists::CodeSet;
 use dns_octets::{OctetsBuilder, ShortBuf};
 use dns_spelling::append_spelled;
 use std::net::Ipv4Addr;
@@ -54,7 +54,7 @@ fn append_each<W: Word + Drop, B: OctetsBuilder>(
 }
 
 /// Adds the keys that names apart by commas spell to a set of none.
-fn read_keys(text: &[u8], keys: &mut TypeSet) -> Result<(), ErrorKind>
+fn read_keys(text: &[u8], keys: &mut CodeSet) -> Result<(), ErrorKind>
     requires { keys.old ≡ [] }
     ensures ok { OnOk result ((spelled : List ℕ) × SpellsApart NamesAKey text.now spelled × AllPairs (λ a b. a ≢ b) spelled × SameTypes keys.new spelled) }
     ensures err { IfErr result (λ e. KeysReason e × ((spelled : List ℕ) → SpellsApart NamesAKey text.now spelled → ¬ AllPairs (λ a b. a ≢ b) spelled)) }
@@ -75,7 +75,7 @@ fn read_keys(text: &[u8], keys: &mut TypeSet) -> Result<(), ErrorKind>
 }
 
 /// Appends a key in two octets if it is in a set.
-fn append_if<B: OctetsBuilder>(keys: &TypeSet, key: u16, target: &mut B) -> Result<(), ShortBuf>
+fn append_if<B: OctetsBuilder>(keys: &CodeSet, key: u16, target: &mut B) -> Result<(), ShortBuf>
     ensures ok { OnOk result (B.octets target.new ≡ B.octets target.old ++ cond (has keys.now key) (to_be_bytes w16 key) []) }
     ensures err { OnErr result (B.octets target.new ≡ B.octets target.old) }
     ensures lacks { OnErr result (LacksRoom B.room (λ octets. octets ≡ cond (has keys.now key) (to_be_bytes w16 key) []) (B.octets target.old)) }
@@ -87,7 +87,7 @@ fn append_if<B: OctetsBuilder>(keys: &TypeSet, key: u16, target: &mut B) -> Resu
 }
 
 /// Appends the keys of a set, in ascending order.
-fn append_set<B: OctetsBuilder>(keys: &TypeSet, target: &mut B) -> Result<(), ShortBuf>
+fn append_set<B: OctetsBuilder>(keys: &CodeSet, target: &mut B) -> Result<(), ShortBuf>
     ensures ok { OnOk result (B.octets target.new ≡ B.octets target.old ++ keys_wire keys.now) }
     ensures lacks { OnErr result (LacksRoom B.room (λ octets. octets ≡ keys_wire keys.now) (B.octets target.old)) }
     ensures extends { OnErr result (Extends (B.octets target.old) (B.octets target.new)) }
@@ -104,7 +104,7 @@ fn append_keys<B: OctetsBuilder>(text: &[u8], target: &mut B) -> Result<(), Erro
     ensures err { IfErr result (RefusesSpelled B.room (SpellsKeys text.now) KeysReason (B.octets target.old)) }
     ensures extends { OnErr result (Extends (B.octets target.old) (B.octets target.new)) }
 {
-    let mut keys = TypeSet::new();
+    let mut keys = CodeSet::new();
     read_keys(text, &mut keys)?;
     append_set(&keys, target)?;
     Ok(())
