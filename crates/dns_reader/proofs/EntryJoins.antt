@@ -8,7 +8,7 @@ use Rattle.dns_fields.specs.RecordErrors.{error_at}
 use Rattle.dns_fields.specs.declared.record_error.RecordError.{RecordError}
 use Rattle.dns_kinds.specs.declared.error.ErrorKind.TheVariants.{EndOfEntry, TrailingArgument}
 use Rattle.dns_kinds.specs.declared.types.RecordType.{RecordType}
-use Rattle.dns_data.specs.ByType.{RefusesGeneric, ReadsType, shape_of_code}
+use Rattle.dns_data.specs.ByType.{RefusesData, RefusesGeneric, ReadsType, shape_of_code}
 use Rattle.dns_data.specs.Types.{TypeShape}
 use Rattle.dns_data.proofs.Reading.{gained_is}
 use Rattle.dns_heads.specs.Directives.{TakesDirective}
@@ -95,14 +95,17 @@ record_joined before middle later after room blank at end tokens left first word
 module _ (origin : Option (List (List ℕ))) (room : Room) (rtype : RecordType) (end : ℕ) (tokens left : List TokenSeen) (old new : List ℕ) where
   generic_extends : (found : Option TypeShape) (r : RecordError) → RefusesGeneric found room end tokens old r left new → Extends old new
   generic_extends found r (inl k) = k.extends
-  generic_extends found r (inr k) = (k.3.0, k.3.2)
+  generic_extends found r (inr k) = (k.2.0, k.2.2)
+
+  refused_extends : (r : RecordError) → RefusesData origin room rtype end tokens old r left new → Extends old new
+  refused_extends r (inl h) = same_octets old new h.2
+  refused_extends r (inr (inl h)) = generic_extends (shape_of_code rtype) r h.2
+  refused_extends r (inr (inr (inl h))) = same_octets old new h.2
+  refused_extends r (inr (inr (inr h))) = h.1.2.2
 
   pub data_extends : (r : Result (Unit {0}) RecordError) → ReadsType origin room rtype end tokens old r left new → Extends old new
   data_extends (Ok u) h = (h.1.0, h.1.2)
-  data_extends (Err r) (inl h) = same_octets old new h.3
-  data_extends (Err r) (inr (inl h)) = generic_extends (shape_of_code rtype) r h.2
-  data_extends (Err r) (inr (inr (inl h))) = same_octets old new h.3
-  data_extends (Err r) (inr (inr (inr h))) = h.1.3.2
+  data_extends (Err r) h = refused_extends h.0 h.2
 
 -- ---- entries
 

@@ -1,5 +1,7 @@
 pub mod CallsEnd
+pub mod DataQuiet
 pub mod EntryJoins
+pub mod EntryQuiet
 pub mod EntrySteps
 pub mod FullRecords
 pub mod Given

@@ -9,7 +9,7 @@ use Rattle.dns_split.specs.EntryTokens.{TokenSeen}
 use Rattle.dns_fields.specs.Source.{next_place}
 use Rattle.dns_fields.specs.Taking.{SpellsField, SpellsFields}
 use Rattle.dns_fields.specs.declared.field.Field.TheVariants.{Name as OfName}
-use Rattle.dns_data.specs.ByType.{HasShape, ReadsType, RefusesGeneric, RefusesType, SpellsGenericData, SpellsTypeData, shape_of_code}
+use Rattle.dns_data.specs.ByType.{HasShape, ReadsType, RefusesData, RefusesGeneric, SpellsGenericData, SpellsTypeData, shape_of_code}
 use Rattle.dns_data.specs.Data.{HasLength, IsDataOf, SpellsData}
 use Rattle.dns_data.specs.Generic.{BeginsGeneric, SpellsGeneric}
 use Rattle.dns_data.specs.RestKinds.{rest_form}
@@ -84,21 +84,21 @@ module _ (origin : Option (List (List ℕ))) (room : Room) (rtype : RecordType) 
   generic_taken : (found : Option TypeShape) → SpellsGenericData found tokens octets → RefusesGeneric found room end tokens old r left new → ⊥
   generic_taken found h (inl k) = elim k.why [ inl lacks ↦ omega (arith, fits, lacks.1 octets h.0) | inr none ↦ none.1 octets h.0 ]
   generic_taken found h (inr k) =
-      let gained = k.3 in
+      let gained = k.2 in
       let other = gained.1 in
       let same : octets ≡ gained.0 = generic_once tokens octets gained.0 h.0 other.0 in
       other.1.2 (subst (IsDataOf other.1.0) same (h.1 other.1.0 other.1.1))
 
-  type_taken : SpellsTypeData origin rtype tokens octets → RefusesType origin room rtype end tokens old r left new → ⊥
-  type_taken h (inl k) = k.4 h.0
+  type_taken : SpellsTypeData origin rtype tokens octets → RefusesData origin room rtype end tokens old r left new → ⊥
+  type_taken h (inl k) = k.3 h.0
   type_taken h (inr (inl k)) = elim h.1 [ inl generic ↦ generic_taken (shape_of_code rtype) generic k.2 | inr own ↦ own.0 k.1 ]
   type_taken h (inr (inr (inl k))) =
-      elim h.1 [ inl generic ↦ k.4 (begins_so tokens octets generic.0) | inr own ↦ subst (λ f. HasShape f own.1.0) k.5 own.1.1 ]
+      elim h.1 [ inl generic ↦ k.3 (begins_so tokens octets generic.0) | inr own ↦ subst (λ f. HasShape f own.1.0) k.4 own.1.1 ]
   type_taken h (inr (inr (inr k))) =
       let shape : Shape = k.1.0 in
       elim h.1 [
         | inl generic ↦ k.0 (begins_so tokens octets generic.0)
-        | inr own ↦ (let spelled = same_spelled origin tokens (shape_of_code rtype) own.1.0 shape octets own.1.1 k.1.2 own.1.2 in omega (arith, fits, (k.1.3.1 octets spelled).1))
+        | inr own ↦ (let spelled = same_spelled origin tokens (shape_of_code rtype) own.1.0 shape octets own.1.1 k.1.1 own.1.2 in omega (arith, fits, (k.1.2.1 octets spelled).1))
       ]
 
 -- ---- records
@@ -113,7 +113,7 @@ module _ (room : Room) (at end : ℕ) (behind : List TokenSeen) (t : TokenSeen) 
   owner_taken r h = no_name (known_name before.origin) (t ∷ []) r.kind h.1 (wire labels) (absolute.0, name_alone (known_name before.origin) t.text (wire labels) absolute.1)
 
   data_read : (r : Result (Unit {0}) RecordError) (left : List TokenSeen) → ReadsType (known_name before.origin) room w.rtype end behind old r left new → ReadsBehind before at w old r new result → IsTheRecord
-  data_read (Err r) left h k = absurd (type_taken (known_name before.origin) room w.rtype end behind octets old fits r left new spelled h)
+  data_read (Err r) left h k = absurd (type_taken (known_name before.origin) room w.rtype end behind octets old fits h.0 left new spelled h.2)
   data_read (Ok u) left h k =
       let gained = h.1 in
       let same : gained.0 ≡ octets = type_once (known_name before.origin) behind known w.rtype gained.0 octets gained.1 spelled in (

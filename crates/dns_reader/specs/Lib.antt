@@ -1,5 +1,6 @@
 pub mod EntryReading
 pub mod EntrySteps
+pub mod Faults
 pub mod Given
 pub mod Learning
 pub mod Past

@@ -1,4 +1,5 @@
 //! Laws of what is read of a whole text.
+ghost use Rattle.dns_reader.specs.Faults.{EntriesHaveNoFaults, FaultsAreTold};
 ghost use Rattle.dns_reader.specs.TextPieces.{EndedEntriesStay, PiecesAreReadOn, PiecesStandAlone};
 ghost use Rattle.dns_reader.specs.WholeTexts.{CallsEnd, ReadEntriesAreSplit, RecordsEndRows, RowsJoin, SomethingIsGiven};
 ghost use Rattle.dns_reader.specs.WholeTexts.{TextsAreRead, TextsAreReadToTheEnd};
@@ -47,4 +48,12 @@ pub fn something_is_given()
 /// entries ends. It does nothing else.
 pub fn calls_come_to_an_end()
     ensures { CallsEnd }
+{}
+
+/// States that no entry is refused with the kind [`ErrorKind::Syntax`](dns_kinds::ErrorKind::Syntax).
+/// So an error of this kind is a fault of the text, and reading goes on after its line. It does
+/// nothing else.
+pub fn faults_are_known_by_their_kind()
+    ensures entries { EntriesHaveNoFaults }
+    ensures calls { FaultsAreTold }
 {}
