@@ -4,7 +4,7 @@ pub mod EntryJoins
 pub mod EntryQuiet
 pub mod EntrySteps
 pub mod FullRecords
-pub mod Given
+pub mod GivenEntries
 pub mod GivenRows
 pub mod Kept
 pub mod Learned

@@ -1,4 +1,4 @@
-use Rattle.dns_reader.proofs.Given.{entry_given, fault_given}
+use Rattle.dns_reader.proofs.GivenEntries.{entry_given, fault_given}
 use Rattle.dns_reader.proofs.source.entries_are_given.Goals as goal
 
 pub returns-clause-entry : goal.returns-clause-entry
