@@ -42,7 +42,7 @@ fn types_octets<Octets: AsOctets>(data: &Data<Octets>) -> &[u8]
 fn lists(bitmap: &[u8], rtype: RecordType) -> bool
     ensures { result ≡ has (types_of bitmap.now) rtype }
 {
-    BitmapTypes::new(bitmap).any(|listed| listed == rtype.0)
+    BitmapTypes::new(bitmap).any(|listed| listed == rtype)
 }
 
 /// Whether an NSEC at a delegation lists a type, if it stands there.
@@ -88,7 +88,7 @@ fn lists_only<Owner: AsOctets, Octets: AsOctets>(
 ) -> bool
     ensures { result ≡ list_all (has_listed_type origin.now records.now name.now) (types_of bitmap.now) }
 {
-    BitmapTypes::new(bitmap).all(|code| is_to_be_listed(origin, records, name, RecordType(code)))
+    BitmapTypes::new(bitmap).all(|rtype| is_to_be_listed(origin, records, name, rtype))
 }
 
 /// Whether a bitmap lists the type of a record, or needn't.
