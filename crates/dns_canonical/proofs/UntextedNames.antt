@@ -361,12 +361,12 @@ address_is_named prefix =
 form_is_named : (rtype : RecordType) (octets : List ℕ) → IsNamed (untexted_form rtype octets)
 form_is_named rtype octets =
     let address = address_form (slice_index octets 0) in
-    let of_address : NamePlaces = if rtype == Rtype.md8 then address else names_behind 0 0 in
+    let of_address : NamePlaces = if rtype == Rtype.a6 then address else names_behind 0 0 in
     let of_map : NamePlaces = if rtype == Rtype.px then names_behind 2 2 else of_address in
     let of_signature : NamePlaces = if rtype == Rtype.sig then names_behind 18 1 else of_map in
-    named_if (rtype == Rtype.md || rtype == Rtype.mf || rtype == Rtype.md0) (names_behind 0 1) of_signature (some_names 0 1 (omega arith))
+    named_if (rtype == Rtype.md || rtype == Rtype.mf || rtype == Rtype.nxt) (names_behind 0 1) of_signature (some_names 0 1 (omega arith))
     (named_if (rtype == Rtype.sig) (names_behind 18 1) of_map (some_names 18 1 (omega arith))
-    (named_if (rtype == Rtype.px) (names_behind 2 2) of_address (some_names 2 2 (omega arith)) (named_if (rtype == Rtype.md8) address (names_behind 0 0) (address_is_named (slice_index octets 0)) no_names)))
+    (named_if (rtype == Rtype.px) (names_behind 2 2) of_address (some_names 2 2 (omega arith)) (named_if (rtype == Rtype.a6) address (names_behind 0 0) (address_is_named (slice_index octets 0)) no_names)))
 
 -- data begins with the fields that are in front
 pub untexted_starts : (rtype : RecordType) (octets : List ℕ) → StartsWithFields (untexted_front rtype octets) octets

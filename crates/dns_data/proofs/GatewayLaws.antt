@@ -27,8 +27,8 @@ use Rattle.dns_data.specs.GatewayKeys.{octet_form, gateway_type_form, ReadsGatew
 use Rattle.dns_data.specs.Digits.{digits_form}
 use Rattle.dns_data.specs.Rests.{RestForm, RefusesAs, RefusesRest, TakesRest, some_form}
 use Rattle.dns_data.specs.TokenForms.{FieldReason, TakesTokenAs, then_form}
-use Rattle.dns_data.specs.declared.error.DataError.TheVariants.{UnknownGateway}
-use Rattle.dns_data.specs.declared.error.DataRefusal.{DataRefusal}
+use Rattle.dns_fields.specs.declared.record_error.RecordError.{RecordError}
+use Rattle.dns_kinds.specs.declared.error.ErrorKind.TheVariants.{UnknownGateway}
 use Rattle.dns_data.proofs.Joinings.{joined_once}
 use Rattle.dns_data.proofs.TokenRests.{SpelledOnce, as_other, then_once, behind_taken}
 
@@ -102,7 +102,7 @@ address_lacks room number t old g plain own few octets sp =
 
 -- ---- the gateway of a type
 
-module _ (origin : Option (List (List ℕ))) (number : ℕ) (room : Room) (end : ℕ) (tokens : List TokenSeen) (old : List ℕ) (r : Result (Unit {0}) DataRefusal) (left : List TokenSeen) (new : List ℕ) where
+module _ (origin : Option (List (List ℕ))) (number : ℕ) (room : Room) (end : ℕ) (tokens : List TokenSeen) (old : List ℕ) (r : Result (Unit {0}) RecordError) (left : List TokenSeen) (new : List ℕ) where
   pub name_taken : number ≡ 3 → TakesTokenAs room (SpellsField origin OfName) (FieldReason origin OfName) end tokens old r left new
       → TakesTokenAs room (gateway_form origin number).spells (gateway_form origin number).reason end tokens old r left new
   name_taken three h =
@@ -123,7 +123,7 @@ module _ (origin : Option (List (List ℕ))) (number : ℕ) (room : Room) (end :
 
 -- ---- what is taken one behind the other
 
-module _ (origin : Option (List (List ℕ))) (number algorithm : ℕ) (room : Room) (end : ℕ) (tokens : List TokenSeen) (old : List ℕ) (begun : ℕ) (rest : List TokenSeen) (middle : List ℕ) (r : Result (Unit {0}) DataRefusal) (left : List TokenSeen) (new : List ℕ) where
+module _ (origin : Option (List (List ℕ))) (number algorithm : ℕ) (room : Room) (end : ℕ) (tokens : List TokenSeen) (old : List ℕ) (begun : ℕ) (rest : List TokenSeen) (middle : List ℕ) (r : Result (Unit {0}) RecordError) (left : List TokenSeen) (new : List ℕ) where
   pub type_before : begun ≡ end → (t : TokenSeen) × (tokens ≡ t ∷ rest) × gateway_type_form.spells t (number ∷ []) × (middle ≡ old ++ number ∷ [])
       → TakesRest room (behind_type origin number) begun rest middle r left new → TakesRest room (gateway_key_form origin) end tokens old r left new
   type_before ends k h =
@@ -181,20 +181,20 @@ octet_taken t old new g =
     first_behind (o ∷ os) number = first_behind os number
 
 module _ (room : Room) (algorithm end : ℕ) (tokens : List TokenSeen) (old : List ℕ) where
-  key_refused : (f : RestForm) (r : DataRefusal) (left : List TokenSeen) (new : List ℕ) → ((octets : List ℕ) → (key_form algorithm).spells tokens octets → f.spells tokens octets) → (f.reason tokens left r.why → (key_form algorithm).reason tokens left r.why)
+  key_refused : (f : RestForm) (r : RecordError) (left : List TokenSeen) (new : List ℕ) → ((octets : List ℕ) → (key_form algorithm).spells tokens octets → f.spells tokens octets) → (f.reason tokens left r.kind → (key_form algorithm).reason tokens left r.kind)
       → RefusesRest room f end tokens old r left new → RefusesRest room (key_form algorithm) end tokens old r left new
   key_refused f r left new from why h = record { at = h.at; why = by h.why; extends = h.extends }
     where
-      by : RefusesAs room f tokens old left r.why → RefusesAs room (key_form algorithm) tokens old left r.why
+      by : RefusesAs room f tokens old left r.kind → RefusesAs room (key_form algorithm) tokens old left r.kind
       by (inl short) = inl (short.0, λ octets sp. short.1 octets (from octets sp))
       by (inr bad) = inr (why bad.0, λ octets sp. bad.1 octets (from octets sp))
 
   -- a key that may be left out, and one that may not
-  pub any_key : algorithm ≡ 0 → (r : Result (Unit {0}) DataRefusal) (left : List TokenSeen) (new : List ℕ) → TakesRest room (digits_form InBase64) end tokens old r left new → TakesRest room (key_form algorithm) end tokens old r left new
+  pub any_key : algorithm ≡ 0 → (r : Result (Unit {0}) RecordError) (left : List TokenSeen) (new : List ℕ) → TakesRest room (digits_form InBase64) end tokens old r left new → TakesRest room (key_form algorithm) end tokens old r left new
   any_key is (Ok x) left new h = (h.0, (h.1.0, (h.1.1, λ none. is), h.1.2))
   any_key is (Err r) left new h = key_refused (digits_form InBase64) r left new (λ octets sp. sp.0) inl h
 
-  pub own_key : algorithm ≢ 0 → (r : Result (Unit {0}) DataRefusal) (left : List TokenSeen) (new : List ℕ) → TakesRest room (some_form (digits_form InBase64)) end tokens old r left new → TakesRest room (key_form algorithm) end tokens old r left new
+  pub own_key : algorithm ≢ 0 → (r : Result (Unit {0}) RecordError) (left : List TokenSeen) (new : List ℕ) → TakesRest room (some_form (digits_form InBase64)) end tokens old r left new → TakesRest room (key_form algorithm) end tokens old r left new
   own_key other (Ok x) left new h = (h.0, (h.1.0, (h.1.1.0, λ none. absurd (h.1.1.1 none)), h.1.2))
   own_key other (Err r) left new h = key_refused (some_form (digits_form InBase64)) r left new (λ octets sp. (sp.0, λ none. other (sp.1 none))) why h
     where

@@ -1,5 +1,5 @@
 -- The generic form: its tokens, and octets that are not as many as they are said to be.
-use Rattle.std.proofs.Common.{ℕ, false, ◌≡◌, ◌+◌, ◌-◌, List, [], ◌∷◌, length, drop, refl, sym, ap, subst, ◌∙◌, inl, inr, arith, append-nil, decimal, length-append, true}
+use Rattle.std.proofs.Common.{ℕ, false, ◌≡◌, ◌≢◌, ◌+◌, ◌-◌, List, [], ◌∷◌, length, drop, refl, sym, ap, subst, ◌∙◌, inl, inr, arith, append-nil, decimal, length-append, true}
 use Rattle.std.specs.Prelude.{codes, Err}
 use Rattle.dns_octets.specs.Room.{Room}
 use Rattle.dns_octets.specs.Appending.{Gains}
@@ -10,23 +10,27 @@ use Rattle.dns_split.specs.EntryTokens.{TokenSeen}
 use Rattle.dns_data.specs.Digits.{SpellsJoined, digits_form, printed_digits}
 use Rattle.dns_data.specs.Generic.{BeginsGeneric, IsCount, SpellsGeneric, TakesCount, WhyNoCount, generic_form}
 use Rattle.dns_data.specs.Rests.{RefusesRest}
-use Rattle.dns_data.specs.declared.error.DataError.{DataError}
-use Rattle.dns_data.specs.declared.error.DataError.TheVariants.{WrongLength}
-use Rattle.dns_data.specs.declared.error.DataRefusal.{DataRefusal}
+use Rattle.dns_fields.specs.RecordErrors.{error_at}
+use Rattle.dns_fields.specs.declared.record_error.RecordError.{RecordError}
+use Rattle.dns_kinds.specs.declared.error.ErrorKind.{ErrorKind}
+use Rattle.dns_kinds.specs.declared.error.ErrorKind.TheVariants.{WrongLength}
 use Rattle.dns_data.proofs.Joinings.{joined_once}
+use Rattle.dns_data.proofs.ErrorPlaces.{placed, moved}
 
 pub generic_tokens : (octets : List ℕ) → generic_form.printed octets ≡ record { is_quoted = false; text = codes "\\#" } ∷ record { is_quoted = false; text = decimal (length octets) } ∷ printed_digits base16 octets
 generic_tokens octets = refl
 
 pub wrong_count : (room : Room) (begun end at count : ℕ) (tokens first left final : List TokenSeen) (old new : List ℕ) → BeginsGeneric tokens → first ≡ drop 1 tokens → end ≡ begun → at ≡ next_place final end
     → (t : TokenSeen) × (first ≡ t ∷ left) × IsCount t count → (final ≡ []) × Gains (SpellsJoined base16 left) old new → (length new - length old ≡ count → ⊥)
-    → RefusesRest room generic_form begun tokens old (record { at = at; why = WrongLength }) final new
+    → RefusesRest room generic_form begun tokens old (error_at at (WrongLength (length new - length old) count)) final new
 wrong_count room begun end at count [] first left final old new mark is ends place counted gained wrong = absurd mark
 wrong_count room begun end at count (m ∷ ts) first left final old new mark is ends place counted gained wrong =
     let t = counted.0 in
     let all : ts ≡ t ∷ left = sym is ∙ counted.1 in
     let octets : List ℕ = gained.1.0 in
     let size : length new ≡ length old + length octets = ap length gained.1.2 ∙ length-append old octets in
+    let found : length new - length old ≡ length octets = omega (arith, size) in
+    let other : length octets ≢ count = λ same. wrong (found ∙ same) in
     let never : (v : List ℕ) → SpellsGeneric (m ∷ ts) v → ⊥ = λ v sp. (
     let s = subst (λ z. SpellsGeneric (m ∷ z) v) all sp in
     let same : v ≡ octets = joined_once Hex left v octets s.2 gained.1.1 in
@@ -35,37 +39,37 @@ wrong_count room begun end at count (m ∷ ts) first left final old new mark is 
     wrong (omega (arith, size, many, lengths))
     ) in
     record {
-      at = place ∙ ap (next_place final) ends;
-      why = inr (inr (t, left, all, inr (refl, gained.0)), never);
+      at = placed (WrongLength (length new - length old) count) (place ∙ ap (next_place final) ends);
+      why = inr (inr (t, left, all, inr ((count, octets, counted.2, gained.1.1, other, ap (λ n. WrongLength n count) found), gained.0)), never);
       extends = (octets, gained.1.2);
     }
 
-no_count : (mark : TokenSeen) (tokens : List TokenSeen) (e : DataError) → WhyNoCount tokens e → (octets : List ℕ) → SpellsGeneric (mark ∷ tokens) octets → ⊥
+no_count : (mark : TokenSeen) (tokens : List TokenSeen) (e : ErrorKind) → WhyNoCount tokens e → (octets : List ℕ) → SpellsGeneric (mark ∷ tokens) octets → ⊥
 no_count mark [] e why octets sp = sp
 no_count mark (t ∷ ts) e (inl quoted) octets sp = let bad : false ≡ true = sym sp.1.0 ∙ quoted.1 in cc bad
-no_count mark (t ∷ ts) e (inr none) octets sp = none.1.3 (length octets) sp.1.1
+no_count mark (t ∷ ts) e (inr none) octets sp = none.2 (length octets) sp.1.1
 
 -- behind the mark no number comes
-pub count_refused : (room : Room) (begun end : ℕ) (tokens first left : List TokenSeen) (old : List ℕ) (r : DataRefusal) → BeginsGeneric tokens → first ≡ drop 1 tokens → end ≡ begun → TakesCount end first (Err r) left
+pub count_refused : (room : Room) (begun end : ℕ) (tokens first left : List TokenSeen) (old : List ℕ) (r : RecordError) → BeginsGeneric tokens → first ≡ drop 1 tokens → end ≡ begun → TakesCount end first (Err r) left
     → RefusesRest room generic_form begun tokens old r left old
 count_refused room begun end [] first left old r mark is ends h = absurd mark
 count_refused room begun end (m ∷ ts) first left old r mark is ends h =
-    let why : WhyNoCount ts r.why = subst (λ z. WhyNoCount z r.why) is h.2 in
+    let why : WhyNoCount ts r.kind = subst (λ z. WhyNoCount z r.kind) is h.2 in
     record {
-      at = h.1 ∙ ap (next_place first) ends ∙ ap (λ z. next_place z begun) (sym h.0);
-      why = inr (inl (h.0 ∙ is, why), no_count m ts r.why why);
+      at = moved r h.1 (ap (next_place first) ends ∙ ap (λ z. next_place z begun) (sym h.0));
+      why = inr (inl (h.0 ∙ is, why), no_count m ts r.kind why);
       extends = ([], sym (append-nil old));
     }
 
 -- behind the number the digits are refused
-pub digits_refused : (room : Room) (begun end count : ℕ) (tokens first left final : List TokenSeen) (old new : List ℕ) (r : DataRefusal) → BeginsGeneric tokens → first ≡ drop 1 tokens → end ≡ begun
+pub digits_refused : (room : Room) (begun end count : ℕ) (tokens first left final : List TokenSeen) (old new : List ℕ) (r : RecordError) → BeginsGeneric tokens → first ≡ drop 1 tokens → end ≡ begun
     → (t : TokenSeen) × (first ≡ t ∷ left) × IsCount t count → RefusesRest room (digits_form Hex) end left old r final new → RefusesRest room generic_form begun tokens old r final new
 digits_refused room begun end count [] first left final old new r mark is ends counted h = absurd mark
 digits_refused room begun end count (m ∷ ts) first left final old new r mark is ends counted h =
     let all : ts ≡ counted.0 ∷ left = sym is ∙ counted.1 in
     let digits : (v : List ℕ) → SpellsGeneric (m ∷ ts) v → SpellsJoined base16 left v = λ v sp. (subst (λ z. SpellsGeneric (m ∷ z) v) all sp).2 in
     record {
-      at = h.at ∙ ap (next_place final) ends;
+      at = moved r h.at (ap (next_place final) ends);
       why = elim h.why [
         | inl full ↦ inl (full.0, λ v sp. full.1 v (digits v sp))
         | inr reason ↦ inr (inr (counted.0, left, all, inl reason.0), λ v sp. reason.1 v (digits v sp))

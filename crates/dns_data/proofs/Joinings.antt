@@ -8,22 +8,21 @@ use Rattle.dns_digits.specs.Reading.{DigitsState, HasRead, TakesPiece, RefusesPi
 use Rattle.dns_digits.specs.Spelled.{SpellsDigits, base_of, unfinished}
 use Rattle.dns_digits.specs.Tokens.{DigitsGoOn, RefusesToken}
 use Rattle.dns_digits.specs.declared.kind.DigitsKind.{DigitsKind}
-use Rattle.dns_digits.specs.declared.error.DigitsError.{DigitsError}
-use Rattle.dns_digits.specs.declared.error.DigitsError.TheVariants.{ShortBuf}
+use Rattle.dns_fields.specs.RecordErrors.{error_at}
+use Rattle.dns_fields.specs.declared.record_error.RecordError.{RecordError}
+use Rattle.dns_kinds.specs.declared.error.ErrorKind.{ErrorKind}
+use Rattle.dns_kinds.specs.declared.error.ErrorKind.TheVariants.{ShortBuf}
 use Rattle.dns_digits.proofs.Pieces.{takes_none, takes_on, reads_on, reads_goes_on, refuses_behind, is_short}
 use Rattle.dns_digits.proofs.Spelling.{known, spells_once}
 use Rattle.dns_digits.proofs.Together.{only_room}
 use Rattle.dns_digits.proofs.TokenLemmas.{token_refused}
-use Rattle.dns_fields.specs.Errors.{of_digits}
 use Rattle.dns_fields.specs.Source.{next_place}
-use Rattle.dns_fields.specs.declared.error.FieldError.TheVariants.{Quoted}
 use Rattle.dns_split.specs.EntryTokens.{TokenSeen}
 use Rattle.dns_data.specs.Digits.{joined_words, AreUnquoted, SpellsJoined, IsDigitsFault, JoinedReason, digits_form}
 use Rattle.dns_data.specs.Pieces.{PushesDigits, RefusesPush, PushesNext}
 use Rattle.dns_data.specs.Rests.{RefusesAs, RefusesRest, TakesRest}
-use Rattle.dns_data.specs.declared.error.DataError.{DataError}
-use Rattle.dns_data.specs.declared.error.DataError.TheVariants.{Field}
-use Rattle.dns_data.specs.declared.error.DataRefusal.{DataRefusal}
+use Rattle.dns_fields.specs.RecordErrors.{IsErrorAt}
+use Rattle.dns_data.proofs.ErrorPlaces.{placed, moved}
 
 -- from a first state on, some words are pushed
 pub record HasJoined (first s : DigitsState) (tokens : List TokenSeen) (old : List ℕ) (left : List TokenSeen) (new : List ℕ) : Type 0 where
@@ -78,31 +77,31 @@ module _ (kind : DigitsKind) (first s : DigitsState) (same : first.kind ≡ kind
       let digits : SpellsDigits (base_of kind) (joined_words h.before) h.gained = subst (λ k. SpellsDigits (base_of k) (joined_words h.before) h.gained) kept (spelled (joined_words h.before) h.gained read) in
       (h.gained, subst (λ ts. SpellsJoined (base_of kind) ts h.gained) (sym (all_before none)) (h.unquoted, digits), h.octets)
 
-  pub ends_within : (room : Room) (begun end at : ℕ) (e : DigitsError) → end ≡ begun → left ≡ [] → at ≡ next_place left end → e ≡ unfinished s.kind
+  pub ends_within : (room : Room) (begun end at : ℕ) (e : ErrorKind) → end ≡ begun → left ≡ [] → at ≡ next_place left end → e ≡ unfinished s.kind
       → ((text octets : List ℕ) → HasRead s text octets → (v : List ℕ) → SpellsDigits (base_of s.kind) text v → ⊥)
-      → RefusesRest room (digits_form kind) begun tokens old (record { at = at; why = Field (of_digits e) }) left new
+      → RefusesRest room (digits_form kind) begun tokens old (error_at at e) left new
   ends_within room begun end at e ends none place is never =
       let on = reads_goes_on s (joined_words h.before) h.gained read in
       let goes : DigitsGoOn kind (joined_words h.before) = subst (λ k. DigitsGoOn k (joined_words h.before)) kept (on.0, h.gained ++ on.1, on.2) in
       let unspelled : (v : List ℕ) → SpellsDigits (base_of kind) (joined_words h.before) v → ⊥ =
       subst (λ (k : DigitsKind). (v : List ℕ) → SpellsDigits (base_of k) (joined_words h.before) v → ⊥) kept (never (joined_words h.before) h.gained read) in
       record {
-        at = place ∙ ap (next_place left) ends;
+        at = placed e (place ∙ ap (next_place left) ends);
         why = inr (
-          (h.before, h.whole, (h.unquoted, subst (λ l. JoinedReason kind h.before l (Field (of_digits e))) (sym none) (e, refl, inl (is ∙ ap unfinished kept, goes)))),
+          (h.before, h.whole, (h.unquoted, subst (λ l. JoinedReason kind h.before l e) (sym none) (inl (is ∙ ap unfinished kept, goes)))),
           λ octets sp. unspelled octets (subst (λ ts. SpellsJoined (base_of kind) ts octets) (all_before none) sp).1,
         );
         extends = (h.gained, h.octets);
       }
 
-  fault_of : (room : Room) (text : List ℕ) (d : DigitsError) → d ≢ ShortBuf → RefusesToken kind room text old d → IsDigitsFault kind text d
+  fault_of : (room : Room) (text : List ℕ) (d : ErrorKind) → d ≢ ShortBuf → RefusesToken kind room text old d → IsDigitsFault kind text d
   fault_of room text d other r = elim r.why [
     | inl short ↦ absurd (other short)
     | inr f ↦ f
   ]
 
-  refused_digits : (room : Room) (t : TokenSeen) (ts : List TokenSeen) (d : DigitsError) → left ≡ t ∷ ts → t.is_quoted ≡ false → RefusesPiece room s t.text new d
-      → RefusesAs room (digits_form kind) tokens old (t ∷ ts) (Field (of_digits d))
+  refused_digits : (room : Room) (t : TokenSeen) (ts : List TokenSeen) (d : ErrorKind) → left ≡ t ∷ ts → t.is_quoted ≡ false → RefusesPiece room s t.text new d
+      → RefusesAs room (digits_form kind) tokens old (t ∷ ts) d
   refused_digits room t ts d is plain r =
       let text : List ℕ = joined_words h.before ++ t.text in
       let all : joined_words tokens ≡ text ++ joined_words ts = ap joined_words (h.whole ∙ ap (λ l. h.before ++ l) is) ∙ joined_parts h.before (t ∷ ts) ∙ sym (append_assoc (joined_words h.before) t.text (joined_words ts)) in
@@ -114,14 +113,14 @@ module _ (kind : DigitsKind) (first s : DigitsState) (same : first.kind ≡ kind
       only_room room first [] text (joined_words ts) octets [] old d digits fresh behind
       ) in
       elim (is_short d) [
-        | inl short ↦ inl (ap (λ e. Field (of_digits e)) short, λ octets sp. (let lacks = (only octets sp).1 in subst (λ (o : List ℕ). room.fits < length old + length o) (sym lacks.1) lacks.2))
+        | inl short ↦ inl (short, λ octets sp. (let lacks = (only octets sp).1 in subst (λ (o : List ℕ). room.fits < length old + length o) (sym lacks.1) lacks.2))
         | inr other ↦ inr (
-          (h.before, h.whole ∙ ap (λ l. h.before ++ l) is, (h.unquoted, inr (plain, (d, refl, subst (λ z. IsDigitsFault kind z d) (sym (joined_last h.before t)) (fault_of room text d other token))))),
+          (h.before, h.whole ∙ ap (λ l. h.before ++ l) is, (h.unquoted, inr (plain, subst (λ z. IsDigitsFault kind z d) (sym (joined_last h.before t)) (fault_of room text d other token)))),
           λ octets sp. other (only octets sp).0,
         )
       ]
 
-  refused_why : (room : Room) (rest : List TokenSeen) (e : DataError) → left ≡ rest → rest ≢ [] → RefusesPush room s rest new e → RefusesAs room (digits_form kind) tokens old rest e
+  refused_why : (room : Room) (rest : List TokenSeen) (e : ErrorKind) → left ≡ rest → rest ≢ [] → RefusesPush room s rest new e → RefusesAs room (digits_form kind) tokens old rest e
   refused_why room [] e is some r = absurd (some refl)
   refused_why room (t ∷ ts) e is some (inl k) =
       inr (
@@ -131,18 +130,17 @@ module _ (kind : DigitsKind) (first s : DigitsState) (same : first.kind ≡ kind
             true≢false (sym k.1 ∙ plain)
             ),
       )
-  refused_why room (t ∷ ts) e is some (inr k) =
-      subst (λ e. RefusesAs room (digits_form kind) tokens old (t ∷ ts) e) (sym k.1.1) (refused_digits room t ts k.1.0 is k.0 k.1.2)
+  refused_why room (t ∷ ts) e is some (inr k) = refused_digits room t ts e is k.0 k.1
 
-  pub push_refused : (room : Room) (begun end : ℕ) (rest : List TokenSeen) (final : List ℕ) (r : DataRefusal) → end ≡ begun → left ≢ []
-      → (rest ≡ left) × (r.at ≡ next_place left end) × RefusesPush room s left new r.why × Extends new final
+  pub push_refused : (room : Room) (begun end : ℕ) (rest : List TokenSeen) (final : List ℕ) (r : RecordError) → end ≡ begun → left ≢ []
+      → (rest ≡ left) × IsErrorAt (next_place left end) r × RefusesPush room s left new r.kind × Extends new final
       → RefusesRest room (digits_form kind) begun tokens old r rest final
   push_refused room begun end rest final r ends some k =
       let same_left : rest ≡ left = k.0 in
-      let refused : RefusesAs room (digits_form kind) tokens old left r.why = refused_why room left r.why refl some k.2 in
+      let refused : RefusesAs room (digits_form kind) tokens old left r.kind = refused_why room left r.kind refl some k.2 in
       record {
-        at = k.1 ∙ ap (λ l. next_place l end) (sym same_left) ∙ ap (next_place rest) ends;
-        why = subst (λ l. RefusesAs room (digits_form kind) tokens old l r.why) (sym same_left) refused;
+        at = moved r k.1 (ap (λ l. next_place l end) (sym same_left) ∙ ap (next_place rest) ends);
+        why = subst (λ l. RefusesAs room (digits_form kind) tokens old l r.kind) (sym same_left) refused;
         extends = (h.gained ++ k.3.0, k.3.1 ∙ ap (λ o. o ++ k.3.0) h.octets ∙ append_assoc old h.gained k.3.0);
       }
 

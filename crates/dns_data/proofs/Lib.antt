@@ -1,4 +1,5 @@
 pub mod DataForms
+pub mod ErrorPlaces
 pub mod FieldFronts
 pub mod GatewayLaws
 pub mod GatewayPrints

@@ -9,24 +9,30 @@ use Rattle.dns_places.specs.declared.location_text.LocationWord.{LocationWord}
 use Rattle.dns_places.specs.Locations.{SpellsLocation}
 use Rattle.dns_places.specs.declared.location.Location.{Location}
 use Rattle.dns_places.proofs.LocationLaws.{locations_are_read}
+use Rattle.std.specs.Prelude.{Result, Ok, Err, OnOk, OnErr, IfErr}
 use Rattle.dns_octets.specs.Room.{Room}
+use Rattle.dns_octets.specs.Appending.{Gains}
 use Rattle.dns_places.specs.LocationTaking.{RefusesLocation}
-use Rattle.dns_places.specs.declared.location.LocationRefusal.{LocationRefusal}
+use Rattle.dns_fields.specs.declared.record_error.RecordError.{RecordError}
 use Rattle.dns_split.specs.EntryTokens.{TokenSeen}
-use Rattle.dns_data.specs.Errors.{of_location}
 use Rattle.dns_data.specs.LocationRest.{location_at, location_form}
-use Rattle.dns_data.specs.Rests.{PrintedToken, ArePrinted, RefusesAs, RefusesRest}
+use Rattle.dns_data.specs.Rests.{PrintedToken, ArePrinted, RefusesAs, RefusesRest, TakesRest}
 
-pub location_refused : (room : Room) (end : ℕ) (tokens left : List TokenSeen) (old new : List ℕ) (r : LocationRefusal) → new ≡ old → RefusesLocation room end tokens left old r
-    → RefusesRest room location_form end tokens old (record { at = r.at; why = of_location r.why }) left new
+location_refused : (room : Room) (end : ℕ) (tokens left : List TokenSeen) (old new : List ℕ) (r : RecordError) → new ≡ old → RefusesLocation room end tokens left old r
+    → RefusesRest room location_form end tokens old r left new
 location_refused room end tokens left old new r same h = record {
   at = h.0;
   why = elim h.1 [
-    | inl none ↦ inr ((r.why, refl, none.0, none.1), none.2)
-    | inr lacks ↦ inl (ap of_location lacks.0, lacks.3)
+    | inl none ↦ inr ((none.0, none.1), none.2)
+    | inr lacks ↦ inl (lacks.0, lacks.3)
   ];
   extends = ([], same ∙ sym (append-nil old));
 }
+
+pub location_taken : (room : Room) (end : ℕ) (tokens left : List TokenSeen) (old new : List ℕ) (r : Result (Unit {0}) RecordError) → OnOk r (Gains (SpellsLocation tokens) old new) → OnOk r (left ≡ []) → OnErr r (new ≡ old)
+    → IfErr r (RefusesLocation room end tokens left old) → TakesRest room location_form end tokens old r left new
+location_taken room end tokens left old new (Ok x) gains none same why = (none, gains)
+location_taken room end tokens left old new (Err r) gains none same why = location_refused room end tokens left old new r same why
 
 abbrev with_numbers : Location → ℕ → ℕ → ℕ → Location
 with_numbers l a b c = record { sizes = l.sizes; latitude = a; longitude = b; altitude = c }

@@ -2,7 +2,6 @@
 use Rattle.std.proofs.Common.{ℕ, true, false, true≢false, ◌≡◌, ◌≢◌, ◌<◌, ◌⊎◌, List, [], ◌∷◌, ◌++◌, length, refl, sym, ap, subst, ◌∙◌, inl, inr, arith, append-nil}
 use Rattle.std.proofs.lemmas.List.{append_assoc}
 use Rattle.dns_kinds.specs.Types.{SpellsType}
-use Rattle.dns_kinds.specs.declared.types.RecordType.{RecordType}
 use Rattle.dns_kinds.proofs.CodeLaws.{types_are_kind}
 use Rattle.dns_lists.specs.Bitmap.{bitmap, has, SameTypes}
 use Rattle.dns_lists.proofs.TypesOf.{same_bitmap, same_types_more}
@@ -10,12 +9,15 @@ use Rattle.dns_octets.specs.Room.{Room}
 use Rattle.dns_octets.specs.Appending.{Extends, Gains, LacksRoom}
 use Rattle.dns_fields.specs.Source.{next_place}
 use Rattle.dns_split.specs.EntryTokens.{TokenSeen}
-use Rattle.dns_data.specs.Errors.{no_room}
 use Rattle.dns_data.specs.Rests.{RefusesAs, RefusesRest}
 use Rattle.std.specs.Prelude.{Err}
 use Rattle.dns_data.specs.TypeLists.{InsertsNext, NamesType, NameTypes, NamesNone, types_form}
-use Rattle.dns_data.specs.declared.error.DataError.{DataError}
-use Rattle.dns_data.specs.declared.error.DataRefusal.{DataRefusal}
+use Rattle.dns_fields.specs.RecordErrors.{error_at}
+use Rattle.dns_fields.specs.declared.record_error.RecordError.{RecordError}
+use Rattle.dns_kinds.specs.declared.error.ErrorKind.{ErrorKind}
+use Rattle.dns_kinds.specs.declared.error.ErrorKind.TheVariants.{ShortBuf}
+use Rattle.dns_fields.specs.RecordErrors.{IsErrorAt}
+use Rattle.dns_data.proofs.ErrorPlaces.{placed, moved}
 
 pub record HasNamed (set : List ℕ) (tokens left : List TokenSeen) : Type 0 where
   pub before : List TokenSeen
@@ -25,15 +27,15 @@ pub record HasNamed (set : List ℕ) (tokens left : List TokenSeen) : Type 0 whe
   pub same : SameTypes set types
 
 pub none_named : (set : List ℕ) (tokens : List TokenSeen) → set ≡ [] → HasNamed set tokens tokens
-none_named set tokens none = record { before = []; whole = refl; types = []; named = tt; same = λ code small. ap (λ s. has s code) none }
+none_named set tokens none = record { before = []; whole = refl; types = []; named = tt; same = λ rtype small. ap (λ s. has s rtype) none }
 
-names_more : (before : List TokenSeen) (types : List ℕ) (t : TokenSeen) (code : ℕ) → NameTypes before types → NamesType t code → NameTypes (before ++ t ∷ []) (types ++ code ∷ [])
-names_more [] [] t code h k = (k, tt)
-names_more [] (c ∷ cs) t code h k = absurd h
-names_more (b ∷ bs) [] t code h k = absurd h
-names_more (b ∷ bs) (c ∷ cs) t code h k = (h.0, names_more bs cs t code h.1 k)
+names_more : (before : List TokenSeen) (types : List ℕ) (t : TokenSeen) (rtype : ℕ) → NameTypes before types → NamesType t rtype → NameTypes (before ++ t ∷ []) (types ++ rtype ∷ [])
+names_more [] [] t rtype h k = (k, tt)
+names_more [] (c ∷ cs) t rtype h k = absurd h
+names_more (b ∷ bs) [] t rtype h k = absurd h
+names_more (b ∷ bs) (c ∷ cs) t rtype h k = (h.0, names_more bs cs t rtype h.1 k)
 
-pub more_named : (set new : List ℕ) (tokens left rest : List TokenSeen) → HasNamed set tokens left → (t : TokenSeen) × (left ≡ t ∷ rest) × ((code : ℕ) × NamesType t code × SameTypes new (code ∷ set)) → HasNamed new tokens rest
+pub more_named : (set new : List ℕ) (tokens left rest : List TokenSeen) → HasNamed set tokens left → (t : TokenSeen) × (left ≡ t ∷ rest) × ((rtype : ℕ) × NamesType t rtype × SameTypes new (rtype ∷ set)) → HasNamed new tokens rest
 more_named set new tokens left rest h k = let t = k.0 in record {
   before = h.before ++ t ∷ [];
   whole = h.whole ∙ ap (λ l. h.before ++ l) k.1 ∙ sym (append_assoc h.before (t ∷ []) rest);
@@ -42,8 +44,8 @@ more_named set new tokens left rest h k = let t = k.0 in record {
   same = same_types_more set new h.types k.2.0 h.same k.2.2;
 }
 
-one_type : (text : List ℕ) (a b : ℕ) → SpellsType text (record { 0 = a }) → SpellsType text (record { 0 = b }) → a ≡ b
-one_type text a b h k = ap (λ (t : RecordType). t.0) (types_are_kind.once text (record { 0 = a }) (record { 0 = b }) h k)
+one_type : (text : List ℕ) (a b : ℕ) → SpellsType text a → SpellsType text b → a ≡ b
+one_type text a b h k = types_are_kind.once text a b h k
 
 names_once : (tokens : List TokenSeen) (a b : List ℕ) → NameTypes tokens a → NameTypes tokens b → a ≡ b
 names_once [] [] [] h k = refl
@@ -56,17 +58,17 @@ names_once (t ∷ ts) (a ∷ as_) (b ∷ bs) h k =
     let back : as_ ≡ bs = names_once ts as_ bs h.1 k.1 in
     cc (front, back)
 
-names_at : (before ts : List TokenSeen) (t : TokenSeen) (types : List ℕ) → NameTypes (before ++ t ∷ ts) types → (code : ℕ) × NamesType t code
+names_at : (before ts : List TokenSeen) (t : TokenSeen) (types : List ℕ) → NameTypes (before ++ t ∷ ts) types → (rtype : ℕ) × NamesType t rtype
 names_at [] ts t [] h = absurd h
 names_at [] ts t (c ∷ cs) h = (c, h.0)
 names_at (b ∷ bs) ts t [] h = absurd h
 names_at (b ∷ bs) ts t (c ∷ cs) h = names_at bs ts t cs h.1
 
-never_both : (t : TokenSeen) (e : DataError) (code : ℕ) → NamesNone t e → NamesType t code → ⊥
-never_both t e code (inl h) k = true≢false (sym h.1 ∙ k.0)
-never_both t e code (inr h) k = elim h.1 [
-  | inl none ↦ none.1 (record { 0 = code }) k.1
-  | inr zero ↦ k.2 (one_type t.text code 0 k.1 zero.1)
+never_both : (t : TokenSeen) (e : ErrorKind) (rtype : ℕ) → NamesNone t e → NamesType t rtype → ⊥
+never_both t e rtype (inl h) k = true≢false (sym h.1 ∙ k.0)
+never_both t e rtype (inr h) k = elim h.1 [
+  | inl none ↦ none.1 rtype k.1
+  | inr zero ↦ k.2 (one_type t.text rtype 0 k.1 zero.1)
 ]
 
 all_named : (set : List ℕ) (tokens left : List TokenSeen) (h : HasNamed set tokens left) → left ≡ [] → NameTypes tokens h.types
@@ -77,9 +79,9 @@ types_gained set tokens left old new h none is =
     (bitmap set, (h.types, all_named set tokens left h none, same_bitmap set h.types h.same), is)
 
 pub types_lack : (room : Room) (set : List ℕ) (tokens left : List TokenSeen) (old new : List ℕ) (begun end at : ℕ) (h : HasNamed set tokens left) → left ≡ [] → end ≡ begun → at ≡ next_place left end
-    → LacksRoom room (λ octets. octets ≡ bitmap set) old → Extends old new → RefusesRest room types_form begun tokens old (record { at = at; why = no_room }) left new
+    → LacksRoom room (λ octets. octets ≡ bitmap set) old → Extends old new → RefusesRest room types_form begun tokens old (error_at at ShortBuf) left new
 types_lack room set tokens left old new begun end at h none ends place lacks extends = record {
-  at = place ∙ ap (next_place left) ends;
+  at = placed ShortBuf (place ∙ ap (next_place left) ends);
   why = inl (
     refl,
     λ octets sp. (
@@ -90,21 +92,21 @@ types_lack room set tokens left old new begun end at h none ends place lacks ext
   extends = extends;
 }
 
-type_refused : (room : Room) (set : List ℕ) (tokens left rest : List TokenSeen) (old : List ℕ) (begun end : ℕ) (r : DataRefusal) (h : HasNamed set tokens left) → end ≡ begun
-    → (t : TokenSeen) × (ts : List TokenSeen) × (left ≡ t ∷ ts) × (rest ≡ t ∷ ts) × (r.at ≡ t.at) × NamesNone t r.why → RefusesRest room types_form begun tokens old r rest old
+type_refused : (room : Room) (set : List ℕ) (tokens left rest : List TokenSeen) (old : List ℕ) (begun end : ℕ) (r : RecordError) (h : HasNamed set tokens left) → end ≡ begun
+    → (t : TokenSeen) × (ts : List TokenSeen) × (left ≡ t ∷ ts) × (rest ≡ t ∷ ts) × IsErrorAt t.at r × NamesNone t r.kind → RefusesRest room types_form begun tokens old r rest old
 type_refused room set tokens left rest old begun end r h ends k = let t = k.0 in let ts = k.1 in let is : left ≡ t ∷ ts = k.2 in let rest_is : rest ≡ t ∷ ts = k.3 in record {
-  at = k.4 ∙ ap (λ l. next_place l begun) (sym rest_is);
-  why = subst (λ l. RefusesAs room types_form tokens old l r.why) (sym rest_is) (inr (
+  at = moved r k.4 (ap (λ l. next_place l begun) (sym rest_is));
+  why = subst (λ l. RefusesAs room types_form tokens old l r.kind) (sym rest_is) (inr (
     (h.before, h.whole ∙ ap (λ l. h.before ++ l) is, k.5),
     λ octets sp. (
         let at = names_at h.before ts t sp.0 (subst (λ z. NameTypes z sp.0) (h.whole ∙ ap (λ l. h.before ++ l) is) sp.1) in
-        never_both t r.why at.0 k.5 at.1
+        never_both t r.kind at.0 k.5 at.1
         ),
   ));
   extends = ([], sym (append-nil old));
 }
 
-pub insert_refused : (room : Room) (set more : List ℕ) (tokens left rest : List TokenSeen) (old : List ℕ) (begun end : ℕ) (r : DataRefusal) → HasNamed set tokens left → end ≡ begun → left ≢ []
+pub insert_refused : (room : Room) (set more : List ℕ) (tokens left rest : List TokenSeen) (old : List ℕ) (begun end : ℕ) (r : RecordError) → HasNamed set tokens left → end ≡ begun → left ≢ []
     → InsertsNext set end left (Err r) more rest → RefusesRest room types_form begun tokens old r rest old
 insert_refused room set more tokens [] rest old begun end r h ends some k = absurd (some refl)
 insert_refused room set more tokens (t ∷ ts) rest old begun end r h ends some k = type_refused room set tokens (t ∷ ts) rest old begun end r h ends (t, ts, refl, k.0, k.1, k.2)

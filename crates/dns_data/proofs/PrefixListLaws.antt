@@ -7,12 +7,11 @@ use Rattle.dns_octets.specs.Room.{Room}
 use Rattle.dns_places.specs.Prefixes.{IsPrefixWire, BeginsWithItem, IsItemOf, SpellsItem}
 use Rattle.dns_places.specs.Refusals.{WhyNot}
 use Rattle.dns_places.specs.declared.apl.Prefix.{Prefix}
-use Rattle.dns_places.specs.declared.error.PlaceError.{PlaceError}
-use Rattle.dns_places.specs.declared.error.PlaceError.TheVariants.{ExpectedPrefix}
+use Rattle.dns_kinds.specs.declared.error.ErrorKind.{ErrorKind}
+use Rattle.dns_kinds.specs.declared.error.ErrorKind.TheVariants.{ExpectedPrefix}
 use Rattle.dns_places.proofs.ItemLemmas.{begins_with}
 use Rattle.dns_places.proofs.PrefixLaws.{prefixes_are_read}
 use Rattle.dns_split.specs.EntryTokens.{TokenSeen}
-use Rattle.dns_data.specs.Errors.{of_place}
 use Rattle.dns_data.specs.PrefixLists.{IsPrefixItem, prefix_form, prefixes_form}
 use Rattle.dns_data.specs.TokenForms.{AreParts, RefusesTokenAs}
 use Rattle.dns_data.proofs.TokenRests.{SpelledOnce, each_once}
@@ -27,10 +26,10 @@ prefix_once t a b h k =
 pub prefixes_once : (tokens : List TokenSeen) (a b : List ℕ) → prefixes_form.spells tokens a → prefixes_form.spells tokens b → a ≡ b
 prefixes_once tokens a b h k = each_once prefix_form prefix_once tokens a b h k
 
-pub item_refused : (room : Room) (t : TokenSeen) (ts : List TokenSeen) (old : List ℕ) (e : PlaceError) → t.is_quoted ≡ false → WhyNot room (SpellsItem t.text) ExpectedPrefix old e
-    → RefusesTokenAs room prefix_form.spells prefix_form.reason (t ∷ ts) old (of_place e)
-item_refused room t ts old e plain (inl bad) = inr (inr (ap of_place bad.0, plain), λ octets sp. bad.1 octets sp.1)
-item_refused room t ts old e plain (inr short) = inl (ap of_place short.0, λ octets sp. short.1 octets sp.1)
+pub item_refused : (room : Room) (t : TokenSeen) (ts : List TokenSeen) (old : List ℕ) (e : ErrorKind) → t.is_quoted ≡ false → WhyNot room (SpellsItem t.text) ExpectedPrefix old e
+    → RefusesTokenAs room prefix_form.spells prefix_form.reason (t ∷ ts) old e
+item_refused room t ts old e plain (inl bad) = inr (inr (bad.0, plain), λ octets sp. bad.1 octets sp.1)
+item_refused room t ts old e plain (inr short) = inl (short.0, λ octets sp. short.1 octets sp.1)
 
 -- ---- items in octets
 

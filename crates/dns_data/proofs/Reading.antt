@@ -7,23 +7,21 @@ use Rattle.dns_octets.specs.Room.{Room}
 use Rattle.dns_octets.specs.Appending.{Extends, Gains}
 use Rattle.dns_digits.specs.declared.kind.DigitsKind.TheVariants.{Hex as InHex, Base64 as InBase64}
 use Rattle.dns_digits.proofs.Pieces.{rest_of}
-use Rattle.dns_fields.specs.Source.{next_place}
-use Rattle.dns_fields.specs.Taking.{HasTaken, RefusesAField, last_place}
-use Rattle.dns_fields.specs.declared.taking.FieldRefusal.{FieldRefusal}
+use Rattle.dns_fields.specs.Taking.{HasTaken, TakesAllFields, last_place}
+use Rattle.dns_fields.specs.RecordErrors.{error_at, error_in_field}
+use Rattle.dns_fields.specs.declared.record_error.RecordError.{RecordError}
+use Rattle.dns_kinds.specs.declared.error.ErrorKind.TheVariants.{ShortBuf}
 use Rattle.dns_fields.proofs.Refused.{only_room_lacks, fields_front, all_once}
 use Rattle.dns_spelling.proofs.FormLaws.{octets_spelled}
 use Rattle.dns_split.specs.EntryTokens.{TokenSeen}
-use Rattle.dns_data.specs.Data.{HasLength, HasWrongHash, SpellsData, ReadsData}
-use Rattle.dns_data.specs.Errors.{no_room}
-use Rattle.dns_data.specs.Rests.{RefusesAs, RefusesRest}
+use Rattle.dns_data.specs.Data.{HasLength, HasWrongHash, IsWrongLength, SpellsData, ReadsData, wrong_length}
+use Rattle.dns_data.specs.Rests.{RefusesAs, TakesInParts}
 use Rattle.dns_data.specs.RestKinds.{IsRestPart, rest_form}
 use Rattle.dns_data.specs.Texts.{AreText}
-use Rattle.dns_data.specs.declared.error.DataError.TheVariants.{Field as OfField, WrongLength}
 use Rattle.dns_data.specs.declared.rest.Rest.{Rest}
 use Rattle.dns_data.specs.declared.rest.Rest.TheVariants.{Nothing, Strings, Hex, Base64, Types, SomeTypes, Text, QuotedText, Location as OfLocation, Prefixes, GatewayKey, Params}
 use Rattle.dns_data.specs.declared.shape.Length.{Length}
 use Rattle.dns_data.specs.declared.shape.Length.TheVariants.{Any, Digest, Hash}
-use Rattle.dns_data.specs.declared.shape.PartRefusal.{PartRefusal}
 use Rattle.dns_data.specs.declared.shape.Shape.{Shape}
 use Rattle.dns_params.proofs.ParamLaws.{all_params_once}
 use Rattle.dns_places.proofs.LocationLaws.{locations_are_read}
@@ -57,17 +55,17 @@ rest_once origin GatewayKey tokens a b h k = gateway_key_once origin tokens a b 
 rest_once origin Params tokens a b h k = all_params_once tokens a b h k
 
 module _ (origin : Option (List (List ℕ))) (room : Room) (shape : Shape) (end : ℕ) (tokens : List TokenSeen) (old : List ℕ) where
-  pub field_refused : (f : FieldRefusal) (left : List TokenSeen) (new : List ℕ) → RefusesAField origin room shape.fields.now end tokens old f left new
-      → ReadsData origin room shape end tokens old (Err (record { part = f.field; at = f.refusal.at; why = OfField f.refusal.why })) left new
-  field_refused f left new h =
-      let b = h.before in (
-        inl (f.refusal.why, refl, h),
+  pub field_refused : (r : RecordError) (left : List TokenSeen) (new : List ℕ) → TakesAllFields origin room shape.fields.now end tokens old (Err r) left new → ReadsData origin room shape end tokens old (Err r) left new
+  field_refused r left new h =
+      let f = h.1 in
+      let b = f.before in (
+        inl h,
         λ octets sp. (
-            let lacks = only_room_lacks origin room shape.fields.now end tokens old f left new sp.first sp.last sp.front h sp.tokens_are sp.fields in
+            let lacks = only_room_lacks origin room shape.fields.now tokens old h.0 r.kind left new sp.first sp.last sp.front f sp.tokens_are sp.fields in
             let sum = ap length sp.octets_are ∙ length-append sp.front sp.back in
-            (ap OfField lacks.0, omega (arith, lacks.1, sum))
+            (lacks.0, omega (arith, lacks.1, sum))
             ),
-        (b.octets ++ h.extends.0, h.extends.1 ∙ ap (λ o. o ++ h.extends.0) b.gained ∙ append_assoc old b.octets h.extends.0),
+        (b.octets ++ f.extends.0, f.extends.1 ∙ ap (λ o. o ++ f.extends.0) b.gained ∙ append_assoc old b.octets f.extends.0),
       )
 
   module _ (behind : List TokenSeen) (middle : List ℕ) (t : HasTaken origin shape.fields.now tokens old behind middle) where
@@ -81,7 +79,7 @@ module _ (origin : Option (List (List ℕ))) (room : Room) (shape : Shape) (end 
     extends_on new h = (t.octets ++ h.0, h.1 ∙ ap (λ o. o ++ h.0) t.gained ∙ append_assoc old t.octets h.0)
 
     only_room : (left : List TokenSeen) (e : _) (octets : List ℕ) → RefusesAs room (rest_form origin shape.rest) behind middle left e → SpellsData origin shape tokens octets
-        → (e ≡ no_room) × (room.fits < length old + length octets)
+        → (e ≡ ShortBuf) × (room.fits < length old + length octets)
     only_room left e octets (inl h) sp =
         let p = parts octets sp in
         let lacks = h.1 sp.back p.0 in
@@ -90,18 +88,19 @@ module _ (origin : Option (List (List ℕ))) (room : Room) (shape : Shape) (end 
         (h.0, omega (arith, lacks, sum, start))
     only_room left e octets (inr h) sp = absurd (h.1 sp.back (parts octets sp).0)
 
-    pub rest_refused : (begun part : ℕ) (r : PartRefusal) (left : List TokenSeen) (new : List ℕ) → begun ≡ end → (HasWrongHash shape.length t.octets → ⊥) → r.part ≡ length shape.fields.now + part → IsRestPart origin shape.rest behind left part
-        → RefusesRest room (rest_form origin shape.rest) begun behind middle (record { at = r.at; why = r.why }) left new → ReadsData origin room shape end tokens old (Err r) left new
-    rest_refused begun part r left new ends hashed is which h = (
-      inr (record {
-        behind = behind;
-        middle = middle;
-        taken = t;
-        why = inr (hashed, inl (part, is, which, subst (λ e. RefusesRest room (rest_form origin shape.rest) e behind middle (record { at = r.at; why = r.why }) left new) ends h));
-      }),
-      λ octets sp. only_room left r.why octets h.why sp,
-      extends_on new h.extends,
-    )
+    pub rest_refused : (begun : ℕ) (r : RecordError) (left : List TokenSeen) (new : List ℕ) → begun ≡ end → (HasWrongHash shape.length t.octets → ⊥)
+        → TakesInParts room (rest_form origin shape.rest) (IsRestPart origin shape.rest) (length shape.fields.now) begun behind middle (Err r) left new → ReadsData origin room shape end tokens old (Err r) left new
+    rest_refused begun r left new ends hashed h =
+        let kind : r.kind ≡ h.0.kind = ap (λ (e : RecordError). e.kind) h.2 in (
+          inr (record {
+            behind = behind;
+            middle = middle;
+            taken = t;
+            why = inr (hashed, inl (subst (λ e. TakesInParts room (rest_form origin shape.rest) (IsRestPart origin shape.rest) (length shape.fields.now) e behind middle (Err r) left new) ends h));
+          }),
+          λ octets sp. only_room left r.kind octets (subst (RefusesAs room (rest_form origin shape.rest) behind middle left) (sym kind) h.3.why) sp,
+          extends_on new h.3.extends,
+        )
 
     -- a hash among the fields is the same with what comes after them
     wrong_in : (length_is : Length) (back : List ℕ) → HasWrongHash length_is t.octets → HasLength length_is (t.octets ++ back) → ⊥
@@ -115,28 +114,29 @@ module _ (origin : Option (List (List ℕ))) (room : Room) (shape : Shape) (end 
         let place : 5 + slice_index (t.octets ++ back) 4 ≡ 5 + slice_index t.octets 4 = ap (λ n. 5 + n) salt in
         h.1 (λ one. sym (ap (slice_index (t.octets ++ back)) place ∙ count) ∙ k (first ∙ one))
 
-    pub hash_refused : (r : PartRefusal) (left : List TokenSeen) (new : List ℕ) → r.why ≡ WrongLength → r.part ≡ length shape.fields.now - 1 → r.at ≡ last_place shape.fields.now tokens end → left ≡ behind → new ≡ middle
-        → HasWrongHash shape.length (drop (length old) middle) → ReadsData origin room shape end tokens old (Err r) left new
-    hash_refused r left new why part place rest same wrong =
+    pub hash_refused : (r : RecordError) (left : List TokenSeen) (new : List ℕ) → r ≡ error_in_field (length shape.fields.now - 1) (error_at (last_place shape.fields.now tokens end) (wrong_length shape.length (drop (length old) middle)))
+        → left ≡ behind → new ≡ middle → HasWrongHash shape.length (drop (length old) middle) → ReadsData origin room shape end tokens old (Err r) left new
+    hash_refused r left new is rest same wrong =
         let all : drop (length old) middle ≡ t.octets = ap (drop (length old)) t.gained ∙ drop-append_seam old t.octets in
-        let bad : HasWrongHash shape.length t.octets = subst (HasWrongHash shape.length) all wrong in (
-          inr (record { behind = behind; middle = middle; taken = t; why = inl (why, part, place, rest, same, bad) }),
+        let bad : HasWrongHash shape.length t.octets = subst (HasWrongHash shape.length) all wrong in
+        let known = is ∙ ap (λ o. error_in_field (length shape.fields.now - 1) (error_at (last_place shape.fields.now tokens end) (wrong_length shape.length o))) all in (
+          inr (record { behind = behind; middle = middle; taken = t; why = inl (known, rest, same, bad) }),
           λ octets sp. (let p = parts octets sp in absurd (wrong_in shape.length sp.back bad (subst (HasLength shape.length) p.1 sp.lengths))),
           (t.octets, same ∙ t.gained),
         )
 
-    pub length_refused : (begun part at : ℕ) (left : List TokenSeen) (new : List ℕ) → begun ≡ end → (HasWrongHash shape.length t.octets → ⊥) → part ≡ length shape.fields.now → at ≡ next_place behind begun
-        → (left ≡ []) × Gains ((rest_form origin shape.rest).spells behind) middle new → (HasLength shape.length (drop (length old) new) → ⊥)
-        → ReadsData origin room shape end tokens old (Err (record { part = part; at = at; why = WrongLength })) left new
-    length_refused begun part at left new ends hashed is place h wrong =
+    pub length_refused : (r : RecordError) (left : List TokenSeen) (new : List ℕ) → (HasWrongHash shape.length t.octets → ⊥)
+        → (left ≡ []) × Gains ((rest_form origin shape.rest).spells behind) middle new → IsWrongLength shape end behind (drop (length old) new) r
+        → ReadsData origin room shape end tokens old (Err r) left new
+    length_refused r left new hashed h wrong =
         let back : List ℕ = h.1.0 in
         let all : drop (length old) new ≡ t.octets ++ back = ap (drop (length old)) (h.1.2 ∙ ap (λ o. o ++ back) t.gained ∙ append_assoc old t.octets back) ∙ drop-append_seam old (t.octets ++ back) in
-        let bad : HasLength shape.length (t.octets ++ back) → ⊥ = λ l. wrong (subst (HasLength shape.length) (sym all) l) in (
-          inr (record { behind = behind; middle = middle; taken = t; why = inr (hashed, inr (refl, is, place ∙ ap (next_place behind) ends, h.0, (back, (h.1.1, bad), h.1.2))) }),
+        let bad : IsWrongLength shape end behind (t.octets ++ back) r = subst (λ o. IsWrongLength shape end behind o r) all wrong in (
+          inr (record { behind = behind; middle = middle; taken = t; why = inr (hashed, inr (h.0, (back, (h.1.1, bad), h.1.2))) }),
           λ octets sp. (
               let p = parts octets sp in
               let same : sp.back ≡ back = rest_once origin shape.rest behind sp.back back p.0 h.1.1 in
-              absurd (bad (subst (HasLength shape.length) (p.1 ∙ ap (λ o. t.octets ++ o) same) sp.lengths))
+              absurd (bad.0 (subst (HasLength shape.length) (p.1 ∙ ap (λ o. t.octets ++ o) same) sp.lengths))
               ),
           extends_on new (back, h.1.2),
         )

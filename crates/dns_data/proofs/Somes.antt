@@ -6,7 +6,8 @@ use Rattle.dns_octets.specs.Appending.{Extends, Gains, LacksRoom}
 use Rattle.dns_fields.specs.Source.{next_place}
 use Rattle.dns_split.specs.EntryTokens.{TokenSeen}
 use Rattle.dns_data.specs.Rests.{RestForm, RefusesAs, RefusesRest, TakesRest, WantsMore, some_form}
-use Rattle.dns_data.specs.declared.error.DataRefusal.{DataRefusal}
+use Rattle.dns_fields.specs.declared.record_error.RecordError.{RecordError}
+use Rattle.dns_data.proofs.ErrorPlaces.{kind_of, known_at}
 
 none_gained : (old octets new : List ℕ) → new ≡ old ++ octets → length new ≡ length old → octets ≡ []
 none_gained old [] new is same = refl
@@ -20,10 +21,10 @@ module _ (f : RestForm) (room : Room) (begun : ℕ) (tokens : List TokenSeen) (o
   refused_as left e (inl h) = inl (h.0, λ octets sp. h.1 octets sp.0)
   refused_as left e (inr h) = inr (inl h.0, λ octets sp. h.1 octets sp.0)
 
-  pub some_refused : (r : DataRefusal) (left : List TokenSeen) (new : List ℕ) → RefusesRest room f begun tokens old r left new → RefusesRest room (some_form f) begun tokens old r left new
-  some_refused r left new h = record { at = h.at; why = refused_as left r.why h.why; extends = h.extends }
+  pub some_refused : (r : RecordError) (left : List TokenSeen) (new : List ℕ) → RefusesRest room f begun tokens old r left new → RefusesRest room (some_form f) begun tokens old r left new
+  some_refused r left new h = record { at = h.at; why = refused_as left r.kind h.why; extends = h.extends }
 
-  pub some_taken : (r : Result (Unit {0}) DataRefusal) (end count : ℕ) (left : List TokenSeen) (new : List ℕ) → ((a b : List ℕ) → f.spells tokens a → f.spells tokens b → a ≡ b) → end ≡ begun → count ≡ length old
+  pub some_taken : (r : Result (Unit {0}) RecordError) (end count : ℕ) (left : List TokenSeen) (new : List ℕ) → ((a b : List ℕ) → f.spells tokens a → f.spells tokens b → a ≡ b) → end ≡ begun → count ≡ length old
       → (left ≡ []) × Gains (f.spells tokens) old new → WantsMore count end left new r → TakesRest room (some_form f) begun tokens old r left new
   some_taken (Ok x) end count left new once ends size taken want =
       (taken.0, (taken.1.0, (taken.1.1, some_gained old taken.1.0 new taken.1.2 (λ same. want (same ∙ sym size))), taken.1.2))
@@ -31,7 +32,7 @@ module _ (f : RestForm) (room : Room) (begun : ℕ) (tokens : List TokenSeen) (o
       let none : taken.1.0 ≡ [] = none_gained old taken.1.0 new taken.1.2 (want.0 ∙ size) in
       let spelled : f.spells tokens [] = subst (f.spells tokens) none taken.1.1 in
       record {
-        at = ap (λ (r : DataRefusal). r.at) want.1 ∙ ap (next_place left) ends;
-        why = inr (inr (ap (λ (r : DataRefusal). r.why) want.1, taken.0, spelled), λ octets sp. sp.1 (once octets [] sp.0 spelled));
+        at = known_at r want.1 (ap (next_place left) ends);
+        why = inr (inr (kind_of r want.1, taken.0, spelled), λ octets sp. sp.1 (once octets [] sp.0 spelled));
         extends = (taken.1.0, taken.1.2);
       }

@@ -8,29 +8,31 @@ use Rattle.dns_fields.specs.Source.{next_place}
 use Rattle.dns_split.specs.EntryTokens.{TokenSeen}
 use Rattle.dns_data.specs.Rests.{RestForm, RefusesAs, RefusesRest, TakesRest}
 use Rattle.dns_data.specs.TokenForms.{TokenForm, RefusesTokenAs, TakesTokenAs, SpellOctets, each_form, SpellsThen, ThenReason, then_form}
-use Rattle.dns_data.specs.declared.error.DataError.{DataError}
-use Rattle.dns_data.specs.declared.error.DataRefusal.{DataRefusal}
+use Rattle.dns_fields.specs.RecordErrors.{error_at}
+use Rattle.dns_fields.specs.declared.record_error.RecordError.{RecordError}
+use Rattle.dns_kinds.specs.declared.error.ErrorKind.{ErrorKind}
+use Rattle.dns_data.proofs.ErrorPlaces.{placed, moved}
 
 -- a token spells octets in one way
 abbrev pub SpelledOnce : (TokenSeen → List ℕ → Type 0) → Type 0
 SpelledOnce Spells = (t : TokenSeen) (a b : List ℕ) → Spells t a → Spells t b → a ≡ b
 
 -- what is taken by one relation is taken by another that says the same
-pub as_other : (Spells Others : TokenSeen → List ℕ → Type 0) (Reason Why : TokenSeen → DataError → Type 0) (room : Room) (end : ℕ) (tokens : List TokenSeen) (old : List ℕ) (r : Result (Unit {0}) DataRefusal) (left : List TokenSeen) (new : List ℕ)
-    → ((t : TokenSeen) (octets : List ℕ) → Spells t octets → Others t octets) → ((t : TokenSeen) (octets : List ℕ) → Others t octets → Spells t octets) → ((t : TokenSeen) (e : DataError) → Reason t e → Why t e)
+pub as_other : (Spells Others : TokenSeen → List ℕ → Type 0) (Reason Why : TokenSeen → ErrorKind → Type 0) (room : Room) (end : ℕ) (tokens : List TokenSeen) (old : List ℕ) (r : Result (Unit {0}) RecordError) (left : List TokenSeen) (new : List ℕ)
+    → ((t : TokenSeen) (octets : List ℕ) → Spells t octets → Others t octets) → ((t : TokenSeen) (octets : List ℕ) → Others t octets → Spells t octets) → ((t : TokenSeen) (e : ErrorKind) → Reason t e → Why t e)
     → TakesTokenAs room Spells Reason end tokens old r left new → TakesTokenAs room Others Why end tokens old r left new
 as_other Spells Others Reason Why room end tokens old (Ok x) left new to from why h = (h.0, h.1, (h.2.0, to h.0 h.2.0 h.2.1, h.2.2))
 as_other Spells Others Reason Why room end [] old (Err r) left new to from why h = h
 as_other Spells Others Reason Why room end (t ∷ ts) old (Err r) left new to from why h = (h.0, h.1, refused h.2, h.3)
   where
-    refused : RefusesTokenAs room Spells Reason (t ∷ ts) old r.why → RefusesTokenAs room Others Why (t ∷ ts) old r.why
+    refused : RefusesTokenAs room Spells Reason (t ∷ ts) old r.kind → RefusesTokenAs room Others Why (t ∷ ts) old r.kind
     refused (inl short) = inl (short.0, λ octets sp. short.1 octets (from t octets sp))
-    refused (inr bad) = inr (why t r.why bad.0, λ octets sp. bad.1 octets (from t octets sp))
+    refused (inr bad) = inr (why t r.kind bad.0, λ octets sp. bad.1 octets (from t octets sp))
 
 -- the next token is refused, and nothing is taken
-pub next_refused : (Spells : TokenSeen → List ℕ → Type 0) (Reason : TokenSeen → DataError → Type 0) (room : Room) (end at : ℕ) (tokens : List TokenSeen) (t : TokenSeen) (ts : List TokenSeen) (old new : List ℕ) (e : DataError) → tokens ≡ t ∷ ts
-    → at ≡ next_place tokens end → RefusesTokenAs room Spells Reason (t ∷ ts) old e → Extends old new → TakesTokenAs room Spells Reason end tokens old (Err (record { at = at; why = e })) tokens new
-next_refused Spells Reason room end at tokens t ts old new e is place why extends = (refl, place, subst (λ l. RefusesTokenAs room Spells Reason l old e) (sym is) why, extends)
+pub next_refused : (Spells : TokenSeen → List ℕ → Type 0) (Reason : TokenSeen → ErrorKind → Type 0) (room : Room) (end at : ℕ) (tokens : List TokenSeen) (t : TokenSeen) (ts : List TokenSeen) (old new : List ℕ) (e : ErrorKind) → tokens ≡ t ∷ ts
+    → at ≡ next_place tokens end → RefusesTokenAs room Spells Reason (t ∷ ts) old e → Extends old new → TakesTokenAs room Spells Reason end tokens old (Err (error_at at e)) tokens new
+next_refused Spells Reason room end at tokens t ts old new e is place why extends = (refl, placed e place, subst (λ l. RefusesTokenAs room Spells Reason l old e) (sym is) why, extends)
 
 -- ---- any number of tokens
 
@@ -77,7 +79,7 @@ module _ (f : TokenForm) where
         let front : k.0 ≡ h.0 = once b k.0 h.0 k.3 h.3 in
         (mid, back, k.2 ∙ ap (λ z. z ++ k.1) front ∙ ap (λ z. h.0 ++ z) later.2 ∙ sym (append_assoc h.0 h.1 (mid ++ back)) ∙ ap (λ z. z ++ (mid ++ back)) (sym h.2), later.3)
 
-    refused_each : (room : Room) (tokens ts : List TokenSeen) (t : TokenSeen) (old middle : List ℕ) (e : DataError) → HasEach f tokens old (t ∷ ts) middle → RefusesTokenAs room f.spells f.reason (t ∷ ts) middle e
+    refused_each : (room : Room) (tokens ts : List TokenSeen) (t : TokenSeen) (old middle : List ℕ) (e : ErrorKind) → HasEach f tokens old (t ∷ ts) middle → RefusesTokenAs room f.spells f.reason (t ∷ ts) middle e
         → RefusesAs room (each_form f) tokens old (t ∷ ts) e
     refused_each room tokens ts t old middle e h (inl short) =
         inl (
@@ -100,12 +102,12 @@ module _ (f : TokenForm) where
               ),
         )
 
-    pub each_refused : (room : Room) (begun end : ℕ) (tokens left rest : List TokenSeen) (old middle new : List ℕ) (r : DataRefusal) → HasEach f tokens old left middle → end ≡ begun → left ≢ []
+    pub each_refused : (room : Room) (begun end : ℕ) (tokens left rest : List TokenSeen) (old middle new : List ℕ) (r : RecordError) → HasEach f tokens old left middle → end ≡ begun → left ≢ []
         → TakesTokenAs room f.spells f.reason end left middle (Err r) rest new → RefusesRest room (each_form f) begun tokens old r rest new
     each_refused room begun end tokens [] rest old middle new r h ends some k = absurd (some refl)
     each_refused room begun end tokens (t ∷ ts) rest old middle new r h ends some k = record {
-      at = k.1 ∙ ap (λ l. next_place l end) (sym k.0) ∙ ap (next_place rest) ends;
-      why = subst (λ l. RefusesAs room (each_form f) tokens old l r.why) (sym k.0) (refused_each room tokens ts t old middle r.why h k.2);
+      at = moved r k.1 (ap (λ l. next_place l end) (sym k.0) ∙ ap (next_place rest) ends);
+      why = subst (λ l. RefusesAs room (each_form f) tokens old l r.kind) (sym k.0) (refused_each room tokens ts t old middle r.kind h k.2);
       extends = (h.octets ++ k.3.0, k.3.1 ∙ ap (λ o. o ++ k.3.0) h.gained ∙ append_assoc old h.octets k.3.0);
     }
 
@@ -123,14 +125,14 @@ module _ (f : TokenForm) (behind : List ℕ → RestForm) where
       h.octets_are ∙ ap (λ o. o ++ h.back) fronts ∙ ap (λ o. k.front ++ o) backs ∙ sym k.octets_are
 
   module _ (room : Room) (end : ℕ) (tokens : List TokenSeen) (old : List ℕ) where
-    pub first_refused : (r : DataRefusal) (left : List TokenSeen) (new : List ℕ) → TakesTokenAs room f.spells f.reason end tokens old (Err r) left new → RefusesRest room (then_form f behind) end tokens old r left new
-    first_refused r left new h = record { at = h.1 ∙ ap (λ l. next_place l end) (sym h.0); why = by tokens h.0 h.2; extends = h.3 }
+    pub first_refused : (r : RecordError) (left : List TokenSeen) (new : List ℕ) → TakesTokenAs room f.spells f.reason end tokens old (Err r) left new → RefusesRest room (then_form f behind) end tokens old r left new
+    first_refused r left new h = record { at = moved r h.1 (ap (λ l. next_place l end) (sym h.0)); why = by tokens h.0 h.2; extends = h.3 }
       where
         -- what is spelled has a first token
         first_is : (t : TokenSeen) (ts : List TokenSeen) (octets : List ℕ) (sp : SpellsThen f behind (t ∷ ts) octets) → f.spells t sp.front
         first_is t ts octets sp = let is : t ∷ ts ≡ sp.first ∷ sp.last = sp.tokens_are in let head : sp.first ≡ t = cc is in subst (λ t. f.spells t sp.front) head sp.spelled
 
-        by : (tokens : List TokenSeen) → left ≡ tokens → RefusesTokenAs room f.spells f.reason tokens old r.why → RefusesAs room (then_form f behind) tokens old left r.why
+        by : (tokens : List TokenSeen) → left ≡ tokens → RefusesTokenAs room f.spells f.reason tokens old r.kind → RefusesAs room (then_form f behind) tokens old left r.kind
         by [] none why = inr ((none, why), λ octets sp. (let is : [] ≡ sp.first ∷ sp.last = sp.tokens_are in cc is))
         by (t ∷ ts) same (inl short) =
             inl (
@@ -153,7 +155,7 @@ module _ (f : TokenForm) (behind : List ℕ → RestForm) where
           let fronts : sp.front ≡ front = once t sp.front front (subst (λ z. f.spells z sp.front) head sp.spelled) spelled in
           (subst (λ o. (behind o).spells ts sp.back) fronts (subst (λ z. (behind sp.front).spells z sp.back) tail sp.rest), fronts)
 
-      why_behind : (left : List TokenSeen) (e : DataError) → RefusesAs room (behind front) ts middle left e → RefusesAs room (then_form f behind) tokens old left e
+      why_behind : (left : List TokenSeen) (e : ErrorKind) → RefusesAs room (behind front) ts middle left e → RefusesAs room (then_form f behind) tokens old left e
       why_behind left e (inl short) =
           inl (
             short.0,
@@ -168,7 +170,7 @@ module _ (f : TokenForm) (behind : List ℕ → RestForm) where
           )
       why_behind left e (inr bad) = inr (subst (λ z. ThenReason f behind z left e) (sym is) (inr (front, spelled, bad.0)), λ octets sp. bad.1 sp.back (parts octets sp).0)
 
-      pub behind_taken : (begun : ℕ) (r : Result (Unit {0}) DataRefusal) (left : List TokenSeen) (new : List ℕ) → begun ≡ end → TakesRest room (behind front) begun ts middle r left new → TakesRest room (then_form f behind) end tokens old r left new
+      pub behind_taken : (begun : ℕ) (r : Result (Unit {0}) RecordError) (left : List TokenSeen) (new : List ℕ) → begun ≡ end → TakesRest room (behind front) begun ts middle r left new → TakesRest room (then_form f behind) end tokens old r left new
       behind_taken begun (Ok x) left new ends h = (
         h.0,
         (
@@ -178,7 +180,7 @@ module _ (f : TokenForm) (behind : List ℕ → RestForm) where
         ),
       )
       behind_taken begun (Err r) left new ends h = record {
-        at = h.at ∙ ap (next_place left) ends;
-        why = why_behind left r.why h.why;
+        at = moved r h.at (ap (next_place left) ends);
+        why = why_behind left r.kind h.why;
         extends = (front ++ h.extends.0, h.extends.1 ∙ ap (λ o. o ++ h.extends.0) gained ∙ append_assoc old front h.extends.0);
       }

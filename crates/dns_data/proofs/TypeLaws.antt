@@ -2,28 +2,29 @@
 use Rattle.std.proofs.Common.{ℕ, Option, Some, ◌≡◌, ◌⊎◌, List, [], ◌∷◌, ◌++◌, ◌∙◌, ◌+◌, ◌-◌, false, true, arith, length, length-append, take, drop, refl, sym, ap, subst, inl, inr}
 use Rattle.std.proofs.Math.Seq.{drop-append_seam}
 use Rattle.std.proofs.lemmas.List.{take_all}
-use Rattle.std.specs.Prelude.{Result, Ok, Err, IfErr, None, option_map}
+use Rattle.std.specs.Prelude.{Result, Ok, Err, option_map}
 use Rattle.dns_octets.specs.Appending.{Gains}
 use Rattle.dns_octets.specs.Room.{Room}
 use Rattle.dns_fields.specs.Source.{next_place}
 use Rattle.dns_split.specs.EntryTokens.{TokenSeen}
-use Rattle.dns_data.specs.ByType.{IsDataType, IsShapeOf, HasShape, shape_of_code, SpellsGenericData, RefusesGeneric, ReadsGeneric, ReadsType}
+use Rattle.dns_data.specs.ByType.{IsDataType, IsShapeOf, HasShape, shape_of_code, SpellsGenericData, RefusesGeneric, ReadsGeneric, TakesData}
 use Rattle.dns_data.specs.Data.{IsDataOf, HasLength}
 use Rattle.dns_data.specs.Generic.{BeginsGeneric, SpellsGeneric}
 use Rattle.dns_data.specs.RestKinds.{IsRestOf}
 use Rattle.dns_data.specs.Types.{TypeShape, row_shape}
 use Rattle.dns_data.specs.Wire.{BeginsWithFields}
-use Rattle.dns_data.specs.declared.by_type.TypeRefusal.{TypeRefusal}
-use Rattle.dns_data.specs.declared.error.DataError.TheVariants.{NotOfType}
+use Rattle.dns_fields.specs.RecordErrors.{error_at}
+use Rattle.dns_fields.specs.declared.record_error.RecordError.{RecordError}
+use Rattle.dns_kinds.specs.declared.error.ErrorKind.TheVariants.{NotOfType}
 use Rattle.dns_data.specs.declared.shape.Shape.{Shape}
 use Rattle.dns_data.specs.declared.types.TypeRow.{TypeRow}
 
-pub generic_read : (origin : Option (List (List ℕ))) (room : Room) (code end : ℕ) (tokens : List TokenSeen) (old : List ℕ) (row : Option TypeRow) (r : Result (Unit {0}) TypeRefusal) (left : List TokenSeen) (new : List ℕ)
-    → option_map row_shape row ≡ shape_of_code code → IsDataType code → BeginsGeneric tokens → IfErr r (λ e. e.part ≡ None) → ReadsGeneric row room end tokens old r left new → ReadsType origin room code end tokens old r left new
-generic_read origin room code end tokens old row (Ok x) left new found is mark unnamed h =
+pub generic_read : (origin : Option (List (List ℕ))) (room : Room) (rtype end : ℕ) (tokens : List TokenSeen) (old : List ℕ) (row : Option TypeRow) (r : Result (Unit {0}) RecordError) (left : List TokenSeen) (new : List ℕ)
+    → option_map row_shape row ≡ shape_of_code rtype → IsDataType rtype → BeginsGeneric tokens → ReadsGeneric row room end tokens old r left new → TakesData origin room rtype end tokens old r left new
+generic_read origin room rtype end tokens old row (Ok x) left new found is mark h =
     (h.0, (h.1.0, (is, inl (subst (λ f. SpellsGenericData f tokens h.1.0) found h.1.1)), h.1.2))
-generic_read origin room code end tokens old row (Err r) left new found is mark unnamed h =
-    inr (inl (is, mark, subst (λ f. RefusesGeneric f room end tokens old r left new) found h, unnamed))
+generic_read origin room rtype end tokens old row (Err r) left new found is mark h =
+    inr (inl (is, mark, subst (λ f. RefusesGeneric f room end tokens old r left new) found h))
 
 pub has_shape : (found : Option TypeShape) (row : TypeRow) (shape : Shape) → Some (row_shape row) ≡ found → IsShapeOf (row_shape row) shape → HasShape found shape
 has_shape found row shape is h = subst (λ f. HasShape f shape) is h
@@ -54,8 +55,8 @@ generic_typed s shape tokens left old new xs ys is before after h own =
 
 pub generic_mistyped : (s : TypeShape) (shape : Shape) (room : Room) (end at : ℕ) (tokens left : List TokenSeen) (old new xs ys : List ℕ) → IsShapeOf s shape → ys ≡ old → xs ≡ new → at ≡ next_place tokens end
     → (left ≡ []) × Gains (SpellsGeneric tokens) old new → (IsDataOf shape (take (length xs - length ys) (drop (length ys) xs)) → false ≡ true)
-    → RefusesGeneric (Some s) room end tokens old (record { part = None; at = at; why = NotOfType }) left new
+    → RefusesGeneric (Some s) room end tokens old (error_at at NotOfType) left new
 generic_mistyped s shape room end at tokens left old new xs ys is before after place h refused =
     let same = gained_slice old new h.1.0 xs ys before after h.1.2 in
     let never : IsDataOf shape h.1.0 → ⊥ = λ own. (let bad : false ≡ true = refused (subst (IsDataOf shape) (sym same) own) in cc bad) in
-    inr (refl, place, h.0, (h.1.0, (h.1.1, (shape, is, never)), h.1.2))
+    inr (ap (λ p. error_at p NotOfType) place, h.0, (h.1.0, (h.1.1, (shape, is, never)), h.1.2))

@@ -1,7 +1,7 @@
 use Rattle.std.proofs.Common.{[], true≢false, sym, refl, ◌∙◌, append-nil, inl}
 use Rattle.dns_split.specs.EntryTokens.{token_seen}
 use Rattle.dns_fields.proofs.Tokens.{first_taken}
-use Rattle.dns_data.specs.Errors.{no_room}
+use Rattle.dns_kinds.specs.declared.error.ErrorKind.TheVariants.{ShortBuf}
 use Rattle.dns_data.specs.GatewayKeys.{SpellsAddress, AddressReason}
 use Rattle.dns_data.proofs.GatewayLaws.{address_lacks}
 use Rattle.dns_data.proofs.TokenRests.{next_refused}
@@ -13,4 +13,4 @@ returns-in-Err-compose-clause-takes g c =
     let old = g.B.AsOctets.octets c.args.target.now in
     let is = first_taken t (g.S.TokenSource.left c.args.source.now) c.in-Some.ensures in
     let lacks = address_lacks g.B.OctetsBuilder.room c.args.number t old c.in-Ok.gateway c.if-token.false c.in-Ok.ensures (λ enough. true≢false (sym (c.in-Err-compose.ensures.fits enough))) in
-    rw c.from-why-in-Err-compose.ensures (next_refused (SpellsAddress c.args.number) AddressReason g.B.OctetsBuilder.room _ c.place-at.result _ t _ old _ no_room is c.place-at.ensures (inl (refl, lacks)) ([], c.in-Err-compose.ensures.err ∙ sym (append-nil old)))
+    rw (c.at-in-Err-compose.ensures, c.from.ensures) (next_refused (SpellsAddress c.args.number) AddressReason g.B.OctetsBuilder.room _ c.place-at.result _ t _ old _ ShortBuf is c.place-at.ensures (inl (refl, lacks)) ([], c.in-Err-compose.ensures.err ∙ sym (append-nil old)))

@@ -2,8 +2,8 @@ use Rattle.std.proofs.Common.{ℕ, ◌-◌, ◌≡◌, length, sym, ap, subst, �
 use Rattle.dns_data.proofs.GenericLaws.{wrong_count, count_refused, digits_refused, generic_spelled}
 use Rattle.dns_data.proofs.generic.take_generic.Goals as goal
 
-pub returns-then-gained-from-clause-takes : goal.returns-then-gained-from-clause-takes
-returns-then-gained-from-clause-takes g c =
+pub returns-then-found-wanted-clause-takes : goal.returns-then-found-wanted-clause-takes
+returns-then-found-wanted-clause-takes g c =
     let octets = g.B.AsOctets.octets in
     let before : length c.as_slice-begun.result.now ≡ length (octets c.args.target.now) = ap length c.as_slice-begun.ensures.value in
     let after : length c.as_slice.result.now ≡ length (octets c.take_digits.new.target) = ap length c.as_slice.ensures.value in

@@ -1,5 +1,7 @@
-use Rattle.dns_data.proofs.LocationLemmas.{location_refused}
+use Rattle.dns_data.proofs.LocationLemmas.{location_taken}
 use Rattle.dns_data.proofs.locations.take_place.Goals as goal
 
-pub returns-in-Err-clause-takes : goal.returns-in-Err-clause-takes
-returns-in-Err-clause-takes g c = rw c.from.ensures (location_refused g.B.OctetsBuilder.room _ _ _ _ _ c.in-Err.refusal c.in-Err.ensures.err c.in-Err.ensures.why)
+pub returns-clause-takes : goal.returns-clause-takes
+returns-clause-takes g c =
+    let e = c.take_location.ensures in
+    location_taken g.B.OctetsBuilder.room _ _ _ _ _ c.take_location.result e.ok e.taken e.err e.why

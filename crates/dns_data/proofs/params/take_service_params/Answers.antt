@@ -1,5 +1,7 @@
-use Rattle.dns_data.proofs.ParamsRestLaws.{params_refused}
+use Rattle.dns_data.proofs.ParamsRestLaws.{params_taken}
 use Rattle.dns_data.proofs.params.take_service_params.Goals as goal
 
-pub returns-in-Err-clause-takes : goal.returns-in-Err-clause-takes
-returns-in-Err-clause-takes g c = rw c.from.ensures (params_refused g.B.OctetsBuilder.room _ _ _ _ _ c.in-Err.refusal c.in-Err.ensures.err c.in-Err.ensures.extends)
+pub returns-clause-takes : goal.returns-clause-takes
+returns-clause-takes g c =
+    let e = c.take_params.ensures in
+    params_taken g.B.OctetsBuilder.room _ _ _ _ _ c.take_params.result e.ok e.taken e.err e.extends

@@ -1,7 +1,6 @@
 use Rattle.std.proofs.Common.{drop}
 use Rattle.dns_split.specs.EntryTokens.{token_seen}
 use Rattle.dns_fields.proofs.Tokens.{first_taken}
-use Rattle.dns_data.specs.Errors.{of_place}
 use Rattle.dns_data.specs.PrefixLists.{prefix_form}
 use Rattle.dns_data.proofs.PrefixListLaws.{item_refused}
 use Rattle.dns_data.proofs.TokenRests.{next_refused}
@@ -11,5 +10,5 @@ pub returns-in-Err-clause-takes : goal.returns-in-Err-clause-takes
 returns-in-Err-clause-takes g c =
     let t = token_seen c.in-Some.token in
     let is = first_taken t (g.S.TokenSource.left c.args.source.now) c.in-Some.ensures in
-    let why = item_refused g.B.OctetsBuilder.room t (drop 1 (g.S.TokenSource.left c.args.source.now)) (g.B.AsOctets.octets c.args.target.now) c.in-Err.error c.if-token.false c.in-Err.ensures.why in
-    rw c.from-why.ensures (next_refused prefix_form.spells prefix_form.reason g.B.OctetsBuilder.room _ c.place-at.result _ t _ _ _ (of_place c.in-Err.error) is c.place-at.ensures why c.in-Err.ensures.err)
+    let why = item_refused g.B.OctetsBuilder.room t (drop 1 (g.S.TokenSource.left c.args.source.now)) (g.B.AsOctets.octets c.args.target.now) c.in-Err.why c.if-token.false c.in-Err.ensures.why in
+    rw c.at.ensures (next_refused prefix_form.spells prefix_form.reason g.B.OctetsBuilder.room _ c.place-at.result _ t _ _ _ c.in-Err.why is c.place-at.ensures why c.in-Err.ensures.err)

@@ -1,4 +1,5 @@
 use Rattle.std.proofs.Common.{refl, ◌∙◌, sym, ap}
+use Rattle.std.proofs.lemmas.Result.{err_from_is_err_and}
 use Rattle.dns_fields.proofs.Tokens.{none_left}
 use Rattle.dns_data.specs.PrefixLists.{prefix_form}
 use Rattle.dns_data.proofs.PrefixListLaws.{prefix_once}
@@ -11,14 +12,15 @@ loop-source-init g c = record { taken = none_yet prefix_form _ _; end = refl }
 
 pub loop-source-preserved : goal.loop-source-preserved
 loop-source-preserved g c = record {
-  taken = each_more prefix_form _ _ _ _ _ _ c.loop-source.invariant.taken c.in_default.ensures.takes;
+  taken = each_more prefix_form _ _ _ _ _ _ c.loop-source.invariant.taken c.in_ok-take_prefix.ensures.takes;
   end = c.take_prefix.ensures.end ∙ c.loop-source.invariant.end;
 }
 
-pub returns-in-Err-clause-takes : goal.returns-in-Err-clause-takes
-returns-in-Err-clause-takes g c =
+pub returns-in_err-take_prefix-clause-takes : goal.returns-in_err-take_prefix-clause-takes
+returns-in_err-take_prefix-clause-takes g c =
+    let p = err_from_is_err_and c.from_residual.result c.from_residual.ensures.1 in
     let some = some_left c.current.result (g.S.TokenSource.left c.loop-source.source) c.current.ensures (sym c.is_some.ensures ∙ c.loop-source-test.true) in
-    each_refused prefix_form prefix_once g.B.OctetsBuilder.room _ _ _ _ _ _ _ _ c.in-Err.refusal c.loop-source.invariant.taken (ap (λ e. e.at) c.loop-source.invariant.end) some c.in-Err.ensures.takes
+    rw (p.1, p.2) (each_refused prefix_form prefix_once g.B.OctetsBuilder.room _ _ _ _ _ _ _ _ c.in_err-take_prefix.field-0.0 c.loop-source.invariant.taken (ap (λ e. e.at) c.loop-source.invariant.end) some c.in_err-take_prefix.ensures.takes)
 
 pub returns-clause-takes : goal.returns-clause-takes
 returns-clause-takes g c =

@@ -1,7 +1,6 @@
 use Rattle.std.specs.Option.{option_copied}
-use Rattle.dns_data.proofs.Strings.{string_refused}
+use Rattle.dns_data.proofs.Strings.{strings_taken}
 use Rattle.dns_data.proofs.rest.take_strings.Goals as goal
 
-pub returns-in-Err-clause-takes : goal.returns-in-Err-clause-takes
-returns-in-Err-clause-takes g c =
-    string_refused (option_copied c.args.origin) g.B.OctetsBuilder.room _ _ _ c.in-Err.refusal _ _ c.in-Err.ensures.left c.in-Err.ensures.takes
+pub returns-clause-takes : goal.returns-clause-takes
+returns-clause-takes g c = strings_taken (option_copied c.args.origin) g.B.OctetsBuilder.room _ _ _ c.take_each.result _ _ c.take_each.ensures.left c.take_each.ensures.takes

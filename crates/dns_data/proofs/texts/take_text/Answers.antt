@@ -8,7 +8,7 @@ use Rattle.dns_data.proofs.texts.take_text.Goals as goal
 pub returns-in-Err-clause-takes : goal.returns-in-Err-clause-takes
 returns-in-Err-clause-takes g c =
     let t = token_seen c.in-Some.token in
-    rw c.from-why.ensures (escape_refused c.args.wants_quotes g.B.OctetsBuilder.room _ t _ _ _ (first_taken t (g.S.TokenSource.left c.args.source.now) c.in-Some.ensures) c.place-at.result c.in-Err.error _ c.in-Err.ensures.err c.place-at.ensures c.in-Err.ensures.extends)
+    rw c.at.ensures (escape_refused c.args.wants_quotes g.B.OctetsBuilder.room _ t _ _ _ (first_taken t (g.S.TokenSource.left c.args.source.now) c.in-Some.ensures) c.place-at.result c.in-Err.why _ c.in-Err.ensures.err c.place-at.ensures c.in-Err.ensures.extends)
 
 pub returns-then-not-token-clause-takes : goal.returns-then-not-token-clause-takes
 returns-then-not-token-clause-takes g c =
