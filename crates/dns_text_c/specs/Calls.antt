@@ -1,13 +1,16 @@
 -- Calls for the entries of a text, one after another.
-use Rattle.std.specs.Prelude.{◌≡◌, ◌≢◌, ℕ, ◌<◌, List, [], ◌∷◌, length, map, take, Result, Ok, Err}
+use Rattle.std.specs.Prelude.{◌≡◌, ◌≢◌, ℕ, ◌<◌, List, [], ◌∷◌, length, map, take, Result, Ok, Err, encode_utf8_all}
 use Rattle.dns_octets.specs.Octets.{greatest_length}
-use Rattle.dns_split.specs.Pieces.{between}
+use Rattle.dns_split.specs.Opening.{IsOpener}
+use Rattle.dns_split.specs.Pieces.{AreOctets, IsGiven, between, place_of}
+use Rattle.dns_split.specs.Splitting.{Entries, Splits}
 use Rattle.dns_split.specs.declared.pieces.Piece.{Piece}
 use Rattle.dns_split.specs.declared.pieces.Piece.TheVariants.{Word as WordAt, Quote as QuoteAt, Comment as CommentAt, End as EndAt}
 use Rattle.dns_split.specs.declared.pieces.Fault.{Fault as TextFault}
 use Rattle.dns_text_c.specs.Entries.{NextEntry, refusal_of_wrong, token_between}
 use Rattle.dns_text_c.specs.Told.{number_of}
 use Rattle.dns_text_c.specs.declared.outcome.Outcome.{Outcome}
+use Rattle.dns_text_c.specs.declared.outcome.Refusal.TheVariants.{OpenParenthesis}
 use Rattle.dns_text_c.specs.declared.tokens.Token.{Token as TokenAt}
 use Rattle.dns_text_c.specs.declared.tokens.Cursor.{Cursor}
 
@@ -60,3 +63,18 @@ last_status (entry ∷ next ∷ more) = last_status (next ∷ more)
 -- the octets of each of its tokens
 abbrev pub token_octets : List ℕ → ToldEntry → List (List ℕ)
 token_octets text entry = map (λ t. between text t.start t.end) entry.tokens
+
+-- calls from the start of a text on, until it is done, tell its entries as they are given, or its fault
+abbrev pub CallsTellEntries : Type 0
+CallsTellEntries = (text : List ℕ) (given : List (Result Piece TextFault)) (first last : Cursor) (entries : List ToldEntry) → AreOctets text → IsGiven text given → first.at ≡ 0
+    → first.is_done ≡ 0 → Calls text first entries last → entries ≡ told_entries given
+
+-- of a text that splits they tell the octets of its entries
+abbrev pub CallsTellTokens : Type 0
+CallsTellTokens = (text : List ℕ) (found : Entries) (first last : Cursor) (entries : List ToldEntry) → AreOctets text → Splits text found → first.at ≡ 0
+    → first.is_done ≡ 0 → Calls text first entries last → map (token_octets text) entries ≡ found
+
+-- of a text that leaves a parenthesis open they tell where the outermost one was opened
+abbrev pub CallsTellOpener : Type 0
+CallsTellOpener = (text : List ℕ) (first last : Cursor) (entries : List ToldEntry) → AreOctets text → first.at ≡ 0 → first.is_done ≡ 0 → Calls text first entries last
+    → last_status entries ≡ number_of OpenParenthesis → IsOpener (encode_utf8_all text) (place_of text last.opened)

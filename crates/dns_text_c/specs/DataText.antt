@@ -1,14 +1,15 @@
 -- What printing data of a type answers, and reading its text.
 use Rattle.std.specs.Prelude.{◌≡◌, ◌≢◌, ◌⊎◌, ◌+◌, ◌≤◌, ℕ, false, List, [], ◌∷◌, ◌++◌, length, take, drop, Option, Some, None, Result, Ok, Err}
+use Rattle.std.specs.Borrow.{Bor}
+use Rattle.std.specs.Fmt.{WritesInCalls}
+use Rattle.std.specs.Option.{option_copied}
 use Rattle.dns_data.specs.ByType.{ReadsType}
-use Rattle.dns_data.specs.declared.by_type.TypeRefusal.{TypeRefusal}
-use Rattle.dns_data.specs.declared.error.DataError.TheVariants.{TrailingToken}
+use Rattle.dns_fields.specs.RecordErrors.{error_at, error_of_fault, error_of_type}
+use Rattle.dns_fields.specs.declared.record_error.RecordError.{RecordError}
+use Rattle.dns_kinds.specs.declared.error.ErrorKind.TheVariants.{TrailingToken}
+use Rattle.dns_kinds.specs.declared.types.RecordType.{RecordType}
 use Rattle.dns_octets.specs.Room.{Room, exactly}
 use Rattle.dns_reader.specs.Source.{BeginsEntry, SourceSeen, behind_left, entry_end, entry_left}
-use Rattle.dns_reader.specs.declared.entry_error.EntryError.TheVariants.{Data}
-use Rattle.dns_reader.specs.declared.entry_error.EntryRefusal.{EntryRefusal}
-use Rattle.dns_reader.specs.declared.records.RecordRefusal.{RecordRefusal}
-use Rattle.dns_reader.specs.declared.records.RecordRefusal.TheVariants.{Text, Entry}
 use Rattle.dns_reader.specs.declared.source.StartOfEntry.{StartOfEntry}
 use Rattle.dns_resource.specs.CanonicalData.{canonical_data}
 use Rattle.dns_resource.specs.DataTokens.{data_document}
@@ -22,10 +23,9 @@ use Rattle.dns_wire.specs.FromOctets.{MakesName}
 use Rattle.dns_wire.specs.declared.error.NameError.{NameError}
 use Rattle.dns_zone.specs.Printed.{printed}
 use Rattle.dns_zone.specs.declared.zonefile_fmt.DisplayKind.TheVariants.{Simple}
-use Rattle.dns_text_c.specs.Entries.{refusal_of_wrong}
 use Rattle.dns_text_c.specs.Kept.{IsOriginOf}
-use Rattle.dns_text_c.specs.Reasons.{TellsReason, refusal_of_name}
-use Rattle.dns_text_c.specs.Told.{TellsFault, TellsOctets}
+use Rattle.dns_text_c.specs.Reasons.{TellsError, refusal_of_name}
+use Rattle.dns_text_c.specs.Told.{TellsFault, TellsOctets, at_start}
 use Rattle.dns_text_c.specs.declared.outcome.Fault.{Fault}
 use Rattle.dns_text_c.specs.declared.outcome.Outcome.{Outcome}
 use Rattle.dns_text_c.specs.declared.outcome.Refusal.TheVariants.{BadData, TooLong}
@@ -33,6 +33,10 @@ use Rattle.dns_text_c.specs.declared.outcome.Refusal.TheVariants.{BadData, TooLo
 -- the text of data: its tokens on one line
 abbrev pub data_text : TypeData → List ℕ
 data_text d = printed Simple (data_document d)
+
+-- the text of data is written piece by piece
+abbrev pub PrintsOn : {S : Type 0} → (S → List ℕ → S → Type 0) → TypeData → S → S → Type 0
+PrintsOn gives d old new = WritesInCalls gives old (data_text d) new
 
 -- octets stand at a place; what is before and behind is as it was
 pub record PutsAt (octets : List ℕ) (at : ℕ) (old new : List ℕ) : Type 0 where
@@ -45,68 +49,82 @@ pub record PutsAt (octets : List ℕ) (at : ℕ) (old new : List ℕ) : Type 0 w
 abbrev pub TellsText : List ℕ → List ℕ → ℕ → List ℕ → Outcome → Type 0
 TellsText text old status new outcome =
     TellsOctets text old status new outcome
-    ⊎ (TellsFault (record { refusal = TooLong; place = 0 }) status outcome × (drop (length text) new ≡ drop (length text) old))
+    ⊎ (TellsFault (at_start TooLong) status outcome × (drop (length text) new ≡ drop (length text) old))
 
 -- the status and the place where octets are no data of a type
 abbrev pub fault_of_wire : WireError → Fault
-fault_of_wire NoDataType = record { refusal = BadData; place = 0 }
+fault_of_wire NoDataType = at_start BadData
 fault_of_wire LongData = record { refusal = TooLong; place = 65535 }
-fault_of_wire NotOfType = record { refusal = BadData; place = 0 }
+fault_of_wire NotOfType = at_start BadData
 
 -- octets are data of a type, and their text is told; or why they are none, and nothing was written
-abbrev pub PrintsData : ℕ → List ℕ → List ℕ → ℕ → List ℕ → Outcome → Type 0
-PrintsData code octets old status new outcome =
-    (IsTypeData code octets × TellsText (data_text (record { code = code; octets = octets })) old status new outcome)
-    ⊎ ((e : WireError) × RefusesWire code octets e × TellsFault (fault_of_wire e) status outcome × (new ≡ old))
+abbrev pub PrintsData : RecordType → List ℕ → List ℕ → ℕ → List ℕ → Outcome → Type 0
+PrintsData rtype octets old status new outcome =
+    (IsTypeData rtype octets × TellsText (data_text (record { rtype = rtype; octets = octets })) old status new outcome)
+    ⊎ ((e : WireError) × RefusesWire rtype octets e × TellsFault (fault_of_wire e) status outcome × (new ≡ old))
+
+-- the canonical form of data is given
+abbrev pub TellsForm : TypeData → List ℕ → ℕ → List ℕ → Outcome → Type 0
+TellsForm d old status new outcome = TellsOctets (canonical_data d.rtype d.octets) old status new outcome
 
 -- octets are data of a type, and their canonical form is written; or why they are none is reported, and nothing is written
-abbrev pub TellsCanonical : ℕ → List ℕ → List ℕ → ℕ → List ℕ → Outcome → Type 0
-TellsCanonical code octets old status new outcome =
-    (IsTypeData code octets × TellsOctets (canonical_data code octets) old status new outcome)
-    ⊎ ((e : WireError) × RefusesWire code octets e × TellsFault (fault_of_wire e) status outcome × (new ≡ old))
+abbrev pub TellsCanonical : RecordType → List ℕ → List ℕ → ℕ → List ℕ → Outcome → Type 0
+TellsCanonical rtype octets old status new outcome =
+    (IsTypeData rtype octets × TellsForm (record { rtype = rtype; octets = octets }) old status new outcome)
+    ⊎ ((e : WireError) × RefusesWire rtype octets e × TellsFault (fault_of_wire e) status outcome × (new ≡ old))
 
--- the data that are refused, or a token behind them
-abbrev pub refused_data_of : ℕ → TypeRefusal → EntryRefusal
-refused_data_of code r = record { code = Some code; part = r.part; at = r.at; why = Data r.why }
-
-abbrev pub trailing_token : ℕ → ℕ → EntryRefusal
-trailing_token code at = record { code = Some code; part = None; at = at; why = Data TrailingToken }
+-- a token after the data
+abbrev pub trailing_token : RecordType → ℕ → RecordError
+trailing_token rtype at = error_of_type rtype (error_at at TrailingToken)
 
 -- the octets of data, or why there are none
 abbrev pub DataAnswer : Type 0
-DataAnswer = Result (List ℕ) RecordRefusal
+DataAnswer = Result (List ℕ) RecordError
 
 -- the octets that were read, or why not
-abbrev pub answered : Result (Unit {0}) RecordRefusal → List ℕ → DataAnswer
+abbrev pub answered : Result (Unit {0}) RecordError → List ℕ → DataAnswer
 answered (Ok _) octets = Ok octets
 answered (Err e) octets = Err e
 
 -- what comes of octets by what stands behind their entry: entries without tokens alone; or a token, or a fault of the text
-abbrev pub answer_before : ℕ → List ℕ → List (Result PartSeen TextFault) → DataAnswer
-answer_before code octets [] = Ok octets
-answer_before code octets (Ok (EndIs e) ∷ parts) = answer_before code octets parts
-answer_before code octets (Ok (TokenIs t b) ∷ parts) = Err (Entry (trailing_token code t.at))
-answer_before code octets (Err f ∷ parts) = Err (Text f)
+abbrev pub answer_before : RecordType → List ℕ → List (Result PartSeen TextFault) → DataAnswer
+answer_before rtype octets [] = Ok octets
+answer_before rtype octets (Ok (EndIs e) ∷ parts) = answer_before rtype octets parts
+answer_before rtype octets (Ok (TokenIs t b) ∷ parts) = Err (trailing_token rtype t.at)
+answer_before rtype octets (Err f ∷ parts) = Err (error_of_fault f)
 
 -- what comes of an entry that was read, by what stands behind its tokens: a fault of the text comes first
-abbrev pub data_answer : ℕ → Result (Unit {0}) TypeRefusal → List ℕ → List (Result PartSeen TextFault) → DataAnswer
-data_answer code read octets (Err f ∷ parts) = Err (Text f)
-data_answer code (Err r) octets parts = Err (Entry (refused_data_of code r))
-data_answer code (Ok _) octets parts = answer_before code octets parts
+abbrev pub data_answer : RecordType → Result (Unit {0}) RecordError → List ℕ → List (Result PartSeen TextFault) → DataAnswer
+data_answer rtype read octets (Err f ∷ parts) = Err (error_of_fault f)
+data_answer rtype (Err e) octets parts = Err e
+data_answer rtype (Ok _) octets parts = answer_before rtype octets parts
 
 -- the tokens of the entry that is open are read as data of a type, or none where none is open
-abbrev pub ReadsTokens : Room → ℕ → Option (List (List ℕ)) → SourceSeen → DataAnswer → Type 0
-ReadsTokens room code origin begun answer =
-    (read : Result (Unit {0}) TypeRefusal) × (left : List TokenSeen) × (octets : List ℕ)
-    × ReadsType origin room code (entry_end begun).at (entry_left begun) [] read left octets × (answer ≡ data_answer code read octets (behind_left begun))
+abbrev pub ReadsTokens : Room → RecordType → Option (List (List ℕ)) → SourceSeen → DataAnswer → Type 0
+ReadsTokens room rtype origin begun answer =
+    (read : Result (Unit {0}) RecordError) × (left : List TokenSeen) × (octets : List ℕ)
+    × ReadsType origin room rtype (entry_end begun).at (entry_left begun) [] read left octets × (answer ≡ data_answer rtype read octets (behind_left begun))
+
+-- the tokens that are left of an entry are read as data of a type, with room for so many octets, after those that were there
+abbrev pub ReadsLeft : ℕ → RecordType → Option (Bor (List (List ℕ))) → (old : SourceSeen × List ℕ) → Result (Unit {0}) RecordError → (new : SourceSeen × List ℕ) → Type 0
+ReadsLeft n rtype origin old result new =
+    ReadsType (option_copied origin) (exactly n) rtype (entry_end old.0).at (entry_left old.0) old.1 result (entry_left new.0) new.1
+
+-- the entry that is open is read, and what comes after it: the octets that are there then are the data, or why there are none
+abbrev pub ReadsOpen : ℕ → RecordType → Option (Bor (List (List ℕ))) → SourceSeen → Result (Unit {0}) RecordError → List ℕ → Type 0
+ReadsOpen n rtype origin begun result octets = ReadsTokens (exactly n) rtype (option_copied origin) begun (answered result octets)
+
+-- what comes after the entry of the data is read
+abbrev pub EndsText : RecordType → Result (Unit {0}) RecordError → List (Result PartSeen TextFault) → Type 0
+EndsText rtype result parts = (octets : List ℕ) → answered result octets ≡ answer_before rtype octets parts
 
 -- the first entry that has tokens is read, or that there is none; or a fault of the text comes before its tokens
-abbrev pub ReadsFirstData : Room → ℕ → Option (List (List ℕ)) → Result (Option StartOfEntry) TextFault → SourceSeen → DataAnswer → Type 0
-ReadsFirstData room code origin (Err f) begun answer = answer ≡ Err (Text f)
-ReadsFirstData room code origin (Ok found) begun answer = ReadsTokens room code origin begun answer
+abbrev pub ReadsFirstData : Room → RecordType → Option (List (List ℕ)) → Result (Option StartOfEntry) TextFault → SourceSeen → DataAnswer → Type 0
+ReadsFirstData room rtype origin (Err f) begun answer = answer ≡ Err (error_of_fault f)
+ReadsFirstData room rtype origin (Ok found) begun answer = ReadsTokens room rtype origin begun answer
 
 -- a text of one entry is read as data of a type, with room for some octets
-pub record ReadsDataText (room : Room) (code : ℕ) (origin : Option (List (List ℕ))) (text : List ℕ) (answer : DataAnswer) : Type 0 where
+pub record ReadsDataText (room : Room) (rtype : RecordType) (origin : Option (List (List ℕ))) (text : List ℕ) (answer : DataAnswer) : Type 0 where
   pub source : SourceSeen
   pub seen : IsSeen text source.parts
   pub closed : source.is_open ≡ false
@@ -114,26 +132,33 @@ pub record ReadsDataText (room : Room) (code : ℕ) (origin : Option (List (List
   pub start : Result (Option StartOfEntry) TextFault
   pub begun : SourceSeen
   pub begins : BeginsEntry source start begun
-  pub reads : ReadsFirstData room code origin start begun answer
+  pub reads : ReadsFirstData room rtype origin start begun answer
 
--- the octets are given; or a fault of the text is told, and nothing was written; or why data are refused
+-- the same of a text
+abbrev pub ReadsText : ℕ → RecordType → Option (Bor (List (List ℕ))) → List ℕ → Result (Unit {0}) RecordError → List ℕ → Type 0
+ReadsText n rtype origin text result octets = ReadsDataText (exactly n) rtype (option_copied origin) text (answered result octets)
+
+-- the octets are given; or why there are none is told
 abbrev pub TellsData : DataAnswer → List ℕ → ℕ → List ℕ → Outcome → Type 0
 TellsData (Ok octets) old status new outcome = TellsOctets octets old status new outcome
-TellsData (Err (Text f)) old status new outcome = TellsFault (record { refusal = refusal_of_wrong f.wrong; place = f.at }) status outcome × (new ≡ old)
-TellsData (Err (Entry r)) old status new outcome = TellsReason r old status new outcome
+TellsData (Err e) old status new outcome = TellsError e old status new outcome
 
--- the octets of data are given, with room for some; or they are refused, and nothing was written
-abbrev pub WritesData : Room → ℕ → Option (List (List ℕ)) → List ℕ → List ℕ → Result ℕ RecordRefusal → List ℕ → Outcome → Type 0
-WritesData room code origin text old (Ok status) new outcome =
-    (octets : List ℕ) × ReadsDataText room code origin text (Ok octets) × TellsOctets octets old status new outcome
-WritesData room code origin text old (Err refusal) new outcome = ReadsDataText room code origin text (Err refusal) × (new ≡ old)
+-- the octets of data are given, with room for so many; or they are refused, and nothing was written
+abbrev pub WritesData : ℕ → RecordType → Option (Bor (List (List ℕ))) → List ℕ → List ℕ → Result ℕ RecordError → List ℕ → Outcome → Type 0
+WritesData n rtype origin text old (Ok status) new outcome =
+    (octets : List ℕ) × ReadsDataText (exactly n) rtype (option_copied origin) text (Ok octets) × TellsOctets octets old status new outcome
+WritesData n rtype origin text old (Err e) new outcome = ReadsDataText (exactly n) rtype (option_copied origin) text (Err e) × (new ≡ old)
 
--- a text is read behind an origin, and what comes of it is told
-abbrev pub ReadsTextBehind : ℕ → List ℕ → Option (List (List ℕ)) → List ℕ → ℕ → List ℕ → Outcome → Type 0
-ReadsTextBehind code text origin old status new outcome = (answer : DataAnswer) × ReadsDataText (exactly 65535) code origin text answer × TellsData answer old status new outcome
+-- a text is read, with relative names below an origin, and what comes of it is told
+abbrev pub TellsBelow : RecordType → List ℕ → Option (List (List ℕ)) → List ℕ → ℕ → List ℕ → Outcome → Type 0
+TellsBelow rtype text origin old status new outcome = (answer : DataAnswer) × ReadsDataText (exactly 65535) rtype origin text answer × TellsData answer old status new outcome
 
--- the text is read behind the origin; or the origin is no name, which is told with no place, and nothing was written
-abbrev pub TellsReadData : ℕ → List ℕ → List ℕ → List ℕ → ℕ → List ℕ → Outcome → Type 0
-TellsReadData code text origin old status new outcome =
-    ((known : Option (List (List ℕ))) × IsOriginOf origin known × ReadsTextBehind code text known old status new outcome)
-    ⊎ ((e : NameError) × (origin ≢ []) × MakesName origin (Err e) × TellsFault (record { refusal = refusal_of_name e; place = 0 }) status outcome × (new ≡ old))
+-- the same of an origin that is lent
+abbrev pub TellsRead : RecordType → List ℕ → Option (Bor (List (List ℕ))) → List ℕ → ℕ → List ℕ → Outcome → Type 0
+TellsRead rtype text origin old status new outcome = TellsBelow rtype text (option_copied origin) old status new outcome
+
+-- the text is read, with relative names below the origin; or the origin is no name, which is told with no place, and nothing was written
+abbrev pub TellsReadData : RecordType → List ℕ → List ℕ → List ℕ → ℕ → List ℕ → Outcome → Type 0
+TellsReadData rtype text origin old status new outcome =
+    ((known : Option (List (List ℕ))) × IsOriginOf origin known × TellsBelow rtype text known old status new outcome)
+    ⊎ ((e : NameError) × (origin ≢ []) × MakesName origin (Err e) × TellsFault (at_start (refusal_of_name e)) status outcome × (new ≡ old))

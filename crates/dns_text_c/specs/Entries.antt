@@ -1,8 +1,8 @@
 -- The tokens of an entry, and what the call that gives them says.
-use Rattle.std.specs.Prelude.{⊤, ◌≡◌, ◌≢◌, ℕ, ◌+◌, ◌<◌, ◌≤◌, Bool, true, false, List, [], ◌∷◌, length, drop, min, encode_utf8_all, Result, Ok, Err}
+use Rattle.std.specs.Prelude.{⊤, ◌≡◌, ◌≢◌, ℕ, ◌+◌, ◌<◌, ◌≤◌, Bool, true, false, List, [], ◌∷◌, length, drop, min, encode_utf8_all, Result, Ok, Err, map}
 use Rattle.dns_octets.specs.Octets.{greatest_length}
 use Rattle.dns_split.specs.Opening.{IsOpener, IsLeftOpen}
-use Rattle.dns_split.specs.Pieces.{EachWithin, ReadsOctetsFrom, place_of}
+use Rattle.dns_split.specs.Pieces.{EachWithin, ReadsOctetsFrom, place_of, IsOctetPieces}
 use Rattle.dns_split.specs.declared.pieces.EndOfEntry.{EndOfEntry}
 use Rattle.dns_split.specs.declared.pieces.Piece.{Piece}
 use Rattle.dns_split.specs.declared.pieces.Piece.TheVariants.{Word as WordAt, Quote as QuoteAt, Comment as CommentAt, End as EndAt}
@@ -15,6 +15,7 @@ use Rattle.dns_text_c.specs.declared.outcome.Refusal.{Refusal}
 use Rattle.dns_text_c.specs.declared.outcome.Refusal.TheVariants.{NoRoom, BadEscape, Closing, OpenParenthesis, OpenQuote, LoneReturn, BadCursor}
 use Rattle.dns_text_c.specs.declared.tokens.Token.{Token as TokenAt}
 use Rattle.dns_text_c.specs.declared.tokens.Cursor.{Cursor}
+use Rattle.dns_text_c.specs.declared.tokens.Entry.{Entry}
 use Rattle.dns_text_c.specs.declared.tokens.Stop.{Stop}
 use Rattle.dns_text_c.specs.declared.tokens.Stop.TheVariants.{End, Fault, Nothing}
 use Rattle.dns_text_c.specs.declared.tokens.Step.{Step}
@@ -90,6 +91,10 @@ InARow text at (tokens ∷ more) =
     (given : List (Result Piece TextFault)) × (e : EndOfEntry) × ReadsOctetsFrom text at given × (tokens_of given ≡ tokens) × (stop_of given ≡ End e (is_nothing more))
     × (more ≢ [] → InARow text e.at more)
 
+-- so are the entries of the pieces of a text
+abbrev pub EntriesInARow : Type 0
+EntriesInARow = (text : List ℕ) (found : List Piece) → IsOctetPieces text found → EachWithin (length text) (map Ok found) → InARow text 0 (entries_of_pieces found)
+
 -- what was taken of the pieces
 abbrev pub TakesPieces : List (Result Piece TextFault) → Step → List (Result Piece TextFault) → Type 0
 TakesPieces old (Token t) new = (tokens_of old ≡ t ∷ tokens_of new) × (stop_of old ≡ stop_of new) × (length new < length old)
@@ -112,6 +117,11 @@ pub record IsEntry (given : List (Result Piece TextFault)) (old : List TokenAt) 
   pub count_is : count ≡ counted (length (tokens_of given))
   pub stop_is : stop ≡ stop_of given
 
+-- the entry at a place of a text is found so
+abbrev pub FindsEntry : List ℕ → ℕ → List TokenAt → Entry → List TokenAt → Type 0
+FindsEntry text at old entry new =
+    (given : List (Result Piece TextFault)) × ReadsOctetsFrom text at given × EachWithin (length text) given × IsEntry given old entry.count entry.stop new
+
 -- what is said of an entry of so many tokens where there is room for some, and where the cursor goes
 abbrev pub TellsEntry : List ℕ → ℕ → Stop → ℕ → ℕ → Cursor → Cursor → Outcome → Type 0
 TellsEntry text count (End e last) room status old new outcome =
@@ -123,6 +133,9 @@ TellsEntry text count (Fault f) room status old new outcome =
     × (new ≡ record old { is_done = 1; opened = new.opened }) × Opens text old.at f.wrong old.opened new.opened
 TellsEntry text count Nothing room status old new outcome =
     (outcome ≡ record { length = count; place = 0 }) × (status ≡ 1) × (new ≡ record old { is_done = 1 })
+
+abbrev pub TellsStop : List ℕ → Entry → ℕ → ℕ → Cursor → Cursor → Outcome → Type 0
+TellsStop text entry room status old new outcome = TellsEntry text entry.count entry.stop room status old new outcome
 
 -- the entry at a place is read, and what is said of it
 pub record ReadsEntry (text : List ℕ) (old new : Cursor) (before after : List TokenAt) (status : ℕ) (outcome : Outcome) : Type 0 where

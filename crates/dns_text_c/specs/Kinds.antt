@@ -1,7 +1,5 @@
 -- What reading a word of a kind answers.
 use Rattle.std.specs.Prelude.{◌≡◌, ◌⊎◌, ℕ, List}
-use Rattle.dns_kinds.specs.Classes.{SpellsClass, class_text}
-use Rattle.dns_kinds.specs.Types.{SpellsType, type_text}
 use Rattle.dns_text_c.specs.Told.{TellsFault}
 use Rattle.dns_text_c.specs.declared.outcome.Outcome.{Outcome}
 use Rattle.dns_text_c.specs.declared.outcome.Refusal.{Refusal}
@@ -11,16 +9,3 @@ abbrev pub TellsSpelled : (List ℕ → ℕ → Type 0) → Refusal → List ℕ
 TellsSpelled Spells refusal text old status new outcome =
     ((status ≡ 0) × (outcome ≡ record { length = 0; place = 0 }) × Spells text new)
     ⊎ (TellsFault (record { refusal = refusal; place = 0 }) status outcome × (new ≡ old) × ((v : ℕ) → Spells text v → ⊥))
-
--- types and classes by their codes
-abbrev pub SpellsTypeCode : List ℕ → ℕ → Type 0
-SpellsTypeCode text code = SpellsType text (record { 0 = code })
-
-abbrev pub SpellsClassCode : List ℕ → ℕ → Type 0
-SpellsClassCode text code = SpellsClass text (record { 0 = code })
-
-abbrev pub text_of_type : ℕ → List ℕ
-text_of_type code = type_text (record { 0 = code })
-
-abbrev pub text_of_class : ℕ → List ℕ
-text_of_class code = class_text (record { 0 = code })

@@ -9,11 +9,13 @@ use Rattle.dns_symbol.specs.declared.error.BadSymbol.{BadSymbol as WhyNone}
 use Rattle.dns_symbol.specs.declared.error.SymbolOctetsError.{SymbolOctetsError}
 use Rattle.dns_wire.specs.Building.{Naming, all_labels, closed, with_octet}
 use Rattle.dns_wire.specs.Form.{name_text}
+use Rattle.dns_wire.specs.Printed.{dotted_text, undotted_text}
 use Rattle.dns_wire.specs.Wire.{wire, wire_length}
 use Rattle.dns_name.specs.Reading.{HasNamed, ReadsAs, bracket, is_dot}
 use Rattle.dns_name.specs.ReadingSteps.{GivesOctet}
 use Rattle.dns_name.specs.Uncertain.{labels_of, is_absolute, MakesUncertain}
 use Rattle.dns_name.specs.declared.name.UncertainName.{UncertainName}
+use Rattle.dns_name.specs.declared.name.UncertainName.TheVariants.{Absolute, Relative}
 use Rattle.dns_name.specs.declared.name.error.UncertainDnameError.{UncertainDnameError}
 use Rattle.dns_name.specs.declared.name.error.UncertainDnameError.TheVariants.{BadLabel as NoType, CompressedName, LongName, TrailingData, ShortInput as CutShort}
 use Rattle.dns_text_c.specs.Entries.{bit}
@@ -57,6 +59,11 @@ NameStops text labels current place other = (e : SymbolOctetsError) × ReadsAt t
 abbrev pub NameAnswer : Type 0
 NameAnswer = Result (UncertainName (ArrayVec ℕ)) Fault
 
+-- the name of labels that are read: a plain dot last makes it absolute
+pub record FinishesName (b : Naming) (name : UncertainName (ArrayVec ℕ)) : Type 0 where
+  pub relative : (b.current ≡ [] → b.labels ≡ []) → name ≡ Relative (all_labels b)
+  pub absolute : b.current ≡ [] → b.labels ≢ [] → name ≡ Absolute (all_labels b ++ [] ∷ [])
+
 -- what reading a name's text answers: its name; or the first fault, with the labels before it
 abbrev pub ReadsNameText : List ℕ → NameAnswer → Type 0
 ReadsNameText text (Ok name) = ReadsAs text name
@@ -73,6 +80,12 @@ TellsName (Err fault) old was status new is outcome = TellsFault fault status ou
 abbrev pub labels_text : Form → Bool → List (List ℕ) → List ℕ
 labels_text form dot labels = encode_utf8_all (name_text form dot labels)
 
+abbrev pub undotted_octets : List (List ℕ) → List ℕ
+undotted_octets labels = encode_utf8_all (undotted_text labels)
+
+abbrev pub dotted_octets : List (List ℕ) → List ℕ
+dotted_octets labels = encode_utf8_all (dotted_text labels)
+
 -- the refusal of octets that are no name's
 abbrev pub refusal_of_octets : UncertainDnameError → Refusal
 refusal_of_octets (NoType e) = BadLabel
@@ -87,11 +100,11 @@ GivesText text_is (Ok name) old status new outcome = TellsOctets (text_is (label
 GivesText text_is (Err e) old status new outcome = TellsFault (record { refusal = refusal_of_octets e; place = 0 }) status outcome × (new ≡ old)
 
 -- what printing the name of some octets answers
-abbrev pub PrintsOctetsOf : (List (List ℕ) → List ℕ) → List ℕ → List ℕ → ℕ → List ℕ → Outcome → Type 0
-PrintsOctetsOf text_is octets old status new outcome =
+abbrev pub PrintsNameOf : (List (List ℕ) → List ℕ) → List ℕ → List ℕ → ℕ → List ℕ → Outcome → Type 0
+PrintsNameOf text_is octets old status new outcome =
     (made : Result (UncertainName (Bor (List ℕ))) UncertainDnameError) × MakesUncertain octets made × GivesText text_is made old status new outcome
 
 -- no octets are the relative name of no labels, and others make a name or are refused
 pub record PrintsName (text_is : List (List ℕ) → List ℕ) (octets old : List ℕ) (status : ℕ) (new : List ℕ) (outcome : Outcome) : Type 0 where
   pub none : octets ≡ [] → TellsOctets (text_is []) old status new outcome
-  pub some : octets ≢ [] → PrintsOctetsOf text_is octets old status new outcome
+  pub some : octets ≢ [] → PrintsNameOf text_is octets old status new outcome

@@ -1,7 +1,7 @@
 -- The pieces of a zone text as a caller gets them, one by one.
 use Rattle.std.specs.Prelude.{◌≡◌, ◌≢◌, ℕ, ◌<◌, ◌≤◌, ◌⊎◌, ◌==◌, if◌then◌else◌, Bool, not, List, [], ◌∷◌, length, Some, Result, Ok, Err}
-use Rattle.dns_split.specs.Pieces.{IsWithin, between}
-use Rattle.dns_split.specs.Splitting.{Entries, with_token}
+use Rattle.dns_split.specs.Pieces.{IsWithin, between, AreOctets, IsGiven}
+use Rattle.dns_split.specs.Splitting.{Entries, with_token, Splits}
 use Rattle.dns_split.specs.Standing.{Takes, began_after, blank_at}
 use Rattle.dns_split.specs.declared.pieces.Piece.{Piece as TextPiece}
 use Rattle.dns_split.specs.declared.pieces.Piece.TheVariants.{Word as WordAt, Quote as QuoteAt, Comment as CommentAt, End as EndAt}
@@ -84,3 +84,13 @@ abbrev pub entries_told : List ℕ → List ToldPiece → Entries
 entries_told text [] = []
 entries_told text (Ok p ∷ told) = entry_told text p (entries_told text told)
 entries_told text (Err f ∷ told) = entries_told text told
+
+-- calls from the start of a text on, until it is done, tell its pieces as they are given, or its fault
+abbrev pub PieceCallsTellPieces : Type 0
+PieceCallsTellPieces = (text : List ℕ) (given : List (Result TextPiece TextFault)) (first last : Standing) (told : List ToldPiece) → AreOctets text → IsGiven text given → first.at ≡ 0
+    → first.depth ≡ 0 → first.began ≡ 0 → first.is_done ≡ 0 → PieceCalls text first told last → told ≡ told_from text 0 given
+
+-- of a text that splits they tell the octets of its entries
+abbrev pub PieceCallsTellTokens : Type 0
+PieceCallsTellTokens = (text : List ℕ) (found : Entries) (first last : Standing) (told : List ToldPiece) → AreOctets text → Splits text found → first.at ≡ 0
+    → first.depth ≡ 0 → first.began ≡ 0 → first.is_done ≡ 0 → PieceCalls text first told last → entries_told text told ≡ found

@@ -1,24 +1,19 @@
--- Why an entry is refused: its status, and its text.
+-- Why a text, an entry or data are refused: the status, and the text.
 use Rattle.std.specs.Prelude.{◌≡◌, ℕ, List, [], ◌++◌, codes, take, Option, Some, None}
-use Rattle.std.specs.Borrow.{Bor}
-use Rattle.dns_data.specs.declared.error.DataError.{DataError}
-use Rattle.dns_data.specs.declared.error.DataError.TheVariants.{Field as OfDataField}
-use Rattle.dns_fields.specs.declared.error.FieldError.{FieldError}
-use Rattle.dns_fields.specs.declared.error.FieldError.TheVariants.{Spelling, ShortBuf}
-use Rattle.dns_heads.specs.declared.error.HeadError.{HeadError}
-use Rattle.dns_heads.specs.declared.error.HeadError.TheVariants.{Field as OfHeadField, NotSupported as NoneSuch}
-use Rattle.dns_reader.specs.EntryErrors.{zone_entry_error_text}
-use Rattle.dns_reader.specs.declared.entry_error.EntryError.{EntryError}
-use Rattle.dns_reader.specs.declared.entry_error.EntryError.TheVariants.{Head, Field, Owner, Data, NoTtl as TtlUnknown}
-use Rattle.dns_reader.specs.declared.entry_error.EntryRefusal.{EntryRefusal}
-use Rattle.dns_reader.specs.declared.owner_error.OwnerError.{OwnerError}
-use Rattle.dns_reader.specs.declared.owner_error.OwnerError.TheVariants.{NoOwner as NoneSaid, Refused as RefusedBefore}
-use Rattle.dns_spelling.specs.declared.error.SpellingError.{SpellingError}
-use Rattle.dns_spelling.specs.declared.error.SpellingError.TheVariants.{NoOrigin as OriginUnknown}
+use Rattle.dns_data.specs.ByType.{name_of_field, shape_of_code}
+use Rattle.dns_fields.specs.declared.record_error.FieldName.{FieldName}
+use Rattle.dns_fields.specs.declared.record_error.RecordError.{RecordError}
+use Rattle.dns_kinds.specs.ErrorKinds.{error_kind_text}
+use Rattle.dns_kinds.specs.Types.{type_text}
+use Rattle.dns_kinds.specs.declared.error.ErrorKind.{ErrorKind}
+use Rattle.dns_kinds.specs.declared.error.ErrorKind.TheVariants.{Syntax, ShortBuf, QuotedName, BadEscape as NoEscape, EmptyLabel as NoOctets, LongLabel as LabelTooLong, LongName as NameTooLong, NoOrigin as OriginUnknown}
+use Rattle.dns_kinds.specs.declared.error.ErrorKind.TheVariants.{NotSupported as NoneSuch, NoOwner as NoneSaid, RefusedOwner as RefusedBefore, NoTtl as TtlUnknown}
+use Rattle.dns_kinds.specs.declared.types.RecordType.{RecordType}
+use Rattle.dns_split.specs.declared.pieces.Wrong.{Wrong}
 use Rattle.dns_wire.specs.declared.error.NameError.{NameError}
 use Rattle.dns_wire.specs.declared.error.NameError.TheVariants.{BadLabel as NoLabel, CompressedName, LongName, TrailingData, ShortInput as CutShort, Relative, Absolute}
-use Rattle.dns_text_c.specs.Kinds.{text_of_type}
-use Rattle.dns_text_c.specs.Told.{GivesCut, number_of}
+use Rattle.dns_text_c.specs.Entries.{refusal_of_wrong}
+use Rattle.dns_text_c.specs.Told.{GivesCut, TellsFault, number_of}
 use Rattle.dns_text_c.specs.declared.outcome.Outcome.{Outcome}
 use Rattle.dns_text_c.specs.declared.outcome.Refusal.{Refusal}
 use Rattle.dns_text_c.specs.declared.outcome.Refusal.TheVariants.{BadLabel, Pointer, TooLong, TrailingOctets, ShortInput, RelativeName}
@@ -34,56 +29,79 @@ refusal_of_name CutShort = ShortInput
 refusal_of_name Relative = RelativeName
 refusal_of_name Absolute = RelativeName
 
--- a relative name without an origin is told by itself, and other refusals of a field as those of what it stands in
-abbrev pub refusal_of_spelling : Refusal → SpellingError → Refusal
-refusal_of_spelling other OriginUnknown = NoOrigin
-refusal_of_spelling other _ = other
+-- what is wrong with a text that is not of the grammar of zone files
+abbrev pub syntax_of : ErrorKind → Option Wrong
+syntax_of (Syntax wrong) = Some wrong
+syntax_of _ = None
 
-abbrev pub refusal_of_field : Refusal → FieldError → Refusal
-refusal_of_field other (Spelling e) = refusal_of_spelling other e
-refusal_of_field other _ = other
-
-abbrev pub refusal_of_head : HeadError → Refusal
-refusal_of_head (OfHeadField e) = refusal_of_field BadHead e
+-- the refusal of a directive, and of what precedes the data of a record; a relative name without an origin has its own
+abbrev pub refusal_of_head : ErrorKind → Refusal
+refusal_of_head QuotedName = BadName
+refusal_of_head NoEscape = BadName
+refusal_of_head NoOctets = BadName
+refusal_of_head LabelTooLong = BadName
+refusal_of_head NameTooLong = BadName
+refusal_of_head OriginUnknown = NoOrigin
 refusal_of_head NoneSuch = NotSupported
+refusal_of_head NoneSaid = NoOwner
+refusal_of_head RefusedBefore = RefusedOwner
+refusal_of_head TtlUnknown = NoTtl
 refusal_of_head _ = BadHead
 
-abbrev pub refusal_of_owner : OwnerError → Refusal
-refusal_of_owner NoneSaid = NoOwner
-refusal_of_owner RefusedBefore = RefusedOwner
-
-abbrev pub refusal_of_data : DataError → Refusal
-refusal_of_data (OfDataField e) = refusal_of_field BadData e
+abbrev pub refusal_of_data : ErrorKind → Refusal
+refusal_of_data OriginUnknown = NoOrigin
 refusal_of_data _ = BadData
 
--- the refusal of an entry
-abbrev pub refusal_of_entry : EntryError → Refusal
-refusal_of_entry (Head e) = refusal_of_head e
-refusal_of_entry (Field e) = refusal_of_field BadName e
-refusal_of_entry (Owner e) = refusal_of_owner e
-refusal_of_entry (Data e) = refusal_of_data e
-refusal_of_entry TtlUnknown = NoTtl
+-- the refusal of an entry, by the type where its data are refused
+abbrev pub refusal_of_entry : Option RecordType → ErrorKind → Refusal
+refusal_of_entry None kind = refusal_of_head kind
+refusal_of_entry (Some rtype) kind = refusal_of_data kind
 
--- the type and the part of its data that are refused, as in `MX preference`
-abbrev pub part_text : ℕ → Option (Bor (List ℕ)) → List ℕ
-part_text code None = text_of_type code
-part_text code (Some part) = text_of_type code ++ (codes " " ++ part.now)
+-- the name of a field, if there is one
+abbrev pub field_name : RecordType → Option FieldName → Option (List ℕ)
+field_name rtype None = None
+field_name rtype (Some field) = name_of_field (shape_of_code rtype) field
 
-abbrev pub part_prefix : Option ℕ → Option (Bor (List ℕ)) → List ℕ
-part_prefix None part = []
-part_prefix (Some code) part = part_text code part ++ codes ": "
+-- a name after a blank
+abbrev pub spaced : List ℕ → List ℕ
+spaced name = codes " " ++ name
+
+-- the type and the field of its data that are refused, as in `MX preference`
+abbrev pub part_text : RecordType → Option (List ℕ) → List ℕ
+part_text rtype None = type_text rtype
+part_text rtype (Some name) = type_text rtype ++ spaced name
+
+abbrev pub part_prefix : Option RecordType → Option FieldName → List ℕ
+part_prefix None field = []
+part_prefix (Some rtype) field = part_text rtype (field_name rtype field) ++ codes ": "
 
 -- there is room for 65,535 octets of RDATA, so what finds none exceeds them (RFC 1035 section 3.2.1)
-abbrev pub call_error_text : EntryError → List ℕ
-call_error_text (Data (OfDataField ShortBuf)) = codes "RDATA exceeds 65535 octets"
-call_error_text e = zone_entry_error_text e
+abbrev pub data_error_text : ErrorKind → List ℕ
+data_error_text ShortBuf = codes "RDATA exceeds 65535 octets"
+data_error_text kind = error_kind_text kind
+
+abbrev pub call_error_text : Option RecordType → ErrorKind → List ℕ
+call_error_text None kind = error_kind_text kind
+call_error_text (Some rtype) kind = data_error_text kind
 
 -- and why
-abbrev pub reason_text : EntryRefusal → List ℕ
-reason_text r = part_prefix r.code r.part ++ call_error_text r.why
+abbrev pub reason_text : RecordError → List ℕ
+reason_text e = part_prefix e.rtype e.field ++ call_error_text e.rtype e.kind
+
+-- a text is appended, cut to 255 characters
+abbrev pub AppendsCut : List ℕ → List ℕ → List ℕ → Type 0
+AppendsCut text old new = new ≡ take 255 (old ++ text)
 
 -- the status and the place of a refusal, and its text, as much of it as fits
-pub record TellsReason (refusal : EntryRefusal) (old : List ℕ) (told : ℕ) (new : List ℕ) (outcome : Outcome) : Type 0 where
-  pub told_is : told ≡ number_of (refusal_of_entry refusal.why)
-  pub place : outcome.place ≡ refusal.at
-  pub text : GivesCut (take 255 (reason_text refusal)) old new outcome.length
+pub record TellsReason (error : RecordError) (old : List ℕ) (told : ℕ) (new : List ℕ) (outcome : Outcome) : Type 0 where
+  pub told_is : told ≡ number_of (refusal_of_entry error.rtype error.kind)
+  pub place : outcome.place ≡ error.offset
+  pub text : GivesCut (take 255 (reason_text error)) old new outcome.length
+
+-- what is wrong with the text is told by the status alone, and nothing was written; or an entry is refused
+abbrev pub TellsWrong : Option Wrong → RecordError → List ℕ → ℕ → List ℕ → Outcome → Type 0
+TellsWrong (Some wrong) error old told new outcome = TellsFault (record { refusal = refusal_of_wrong wrong; place = error.offset }) told outcome × (new ≡ old)
+TellsWrong None error old told new outcome = TellsReason error old told new outcome
+
+abbrev pub TellsError : RecordError → List ℕ → ℕ → List ℕ → Outcome → Type 0
+TellsError error old told new outcome = TellsWrong (syntax_of error.kind) error old told new outcome

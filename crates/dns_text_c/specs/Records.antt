@@ -1,21 +1,20 @@
 -- What a call for the next record of a zone file tells.
 use Rattle.std.specs.Prelude.{◌≡◌, ◌⊎◌, ◌<◌, ◌≤◌, ℕ, List, [], length, drop, take, Option, Some, None, Result, Ok, Err}
+use Rattle.dns_fields.specs.declared.record_error.RecordError.{RecordError}
+use Rattle.dns_kinds.specs.declared.classes.Class.{Class}
+use Rattle.dns_kinds.specs.declared.types.RecordType.{RecordType}
 use Rattle.dns_octets.specs.Room.{exactly}
 use Rattle.dns_reader.specs.Past.{seconds_of}
 use Rattle.dns_reader.specs.Records.{ReadsNextRecord}
 use Rattle.dns_reader.specs.TextPieces.{StartsAt}
 use Rattle.dns_reader.specs.declared.entry.EntryRead.{EntryRead}
 use Rattle.dns_reader.specs.declared.entry.EntryRead.TheVariants.{Nothing, Directive, Include, Record as RecordRead}
-use Rattle.dns_reader.specs.declared.entry_error.EntryRefusal.{EntryRefusal}
 use Rattle.dns_reader.specs.declared.known.Known.{Known}
 use Rattle.dns_reader.specs.declared.records.RecordReader.{RecordReader}
-use Rattle.dns_reader.specs.declared.records.RecordRefusal.{RecordRefusal}
-use Rattle.dns_reader.specs.declared.records.RecordRefusal.TheVariants.{Text, Entry}
 use Rattle.dns_reader.specs.declared.state.State.{State}
-use Rattle.dns_text_c.specs.Entries.{refusal_of_wrong}
 use Rattle.dns_text_c.specs.Kept.{HoldsState, KeepsName, KeepsState, said_origin}
-use Rattle.dns_text_c.specs.Reasons.{TellsReason}
-use Rattle.dns_text_c.specs.Told.{TellsFault, number_of}
+use Rattle.dns_text_c.specs.Reasons.{TellsError}
+use Rattle.dns_text_c.specs.Told.{TellsFault, at_start, number_of}
 use Rattle.dns_text_c.specs.declared.kept.Zone.{Zone}
 use Rattle.dns_text_c.specs.declared.outcome.Outcome.{Outcome}
 use Rattle.dns_text_c.specs.declared.outcome.Refusal.TheVariants.{NoRoom, BadCursor}
@@ -28,62 +27,78 @@ pub record Memory : Type 0 where
   pub found : Record
   pub octets : List ℕ
 
+abbrev pub memory : Zone → Record → List ℕ → Memory
+memory zone found octets = record { zone = zone; found = found; octets = octets }
+
+-- a call: the memory before and after it, its status and its outcome
+pub record RecordCall : Type 0 where
+  pub before : Memory
+  pub after : Memory
+  pub status : ℕ
+  pub outcome : Outcome
+
 -- what the reader knows is kept, and where it stands
 abbrev pub KeepsReader : RecordReader → Zone → Zone → Type 0
 KeepsReader reader old new = KeepsState reader.state reader.source.began old new
 
 -- the numbers of a record
 abbrev pub head_of : Record → Head
-head_of found = record { place = found.place; ttl = found.ttl; class_code = found.class_code; type_code = found.type_code }
+head_of found = record { place = found.place; ttl = found.ttl; class = found.class_code; rtype = found.type_code }
 
 -- the octets are given with a status, a name and numbers, and the zone goes on; where they don't fit, nothing was written
-pub record TellsFound (status : ℕ) (reader : RecordReader) (octets : List ℕ) (name : Known) (head : Head) (old new : Memory) (told : ℕ) (outcome : Outcome) : Type 0 where
-  pub outcome_is : outcome ≡ record { length = length octets; place = 0 }
-  pub given : length octets ≤ length old.octets → (told ≡ status) × (take (length octets) new.octets ≡ octets) × (drop (length octets) new.octets ≡ drop (length octets) old.octets)
-      × KeepsName name old.found.name new.found.name × (head_of new.found ≡ head) × KeepsReader reader old.zone new.zone
-  pub lacks : length old.octets < length octets → (told ≡ number_of NoRoom) × (new ≡ old)
+pub record TellsFound (status : ℕ) (reader : RecordReader) (octets : List ℕ) (name : Known) (head : Head) (call : RecordCall) : Type 0 where
+  pub outcome_is : call.outcome ≡ record { length = length octets; place = 0 }
+  pub given : length octets ≤ length call.before.octets → (call.status ≡ status) × (take (length octets) call.after.octets ≡ octets)
+      × (drop (length octets) call.after.octets ≡ drop (length octets) call.before.octets) × KeepsName name call.before.found.name call.after.found.name
+      × (head_of call.after.found ≡ head) × KeepsReader reader call.before.zone call.after.zone
+  pub lacks : length call.before.octets < length octets → (call.status ≡ number_of NoRoom) × (call.after ≡ call.before)
 
--- a refusal is reported, and the zone moves past it
-pub record TellsRefused (reader : RecordReader) (refusal : EntryRefusal) (old new : Memory) (told : ℕ) (outcome : Outcome) : Type 0 where
-  pub reason : TellsReason refusal old.octets told new.octets outcome
-  pub keeps : KeepsReader reader old.zone new.zone
-  pub found_stays : new.found ≡ old.found
+-- the refusal of an entry is told, or what is wrong with the text, and the zone moves past it
+pub record TellsRefused (reader : RecordReader) (error : RecordError) (call : RecordCall) : Type 0 where
+  pub reason : TellsError error call.before.octets call.status call.after.octets call.outcome
+  pub keeps : KeepsReader reader call.before.zone call.after.zone
+  pub found_stays : call.after.found ≡ call.before.found
 
--- the zone goes on, and nothing else was written
-pub record MovesOn (reader : RecordReader) (old new : Memory) : Type 0 where
-  pub keeps : KeepsReader reader old.zone new.zone
-  pub found_stays : new.found ≡ old.found
-  pub octets_stay : new.octets ≡ old.octets
+-- nothing is left, and the zone goes on; nothing else was written
+pub record TellsEnd (reader : RecordReader) (call : RecordCall) : Type 0 where
+  pub status_is : call.status ≡ 1
+  pub outcome_is : call.outcome ≡ record { length = 0; place = 0 }
+  pub keeps : KeepsReader reader call.before.zone call.after.zone
+  pub found_stays : call.after.found ≡ call.before.found
+  pub octets_stay : call.after.octets ≡ call.before.octets
 
--- what is told of what the reader gives: a record with its owner; a file to include; the refusal of an entry; a fault of the text; or that nothing is left
-abbrev pub TellsGiven : Option (Result EntryRead RecordRefusal) → RecordReader → List ℕ → Memory → Memory → ℕ → Outcome → Type 0
-TellsGiven None reader octets old new told outcome = (told ≡ 1) × (outcome ≡ record { length = 0; place = 0 }) × MovesOn reader old new
-TellsGiven (Some (Err (Text f))) reader octets old new told outcome =
-    TellsFault (record { refusal = refusal_of_wrong f.wrong; place = f.at }) told outcome × MovesOn reader old new
-TellsGiven (Some (Err (Entry r))) reader octets old new told outcome = TellsRefused reader r old new told outcome
-TellsGiven (Some (Ok (RecordRead at ttl class code))) reader octets old new told outcome =
-    TellsFound 0 reader octets reader.state.owner (record { place = at; ttl = seconds_of ttl; class_code = class; type_code = code }) old new told outcome
-TellsGiven (Some (Ok (Include origin))) reader octets old new told outcome =
-    TellsFound 26 reader octets (said_origin origin) (record { place = 0; ttl = 0; class_code = 0; type_code = 0 }) old new told outcome
-TellsGiven (Some (Ok Nothing)) reader octets old new told outcome = ⊥
-TellsGiven (Some (Ok Directive)) reader octets old new told outcome = ⊥
+-- the numbers of a record, and those of a file to include
+abbrev pub head_with : ℕ → ℕ → Class → RecordType → Head
+head_with at ttl class rtype = record { place = at; ttl = ttl; class = class; rtype = rtype }
 
--- what the reader gives is the refusal of an entry, or a fault of the text
-abbrev pub RefusalIsGiven : Option (Result EntryRead RecordRefusal) → Type 0
-RefusalIsGiven given = (r : RecordRefusal) × (given ≡ Some (Err r))
+abbrev pub no_head : Head
+no_head = head_with 0 0 0 0
+
+-- what is told of what the reader gives: a record with its owner; a file to include; what is refused; or that nothing is left
+abbrev pub TellsGiven : Option (Result EntryRead RecordError) → RecordReader → List ℕ → RecordCall → Type 0
+TellsGiven None reader octets call = TellsEnd reader call
+TellsGiven (Some (Err e)) reader octets call = TellsRefused reader e call
+TellsGiven (Some (Ok (RecordRead at ttl class rtype))) reader octets call = TellsFound 0 reader octets reader.state.owner (head_with at (seconds_of ttl) class rtype) call
+TellsGiven (Some (Ok (Include origin))) reader octets call = TellsFound 26 reader octets (said_origin origin) no_head call
+TellsGiven (Some (Ok Nothing)) reader octets call = ⊥
+TellsGiven (Some (Ok Directive)) reader octets call = ⊥
+
+-- what the reader gives is refused
+abbrev pub RefusalIsGiven : Option (Result EntryRead RecordError) → Type 0
+RefusalIsGiven given = (e : RecordError) × (given ≡ Some (Err e))
 
 -- a reader that stands where the zone says, behind the state that it holds, gives the next record, and this is told
-pub record ReadsZone (text : List ℕ) (state : State) (old new : Memory) (told : ℕ) (outcome : Outcome) : Type 0 where
+pub record ReadsZone (text : List ℕ) (state : State) (call : RecordCall) : Type 0 where
   pub before : RecordReader
   pub after : RecordReader
-  pub given : Option (Result EntryRead RecordRefusal)
+  pub given : Option (Result EntryRead RecordError)
   pub octets : List ℕ
-  pub starts : StartsAt text old.zone.at state before
+  pub starts : StartsAt text call.before.zone.at state before
   pub reads : ReadsNextRecord (exactly 65535) before [] given after octets
-  pub tells : TellsGiven given after octets old new told outcome
+  pub tells : TellsGiven given after octets call
 
 -- a zone that holds no state, or a place past the end, is refused, and nothing was written; and else the next record is read
-abbrev pub NextRecord : List ℕ → Memory → Memory → ℕ → Outcome → Type 0
-NextRecord text old new told outcome =
-    ((HoldsState old.zone None ⊎ (length text < old.zone.at)) × TellsFault (record { refusal = BadCursor; place = 0 }) told outcome × (new ≡ old))
-    ⊎ ((state : State) × HoldsState old.zone (Some state) × (old.zone.at ≤ length text) × ReadsZone text state old new told outcome)
+abbrev pub NextRecord : List ℕ → RecordCall → Type 0
+NextRecord text call =
+    ((HoldsState call.before.zone None ⊎ (length text < call.before.zone.at)) × TellsFault (at_start BadCursor) call.status call.outcome × (call.after ≡ call.before))
+    ⊎ ((state : State) × HoldsState call.before.zone (Some state) × (call.before.zone.at ≤ length text) × ReadsZone text state call)

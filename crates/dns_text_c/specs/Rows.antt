@@ -1,19 +1,20 @@
 -- Worked rows of the definitions, each computed.
 use Rattle.std.specs.Prelude.{◌≡◌, [], ◌∷◌, ◌++◌, map, codes, decimal, refl, Some, None}
-use Rattle.dns_kinds.specs.Types.{type_rows}
+use Rattle.dns_kinds.specs.Classes.{class_text}
+use Rattle.dns_kinds.specs.Rtype as Rtype
+use Rattle.dns_kinds.specs.Types.{type_rows, type_text}
 use Rattle.dns_text_c.specs.Kept.{flagged}
-use Rattle.dns_text_c.specs.Kinds.{text_of_type, text_of_class}
 use Rattle.dns_text_c.specs.Reasons.{part_prefix}
 use Rattle.dns_text_c.specs.Status.{status_text}
 use Rattle.dns_text_c.specs.Told.{number_of}
 use Rattle.dns_text_c.specs.declared.outcome.Refusal.TheVariants.{NoRoom, BadPlace, BadTtl, UnknownType, UnknownClass}
 
--- the types 15, 257 and 65280, and the classes 1 and 254
-types : map text_of_type (15 ∷ 257 ∷ 65280 ∷ []) ≡ codes "MX" ∷ codes "CAA" ∷ (codes "TYPE" ++ decimal 65280) ∷ []
+-- two types with a name and one without, and the classes 1 and 254
+types : map type_text (Rtype.mx ∷ Rtype.caa ∷ 65280 ∷ []) ≡ codes "MX" ∷ codes "CAA" ∷ (codes "TYPE" ++ decimal 65280) ∷ []
 unfolding type_rows
 types = refl
 
-classes : map text_of_class (1 ∷ 254 ∷ []) ≡ codes "IN" ∷ (codes "CLASS" ++ decimal 254) ∷ []
+classes : map class_text (1 ∷ 254 ∷ []) ≡ codes "IN" ∷ (codes "CLASS" ++ decimal 254) ∷ []
 classes = refl
 
 -- what refusals say
@@ -22,7 +23,7 @@ refusals : map (λ r. status_text (number_of r)) (NoRoom ∷ BadPlace ∷ BadTtl
 refusals = refl
 
 -- what is refused of MX data, and of what is no data
-places : map (λ code. part_prefix code None) (Some 15 ∷ Some 65280 ∷ None ∷ []) ≡ codes "MX: " ∷ (codes "TYPE" ++ decimal 65280 ++ codes ": ") ∷ [] ∷ []
+places : map (λ rtype. part_prefix rtype None) (Some Rtype.mx ∷ Some 65280 ∷ None ∷ []) ≡ codes "MX: " ∷ (codes "TYPE" ++ decimal 65280 ++ codes ": ") ∷ [] ∷ []
 unfolding type_rows
 places = refl
 

@@ -1,5 +1,5 @@
 -- What reading and printing a character string answers.
-use Rattle.std.specs.Prelude.{◌≡◌, ℕ, ◌<◌, ◌≤◌, ◌⊎◌, Bool, true, List, [], ◌++◌, length, map, drop, Some, Result, Ok, Err}
+use Rattle.std.specs.Prelude.{◌≡◌, ℕ, ◌<◌, ◌≤◌, ◌⊎◌, Bool, true, List, [], ◌++◌, length, map, drop, Some, Result, Ok, Err, Option, IfSome}
 use Rattle.std.specs.List.{flat_map, list_all}
 use Rattle.arrayvec.specs.ArrayVec.{ArrayVec}
 use Rattle.dns_symbol.specs.Symbol.{bytes, is_readable, octet_of}
@@ -12,9 +12,9 @@ use Rattle.dns_symbol.specs.declared.error.SymbolCharsError.TheVariants.{BadEsca
 use Rattle.dns_symbol.specs.declared.error.SymbolOctetsError.{SymbolOctetsError}
 use Rattle.dns_symbol.specs.declared.error.SymbolOctetsError.TheVariants.{BadUtf8 as NoUtf8, BadEscape as NoEscape, ShortInput as CutShort}
 use Rattle.dns_charstr.specs.Printed.{quoted_text}
-use Rattle.dns_charstr.specs.OctetText.{SpellsOctet, SpellsOctets, SpellsNone}
+use Rattle.dns_charstr.specs.OctetText.{SpellsOctet, SpellsOctets, SpellsNone, OctetAt}
 use Rattle.dns_charstr.specs.Reading.{HasOctets}
-use Rattle.dns_text_c.specs.Told.{TellsOctets, TellsFault}
+use Rattle.dns_text_c.specs.Told.{TellsOctets, TellsFault, IsTold}
 use Rattle.dns_text_c.specs.declared.outcome.Outcome.{Outcome}
 use Rattle.dns_text_c.specs.declared.outcome.Fault.{Fault}
 use Rattle.dns_text_c.specs.declared.outcome.Refusal.{Refusal}
@@ -28,10 +28,16 @@ escape_of Plain = is_plain_escape
 escape_of Quoted = is_quoted_escape
 escape_of Unquoted = is_unquoted_escape
 
+abbrev pub plain_text : List ℕ → List ℕ
+plain_text octets = text_of is_plain_escape octets
+
+abbrev pub unquoted_text : List ℕ → List ℕ
+unquoted_text octets = text_of is_unquoted_escape octets
+
 abbrev pub string_text : Form → List ℕ → List ℕ
-string_text Plain octets = text_of is_plain_escape octets
+string_text Plain octets = plain_text octets
 string_text Quoted octets = quoted_text octets
-string_text Unquoted octets = text_of is_unquoted_escape octets
+string_text Unquoted octets = unquoted_text octets
 
 -- at most 255 octets are given as their text, one octet a character; the 256th is refused
 pub record PrintsString (text_is : List ℕ → List ℕ) (octets old : List ℕ) (status : ℕ) (new : List ℕ) (outcome : Outcome) : Type 0 where
@@ -43,6 +49,14 @@ abbrev pub refusal_of : SymbolOctetsError → Refusal
 refusal_of NoUtf8 = BadUtf8
 refusal_of NoEscape = BadEscape
 refusal_of CutShort = ShortInput
+
+-- no symbol stands at a place, and the fault says why
+abbrev pub RefusesSymbol : List ℕ → ℕ → Fault → Type 0
+RefusesSymbol text place fault = (e : SymbolOctetsError) × ReadsAt text place (Err e) × (fault ≡ record { refusal = refusal_of e; place = place })
+
+-- what is found at a place ends at a later place of the text
+abbrev pub GoesOn : {X : Type 0} → List ℕ → ℕ → Option (X × ℕ) → Type 0
+GoesOn text place found = IfSome found (λ p. (place < p.1) × (p.1 ≤ length text))
 
 -- the text begins with symbols that have these octets and end at a place
 pub record HasOctetsBefore (text octets : List ℕ) (place : ℕ) : Type 0 where
@@ -69,6 +83,10 @@ abbrev pub refusal_of_escape : SymbolCharsError → Refusal
 refusal_of_escape BadOne = BadEscape
 refusal_of_escape ShortOne = ShortInput
 
+-- no octet is spelled at a place, and the fault says why
+abbrev pub RefusesOctet : List ℕ → ℕ → Fault → Type 0
+RefusesOctet text place fault = (e : SymbolCharsError) × OctetAt text place (Err e) × (fault ≡ record { refusal = refusal_of_escape e; place = place })
+
 -- why reading octets goes no further, though more stands there: 255 octets have been read and another one is spelled, or none is
 abbrev pub StopsOctets : List ℕ → List ℕ → Refusal → Type 0
 StopsOctets octets rest refusal =
@@ -85,3 +103,10 @@ ReadsOctetString text (Err fault) =
 abbrev pub string_octets : Result (ArrayVec ℕ) Fault → Result (List ℕ) Fault
 string_octets (Ok octets) = Ok octets.items
 string_octets (Err fault) = Err fault
+
+-- a text is read, and what comes of it is told
+abbrev pub TellsString : List ℕ → List ℕ → ℕ → List ℕ → Outcome → Type 0
+TellsString text old status new outcome = (answer : Result (List ℕ) Fault) × ReadsString text answer × IsTold answer old status new outcome
+
+abbrev pub TellsOctetString : List ℕ → List ℕ → ℕ → List ℕ → Outcome → Type 0
+TellsOctetString text old status new outcome = (answer : Result (List ℕ) Fault) × ReadsOctetString text answer × IsTold answer old status new outcome

@@ -56,6 +56,14 @@ pub record GivesCut (octets old new : List ℕ) (count : ℕ) : Type 0 where
   pub put : take count new ≡ take count octets
   pub rest : drop count new ≡ drop count old
 
+-- a refusal of the whole, which has no place
+abbrev pub at_start : Refusal → Fault
+at_start refusal = record { refusal = refusal; place = 0 }
+
+-- all went well, and this is the length
+abbrev pub TellsLength : ℕ → ℕ → Outcome → Type 0
+TellsLength n status outcome = (status ≡ 0) × (outcome ≡ record { length = n; place = 0 })
+
 -- the status and the place are the fault's
 abbrev pub TellsFault : Fault → ℕ → Outcome → Type 0
 TellsFault fault status outcome = (status ≡ number_of fault.refusal) × (outcome ≡ record { length = 0; place = fault.place })

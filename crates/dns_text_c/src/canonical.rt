@@ -1,12 +1,11 @@
 //! Record data in canonical form (RFC 4034 section 6.2).
 ghost use Rattle.std.specs.Prelude.{◌≤◌, length};
-ghost use Rattle.dns_resource.specs.CanonicalData.{canonical_data};
-ghost use Rattle.dns_text_c.specs.DataText.{TellsCanonical};
-ghost use Rattle.dns_text_c.specs.Told.{TellsOctets};
+ghost use Rattle.dns_text_c.specs.DataText.{TellsCanonical, TellsForm};
 
 use crate::outcome::{Outcome, give, refuse};
 use crate::printing::fault_of_wire;
 use arrayvec::ArrayVec;
+use dns_kinds::RecordType;
 use dns_resource::Data;
 
 /// The most octets of record data (RFC 1035 section 3.2.1).
@@ -18,7 +17,7 @@ const FEW: usize = 1024;
 /// Gives the canonical form of data of few octets.
 fn give_short_form(content: &Data<&[u8]>, form: &mut [u8], outcome: &mut Outcome) -> u32
     requires { length content.now.octets ≤ FEW }
-    ensures { TellsOctets (canonical_data content.now.code content.now.octets) form.old result form.new outcome.new }
+    ensures { TellsForm content.now form.old result form.new outcome.new }
 {
     let mut made: ArrayVec<u8, FEW> = ArrayVec::new();
     match content.append_canonical(&mut made) {
@@ -34,7 +33,7 @@ fn give_short_form(content: &Data<&[u8]>, form: &mut [u8], outcome: &mut Outcome
 #[inline(never)]
 fn give_long_form(content: &Data<&[u8]>, form: &mut [u8], outcome: &mut Outcome) -> u32
     requires { length content.now.octets ≤ MOST }
-    ensures { TellsOctets (canonical_data content.now.code content.now.octets) form.old result form.new outcome.new }
+    ensures { TellsForm content.now form.old result form.new outcome.new }
 {
     let mut all: ArrayVec<u8, MOST> = ArrayVec::new();
     match content.append_canonical(&mut all) {
@@ -45,7 +44,7 @@ fn give_long_form(content: &Data<&[u8]>, form: &mut [u8], outcome: &mut Outcome)
 
 /// Gives the canonical form of data.
 fn give_form(content: &Data<&[u8]>, form: &mut [u8], outcome: &mut Outcome) -> u32
-    ensures { TellsOctets (canonical_data content.now.code content.now.octets) form.old result form.new outcome.new }
+    ensures { TellsForm content.now form.old result form.new outcome.new }
 {
     if content.as_slice().len() > FEW {
         return give_long_form(content, form, outcome);
@@ -68,7 +67,7 @@ pub extern "C" fn dnstext_data_canonical(
 ) -> u32
     ensures { TellsCanonical code octets.now form.old result form.new outcome.new }
 {
-    match Data::from_octets(code, octets) {
+    match Data::from_octets(RecordType(code), octets) {
         Ok(content) => give_form(&content, form, outcome),
         Err(error) => refuse(fault_of_wire(error), outcome),
     }

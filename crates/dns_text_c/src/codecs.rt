@@ -3,7 +3,7 @@ ghost use Rattle.std.specs.Prelude.{◌≡◌, ◌≤◌, ◌^◌, length, IfOk,
 ghost use Rattle.dns_codec.specs.Base.{base16, base32hex, base64};
 ghost use Rattle.dns_codec.specs.Outcome.{pad_count};
 ghost use Rattle.dns_text_c.specs.Codecs.{PrintsOctets, DecodesText};
-ghost use Rattle.dns_text_c.specs.Told.{number_of, TellsFault};
+ghost use Rattle.dns_text_c.specs.Told.{number_of, TellsFault, TellsLength, at_start};
 ghost use Rattle.dns_text_c.specs.declared.outcome.Refusal.TheVariants.{NoRoom, TooLong, BadEncoding};
 
 use crate::outcome::{Fault, OK, Outcome, Refusal, number_of, refuse};
@@ -87,8 +87,8 @@ fn refuse_room(length: usize, outcome: &mut Outcome) -> u32
 
 /// Tells whether the text was one of the encoding.
 fn tell_read(read: Option<usize>, length: usize, outcome: &mut Outcome) -> u32
-    ensures some { IfSome read (λ _. (result ≡ 0) × (outcome.new ≡ record { length = length; place = 0 })) }
-    ensures none { IfNone read (TellsFault (record { refusal = BadEncoding; place = 0 }) result outcome.new) }
+    ensures some { IfSome read (λ _. TellsLength length result outcome.new) }
+    ensures none { IfNone read (TellsFault (at_start BadEncoding) result outcome.new) }
 {
     match read {
         Some(_) => {

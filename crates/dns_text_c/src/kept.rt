@@ -6,6 +6,7 @@ ghost use Rattle.dns_text_c.specs.Reasons.{refusal_of_name};
 
 use crate::outcome::{Fault, Outcome, Refusal, accept, refuse};
 use arrayvec::ArrayVec;
+use dns_kinds::Class;
 use dns_reader::{Known, NameBuffer, State};
 use dns_wire::{MAX_NAME, Name, NameError};
 
@@ -96,7 +97,7 @@ pub(crate) fn state_of(zone: &Zone) -> Option<State>
         owner,
         default_ttl: ttl_of(zone.has_default_ttl, zone.default_ttl),
         last_ttl: ttl_of(zone.has_last_ttl, zone.last_ttl),
-        class: zone.class_code,
+        class: Class(zone.class_code),
     })
 }
 
@@ -144,7 +145,7 @@ pub(crate) fn keep_state(state: &State, at: usize, zone: &mut Zone)
     ensures { KeepsState state.now at zone.old zone.new }
 {
     zone.at = at;
-    zone.class_code = state.class;
+    zone.class_code = state.class.0;
     keep_ttl(
         state.default_ttl,
         &mut zone.has_default_ttl,

@@ -1,7 +1,9 @@
 //! Times to live, types and classes of records, each one word of zone text.
 ghost use Rattle.std.specs.Prelude.{◌≡◌, ◌+◌, ◌≤◌, ◌++◌, decimal, length};
+ghost use Rattle.dns_kinds.specs.Classes.{SpellsClass, class_text};
 ghost use Rattle.dns_kinds.specs.Ttl.{SpellsTtl};
-ghost use Rattle.dns_text_c.specs.Kinds.{TellsSpelled, SpellsTypeCode, SpellsClassCode, text_of_type, text_of_class};
+ghost use Rattle.dns_kinds.specs.Types.{SpellsType, type_text};
+ghost use Rattle.dns_text_c.specs.Kinds.{TellsSpelled};
 ghost use Rattle.dns_text_c.specs.Told.{TellsFault, TellsOctets};
 ghost use Rattle.dns_text_c.specs.declared.outcome.Refusal.TheVariants.{BadTtl, UnknownType, UnknownClass};
 
@@ -44,7 +46,7 @@ pub extern "C" fn dnstext_ttl_read(text: &[u8], seconds: &mut u32, outcome: &mut
 /// and then the code stays as it was.
 #[unsafe(no_mangle)]
 pub extern "C" fn dnstext_type_read(text: &[u8], code: &mut u16, outcome: &mut Outcome) -> u32
-    ensures { TellsSpelled SpellsTypeCode UnknownType text.now code.old result code.new outcome.new }
+    ensures { TellsSpelled SpellsType UnknownType text.now code.old result code.new outcome.new }
 {
     match RecordType::from_text(text) {
         Ok(read) => {
@@ -62,7 +64,7 @@ pub extern "C" fn dnstext_type_read(text: &[u8], code: &mut u16, outcome: &mut O
 /// and then the code stays as it was.
 #[unsafe(no_mangle)]
 pub extern "C" fn dnstext_class_read(text: &[u8], code: &mut u16, outcome: &mut Outcome) -> u32
-    ensures { TellsSpelled SpellsClassCode UnknownClass text.now code.old result code.new outcome.new }
+    ensures { TellsSpelled SpellsClass UnknownClass text.now code.old result code.new outcome.new }
 {
     match Class::from_text(text) {
         Ok(read) => {
@@ -86,23 +88,23 @@ fn push_decimal(number: u16, text: &mut ArrayVec<u8, TEXT>)
     }
 }
 
-/// A prefix and a code behind it.
-pub(crate) fn numbered(prefix: &str, code: u16) -> ArrayVec<u8, TEXT>
+/// A prefix and a number after it.
+pub(crate) fn numbered(prefix: &str, number: u16) -> ArrayVec<u8, TEXT>
     requires { length prefix.now ≤ 5 }
-    ensures { result.items ≡ prefix.now ++ decimal code }
+    ensures { result.items ≡ prefix.now ++ decimal number }
 {
     let mut text = ArrayVec::new();
     for octet in prefix.as_bytes() {
         text.push(*octet);
     }
-    push_decimal(code, &mut text);
+    push_decimal(number, &mut text);
     text
 }
 
 /// Prints a type of records: its name, or without one `TYPE` and the code.
 #[unsafe(no_mangle)]
 pub extern "C" fn dnstext_type_print(code: u16, text: &mut [u8], outcome: &mut Outcome) -> u32
-    ensures { TellsOctets (text_of_type code) text.old result text.new outcome.new }
+    ensures { TellsOctets (type_text code) text.old result text.new outcome.new }
 {
     match RecordType(code).name() {
         Some(name) => give(name.as_bytes(), text, outcome),
@@ -113,7 +115,7 @@ pub extern "C" fn dnstext_type_print(code: u16, text: &mut [u8], outcome: &mut O
 /// Prints a class: its name, or without one `CLASS` and the code.
 #[unsafe(no_mangle)]
 pub extern "C" fn dnstext_class_print(code: u16, text: &mut [u8], outcome: &mut Outcome) -> u32
-    ensures { TellsOctets (text_of_class code) text.old result text.new outcome.new }
+    ensures { TellsOctets (class_text code) text.old result text.new outcome.new }
 {
     match Class(code).name() {
         Some(name) => give(name.as_bytes(), text, outcome),

@@ -2,14 +2,13 @@
 //!
 //! A name's octets are its wire form (RFC 1035 section 3.1): each label's length and its octets,
 //! and the root last where the name is absolute. No octets are the relative name of no labels.
-ghost use Rattle.std.specs.Prelude.{◌≡◌, ◌≢◌, ◌≤◌, ◌++◌, [], ◌∷◌, encode_utf8_all};
+ghost use Rattle.std.specs.Prelude.{◌≡◌, ◌≤◌, ◌++◌, [], ◌∷◌};
 ghost use Rattle.dns_wire.specs.Building.{all_labels};
-ghost use Rattle.dns_wire.specs.Printed.{dotted_text, undotted_text};
 ghost use Rattle.dns_wire.specs.Wire.{wire_length};
 ghost use Rattle.dns_wire.specs.ZoneText.{zone_text};
 ghost use Rattle.dns_name.specs.Reading.{is_dot};
-ghost use Rattle.dns_name.specs.declared.name.UncertainName.TheVariants.{Absolute, Relative};
-ghost use Rattle.dns_text_c.specs.Names.{TakesNameSymbol, NameAnswer, ReadsNameText, TellsName, labels_text, refusal_of_octets, PrintsOctetsOf, PrintsName};
+ghost use Rattle.dns_name.specs.declared.name.UncertainName.TheVariants.{Absolute};
+ghost use Rattle.dns_text_c.specs.Names.{FinishesName, TakesNameSymbol, NameAnswer, ReadsNameText, TellsName, dotted_octets, labels_text, refusal_of_octets, PrintsNameOf, PrintsName, undotted_octets};
 ghost use Rattle.dns_text_c.specs.Told.{TellsOctets};
 ghost use Rattle.dns_wire.specs.Limits.{max_name, max_relative};
 
@@ -63,8 +62,7 @@ fn absolute(builder: NameBuilder<ArrayVec<u8, MOST>>) -> UncertainName<ArrayVec<
 /// The name of a text: a plain dot last makes it absolute.
 fn finish(builder: NameBuilder<ArrayVec<u8, MOST>>) -> UncertainName<ArrayVec<u8, MOST>>
     requires { wire_length (all_labels builder) ≤ max_relative }
-    ensures relative { (builder.current ≡ [] → builder.labels ≡ []) → result ≡ Relative (all_labels builder) }
-    ensures absolute { builder.current ≡ [] → builder.labels ≢ [] → result ≡ Absolute (all_labels builder ++ [] ∷ []) }
+    ensures { FinishesName builder result }
 {
     if builder.in_label() || builder.is_empty() {
         return UncertainName::Relative(builder.finish());
@@ -154,7 +152,7 @@ fn refusal_of_octets(error: UncertainDnameError) -> Refusal
 
 /// Prints the name of some octets.
 fn print_octets(octets: &[u8], form: Form, dot: bool, text: &mut [u8], outcome: &mut Outcome) -> u32
-    ensures { PrintsOctetsOf (labels_text form dot) octets.now text.old result text.new outcome.new }
+    ensures { PrintsNameOf (labels_text form dot) octets.now text.old result text.new outcome.new }
 {
     match UncertainName::from_octets(octets) {
         Ok(name) => give_text(name.iter_labels(), form, dot, text, outcome),
@@ -182,7 +180,7 @@ fn print_name(octets: &[u8], form: Form, dot: bool, text: &mut [u8], outcome: &m
 /// [`UncertainName::from_octets`]; no place is told.
 #[unsafe(no_mangle)]
 pub extern "C" fn dnstext_name_print(name: &[u8], text: &mut [u8], outcome: &mut Outcome) -> u32
-    ensures { PrintsName (λ labels. encode_utf8_all (undotted_text labels)) name.now text.old result text.new outcome.new }
+    ensures { PrintsName undotted_octets name.now text.old result text.new outcome.new }
 {
     print_name(name, Form::Label, false, text, outcome)
 }
@@ -194,7 +192,7 @@ pub extern "C" fn dnstext_name_print_dotted(
     text: &mut [u8],
     outcome: &mut Outcome,
 ) -> u32
-    ensures { PrintsName (λ labels. encode_utf8_all (dotted_text labels)) name.now text.old result text.new outcome.new }
+    ensures { PrintsName dotted_octets name.now text.old result text.new outcome.new }
 {
     print_name(name, Form::Label, true, text, outcome)
 }

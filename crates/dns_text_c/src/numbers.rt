@@ -1,8 +1,7 @@
 //! Decimal numbers.
-ghost use Rattle.std.specs.Prelude.{◌≡◌, ◌<◌, ◌≤◌, ℕ, Result, IfSome, IfOk};
+ghost use Rattle.std.specs.Prelude.{◌≡◌, ◌<◌, ◌≤◌, IfSome, IfOk};
 ghost use Rattle.dns_scan.specs.Numbers.{plain_digit_of};
-ghost use Rattle.dns_text_c.specs.Numbers.{AppendsDigit, ReadsTextAsNumber, GivesNumber};
-ghost use Rattle.dns_text_c.specs.declared.outcome.Fault.{Fault};
+ghost use Rattle.dns_text_c.specs.Numbers.{AppendsDigit, ReadsTextAsNumber, TellsNumber};
 
 use crate::outcome::{Fault, OK, Outcome, Refusal, refuse};
 use crate::strings::symbol_at;
@@ -65,7 +64,7 @@ pub extern "C" fn dnstext_number_read(
     number: &mut u64,
     outcome: &mut Outcome,
 ) -> u32
-    ensures { (answer : Result ℕ Fault) × ReadsTextAsNumber greatest text.now answer × GivesNumber answer number.old result number.new outcome.new }
+    ensures { TellsNumber greatest text.now number.old result number.new outcome.new }
 {
     match read_number(text, greatest) {
         Ok(read) => {

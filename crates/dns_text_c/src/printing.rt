@@ -1,12 +1,12 @@
 //! Record data as zone text.
 ghost use Rattle.std.specs.Prelude.{◌≡◌, ◌+◌, length, IsTrue, IfOk, OnOk};
-ghost use Rattle.std.specs.Fmt.{WritesInCalls};
-ghost use Rattle.dns_text_c.specs.DataText.{PrintsData, PutsAt, TellsText, data_text, fault_of_wire};
+ghost use Rattle.dns_text_c.specs.DataText.{PrintsData, PrintsOn, PutsAt, TellsText, data_text, fault_of_wire};
 ghost use Rattle.dns_text_c.specs.Told.{TellsFault};
 ghost use Rattle.dns_text_c.specs.declared.outcome.Refusal.TheVariants.{TooLong};
 
 use crate::kept::put_over;
 use crate::outcome::{Fault, OK, Outcome, Refusal, number_of, refuse};
+use dns_kinds::RecordType;
 use dns_resource::{Data, WireError};
 use dns_zone::zonefile_fmt::{DisplayKind, ZonefileFmt};
 use std::fmt;
@@ -68,7 +68,7 @@ impl fmt::Write for Over<'_> {
 
 /// Prints data on one line.
 fn print_on<W: Write>(content: &Data<&[u8]>, sink: &mut W) -> fmt::Result
-    ensures { OnOk result (WritesInCalls W.write_str_gives sink.old (data_text content.now) sink.new) }
+    ensures { OnOk result (PrintsOn W.write_str_gives content.now sink.old sink.new) }
 {
     write!(sink, "{}", content.display_zonefile(DisplayKind::Simple))
 }
@@ -152,7 +152,7 @@ pub extern "C" fn dnstext_data_print(
 ) -> u32
     ensures { PrintsData code octets.now text.old result text.new outcome.new }
 {
-    match Data::from_octets(code, octets) {
+    match Data::from_octets(RecordType(code), octets) {
         Ok(content) => give_text(&content, text, outcome),
         Err(error) => refuse(fault_of_wire(error), outcome),
     }

@@ -1,20 +1,16 @@
 //! The text of record data.
-ghost use Rattle.std.specs.Prelude.{◌≡◌, ◌≤◌, ℕ, List, [], Err, false, true, option_copied};
-ghost use Rattle.dns_data.specs.ByType.{ReadsType};
-ghost use Rattle.dns_octets.specs.Room.{exactly};
-ghost use Rattle.dns_reader.specs.Source.{entry_end, entry_left};
-ghost use Rattle.dns_reader.specs.declared.records.RecordRefusal.TheVariants.{Entry};
-ghost use Rattle.dns_text_c.specs.DataText.{ReadsTextBehind, TellsReadData, ReadsDataText, ReadsTokens, TellsData, WritesData, answer_before, answered, refused_data_of, trailing_token};
+ghost use Rattle.std.specs.Prelude.{◌≡◌, ◌≤◌, [], false, true};
+ghost use Rattle.dns_reader.specs.Source.{entry_end};
+ghost use Rattle.dns_text_c.specs.DataText.{EndsText, ReadsLeft, ReadsOpen, ReadsText, TellsRead, TellsReadData, WritesData, trailing_token};
 
 use crate::kept::{name_of, refusal_of_name};
 use crate::outcome::{Fault, Outcome, give, refuse};
-use crate::reasons::tell_reason;
-use crate::tokens::refusal_of_wrong;
+use crate::reasons::tell_error;
 use arrayvec::ArrayVec;
-use dns_data::{DataError, TypeRefusal, read_type};
-use dns_fields::TokenSource;
-use dns_reader::{EntryError, EntryRefusal, EntrySource, NameBuffer, RecordRefusal};
-use dns_split::pieces::Fault as TextFault;
+use dns_data::read_type;
+use dns_fields::{RecordError, TokenSource};
+use dns_kinds::{ErrorKind, RecordType};
+use dns_reader::{EntrySource, NameBuffer};
 
 /// The most octets of record data (RFC 1035 section 3.2.1).
 const MOST: usize = 65535;
@@ -22,109 +18,90 @@ const MOST: usize = 65535;
 /// Octets of record data that are enough for most records.
 const FEW: usize = 1024;
 
-/// Data of a type that are refused.
-fn refused_data(code: u16, refusal: TypeRefusal) -> RecordRefusal
-    ensures { result ≡ Entry (refused_data_of code refusal) }
+/// The error of a token after the entry of the data.
+fn trailing_token(rtype: RecordType, at: usize) -> RecordError
+    ensures { result ≡ trailing_token rtype at }
 {
-    RecordRefusal::Entry(EntryRefusal {
-        code: Some(code),
-        part: refusal.part,
-        at: refusal.at,
-        why: EntryError::Data(refusal.why),
-    })
+    RecordError::at(at, ErrorKind::TrailingToken).of_type(rtype)
 }
 
-/// A token that stands behind the entry of the data.
-fn trailing_token(code: u16, at: usize) -> RecordRefusal
-    ensures { result ≡ Entry (trailing_token code at) }
-{
-    RecordRefusal::Entry(EntryRefusal {
-        code: Some(code),
-        part: None,
-        at,
-        why: EntryError::Data(DataError::TrailingToken),
-    })
-}
-
-/// Takes what comes behind the entry of data that were read: entries without tokens alone.
-fn end_text(code: u16, source: &mut EntrySource) -> Result<(), RecordRefusal>
+/// Takes what comes after the entry of data that were read: entries without tokens alone.
+fn end_text(rtype: RecordType, source: &mut EntrySource) -> Result<(), RecordError>
     requires { source.old.is_open ≡ false }
-    ensures { (octets : List ℕ) → answered result octets ≡ answer_before code octets source.old.parts }
+    ensures { EndsText rtype result source.old.parts }
 {
     match source.begin() {
         Ok(None) => Ok(()),
-        Ok(Some(_)) => Err(trailing_token(code, source.place())),
-        Err(fault) => Err(RecordRefusal::Text(fault)),
+        Ok(Some(_)) => Err(trailing_token(rtype, source.place())),
+        Err(fault) => Err(RecordError::from(fault)),
     }
 }
 
 /// Reads the tokens that are left as data of a type.
 fn read_tokens<const N: usize>(
-    code: u16,
+    rtype: RecordType,
     origin: Option<&NameBuffer>,
     source: &mut EntrySource,
     target: &mut ArrayVec<u8, N>,
-) -> Result<(), TypeRefusal>
-    ensures reads { ReadsType (option_copied origin.entry) (exactly N) code (entry_end source.old).at (entry_left source.old) target.old.items result (entry_left source.new) target.new.items }
+) -> Result<(), RecordError>
+    ensures reads { ReadsLeft N rtype origin.entry (source.old, target.old.items) result
+        (source.new, target.new.items) }
     ensures end { entry_end source.new ≡ entry_end source.old }
 {
-    read_type(code, origin, source, target)
+    read_type(rtype, origin, source, target)
 }
 
 /// Reads the entry that is open as data of a type, up to the end of the text.
 fn read_open<const N: usize>(
-    code: u16,
+    rtype: RecordType,
     origin: Option<&NameBuffer>,
     source: &mut EntrySource,
     target: &mut ArrayVec<u8, N>,
-) -> Result<(), RecordRefusal>
+) -> Result<(), RecordError>
     requires opened { source.old.is_open ≡ true }
     requires none { target.old.items ≡ [] }
-    ensures { ReadsTokens (exactly N) code (option_copied origin.entry) source.old (answered result target.new.items) }
+    ensures { ReadsOpen N rtype origin.entry source.old result target.new.items }
 {
-    let read = read_tokens(code, origin, source, target);
+    let read = read_tokens(rtype, origin, source, target);
     if let Err(fault) = source.finish() {
-        return Err(RecordRefusal::Text(fault));
+        return Err(RecordError::from(fault));
     }
     match read {
-        Ok(()) => end_text(code, source),
-        Err(refusal) => Err(refused_data(code, refusal)),
+        Ok(()) => end_text(rtype, source),
+        Err(error) => Err(error),
     }
 }
 
 /// Reads no tokens as data of a type.
 fn read_nothing<const N: usize>(
-    code: u16,
+    rtype: RecordType,
     origin: Option<&NameBuffer>,
     source: &mut EntrySource,
     target: &mut ArrayVec<u8, N>,
-) -> Result<(), RecordRefusal>
+) -> Result<(), RecordError>
     requires closed { source.old.is_open ≡ false }
     requires nothing { source.old.parts ≡ [] }
     requires none { target.old.items ≡ [] }
-    ensures { ReadsTokens (exactly N) code (option_copied origin.entry) source.old (answered result target.new.items) }
+    ensures { ReadsOpen N rtype origin.entry source.old result target.new.items }
 {
-    match read_tokens(code, origin, source, target) {
-        Ok(()) => Ok(()),
-        Err(refusal) => Err(refused_data(code, refusal)),
-    }
+    read_tokens(rtype, origin, source, target)
 }
 
 /// Reads a text as data of a type.
 fn read_text<const N: usize>(
-    code: u16,
+    rtype: RecordType,
     text: &[u8],
     origin: Option<&NameBuffer>,
     target: &mut ArrayVec<u8, N>,
-) -> Result<(), RecordRefusal>
+) -> Result<(), RecordError>
     requires { target.old.items ≡ [] }
-    ensures { ReadsDataText (exactly N) code (option_copied origin.entry) text.now (answered result target.new.items) }
+    ensures { ReadsText N rtype origin.entry text.now result target.new.items }
 {
     let mut source = EntrySource::of_octets(text);
     match source.begin() {
-        Ok(Some(_)) => read_open(code, origin, &mut source, target),
-        Ok(None) => read_nothing(code, origin, &mut source, target),
-        Err(fault) => Err(RecordRefusal::Text(fault)),
+        Ok(Some(_)) => read_open(rtype, origin, &mut source, target),
+        Ok(None) => read_nothing(rtype, origin, &mut source, target),
+        Err(fault) => Err(RecordError::from(fault)),
     }
 }
 
@@ -134,52 +111,39 @@ fn read_text<const N: usize>(
 /// It is not inlined, since the compiler fills that room with zeros at each call.
 #[inline(never)]
 fn read_in_room<const N: usize>(
-    code: u16,
+    rtype: RecordType,
     text: &[u8],
     origin: Option<&NameBuffer>,
     octets: &mut [u8],
     outcome: &mut Outcome,
-) -> Result<u32, RecordRefusal>
+) -> Result<u32, RecordError>
     requires { N ≤ 65535 }
-    ensures { WritesData (exactly N) code (option_copied origin.entry) text.now octets.old result octets.new outcome.new }
+    ensures { WritesData N rtype origin.entry text.now octets.old result octets.new outcome.new }
 {
     let mut content: ArrayVec<u8, N> = ArrayVec::new();
-    match read_text(code, text, origin, &mut content) {
+    match read_text(rtype, text, origin, &mut content) {
         Ok(()) => Ok(give(content.as_slice(), octets, outcome)),
-        Err(refusal) => Err(refusal),
-    }
-}
-
-/// Tells why data are refused.
-fn tell_refusal(refusal: RecordRefusal, octets: &mut [u8], outcome: &mut Outcome) -> u32
-    ensures { TellsData (Err refusal) octets.old result octets.new outcome.new }
-{
-    match refusal {
-        RecordRefusal::Entry(refusal) => tell_reason(refusal, octets, outcome),
-        RecordRefusal::Text(TextFault { wrong, at }) => {
-            let refusal = refusal_of_wrong(wrong);
-            refuse(Fault { refusal, place: at }, outcome)
-        }
+        Err(error) => Err(error),
     }
 }
 
 /// Reads data of a type below an origin, with room for the most octets that there can be only where
 /// those of most records are not enough.
 fn read_behind(
-    code: u16,
+    rtype: RecordType,
     text: &[u8],
     origin: Option<&NameBuffer>,
     octets: &mut [u8],
     outcome: &mut Outcome,
 ) -> u32
-    ensures { ReadsTextBehind code text.now (option_copied origin.entry) octets.old result octets.new outcome.new }
+    ensures { TellsRead rtype text.now origin.entry octets.old result octets.new outcome.new }
 {
-    if let Ok(status) = read_in_room::<FEW>(code, text, origin, octets, outcome) {
+    if let Ok(status) = read_in_room::<FEW>(rtype, text, origin, octets, outcome) {
         return status;
     }
-    match read_in_room::<MOST>(code, text, origin, octets, outcome) {
+    match read_in_room::<MOST>(rtype, text, origin, octets, outcome) {
         Ok(status) => status,
-        Err(refusal) => tell_refusal(refusal, octets, outcome),
+        Err(error) => tell_error(error, octets, outcome),
     }
 }
 
@@ -201,11 +165,12 @@ pub extern "C" fn dnstext_data_read(
 ) -> u32
     ensures { TellsReadData code text.now origin.now octets.old result octets.new outcome.new }
 {
+    let rtype = RecordType(code);
     if origin.is_empty() {
-        return read_behind(code, text, None, octets, outcome);
+        return read_behind(rtype, text, None, octets, outcome);
     }
     match name_of(origin) {
-        Ok(name) => read_behind(code, text, Some(&name), octets, outcome),
+        Ok(name) => read_behind(rtype, text, Some(&name), octets, outcome),
         Err(error) => {
             let refusal = refusal_of_name(error);
             refuse(Fault { refusal, place: 0 }, outcome)

@@ -1,82 +1,66 @@
-//! Why an entry is refused: its status, and its text.
-ghost use Rattle.std.specs.Prelude.{◌≡◌, ◌+◌, ◌≤◌, ◌++◌, codes, length, take};
-ghost use Rattle.dns_text_c.specs.Kinds.{text_of_type};
-ghost use Rattle.dns_text_c.specs.Reasons.{TellsReason, call_error_text, part_text, part_prefix, reason_text, refusal_of_data, refusal_of_entry, refusal_of_field, refusal_of_head, refusal_of_owner, refusal_of_spelling};
+//! Why a text, an entry or data are refused: the status, and the text.
+ghost use Rattle.std.specs.Prelude.{◌≡◌, ◌+◌, ◌≤◌, ◌++◌, codes, length, take, option_copied};
+ghost use Rattle.dns_kinds.specs.Types.{type_text};
+ghost use Rattle.dns_text_c.specs.Reasons.{AppendsCut, TellsError, TellsReason, call_error_text, data_error_text, field_name, part_prefix, part_text, reason_text, refusal_of_data, refusal_of_entry, refusal_of_head, spaced, syntax_of};
 
 use crate::kinds::numbered;
-use crate::outcome::{Outcome, Refusal, give_cut, number_of};
+use crate::outcome::{Fault, Outcome, Refusal, give_cut, number_of, refuse};
+use crate::tokens::refusal_of_wrong;
 use arrayvec::ArrayVec;
-use dns_data::DataError;
-use dns_fields::FieldError;
-use dns_heads::HeadError;
-use dns_kinds::RecordType;
-use dns_reader::{EntryError, EntryRefusal, OwnerError};
-use dns_spelling::SpellingError;
+use dns_data::field_text;
+use dns_fields::{FieldName, RecordError};
+use dns_kinds::{ErrorKind, RecordType};
+use dns_split::pieces::Wrong;
 
 /// The most characters of a reason.
 const REASON: usize = 255;
 
-/// The refusal of a token that spells no octets of its kind, in what has another one.
-fn refusal_of_spelling(other: Refusal, error: SpellingError) -> Refusal
-    ensures { result ≡ refusal_of_spelling other error }
+/// What is wrong with a text that is not of the grammar of zone files.
+fn syntax_of(kind: ErrorKind) -> Option<Wrong>
+    ensures { result ≡ syntax_of kind }
 {
-    match error {
-        SpellingError::NoOrigin => Refusal::NoOrigin,
-        _ => other,
+    match kind {
+        ErrorKind::Syntax(wrong) => Some(wrong),
+        _ => None,
     }
 }
 
-/// The refusal of a field in what has another one.
-fn refusal_of_field(other: Refusal, error: FieldError) -> Refusal
-    ensures { result ≡ refusal_of_field other error }
+/// The refusal of a directive, and of what precedes the data of a record.
+fn refusal_of_head(kind: ErrorKind) -> Refusal
+    ensures { result ≡ refusal_of_head kind }
 {
-    match error {
-        FieldError::Spelling(why) => refusal_of_spelling(other, why),
-        _ => other,
-    }
-}
-
-/// The refusal of a directive, or of the words in front of data.
-fn refusal_of_head(error: HeadError) -> Refusal
-    ensures { result ≡ refusal_of_head error }
-{
-    match error {
-        HeadError::Field(why) => refusal_of_field(Refusal::BadHead, why),
-        HeadError::NotSupported => Refusal::NotSupported,
+    match kind {
+        ErrorKind::QuotedName => Refusal::BadName,
+        ErrorKind::BadEscape => Refusal::BadName,
+        ErrorKind::EmptyLabel => Refusal::BadName,
+        ErrorKind::LongLabel => Refusal::BadName,
+        ErrorKind::LongName => Refusal::BadName,
+        ErrorKind::NoOrigin => Refusal::NoOrigin,
+        ErrorKind::NotSupported => Refusal::NotSupported,
+        ErrorKind::NoOwner => Refusal::NoOwner,
+        ErrorKind::RefusedOwner => Refusal::RefusedOwner,
+        ErrorKind::NoTtl => Refusal::NoTtl,
         _ => Refusal::BadHead,
     }
 }
 
-/// The refusal of a record without an owner.
-fn refusal_of_owner(error: OwnerError) -> Refusal
-    ensures { result ≡ refusal_of_owner error }
-{
-    match error {
-        OwnerError::NoOwner => Refusal::NoOwner,
-        OwnerError::Refused => Refusal::RefusedOwner,
-    }
-}
-
 /// The refusal of data.
-fn refusal_of_data(error: DataError) -> Refusal
-    ensures { result ≡ refusal_of_data error }
+fn refusal_of_data(kind: ErrorKind) -> Refusal
+    ensures { result ≡ refusal_of_data kind }
 {
-    match error {
-        DataError::Field(why) => refusal_of_field(Refusal::BadData, why),
+    match kind {
+        ErrorKind::NoOrigin => Refusal::NoOrigin,
         _ => Refusal::BadData,
     }
 }
 
-/// The refusal of an entry.
-fn refusal_of_entry(error: EntryError) -> Refusal
-    ensures { result ≡ refusal_of_entry error }
+/// The refusal of an entry, by the type where its data are refused.
+fn refusal_of_entry(rtype: Option<RecordType>, kind: ErrorKind) -> Refusal
+    ensures { result ≡ refusal_of_entry rtype kind }
 {
-    match error {
-        EntryError::Head(why) => refusal_of_head(why),
-        EntryError::Field(why) => refusal_of_field(Refusal::BadName, why),
-        EntryError::Owner(why) => refusal_of_owner(why),
-        EntryError::Data(why) => refusal_of_data(why),
-        EntryError::NoTtl => Refusal::NoTtl,
+    match rtype {
+        None => refusal_of_head(kind),
+        Some(_) => refusal_of_data(kind),
     }
 }
 
@@ -93,7 +77,7 @@ fn put_all(text: &[u8], reason: &mut ArrayVec<u8, REASON>)
 
 /// Appends as many characters as there is room for.
 fn put_text(text: &[u8], reason: &mut ArrayVec<u8, REASON>)
-    ensures { reason.new.items ≡ take REASON (reason.old.items ++ text.now) }
+    ensures { AppendsCut text.now reason.old.items reason.new.items }
 {
     let room = reason.remaining_capacity();
     if text.len() < room {
@@ -104,88 +88,124 @@ fn put_text(text: &[u8], reason: &mut ArrayVec<u8, REASON>)
 }
 
 /// Appends the text of a type.
-fn put_type(code: u16, reason: &mut ArrayVec<u8, REASON>)
-    ensures { reason.new.items ≡ take REASON (reason.old.items ++ text_of_type code) }
+fn put_type(rtype: RecordType, reason: &mut ArrayVec<u8, REASON>)
+    ensures { AppendsCut (type_text rtype) reason.old.items reason.new.items }
 {
-    match RecordType(code).name() {
+    match rtype.name() {
         Some(name) => put_text(name.as_bytes(), reason),
-        None => put_text(numbered("TYPE", code).as_slice(), reason),
+        None => put_text(numbered("TYPE", rtype.0).as_slice(), reason),
     }
 }
 
-/// Appends the name of a part, behind a blank.
+/// Appends the name of a field, after a blank.
 fn put_name(name: &str, reason: &mut ArrayVec<u8, REASON>)
-    ensures { reason.new.items ≡ take REASON (reason.old.items ++ (codes " " ++ name.now)) }
+    ensures { AppendsCut (spaced name.now) reason.old.items reason.new.items }
 {
     put_text(b" ", reason);
     put_text(name.as_bytes(), reason);
 }
 
-/// Appends a type and the name of a part.
-fn put_type_and_name(code: u16, name: &str, reason: &mut ArrayVec<u8, REASON>)
-    ensures { reason.new.items ≡ take REASON (reason.old.items ++ (text_of_type code ++ (codes " " ++ name.now))) }
+/// Appends a type and the name of a field.
+fn put_type_and_name(rtype: RecordType, name: &str, reason: &mut ArrayVec<u8, REASON>)
+    ensures { AppendsCut (type_text rtype ++ spaced name.now) reason.old.items reason.new.items }
 {
-    put_type(code, reason);
+    put_type(rtype, reason);
     put_name(name, reason);
 }
 
-/// Appends what is refused: a type, and a part of its data.
-fn put_part(code: u16, part: Option<&'static str>, reason: &mut ArrayVec<u8, REASON>)
-    ensures { reason.new.items ≡ take REASON (reason.old.items ++ part_text code part.entry) }
+/// The name of a field of a type's data, if there is one.
+fn field_name(rtype: RecordType, field: Option<FieldName>) -> Option<&'static str>
+    ensures { option_copied result ≡ field_name rtype field }
 {
-    match part {
-        Some(name) => put_type_and_name(code, name, reason),
-        None => put_type(code, reason),
+    field_text(rtype, field?)
+}
+
+/// Appends what is refused: a type, and a field of its data.
+fn put_part(rtype: RecordType, name: Option<&'static str>, reason: &mut ArrayVec<u8, REASON>)
+    ensures { AppendsCut (part_text rtype (option_copied name)) reason.old.items reason.new.items }
+{
+    match name {
+        Some(name) => put_type_and_name(rtype, name, reason),
+        None => put_type(rtype, reason),
     }
 }
 
 /// Appends what is refused, and a colon.
-fn put_place(code: u16, part: Option<&'static str>, reason: &mut ArrayVec<u8, REASON>)
-    ensures { reason.new.items ≡ take REASON (reason.old.items ++ (part_text code part.entry ++ codes ": ")) }
+fn put_place(rtype: RecordType, name: Option<&'static str>, reason: &mut ArrayVec<u8, REASON>)
+    ensures { AppendsCut (part_text rtype (option_copied name) ++ codes ": ") reason.old.items
+        reason.new.items }
 {
-    put_part(code, part, reason);
+    put_part(rtype, name, reason);
     put_text(b": ", reason);
 }
 
 /// Appends what is refused, if it is data.
-fn put_what(code: Option<u16>, part: Option<&'static str>, reason: &mut ArrayVec<u8, REASON>)
-    ensures { reason.new.items ≡ take REASON (reason.old.items ++ part_prefix code part.entry) }
+fn put_what(rtype: Option<RecordType>, field: Option<FieldName>, reason: &mut ArrayVec<u8, REASON>)
+    ensures { AppendsCut (part_prefix rtype field) reason.old.items reason.new.items }
 {
-    match code {
-        Some(code) => put_place(code, part, reason),
+    match rtype {
+        Some(rtype) => put_place(rtype, field_name(rtype, field), reason),
         None => put_text(b"", reason),
     }
 }
 
-/// The text of an error. RDATA is read into room for 65,535 octets, so it lacks room only if it exceeds
-/// these (RFC 1035 section 3.2.1).
-fn call_error_text(error: EntryError) -> &'static str
-    ensures { result.now ≡ call_error_text error }
+/// The text of an error of data. RDATA is read into room for 65,535 octets, so it lacks room only if it
+/// exceeds these (RFC 1035 section 3.2.1).
+fn data_error_text(kind: ErrorKind) -> &'static str
+    ensures { result.now ≡ data_error_text kind }
 {
-    match error {
-        EntryError::Data(DataError::Field(FieldError::ShortBuf)) => "RDATA exceeds 65535 octets",
-        _ => error.as_str(),
+    match kind {
+        ErrorKind::ShortBuf => "RDATA exceeds 65535 octets",
+        _ => kind.as_str(),
+    }
+}
+
+/// The text of an error, of data or of what precedes them.
+fn call_error_text(rtype: Option<RecordType>, kind: ErrorKind) -> &'static str
+    ensures { result.now ≡ call_error_text rtype kind }
+{
+    match rtype {
+        Some(_) => data_error_text(kind),
+        None => kind.as_str(),
     }
 }
 
 /// Why an entry is refused, in at most 255 characters.
-fn reason_of(refusal: EntryRefusal) -> ArrayVec<u8, REASON>
-    ensures { result.items ≡ take REASON (reason_text refusal) }
+fn reason_of(error: RecordError) -> ArrayVec<u8, REASON>
+    ensures { result.items ≡ take REASON (reason_text error) }
 {
     let mut reason = ArrayVec::new();
-    put_what(refusal.code, refusal.part, &mut reason);
-    put_text(call_error_text(refusal.why).as_bytes(), &mut reason);
+    put_what(error.rtype, error.field, &mut reason);
+    put_text(
+        call_error_text(error.rtype, error.kind).as_bytes(),
+        &mut reason,
+    );
     reason
 }
 
 /// Tells why an entry is refused: its status, its place, and as many characters of its text as fit.
-pub(crate) fn tell_reason(refusal: EntryRefusal, octets: &mut [u8], outcome: &mut Outcome) -> u32
-    ensures { TellsReason refusal octets.old result octets.new outcome.new }
+fn tell_reason(error: RecordError, octets: &mut [u8], outcome: &mut Outcome) -> u32
+    ensures { TellsReason error octets.old result octets.new outcome.new }
 {
-    let reason = reason_of(refusal);
+    let reason = reason_of(error);
     *outcome = Outcome {
         length: give_cut(reason.as_slice(), octets),
-        place: refusal.at,
+        place: error.offset,
     };
-    number_of(refusal_of_entry(refusal.why))
+    number_of(refusal_of_entry(error.rtype, error.kind))
+}
+
+/// Tells of an error: what is wrong with the text by the status and the place, and why an entry is
+/// refused by its text too.
+pub(crate) fn tell_error(error: RecordError, octets: &mut [u8], outcome: &mut Outcome) -> u32
+    ensures { TellsError error octets.old result octets.new outcome.new }
+{
+    match syntax_of(error.kind) {
+        Some(wrong) => {
+            let refusal = refusal_of_wrong(wrong);
+            let place = error.offset;
+            refuse(Fault { refusal, place }, outcome)
+        }
+        None => tell_reason(error, octets, outcome),
+    }
 }

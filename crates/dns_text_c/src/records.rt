@@ -1,20 +1,19 @@
 //! The records of a zone file, one by one and with no memory (RFC 1035 section 5.1).
 ghost use Rattle.std.specs.Prelude.{◌≡◌, ◌≢◌, ◌↔◌, IsTrue, Ok, Some, false};
 ghost use Rattle.dns_reader.specs.declared.entry.EntryRead.TheVariants.{Nothing, Directive};
-ghost use Rattle.dns_text_c.specs.Entries.{refusal_of_wrong};
 ghost use Rattle.dns_text_c.specs.Kept.{KeepsName, said_origin};
-ghost use Rattle.dns_text_c.specs.Told.{TellsFault};
+ghost use Rattle.dns_text_c.specs.Told.{TellsFault, at_start};
 ghost use Rattle.dns_text_c.specs.declared.outcome.Refusal.TheVariants.{BadCursor};
 ghost use Rattle.dns_text_c.specs.declared.records.Record.{Record};
-ghost use Rattle.dns_text_c.specs.Records.{KeepsReader, NextRecord, RefusalIsGiven, TellsFound, TellsGiven, TellsRefused, head_of};
+ghost use Rattle.dns_text_c.specs.Records.{KeepsReader, NextRecord, RefusalIsGiven, TellsFound, TellsGiven, TellsRefused, head_of, memory};
 
 use crate::kept::{KeptName, Zone, keep_name, keep_state, put_over, state_of};
 use crate::outcome::{END, Fault, INCLUDE, OK, Outcome, Refusal, number_of, refuse};
-use crate::reasons::tell_reason;
-use crate::tokens::refusal_of_wrong;
+use crate::reasons::tell_error;
 use arrayvec::ArrayVec;
-use dns_reader::{EntryRead, EntryRefusal, Known, NameBuffer, RecordReader, RecordRefusal};
-use dns_split::pieces::Fault as TextFault;
+use dns_fields::RecordError;
+use dns_kinds::{Class, RecordType};
+use dns_reader::{EntryRead, Known, NameBuffer, RecordReader};
 
 /// The most octets of record data (RFC 1035 section 3.2.1).
 const MOST: usize = 65535;
@@ -42,8 +41,8 @@ pub struct Record {
 pub(crate) struct Head {
     place: usize,
     ttl: u32,
-    class_code: u16,
-    type_code: u16,
+    class: Class,
+    rtype: RecordType,
 }
 
 /// Keeps what a reader knows, and where it stands.
@@ -61,8 +60,8 @@ fn write_record(head: Head, name: &Known, found: &mut Record)
 {
     found.place = head.place;
     found.ttl = head.ttl;
-    found.class_code = head.class_code;
-    found.type_code = head.type_code;
+    found.class_code = head.class.0;
+    found.type_code = head.rtype.0;
     keep_name(name, &mut found.name);
 }
 
@@ -79,8 +78,10 @@ fn tell_found(
     outcome: &mut Outcome,
 ) -> u32
     requires { reader.now.source.is_open ≡ false }
-    ensures { TellsFound status reader.now content.now name.now head (record { zone = zone.old; found = found.old; octets = octets.old })
-        (record { zone = zone.new; found = found.new; octets = octets.new }) result outcome.new }
+    ensures { TellsFound status reader.now content.now name.now head (record {
+        before = memory zone.old found.old octets.old;
+        after = memory zone.new found.new octets.new;
+        status = result; outcome = outcome.new }) }
 {
     *outcome = Outcome {
         length: content.len(),
@@ -95,42 +96,22 @@ fn tell_found(
     status
 }
 
-/// Tells why an entry is refused.
+/// Tells why an entry is refused, or what is wrong with the text.
 fn tell_refused(
     reader: &RecordReader,
-    refusal: EntryRefusal,
+    error: RecordError,
     zone: &mut Zone,
     octets: &mut [u8],
     outcome: &mut Outcome,
 ) -> u32
     requires { reader.now.source.is_open ≡ false }
-    ensures { (found : Record) → TellsRefused reader.now refusal (record { zone = zone.old; found = found; octets = octets.old })
-        (record { zone = zone.new; found = found; octets = octets.new }) result outcome.new }
+    ensures { (found : Record) → TellsRefused reader.now error (record {
+        before = memory zone.old found octets.old;
+        after = memory zone.new found octets.new;
+        status = result; outcome = outcome.new }) }
 {
     keep_reader(reader, zone);
-    tell_reason(refusal, octets, outcome)
-}
-
-/// Tells that a text goes wrong.
-fn tell_fault(
-    fault: TextFault,
-    reader: &RecordReader,
-    zone: &mut Zone,
-    outcome: &mut Outcome,
-) -> u32
-    requires { reader.now.source.is_open ≡ false }
-    ensures told { TellsFault (record { refusal = refusal_of_wrong fault.wrong; place = fault.at }) result outcome.new }
-    ensures keeps { KeepsReader reader.now zone.old zone.new }
-{
-    keep_reader(reader, zone);
-    let refusal = refusal_of_wrong(fault.wrong);
-    refuse(
-        Fault {
-            refusal,
-            place: fault.at,
-        },
-        outcome,
-    )
+    tell_error(error, octets, outcome)
 }
 
 /// The origin that is said for a file to include, if one is.
@@ -143,10 +124,10 @@ fn said_origin(origin: Option<NameBuffer>) -> Known
     }
 }
 
-/// Tells what a reader gave: a record with its owner, a file to include, a refusal, a fault, or that
-/// nothing is left.
+/// Tells what a reader gave: a record with its owner, a file to include, an error, or that nothing is
+/// left.
 fn tell_given(
-    given: Option<Result<EntryRead, RecordRefusal>>,
+    given: Option<Result<EntryRead, RecordError>>,
     reader: &RecordReader,
     content: &[u8],
     zone: &mut Zone,
@@ -157,8 +138,10 @@ fn tell_given(
     requires closed { reader.now.source.is_open ≡ false }
     requires some { given ≢ Some (Ok Nothing) }
     requires last { given ≢ Some (Ok Directive) }
-    ensures { TellsGiven given reader.now content.now (record { zone = zone.old; found = found.old; octets = octets.old })
-        (record { zone = zone.new; found = found.new; octets = octets.new }) result outcome.new }
+    ensures { TellsGiven given reader.now content.now (record {
+        before = memory zone.old found.old octets.old;
+        after = memory zone.new found.new octets.new;
+        status = result; outcome = outcome.new }) }
 {
     match given {
         Some(
@@ -167,15 +150,15 @@ fn tell_given(
                     at,
                     ttl,
                     class,
-                    code,
+                    rtype,
                 },
             ),
         ) => {
             let head = Head {
                 place: at,
                 ttl: ttl.seconds(),
-                class_code: class,
-                type_code: code,
+                class,
+                rtype,
             };
             let owner = &reader.state.owner;
             tell_found(
@@ -186,8 +169,8 @@ fn tell_given(
             let head = Head {
                 place: 0,
                 ttl: 0,
-                class_code: 0,
-                type_code: 0,
+                class: Class(0),
+                rtype: RecordType(0),
             };
             let name = said_origin(origin);
             tell_found(
@@ -196,10 +179,7 @@ fn tell_given(
         }
         Some(Ok(EntryRead::Nothing)) => unreachable!(),
         Some(Ok(EntryRead::Directive)) => unreachable!(),
-        Some(Err(RecordRefusal::Entry(refusal))) => {
-            tell_refused(reader, refusal, zone, octets, outcome)
-        }
-        Some(Err(RecordRefusal::Text(fault))) => tell_fault(fault, reader, zone, outcome),
+        Some(Err(error)) => tell_refused(reader, error, zone, octets, outcome),
         None => {
             keep_reader(reader, zone);
             *outcome = Outcome {
@@ -213,14 +193,14 @@ fn tell_given(
 
 /// Tells that a zone is none that a call left.
 fn refuse_zone(outcome: &mut Outcome) -> u32
-    ensures { TellsFault (record { refusal = BadCursor; place = 0 }) result outcome.new }
+    ensures { TellsFault (at_start BadCursor) result outcome.new }
 {
     let refusal = Refusal::BadCursor;
     refuse(Fault { refusal, place: 0 }, outcome)
 }
 
-/// Whether what a reader gave is a refusal, or a fault of the text.
-fn is_refused(given: &Option<Result<EntryRead, RecordRefusal>>) -> bool
+/// Whether what a reader gave is an error.
+fn is_refused(given: &Option<Result<EntryRead, RecordError>>) -> bool
     ensures { IsTrue result ↔ RefusalIsGiven given.now }
 {
     matches!(given, Some(Err(_)))
@@ -238,8 +218,10 @@ fn next_with_all_room(
     octets: &mut [u8],
     outcome: &mut Outcome,
 ) -> u32
-    ensures { NextRecord text.now (record { zone = zone.old; found = found.old; octets = octets.old })
-        (record { zone = zone.new; found = found.new; octets = octets.new }) result outcome.new }
+    ensures { NextRecord text.now (record {
+        before = memory zone.old found.old octets.old;
+        after = memory zone.new found.new octets.new;
+        status = result; outcome = outcome.new }) }
 {
     let Some(state) = state_of(zone) else {
         return refuse_zone(outcome);
@@ -277,8 +259,10 @@ pub extern "C" fn dnstext_record_next(
     octets: &mut [u8],
     outcome: &mut Outcome,
 ) -> u32
-    ensures { NextRecord text.now (record { zone = zone.old; found = found.old; octets = octets.old })
-        (record { zone = zone.new; found = found.new; octets = octets.new }) result outcome.new }
+    ensures { NextRecord text.now (record {
+        before = memory zone.old found.old octets.old;
+        after = memory zone.new found.new octets.new;
+        status = result; outcome = outcome.new }) }
 {
     let Some(state) = state_of(zone) else {
         return refuse_zone(outcome);

@@ -1,15 +1,11 @@
 //! Character strings, read and printed.
-ghost use Rattle.std.specs.Prelude.{◌≡◌, ℕ, ◌*◌, ◌+◌, ◌≤◌, ◌<◌, ◌++◌, List, Result, Ok, Err, length, IfOk, IfErr, IfSome};
+ghost use Rattle.std.specs.Prelude.{◌≡◌, ◌*◌, ◌+◌, ◌≤◌, ◌++◌, Ok, length, IfOk, IfErr};
 ghost use Rattle.dns_symbol.specs.Symbol.{spell};
 ghost use Rattle.dns_symbol.specs.Index.{ReadsAt};
-ghost use Rattle.dns_symbol.specs.declared.error.SymbolCharsError.{SymbolCharsError};
-ghost use Rattle.dns_symbol.specs.declared.error.SymbolOctetsError.{SymbolOctetsError};
-ghost use Rattle.dns_symbol.specs.Printed.{is_plain_escape, is_unquoted_escape, symbol_of, text_of};
+ghost use Rattle.dns_symbol.specs.Printed.{symbol_of, text_of};
 ghost use Rattle.dns_charstr.specs.OctetText.{OctetAt};
 ghost use Rattle.dns_charstr.specs.Printed.{quoted_text};
-ghost use Rattle.dns_text_c.specs.Told.{IsTold};
-ghost use Rattle.dns_text_c.specs.Strings.{ReadsString, ReadsOctetString, PrintsString, string_octets, escape_of, refusal_of, refusal_of_escape, string_text};
-ghost use Rattle.dns_text_c.specs.declared.outcome.Fault.{Fault};
+ghost use Rattle.dns_text_c.specs.Strings.{GoesOn, PrintsString, ReadsOctetString, ReadsString, RefusesOctet, RefusesSymbol, TellsOctetString, TellsString, escape_of, plain_text, refusal_of, refusal_of_escape, string_octets, string_text, unquoted_text};
 ghost use Rattle.dns_charstr.specs.Limits.{max_string};
 
 use crate::outcome::{Fault, Outcome, Refusal, give, refuse};
@@ -116,7 +112,7 @@ pub extern "C" fn dnstext_charstr_print(
     text: &mut [u8],
     outcome: &mut Outcome,
 ) -> u32
-    ensures { PrintsString (text_of is_plain_escape) octets.now text.old result text.new outcome.new }
+    ensures { PrintsString plain_text octets.now text.old result text.new outcome.new }
 {
     print_string(Form::Plain, octets, text, outcome)
 }
@@ -140,7 +136,7 @@ pub extern "C" fn dnstext_charstr_print_unquoted(
     text: &mut [u8],
     outcome: &mut Outcome,
 ) -> u32
-    ensures { PrintsString (text_of is_unquoted_escape) octets.now text.old result text.new outcome.new }
+    ensures { PrintsString unquoted_text octets.now text.old result text.new outcome.new }
 {
     print_string(Form::Unquoted, octets, text, outcome)
 }
@@ -159,8 +155,8 @@ fn refusal_of(error: SymbolOctetsError) -> Refusal
 /// The symbol at a place, if the octets go on there, and the place after it.
 pub(crate) fn symbol_at(text: &[u8], place: usize) -> Result<Option<(Symbol, usize)>, Fault>
     ensures reads { IfOk result (λ found. ReadsAt text.now place (Ok found)) }
-    ensures refused { IfErr result (λ fault. (e : SymbolOctetsError) × ReadsAt text.now place (Err e) × (fault ≡ record { refusal = refusal_of e; place = place })) }
-    ensures goes { IfOk result (λ found. IfSome found (λ p. (place < p.1) × (p.1 ≤ length text.now))) }
+    ensures refused { IfErr result (RefusesSymbol text.now place) }
+    ensures goes { IfOk result (GoesOn text.now place) }
 {
     match Symbol::from_slice_index(text, place) {
         Ok(found) => Ok(found),
@@ -198,7 +194,7 @@ fn read_string(text: &[u8]) -> Result<ArrayVec<u8, MOST>, Fault>
 /// octets, then one that has no octet. The first fault is told, with its place.
 #[unsafe(no_mangle)]
 pub extern "C" fn dnstext_charstr_read(text: &[u8], octets: &mut [u8], outcome: &mut Outcome) -> u32
-    ensures { (answer : Result (List ℕ) Fault) × ReadsString text.now answer × IsTold answer octets.old result octets.new outcome.new }
+    ensures { TellsString text.now octets.old result octets.new outcome.new }
 {
     match read_string(text) {
         Ok(read) => give(read.as_slice(), octets, outcome),
@@ -219,8 +215,8 @@ fn refusal_of_escape(error: SymbolCharsError) -> Refusal
 /// The octet that is spelled at a place, if the text goes on there, and the place after it.
 fn spelled_at(text: &[u8], place: usize) -> Result<Option<(u8, usize)>, Fault>
     ensures reads { IfOk result (λ found. OctetAt text.now place (Ok found)) }
-    ensures refused { IfErr result (λ fault. (e : SymbolCharsError) × OctetAt text.now place (Err e) × (fault ≡ record { refusal = refusal_of_escape e; place = place })) }
-    ensures goes { IfOk result (λ found. IfSome found (λ p. (place < p.1) × (p.1 ≤ length text.now))) }
+    ensures refused { IfErr result (RefusesOctet text.now place) }
+    ensures goes { IfOk result (GoesOn text.now place) }
 {
     match octet_at(text, place) {
         Ok(found) => Ok(found),
@@ -260,7 +256,7 @@ pub extern "C" fn dnstext_charstr_read_octets(
     octets: &mut [u8],
     outcome: &mut Outcome,
 ) -> u32
-    ensures { (answer : Result (List ℕ) Fault) × ReadsOctetString text.now answer × IsTold answer octets.old result octets.new outcome.new }
+    ensures { TellsOctetString text.now octets.old result octets.new outcome.new }
 {
     match read_octets(text) {
         Ok(read) => give(read.as_slice(), octets, outcome),

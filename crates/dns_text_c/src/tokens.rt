@@ -2,13 +2,10 @@
 //!
 //! An octet of 0x80 or more counts as a character of its own, so that comments needn't be UTF-8.
 //! Flags are octets, which C declares as `bool`: one of Rattle would ask for memory that C has set.
-ghost use Rattle.std.specs.Prelude.{◌≡◌, ◌<◌, ◌≤◌, ◌^◌, ℕ, List, Result, drop, encode_utf8_all, length, slice_set};
+ghost use Rattle.std.specs.Prelude.{◌≡◌, ◌<◌, ◌≤◌, ◌^◌, drop, encode_utf8_all, length, slice_set};
 ghost use Rattle.dns_split.specs.Opening.{IsLeftOpen};
-ghost use Rattle.dns_split.specs.Pieces.{ReadsOctetsFrom, EachWithin};
-ghost use Rattle.dns_split.specs.declared.pieces.Piece.{Piece};
-ghost use Rattle.dns_split.specs.declared.pieces.Fault.{Fault as TextFault};
 ghost use Rattle.dns_split.specs.declared.pieces.Wrong.TheVariants.{OpenParenthesis};
-ghost use Rattle.dns_text_c.specs.Entries.{bit, refusal_of_wrong, LeavesOpen, Opens, TakesPieces, IsEntry, TellsEntry, NextEntry};
+ghost use Rattle.dns_text_c.specs.Entries.{bit, refusal_of_wrong, FindsEntry, LeavesOpen, NextEntry, Opens, TakesPieces, TellsStop};
 
 use crate::outcome::{END, Fault, OK, Outcome, Refusal, number_of, refuse};
 use dns_split::opening::outermost_open_of_octets;
@@ -140,7 +137,7 @@ pub(crate) struct Entry {
 /// Puts the tokens of the entry at a place into a slice, as many as fit.
 fn read_entry(text: &[u8], at: usize, tokens: &mut [Token]) -> Entry
     requires { at ≤ length text.now }
-    ensures entry { (given : List (Result Piece TextFault)) × ReadsOctetsFrom text.now at given × EachWithin (length text.now) given × IsEntry given tokens.old result.count result.stop tokens.new }
+    ensures entry { FindsEntry text.now at tokens.old result tokens.new }
     ensures open { LeavesOpen text.now at result.stop }
 {
     let mut pieces = Pieces::of_octets_starting_at(text, at);
@@ -167,7 +164,7 @@ fn tell_stop(
 ) -> u32
     requires within { cursor.old.at ≤ length text.now }
     requires open { LeavesOpen text.now cursor.old.at entry.stop }
-    ensures { TellsEntry text.now entry.count entry.stop room result cursor.old cursor.new outcome.new }
+    ensures { TellsStop text.now entry room result cursor.old cursor.new outcome.new }
 {
     *outcome = Outcome {
         length: entry.count,
