@@ -1,5 +1,6 @@
 -- Names that are kept, and where a reader stands.
 use Rattle.std.proofs.Common.{◌≡◌, ◌≢◌, ℕ, ◌+◌, ◌≤◌, List, [], ◌∷◌, length, take, ap, ◌∙◌, subst, arith, false, Option, Some, None, Result, Ok, Err}
+use Rattle.dns_fields.specs.declared.record_error.RecordError.{RecordError}
 use Rattle.dns_octets.specs.Room.{Room}
 use Rattle.dns_wire.specs.Wire.{wire, wire_length, IsName, EndsInRoot}
 use Rattle.dns_wire.proofs.Wires.{length_wire, wire_length_append}
@@ -11,7 +12,6 @@ use Rattle.dns_reader.specs.declared.entry.EntryRead.{EntryRead}
 use Rattle.dns_reader.specs.declared.entry.EntryRead.TheVariants.{Nothing}
 use Rattle.dns_reader.specs.declared.known.Known.TheVariants.{Name}
 use Rattle.dns_reader.specs.declared.records.RecordReader.{RecordReader}
-use Rattle.dns_reader.specs.declared.records.RecordRefusal.{RecordRefusal}
 use Rattle.dns_reader.specs.declared.source.StartOfEntry.{StartOfEntry}
 use Rattle.dns_reader.specs.declared.state.State.{State}
 use Rattle.dns_reader.proofs.GivenRows.{something_is_given}
@@ -32,15 +32,15 @@ closed_after : (octets : List ℕ) (begun : SourceSeen) (end : Result EndOfEntry
 closed_after octets begun (Ok end) after h = h.1
 closed_after octets begun (Err f) after h = h.1.closed
 
-closed_begun : (room : Room) (octets : List ℕ) (begun : SourceSeen) (start : Result (Option StartOfEntry) Fault) (before : State) (old : List ℕ) (result : Option (Result EntryRead RecordRefusal)) (after : RecordReader)
+closed_begun : (room : Room) (octets : List ℕ) (begun : SourceSeen) (start : Result (Option StartOfEntry) Fault) (before : State) (old : List ℕ) (result : Option (Result EntryRead RecordError)) (after : RecordReader)
     (new : List ℕ) → IsAtStart start begun → ReadsBegun room octets begun start before old result after new → after.source.is_open ≡ false
 closed_begun room octets begun (Ok (Some start)) before old result after new at reads = closed_after octets begun reads.1 after.source reads.3
 closed_begun room octets begun (Ok None) before old result after new at reads = ap (λ s. s.is_open) reads.1 ∙ at.0
 closed_begun room octets begun (Err fault) before old result after new at reads = reads.1.closed
 
-pub closed : (room : Room) (before after : RecordReader) (old new : List ℕ) (result : Option (Result EntryRead RecordRefusal)) → ReadsNextRecord room before old result after new → after.source.is_open ≡ false
+pub closed : (room : Room) (before after : RecordReader) (old new : List ℕ) (result : Option (Result EntryRead RecordError)) → ReadsNextRecord room before old result after new → after.source.is_open ≡ false
 closed room before after old new result r = closed_begun room r.middle.octets.now r.last.begun r.last.start r.middle.state old result after new r.last.begins.start r.last.reads
 
 -- what is given is something
-pub something : (room : Room) (before after : RecordReader) (old new : List ℕ) (result : Option (Result EntryRead RecordRefusal)) → ReadsNextRecord room before old result after new → result ≢ Some (Ok Nothing)
+pub something : (room : Room) (before after : RecordReader) (old new : List ℕ) (result : Option (Result EntryRead RecordError)) → ReadsNextRecord room before old result after new → result ≢ Some (Ok Nothing)
 something room before after old new result r is = something_is_given room r.middle after old new (subst (λ g. ReadsNextEntry room r.middle old g after new) is r.last)

@@ -3,6 +3,7 @@ use Rattle.std.proofs.Common.{ℕ, ◌≡◌, ◌≢◌, ◌≤◌, ◌+◌, Boo
 use Rattle.std.specs.Prelude.{◌⊎◌, map}
 use Rattle.std.proofs.lemmas.Bool.{cases_lt}
 use Rattle.std.proofs.lemmas.List.{length-drop}
+use Rattle.dns_fields.specs.declared.record_error.RecordError.{RecordError}
 use Rattle.dns_octets.specs.Room.{Room, exactly}
 use Rattle.dns_wire.proofs.OneAnswer.{name_same}
 use Rattle.dns_split.specs.EntryTokens.{EndIs, IsSeen, IsSeenFrom, PartSeen, TokenIs, TokenSeen, seen_from}
@@ -11,6 +12,7 @@ use Rattle.dns_split.specs.Standing.{ahead, at_entry}
 use Rattle.dns_split.specs.declared.pieces.EndOfEntry.{EndOfEntry}
 use Rattle.dns_split.specs.declared.pieces.Fault.{Fault}
 use Rattle.dns_split.specs.declared.pieces.Piece.{Piece}
+use Rattle.dns_split.specs.declared.pieces.Wrong.{Wrong}
 use Rattle.dns_split.specs.declared.pieces.Piece.TheVariants.{End as EndAt}
 use Rattle.dns_split.proofs.EntryLaws.{seen_once}
 use Rattle.dns_split.proofs.EntryParts.{starts}
@@ -23,8 +25,6 @@ use Rattle.dns_reader.specs.declared.entry.EntryRead.TheVariants.{Nothing, Direc
 use Rattle.dns_reader.specs.declared.known.Known.{Known}
 use Rattle.dns_reader.specs.declared.known.Known.TheVariants.{Unsaid, Name, Refused}
 use Rattle.dns_reader.specs.declared.records.RecordReader.{RecordReader}
-use Rattle.dns_reader.specs.declared.records.RecordRefusal.{RecordRefusal}
-use Rattle.dns_reader.specs.declared.records.RecordRefusal.TheVariants.{Text, Entry}
 use Rattle.dns_reader.specs.declared.state.State.{State}
 use Rattle.dns_reader.proofs.Parts.{Parts}
 use Rattle.dns_reader.proofs.Passing.{ends_of}
@@ -33,8 +33,9 @@ use Rattle.dns_reader.proofs.StepsSeen.{GoesOn, step_seen}
 use Rattle.dns_reader.proofs.TextParts.{closed_left, seen_from_start}
 use Rattle.dns_reader.proofs.TextPieces.{never_empty}
 use Rattle.dns_text_c.specs.Kept.{HoldsName, HoldsState}
-use Rattle.dns_text_c.specs.RecordCalls.{RecordCall, RecordCalls, RecordCallsTellAll, TellRecords, TellsNextRecord}
-use Rattle.dns_text_c.specs.Records.{KeepsReader, Memory, NextRecord, ReadsZone, TellsFound, TellsGiven}
+use Rattle.dns_text_c.specs.Reasons.{TellsWrong, syntax_of}
+use Rattle.dns_text_c.specs.RecordCalls.{RecordCalls, RecordCallsTellAll, TellRecords, TellsNextRecord}
+use Rattle.dns_text_c.specs.Records.{KeepsReader, NextRecord, ReadsZone, RecordCall, TellsFound, TellsGiven}
 use Rattle.dns_text_c.specs.Told.{number_of}
 use Rattle.dns_text_c.specs.declared.kept.KeptName.{KeptName}
 use Rattle.dns_text_c.specs.declared.kept.Zone.{Zone}
@@ -55,7 +56,7 @@ record SameReader (r s : RecordReader) : Type 0 where
   source : r.source ≡ s.source
   state : r.state ≡ s.state
 
-entry_of_other : (r s after : RecordReader) (old new : List ℕ) (result : Option (Result EntryRead RecordRefusal)) → SameReader r s → ReadsNextEntry room r old result after new → ReadsNextEntry room s old result after new
+entry_of_other : (r s after : RecordReader) (old new : List ℕ) (result : Option (Result EntryRead RecordError)) → SameReader r s → ReadsNextEntry room r old result after new → ReadsNextEntry room s old result after new
 entry_of_other r s after old new result same h = record {
   start = h.start;
   begun = h.begun;
@@ -70,7 +71,7 @@ row_of_other r s last given same (given_next before middle end g row next state)
     let k = row_of_other r s middle before same row in
     (end, given_next before k.0 end g k.1 (entry_of_other middle k.0 end g.old g.new (Some g.result) k.2 next) state, record { octets = refl; source = refl; state = refl })
 
-record_of_other : (r s after : RecordReader) (old new : List ℕ) (result : Option (Result EntryRead RecordRefusal)) → SameReader r s → ReadsNextRecord room r old result after new → ReadsNextRecord room s old result after new
+record_of_other : (r s after : RecordReader) (old new : List ℕ) (result : Option (Result EntryRead RecordError)) → SameReader r s → ReadsNextRecord room r old result after new → ReadsNextRecord room s old result after new
 record_of_other r s after old new result same h =
     let k = row_of_other r s h.middle h.directives same h.row in
     record { directives = h.directives; middle = k.0; row = k.1; are_directives = h.are_directives; last = entry_of_other h.middle k.0 after old new result k.2 h.last; is_last = h.is_last }
@@ -149,7 +150,7 @@ stands_first octets state first h =
     let from = seen_from_start octets first.source.parts h.are_octets h.parts in
     record { octets_is = h.octets_is; closed = h.closed; taken = h.taken; within = omega (arith, h.began); there = inr (subst (λ n. IsSeenFrom octets n first.source.parts) (sym h.began) from) }
 
-stands_next : (octets : List ℕ) (r after : RecordReader) (old new : List ℕ) (result : Result EntryRead RecordRefusal) → AreOctets octets → Stands octets r → ReadsNextEntry room r old (Some result) after new → Stands octets after
+stands_next : (octets : List ℕ) (r after : RecordReader) (old new : List ℕ) (result : Result EntryRead RecordError) → AreOctets octets → Stands octets r → ReadsNextEntry room r old (Some result) after new → Stands octets after
 stands_next octets r after old new result are s next =
     let q = step_seen room r after old new result s.closed next in
     let tokens : Parts = map (λ t. Ok (TokenIs t q.entry.begins_blank)) q.entry.tokens in
@@ -170,7 +171,7 @@ stands_row : (octets : List ℕ) (r last : RecordReader) (given : List EntryGive
 stands_row octets r last given are s none_given = s
 stands_row octets r last given are s (given_next before middle end g row next state) = stands_next octets middle end g.old g.new g.result are (stands_row octets r middle before are s row) next
 
-stands_record : (octets : List ℕ) (r after : RecordReader) (old new : List ℕ) (result : Result EntryRead RecordRefusal) → AreOctets octets → Stands octets r → ReadsNextRecord room r old (Some result) after new → Stands octets after
+stands_record : (octets : List ℕ) (r after : RecordReader) (old new : List ℕ) (result : Result EntryRead RecordError) → AreOctets octets → Stands octets r → ReadsNextRecord room r old (Some result) after new → Stands octets after
 stands_record octets r after old new result are s h = stands_next octets h.middle after old new result are (stands_row octets r h.middle h.directives are s h.row) h.last
 
 -- ---- where nothing is left, none is given
@@ -190,7 +191,7 @@ end_alone (x ∷ ends) tokens b end rest e is counts =
     let none : [] ≡ ends_of ends ++ ((map (λ t. Ok (TokenIs t b)) tokens ++ end_seen end ∷ []) ++ rest) = cc in never_empty (ends_of ends) (map (λ t. Ok (TokenIs t b)) tokens) rest (end_seen end) none
 
 module _ (r : RecordReader) (closed : r.source.is_open ≡ false) where
-  no_entry : (e : EndOfEntry) → r.source.parts ≡ Ok (EndIs e) ∷ [] → (after : RecordReader) (old new : List ℕ) (result : Result EntryRead RecordRefusal) → ReadsNextEntry room r old (Some result) after new → ⊥
+  no_entry : (e : EndOfEntry) → r.source.parts ≡ Ok (EndIs e) ∷ [] → (after : RecordReader) (old new : List ℕ) (result : Result EntryRead RecordError) → ReadsNextEntry room r old (Some result) after new → ⊥
   no_entry e is after old new result next =
       let q = step_seen room r after old new result closed next in
       end_alone q.ends q.entry.tokens q.entry.begins_blank q.entry.end q.rest e (sym is ∙ q.parts_are) q.counts
@@ -201,7 +202,7 @@ module _ (r : RecordReader) (closed : r.source.is_open ≡ false) where
       let same : middle ≡ r = no_row e is middle before row in
       absurd (no_entry e is end g.old g.new g.result (subst (λ x. ReadsNextEntry room x g.old (Some g.result) end g.new) same next))
 
-  no_record : (e : EndOfEntry) → r.source.parts ≡ Ok (EndIs e) ∷ [] → (after : RecordReader) (old new : List ℕ) (result : Result EntryRead RecordRefusal) → ReadsNextRecord room r old (Some result) after new → ⊥
+  no_record : (e : EndOfEntry) → r.source.parts ≡ Ok (EndIs e) ∷ [] → (after : RecordReader) (old new : List ℕ) (result : Result EntryRead RecordError) → ReadsNextRecord room r old (Some result) after new → ⊥
   no_record e is after old new result h =
       no_entry e is after old new result (subst (λ x. ReadsNextEntry room x old (Some result) after new) (no_row e is h.middle h.directives h.row) h.last)
 
@@ -290,27 +291,30 @@ never_one BadData h = cc
 never_one NoTtl h = cc
 never_one RelativeName h = cc
 
-module _ (after : RecordReader) (octets : List ℕ) (old new : Memory) (told : ℕ) (outcome : Outcome) where
-  found_some : (status : ℕ) (name : Known) (head : _) → status ≢ 1 → TellsFound status after octets name head old new told outcome → told ≢ 1
+error_some : (wrong : Option Wrong) (e : RecordError) (old new : List ℕ) (told : ℕ) (outcome : Outcome) → TellsWrong wrong e old told new outcome → told ≢ 1
+error_some (Some wrong) e old new told outcome t = λ one. never_one _ (sym one ∙ t.0.0)
+error_some None e old new told outcome t = λ one. never_one _ (sym one ∙ t.told_is)
+
+module _ (after : RecordReader) (octets : List ℕ) (call : RecordCall) where
+  found_some : (status : ℕ) (name : Known) (head : _) → status ≢ 1 → TellsFound status after octets name head call → call.status ≢ 1
   found_some status name head some t =
-      ⊎_elim (λ short. λ one. let none : told ≡ 2 = (t.lacks short).0 in omega (arith, none, one)) (λ fits. λ one. some (sym (t.given fits).0 ∙ one)) (cases_lt (length old.octets) (length octets))
+      ⊎_elim (λ short. λ one. let none : call.status ≡ 2 = (t.lacks short).0 in omega (arith, none, one)) (λ fits. λ one. some (sym (t.given fits).0 ∙ one))
+      (cases_lt (length call.before.octets) (length octets))
 
-  found_keeps : (status : ℕ) (name : Known) (head : _) → told ≢ 2 → TellsFound status after octets name head old new told outcome → KeepsReader after old.zone new.zone
+  found_keeps : (status : ℕ) (name : Known) (head : _) → call.status ≢ 2 → TellsFound status after octets name head call → KeepsReader after call.before.zone call.after.zone
   found_keeps status name head fits t =
-      ⊎_elim (λ short. absurd (fits (t.lacks short).0)) (λ enough. (t.given enough).5) (cases_lt (length old.octets) (length octets))
+      ⊎_elim (λ short. absurd (fits (t.lacks short).0)) (λ enough. (t.given enough).5) (cases_lt (length call.before.octets) (length octets))
 
-  some_told : (given : Result EntryRead RecordRefusal) → TellsGiven (Some given) after octets old new told outcome → told ≢ 1
-  some_told (Err (Text f)) t = λ one. never_one _ (sym one ∙ t.0.0)
-  some_told (Err (Entry r)) t = λ one. never_one _ (sym one ∙ t.reason.told_is)
-  some_told (Ok (RecordRead at ttl class code)) t = found_some 0 _ _ (λ e. cc) t
+  some_told : (given : Result EntryRead RecordError) → TellsGiven (Some given) after octets call → call.status ≢ 1
+  some_told (Err e) t = error_some (syntax_of e.kind) e _ _ _ _ t.reason
+  some_told (Ok (RecordRead at ttl class rtype)) t = found_some 0 _ _ (λ e. cc) t
   some_told (Ok (Include origin)) t = found_some 26 _ _ (λ e. cc) t
   some_told (Ok Nothing) t = absurd t
   some_told (Ok Directive) t = absurd t
 
-  some_keeps : (given : Result EntryRead RecordRefusal) → told ≢ 2 → TellsGiven (Some given) after octets old new told outcome → KeepsReader after old.zone new.zone
-  some_keeps (Err (Text f)) fits t = t.1.keeps
-  some_keeps (Err (Entry r)) fits t = t.keeps
-  some_keeps (Ok (RecordRead at ttl class code)) fits t = found_keeps 0 _ _ fits t
+  some_keeps : (given : Result EntryRead RecordError) → call.status ≢ 2 → TellsGiven (Some given) after octets call → KeepsReader after call.before.zone call.after.zone
+  some_keeps (Err e) fits t = t.keeps
+  some_keeps (Ok (RecordRead at ttl class rtype)) fits t = found_keeps 0 _ _ fits t
   some_keeps (Ok (Include origin)) fits t = found_keeps 26 _ _ fits t
   some_keeps (Ok Nothing) fits t = absurd t
   some_keeps (Ok Directive) fits t = absurd t
@@ -327,7 +331,7 @@ held r old new k = record { holds = (k.origin.0, k.owner.0, k.default_ttl, k.las
 
 abbrev Told : RecordReader → RecordCall → Type 0
 Told r call =
-    ((after : RecordReader) × (given : Result EntryRead RecordRefusal) × TellsNextRecord r after given call)
+    ((after : RecordReader) × (given : Result EntryRead RecordError) × TellsNextRecord r after given call)
     ⊎ ((after : RecordReader) × (octets : List ℕ) × ReadsNextRecord room r [] None after octets × (call.status ≡ 1))
 
 module _ (text : List ℕ) (are : AreOctets text) (r : RecordReader) (stands : Stands text r) (call : RecordCall) (held : Held call.before.zone r) where
@@ -343,17 +347,17 @@ module _ (text : List ℕ) (are : AreOctets text) (r : RecordReader) (stands : S
       }
 
   module _ (before after : RecordReader) (octets : List ℕ) where
-    told_same : (given : Option (Result EntryRead RecordRefusal)) → SameReader before r → ReadsNextRecord room before [] given after octets
-        → TellsGiven given after octets call.before call.after call.status call.outcome → Told r call
+    told_same : (given : Option (Result EntryRead RecordError)) → SameReader before r → ReadsNextRecord room before [] given after octets
+        → TellsGiven given after octets call → Told r call
     told_same (Some given) same reads tells = inl (after, given, record { octets = octets; reads = record_of_other before r after [] octets (Some given) same reads; tells = tells })
-    told_same None same reads tells = inr (after, octets, record_of_other before r after [] octets None same reads, tells.0)
+    told_same None same reads tells = inr (after, octets, record_of_other before r after [] octets None same reads, tells.status_is)
 
-    told_none : (given : Option (Result EntryRead RecordRefusal)) → r.source.parts ≡ [] → before.source.is_open ≡ false → (e : EndOfEntry) → before.source.parts ≡ Ok (EndIs e) ∷ []
-        → ReadsNextRecord room before [] given after octets → TellsGiven given after octets call.before call.after call.status call.outcome → Told r call
+    told_none : (given : Option (Result EntryRead RecordError)) → r.source.parts ≡ [] → before.source.is_open ≡ false → (e : EndOfEntry) → before.source.parts ≡ Ok (EndIs e) ∷ []
+        → ReadsNextRecord room before [] given after octets → TellsGiven given after octets call → Told r call
     told_none (Some given) none closed e is reads tells = absurd (no_record before closed e is after [] octets given reads)
-    told_none None none closed e is reads tells = inr (r, [], none_next r stands.closed none [], tells.0)
+    told_none None none closed e is reads tells = inr (r, [], none_next r stands.closed none [], tells.status_is)
 
-  told_by : (state : State) → state ≡ r.state → ReadsZone text state call.before call.after call.status call.outcome → Told r call
+  told_by : (state : State) → state ≡ r.state → ReadsZone text state call → Told r call
   told_by state is z =
       ⊎_elim
       (λ none.
@@ -362,7 +366,7 @@ module _ (text : List ℕ) (are : AreOctets text) (r : RecordReader) (stands : S
       (λ from. told_same z.before z.after z.octets z.given (same_there z.before state is z.starts from) z.reads z.tells)
       stands.there
 
-  told_here : NextRecord text call.before call.after call.status call.outcome → Told r call
+  told_here : NextRecord text call → Told r call
   told_here (inl bad) = absurd (⊎_elim (no_state call.before.zone r.state held.holds) (λ past. omega (arith, past, held.at, stands.within)) bad.0)
   told_here (inr (state, holds, within, z)) = told_by state (state_once call.before.zone state r.state holds held.holds) z
 
@@ -373,7 +377,7 @@ module _ (text : List ℕ) (are : AreOctets text) where
   tell_on [] zone r stands h calls = absurd calls
   tell_on (call ∷ []) zone r stands h (same, answers, one) =
       elim (told_here text are r stands call (subst (λ z. Held z r) (sym same) h) answers.answers) [
-        | inl t ↦ absurd (some_told t.0 t.2.octets call.before call.after call.status call.outcome t.1 t.2.tells one)
+        | inl t ↦ absurd (some_told t.0 t.2.octets call t.1 t.2.tells one)
         | inr t ↦ (t.0, t.1, t.2)
       ]
   tell_on (call ∷ next ∷ more) zone r stands h (same, answers, some, calls) =
@@ -383,7 +387,7 @@ module _ (text : List ℕ) (are : AreOctets text) where
           t.1,
           t.2,
           tell_on (next ∷ more) call.after.zone t.0 (stands_record text r t.0 [] t.2.octets t.1 are stands t.2.reads)
-              (held t.0 call.before.zone call.after.zone (some_keeps t.0 t.2.octets call.before call.after call.status call.outcome t.1 answers.room t.2.tells)) calls,
+              (held t.0 call.before.zone call.after.zone (some_keeps t.0 t.2.octets call t.1 answers.room t.2.tells)) calls,
         )
         | inr t ↦ absurd (some t.3)
       ]
@@ -406,7 +410,7 @@ module _ (text : List ℕ) (are : AreOctets text) where
   }
 
   -- the first call has one
-  first_reader : (state : State) (zone : Zone) (call : RecordCall) → zone.at ≡ 0 → HoldsState zone (Some state) → call.before.zone ≡ zone → NextRecord text call.before call.after call.status call.outcome
+  first_reader : (state : State) (zone : Zone) (call : RecordCall) → zone.at ≡ 0 → HoldsState zone (Some state) → call.before.zone ≡ zone → NextRecord text call
       → (r : RecordReader) × StartsText text state r
   first_reader state zone call zero holds same (inl bad) =
       let here : HoldsState call.before.zone (Some state) = subst (λ z. HoldsState z (Some state)) (sym same) holds in

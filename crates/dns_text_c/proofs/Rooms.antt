@@ -6,7 +6,9 @@ use Rattle.dns_split.specs.EntryTokens.{PartSeen, TokenSeen}
 use Rattle.dns_split.specs.declared.pieces.EndOfEntry.{EndOfEntry}
 use Rattle.dns_split.specs.declared.pieces.Fault.{Fault}
 use Rattle.dns_data.specs.ByType.{ReadsType}
-use Rattle.dns_data.specs.declared.by_type.TypeRefusal.{TypeRefusal}
+use Rattle.dns_fields.specs.RecordErrors.{error_of_fault}
+use Rattle.dns_fields.specs.declared.record_error.RecordError.{RecordError}
+use Rattle.dns_kinds.specs.declared.types.RecordType.{RecordType}
 use Rattle.dns_heads.specs.EntrySays.{EntryMeaning, says_nothing, says_origin, says_default_ttl, says_include, says_record, says_refused}
 use Rattle.dns_heads.specs.declared.head.Words.{Words}
 use Rattle.dns_heads.specs.declared.head.WordsRefusal.{WordsRefusal}
@@ -15,11 +17,8 @@ use Rattle.dns_reader.specs.Past.{known_name}
 use Rattle.dns_reader.specs.Records.{AreGivenInARow, EntryGiven, IsDirectiveGiven, ReadsBegun, ReadsNextEntry, ReadsNextRecord, StandsAfter, given_next, given_of, none_given}
 use Rattle.dns_reader.specs.Source.{SourceSeen, behind_left, entry_end, entry_left}
 use Rattle.dns_reader.specs.declared.entry.EntryRead.{EntryRead}
-use Rattle.dns_reader.specs.declared.entry_error.EntryRefusal.{EntryRefusal}
 use Rattle.dns_reader.specs.declared.known.Known.{Known}
 use Rattle.dns_reader.specs.declared.records.RecordReader.{RecordReader}
-use Rattle.dns_reader.specs.declared.records.RecordRefusal.{RecordRefusal}
-use Rattle.dns_reader.specs.declared.records.RecordRefusal.TheVariants.{Text, Entry}
 use Rattle.dns_reader.specs.declared.source.StartOfEntry.{StartOfEntry}
 use Rattle.dns_reader.specs.declared.state.State.{State}
 use Rattle.dns_text_c.specs.DataText.{ReadsDataText, ReadsFirstData, ReadsTokens, data_answer}
@@ -35,12 +34,12 @@ directive_taken : (old : List ℕ) (g : EntryGiven) → IsDirectiveGiven old g �
 directive_taken old g h refused = let is = h.1 in let no = refused.1 in cc
 
 module _ (one other : Room) where
-  data_so : (before : State) (at end : ℕ) (w : Words) (tokens : List TokenSeen) (old new : List ℕ) (e : EntryRead) (r : Result (Unit {0}) TypeRefusal) (left : List TokenSeen)
-      → ReadsType (known_name before.origin) one w.code end tokens old r left new → ReadsBehind before at w old r new (Ok e) → ReadsRecordData before other at end w tokens old (Ok e) new
+  data_so : (before : State) (at end : ℕ) (w : Words) (tokens : List TokenSeen) (old new : List ℕ) (e : EntryRead) (r : Result (Unit {0}) RecordError) (left : List TokenSeen)
+      → ReadsType (known_name before.origin) one w.rtype end tokens old r left new → ReadsBehind before at w old r new (Ok e) → ReadsRecordData before other at end w tokens old (Ok e) new
   data_so before at end w tokens old new e (Ok u) left reads behind = (Ok u, left, reads, behind)
   data_so before at end w tokens old new e (Err r) left reads behind = cc
 
-  words_so : (before : State) (at end : ℕ) (first : Result (Unit {0}) EntryRefusal) (words : Result Words WordsRefusal) (tokens : List TokenSeen) (old new : List ℕ) (e : EntryRead)
+  words_so : (before : State) (at end : ℕ) (first : Result (Unit {0}) RecordError) (words : Result Words WordsRefusal) (tokens : List TokenSeen) (old new : List ℕ) (e : EntryRead)
       → ReadsWords before one at end first words tokens old (Ok e) new → ReadsWords before other at end first words tokens old (Ok e) new
   words_so before at end (Err r) words tokens old new e h = h
   words_so before at end (Ok u) (Err r) tokens old new e h = h
@@ -60,19 +59,19 @@ module _ (one other : Room) where
   entry_so blank end tokens before after old new e h =
       record { meaning = h.meaning; says = h.says; reads = meaning_so before end tokens h.meaning old new e after.owner h.reads; extends = h.extends; learns = h.learns }
 
-  begun_so : (octets : List ℕ) (begun : SourceSeen) (start : Result (Option StartOfEntry) Fault) (before : State) (old new : List ℕ) (result : Option (Result EntryRead RecordRefusal)) (after : RecordReader)
+  begun_so : (octets : List ℕ) (begun : SourceSeen) (start : Result (Option StartOfEntry) Fault) (before : State) (old new : List ℕ) (result : Option (Result EntryRead RecordError)) (after : RecordReader)
       → (RefusalIsGiven result → ⊥) → ReadsBegun one octets begun start before old result after new → ReadsBegun other octets begun start before old result after new
   begun_so octets begun (Ok (Some start)) before old new result after taken h = go h.0 h.1 h.2 h.3 h.4
     where
-      go : (read : Result EntryRead EntryRefusal) (end : Result EndOfEntry Fault) → ReadsZoneEntry one start.begins_blank (entry_end begun).at (entry_left begun) before old read after.state new
+      go : (read : Result EntryRead RecordError) (end : Result EndOfEntry Fault) → ReadsZoneEntry one start.begins_blank (entry_end begun).at (entry_left begun) before old read after.state new
           → StandsAfter octets begun end after.source → result ≡ Some (given_of end read) → ReadsBegun other octets begun (Ok (Some start)) before old result after new
       go (Ok e) (Ok end) reads stands is = (Ok e, Ok end, entry_so start.begins_blank _ _ before after.state old new e reads, stands, is)
-      go (Err r) (Ok end) reads stands is = absurd (taken (Entry r, is))
-      go read (Err f) reads stands is = absurd (taken (Text f, is))
+      go (Err r) (Ok end) reads stands is = absurd (taken (r, is))
+      go read (Err f) reads stands is = absurd (taken (error_of_fault f, is))
   begun_so octets begun (Ok None) before old new result after taken h = h
   begun_so octets begun (Err fault) before old new result after taken h = h
 
-  next_so : (before after : RecordReader) (old new : List ℕ) (result : Option (Result EntryRead RecordRefusal)) → (RefusalIsGiven result → ⊥) → ReadsNextEntry one before old result after new
+  next_so : (before after : RecordReader) (old new : List ℕ) (result : Option (Result EntryRead RecordError)) → (RefusalIsGiven result → ⊥) → ReadsNextEntry one before old result after new
       → ReadsNextEntry other before old result after new
   next_so before after old new result taken h = record {
     start = h.start;
@@ -88,7 +87,7 @@ module _ (one other : Room) where
       let both = all_before (IsDirectiveGiven old) front g are in
       given_next front middle end g (row_so old first middle front both.0 row) (next_so middle end g.old g.new (Some g.result) (directive_taken old g both.1) next) state
 
-  pub any_room : (before after : RecordReader) (old new : List ℕ) (result : Option (Result EntryRead RecordRefusal)) → (RefusalIsGiven result → ⊥) → ReadsNextRecord one before old result after new
+  pub any_room : (before after : RecordReader) (old new : List ℕ) (result : Option (Result EntryRead RecordError)) → (RefusalIsGiven result → ⊥) → ReadsNextRecord one before old result after new
       → ReadsNextRecord other before old result after new
   any_room before after old new result taken h = record {
     directives = h.directives;
@@ -100,24 +99,24 @@ module _ (one other : Room) where
   }
 
   -- what is refused is no data, whatever follows it
-  never_data : (code : ℕ) (r : TypeRefusal) (octets out : List ℕ) (parts : List (Result PartSeen Fault)) → Ok out ≡ data_answer code (Err r) octets parts → ⊥
-  never_data code r octets out [] is = cc
-  never_data code r octets out (Ok p ∷ parts) is = cc
-  never_data code r octets out (Err f ∷ parts) is = cc
+  never_data : (rtype : RecordType) (r : RecordError) (octets out : List ℕ) (parts : List (Result PartSeen Fault)) → Ok out ≡ data_answer rtype (Err r) octets parts → ⊥
+  never_data rtype r octets out [] is = cc
+  never_data rtype r octets out (Ok p ∷ parts) is = cc
+  never_data rtype r octets out (Err f ∷ parts) is = cc
 
-  tokens_so : (code : ℕ) (origin : Option (List (List ℕ))) (begun : SourceSeen) (out : List ℕ) (read : Result (Unit {0}) TypeRefusal) (left : List TokenSeen) (octets : List ℕ)
-      → ReadsType origin one code (entry_end begun).at (entry_left begun) [] read left octets → Ok out ≡ data_answer code read octets (behind_left begun)
-      → ReadsTokens other code origin begun (Ok out)
-  tokens_so code origin begun out (Ok u) left octets reads is = (Ok u, left, octets, reads, is)
-  tokens_so code origin begun out (Err r) left octets reads is = absurd (never_data code r octets out (behind_left begun) is)
+  tokens_so : (rtype : RecordType) (origin : Option (List (List ℕ))) (begun : SourceSeen) (out : List ℕ) (read : Result (Unit {0}) RecordError) (left : List TokenSeen) (octets : List ℕ)
+      → ReadsType origin one rtype (entry_end begun).at (entry_left begun) [] read left octets → Ok out ≡ data_answer rtype read octets (behind_left begun)
+      → ReadsTokens other rtype origin begun (Ok out)
+  tokens_so rtype origin begun out (Ok u) left octets reads is = (Ok u, left, octets, reads, is)
+  tokens_so rtype origin begun out (Err r) left octets reads is = absurd (never_data rtype r octets out (behind_left begun) is)
 
-  first_so : (code : ℕ) (origin : Option (List (List ℕ))) (begun : SourceSeen) (out : List ℕ) (start : Result (Option StartOfEntry) Fault)
-      → ReadsFirstData one code origin start begun (Ok out) → ReadsFirstData other code origin start begun (Ok out)
-  first_so code origin begun out (Err f) h = h
-  first_so code origin begun out (Ok found) h = tokens_so code origin begun out h.0 h.1 h.2 h.3 h.4
+  first_so : (rtype : RecordType) (origin : Option (List (List ℕ))) (begun : SourceSeen) (out : List ℕ) (start : Result (Option StartOfEntry) Fault)
+      → ReadsFirstData one rtype origin start begun (Ok out) → ReadsFirstData other rtype origin start begun (Ok out)
+  first_so rtype origin begun out (Err f) h = h
+  first_so rtype origin begun out (Ok found) h = tokens_so rtype origin begun out h.0 h.1 h.2 h.3 h.4
 
-  pub any_data_room : (code : ℕ) (origin : Option (List (List ℕ))) (text out : List ℕ) → ReadsDataText one code origin text (Ok out) → ReadsDataText other code origin text (Ok out)
-  any_data_room code origin text out h = record {
+  pub any_data_room : (rtype : RecordType) (origin : Option (List (List ℕ))) (text out : List ℕ) → ReadsDataText one rtype origin text (Ok out) → ReadsDataText other rtype origin text (Ok out)
+  any_data_room rtype origin text out h = record {
     source = h.source;
     seen = h.seen;
     closed = h.closed;
@@ -125,5 +124,5 @@ module _ (one other : Room) where
     start = h.start;
     begun = h.begun;
     begins = h.begins;
-    reads = first_so code origin h.begun out h.start h.reads;
+    reads = first_so rtype origin h.begun out h.start h.reads;
   }

@@ -143,7 +143,7 @@ fn read_behind(
     }
     match read_in_room::<MOST>(rtype, text, origin, octets, outcome) {
         Ok(status) => status,
-        Err(error) => tell_error(error, octets, outcome),
+        Err(error) => tell_error(&error, octets, outcome),
     }
 }
 

@@ -171,21 +171,19 @@ fn call_error_text(rtype: Option<RecordType>, kind: ErrorKind) -> &'static str
 }
 
 /// Why an entry is refused, in at most 255 characters.
-fn reason_of(error: RecordError) -> ArrayVec<u8, REASON>
-    ensures { result.items ≡ take REASON (reason_text error) }
+fn reason_of(error: &RecordError) -> ArrayVec<u8, REASON>
+    ensures { result.items ≡ take REASON (reason_text error.now) }
 {
     let mut reason = ArrayVec::new();
     put_what(error.rtype, error.field, &mut reason);
-    put_text(
-        call_error_text(error.rtype, error.kind).as_bytes(),
-        &mut reason,
-    );
+    let text = call_error_text(error.rtype, error.kind);
+    put_text(text.as_bytes(), &mut reason);
     reason
 }
 
 /// Tells why an entry is refused: its status, its place, and as many characters of its text as fit.
-fn tell_reason(error: RecordError, octets: &mut [u8], outcome: &mut Outcome) -> u32
-    ensures { TellsReason error octets.old result octets.new outcome.new }
+fn tell_reason(error: &RecordError, octets: &mut [u8], outcome: &mut Outcome) -> u32
+    ensures { TellsReason error.now octets.old result octets.new outcome.new }
 {
     let reason = reason_of(error);
     *outcome = Outcome {
@@ -197,8 +195,8 @@ fn tell_reason(error: RecordError, octets: &mut [u8], outcome: &mut Outcome) -> 
 
 /// Tells of an error: what is wrong with the text by the status and the place, and why an entry is
 /// refused by its text too.
-pub(crate) fn tell_error(error: RecordError, octets: &mut [u8], outcome: &mut Outcome) -> u32
-    ensures { TellsError error octets.old result octets.new outcome.new }
+pub(crate) fn tell_error(error: &RecordError, octets: &mut [u8], outcome: &mut Outcome) -> u32
+    ensures { TellsError error.now octets.old result octets.new outcome.new }
 {
     match syntax_of(error.kind) {
         Some(wrong) => {

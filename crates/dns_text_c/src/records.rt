@@ -99,13 +99,13 @@ fn tell_found(
 /// Tells why an entry is refused, or what is wrong with the text.
 fn tell_refused(
     reader: &RecordReader,
-    error: RecordError,
+    error: &RecordError,
     zone: &mut Zone,
     octets: &mut [u8],
     outcome: &mut Outcome,
 ) -> u32
     requires { reader.now.source.is_open ≡ false }
-    ensures { (found : Record) → TellsRefused reader.now error (record {
+    ensures { (found : Record) → TellsRefused reader.now error.now (record {
         before = memory zone.old found octets.old;
         after = memory zone.new found octets.new;
         status = result; outcome = outcome.new }) }
@@ -179,7 +179,7 @@ fn tell_given(
         }
         Some(Ok(EntryRead::Nothing)) => unreachable!(),
         Some(Ok(EntryRead::Directive)) => unreachable!(),
-        Some(Err(error)) => tell_refused(reader, error, zone, octets, outcome),
+        Some(Err(error)) => tell_refused(reader, &error, zone, octets, outcome),
         None => {
             keep_reader(reader, zone);
             *outcome = Outcome {
