@@ -1,6 +1,7 @@
 -- Worked rows of the definitions, each computed.
-use Rattle.std.specs.Prelude.{◌≡◌, true, false, Some, [], ◌∷◌, ◌++◌, codes, refl}
+use Rattle.std.specs.Prelude.{ℕ, ◌≡◌, List, true, false, Some, [], ◌∷◌, ◌++◌, codes, refl}
 use Rattle.std.specs.List.{list_all, list_any}
+use Rattle.dns_kinds.specs.Rtype as Rtype
 use Rattle.dns_lists.specs.Bitmap.{types_octet, window_octets_of, trimmed, window_block, set_places, block_types, types_of}
 use Rattle.dns_lists.specs.Params.{param, param_list, params_of}
 use Rattle.dns_lists.specs.Template.{are_variable_octets, begins_expression, begins_query, behind_braces}
@@ -9,11 +10,14 @@ use Rattle.dns_lists.specs.Values.{first_missing}
 
 -- the example of RFC 4034 section 4.3: A, MX, RRSIG and NSEC in the first window, TYPE1234 in the
 -- fifth
-first_window : window_block 0 (trimmed (window_octets_of (1 ∷ 15 ∷ 46 ∷ 47 ∷ 1234 ∷ []) 0)) ≡ 0 ∷ 6 ∷ 64 ∷ 1 ∷ 0 ∷ 0 ∷ 0 ∷ 3 ∷ []
+abbrev listed : List ℕ
+listed = Rtype.a ∷ Rtype.mx ∷ Rtype.rrsig ∷ Rtype.nsec ∷ 1234 ∷ []
+
+first_window : window_block 0 (trimmed (window_octets_of listed 0)) ≡ 0 ∷ 6 ∷ 64 ∷ 1 ∷ 0 ∷ 0 ∷ 0 ∷ 3 ∷ []
 unfolding types_octet window_octets_of trimmed
 first_window = refl
 
-fifth_window : window_block 4 (trimmed (window_octets_of (1 ∷ 15 ∷ 46 ∷ 47 ∷ 1234 ∷ []) 4)) ≡ 4 ∷ 27 ∷ 0 ∷ 0 ∷ 0 ∷ 0 ∷ 0 ∷ 0 ∷ 0 ∷ 0 ∷ 0 ∷ 0 ∷ 0 ∷ 0 ∷ 0 ∷ 0 ∷ 0 ∷ 0 ∷ 0 ∷ 0 ∷ 0 ∷ 0 ∷ 0 ∷ 0 ∷ 0 ∷ 0 ∷ 0 ∷ 0 ∷ 32 ∷ []
+fifth_window : window_block 4 (trimmed (window_octets_of listed 4)) ≡ 4 ∷ 27 ∷ 0 ∷ 0 ∷ 0 ∷ 0 ∷ 0 ∷ 0 ∷ 0 ∷ 0 ∷ 0 ∷ 0 ∷ 0 ∷ 0 ∷ 0 ∷ 0 ∷ 0 ∷ 0 ∷ 0 ∷ 0 ∷ 0 ∷ 0 ∷ 0 ∷ 0 ∷ 0 ∷ 0 ∷ 0 ∷ 0 ∷ 32 ∷ []
 unfolding types_octet window_octets_of trimmed
 fifth_window = refl
 
@@ -23,7 +27,7 @@ unfolding types_octet window_octets_of trimmed
 empty_window = refl
 
 -- and read back
-types : types_of (0 ∷ 6 ∷ 64 ∷ 1 ∷ 0 ∷ 0 ∷ 0 ∷ 3 ∷ 4 ∷ 27 ∷ 0 ∷ 0 ∷ 0 ∷ 0 ∷ 0 ∷ 0 ∷ 0 ∷ 0 ∷ 0 ∷ 0 ∷ 0 ∷ 0 ∷ 0 ∷ 0 ∷ 0 ∷ 0 ∷ 0 ∷ 0 ∷ 0 ∷ 0 ∷ 0 ∷ 0 ∷ 0 ∷ 0 ∷ 0 ∷ 0 ∷ 32 ∷ []) ≡ 1 ∷ 15 ∷ 46 ∷ 47 ∷ 1234 ∷ []
+types : types_of (0 ∷ 6 ∷ 64 ∷ 1 ∷ 0 ∷ 0 ∷ 0 ∷ 3 ∷ 4 ∷ 27 ∷ 0 ∷ 0 ∷ 0 ∷ 0 ∷ 0 ∷ 0 ∷ 0 ∷ 0 ∷ 0 ∷ 0 ∷ 0 ∷ 0 ∷ 0 ∷ 0 ∷ 0 ∷ 0 ∷ 0 ∷ 0 ∷ 0 ∷ 0 ∷ 0 ∷ 0 ∷ 0 ∷ 0 ∷ 0 ∷ 0 ∷ 32 ∷ []) ≡ listed
 unfolding set_places block_types
 types = refl
 
