@@ -12,7 +12,7 @@ use Rattle.dns_reader.specs.declared.state.State.{State}
 use Rattle.dns_reader.specs.declared.ttl.RecordTtl.{RecordTtl}
 
 -- a record has an owner of these labels, and what an entry says of it
-pub record IsGiven (labels : List (List ℕ)) (ttl : RecordTtl) (class : Class) (rtype : RecordType) (octets : List ℕ) (r : RecordRef) : Type 0 where
+pub record IsRecordOfEntry (labels : List (List ℕ)) (ttl : RecordTtl) (class : Class) (rtype : RecordType) (octets : List ℕ) (r : RecordRef) : Type 0 where
   pub owner : r.owner.now ≡ wire labels
   pub ttl_is : r.ttl ≡ seconds_of ttl
   pub class_is : r.class ≡ class
@@ -22,5 +22,5 @@ pub record IsGiven (labels : List (List ℕ)) (ttl : RecordTtl) (class : Class) 
 -- the record that was read has the owner that is known, and is given unless none is; nothing else is given
 abbrev pub GivesRecord : State → EntryRead → List ℕ → Option RecordRef → Type 0
 GivesRecord state (Record at ttl class rtype) octets given =
-    MatchOption given (known_name state.owner ≡ None) (λ r. (labels : List (List ℕ)) × (state.owner ≡ Name labels) × IsGiven labels ttl class rtype octets r)
+    MatchOption given (known_name state.owner ≡ None) (λ r. (labels : List (List ℕ)) × (state.owner ≡ Name labels) × IsRecordOfEntry labels ttl class rtype octets r)
 GivesRecord state _ octets given = IfSome given (λ r. ⊥)
