@@ -10,7 +10,7 @@ use Rattle.std.specs.Char.{is_ascii_digit}
 use Rattle.std.specs.List.{list_all}
 use Rattle.dns_kinds.specs.Salt.{SpellsSalt, salt_text}
 use Rattle.std.specs.Prelude.{All, Bool, if◌then◌else◌}
-use Rattle.dns_kinds.specs.declared.error.KindError.{KindError}
+use Rattle.dns_kinds.specs.declared.error.ErrorKind.{ErrorKind}
 use Rattle.dns_kinds.proofs.SaltLaws.{salts_are_kind}
 use Rattle.dns_spelling.specs.Forms.{FindsWidth, StandInFront, IsWireString}
 use Rattle.dns_spelling.specs.Shown.{string_in_quotes, text_in_quotes}
@@ -41,7 +41,7 @@ of_one_width width = record { width = at }
     at form rest None is finds = absurd (finds form rest is refl)
     at form rest (Some n) is finds = ap Some (sym (length-take-le n (form ++ rest) finds.0) ∙ finds.1.0 ∙ sym is.0)
 
-word_is_form : {V : Type 0} (width : ℕ) (valid : V → Type 0) (spells : List ℕ → V → Type 0) (reason : List ℕ → KindError → Type 0) (wire : V → List ℕ) (printed : List ℕ → List ℕ)
+word_is_form : {V : Type 0} (width : ℕ) (valid : V → Type 0) (spells : List ℕ → V → Type 0) (reason : List ℕ → ErrorKind → Type 0) (wire : V → List ℕ) (printed : List ℕ → List ℕ)
     → IsWordKind width valid spells wire printed → IsFieldForm (word_form width valid spells reason wire printed)
 word_is_form {V} width valid spells reason wire printed k = record {
   are_wire = λ quoted text octets values h. subst (AreOctetsOf width) (sym h.1.3) (k.sized h.1.0 h.1.1);

@@ -6,13 +6,11 @@ use Rattle.std.specs.Prelude.{slice_get}
 use Rattle.dns_octets.specs.Room.{Room}
 use Rattle.dns_split.specs.EntryTokens.{TokenSeen}
 use Rattle.dns_fields.proofs.Takings.{as_many, take_last, get_last}
-use Rattle.dns_fields.specs.declared.taking.Refusal.{Refusal}
 use Rattle.std.proofs.lemmas.List.{length-replicate}
 use Rattle.dns_fields.specs.Taking.{SpellsEach, SpellsField, SpellsFields, HasTaken, RefusesAField, RefusesNext}
-use Rattle.dns_fields.specs.declared.error.FieldError.{FieldError}
-use Rattle.dns_fields.specs.declared.error.FieldError.TheVariants.{ShortBuf}
+use Rattle.dns_kinds.specs.declared.error.ErrorKind.{ErrorKind}
+use Rattle.dns_kinds.specs.declared.error.ErrorKind.TheVariants.{ShortBuf}
 use Rattle.dns_fields.specs.declared.field.Field.{Field}
-use Rattle.dns_fields.specs.declared.taking.FieldRefusal.{FieldRefusal}
 use Rattle.dns_fields.proofs.FormLaws.{fields_once}
 
 module _ (origin : Option (List (List ℕ))) where
@@ -61,20 +59,20 @@ module _ (origin : Option (List (List ℕ))) where
   field_split (g ∷ gs) zero f h = let same : g ≡ f = cc h in ap (λ x. x ∷ gs) same
   field_split (g ∷ gs) (suc k) f h = ap (λ x. g ∷ x) (field_split gs k f h)
 
-  refused_next : (room : Room) (f : Field) (left : List TokenSeen) (middle : List ℕ) (e : FieldError) (t : TokenSeen) (ts : List TokenSeen) (mid : List ℕ) → RefusesNext origin room f left middle e → left ≡ t ∷ ts
+  refused_next : (room : Room) (f : Field) (left : List TokenSeen) (middle : List ℕ) (e : ErrorKind) (t : TokenSeen) (ts : List TokenSeen) (mid : List ℕ) → RefusesNext origin room f left middle e → left ≡ t ∷ ts
       → SpellsField origin f t mid → (e ≡ ShortBuf) × (room.fits < length middle + length mid)
   refused_next room f [] middle e t ts mid h is sp = cc is
   refused_next room f (u ∷ us) middle e t ts mid (inl h) is sp = let same : u ≡ t = cc is in (h.0, h.1 mid (subst (λ x. SpellsField origin f x mid) (sym same) sp))
   refused_next room f (u ∷ us) middle e t ts mid (inr h) is sp = let same : u ≡ t = cc is in absurd (h.1 mid (subst (λ x. SpellsField origin f x mid) (sym same) sp))
 
-  pub only_room_lacks : (room : Room) (fields : List Field) (end : ℕ) (tokens : List TokenSeen) (old : List ℕ) (r : FieldRefusal) (left : List TokenSeen) (new : List ℕ) (first last : List TokenSeen) (octets : List ℕ)
-      → RefusesAField origin room fields end tokens old r left new → tokens ≡ first ++ last → SpellsFields origin fields first octets → (r.refusal.why ≡ ShortBuf) × (room.fits < length old + length octets)
-  only_room_lacks room fields end tokens old r left new first last octets h is sp =
-      let split = field_split fields r.field h.field h.is_field in
+  pub only_room_lacks : (room : Room) (fields : List Field) (tokens : List TokenSeen) (old : List ℕ) (place : ℕ) (e : ErrorKind) (left : List TokenSeen) (new : List ℕ) (first last : List TokenSeen) (octets : List ℕ)
+      → RefusesAField origin room fields tokens old place e left new → tokens ≡ first ++ last → SpellsFields origin fields first octets → (e ≡ ShortBuf) × (room.fits < length old + length octets)
+  only_room_lacks room fields tokens old place e left new first last octets h is sp =
+      let split = field_split fields place h.field h.is_field in
       let b = h.before in
-      let next = stands_next (take r.field fields) (drop (suc r.field) fields) h.field b.taken left first last b.octets octets b.spelled (subst (λ fs. SpellsFields origin fs first octets) split sp) (sym is ∙ b.whole) in
+      let next = stands_next (take place fields) (drop (suc place) fields) h.field b.taken left first last b.octets octets b.spelled (subst (λ fs. SpellsFields origin fs first octets) split sp) (sym is ∙ b.whole) in
       let n = next.3 in
-      let lacks = refused_next room h.field left h.middle r.refusal.why next.0 next.1 n.mid h.why next.2 n.spelled in
+      let lacks = refused_next room h.field left h.middle e next.0 next.1 n.mid h.why next.2 n.spelled in
       let middle_length = ap length b.gained ∙ length-append old b.octets in
       let all = ap length n.whole ∙ length-append b.octets (n.mid ++ n.back) in
       let rest = length-append n.mid n.back in
@@ -97,21 +95,21 @@ module _ (origin : Option (List (List ℕ))) where
   same_field count f g h = let same : Some f ≡ Some g = sym (get_last origin count f) ∙ h in cc same
 
   -- the tokens before one that is refused are each of the field
-  pub each_before : (room : Room) (f : Field) (end count : ℕ) (tokens : List TokenSeen) (old : List ℕ) (r : Refusal) (left : List TokenSeen) (new : List ℕ)
-      → (h : RefusesAField origin room (replicate (suc count) f) end tokens old (record { field = count; refusal = r }) left new) → SpellsEach origin f h.before.taken h.before.octets
-  each_before room f end count tokens old r left new h =
+  pub each_before : (room : Room) (f : Field) (count : ℕ) (tokens : List TokenSeen) (old : List ℕ) (e : ErrorKind) (left : List TokenSeen) (new : List ℕ)
+      → (h : RefusesAField origin room (replicate (suc count) f) tokens old count e left new) → SpellsEach origin f h.before.taken h.before.octets
+  each_before room f count tokens old e left new h =
       let spelled : SpellsFields origin (replicate count f) h.before.taken h.before.octets = subst (λ fs. SpellsFields origin fs h.before.taken h.before.octets) (take_last origin count f) h.before.spelled in
       let many : count ≡ length h.before.taken = sym (length-replicate count f) ∙ as_many origin (replicate count f) h.before.taken h.before.octets spelled in
       subst (λ n. SpellsFields origin (replicate n f) h.before.taken h.before.octets) many spelled
 
-  pub each_only_room : (room : Room) (f : Field) (end count : ℕ) (tokens : List TokenSeen) (old : List ℕ) (r : Refusal) (left : List TokenSeen) (new octets : List ℕ) → left ≢ []
-      → RefusesAField origin room (replicate (suc count) f) end tokens old (record { field = count; refusal = r }) left new → SpellsEach origin f tokens octets → (r.why ≡ ShortBuf) × (room.fits < length old + length octets)
-  each_only_room room f end count tokens old r left new octets some h sp =
+  pub each_only_room : (room : Room) (f : Field) (count : ℕ) (tokens : List TokenSeen) (old : List ℕ) (e : ErrorKind) (left : List TokenSeen) (new octets : List ℕ) → left ≢ []
+      → RefusesAField origin room (replicate (suc count) f) tokens old count e left new → SpellsEach origin f tokens octets → (e ≡ ShortBuf) × (room.fits < length old + length octets)
+  each_only_room room f count tokens old e left new octets some h sp =
       let b = h.before in
-      let next = each_next f b.taken left b.octets octets some (each_before room f end count tokens old r left new h) (subst (λ ts. SpellsEach origin f ts octets) b.whole sp) in
+      let next = each_next f b.taken left b.octets octets some (each_before room f count tokens old e left new h) (subst (λ ts. SpellsEach origin f ts octets) b.whole sp) in
       let n = next.3 in
       let same = same_field count f h.field h.is_field in
-      let lacks = refused_next room h.field left h.middle r.why next.0 next.1 n.mid h.why next.2 (subst (λ g. SpellsField origin g next.0 n.mid) same n.spelled) in
+      let lacks = refused_next room h.field left h.middle e next.0 next.1 n.mid h.why next.2 (subst (λ g. SpellsField origin g next.0 n.mid) same n.spelled) in
       let middle_length = ap length b.gained ∙ length-append old b.octets in
       let all = ap length n.whole ∙ length-append b.octets (n.mid ++ n.back) in
       let rest = length-append n.mid n.back in

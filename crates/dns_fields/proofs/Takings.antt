@@ -2,15 +2,25 @@
 use Rattle.std.proofs.Common.{ℕ, Option, zero, suc, replicate, Some, ◌≡◌, ◌<◌, ◌≤◌, ◌+◌, ◌-◌, arith, Err, List, [], ◌∷◌, ◌++◌, length, take, drop, get_or, refl, sym, subst, ap, ◌∙◌, length-take-le}
 use Rattle.std.proofs.Math.Seq.{take-suc, take-length, drop-append_seam}
 use Rattle.std.proofs.lemmas.List.{append_assoc, append-nil, length-replicate}
-use Rattle.std.specs.Prelude.{slice_get}
+use Rattle.std.specs.Prelude.{slice_get, Result, Ok}
+use Rattle.std.specs.Result.{IsErrAnd}
 use Rattle.dns_split.specs.EntryTokens.{TokenSeen}
-use Rattle.std.proofs.lemmas.Option.{slice_get-get_or}
+use Rattle.std.proofs.lemmas.Option.{none-some, slice_get-get_or}
 use Rattle.dns_octets.specs.Room.{Room}
-use Rattle.dns_octets.specs.Appending.{Gains}
+use Rattle.dns_kinds.specs.declared.error.ErrorKind.{ErrorKind}
+use Rattle.dns_octets.specs.Appending.{Extends, Gains}
 use Rattle.dns_fields.specs.declared.field.Field.{Field}
-use Rattle.dns_fields.specs.declared.taking.Refusal.{Refusal}
+use Rattle.dns_fields.specs.RecordErrors.{IsErrorAt, IsErrorInField, error_at, error_in_field}
+use Rattle.dns_fields.specs.declared.record_error.RecordError.{RecordError}
 use Rattle.dns_fields.specs.Source.{next_place}
-use Rattle.dns_fields.specs.Taking.{SpellsField, SpellsFields, HasTaken, RefusesAField, RefusesNext, SpellsEach, TakesField}
+use Rattle.dns_fields.specs.Taking.{SpellsField, SpellsFields, HasTaken, RefusesAField, RefusesNext, SpellsEach, TakesEachAs, TakesField}
+
+-- the place is that of the token that is refused, or of the entry's end
+refused_there : (begun end : ℕ) (left rest : List TokenSeen) (e : RecordError) → end ≡ begun → rest ≡ left → IsErrorAt (next_place left end) e → IsErrorAt (next_place rest begun) e
+refused_there begun end left rest e same kept h = h ∙ (λ i. error_at (next_place (sym kept i) (same i)) e.kind)
+
+pub in_field_too : (field offset : ℕ) (e : RecordError) → IsErrorAt offset e → IsErrorInField field offset (error_in_field field e)
+in_field_too field offset e h = ap (error_in_field field) h
 
 module _ (origin : Option (List (List ℕ))) where
   pub none_taken : (tokens : List TokenSeen) (old : List ℕ) → HasTaken origin [] tokens old tokens old
@@ -44,18 +54,26 @@ module _ (origin : Option (List (List ℕ))) where
   all_taken fields place tokens left old new from to h =
       let same : place ≡ length fields = omega (arith, from, to) in subst (λ fs. HasTaken origin fs tokens old left new) (ap (λ n. take n fields) same ∙ take-length fields) h
 
-  pub refused_at : (room : Room) (fields : List Field) (d : Field) (begun end : ℕ) (tokens left rest : List TokenSeen) (old middle new : List ℕ) (place : ℕ) (r : Refusal) → end ≡ begun → place < length fields
-      → HasTaken origin (take place fields) tokens old left middle → TakesField origin room (get_or fields place d) end left middle (Err r) rest new
-      → RefusesAField origin room fields begun tokens old (record { field = place; refusal = r }) rest new
-  refused_at room fields d begun end tokens left rest old middle new place r same here h k = record {
-    field = get_or fields place d;
-    is_field = slice_get-get_or fields place d here;
-    middle = middle;
-    before = subst (λ l. HasTaken origin (take place fields) tokens old l middle) (sym k.0) h;
-    at = k.1 ∙ ap (λ l. next_place l end) (sym k.0) ∙ ap (next_place rest) same;
-    why = subst (λ l. RefusesNext origin room (get_or fields place d) l middle r.why) (sym k.0) k.2;
-    extends = k.3;
-  }
+  pub refused_first : (room : Room) (f : Field) (end : ℕ) (t : TokenSeen) (tokens : List TokenSeen) (old new : List ℕ) (at : ℕ) (why : ErrorKind) → Some t ≡ slice_get tokens 0 → at ≡ next_place tokens end
+      → RefusesNext origin room f (t ∷ []) old why → Extends old new → TakesField origin room f end tokens old (Err (error_at at why)) tokens new
+  refused_first room f end t [] old new at why h is refused extends = absurd (none-some t (sym h))
+  refused_first room f end t (u ∷ us) old new at why h is refused extends =
+      let same : t ≡ u = cc h in (refl, ap (λ n. error_at n why) is, subst (λ v. RefusesNext origin room f (v ∷ []) old why) same refused, extends)
+
+  pub refused_at : (room : Room) (fields : List Field) (d : Field) (begun end : ℕ) (tokens left rest : List TokenSeen) (old middle new : List ℕ) (place : ℕ) (e : RecordError) → end ≡ begun → place < length fields
+      → HasTaken origin (take place fields) tokens old left middle → TakesField origin room (get_or fields place d) end left middle (Err e) rest new
+      → RefusesAField origin room fields tokens old place e.kind rest new × IsErrorAt (next_place rest begun) e
+  refused_at room fields d begun end tokens left rest old middle new place e same here h k = (
+    record {
+      field = get_or fields place d;
+      is_field = slice_get-get_or fields place d here;
+      middle = middle;
+      before = subst (λ l. HasTaken origin (take place fields) tokens old l middle) (sym k.0) h;
+      why = subst (λ l. RefusesNext origin room (get_or fields place d) l middle e.kind) (sym k.0) k.2;
+      extends = k.3;
+    },
+    refused_there begun end left rest e same k.0 k.1,
+  )
 
   replicate_more : {A : Type 0} (count : ℕ) (x : A) → replicate count x ++ x ∷ [] ≡ replicate (suc count) x
   replicate_more zero x = refl
@@ -87,17 +105,20 @@ module _ (origin : Option (List (List ℕ))) where
   get_last zero x = refl
   get_last (suc count) x = get_last count x
 
-  refused_last : (f : Field) (tokens : List TokenSeen) (old : List ℕ) (room : Room) (count begun end : ℕ) (left rest : List TokenSeen) (middle new : List ℕ) (r : Refusal) → end ≡ begun
-      → HasTaken origin (replicate count f) tokens old left middle → TakesField origin room f end left middle (Err r) rest new → RefusesAField origin room (replicate (suc count) f) begun tokens old (record { field = count; refusal = r }) rest new
-  refused_last f tokens old room count begun end left rest middle new r same h k = record {
-    field = f;
-    is_field = get_last count f;
-    middle = middle;
-    before = subst (λ fs. HasTaken origin fs tokens old rest middle) (sym (take_last count f)) (subst (λ l. HasTaken origin (replicate count f) tokens old l middle) (sym k.0) h);
-    at = k.1 ∙ ap (λ l. next_place l end) (sym k.0) ∙ ap (next_place rest) same;
-    why = subst (λ l. RefusesNext origin room f l middle r.why) (sym k.0) k.2;
-    extends = k.3;
-  }
+  refused_last : (f : Field) (tokens : List TokenSeen) (old : List ℕ) (room : Room) (count begun end : ℕ) (left rest : List TokenSeen) (middle new : List ℕ) (e : RecordError) → end ≡ begun
+      → HasTaken origin (replicate count f) tokens old left middle → TakesField origin room f end left middle (Err e) rest new
+      → RefusesAField origin room (replicate (suc count) f) tokens old count e.kind rest new × IsErrorAt (next_place rest begun) e
+  refused_last f tokens old room count begun end left rest middle new e same h k = (
+    record {
+      field = f;
+      is_field = get_last count f;
+      middle = middle;
+      before = subst (λ fs. HasTaken origin fs tokens old rest middle) (sym (take_last count f)) (subst (λ l. HasTaken origin (replicate count f) tokens old l middle) (sym k.0) h);
+      why = subst (λ l. RefusesNext origin room f l middle e.kind) (sym k.0) k.2;
+      extends = k.3;
+    },
+    refused_there begun end left rest e same k.0 k.1,
+  )
 
   -- so many tokens are taken, each as the same field
   abbrev pub HasTakenSome : Field → List TokenSeen → List ℕ → List TokenSeen → List ℕ → Type 0
@@ -118,6 +139,13 @@ module _ (origin : Option (List (List ℕ))) where
         let same : h.0 ≡ length h.1.taken = sym (length-replicate h.0 f) ∙ as_many (replicate h.0 f) h.1.taken h.1.octets h.1.spelled in
         (h.1.octets, subst (λ ts. SpellsEach origin f ts h.1.octets) (sym whole) (subst (λ n. SpellsFields origin (replicate n f) h.1.taken h.1.octets) same h.1.spelled), h.1.gained)
 
-    pub some_refused : (room : Room) (begun end : ℕ) (left rest : List TokenSeen) (middle new : List ℕ) (r : Refusal) → end ≡ begun → HasTakenSome f tokens old left middle
-        → TakesField origin room f end left middle (Err r) rest new → (count : ℕ) × RefusesAField origin room (replicate (suc count) f) begun tokens old (record { field = count; refusal = r }) rest new
-    some_refused room begun end left rest middle new r same h k = (h.0, refused_last f tokens old room h.0 begun end left rest middle new r same h.1 k)
+    pub some_refused : (room : Room) (begun end : ℕ) (left rest : List TokenSeen) (middle new : List ℕ) (e : RecordError) → end ≡ begun → HasTakenSome f tokens old left middle
+        → TakesField origin room f end left middle (Err e) rest new
+        → (count : ℕ) × RefusesAField origin room (replicate (suc count) f) tokens old count e.kind rest new × IsErrorAt (next_place rest begun) e
+    some_refused room begun end left rest middle new e same h k = let last = refused_last f tokens old room h.0 begun end left rest middle new e same h.1 k in (h.0, last.0, last.1)
+
+    -- the error that is returned is that of the field
+    pub refused_with : (room : Room) (end : ℕ) (rest : List TokenSeen) (new : List ℕ) (r : Result (Unit {0}) RecordError) (e : RecordError) → IsErrAnd r (λ d. d ≡ e)
+        → TakesEachAs origin room f end tokens old (Err e) rest new → TakesEachAs origin room f end tokens old r rest new
+    refused_with room end rest new (Ok u) e h k = absurd h
+    refused_with room end rest new (Err d) e h k = subst (λ x. TakesEachAs origin room f end tokens old (Err x) rest new) (sym h) k

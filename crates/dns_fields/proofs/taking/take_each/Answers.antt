@@ -1,14 +1,16 @@
 use Rattle.std.proofs.Common.{◌∙◌, sym, ap}
 use Rattle.dns_fields.proofs.Tokens.{none_left}
-use Rattle.dns_fields.proofs.Takings.{some_more, some_all, some_refused}
+use Rattle.dns_fields.proofs.Takings.{some_more, some_all, some_refused, refused_with}
 use Rattle.dns_fields.proofs.taking.take_each.Goals as goal
 
-pub returns-in-Err-clause-takes : goal.returns-in-Err-clause-takes
-returns-in-Err-clause-takes g c = some_refused _ c.args.field _ _ g.B.OctetsBuilder.room _ _ _ _ _ _ c.in-Err.refusal (ap (λ e. e.at) c.loop-field.invariant.end) c.loop-field.invariant.taken c.in-Err.ensures.takes
+pub returns-in_err-take_field-clause-takes : goal.returns-in_err-take_field-clause-takes
+returns-in_err-take_field-clause-takes g c =
+    let refused = some_refused _ c.args.field _ _ g.B.OctetsBuilder.room _ _ _ _ _ _ c.in_err-take_field.field-0.0 (ap (λ e. e.at) c.loop-field.invariant.end) c.loop-field.invariant.taken c.in_err-take_field.ensures.takes in
+    refused_with _ c.args.field _ _ g.B.OctetsBuilder.room _ _ _ c.from_residual.result _ c.from_residual.ensures.1 refused
 
 pub loop-field-preserved : goal.loop-field-preserved
 loop-field-preserved g c = record {
-  taken = some_more _ c.args.field _ _ _ _ _ _ c.loop-field.invariant.taken c.in_default.ensures.takes;
+  taken = some_more _ c.args.field _ _ _ _ _ _ c.loop-field.invariant.taken c.in_ok-take_field.ensures.takes;
   end = c.take_field.ensures.end ∙ c.loop-field.invariant.end;
 }
 

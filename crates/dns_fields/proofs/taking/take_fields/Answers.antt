@@ -1,6 +1,6 @@
 use Rattle.std.proofs.Common.{◌≡◌, ◌-◌, length, drop, refl, ◌∙◌, ap, arith}
 use Rattle.dns_fields.specs.Source.{next_place}
-use Rattle.dns_fields.proofs.Takings.{none_taken, taken_next, next_last, all_taken, refused_at}
+use Rattle.dns_fields.proofs.Takings.{none_taken, taken_next, next_last, all_taken, refused_at, in_field_too}
 use Rattle.dns_fields.proofs.taking.take_fields.Goals as goal
 
 pub loop-place-init : goal.loop-place-init
@@ -8,7 +8,8 @@ loop-place-init g c = record { taken = none_taken _ _ _; end = refl; last = c.pl
 
 pub returns-in-Err-clause-takes : goal.returns-in-Err-clause-takes
 returns-in-Err-clause-takes g c =
-    refused_at _ g.B.OctetsBuilder.room c.args.fields.now _ _ _ _ _ _ _ _ _ c.loop-place.place c.in-Err.refusal (ap (λ e. e.at) c.loop-place.invariant.end) c.loop-place-test.true c.loop-place.invariant.taken c.in-Err.ensures.takes
+    let refused = refused_at _ g.B.OctetsBuilder.room c.args.fields.now _ _ _ _ _ _ _ _ _ c.loop-place.place c.in-Err.error (ap (λ e. e.at) c.loop-place.invariant.end) c.loop-place-test.true c.loop-place.invariant.taken c.in-Err.ensures.takes in
+    rw c.in_field.ensures (c.loop-place.place, refused.0, in_field_too c.loop-place.place _ c.in-Err.error refused.1)
 
 pub returns-in-Err-clause-end : goal.returns-in-Err-clause-end
 returns-in-Err-clause-end g c = c.take_field.ensures.end ∙ c.loop-place.invariant.end
