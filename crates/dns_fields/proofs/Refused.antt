@@ -1,5 +1,5 @@
 -- Tokens of which one was refused as a field spell no fields, but for lack of room.
-use Rattle.std.proofs.Common.{ℕ, zero, suc, replicate, Option, Some, None, ◌≡◌, ◌≢◌, ◌<◌, ◌+◌, ◌⊎◌, List, [], ◌∷◌, ◌++◌, length, take, drop, refl, sym, ap, subst, ◌∙◌, inl, inr, arith, length-append}
+use Rattle.std.proofs.Common.{ℕ, zero, suc, replicate, Option, Some, ◌≡◌, ◌≢◌, ◌<◌, ◌+◌, List, [], ◌∷◌, ◌++◌, length, take, drop, refl, sym, ap, subst, ◌∙◌, inl, inr, arith, length-append}
 use Rattle.std.proofs.lemmas.List.{append_assoc}
 use Rattle.std.proofs.lemmas.Option.{none-some}
 use Rattle.std.specs.Prelude.{slice_get}
@@ -7,7 +7,7 @@ use Rattle.dns_octets.specs.Room.{Room}
 use Rattle.dns_split.specs.EntryTokens.{TokenSeen}
 use Rattle.dns_fields.proofs.Takings.{as_many, take_last, get_last}
 use Rattle.std.proofs.lemmas.List.{length-replicate}
-use Rattle.dns_fields.specs.Taking.{SpellsEach, SpellsField, SpellsFields, HasTaken, RefusesAField, RefusesNext}
+use Rattle.dns_fields.specs.Taking.{SpellsEach, SpellsField, SpellsFields, RefusesAField, RefusesNext}
 use Rattle.dns_kinds.specs.declared.error.ErrorKind.{ErrorKind}
 use Rattle.dns_kinds.specs.declared.error.ErrorKind.TheVariants.{ShortBuf}
 use Rattle.dns_fields.specs.declared.field.Field.{Field}
