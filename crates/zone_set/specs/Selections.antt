@@ -1,5 +1,5 @@
 -- Which records are taken, by their types.
-use Rattle.std.specs.Prelude.{Bool, ◌==◌, ◌&&◌, ◌||◌, not, if◌then◌else◌, List, length}
+use Rattle.std.specs.Prelude.{◌≡◌, Bool, false, ◌==◌, ◌&&◌, ◌||◌, not, if◌then◌else◌, List, [], length}
 use Rattle.std.specs.List.{list_any}
 use Rattle.dns_kinds.specs.Rtype as Rtype
 use Rattle.dns_kinds.specs.declared.types.RecordType.{RecordType}
@@ -20,3 +20,7 @@ takes_signing s rtype = if list_any (λ t. t == rtype) dnssec_types then not s.w
 
 abbrev pub is_selected : Selection → RecordType → Bool
 is_selected s rtype = is_wanted s.types.now rtype && takes_soa s rtype && takes_signing s rtype
+
+-- no types are listed, and none are left out
+abbrev pub IsUnlimited : Selection → Type 0
+IsUnlimited s = (s.types.now ≡ []) × (s.without_soa ≡ false) × (s.without_dnssec ≡ false) × (s.only_dnssec ≡ false)

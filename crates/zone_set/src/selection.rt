@@ -1,6 +1,6 @@
 //! Which records of a zone are taken, by their types.
 ghost use Rattle.std.specs.Prelude.{◌≡◌};
-ghost use Rattle.zone_set.specs.Selections.{is_selected, is_wanted, takes_signing, takes_soa};
+ghost use Rattle.zone_set.specs.Selections.{IsUnlimited, is_selected, is_wanted, takes_signing, takes_soa};
 
 use crate::dnssec::is_dnssec;
 use dns_kinds::RecordType;
@@ -26,13 +26,17 @@ fn is_wanted(types: &[RecordType], rtype: RecordType) -> bool
 }
 
 impl Selection<'_> {
-    /// All records.
-    pub const ALL: Selection<'static> = Selection {
-        types: &[],
-        without_soa: false,
-        without_dnssec: false,
-        only_dnssec: false,
-    };
+    /// Returns the selection that takes all records.
+    pub fn all() -> Selection<'static>
+        ensures { IsUnlimited result }
+    {
+        Selection {
+            types: &[],
+            without_soa: false,
+            without_dnssec: false,
+            only_dnssec: false,
+        }
+    }
 
     /// Whether a type is taken where all are wanted but SOAs.
     fn takes_soa(&self, rtype: RecordType) -> bool
