@@ -8,7 +8,7 @@ use Rattle.dns_fields.specs.Words.{NumberReason}
 use Rattle.dns_lists.specs.ParamsFaults.{IsParamsFault}
 use Rattle.dns_spelling.specs.Spelling.{SpellsToBadEscape}
 use Rattle.dns_split.specs.EntryTokens.{TokenSeen}
-use Rattle.dns_fields.specs.RecordErrors.{error_at}
+use Rattle.dns_fields.specs.RecordErrors.{IsErrorAt}
 use Rattle.dns_fields.specs.Source.{next_place}
 use Rattle.dns_fields.specs.declared.record_error.RecordError.{RecordError}
 use Rattle.dns_params.specs.Keys.{NamesKey}
@@ -70,4 +70,4 @@ ParamsReason left e = ParamReason left e ⊎ ((left ≡ []) × ((octets : List �
 
 -- a token is refused, or the entry's end: the octets of the parameters don't surely fit, or the tokens spell none
 abbrev pub RefusesParams : Room → ℕ → List TokenSeen → List ℕ → RecordError → List TokenSeen → Type 0
-RefusesParams room end tokens old r left = (r ≡ error_at (next_place left end) r.kind) × RefusesSpelled room (SpellsParams tokens) (ParamsReason left) old r.kind
+RefusesParams room end tokens old r left = IsErrorAt (next_place left end) r × RefusesSpelled room (SpellsParams tokens) (ParamsReason left) old r.kind

@@ -3,7 +3,7 @@ use Rattle.std.specs.Prelude.{ℕ, ◌≡◌, ◌≤◌, ◌⊎◌, List, [], Op
 use Rattle.dns_octets.specs.Room.{Room}
 use Rattle.dns_octets.specs.Appending.{LacksRoom}
 use Rattle.dns_split.specs.EntryTokens.{TokenSeen}
-use Rattle.dns_fields.specs.RecordErrors.{error_at}
+use Rattle.dns_fields.specs.RecordErrors.{IsErrorAt}
 use Rattle.dns_fields.specs.Source.{next_place}
 use Rattle.dns_fields.specs.declared.record_error.RecordError.{RecordError}
 use Rattle.dns_places.specs.declared.angles.Axis.{Axis}
@@ -137,4 +137,4 @@ RefusesAll room tokens left old e =
 
 -- a refusal is at the first token that is left, or at the entry's end
 abbrev pub RefusesLocation : Room → ℕ → List TokenSeen → List TokenSeen → List ℕ → RecordError → Type 0
-RefusesLocation room end tokens left old r = (r ≡ error_at (next_place left end) r.kind) × RefusesAll room tokens left old r.kind
+RefusesLocation room end tokens left old r = IsErrorAt (next_place left end) r × RefusesAll room tokens left old r.kind
