@@ -1,8 +1,9 @@
 -- Gateways of IPSECKEY that are no names (RFC 4025 section 2.5).
-use Rattle.std.specs.Prelude.{ℕ, ◌≡◌, ◌++◌, List, [], codes, Option, MatchOption}
+use Rattle.std.specs.Prelude.{ℕ, ◌≡◌, ◌≤◌, ◌-◌, ◌++◌, List, [], codes, length, Option, MatchOption}
 use Rattle.std.specs.Net.Addr.{ipv4_octets, ipv6_octets, ipv6_segments, IsIpv4Addr, IsIpv6Addr}
 use Rattle.std.specs.Net.Grammar.{IsIpv4Text, IsIpv6Text}
 use Rattle.std.specs.Net.Text.{ipv4_text}
+use Rattle.dns_octets.specs.Room.{Room}
 use Rattle.dns_kinds.specs.Addresses.{shown_ipv6}
 use Rattle.dns_places.specs.declared.gateway.Gateway.{Gateway}
 use Rattle.dns_places.specs.declared.gateway.Gateway.TheVariants.{Nothing, Ipv4, Ipv6}
@@ -36,6 +37,13 @@ abbrev pub gateway_octets : Gateway → List ℕ
 gateway_octets Nothing = []
 gateway_octets (Ipv4 a) = ipv4_octets a
 gateway_octets (Ipv6 a) = ipv6_octets a
+
+-- its octets stand after old ones; and they surely fit there
+abbrev pub AppendsGateway : Gateway → List ℕ → List ℕ → Type 0
+AppendsGateway g old new = new ≡ old ++ gateway_octets g
+
+abbrev pub GatewayFits : Room → Gateway → List ℕ → Type 0
+GatewayFits room g old = length (gateway_octets g) ≤ room.fits - length old
 
 -- octets begin with a gateway of this type
 abbrev pub FrontGateway : ℕ → List ℕ → Gateway → Type 0

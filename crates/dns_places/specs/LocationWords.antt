@@ -1,5 +1,5 @@
 -- The octets that a location can have, and the words that it is printed as.
-use Rattle.std.specs.Prelude.{ℕ, ◌≡◌, ◌<◌, ◌≤◌, ◌+◌, ◌-◌, ◌*◌, ◌/◌, ◌%◌, ◌^◌, nat_lt, false, if◌then◌else◌, List, [], ◌∷◌, ◌++◌, codes, decimal}
+use Rattle.std.specs.Prelude.{ℕ, ◌≡◌, ◌<◌, ◌≤◌, ◌+◌, ◌-◌, ◌*◌, ◌/◌, ◌%◌, ◌^◌, nat_lt, false, if◌then◌else◌, List, [], ◌∷◌, ◌++◌, codes, decimal, map, Option, MatchOption}
 use Rattle.dns_split.specs.EntryTokens.{TokenSeen}
 use Rattle.dns_places.specs.declared.angles.Axis.{Axis}
 use Rattle.dns_places.specs.declared.angles.Axis.TheVariants.{Latitude, Longitude}
@@ -81,6 +81,28 @@ word_text East = codes "E"
 word_text West = codes "W"
 word_text (Altitude n) = altitude_word n
 word_text (Size o) = size_word o
+
+-- octets are those of a location; or of none
+abbrev pub HasLocation : List ℕ → Type 0
+HasLocation octets = (l : Location) × IsLocation octets l
+
+abbrev pub LacksLocation : List ℕ → Type 0
+LacksLocation octets = (l : Location) → IsLocation octets l → ⊥
+
+-- the numbers of octets, found if they are those of any
+abbrev pub FindsNumbers : List ℕ → Option Location → Type 0
+FindsNumbers octets r = MatchOption r ((l : Location) → octets ≡ location_octets l → ⊥) (λ l. octets ≡ location_octets l)
+
+-- the words of the location of octets, found if they are those of one
+abbrev pub AreWordsOf : List ℕ → List LocationWord → Type 0
+AreWordsOf octets words = (l : Location) × IsLocation octets l × (map word_text words ≡ location_words l)
+
+-- some tokens spell these octets; or none do
+abbrev pub IsSpelled : List ℕ → Type 0
+IsSpelled octets = (tokens : List TokenSeen) × SpellsLocation tokens octets
+
+abbrev pub IsUnspelled : List ℕ → Type 0
+IsUnspelled octets = (tokens : List TokenSeen) → SpellsLocation tokens octets → ⊥
 
 -- ---- laws
 

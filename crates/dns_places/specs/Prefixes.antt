@@ -5,8 +5,13 @@ use Rattle.std.specs.Net.Grammar.{IsIpText}
 use Rattle.std.specs.Net.Text.{ipv4_text}
 use Rattle.std.specs.declared.net.ip_addr.IpAddr.{IpAddr}
 use Rattle.std.specs.declared.net.ip_addr.IpAddr.TheVariants.{V4, V6}
+use Rattle.dns_octets.specs.Room.{Room}
+use Rattle.dns_octets.specs.Appending.{Gains, LacksRoom}
 use Rattle.dns_kinds.specs.Addresses.{shown_ipv6}
 use Rattle.dns_kinds.specs.Numbers.{SpellsNumber}
+use Rattle.dns_kinds.specs.declared.error.ErrorKind.{ErrorKind}
+use Rattle.dns_kinds.specs.declared.error.ErrorKind.TheVariants.{ExpectedPrefix}
+use Rattle.dns_places.specs.Refusals.{WhyNot}
 use Rattle.dns_places.specs.declared.apl.Prefix.{Prefix}
 use Rattle.dns_places.specs.declared.apl.Item.{Item}
 
@@ -93,9 +98,23 @@ pub record IsPrefixWire (p : Prefix) (octets : List ℕ) : Type 0 where
   pub is_part : IsAddressPart part (address_octets p.address)
   pub written : octets ≡ 0 ∷ family_of p.address ∷ p.bits ∷ (exclusion_bit p.negated + length part) ∷ part
 
+-- octets gained those of an item; or they don't surely fit
+abbrev pub GainsPrefix : Prefix → List ℕ → List ℕ → Type 0
+GainsPrefix p old new = Gains (IsPrefixWire p) old new
+
+abbrev pub PrefixLacksRoom : Room → Prefix → List ℕ → Type 0
+PrefixLacksRoom room p old = LacksRoom room (IsPrefixWire p) old
+
 -- a text spells an item of these octets
 abbrev pub SpellsItem : List ℕ → List ℕ → Type 0
 SpellsItem text octets = (p : Prefix) × SpellsPrefix text p × IsPrefixWire p octets
+
+-- octets gained those of the item that a text spells; or this is why not
+abbrev pub GainsItem : List ℕ → List ℕ → List ℕ → Type 0
+GainsItem text old new = Gains (SpellsItem text) old new
+
+abbrev pub RefusesItem : Room → List ℕ → List ℕ → ErrorKind → Type 0
+RefusesItem room text old e = WhyNot room (SpellsItem text) ExpectedPrefix old e
 
 -- octets begin with an item
 pub record BeginsWithItem (octets : List ℕ) (p : Prefix) : Type 0 where
@@ -120,12 +139,22 @@ pub record HasPart (octets part : List ℕ) : Type 0 where
   pub part_is : take (length part) (drop 4 octets) ≡ part
   pub end : HasNoZeroAtEnd part
 
+abbrev pub LacksPart : List ℕ → Type 0
+LacksPart octets = (part : List ℕ) → HasPart octets part → ⊥
+
 -- the item that octets begin with, and how many of them are its own
 abbrev pub IsItemOf : List ℕ → Prefix → ℕ → Type 0
 IsItemOf octets p width = IsPrefix p × (width ≤ length octets) × IsPrefixWire p (take width octets)
 
+-- octets begin with no item
+abbrev pub LacksItem : List ℕ → Type 0
+LacksItem octets = (p : Prefix) → BeginsWithItem octets p → ⊥
+
 abbrev pub FindsItem : List ℕ → Option Item → Type 0
-FindsItem octets r = MatchOption r ((p : Prefix) → BeginsWithItem octets p → ⊥) (λ i. IsItemOf octets i.prefix i.width)
+FindsItem octets r = MatchOption r (LacksItem octets) (λ i. IsItemOf octets i.prefix i.width)
+
+abbrev pub FindsWidth : List ℕ → Option ℕ → Type 0
+FindsWidth octets r = MatchOption r (LacksItem octets) (λ width. (p : Prefix) × IsItemOf octets p width)
 
 -- What an item is printed as spells it, and a text spells one. An item has one wire form, and octets
 -- begin with one item.

@@ -1,14 +1,12 @@
 //! Items of address prefix lists (RFC 3123).
-ghost use Rattle.std.specs.Prelude.{◌≡◌, ◌≢◌, ℕ, ◌<◌, ◌≤◌, ◌^◌, OnOk, OnErr, IfErr, MatchBool, MatchOption, length, take, drop, slice_index, List, Some};
+ghost use Rattle.std.specs.Prelude.{◌≡◌, ◌≢◌, ℕ, ◌<◌, ◌≤◌, ◌^◌, OnOk, OnErr, IfErr, MatchBool, MatchOption, length, take, slice_index, Some};
 ghost use Rattle.std.specs.declared.net.ip_addr.IpAddr.{IpAddr};
 ghost use Rattle.std.specs.declared.net.ip_addr.IpAddr.TheVariants.{V6};
 ghost use Rattle.std.specs.Net.Addr.{IsIpv6Addr};
-ghost use Rattle.dns_octets.specs.Appending.{Extends, Gains, LacksRoom};
+ghost use Rattle.dns_octets.specs.Appending.{Extends};
 ghost use Rattle.dns_kinds.specs.Kind.{ReadsKind};
 ghost use Rattle.dns_kinds.specs.declared.error.ErrorKind.TheVariants.{ExpectedPrefix};
-ghost use Rattle.dns_places.specs.Refusals.{WhyNot};
-ghost use Rattle.dns_places.specs.Prefixes.{family_of, address_octets, address_bits, IsAddress, FindsNumber, IsAddressText, FindsAddress, FindsPlain, SpellsPrefix, IsAddressPart, IsPrefix, IsPrefixWire, SpellsItem, prefix_text, exclusion, exclusion_bit, HasNoZeroAtEnd, HasPart, BeginsWithItem, FindsAddressOf, IsItemOf, FindsItem, PrefixesAreRead};
-ghost use Rattle.dns_places.specs.declared.apl.Prefix.{Prefix};
+ghost use Rattle.dns_places.specs.Prefixes.{family_of, address_octets, address_bits, IsAddress, FindsNumber, IsAddressText, FindsAddress, FindsPlain, SpellsPrefix, IsAddressPart, GainsPrefix, PrefixLacksRoom, GainsItem, RefusesItem, prefix_text, exclusion, exclusion_bit, HasNoZeroAtEnd, HasPart, LacksPart, BeginsWithItem, FindsAddressOf, LacksItem, FindsItem, FindsWidth, PrefixesAreRead};
 
 use crate::marks::{around_first, around_last};
 use dns_kinds::ErrorKind;
@@ -142,9 +140,9 @@ impl Prefix {
     fn append_part<B: OctetsBuilder>(&self, octets: &[u8], target: &mut B) -> Result<(), ShortBuf>
         requires octets { octets.now ≡ address_octets self.now.address }
         requires few { length octets.now ≤ 16 }
-        ensures ok { OnOk result (Gains (IsPrefixWire self.now) (B.octets target.old) (B.octets target.new)) }
+        ensures ok { OnOk result (GainsPrefix self.now (B.octets target.old) (B.octets target.new)) }
         ensures err { OnErr result (Extends (B.octets target.old) (B.octets target.new)) }
-        ensures why { OnErr result (LacksRoom B.room (IsPrefixWire self.now) (B.octets target.old)) }
+        ensures why { OnErr result (PrefixLacksRoom B.room self.now (B.octets target.old)) }
     {
         let count = used(octets);
         let exclusion = exclusion_octet(self.negated);
@@ -157,9 +155,9 @@ impl Prefix {
     /// Appends the octets of the item. Refused, the target has its old octets, and perhaps some of
     /// these behind them.
     pub fn compose<B: OctetsBuilder>(&self, target: &mut B) -> Result<(), ShortBuf>
-        ensures ok { OnOk result (Gains (IsPrefixWire self.now) (B.octets target.old) (B.octets target.new)) }
+        ensures ok { OnOk result (GainsPrefix self.now (B.octets target.old) (B.octets target.new)) }
         ensures err { OnErr result (Extends (B.octets target.old) (B.octets target.new)) }
-        ensures why { OnErr result (LacksRoom B.room (IsPrefixWire self.now) (B.octets target.old)) }
+        ensures why { OnErr result (PrefixLacksRoom B.room self.now (B.octets target.old)) }
     {
         match self.address {
             IpAddr::V4(address) => self.append_part(&address.octets(), target),
@@ -230,7 +228,7 @@ fn address_of_part(family: u8, part: &[u8]) -> Option<IpAddr>
 
 /// The part of an address in the item that octets begin with.
 fn part_of(octets: &[u8]) -> Option<&[u8]>
-    ensures { MatchOption result ((part : List ℕ) → HasPart octets.now part → ⊥) (λ part. HasPart octets.now part.now) }
+    ensures { MatchOption result (LacksPart octets.now) (λ part. HasPart octets.now part.now) }
 {
     if octets.len() < 4 {
         return None;
@@ -273,7 +271,7 @@ fn first_item(octets: &[u8]) -> Option<Item>
 impl Prefix {
     /// The item that octets begin with, if they do, in the one form that an item has.
     pub fn from_octets(octets: &[u8]) -> Option<Prefix>
-        ensures { MatchOption result ((p : Prefix) → BeginsWithItem octets.now p → ⊥) (λ p. BeginsWithItem octets.now p) }
+        ensures { MatchOption result (LacksItem octets.now) (BeginsWithItem octets.now) }
     {
         Some(first_item(octets)?.prefix)
     }
@@ -281,7 +279,7 @@ impl Prefix {
 
 /// How many octets the item has that octets begin with, if they begin with one.
 pub fn item_width(octets: &[u8]) -> Option<usize>
-    ensures { MatchOption result ((p : Prefix) → BeginsWithItem octets.now p → ⊥) (λ width. (p : Prefix) × IsItemOf octets.now p width) }
+    ensures { FindsWidth octets.now result }
 {
     Some(first_item(octets)?.width)
 }
@@ -289,9 +287,9 @@ pub fn item_width(octets: &[u8]) -> Option<usize>
 /// Appends the octets of the item that a text writes. Refused, the target has its old octets, and
 /// perhaps some of these behind them.
 pub fn append_prefix<B: OctetsBuilder>(text: &[u8], target: &mut B) -> Result<(), ErrorKind>
-    ensures ok { OnOk result (Gains (SpellsItem text.now) (B.octets target.old) (B.octets target.new)) }
+    ensures ok { OnOk result (GainsItem text.now (B.octets target.old) (B.octets target.new)) }
     ensures err { OnErr result (Extends (B.octets target.old) (B.octets target.new)) }
-    ensures why { IfErr result (WhyNot B.room (SpellsItem text.now) ExpectedPrefix (B.octets target.old)) }
+    ensures why { IfErr result (RefusesItem B.room text.now (B.octets target.old)) }
 {
     let prefix = Prefix::from_text(text)?;
     prefix.compose(target)?;

@@ -219,10 +219,12 @@ pub fn take_location<S: TokenSource, B: OctetsBuilder>(
     source: &mut S,
     target: &mut B,
 ) -> Result<(), RecordError>
-    ensures ok { OnOk result (Gains (SpellsLocation (S.left source.old)) (B.octets target.old) (B.octets target.new)) }
+    ensures ok { OnOk result (Gains (SpellsLocation (S.left source.old))
+        (B.octets target.old) (B.octets target.new)) }
     ensures taken { OnOk result (S.left source.new ≡ []) }
     ensures err { OnErr result (B.octets target.new ≡ B.octets target.old) }
-    ensures why { IfErr result (RefusesLocation B.room (S.end source.old).at (S.left source.old) (S.left source.new) (B.octets target.old)) }
+    ensures why { IfErr result (RefusesLocation B.room (S.end source.old).at
+        (S.left source.old) (S.left source.new) (B.octets target.old)) }
     ensures end { S.end source.new ≡ S.end source.old }
 {
     match read_location(source) {

@@ -1,8 +1,7 @@
 //! The words that locations print as.
 ghost use Rattle.std.specs.Prelude.{◌≡◌, ◌≤◌, ◌*◌, ◌^◌, Some, MatchOption, map};
 ghost use Rattle.std.specs.Fmt.{WritesOnOk};
-ghost use Rattle.dns_places.specs.LocationWords.{IsLocation, angle_from, angle_words, side_word, seconds_word, metres_word, altitude_word, size_word, location_words, word_text, LocationsAreRead};
-ghost use Rattle.dns_places.specs.declared.location.Location.{Location};
+ghost use Rattle.dns_places.specs.LocationWords.{LacksLocation, AreWordsOf, angle_from, angle_words, side_word, seconds_word, metres_word, altitude_word, size_word, word_text, LocationsAreRead};
 
 use crate::angles::{Axis, DEGREE, MINUTE, ZERO_ANGLE};
 use crate::heights::ZERO_ALTITUDE;
@@ -136,7 +135,7 @@ fn angle_words(axis: Axis, number: u32) -> [LocationWord; 4]
 /// The words that the location of these octets is printed as, if they are those of one: `52`, `22`,
 /// `23.000`, `N`, `4`, `53`, `32.000`, `E`, `-2.00m`, `0.00m`, `10000m` and `10m`.
 pub fn location_words(octets: &[u8]) -> Option<[LocationWord; 12]>
-    ensures { MatchOption result ((l : Location) → IsLocation octets.now l → ⊥) (λ words. (l : Location) × IsLocation octets.now l × (map word_text words ≡ location_words l)) }
+    ensures { MatchOption result (LacksLocation octets.now) (AreWordsOf octets.now) }
 {
     let location = location_of(octets)?;
     let [a, b, c, d] = angle_words(Axis::Latitude, location.latitude);

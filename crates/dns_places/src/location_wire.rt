@@ -1,10 +1,7 @@
 //! Locations as octets.
-ghost use Rattle.std.specs.Prelude.{◌≡◌, ◌<◌, ◌≤◌, ◌+◌, ◌^◌, List, IfSome, MatchBool, MatchOption, length, take, drop};
+ghost use Rattle.std.specs.Prelude.{◌≡◌, ◌<◌, ◌≤◌, ◌+◌, ◌^◌, IfSome, MatchBool, MatchOption, length, take, drop};
 ghost use Rattle.std.specs.Int.{to_be_bytes, w32};
-ghost use Rattle.dns_split.specs.EntryTokens.{TokenSeen};
-ghost use Rattle.dns_places.specs.Locations.{SpellsLocation, location_octets};
-ghost use Rattle.dns_places.specs.LocationWords.{IsAngleNumber, IsSize, ArePossible, IsPossible, IsLocation};
-ghost use Rattle.dns_places.specs.declared.location.Location.{Location};
+ghost use Rattle.dns_places.specs.LocationWords.{IsAngleNumber, IsSize, ArePossible, IsPossible, IsLocation, HasLocation, LacksLocation, FindsNumbers, IsSpelled, IsUnspelled};
 
 use crate::angles::{Axis, DEGREE, ZERO_ANGLE, most_degrees};
 use crate::location::{Location, Sizes};
@@ -19,7 +16,7 @@ fn number_at(octets: &[u8], at: usize) -> u32
 
 /// The numbers of sixteen octets that begin with a version of 0.
 fn numbers_of(octets: &[u8]) -> Option<Location>
-    ensures found { MatchOption result ((l : Location) → octets.now ≡ location_octets l → ⊥) (λ l. octets.now ≡ location_octets l) }
+    ensures found { FindsNumbers octets.now result }
     ensures altitude { IfSome result (λ l. l.altitude < 2 ^ 32) }
 {
     if octets.len() != 16 || octets[0] != 0 {
@@ -75,7 +72,7 @@ fn is_possible(location: &Location) -> bool
 
 /// The location of these octets, if they are those of one.
 pub(crate) fn location_of(octets: &[u8]) -> Option<Location>
-    ensures { MatchOption result ((l : Location) → IsLocation octets.now l → ⊥) (IsLocation octets.now) }
+    ensures { MatchOption result (LacksLocation octets.now) (IsLocation octets.now) }
 {
     let location = numbers_of(octets)?;
     if is_possible(&location) {
@@ -88,8 +85,8 @@ pub(crate) fn location_of(octets: &[u8]) -> Option<Location>
 /// Whether these are the octets of a location, which tokens can spell: version 0, sizes of decimal
 /// digits, and angles within bounds.
 pub fn is_location(octets: &[u8]) -> bool
-    ensures possible { MatchBool result ((l : Location) × IsLocation octets.now l) ((l : Location) → IsLocation octets.now l → ⊥) }
-    ensures spelled { MatchBool result ((tokens : List TokenSeen) × SpellsLocation tokens octets.now) ((tokens : List TokenSeen) → SpellsLocation tokens octets.now → ⊥) }
+    ensures possible { MatchBool result (HasLocation octets.now) (LacksLocation octets.now) }
+    ensures spelled { MatchBool result (IsSpelled octets.now) (IsUnspelled octets.now) }
 {
     location_of(octets).is_some()
 }

@@ -1,6 +1,5 @@
 //! Texts around a mark.
-ghost use Rattle.std.specs.Prelude.{◌≡◌, ◌∷◌, ◌++◌, MatchOption};
-ghost use Rattle.dns_places.specs.Marks.{LacksMark};
+ghost use Rattle.dns_places.specs.Marks.{FindsFirst, FindsLast};
 
 /// A text before a mark and behind it.
 #[derive(Clone, Copy)]
@@ -11,7 +10,7 @@ pub(crate) struct Parts<'a> {
 
 /// A text around the first such mark in it.
 pub(crate) fn around_first(text: &[u8], mark: u8) -> Option<Parts<'_>>
-    ensures { MatchOption result (LacksMark mark text.now) (λ p. (text.now ≡ p.before.now ++ mark ∷ p.after.now) × LacksMark mark p.before.now) }
+    ensures { FindsFirst mark text.now result }
 {
     for (index, byte) in text.iter().enumerate() {
         if *byte == mark {
@@ -26,7 +25,7 @@ pub(crate) fn around_first(text: &[u8], mark: u8) -> Option<Parts<'_>>
 
 /// A text around the last such mark in it.
 pub(crate) fn around_last(text: &[u8], mark: u8) -> Option<Parts<'_>>
-    ensures { MatchOption result (LacksMark mark text.now) (λ p. (text.now ≡ p.before.now ++ mark ∷ p.after.now) × LacksMark mark p.after.now) }
+    ensures { FindsLast mark text.now result }
 {
     let mut end = text.len();
     while end > 0 {
