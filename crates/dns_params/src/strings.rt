@@ -108,10 +108,7 @@ fn append_item<'a, B: OctetsBuilder>(text: &'a [u8], target: &mut B) -> Result<&
 }
 
 /// Appends the strings of a list, each behind its length.
-pub(crate) fn append_strings<B: OctetsBuilder>(
-    text: &[u8],
-    target: &mut B,
-) -> Result<(), ErrorKind>
+pub(crate) fn append_strings<B: OctetsBuilder>(text: &[u8], target: &mut B) -> Result<(), ErrorKind>
     ensures ok { OnOk result (Gains (SpellsStrings text.now) (B.octets target.old) (B.octets target.new)) }
     ensures err { IfErr result (RefusesSpelled B.room (SpellsStrings text.now) StringsReason (B.octets target.old)) }
     ensures extends { OnErr result (Extends (B.octets target.old) (B.octets target.new)) }

@@ -1,4 +1,5 @@
 use Rattle.std.proofs.Common.{ap, inr, length, refl, sym, ◌∙◌}
+use Rattle.dns_fields.specs.RecordErrors.{error_at}
 use Rattle.dns_fields.specs.Source.{next_place}
 use Rattle.dns_fields.proofs.Tokens.{none_left}
 use Rattle.dns_params.proofs.ParamParts.{part_behind}
@@ -32,8 +33,9 @@ loop-source-preserved g c =
 pub returns-in-Err-clause-err : goal.returns-in-Err-clause-err
 returns-in-Err-clause-err g c =
     let left = g.S.TokenSource.left in let octets = g.B.AsOctets.octets in let i = c.loop-source.invariant in
-    let some = some_left c.current.result (left c.loop-source.source) c.current.ensures (sym c.is_some.ensures ∙ c.loop-source-test.true) in (
-      c.place-at.ensures ∙ ap (λ e. next_place (left c.take_param.new.source) e.at) (c.take_param.ensures.end ∙ i.end),
+    let some = some_left c.current.result (left c.loop-source.source) c.current.ensures (sym c.is_some.ensures ∙ c.loop-source-test.true) in
+    rw c.at.ensures (
+      ap (λ p. error_at p c.in-Err.why) (c.place.ensures ∙ ap (λ e. next_place (left c.take_param.new.source) e.at) (c.take_param.ensures.end ∙ i.end)),
       next_refused g.B.OctetsBuilder.room (left c.args.source.now) (left c.loop-source.source) (left c.take_param.new.source) (length c.as_slice-start.result.now) (octets c.args.target.now) (octets c.loop-source.target)
           c.in-Err.why i.taken i.start some c.in-Err.ensures.err,
     )
@@ -56,11 +58,12 @@ pub returns-in-Err-check_params-clause-err : goal.returns-in-Err-check_params-cl
 returns-in-Err-check_params-clause-err g c =
     let old = g.B.AsOctets.octets c.args.target.now in let new = g.B.AsOctets.octets c.loop-source.target in
     let i = c.loop-source.invariant in let left = g.S.TokenSource.left c.loop-source.source in
-    let none = none_left c.current.result left c.current.ensures (sym c.is_some.ensures ∙ c.loop-source-test.false) in (
-      c.place-at-in-Err-check_params.ensures ∙ ap (λ e. next_place left e.at) i.end,
+    let none = none_left c.current.result left c.current.ensures (sym c.is_some.ensures ∙ c.loop-source-test.false) in let bad = c.in-Err-check_params in
+    rw c.at-in-Err-check_params.ensures (
+      ap (λ p. error_at p bad.why) (c.place-in-Err-check_params.ensures ∙ ap (λ e. next_place left e.at) i.end),
       inr (
-        inr (none, (c.in-Err-check_params.fault, refl)),
+        inr (none, (_, bad.ensures.fault)),
         none_right (g.S.TokenSource.left c.args.source.now) left old new _ i.taken none
-            (λ octets e. part_behind new c.as_slice.result.now old octets (length c.as_slice-start.result.now) c.as_slice.ensures.value e i.start) c.in-Err-check_params.ensures.err,
+            (λ octets e. part_behind new c.as_slice.result.now old octets (length c.as_slice-start.result.now) c.as_slice.ensures.value e i.start) bad.ensures.err,
       ),
     )
