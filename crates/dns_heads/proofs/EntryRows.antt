@@ -3,6 +3,7 @@ use Rattle.std.proofs.Common.{ℕ, false, List, [], ◌∷◌, inl, inr, Some, N
 use Rattle.std.specs.Prelude.{codes}
 use Rattle.std.proofs.lemmas.List.Elements.{All-nil, All-cons}
 use Rattle.dns_fields.specs.RecordErrors.{error_at}
+use Rattle.dns_kinds.specs.Rtype as Rtype
 use Rattle.dns_kinds.specs.Ttl.{Period, IsPeriod}
 use Rattle.dns_kinds.specs.Types.{type_rows}
 use Rattle.dns_kinds.specs.declared.error.ErrorKind.TheVariants.{UnknownType}
@@ -61,12 +62,12 @@ six at = (refl, (6, ((omega arith, inl ((omega arith, (omega arith, tt)), refl))
 internet : (at : ℕ) → SaysClass (word_at (codes "IN") at) 1
 internet at = (refl, refl)
 
-address : (at : ℕ) → SaysType (word_at (codes "A") at) 1
+address : (at : ℕ) → SaysType (word_at (codes "A") at) Rtype.a
 unfolding type_rows
 address at = (refl, refl)
 
 -- w 1h30m A
-units_row : let w = word_at (codes "w") 0 in EntrySays false 9 (w ∷ word_at (codes "1h30m") 2 ∷ word_at (codes "A") 8 ∷ []) (says_record (Some w) (Ok (record { ttl = Some 5400; class = None; rtype = 1 })) [])
+units_row : let w = word_at (codes "w") 0 in EntrySays false 9 (w ∷ word_at (codes "1h30m") 2 ∷ word_at (codes "A") 8 ∷ []) (says_record (Some w) (Ok (record { ttl = Some 5400; class = None; rtype = Rtype.a })) [])
 units_row =
     let t = word_at (codes "1h30m") 2 in
     let a = word_at (codes "A") 8 in
@@ -74,12 +75,12 @@ units_row =
       head = t ∷ [];
       whole = refl;
       is = record { front = t ∷ []; back = []; whole = refl; order = inl (hour_and_half 2, refl) };
-      ends = (λ e. cc, λ e n h. apart.class_and_type a n 1 h (address 8));
+      ends = (λ e. cc, λ e n h. apart.class_and_type a n Rtype.a h (address 8));
     } in
-    (Ok (record { ttl = Some 5400; class = None; rtype = 1 }), [], (a, head, address 8), refl)
+    (Ok (record { ttl = Some 5400; class = None; rtype = Rtype.a }), [], (a, head, address 8), refl)
 
 -- 60 IN A: its owner is 60
-owner_row : let owner = word_at (codes "60") 0 in EntrySays false 7 (owner ∷ word_at (codes "IN") 3 ∷ word_at (codes "A") 6 ∷ []) (says_record (Some owner) (Ok (record { ttl = None; class = Some 1; rtype = 1 })) [])
+owner_row : let owner = word_at (codes "60") 0 in EntrySays false 7 (owner ∷ word_at (codes "IN") 3 ∷ word_at (codes "A") 6 ∷ []) (says_record (Some owner) (Ok (record { ttl = None; class = Some 1; rtype = Rtype.a })) [])
 owner_row =
     let c = word_at (codes "IN") 3 in
     let a = word_at (codes "A") 6 in
@@ -87,12 +88,12 @@ owner_row =
       head = c ∷ [];
       whole = refl;
       is = record { front = []; back = c ∷ []; whole = refl; order = inl (refl, internet 3) };
-      ends = (λ e n h. apart.ttl_and_type a n 1 h (address 6), λ e. cc);
+      ends = (λ e n h. apart.ttl_and_type a n Rtype.a h (address 6), λ e. cc);
     } in
-    (Ok (record { ttl = None; class = Some 1; rtype = 1 }), [], (a, head, address 6), refl)
+    (Ok (record { ttl = None; class = Some 1; rtype = Rtype.a }), [], (a, head, address 6), refl)
 
 -- w IN 5 A
-class_first_row : let w = word_at (codes "w") 0 in EntrySays false 8 (w ∷ word_at (codes "IN") 2 ∷ word_at (codes "5") 5 ∷ word_at (codes "A") 7 ∷ []) (says_record (Some w) (Ok (record { ttl = Some 5; class = Some 1; rtype = 1 })) [])
+class_first_row : let w = word_at (codes "w") 0 in EntrySays false 8 (w ∷ word_at (codes "IN") 2 ∷ word_at (codes "5") 5 ∷ word_at (codes "A") 7 ∷ []) (says_record (Some w) (Ok (record { ttl = Some 5; class = Some 1; rtype = Rtype.a })) [])
 class_first_row =
     let c = word_at (codes "IN") 2 in
     let t = word_at (codes "5") 5 in
@@ -103,7 +104,7 @@ class_first_row =
       is = record { front = c ∷ []; back = t ∷ []; whole = refl; order = inr (internet 2, five 5) };
       ends = (λ e. cc, λ e. cc);
     } in
-    (Ok (record { ttl = Some 5; class = Some 1; rtype = 1 }), [], (a, head, address 7), refl)
+    (Ok (record { ttl = Some 5; class = Some 1; rtype = Rtype.a }), [], (a, head, address 7), refl)
 
 -- w 5 IN 6 A: the second time to live is an unknown type
 second_ttl_row : let w = word_at (codes "w") 0 in let six = word_at (codes "6") 7 in let a = word_at (codes "A") 9 in
