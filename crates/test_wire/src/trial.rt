@@ -55,6 +55,12 @@ impl Trial {
         })
     }
 
+    /// Begins anew: nothing is tried.
+    pub fn restart(&mut self) {
+        self.count = 0;
+        self.are_same = true;
+    }
+
     /// How many of the octets that were tried are data.
     pub fn count(&self) -> usize {
         self.count

@@ -105,7 +105,7 @@ pub fn find(
     let alloc = rt.alloc();
     let finder = Finder {
         alloc,
-        gatherer: Gatherer::new(alloc, Selection::ALL),
+        gatherer: Gatherer::new(alloc, Selection::all()),
         found: Vec::new(alloc),
     };
     let Outcome {

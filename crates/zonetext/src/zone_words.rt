@@ -174,7 +174,7 @@ fn compare<'o>(rt: &HostRuntime, inner: &'o ArgMatches) -> Result<u8, Usage<'o>>
     let selection = Selection {
         without_soa: inner.get_flag("no-soa"),
         without_dnssec: inner.get_flag("no-dnssec"),
-        ..Selection::ALL
+        ..Selection::all()
     };
     let output = changes::Output {
         is_summary: inner.get_flag("summary"),
