@@ -98,8 +98,8 @@ abbrev pub AreWordsOf : List ℕ → List LocationWord → Type 0
 AreWordsOf octets words = (l : Location) × IsLocation octets l × (map word_text words ≡ location_words l)
 
 -- some tokens spell these octets; or none do
-abbrev pub IsSpelled : List ℕ → Type 0
-IsSpelled octets = (tokens : List TokenSeen) × SpellsLocation tokens octets
+abbrev pub IsSpelledLocation : List ℕ → Type 0
+IsSpelledLocation octets = (tokens : List TokenSeen) × SpellsLocation tokens octets
 
 abbrev pub IsUnspelled : List ℕ → Type 0
 IsUnspelled octets = (tokens : List TokenSeen) → SpellsLocation tokens octets → ⊥

@@ -113,8 +113,8 @@ SpellsItem text octets = (p : Prefix) × SpellsPrefix text p × IsPrefixWire p o
 abbrev pub GainsItem : List ℕ → List ℕ → List ℕ → Type 0
 GainsItem text old new = Gains (SpellsItem text) old new
 
-abbrev pub RefusesItem : Room → List ℕ → List ℕ → ErrorKind → Type 0
-RefusesItem room text old e = WhyNot room (SpellsItem text) ExpectedPrefix old e
+abbrev pub RefusesPrefix : Room → List ℕ → List ℕ → ErrorKind → Type 0
+RefusesPrefix room text old e = WhyNot room (SpellsItem text) ExpectedPrefix old e
 
 -- octets begin with an item
 pub record BeginsWithItem (octets : List ℕ) (p : Prefix) : Type 0 where
@@ -153,8 +153,8 @@ LacksItem octets = (p : Prefix) → BeginsWithItem octets p → ⊥
 abbrev pub FindsItem : List ℕ → Option Item → Type 0
 FindsItem octets r = MatchOption r (LacksItem octets) (λ i. IsItemOf octets i.prefix i.width)
 
-abbrev pub FindsWidth : List ℕ → Option ℕ → Type 0
-FindsWidth octets r = MatchOption r (LacksItem octets) (λ width. (p : Prefix) × IsItemOf octets p width)
+abbrev pub FindsItemWidth : List ℕ → Option ℕ → Type 0
+FindsItemWidth octets r = MatchOption r (LacksItem octets) (λ width. (p : Prefix) × IsItemOf octets p width)
 
 -- What an item is printed as spells it, and a text spells one. An item has one wire form, and octets
 -- begin with one item.

@@ -6,7 +6,7 @@ ghost use Rattle.std.specs.Net.Addr.{IsIpv6Addr};
 ghost use Rattle.dns_octets.specs.Appending.{Extends};
 ghost use Rattle.dns_kinds.specs.Kind.{ReadsKind};
 ghost use Rattle.dns_kinds.specs.declared.error.ErrorKind.TheVariants.{ExpectedPrefix};
-ghost use Rattle.dns_places.specs.Prefixes.{family_of, address_octets, address_bits, IsAddress, FindsNumber, IsAddressText, FindsAddress, FindsPlain, SpellsPrefix, IsAddressPart, GainsPrefix, PrefixLacksRoom, GainsItem, RefusesItem, prefix_text, exclusion, exclusion_bit, HasNoZeroAtEnd, HasPart, LacksPart, BeginsWithItem, FindsAddressOf, LacksItem, FindsItem, FindsWidth, PrefixesAreRead};
+ghost use Rattle.dns_places.specs.Prefixes.{family_of, address_octets, address_bits, IsAddress, FindsNumber, IsAddressText, FindsAddress, FindsPlain, SpellsPrefix, IsAddressPart, GainsPrefix, PrefixLacksRoom, GainsItem, RefusesPrefix, prefix_text, exclusion, exclusion_bit, HasNoZeroAtEnd, HasPart, LacksPart, BeginsWithItem, FindsAddressOf, LacksItem, FindsItem, FindsItemWidth, PrefixesAreRead};
 
 use crate::marks::{around_first, around_last};
 use dns_kinds::ErrorKind;
@@ -279,7 +279,7 @@ impl Prefix {
 
 /// How many octets the item has that octets begin with, if they begin with one.
 pub fn item_width(octets: &[u8]) -> Option<usize>
-    ensures { FindsWidth octets.now result }
+    ensures { FindsItemWidth octets.now result }
 {
     Some(first_item(octets)?.width)
 }
@@ -289,7 +289,7 @@ pub fn item_width(octets: &[u8]) -> Option<usize>
 pub fn append_prefix<B: OctetsBuilder>(text: &[u8], target: &mut B) -> Result<(), ErrorKind>
     ensures ok { OnOk result (GainsItem text.now (B.octets target.old) (B.octets target.new)) }
     ensures err { OnErr result (Extends (B.octets target.old) (B.octets target.new)) }
-    ensures why { IfErr result (RefusesItem B.room text.now (B.octets target.old)) }
+    ensures why { IfErr result (RefusesPrefix B.room text.now (B.octets target.old)) }
 {
     let prefix = Prefix::from_text(text)?;
     prefix.compose(target)?;

@@ -1,7 +1,7 @@
 //! Locations as octets.
 ghost use Rattle.std.specs.Prelude.{◌≡◌, ◌<◌, ◌≤◌, ◌+◌, ◌^◌, IfSome, MatchBool, MatchOption, length, take, drop};
 ghost use Rattle.std.specs.Int.{to_be_bytes, w32};
-ghost use Rattle.dns_places.specs.LocationWords.{IsAngleNumber, IsSize, ArePossible, IsPossible, IsLocation, HasLocation, LacksLocation, FindsNumbers, IsSpelled, IsUnspelled};
+ghost use Rattle.dns_places.specs.LocationWords.{IsAngleNumber, IsSize, ArePossible, IsPossible, IsLocation, HasLocation, LacksLocation, FindsNumbers, IsSpelledLocation, IsUnspelled};
 
 use crate::angles::{Axis, DEGREE, ZERO_ANGLE, most_degrees};
 use crate::location::{Location, Sizes};
@@ -86,7 +86,7 @@ pub(crate) fn location_of(octets: &[u8]) -> Option<Location>
 /// digits, and angles within bounds.
 pub fn is_location(octets: &[u8]) -> bool
     ensures possible { MatchBool result (HasLocation octets.now) (LacksLocation octets.now) }
-    ensures spelled { MatchBool result (IsSpelled octets.now) (IsUnspelled octets.now) }
+    ensures spelled { MatchBool result (IsSpelledLocation octets.now) (IsUnspelled octets.now) }
 {
     location_of(octets).is_some()
 }
