@@ -1,10 +1,14 @@
 -- Texts apart by commas.
-use Rattle.std.specs.Prelude.{◌≡◌, ◌≢◌, ℕ, ◌<◌, List, [], ◌∷◌, ◌++◌, length, All, slice_index, Option, Some, None}
+use Rattle.std.specs.Prelude.{◌≡◌, ◌≢◌, ℕ, ◌<◌, List, [], ◌∷◌, ◌++◌, length, All, slice_index, Option, Some, None, MatchOption}
 use Rattle.std.specs.List.{flat_map, AllZip}
 
 -- a text has no such mark
 abbrev pub IsWithout : ℕ → List ℕ → Type 0
 IsWithout mark text = (k : ℕ) → k < length text → slice_index text k ≢ mark
+
+-- a text is all before a mark, where none stands after it; or it stands around the mark
+abbrev pub SplitsAt : ℕ → List ℕ → List ℕ → Option (List ℕ) → Type 0
+SplitsAt mark text before rest = MatchOption rest (text ≡ before) (λ behind. text ≡ before ++ mark ∷ behind)
 
 -- each with a comma behind it
 abbrev pub with_commas : List (List ℕ) → List ℕ

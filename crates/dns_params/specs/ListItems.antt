@@ -1,8 +1,9 @@
 -- A list's text behind the escapes of a token.
-use Rattle.std.specs.Prelude.{ℕ, ◌≡◌, ◌≢◌, ◌+◌, ◌<◌, ◌⊎◌, true, List, [], ◌∷◌, ◌++◌, length}
+use Rattle.std.specs.Prelude.{ℕ, ◌≡◌, ◌≢◌, ◌+◌, ◌<◌, ◌⊎◌, true, List, [], ◌∷◌, ◌++◌, length, Option, MatchOption}
 use Rattle.dns_octets.specs.Room.{Room}
 use Rattle.dns_spelling.specs.Spelling.{SpellsFront, SpellsOctetList}
-use Rattle.dns_lists.specs.Texts.{is_special, item_text, IsItem}
+use Rattle.dns_lists.specs.Texts.{is_special, item_octet, item_text, IsItem}
+use Rattle.dns_params.specs.declared.strings.ItemOctet.{ItemOctet}
 use Rattle.dns_kinds.specs.declared.error.ErrorKind.{ErrorKind}
 use Rattle.dns_kinds.specs.declared.error.ErrorKind.TheVariants.{ShortBuf}
 use Rattle.dns_params.specs.ParamRefusals.{StringsReason}
@@ -10,6 +11,22 @@ use Rattle.dns_params.specs.ParamRefusals.{StringsReason}
 -- a text is at its end, or spells a comma in front
 abbrev pub EndsAtComma : List ℕ → Type 0
 EndsAtComma text = (text ≡ []) ⊎ ((rest : List ℕ) × SpellsFront text (44 ∷ []) rest)
+
+-- a text begins with an octet that stands behind a backslash
+abbrev pub SpellsSpecial : List ℕ → ItemOctet → Type 0
+SpellsSpecial text o = SpellsFront text (o.octet ∷ []) o.rest.now × (is_special o.octet ≡ true)
+
+-- a text begins with an octet of an item, unless the item ends there
+abbrev pub FindsItemOctet : List ℕ → Option ItemOctet → Type 0
+FindsItemOctet text first = MatchOption first (EndsAtComma text) (λ o. SpellsFront text (item_octet o.octet) o.rest.now)
+
+-- a text begins with all of an item, and goes on with this rest
+abbrev pub SpellsItem : List ℕ → List ℕ → List ℕ → Type 0
+SpellsItem text item rest = IsItem item × SpellsFront text (item_text item) rest × EndsAtComma rest
+
+-- octets gained the item that a text begins with, behind its length
+abbrev pub AppendsItem : List ℕ → List ℕ → List ℕ → List ℕ → Type 0
+AppendsItem text rest old new = (item : List ℕ) × IsItem item × SpellsFront text (item_text item) rest × EndsAtComma rest × (new ≡ old ++ (length item ∷ item))
 
 -- an octet that stands behind a backslash is not in front
 abbrev pub BeginsUnspecial : List ℕ → Type 0

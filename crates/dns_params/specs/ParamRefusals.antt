@@ -1,5 +1,6 @@
 -- Why a value of a service parameter is refused.
-use Rattle.std.specs.Prelude.{ℕ, ◌≡◌, ◌⊎◌, ◌^◌, true, List, [], ◌∷◌}
+use Rattle.std.specs.Prelude.{ℕ, ◌≡◌, ◌≢◌, ◌⊎◌, ◌^◌, true, List, [], ◌∷◌}
+use Rattle.std.specs.List.{AllPairs}
 use Rattle.dns_octets.specs.Room.{Room}
 use Rattle.dns_octets.specs.Appending.{LacksRoom}
 use Rattle.dns_kinds.specs.declared.error.ErrorKind.{ErrorKind}
@@ -13,6 +14,8 @@ use Rattle.dns_fields.specs.Source.{next_place}
 use Rattle.dns_fields.specs.declared.record_error.RecordError.{RecordError}
 use Rattle.dns_params.specs.Keys.{NamesKey}
 use Rattle.dns_params.specs.ParamTokens.{SplitsWord, SpellsParams}
+use Rattle.dns_params.specs.ParamValues.{NamesAKey, SpellsValue}
+use Rattle.dns_params.specs.Items.{SpellsApart}
 use Rattle.dns_params.specs.declared.keys.ValueKind.{ValueKind}
 use Rattle.dns_params.specs.declared.keys.ValueKind.TheVariants.{Keys, Strings, Nothing, Port, Ipv4, Digits, Ipv6, Octets}
 
@@ -39,6 +42,18 @@ ValueReason Ipv4 text e = e ≡ ExpectedIpv4
 ValueReason Digits text e = DigitsReason e
 ValueReason Ipv6 text e = e ≡ ExpectedIpv6
 ValueReason Octets text e = (e ≡ BadEscape) × SpellsToBadEscape text
+
+-- octets of a value that a text spells were not appended
+abbrev pub RefusesValue : Room → ValueKind → List ℕ → List ℕ → ErrorKind → Type 0
+RefusesValue room kind text old e = RefusesSpelled room (SpellsValue kind text) (ValueReason kind text) old e
+
+-- why one of several values is refused
+abbrev pub OfSomeItem : (List ℕ → ErrorKind → Type 0) → ErrorKind → Type 0
+OfSomeItem reason e = (item : List ℕ) × reason item e
+
+-- a text spells no keys that differ
+abbrev pub RefusesKeys : List ℕ → ErrorKind → Type 0
+RefusesKeys text e = KeysReason e × ((keys : List ℕ) → SpellsApart NamesAKey text keys → ¬ AllPairs (λ a b. a ≢ b) keys)
 
 -- why no value of a kind is given to a parameter beside others
 abbrev pub NewReason : ValueKind → List ℕ → ErrorKind → Type 0

@@ -3,11 +3,11 @@ use Rattle.std.specs.Prelude.{ℕ, ◌≡◌, ◌+◌, ◌<◌, ◌⊎◌, ◌^�
 use Rattle.std.specs.Int.{w16, to_be_bytes}
 use Rattle.dns_octets.specs.Room.{Room}
 use Rattle.dns_split.specs.EntryTokens.{TokenSeen}
-use Rattle.dns_lists.specs.Params.{params_wire, value_at, HasFittingValues}
+use Rattle.dns_lists.specs.Params.{params_wire, value_at, HasFittingValues, IsUnsettled}
 use Rattle.dns_lists.specs.ParamsFaults.{SettlesLast}
 use Rattle.dns_params.specs.Keys.{NamesKey}
 use Rattle.dns_params.specs.ParamValues.{SpellsValue}
-use Rattle.dns_params.specs.ParamRefusals.{RefusesSpelled, WordFault}
+use Rattle.dns_params.specs.ParamRefusals.{RefusesSpelled, FirstTokenReason, WordFault}
 use Rattle.dns_params.specs.ParamTokens.{SplitsWord, IsOpenWord, StandsApart, IsGluedText, SpellsParam, SpellsFrontParam}
 use Rattle.dns_kinds.specs.declared.error.ErrorKind.{ErrorKind}
 use Rattle.dns_params.specs.declared.keys.ValueKind.{ValueKind}
@@ -57,11 +57,21 @@ GainsParam p start old new =
 abbrev pub SettlesBehind : List ℕ → List (ℕ × List ℕ) → ℕ → List ℕ → List ℕ → Result (Unit {0}) ErrorKind → Type 0
 SettlesBehind base params key value new r = (octets : List ℕ) × (new ≡ base ++ octets) × SettlesLast params key value octets r
 
+-- whichever parameters stood before it, one that was begun was brought to its place among them; or it can't be
+abbrev pub Settles : ℕ → ℕ → List ℕ → List ℕ → Result (Unit {0}) ErrorKind → Type 0
+Settles start at old new r =
+    (base octets : List ℕ) (params : List (ℕ × List ℕ)) (key : ℕ) (value : List ℕ) → HasFittingValues params → key < 65536 → start ≡ length base
+    → at ≡ length base + length (params_wire params) → old ≡ base ++ octets → IsUnsettled params key value octets → SettlesBehind base params key value new r
+
 -- the parameter that was begun has this value
 abbrev pub SettlesValue : ℕ → ℕ → List ℕ → List ℕ → List ℕ → Type 0
 SettlesValue start at value old new =
     (base : List ℕ) (params : List (ℕ × List ℕ)) (key : ℕ) → StandsOpen base params key start at old
     → CanBeAdded params key value × (new ≡ base ++ params_wire (params ++ (key, value) ∷ []))
+
+-- a text spells a value, which was given to the parameter that was begun
+abbrev pub TakesValue : ℕ → ℕ → ValueKind → List ℕ → List ℕ → List ℕ → Type 0
+TakesValue start at kind text old new = (value : List ℕ) × SpellsValue kind text value × SettlesValue start at value old new
 
 -- no such value is given to the parameter that was begun
 abbrev pub RefusesBegun : Room → ℕ → ℕ → (List ℕ → Type 0) → (ErrorKind → Type 0) → List ℕ → ErrorKind → Type 0
@@ -109,3 +119,11 @@ SpellsNew params tokens octets =
 abbrev pub RefusesNew : Room → ℕ → List TokenSeen → (ErrorKind → Type 0) → List ℕ → ErrorKind → Type 0
 RefusesNew room start tokens reason old e =
     (base : List ℕ) (params : List (ℕ × List ℕ)) → StandsBehind base params start old → RefusesSpelled room (SpellsNew params tokens) reason old e
+
+-- nor whatever tokens follow the word that is refused
+abbrev pub RefusesParamWord : Room → ℕ → TokenSeen → List ℕ → ErrorKind → Type 0
+RefusesParamWord room start t old e = (rest : List TokenSeen) → RefusesNew room start (t ∷ rest) (FirstTokenReason t) old e
+
+-- tokens begin with a parameter, and octets gained it
+abbrev pub TakesParam : ℕ → List TokenSeen → List TokenSeen → List ℕ → List ℕ → Type 0
+TakesParam start tokens left old new = (p : ℕ × List ℕ) × SpellsFrontParam tokens p left × IsOnlyFront tokens p left × GainsParam p start old new

@@ -8,7 +8,7 @@ use Rattle.dns_kinds.specs.declared.addresses.Ipv6Shown.{Ipv6Shown}
 use Rattle.dns_codec.specs.Base.{base64}
 use Rattle.dns_digits.specs.Spelled.{SpellsDigits}
 use Rattle.dns_fields.specs.Words.{SpellsAs, SpellsBelow}
-use Rattle.dns_lists.specs.Bitmap.{has}
+use Rattle.dns_lists.specs.Bitmap.{SameTypes, has}
 use Rattle.dns_lists.specs.Texts.{IsList, list_text, wire_strings}
 use Rattle.dns_spelling.specs.Spelling.{SpellsOctetList}
 use Rattle.dns_params.specs.Items.{SpellsApart}
@@ -20,12 +20,20 @@ use Rattle.dns_params.specs.declared.keys.ValueKind.TheVariants.{Keys, Strings, 
 abbrev pub NamesAKey : List ℕ → ℕ → Type 0
 NamesAKey text key = (kind : ValueKind) × NamesKey text key kind
 
+-- a key in two octets, if it is in the list
+abbrev pub key_wire : List ℕ → ℕ → List ℕ
+key_wire keys key = cond (has keys key) (to_be_bytes w16 key) []
+
 -- each key that is in the list, in ascending order
 unfoldable pub keys_from : List ℕ → ℕ → ℕ → List ℕ
-keys_from keys first count = flat_map (λ k. cond (has keys k) (to_be_bytes w16 k) []) (range_with_len first count)
+keys_from keys first count = flat_map (key_wire keys) (range_with_len first count)
 
 abbrev pub keys_wire : List ℕ → List ℕ
 keys_wire keys = keys_from keys 0 65536
+
+-- names of keys apart by commas, each key once, are those of a set
+abbrev pub NamesKeys : List ℕ → List ℕ → Type 0
+NamesKeys text set = (keys : List ℕ) × SpellsApart NamesAKey text keys × AllPairs (λ a b. a ≢ b) keys × SameTypes set keys
 
 -- names of keys apart by commas, in any order, each key once
 pub record SpellsKeys (text octets : List ℕ) : Type 0 where

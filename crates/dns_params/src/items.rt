@@ -1,7 +1,6 @@
 //! Texts apart by commas.
-ghost use Rattle.std.specs.Prelude.{◌≡◌, ◌∷◌, ◌++◌, MatchOption};
 ghost use Rattle.std.specs.Option.{option_copied};
-ghost use Rattle.dns_params.specs.Items.{IsWithout};
+ghost use Rattle.dns_params.specs.Items.{IsWithout, SplitsAt};
 
 /// A text before a mark and behind it.
 #[derive(Clone, Copy)]
@@ -13,7 +12,7 @@ pub(crate) struct Split<'a> {
 /// A text up to the first such mark, and what stands behind it.
 pub(crate) fn split_first(text: &[u8], mark: u8) -> Split<'_>
     ensures without { IsWithout mark result.before.now }
-    ensures split { MatchOption (option_copied result.behind) (text.now ≡ result.before.now) (λ behind. text.now ≡ result.before.now ++ mark ∷ behind) }
+    ensures split { SplitsAt mark text.now result.before.now (option_copied result.behind) }
 {
     for (index, octet) in text.iter().enumerate() {
         if *octet == mark {

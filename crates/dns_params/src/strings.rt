@@ -3,13 +3,13 @@
 //! A text is read in both layers at once: each octet that the token spells is a comma, a backslash
 //! or another octet of the list's text. So what is kept is one item, of at most 255 octets, and
 //! the target has room for nothing but the list on the wire.
-ghost use Rattle.std.specs.Prelude.{◌≡◌, ℕ, ◌<◌, true, ◌∷◌, ◌++◌, [], List, length, IfOk, IfErr, OnOk, OnErr, MatchOption};
+ghost use Rattle.std.specs.Prelude.{◌≡◌, [], IfOk, IfErr, OnOk, OnErr};
 ghost use Rattle.dns_octets.specs.Appending.{Extends, Gains};
-ghost use Rattle.dns_spelling.specs.Spelling.{SpellsFront};
-ghost use Rattle.dns_lists.specs.Texts.{IsItem, is_special, item_octet, item_text};
-ghost use Rattle.dns_params.specs.ListItems.{EndsAtComma, EachList, BeginsUnspecial, BeginsBadItem, BeginsNoItem, RefusesItem};
-ghost use Rattle.dns_params.specs.ParamRefusals.{RefusesSpelled, StringsReason};
+ghost use Rattle.dns_lists.specs.Texts.{is_special};
+ghost use Rattle.dns_params.specs.ListItems.{AppendsItem, FindsItemOctet, SpellsItem, SpellsSpecial, EachList, BeginsUnspecial, BeginsBadItem, BeginsNoItem, RefusesItem};
+ghost use Rattle.dns_params.specs.ParamRefusals.{RefusesValue, StringsReason};
 ghost use Rattle.dns_params.specs.ParamValues.{SpellsStrings};
+ghost use Rattle.dns_params.specs.declared.keys.ValueKind.TheVariants.{Strings};
 
 use arrayvec::ArrayVec;
 use dns_kinds::ErrorKind;
@@ -35,7 +35,7 @@ pub(crate) fn is_escaped(octet: u8) -> bool
 
 /// The octet of an item behind a backslash in front of it.
 fn behind_backslash(text: &[u8]) -> Result<ItemOctet<'_>, ErrorKind>
-    ensures ok { IfOk result (λ o. SpellsFront (text.now) (o.octet ∷ []) o.rest.now × (is_special o.octet ≡ true)) }
+    ensures ok { IfOk result (SpellsSpecial text.now) }
     ensures err { IfErr result (λ e. StringsReason e × EachList text.now BeginsUnspecial) }
 {
     if text.is_empty() {
@@ -53,7 +53,7 @@ fn behind_backslash(text: &[u8]) -> Result<ItemOctet<'_>, ErrorKind>
 
 /// The octet of an item in front of a text: none at a comma and at the end.
 fn first_of_item(text: &[u8]) -> Result<Option<ItemOctet<'_>>, ErrorKind>
-    ensures ok { IfOk result (λ first. MatchOption first (EndsAtComma text.now) (λ o. SpellsFront text.now (item_octet o.octet) o.rest.now)) }
+    ensures ok { IfOk result (FindsItemOctet text.now) }
     ensures err { IfErr result (λ e. StringsReason e × EachList text.now BeginsBadItem) }
 {
     if text.is_empty() {
@@ -76,7 +76,7 @@ fn first_of_item(text: &[u8]) -> Result<Option<ItemOctet<'_>>, ErrorKind>
 /// Reads the item in front of a text, and gives what stands after it.
 fn read_item<'a>(text: &'a [u8], item: &mut ArrayVec<u8, MOST>) -> Result<&'a [u8], ErrorKind>
     requires { item.old.items ≡ [] }
-    ensures ok { IfOk result (λ rest. IsItem item.new.items × SpellsFront text.now (item_text item.new.items) rest.now × EndsAtComma rest.now) }
+    ensures ok { IfOk result (λ rest. SpellsItem text.now item.new.items rest.now) }
     ensures err { IfErr result (λ e. StringsReason e × EachList text.now BeginsNoItem) }
 {
     let mut rest = text;
@@ -95,8 +95,8 @@ fn read_item<'a>(text: &'a [u8], item: &mut ArrayVec<u8, MOST>) -> Result<&'a [u
 
 /// Appends the item in front of a text behind its length, and gives what stands after it.
 fn append_item<'a, B: OctetsBuilder>(text: &'a [u8], target: &mut B) -> Result<&'a [u8], ErrorKind>
-    ensures ok { IfOk result (λ rest. (item : List ℕ) × IsItem item × SpellsFront text.now (item_text item) rest.now × EndsAtComma rest.now
-        × (B.octets target.new ≡ B.octets target.old ++ (length item ∷ item))) }
+    ensures ok { IfOk result (λ rest.
+        AppendsItem text.now rest.now (B.octets target.old) (B.octets target.new)) }
     ensures err { IfErr result (RefusesItem B.room text.now (B.octets target.old)) }
     ensures extends { OnErr result (Extends (B.octets target.old) (B.octets target.new)) }
 {
@@ -109,8 +109,9 @@ fn append_item<'a, B: OctetsBuilder>(text: &'a [u8], target: &mut B) -> Result<&
 
 /// Appends the strings of a list, each behind its length.
 pub(crate) fn append_strings<B: OctetsBuilder>(text: &[u8], target: &mut B) -> Result<(), ErrorKind>
-    ensures ok { OnOk result (Gains (SpellsStrings text.now) (B.octets target.old) (B.octets target.new)) }
-    ensures err { IfErr result (RefusesSpelled B.room (SpellsStrings text.now) StringsReason (B.octets target.old)) }
+    ensures ok { OnOk result (Gains (SpellsStrings text.now)
+        (B.octets target.old) (B.octets target.new)) }
+    ensures err { IfErr result (RefusesValue B.room Strings text.now (B.octets target.old)) }
     ensures extends { OnErr result (Extends (B.octets target.old) (B.octets target.new)) }
 {
     let mut rest = append_item(text, target)?;

@@ -1,12 +1,11 @@
 //! Parameters of the tokens of an entry.
-ghost use Rattle.std.specs.Prelude.{◌≡◌, ◌≢◌, ℕ, ◌+◌, ◌≤◌, ◌<◌, List, [], ◌∷◌, ◌++◌, IfOk, IfErr, OnOk, OnErr, length};
+ghost use Rattle.std.specs.Prelude.{◌≡◌, ◌≢◌, ◌+◌, ◌≤◌, [], ◌++◌, IfOk, IfErr, OnOk, OnErr, length};
 ghost use Rattle.dns_octets.specs.Appending.{Extends, Gains, LacksRoom};
-ghost use Rattle.dns_split.specs.EntryTokens.{TokenSeen, token_seen};
-ghost use Rattle.dns_lists.specs.Params.{params_wire, HasFittingValues, IsUnsettled};
-ghost use Rattle.dns_params.specs.ParamTokens.{SpellsFrontParam, SpellsParams};
-ghost use Rattle.dns_params.specs.ParamRefusals.{NewReason, ParamReason, RefusesParams, ValueFault, FirstTokenReason};
+ghost use Rattle.dns_split.specs.EntryTokens.{token_seen};
+ghost use Rattle.dns_params.specs.ParamTokens.{SpellsParams};
+ghost use Rattle.dns_params.specs.ParamRefusals.{NewReason, ParamReason, RefusesParams, ValueFault};
 ghost use Rattle.dns_params.specs.ParamValues.{SpellsValue};
-ghost use Rattle.dns_params.specs.ParamSteps.{param_head, GainsParam, IsOnlyFront, ReadsWord, NamesNoParam, RefusesBegun, RefusesNew, SettlesBehind, SettlesValue, SpellsOpenValue, TakesParamWord, TakesQuoted};
+ghost use Rattle.dns_params.specs.ParamSteps.{param_head, ReadsWord, NamesNoParam, RefusesBegun, RefusesNew, RefusesParamWord, Settles, SpellsOpenValue, TakesParam, TakesParamWord, TakesQuoted, TakesValue};
 
 use crate::items::split_first;
 use crate::keys::{SpelledKey, ValueKind, key_from_text};
@@ -59,7 +58,8 @@ fn read_word<'a>(token: &EntryToken<'a>) -> Result<ParamWord<'a>, ErrorKind>
 fn append_head<B: OctetsBuilder>(key: u16, target: &mut B) -> Result<(), ShortBuf>
     ensures ok { OnOk result (B.octets target.new ≡ B.octets target.old ++ param_head key) }
     ensures err { OnErr result (B.octets target.new ≡ B.octets target.old) }
-    ensures lacks { OnErr result (LacksRoom B.room (λ octets. octets ≡ param_head key) (B.octets target.old)) }
+    ensures lacks { OnErr result (LacksRoom B.room
+        (λ octets. octets ≡ param_head key) (B.octets target.old)) }
 {
     let [high, low] = key.to_be_bytes();
     target.append_slice(&[high, low, 0, 0])
@@ -74,8 +74,7 @@ fn settle<B: OctetsBuilder + AsOctetsMut>(
 ) -> Result<(), ErrorKind>
     requires behind { start ≤ at }
     requires within { at + 4 ≤ length (B.octets target.old) }
-    ensures settled { (base octets : List ℕ) (params : List (ℕ × List ℕ)) (key : ℕ) (value : List ℕ) → HasFittingValues params → key < 65536 → start ≡ length base
-        → at ≡ length base + length (params_wire params) → B.octets target.old ≡ base ++ octets → IsUnsettled params key value octets → SettlesBehind base params key value (B.octets target.new) result }
+    ensures settled { Settles start at (B.octets target.old) (B.octets target.new) result }
     ensures err { OnErr result (B.octets target.new ≡ B.octets target.old) }
 {
     let octets = target.as_slice_mut();
@@ -93,8 +92,10 @@ fn take_value<B: OctetsBuilder + AsOctetsMut>(
 ) -> Result<(), ErrorKind>
     requires behind { start ≤ at }
     requires within { at + 4 ≤ length (B.octets target.old) }
-    ensures ok { OnOk result ((value : List ℕ) × SpellsValue kind text.now value × SettlesValue start at value (B.octets target.old) (B.octets target.new)) }
-    ensures err { IfErr result (RefusesBegun B.room start at (SpellsValue kind text.now) (NewReason kind text.now) (B.octets target.old)) }
+    ensures ok { OnOk result (TakesValue start at kind text.now
+        (B.octets target.old) (B.octets target.new)) }
+    ensures err { IfErr result (RefusesBegun B.room start at (SpellsValue kind text.now)
+        (NewReason kind text.now) (B.octets target.old)) }
     ensures extends { OnErr result (Extends (B.octets target.old) (B.octets target.new)) }
 {
     append_value(kind, text, target)?;
@@ -109,8 +110,10 @@ fn take_word<B: OctetsBuilder + AsOctetsMut>(
     target: &mut B,
 ) -> Result<Option<ValueKind>, ErrorKind>
     requires { start ≤ length (B.octets target.old) }
-    ensures ok { IfOk result (TakesParamWord start (token_seen token.now) (B.octets target.old) (B.octets target.new)) }
-    ensures err { IfErr result (λ e. (rest : List TokenSeen) → RefusesNew B.room start (token_seen token.now ∷ rest) (FirstTokenReason (token_seen token.now)) (B.octets target.old) e) }
+    ensures ok { IfOk result (TakesParamWord start (token_seen token.now)
+        (B.octets target.old) (B.octets target.new)) }
+    ensures err { IfErr result (RefusesParamWord B.room start (token_seen token.now)
+        (B.octets target.old)) }
     ensures extends { OnErr result (Extends (B.octets target.old) (B.octets target.new)) }
 {
     let at = target.as_slice().len();
@@ -136,8 +139,10 @@ fn take_quoted<S: TokenSource, B: OctetsBuilder + AsOctetsMut>(
 ) -> Result<(), ErrorKind>
     requires behind { start ≤ at }
     requires within { at + 4 ≤ length (B.octets target.old) }
-    ensures ok { OnOk result (TakesQuoted start at kind (S.left source.old) (S.left source.new) (B.octets target.old) (B.octets target.new)) }
-    ensures err { IfErr result (RefusesBegun B.room start at (SpellsOpenValue kind (S.left source.old)) ValueFault (B.octets target.old)) }
+    ensures ok { OnOk result (TakesQuoted start at kind (S.left source.old) (S.left source.new)
+        (B.octets target.old) (B.octets target.new)) }
+    ensures err { IfErr result (RefusesBegun B.room start at
+        (SpellsOpenValue kind (S.left source.old)) ValueFault (B.octets target.old)) }
     ensures extends { OnErr result (Extends (B.octets target.old) (B.octets target.new)) }
     ensures end { S.end source.new ≡ S.end source.old }
 {
@@ -160,9 +165,10 @@ fn take_param<S: TokenSource, B: OctetsBuilder + AsOctetsMut>(
 ) -> Result<(), ErrorKind>
     requires some { S.left source.old ≢ [] }
     requires start { start ≤ length (B.octets target.old) }
-    ensures ok { OnOk result ((p : ℕ × List ℕ) × SpellsFrontParam (S.left source.old) p (S.left source.new)
-        × IsOnlyFront (S.left source.old) p (S.left source.new) × GainsParam p start (B.octets target.old) (B.octets target.new)) }
-    ensures err { IfErr result (RefusesNew B.room start (S.left source.old) (ParamReason (S.left source.new)) (B.octets target.old)) }
+    ensures ok { OnOk result (TakesParam start (S.left source.old) (S.left source.new)
+        (B.octets target.old) (B.octets target.new)) }
+    ensures err { IfErr result (RefusesNew B.room start (S.left source.old)
+        (ParamReason (S.left source.new)) (B.octets target.old)) }
     ensures extends { OnErr result (Extends (B.octets target.old) (B.octets target.new)) }
     ensures end { S.end source.new ≡ S.end source.old }
 {
@@ -188,9 +194,11 @@ pub fn take_params<S: TokenSource, B: OctetsBuilder + AsOctetsMut>(
     source: &mut S,
     target: &mut B,
 ) -> Result<(), RecordError>
-    ensures ok { OnOk result (Gains (SpellsParams (S.left source.old)) (B.octets target.old) (B.octets target.new)) }
+    ensures ok { OnOk result (Gains (SpellsParams (S.left source.old))
+        (B.octets target.old) (B.octets target.new)) }
     ensures taken { OnOk result (S.left source.new ≡ []) }
-    ensures err { IfErr result (λ r. RefusesParams B.room (S.end source.old).at (S.left source.old) (B.octets target.old) r (S.left source.new)) }
+    ensures err { IfErr result (λ r. RefusesParams B.room (S.end source.old).at
+        (S.left source.old) (B.octets target.old) r (S.left source.new)) }
     ensures extends { OnErr result (Extends (B.octets target.old) (B.octets target.new)) }
     ensures end { S.end source.new ≡ S.end source.old }
 {

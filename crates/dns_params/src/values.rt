@@ -1,14 +1,11 @@
 //! Values of parameters (RFC 9460 sections 7 and 8).
-ghost use Rattle.std.specs.Prelude.{◌≡◌, ◌≢◌, ℕ, ◌++◌, [], List, IfErr, OnOk, OnErr, cond};
-ghost use Rattle.std.specs.Int.{w16, to_be_bytes};
-ghost use Rattle.std.specs.List.{AllPairs};
+ghost use Rattle.std.specs.Prelude.{◌≡◌, ◌≢◌, ◌++◌, [], IfErr, OnOk, OnErr};
 ghost use Rattle.dns_octets.specs.Appending.{Extends, Gains, LacksRoom};
 ghost use Rattle.dns_fields.specs.Words.{SpellsAs};
 ghost use Rattle.dns_kinds.specs.declared.error.ErrorKind.TheVariants.{UnexpectedValue};
-ghost use Rattle.dns_lists.specs.Bitmap.{SameTypes, has};
-ghost use Rattle.dns_params.specs.Items.{SpellsApart};
-ghost use Rattle.dns_params.specs.ParamRefusals.{KeysReason, RefusesSpelled, ValueReason};
-ghost use Rattle.dns_params.specs.ParamValues.{NamesAKey, SpellsKeys, SpellsValues, SpellsValue, keys_wire};
+ghost use Rattle.dns_params.specs.ParamRefusals.{OfSomeItem, RefusesKeys, RefusesSpelled, RefusesValue};
+ghost use Rattle.dns_params.specs.ParamValues.{NamesKeys, SpellsKeys, SpellsValues, SpellsValue, key_wire, keys_wire};
+ghost use Rattle.dns_params.specs.declared.keys.ValueKind.TheVariants.{Keys};
 
 use crate::items::split_first;
 use crate::keys::{ValueKind, key_from_text};
@@ -26,8 +23,10 @@ fn append_one<W: Word + Drop, B: OctetsBuilder>(
     text: &[u8],
     target: &mut B,
 ) -> Result<(), ErrorKind>
-    ensures ok { OnOk result (Gains (SpellsAs W.valid W.spells W.wire text.now) (B.octets target.old) (B.octets target.new)) }
-    ensures err { IfErr result (RefusesSpelled B.room (SpellsAs W.valid W.spells W.wire text.now) (W.reason text.now) (B.octets target.old)) }
+    ensures ok { OnOk result (Gains (SpellsAs W.valid W.spells W.wire text.now)
+        (B.octets target.old) (B.octets target.new)) }
+    ensures err { IfErr result (RefusesSpelled B.room (SpellsAs W.valid W.spells W.wire text.now)
+        (W.reason text.now) (B.octets target.old)) }
     ensures extends { OnErr result (Extends (B.octets target.old) (B.octets target.new)) }
 {
     let value = W::from_text(text)?;
@@ -40,8 +39,11 @@ fn append_each<W: Word + Drop, B: OctetsBuilder>(
     text: &[u8],
     target: &mut B,
 ) -> Result<(), ErrorKind>
-    ensures ok { OnOk result (Gains (SpellsValues (SpellsAs W.valid W.spells W.wire) text.now) (B.octets target.old) (B.octets target.new)) }
-    ensures err { IfErr result (RefusesSpelled B.room (SpellsValues (SpellsAs W.valid W.spells W.wire) text.now) (λ e. (item : List ℕ) × W.reason item e) (B.octets target.old)) }
+    ensures ok { OnOk result (Gains (SpellsValues (SpellsAs W.valid W.spells W.wire) text.now)
+        (B.octets target.old) (B.octets target.new)) }
+    ensures err { IfErr result (RefusesSpelled B.room
+        (SpellsValues (SpellsAs W.valid W.spells W.wire) text.now)
+        (OfSomeItem W.reason) (B.octets target.old)) }
     ensures extends { OnErr result (Extends (B.octets target.old) (B.octets target.new)) }
 {
     let mut left = Some(text);
@@ -56,8 +58,8 @@ fn append_each<W: Word + Drop, B: OctetsBuilder>(
 /// Adds the keys that names apart by commas spell to a set of none.
 fn read_keys(text: &[u8], keys: &mut CodeSet) -> Result<(), ErrorKind>
     requires { keys.old ≡ [] }
-    ensures ok { OnOk result ((spelled : List ℕ) × SpellsApart NamesAKey text.now spelled × AllPairs (λ a b. a ≢ b) spelled × SameTypes keys.new spelled) }
-    ensures err { IfErr result (λ e. KeysReason e × ((spelled : List ℕ) → SpellsApart NamesAKey text.now spelled → ¬ AllPairs (λ a b. a ≢ b) spelled)) }
+    ensures ok { OnOk result (NamesKeys text.now keys.new) }
+    ensures err { IfErr result (RefusesKeys text.now) }
 {
     let mut left = Some(text);
     while let Some(rest) = left {
@@ -76,9 +78,10 @@ fn read_keys(text: &[u8], keys: &mut CodeSet) -> Result<(), ErrorKind>
 
 /// Appends a key in two octets if it is in a set.
 fn append_if<B: OctetsBuilder>(keys: &CodeSet, key: u16, target: &mut B) -> Result<(), ShortBuf>
-    ensures ok { OnOk result (B.octets target.new ≡ B.octets target.old ++ cond (has keys.now key) (to_be_bytes w16 key) []) }
+    ensures ok { OnOk result (B.octets target.new ≡ B.octets target.old ++ key_wire keys.now key) }
     ensures err { OnErr result (B.octets target.new ≡ B.octets target.old) }
-    ensures lacks { OnErr result (LacksRoom B.room (λ octets. octets ≡ cond (has keys.now key) (to_be_bytes w16 key) []) (B.octets target.old)) }
+    ensures lacks { OnErr result (LacksRoom B.room
+        (λ octets. octets ≡ key_wire keys.now key) (B.octets target.old)) }
 {
     if keys.contains(key) {
         target.append_slice(&key.to_be_bytes())?;
@@ -89,7 +92,8 @@ fn append_if<B: OctetsBuilder>(keys: &CodeSet, key: u16, target: &mut B) -> Resu
 /// Appends the keys of a set, in ascending order.
 fn append_set<B: OctetsBuilder>(keys: &CodeSet, target: &mut B) -> Result<(), ShortBuf>
     ensures ok { OnOk result (B.octets target.new ≡ B.octets target.old ++ keys_wire keys.now) }
-    ensures lacks { OnErr result (LacksRoom B.room (λ octets. octets ≡ keys_wire keys.now) (B.octets target.old)) }
+    ensures lacks { OnErr result (LacksRoom B.room
+        (λ octets. octets ≡ keys_wire keys.now) (B.octets target.old)) }
     ensures extends { OnErr result (Extends (B.octets target.old) (B.octets target.new)) }
 {
     for key in 0..keys.end() {
@@ -100,8 +104,9 @@ fn append_set<B: OctetsBuilder>(keys: &CodeSet, target: &mut B) -> Result<(), Sh
 
 /// Appends the keys that names apart by commas spell, in ascending order.
 fn append_keys<B: OctetsBuilder>(text: &[u8], target: &mut B) -> Result<(), ErrorKind>
-    ensures ok { OnOk result (Gains (SpellsKeys text.now) (B.octets target.old) (B.octets target.new)) }
-    ensures err { IfErr result (RefusesSpelled B.room (SpellsKeys text.now) KeysReason (B.octets target.old)) }
+    ensures ok { OnOk result (Gains (SpellsKeys text.now)
+        (B.octets target.old) (B.octets target.new)) }
+    ensures err { IfErr result (RefusesValue B.room Keys text.now (B.octets target.old)) }
     ensures extends { OnErr result (Extends (B.octets target.old) (B.octets target.new)) }
 {
     let mut keys = CodeSet::new();
@@ -128,8 +133,9 @@ pub(crate) fn append_value<B: OctetsBuilder>(
     text: &[u8],
     target: &mut B,
 ) -> Result<(), ErrorKind>
-    ensures ok { OnOk result (Gains (SpellsValue kind text.now) (B.octets target.old) (B.octets target.new)) }
-    ensures err { IfErr result (RefusesSpelled B.room (SpellsValue kind text.now) (ValueReason kind text.now) (B.octets target.old)) }
+    ensures ok { OnOk result (Gains (SpellsValue kind text.now)
+        (B.octets target.old) (B.octets target.new)) }
+    ensures err { IfErr result (RefusesValue B.room kind text.now (B.octets target.old)) }
     ensures extends { OnErr result (Extends (B.octets target.old) (B.octets target.new)) }
 {
     match kind {

@@ -39,8 +39,8 @@ gateway_octets (Ipv4 a) = ipv4_octets a
 gateway_octets (Ipv6 a) = ipv6_octets a
 
 -- its octets stand after old ones; and they surely fit there
-abbrev pub AppendsGateway : Gateway → List ℕ → List ℕ → Type 0
-AppendsGateway g old new = new ≡ old ++ gateway_octets g
+abbrev pub Composes : Gateway → List ℕ → List ℕ → Type 0
+Composes g old new = new ≡ old ++ gateway_octets g
 
 abbrev pub GatewayFits : Room → Gateway → List ℕ → Type 0
 GatewayFits room g old = length (gateway_octets g) ≤ room.fits - length old

@@ -99,8 +99,8 @@ pub record IsPrefixWire (p : Prefix) (octets : List ℕ) : Type 0 where
   pub written : octets ≡ 0 ∷ family_of p.address ∷ p.bits ∷ (exclusion_bit p.negated + length part) ∷ part
 
 -- octets gained those of an item; or they don't surely fit
-abbrev pub GainsPrefix : Prefix → List ℕ → List ℕ → Type 0
-GainsPrefix p old new = Gains (IsPrefixWire p) old new
+abbrev pub AddsPrefix : Prefix → List ℕ → List ℕ → Type 0
+AddsPrefix p old new = Gains (IsPrefixWire p) old new
 
 abbrev pub PrefixLacksRoom : Room → Prefix → List ℕ → Type 0
 PrefixLacksRoom room p old = LacksRoom room (IsPrefixWire p) old

@@ -6,7 +6,7 @@ ghost use Rattle.std.specs.Net.Addr.{IsIpv6Addr};
 ghost use Rattle.dns_octets.specs.Appending.{Extends};
 ghost use Rattle.dns_kinds.specs.Kind.{ReadsKind};
 ghost use Rattle.dns_kinds.specs.declared.error.ErrorKind.TheVariants.{ExpectedPrefix};
-ghost use Rattle.dns_places.specs.Prefixes.{family_of, address_octets, address_bits, IsAddress, FindsNumber, IsAddressText, FindsAddress, FindsPlain, SpellsPrefix, IsAddressPart, GainsPrefix, PrefixLacksRoom, GainsItem, RefusesPrefix, prefix_text, exclusion, exclusion_bit, HasNoZeroAtEnd, HasPart, LacksPart, BeginsWithItem, FindsAddressOf, LacksItem, FindsItem, FindsItemWidth, PrefixesAreRead};
+ghost use Rattle.dns_places.specs.Prefixes.{family_of, address_octets, address_bits, IsAddress, FindsNumber, IsAddressText, FindsAddress, FindsPlain, SpellsPrefix, IsAddressPart, AddsPrefix, PrefixLacksRoom, GainsItem, RefusesPrefix, prefix_text, exclusion, exclusion_bit, HasNoZeroAtEnd, HasPart, LacksPart, BeginsWithItem, FindsAddressOf, LacksItem, FindsItem, FindsItemWidth, PrefixesAreRead};
 
 use crate::marks::{around_first, around_last};
 use dns_kinds::ErrorKind;
@@ -140,7 +140,7 @@ impl Prefix {
     fn append_part<B: OctetsBuilder>(&self, octets: &[u8], target: &mut B) -> Result<(), ShortBuf>
         requires octets { octets.now ≡ address_octets self.now.address }
         requires few { length octets.now ≤ 16 }
-        ensures ok { OnOk result (GainsPrefix self.now (B.octets target.old) (B.octets target.new)) }
+        ensures ok { OnOk result (AddsPrefix self.now (B.octets target.old) (B.octets target.new)) }
         ensures err { OnErr result (Extends (B.octets target.old) (B.octets target.new)) }
         ensures why { OnErr result (PrefixLacksRoom B.room self.now (B.octets target.old)) }
     {
@@ -155,7 +155,7 @@ impl Prefix {
     /// Appends the octets of the item. Refused, the target has its old octets, and perhaps some of
     /// these behind them.
     pub fn compose<B: OctetsBuilder>(&self, target: &mut B) -> Result<(), ShortBuf>
-        ensures ok { OnOk result (GainsPrefix self.now (B.octets target.old) (B.octets target.new)) }
+        ensures ok { OnOk result (AddsPrefix self.now (B.octets target.old) (B.octets target.new)) }
         ensures err { OnErr result (Extends (B.octets target.old) (B.octets target.new)) }
         ensures why { OnErr result (PrefixLacksRoom B.room self.now (B.octets target.old)) }
     {

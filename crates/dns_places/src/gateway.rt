@@ -3,7 +3,7 @@ ghost use Rattle.std.specs.Prelude.{◌≡◌, OnOk, OnErr, IsOk, Some};
 ghost use Rattle.std.specs.Net.Addr.{IsIpv6Addr};
 ghost use Rattle.dns_kinds.specs.Kind.{ReadsKind};
 ghost use Rattle.dns_kinds.specs.declared.error.ErrorKind.TheVariants.{ExpectedGateway};
-ghost use Rattle.dns_places.specs.Gateways.{AppendsGateway, GatewayFits, SpellsGateway, gateway_octets, gateway_text, gateway_type, IsGateway, FindsGateway, GatewaysAreRead};
+ghost use Rattle.dns_places.specs.Gateways.{Composes, GatewayFits, SpellsGateway, gateway_octets, gateway_text, gateway_type, IsGateway, FindsGateway, GatewaysAreRead};
 ghost use Rattle.dns_places.specs.declared.gateway.Gateway.TheVariants.{Ipv6};
 
 use crate::apl::{padded4, padded16};
@@ -114,7 +114,7 @@ impl Gateway {
 
     /// Appends the octets of the gateway, or changes nothing.
     pub fn compose<B: OctetsBuilder>(&self, target: &mut B) -> Result<(), ShortBuf>
-        ensures ok { OnOk result (AppendsGateway self.now (B.octets target.old) (B.octets target.new)) }
+        ensures ok { OnOk result (Composes self.now (B.octets target.old) (B.octets target.new)) }
         ensures err { OnErr result (B.octets target.new ≡ B.octets target.old) }
         ensures fits { GatewayFits B.room self.now (B.octets target.old) → IsOk result }
     {
