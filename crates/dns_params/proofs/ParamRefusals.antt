@@ -7,7 +7,7 @@ use Rattle.dns_lists.specs.Params.{params_wire, value_at}
 use Rattle.dns_split.specs.EntryTokens.{TokenSeen}
 use Rattle.dns_params.specs.Keys.{NamesKey}
 use Rattle.dns_params.specs.ParamRefusals.{NewReason, ParamReason, RefusesSpelled, ValueFault, ValueReason, FirstTokenReason}
-use Rattle.dns_params.specs.ParamSteps.{param_head, GainsParam, GoesOnApart, IsClosedWord, CanBeAdded, IsOnlyFront, IsValueBehind, NamesNoParam, RefusesBegun, RefusesNew, Settles, SettlesBehind, SettlesValue, SpellsOpenValue, SpellsNew, StandsBehind, StandsOpen, TakesParamWord, TakesQuoted}
+use Rattle.dns_params.specs.ParamSteps.{param_head, GainsParam, GoesOnApart, IsClosedWord, CanBeAdded, IsOnlyFront, IsValueBehind, NamesNoParam, RefusesBegun, RefusesNew, SettlesParam, SettlesBehind, SettlesValue, SpellsOpenValue, SpellsNew, StandsBehind, StandsOpen, TakesParamWord, TakesQuoted}
 use Rattle.dns_params.specs.ParamTokens.{SplitsParam, SplitsValue, SplitsWord, SpellsParam, SpellsFrontParam}
 use Rattle.dns_params.specs.ParamValues.{SpellsValue}
 use Rattle.dns_kinds.specs.declared.error.ErrorKind.{ErrorKind}
@@ -17,17 +17,17 @@ use Rattle.dns_params.proofs.KeyRefusals.{key_once}
 use Rattle.dns_params.proofs.Fronts.{value_once, param_once, closed_once, open_once, behind_once}
 
 module _ (start at : ℕ) (value old mid new : List ℕ) (gained : mid ≡ old ++ value) where
-  open_settles : (r : Result (Unit {0}) ErrorKind) → Settles start at mid new r → (base : List ℕ) (params : List (ℕ × List ℕ)) (key : ℕ) → StandsOpen base params key start at old → SettlesBehind base params key value new r
+  open_settles : (r : Result (Unit {0}) ErrorKind) → SettlesParam start at mid new r → (base : List ℕ) (params : List (ℕ × List ℕ)) (key : ℕ) → StandsOpen base params key start at old → SettlesBehind base params key value new r
   open_settles r settles base params key o =
       settles base (params_wire params ++ (param_head key ++ value)) params key value o.fitting o.small o.begins o.place
       (gained ∙ ap (λ x. x ++ value) o.whole ∙ append_assoc base (params_wire params ++ param_head key) value ∙ ap (λ x. base ++ x) (append_assoc (params_wire params) (param_head key) value))
       ((0 ∷ 0 ∷ []), refl, refl)
 
-  pub value_settled : Settles start at mid new (Ok tt) → SettlesValue start at value old new
+  pub value_settled : SettlesParam start at mid new (Ok tt) → SettlesValue start at value old new
   value_settled settles base params key o = let s = open_settles (Ok tt) settles base params key o in ((s.2.0, s.2.1), s.1 ∙ ap (λ x. base ++ x) s.2.2)
 
   -- a value that is too long, or whose key is there
-  pub value_unsettled : (room : Room) (kind : ValueKind) (text : List ℕ) (e : ErrorKind) → SpellsValue kind text value → Settles start at mid new (Err e)
+  pub value_unsettled : (room : Room) (kind : ValueKind) (text : List ℕ) (e : ErrorKind) → SpellsValue kind text value → SettlesParam start at mid new (Err e)
       → RefusesBegun room start at (SpellsValue kind text) (NewReason kind text) old e
   value_unsettled room kind text LongValue spelled settles base params key o =
       let long = (open_settles (Err LongValue) settles base params key o).2 in
@@ -42,12 +42,12 @@ module _ (start at : ℕ) (value old mid new : List ℕ) (gained : mid ≡ old +
   value_unsettled room kind text e spelled settles base params key o = absurd (open_settles (Err e) settles base params key o).2
 
   -- a value that is settled, or why it is not
-  pub settled_ok : (kind : ValueKind) (text : List ℕ) (r : Result (Unit {0}) ErrorKind) → SpellsValue kind text value → Settles start at mid new r
+  pub settled_ok : (kind : ValueKind) (text : List ℕ) (r : Result (Unit {0}) ErrorKind) → SpellsValue kind text value → SettlesParam start at mid new r
       → OnOk r ((value : List ℕ) × SpellsValue kind text value × SettlesValue start at value old new)
   settled_ok kind text (Ok tt) spelled settles = (value, spelled, value_settled settles)
   settled_ok kind text (Err e) spelled settles = tt
 
-  pub settled_err : (room : Room) (kind : ValueKind) (text : List ℕ) (r : Result (Unit {0}) ErrorKind) → SpellsValue kind text value → Settles start at mid new r
+  pub settled_err : (room : Room) (kind : ValueKind) (text : List ℕ) (r : Result (Unit {0}) ErrorKind) → SpellsValue kind text value → SettlesParam start at mid new r
       → IfErr r (RefusesBegun room start at (SpellsValue kind text) (NewReason kind text) old)
   settled_err room kind text (Ok tt) spelled settles = tt
   settled_err room kind text (Err e) spelled settles = value_unsettled room kind text e spelled settles

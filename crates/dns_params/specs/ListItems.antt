@@ -21,8 +21,8 @@ abbrev pub FindsItemOctet : List ℕ → Option ItemOctet → Type 0
 FindsItemOctet text first = MatchOption first (EndsAtComma text) (λ o. SpellsFront text (item_octet o.octet) o.rest.now)
 
 -- a text begins with all of an item, and goes on with this rest
-abbrev pub SpellsItem : List ℕ → List ℕ → List ℕ → Type 0
-SpellsItem text item rest = IsItem item × SpellsFront text (item_text item) rest × EndsAtComma rest
+abbrev pub SpellsFrontItem : List ℕ → List ℕ → List ℕ → Type 0
+SpellsFrontItem text item rest = IsItem item × SpellsFront text (item_text item) rest × EndsAtComma rest
 
 -- octets gained the item that a text begins with, behind its length
 abbrev pub AppendsItem : List ℕ → List ℕ → List ℕ → List ℕ → Type 0

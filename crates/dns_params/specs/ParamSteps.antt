@@ -58,8 +58,8 @@ abbrev pub SettlesBehind : List ℕ → List (ℕ × List ℕ) → ℕ → List 
 SettlesBehind base params key value new r = (octets : List ℕ) × (new ≡ base ++ octets) × SettlesLast params key value octets r
 
 -- whichever parameters stood before it, one that was begun was brought to its place among them; or it can't be
-abbrev pub Settles : ℕ → ℕ → List ℕ → List ℕ → Result (Unit {0}) ErrorKind → Type 0
-Settles start at old new r =
+abbrev pub SettlesParam : ℕ → ℕ → List ℕ → List ℕ → Result (Unit {0}) ErrorKind → Type 0
+SettlesParam start at old new r =
     (base octets : List ℕ) (params : List (ℕ × List ℕ)) (key : ℕ) (value : List ℕ) → HasFittingValues params → key < 65536 → start ≡ length base
     → at ≡ length base + length (params_wire params) → old ≡ base ++ octets → IsUnsettled params key value octets → SettlesBehind base params key value new r
 

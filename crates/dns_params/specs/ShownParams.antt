@@ -46,13 +46,13 @@ unfoldable pub value_items : ValueKind → List ℕ → List (List ℕ)
 value_items kind octets = front_items kind (length octets) octets
 
 -- octets of a word, with the escapes of zone text
-abbrev pub unquoted_text : List ℕ → List ℕ
-unquoted_text = text_of is_unquoted_escape
+abbrev pub octets_word : List ℕ → List ℕ
+octets_word = text_of is_unquoted_escape
 
 -- an item: a key; a string, with the escapes of a list and of zone text; a port; an address
 abbrev pub value_item_text : ValueKind → List ℕ → List ℕ
 value_item_text Keys item = key_text (from_be_bytes w16 item)
-value_item_text Strings item = unquoted_text (item_text (drop 1 item))
+value_item_text Strings item = octets_word (item_text (drop 1 item))
 value_item_text Port item = decimal (from_be_bytes w16 item)
 value_item_text Ipv4 item = ipv4_text item
 value_item_text Ipv6 item = shown_ipv6 (segments_of item)
@@ -70,8 +70,8 @@ comma_if true = 44 ∷ []
 comma_if false = []
 
 -- an item, behind a comma if it is a later one
-abbrev pub next_text : Bool → ValueKind → List ℕ → List ℕ
-next_text is_later kind item = comma_if is_later ++ value_item_text kind item
+abbrev pub next_shown : Bool → ValueKind → List ℕ → List ℕ
+next_shown is_later kind item = comma_if is_later ++ value_item_text kind item
 
 -- texts with commas between them
 abbrev pub between_commas : List (List ℕ) → List ℕ
@@ -84,7 +84,7 @@ items_text kind octets = between_commas (map (value_item_text kind) (value_items
 -- a value: base 64; octets with the escapes of zone text; or items
 abbrev pub value_text : ValueKind → List ℕ → List ℕ
 value_text Digits octets = encoded base64 octets
-value_text Octets octets = unquoted_text octets
+value_text Octets octets = octets_word octets
 value_text Keys octets = items_text Keys octets
 value_text Strings octets = items_text Strings octets
 value_text Nothing octets = items_text Nothing octets

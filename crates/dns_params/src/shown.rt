@@ -2,7 +2,7 @@
 ghost use Rattle.std.specs.Prelude.{◌≡◌, ◌<◌, Some, length};
 ghost use Rattle.std.specs.Fmt.{WritesOnOk};
 ghost use Rattle.dns_lists.specs.Texts.{item_text, item_octet};
-ghost use Rattle.dns_params.specs.ShownParams.{next_text, unquoted_text, key_text, key_shown, param_text, param_shown, shown_kind, item_width, value_item_text, items_text, value_text};
+ghost use Rattle.dns_params.specs.ShownParams.{next_shown, octets_word, key_text, key_shown, param_text, param_shown, shown_kind, item_width, value_item_text, items_text, value_text};
 
 use crate::keys::ValueKind;
 use crate::strings::is_escaped;
@@ -54,7 +54,7 @@ fn kind_of(key: u16) -> ValueKind
 
 /// Prints octets of a word.
 fn write_unquoted<W: fmt::Write>(octets: &[u8], f: &mut fmt::Formatter<W>) -> fmt::Result
-    ensures { WritesOnOk W.write_str_gives f.old result (unquoted_text octets.now) f.new }
+    ensures { WritesOnOk W.write_str_gives f.old result (octets_word octets.now) f.new }
 {
     let octets = octets.as_slice();
     write_octets::<Unquoted, W>(octets, f)
@@ -62,7 +62,7 @@ fn write_unquoted<W: fmt::Write>(octets: &[u8], f: &mut fmt::Formatter<W>) -> fm
 
 /// Prints an octet of a list's item.
 fn write_item_octet<W: fmt::Write>(octet: u8, f: &mut fmt::Formatter<W>) -> fmt::Result
-    ensures { WritesOnOk W.write_str_gives f.old result (unquoted_text (item_octet octet)) f.new }
+    ensures { WritesOnOk W.write_str_gives f.old result (octets_word (item_octet octet)) f.new }
 {
     if is_escaped(octet) {
         write_unquoted(&[b'\\', octet], f)
@@ -74,7 +74,7 @@ fn write_item_octet<W: fmt::Write>(octet: u8, f: &mut fmt::Formatter<W>) -> fmt:
 /// Prints an item of a list.
 fn write_string<W: fmt::Write>(string: &[u8], f: &mut fmt::Formatter<W>) -> fmt::Result
     ensures { WritesOnOk W.write_str_gives f.old result
-        (unquoted_text (item_text string.now)) f.new }
+        (octets_word (item_text string.now)) f.new }
 {
     for octet in string {
         write_item_octet(*octet, f)?;
@@ -123,7 +123,7 @@ fn write_next<W: fmt::Write>(
     f: &mut fmt::Formatter<W>,
 ) -> fmt::Result
     requires { 0 < length item.now }
-    ensures { WritesOnOk W.write_str_gives f.old result (next_text is_later kind item.now) f.new }
+    ensures { WritesOnOk W.write_str_gives f.old result (next_shown is_later kind item.now) f.new }
 {
     if is_later {
         f.write_str(",")?;

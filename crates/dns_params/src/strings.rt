@@ -6,7 +6,7 @@
 ghost use Rattle.std.specs.Prelude.{◌≡◌, [], IfOk, IfErr, OnOk, OnErr};
 ghost use Rattle.dns_octets.specs.Appending.{Extends, Gains};
 ghost use Rattle.dns_lists.specs.Texts.{is_special};
-ghost use Rattle.dns_params.specs.ListItems.{AppendsItem, FindsItemOctet, SpellsItem, SpellsSpecial, EachList, BeginsUnspecial, BeginsBadItem, BeginsNoItem, RefusesItem};
+ghost use Rattle.dns_params.specs.ListItems.{AppendsItem, FindsItemOctet, SpellsFrontItem, SpellsSpecial, EachList, BeginsUnspecial, BeginsBadItem, BeginsNoItem, RefusesItem};
 ghost use Rattle.dns_params.specs.ParamRefusals.{RefusesValue, StringsReason};
 ghost use Rattle.dns_params.specs.ParamValues.{SpellsStrings};
 ghost use Rattle.dns_params.specs.declared.keys.ValueKind.TheVariants.{Strings};
@@ -76,7 +76,7 @@ fn first_of_item(text: &[u8]) -> Result<Option<ItemOctet<'_>>, ErrorKind>
 /// Reads the item in front of a text, and gives what stands after it.
 fn read_item<'a>(text: &'a [u8], item: &mut ArrayVec<u8, MOST>) -> Result<&'a [u8], ErrorKind>
     requires { item.old.items ≡ [] }
-    ensures ok { IfOk result (λ rest. SpellsItem text.now item.new.items rest.now) }
+    ensures ok { IfOk result (λ rest. SpellsFrontItem text.now item.new.items rest.now) }
     ensures err { IfErr result (λ e. StringsReason e × EachList text.now BeginsNoItem) }
 {
     let mut rest = text;

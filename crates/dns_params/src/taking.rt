@@ -5,7 +5,7 @@ ghost use Rattle.dns_split.specs.EntryTokens.{token_seen};
 ghost use Rattle.dns_params.specs.ParamTokens.{SpellsParams};
 ghost use Rattle.dns_params.specs.ParamRefusals.{NewReason, ParamReason, RefusesParams, ValueFault};
 ghost use Rattle.dns_params.specs.ParamValues.{SpellsValue};
-ghost use Rattle.dns_params.specs.ParamSteps.{param_head, ReadsWord, NamesNoParam, RefusesBegun, RefusesNew, RefusesParamWord, Settles, SpellsOpenValue, TakesParam, TakesParamWord, TakesQuoted, TakesValue};
+ghost use Rattle.dns_params.specs.ParamSteps.{param_head, ReadsWord, NamesNoParam, RefusesBegun, RefusesNew, RefusesParamWord, SettlesParam, SpellsOpenValue, TakesParam, TakesParamWord, TakesQuoted, TakesValue};
 
 use crate::items::split_first;
 use crate::keys::{SpelledKey, ValueKind, key_from_text};
@@ -74,7 +74,7 @@ fn settle<B: OctetsBuilder + AsOctetsMut>(
 ) -> Result<(), ErrorKind>
     requires behind { start ≤ at }
     requires within { at + 4 ≤ length (B.octets target.old) }
-    ensures settled { Settles start at (B.octets target.old) (B.octets target.new) result }
+    ensures settled { SettlesParam start at (B.octets target.old) (B.octets target.new) result }
     ensures err { OnErr result (B.octets target.new ≡ B.octets target.old) }
 {
     let octets = target.as_slice_mut();
