@@ -5,6 +5,7 @@ use Rattle.std.specs.List.{list_all}
 use Rattle.std.proofs.lemmas.Bool.{eqb-true}
 use Rattle.std.proofs.lemmas.Bool.Decides.{nat_tests}
 use Rattle.std.proofs.lemmas.List.Elements.{All-cons, All-nil}
+use Rattle.dns_kinds.specs.Rtype as Rtype
 use Rattle.dns_spelling.specs.NameSpelling.{IsWireName}
 use Rattle.dns_spelling.specs.Spelling.{AreOctetValues}
 use Rattle.dns_wire.specs.Wire.{wire, IsName}
@@ -17,6 +18,7 @@ use Rattle.dns_resource.specs.TypeData.{IsTypeData, TypeData}
 use Rattle.dns_resource.proofs.CanonicalForms.{begins_start}
 use Rattle.dns_resource.proofs.DataBack.{shape_with}
 use Rattle.zone_rules.specs.HostNames.{IsNameField, target_field}
+use Rattle.zone_rules.specs.Zones.{host_field}
 use Rattle.zone_rules.proofs.HostParts.{part_name}
 use Rattle.zone_rules.proofs.NameParts.{longer_is, longer_name}
 
@@ -45,17 +47,24 @@ named_if rtype n place field others known more h = by (rtype == n) refl h
 pub target_named : (rtype field : ℕ) → target_field rtype ≡ Some field → IsNameField rtype field
 unfolding type_shapes
 target_named rtype field =
-    named_if rtype 2 0 field _ refl
-    (named_if rtype 6 0 field _ refl
-    (named_if rtype 12 0 field _ refl
-    (named_if rtype 15 1 field _ refl
-    (named_if rtype 18 1 field _ refl
-    (named_if rtype 21 1 field _ refl
-    (named_if rtype 33 3 field _ refl
-    (named_if rtype 64 1 field _ refl
-    (named_if rtype 65 1 field _ refl (λ e. cc)))))))))
+    named_if rtype Rtype.ns 0 field _ refl
+    (named_if rtype Rtype.soa 0 field _ refl
+    (named_if rtype Rtype.ptr 0 field _ refl
+    (named_if rtype Rtype.mx 1 field _ refl
+    (named_if rtype Rtype.afsdb 1 field _ refl
+    (named_if rtype Rtype.rt 1 field _ refl
+    (named_if rtype Rtype.srv 3 field _ refl
+    (named_if rtype Rtype.svcb 1 field _ refl
+    (named_if rtype Rtype.https 1 field _ refl (λ e. cc)))))))))
 
-pub mailbox_named : IsNameField 6 1
+pub host_named : (rtype field : ℕ) → host_field rtype ≡ Some field → IsNameField rtype field
+unfolding type_shapes
+host_named rtype field =
+    named_if rtype Rtype.ns 0 field _ refl
+    (named_if rtype Rtype.mx 1 field _ refl
+    (named_if rtype Rtype.srv 3 field _ refl (λ e. cc)))
+
+pub mailbox_named : IsNameField Rtype.soa 1
 unfolding type_shapes
 mailbox_named = refl
 

@@ -179,7 +179,7 @@ fn has_bad_owner<Owner: AsOctets, Octets: AsOctets>(record: &Record<Owner, Octet
 }
 
 /// Returns the octets of a field of data that is a name.
-fn name_part<Octets: AsOctets>(data: &Data<Octets>, field: usize) -> Option<&[u8]>
+pub(crate) fn name_part<Octets: AsOctets>(data: &Data<Octets>, field: usize) -> Option<&[u8]>
     requires { IsNameField «data».now.rtype field }
     ensures value { option_copied result ≡ data_part «data».now field }
     ensures name { IfSome result (λ name. IsWireName name.now) }

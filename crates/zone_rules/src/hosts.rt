@@ -6,8 +6,9 @@ ghost use Rattle.dns_spelling.specs.NameSpelling.{IsWireName};
 ghost use Rattle.zone_rules.specs.Above.{names_above};
 ghost use Rattle.zone_rules.specs.Present.{closest_dname, is_own, is_renamed};
 ghost use Rattle.zone_rules.specs.Rules.{is_alias, is_below_own_dname, is_dname_at_cut, is_missing, is_without_glue, is_zone_cut, lacks_address, lacks_glue, lacks_ns_address, names_alias, names_missing, names_renamed};
-ghost use Rattle.zone_rules.specs.Zones.{but_root, host_octets, host_of};
+ghost use Rattle.zone_rules.specs.Zones.{but_root, host_field, host_octets, host_of};
 
+use crate::host_names::name_part;
 use crate::names::{is_name_below, is_name_within, name_of, parent, view};
 use crate::owners::{has_dname_above, is_apex_record};
 use crate::present::{
@@ -21,19 +22,27 @@ use dns_octets::AsOctets;
 use dns_resource::{Data, Record};
 use dns_wire::Name;
 
+/// Returns which field of data of a type is the host that its records name.
+fn place_of_host(rtype: RecordType) -> Option<usize>
+    ensures { result ≡ host_field rtype }
+{
+    match rtype {
+        RecordType::NS => Some(0),
+        RecordType::MX => Some(1),
+        RecordType::SRV => Some(3),
+        _ => None,
+    }
+}
+
 /// The octets of the host that data of NS, MX or SRV names.
 fn host_part<Octets: AsOctets>(data: &Data<Octets>) -> Option<&[u8]>
     ensures value { option_copied result ≡ host_octets «data».now }
     ensures name { IfSome result (λ host. IsWireName host.now) }
 {
-    // No effect at run time: the proof reads that the octets are data of the type.
-    let _octets = data.as_slice();
-    match data.rtype() {
-        RecordType::NS => data.part(0),
-        RecordType::MX => data.part(1),
-        RecordType::SRV => data.part(3),
-        _ => None,
-    }
+    let Some(field) = place_of_host(data.rtype()) else {
+        return None;
+    };
+    name_part(data, field)
 }
 
 /// A name, unless it is the root: as a target that says that there is none (RFC 7505 section 3, RFC

@@ -10,15 +10,15 @@ use Rattle.zone_rules.specs.Zones.{type_of, is_equal_record}
 use Rattle.zone_rules.proofs.Lookups.{any_kept}
 use Rattle.zone_rules.proofs.owners.has_company.Goals as goal
 
-pub returns-then-rtype-eq-CNAME : goal.returns-then-rtype-eq-CNAME
-returns-then-rtype-eq-CNAME g c =
+pub returns-then-eq : goal.returns-then-eq
+returns-then-eq g c =
     let alias = c.args.record.now in
     let records = c.args.records.now in
     let found : c.any.result ≡ list_any (is_beside_alias alias) c.owned_by.result.now =
     any_from_yields_List (is_beside_alias alias) _ _ c.any.result c.any.ensures.ran (YieldsList-from_slice c.owned_by.result.now cc) (λ x b q k. search (rules, tests)) in
     let owned : c.owned_by.result.now ≡ filter (λ r. same_name r.owner alias.owner) records =
     c.owned_by.ensures ∙ ap (λ n. filter (λ r. same_name r.owner n) records) c.view.ensures in
-    let rtype : (type_of alias == Rtype.cname) ≡ true = ap (λ n. n == 5) (sym c.rtype.ensures ∙ c.if-rtype-eq-CNAME.true) in
+    let rtype : (type_of alias == Rtype.cname) ≡ true = ap (λ n. n == Rtype.cname) (sym c.rtype.ensures) ∙ sym c.eq.ensures ∙ c.if-eq.true in
     found ∙ ap (list_any (is_beside_alias alias)) owned
     ∙ any_kept (λ r. same_name r.owner alias.owner) (λ r. not (type_of r == Rtype.rrsig) && (not (type_of r == Rtype.nsec) && not (is_equal_record alias r))) records
     ∙ ap (λ b. b && list_any (is_beside_alias alias) records) (sym rtype)
