@@ -258,6 +258,16 @@ static void refusals(void) {
     REFUSES("a..b 1 A 192.0.2.1\n 1 A 192.0.2.1", DNSTEXT_BAD_NAME, 0, "empty label");
     REFUSES("a..b 1 A 192.0.2.1\n 1 A 192.0.2.1", DNSTEXT_REFUSED_OWNER, 20, "the owner before is refused");
     begin();
+    REFUSES("\"a\" 1 A 192.0.2.1", DNSTEXT_BAD_NAME, 0, "expected word without quotes");
+    begin();
+    REFUSES("$ORIGIN \"a\"", DNSTEXT_BAD_NAME, 8, "expected word without quotes");
+    begin();
+    REFUSES("$TTL \"60\"", DNSTEXT_BAD_HEAD, 5, "expected word without quotes");
+    begin();
+    REFUSES("a 1 \"A\" 192.0.2.1", DNSTEXT_BAD_HEAD, 4, "expected word without quotes");
+    begin();
+    REFUSES("a 1 MX 10 \"m\"", DNSTEXT_BAD_DATA, 10, "MX exchange: expected word without quotes");
+    begin();
     REFUSES("$GENERATE 1-2 a A 192.0.2.$", DNSTEXT_NOT_SUPPORTED, 0, "not supported: expand it first");
     begin();
     REFUSES("$NOSUCH", DNSTEXT_BAD_HEAD, 0, "unknown directive");
