@@ -3,7 +3,7 @@ use Rattle.std.specs.Prelude.{◌≡◌, ◌⊎◌, ℕ, ◌<◌, ◌≤◌, ◌
 use Rattle.dns_codec.specs.Base.{Base, encoded}
 use Rattle.dns_codec.specs.Grammar.{Decodes}
 use Rattle.dns_codec.specs.Outcome.{octet_count}
-use Rattle.dns_text_c.specs.Told.{number_of, TellsOctets, TellsFault}
+use Rattle.dns_text_c.specs.Told.{number_of, TellsOctets, TellsFault, at_start}
 use Rattle.dns_text_c.specs.declared.outcome.Outcome.{Outcome}
 use Rattle.dns_text_c.specs.declared.outcome.Refusal.TheVariants.{NoRoom, TooLong, BadEncoding}
 
@@ -16,7 +16,7 @@ pub record PrintsOctets (b : Base) (octets old : List ℕ) (status : ℕ) (new :
 abbrev pub TellsValue : Base → List ℕ → ℕ → List ℕ → Outcome → Type 0
 TellsValue b text status new outcome =
     ((status ≡ 0) × (outcome ≡ record { length = octet_count b text; place = 0 }) × Decodes b text (take (octet_count b text) new))
-    ⊎ (TellsFault (record { refusal = BadEncoding; place = 0 }) status outcome × ((v : List ℕ) → Decodes b text v → ⊥))
+    ⊎ (TellsFault (at_start BadEncoding) status outcome × ((v : List ℕ) → Decodes b text v → ⊥))
 
 -- where the octets that so many characters spell fit, the text's value is told; else their number is, whatever the text, and nothing was written.
 -- What follows them is as it was

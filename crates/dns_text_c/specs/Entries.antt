@@ -9,7 +9,7 @@ use Rattle.dns_split.specs.declared.pieces.Piece.TheVariants.{Word as WordAt, Qu
 use Rattle.dns_split.specs.declared.pieces.Fault.{Fault as TextFault}
 use Rattle.dns_split.specs.declared.pieces.Wrong.{Wrong}
 use Rattle.dns_split.specs.declared.pieces.Wrong.TheVariants.{Closing as NoneOpen, OpenParenthesis as NotClosed, OpenQuote as NotQuoted, LoneReturn as NoFeed, BadEscape as NoEscape}
-use Rattle.dns_text_c.specs.Told.{number_of, TellsFault}
+use Rattle.dns_text_c.specs.Told.{number_of, TellsFault, at_start}
 use Rattle.dns_text_c.specs.declared.outcome.Outcome.{Outcome}
 use Rattle.dns_text_c.specs.declared.outcome.Refusal.{Refusal}
 use Rattle.dns_text_c.specs.declared.outcome.Refusal.TheVariants.{NoRoom, BadEscape, Closing, OpenParenthesis, OpenQuote, LoneReturn, BadCursor}
@@ -150,5 +150,5 @@ pub record ReadsEntry (text : List ℕ) (old new : Cursor) (before after : List 
 -- a text that is done has no entry; a cursor past the end is refused; and else the entry that begins there is given
 pub record NextEntry (text : List ℕ) (old new : Cursor) (before after : List TokenAt) (status : ℕ) (outcome : Outcome) : Type 0 where
   pub done : old.is_done ≢ 0 → (status ≡ 1) × (outcome ≡ record { length = 0; place = 0 }) × (new ≡ old) × (after ≡ before)
-  pub past : old.is_done ≡ 0 → length text < old.at → TellsFault (record { refusal = BadCursor; place = 0 }) status outcome × (new ≡ old) × (after ≡ before)
+  pub past : old.is_done ≡ 0 → length text < old.at → TellsFault (at_start BadCursor) status outcome × (new ≡ old) × (after ≡ before)
   pub reads : old.is_done ≡ 0 → old.at ≤ length text → ReadsEntry text old new before after status outcome

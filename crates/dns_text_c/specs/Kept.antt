@@ -6,7 +6,7 @@ use Rattle.dns_reader.specs.declared.known.Known.{Known}
 use Rattle.dns_reader.specs.declared.known.Known.TheVariants.{Unsaid, Name, Refused}
 use Rattle.dns_reader.specs.declared.state.State.{State}
 use Rattle.dns_text_c.specs.Reasons.{refusal_of_name}
-use Rattle.dns_text_c.specs.Told.{TellsFault}
+use Rattle.dns_text_c.specs.Told.{TellsFault, at_start}
 use Rattle.dns_text_c.specs.declared.kept.KeptName.{KeptName}
 use Rattle.dns_text_c.specs.declared.kept.Zone.{Zone}
 use Rattle.dns_text_c.specs.declared.outcome.Outcome.{Outcome}
@@ -64,4 +64,4 @@ abbrev pub TakesOrigin : List ℕ → Zone → Zone → ℕ → Outcome → Type
 TakesOrigin name old new status outcome =
     ((origin : Option (List (List ℕ))) × IsOriginOf name origin × (status ≡ 0) × (outcome ≡ record { length = 0; place = 0 })
     × KeepsName (said_origin origin) old.origin new.origin × (new ≡ record old { origin = new.origin }))
-    ⊎ ((e : NameError) × (name ≢ []) × MakesName name (Err e) × TellsFault (record { refusal = refusal_of_name e; place = 0 }) status outcome × (new ≡ old))
+    ⊎ ((e : NameError) × (name ≢ []) × MakesName name (Err e) × TellsFault (at_start (refusal_of_name e)) status outcome × (new ≡ old))

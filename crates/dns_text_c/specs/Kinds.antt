@@ -1,6 +1,6 @@
 -- What reading a word of a kind answers.
 use Rattle.std.specs.Prelude.{◌≡◌, ◌⊎◌, ℕ, List}
-use Rattle.dns_text_c.specs.Told.{TellsFault}
+use Rattle.dns_text_c.specs.Told.{TellsFault, at_start}
 use Rattle.dns_text_c.specs.declared.outcome.Outcome.{Outcome}
 use Rattle.dns_text_c.specs.declared.outcome.Refusal.{Refusal}
 
@@ -8,4 +8,4 @@ use Rattle.dns_text_c.specs.declared.outcome.Refusal.{Refusal}
 abbrev pub TellsSpelled : (List ℕ → ℕ → Type 0) → Refusal → List ℕ → ℕ → ℕ → ℕ → Outcome → Type 0
 TellsSpelled Spells refusal text old status new outcome =
     ((status ≡ 0) × (outcome ≡ record { length = 0; place = 0 }) × Spells text new)
-    ⊎ (TellsFault (record { refusal = refusal; place = 0 }) status outcome × (new ≡ old) × ((v : ℕ) → Spells text v → ⊥))
+    ⊎ (TellsFault (at_start refusal) status outcome × (new ≡ old) × ((v : ℕ) → Spells text v → ⊥))

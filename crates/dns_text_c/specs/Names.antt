@@ -20,7 +20,7 @@ use Rattle.dns_name.specs.declared.name.error.UncertainDnameError.{UncertainDnam
 use Rattle.dns_name.specs.declared.name.error.UncertainDnameError.TheVariants.{BadLabel as NoType, CompressedName, LongName, TrailingData, ShortInput as CutShort}
 use Rattle.dns_text_c.specs.Entries.{bit}
 use Rattle.dns_text_c.specs.Strings.{refusal_of}
-use Rattle.dns_text_c.specs.Told.{TellsOctets, TellsFault}
+use Rattle.dns_text_c.specs.Told.{TellsOctets, TellsFault, at_start}
 use Rattle.dns_wire.specs.declared.display.Form.{Form}
 use Rattle.dns_text_c.specs.declared.outcome.Outcome.{Outcome}
 use Rattle.dns_text_c.specs.declared.outcome.Fault.{Fault}
@@ -97,7 +97,7 @@ refusal_of_octets CutShort = ShortInput
 -- the text of the name is given; or the refusal is told, whose place is not, and nothing was written
 abbrev pub GivesText : (List (List ℕ) → List ℕ) → Result (UncertainName (Bor (List ℕ))) UncertainDnameError → List ℕ → ℕ → List ℕ → Outcome → Type 0
 GivesText text_is (Ok name) old status new outcome = TellsOctets (text_is (labels_of name)) old status new outcome
-GivesText text_is (Err e) old status new outcome = TellsFault (record { refusal = refusal_of_octets e; place = 0 }) status outcome × (new ≡ old)
+GivesText text_is (Err e) old status new outcome = TellsFault (at_start (refusal_of_octets e)) status outcome × (new ≡ old)
 
 -- what printing the name of some octets answers
 abbrev pub PrintsNameOf : (List (List ℕ) → List ℕ) → List ℕ → List ℕ → ℕ → List ℕ → Outcome → Type 0

@@ -8,7 +8,7 @@ use Rattle.dns_split.specs.declared.pieces.Piece.TheVariants.{Word as WordAt, Qu
 use Rattle.dns_split.specs.declared.pieces.Fault.{Fault as TextFault}
 use Rattle.dns_split.specs.declared.standing.Standing.{Standing as TextStanding}
 use Rattle.dns_text_c.specs.Entries.{bit, refusal_of_wrong}
-use Rattle.dns_text_c.specs.Told.{number_of, TellsFault}
+use Rattle.dns_text_c.specs.Told.{number_of, TellsFault, at_start}
 use Rattle.dns_text_c.specs.declared.outcome.Outcome.{Outcome}
 use Rattle.dns_text_c.specs.declared.outcome.Refusal.TheVariants.{BadCursor}
 use Rattle.dns_text_c.specs.declared.pieces.Piece.{Piece}
@@ -48,7 +48,7 @@ pub record ReadsPiece (text : List ℕ) (old new : Standing) (before after : Pie
 -- a text that is done has no piece; a standing past the end, or with more parentheses open than there are octets before it, is refused; and else the next piece is given
 pub record NextPiece (text : List ℕ) (old new : Standing) (before after : Piece) (status : ℕ) (outcome : Outcome) : Type 0 where
   pub done : old.is_done ≢ 0 → (status ≡ 1) × (outcome ≡ record { length = 0; place = 0 }) × (new ≡ old) × (after ≡ before)
-  pub past : old.is_done ≡ 0 → (length text < old.at) ⊎ (old.at < old.depth) → TellsFault (record { refusal = BadCursor; place = 0 }) status outcome × (new ≡ old) × (after ≡ before)
+  pub past : old.is_done ≡ 0 → (length text < old.at) ⊎ (old.at < old.depth) → TellsFault (at_start BadCursor) status outcome × (new ≡ old) × (after ≡ before)
   pub reads : old.is_done ≡ 0 → old.at ≤ length text → old.depth ≤ old.at → ReadsPiece text old new before after status outcome
 
 -- what a call tells: a piece, or a status and the place of a fault

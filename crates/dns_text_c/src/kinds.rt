@@ -4,7 +4,7 @@ ghost use Rattle.dns_kinds.specs.Classes.{SpellsClass, class_text};
 ghost use Rattle.dns_kinds.specs.Ttl.{SpellsTtl};
 ghost use Rattle.dns_kinds.specs.Types.{SpellsType, type_text};
 ghost use Rattle.dns_text_c.specs.Kinds.{TellsSpelled};
-ghost use Rattle.dns_text_c.specs.Told.{TellsFault, TellsOctets};
+ghost use Rattle.dns_text_c.specs.Told.{TellsFault, TellsOctets, at_start};
 ghost use Rattle.dns_text_c.specs.declared.outcome.Refusal.TheVariants.{BadTtl, UnknownType, UnknownClass};
 
 use crate::outcome::{Fault, Outcome, Refusal, accept, give, refuse};
@@ -16,7 +16,7 @@ const TEXT: usize = 10;
 
 /// Refuses a whole word.
 fn refuse_word(refusal: Refusal, outcome: &mut Outcome) -> u32
-    ensures { TellsFault (record { refusal = refusal; place = 0 }) result outcome.new }
+    ensures { TellsFault (at_start refusal) result outcome.new }
 {
     refuse(Fault { refusal, place: 0 }, outcome)
 }

@@ -1,5 +1,5 @@
 //! Decimal numbers.
-ghost use Rattle.std.specs.Prelude.{◌≡◌, ◌<◌, ◌≤◌, IfSome, IfOk};
+ghost use Rattle.std.specs.Prelude.{◌≡◌, ◌<◌, IfSome};
 ghost use Rattle.dns_scan.specs.Numbers.{plain_digit_of};
 ghost use Rattle.dns_text_c.specs.Numbers.{AppendsDigit, ReadsTextAsNumber, TellsNumber};
 

@@ -1,7 +1,7 @@
 //! Record data as zone text.
 ghost use Rattle.std.specs.Prelude.{◌≡◌, ◌+◌, length, IsTrue, IfOk, OnOk};
 ghost use Rattle.dns_text_c.specs.DataText.{PrintsData, PrintsOn, PutsAt, TellsText, data_text, fault_of_wire};
-ghost use Rattle.dns_text_c.specs.Told.{TellsFault};
+ghost use Rattle.dns_text_c.specs.Told.{TellsFault, at_start};
 ghost use Rattle.dns_text_c.specs.declared.outcome.Refusal.TheVariants.{TooLong};
 
 use crate::kept::put_over;
@@ -46,7 +46,7 @@ fn put_at(octets: &[u8], at: usize, over: &mut [u8]) -> bool
     true
 }
 
-/// A sink that puts octets behind those that it has put over others.
+/// A sink that puts octets after those that it has put over others.
 #[derive(Drop)]
 pub(crate) struct Over<'a> {
     octets: &'a mut [u8],
@@ -98,7 +98,7 @@ fn write_text(content: &Data<&[u8]>, over: &mut [u8]) -> fmt::Result
 
 /// Tells that data have no text.
 fn refuse_text(outcome: &mut Outcome) -> u32
-    ensures { TellsFault (record { refusal = TooLong; place = 0 }) result outcome.new }
+    ensures { TellsFault (at_start TooLong) result outcome.new }
 {
     let refusal = Refusal::TooLong;
     refuse(Fault { refusal, place: 0 }, outcome)

@@ -1,4 +1,4 @@
-use Rattle.std.proofs.Common.{sym, ap, ◌∙◌, Result, Ok, Err}
+use Rattle.std.proofs.Common.{◌∙◌}
 use Rattle.dns_reader.proofs.TextParts.{closed_left}
 use Rattle.dns_text_c.proofs.ReadTexts.{nothing_after}
 use Rattle.dns_text_c.proofs.reading.read_nothing.Goals as goal
