@@ -38,14 +38,14 @@ data_text d = printed Simple (data_document d)
 abbrev pub PrintsOn : {S : Type 0} → (S → List ℕ → S → Type 0) → TypeData → S → S → Type 0
 PrintsOn gives d old new = WritesInCalls gives old (data_text d) new
 
--- octets stand at a place; what is before and behind is as it was
+-- octets are written at a place; what precedes and follows them is as it was
 pub record PutsAt (octets : List ℕ) (at : ℕ) (old new : List ℕ) : Type 0 where
   pub fits : at + length octets ≤ length old
   pub put : take (at + length octets) new ≡ take at old ++ octets
   pub rest : drop (at + length octets) new ≡ drop (at + length octets) old
   pub same : length new ≡ length old
 
--- the text is told; or printing it failed, which it does in no test, and nothing was written behind where it fits
+-- the text is given; or printing it failed, which it does in no test, and what follows its length is as it was
 abbrev pub TellsText : List ℕ → List ℕ → ℕ → List ℕ → Outcome → Type 0
 TellsText text old status new outcome =
     TellsOctets text old status new outcome
@@ -57,7 +57,7 @@ fault_of_wire NoDataType = at_start BadData
 fault_of_wire LongData = record { refusal = TooLong; place = 65535 }
 fault_of_wire NotOfType = at_start BadData
 
--- octets are data of a type, and their text is told; or why they are none, and nothing was written
+-- octets are data of a type, and their text is given; or why they are none is reported, and nothing was written
 abbrev pub PrintsData : RecordType → List ℕ → List ℕ → ℕ → List ℕ → Outcome → Type 0
 PrintsData rtype octets old status new outcome =
     (IsTypeData rtype octets × TellsText (data_text (record { rtype = rtype; octets = octets })) old status new outcome)
@@ -86,14 +86,14 @@ abbrev pub answered : Result (Unit {0}) RecordError → List ℕ → DataAnswer
 answered (Ok _) octets = Ok octets
 answered (Err e) octets = Err e
 
--- what comes of octets by what stands behind their entry: entries without tokens alone; or a token, or a fault of the text
+-- the result by what follows the entry of the octets: entries without tokens alone; or a token, or a fault of the text
 abbrev pub answer_before : RecordType → List ℕ → List (Result PartSeen TextFault) → DataAnswer
 answer_before rtype octets [] = Ok octets
 answer_before rtype octets (Ok (EndIs e) ∷ parts) = answer_before rtype octets parts
 answer_before rtype octets (Ok (TokenIs t b) ∷ parts) = Err (trailing_token rtype t.at)
 answer_before rtype octets (Err f ∷ parts) = Err (error_of_fault f)
 
--- what comes of an entry that was read, by what stands behind its tokens: a fault of the text comes first
+-- the result of an entry that was read, by what follows its tokens: a fault of the text comes first
 abbrev pub data_answer : RecordType → Result (Unit {0}) RecordError → List ℕ → List (Result PartSeen TextFault) → DataAnswer
 data_answer rtype read octets (Err f ∷ parts) = Err (error_of_fault f)
 data_answer rtype (Err e) octets parts = Err e
@@ -105,12 +105,12 @@ ReadsTokens room rtype origin begun answer =
     (read : Result (Unit {0}) RecordError) × (left : List TokenSeen) × (octets : List ℕ)
     × ReadsType origin room rtype (entry_end begun).at (entry_left begun) [] read left octets × (answer ≡ data_answer rtype read octets (behind_left begun))
 
--- the tokens that are left of an entry are read as data of a type, with room for so many octets, after those that were there
+-- the tokens that are left of an entry are read as data of a type, and appended to the octets, with room for n
 abbrev pub ReadsLeft : ℕ → RecordType → Option (Bor (List (List ℕ))) → (old : SourceSeen × List ℕ) → Result (Unit {0}) RecordError → (new : SourceSeen × List ℕ) → Type 0
 ReadsLeft n rtype origin old result new =
     ReadsType (option_copied origin) (exactly n) rtype (entry_end old.0).at (entry_left old.0) old.1 result (entry_left new.0) new.1
 
--- the entry that is open is read, and what comes after it: the octets that are there then are the data, or why there are none
+-- the entry that is open is read, and what comes after it, with room for n octets: the octets are the data, or an error is returned
 abbrev pub ReadsOpen : ℕ → RecordType → Option (Bor (List (List ℕ))) → SourceSeen → Result (Unit {0}) RecordError → List ℕ → Type 0
 ReadsOpen n rtype origin begun result octets = ReadsTokens (exactly n) rtype (option_copied origin) begun (answered result octets)
 
@@ -138,26 +138,26 @@ pub record ReadsDataText (room : Room) (rtype : RecordType) (origin : Option (Li
 abbrev pub ReadsText : ℕ → RecordType → Option (Bor (List (List ℕ))) → List ℕ → Result (Unit {0}) RecordError → List ℕ → Type 0
 ReadsText n rtype origin text result octets = ReadsDataText (exactly n) rtype (option_copied origin) text (answered result octets)
 
--- the octets are given; or why there are none is told
+-- the octets are given; or the error is reported
 abbrev pub TellsData : DataAnswer → List ℕ → ℕ → List ℕ → Outcome → Type 0
 TellsData (Ok octets) old status new outcome = TellsOctets octets old status new outcome
 TellsData (Err e) old status new outcome = TellsError e old status new outcome
 
--- the octets of data are given, with room for so many; or they are refused, and nothing was written
+-- the octets of data are given, with room for n; or they are refused, and nothing was written
 abbrev pub WritesData : ℕ → RecordType → Option (Bor (List (List ℕ))) → List ℕ → List ℕ → Result ℕ RecordError → List ℕ → Outcome → Type 0
 WritesData n rtype origin text old (Ok status) new outcome =
     (octets : List ℕ) × ReadsDataText (exactly n) rtype (option_copied origin) text (Ok octets) × TellsOctets octets old status new outcome
 WritesData n rtype origin text old (Err e) new outcome = ReadsDataText (exactly n) rtype (option_copied origin) text (Err e) × (new ≡ old)
 
--- a text is read, with relative names below an origin, and what comes of it is told
+-- a text is read, with relative names below an origin, and the result is reported
 abbrev pub TellsBelow : RecordType → List ℕ → Option (List (List ℕ)) → List ℕ → ℕ → List ℕ → Outcome → Type 0
 TellsBelow rtype text origin old status new outcome = (answer : DataAnswer) × ReadsDataText (exactly 65535) rtype origin text answer × TellsData answer old status new outcome
 
--- the same of an origin that is lent
+-- the same with the origin by reference
 abbrev pub TellsRead : RecordType → List ℕ → Option (Bor (List (List ℕ))) → List ℕ → ℕ → List ℕ → Outcome → Type 0
 TellsRead rtype text origin old status new outcome = TellsBelow rtype text (option_copied origin) old status new outcome
 
--- the text is read, with relative names below the origin; or the origin is no name, which is told with no place, and nothing was written
+-- the text is read, with relative names below the origin; or the origin is no name, which is reported with no place, and nothing was written
 abbrev pub TellsReadData : RecordType → List ℕ → List ℕ → List ℕ → ℕ → List ℕ → Outcome → Type 0
 TellsReadData rtype text origin old status new outcome =
     ((known : Option (List (List ℕ))) × IsOriginOf origin known × TellsBelow rtype text known old status new outcome)

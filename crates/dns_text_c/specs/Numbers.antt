@@ -50,6 +50,6 @@ abbrev pub GivesNumber : Result ℕ Fault → ℕ → ℕ → ℕ → Outcome �
 GivesNumber (Ok v) old status new outcome = (status ≡ 0) × (outcome ≡ record { length = 0; place = 0 }) × (new ≡ v)
 GivesNumber (Err fault) old status new outcome = TellsFault fault status outcome × (new ≡ old)
 
--- a text is read as a number of at most so much, and what comes of it is told
+-- a text is read as a number, and the result is reported
 abbrev pub TellsNumber : ℕ → List ℕ → ℕ → ℕ → ℕ → Outcome → Type 0
 TellsNumber most text old status new outcome = (answer : Result ℕ Fault) × ReadsTextAsNumber most text answer × GivesNumber answer old status new outcome

@@ -98,7 +98,7 @@ pub record TellsReason (error : RecordError) (old : List ℕ) (told : ℕ) (new 
   pub place : outcome.place ≡ error.offset
   pub text : GivesCut (take 255 (reason_text error)) old new outcome.length
 
--- what is wrong with the text is told by the status alone, and nothing was written; or an entry is refused
+-- an error of the text has a status and a place, and nothing was written; another one has a text too
 abbrev pub TellsWrong : Option Wrong → RecordError → List ℕ → ℕ → List ℕ → Outcome → Type 0
 TellsWrong (Some wrong) error old told new outcome = TellsFault (record { refusal = refusal_of_wrong wrong; place = error.offset }) told outcome × (new ≡ old)
 TellsWrong None error old told new outcome = TellsReason error old told new outcome

@@ -36,7 +36,7 @@ TellRecords reader [] = ⊥
 TellRecords reader (call ∷ []) = (after : RecordReader) × (octets : List ℕ) × ReadsNextRecord (exactly 65535) reader [] None after octets
 TellRecords reader (call ∷ next ∷ more) = (after : RecordReader) × (given : Result EntryRead RecordError) × TellsNextRecord reader after given call × TellRecords after (next ∷ more)
 
--- calls from the start of a text, behind a state, tell just what one reader of the whole text gives
+-- calls from the start of a text, with a state, report just what one reader of the whole text gives
 abbrev pub RecordCallsTellAll : Type 0
 RecordCallsTellAll = (text : List ℕ) (state : State) (zone : Zone) (calls : List RecordCall) → AreOctets text → zone.at ≡ 0 → HoldsState zone (Some state) → RecordCalls text zone calls
     → (reader : RecordReader) × StartsText text state reader × TellRecords reader calls

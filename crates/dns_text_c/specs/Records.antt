@@ -53,7 +53,7 @@ pub record TellsFound (status : ℕ) (reader : RecordReader) (octets : List ℕ)
       × (head_of call.after.found ≡ head) × KeepsReader reader call.before.zone call.after.zone
   pub lacks : length call.before.octets < length octets → (call.status ≡ number_of NoRoom) × (call.after ≡ call.before)
 
--- the refusal of an entry is told, or what is wrong with the text, and the zone moves past it
+-- an error is reported, and the zone moves past it
 pub record TellsRefused (reader : RecordReader) (error : RecordError) (call : RecordCall) : Type 0 where
   pub reason : TellsError error call.before.octets call.status call.after.octets call.outcome
   pub keeps : KeepsReader reader call.before.zone call.after.zone
@@ -74,7 +74,7 @@ head_with at ttl class rtype = record { place = at; ttl = ttl; class = class; rt
 abbrev pub no_head : Head
 no_head = head_with 0 0 0 0
 
--- what is told of what the reader gives: a record with its owner; a file to include; what is refused; or that nothing is left
+-- what is reported of what the reader gives: a record with its owner; a file to include; an error; or that nothing is left
 abbrev pub TellsGiven : Option (Result EntryRead RecordError) → RecordReader → List ℕ → RecordCall → Type 0
 TellsGiven None reader octets call = TellsEnd reader call
 TellsGiven (Some (Err e)) reader octets call = TellsRefused reader e call
@@ -83,11 +83,11 @@ TellsGiven (Some (Ok (Include origin))) reader octets call = TellsFound 26 reade
 TellsGiven (Some (Ok Nothing)) reader octets call = ⊥
 TellsGiven (Some (Ok Directive)) reader octets call = ⊥
 
--- what the reader gives is refused
+-- what the reader gives is an error
 abbrev pub RefusalIsGiven : Option (Result EntryRead RecordError) → Type 0
 RefusalIsGiven given = (e : RecordError) × (given ≡ Some (Err e))
 
--- a reader that stands where the zone says, behind the state that it holds, gives the next record, and this is told
+-- a reader at the zone's place, with the state that the zone holds, gives the next record, and this is reported
 pub record ReadsZone (text : List ℕ) (state : State) (call : RecordCall) : Type 0 where
   pub before : RecordReader
   pub after : RecordReader

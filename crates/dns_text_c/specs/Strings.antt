@@ -104,7 +104,7 @@ abbrev pub string_octets : Result (ArrayVec ℕ) Fault → Result (List ℕ) Fau
 string_octets (Ok octets) = Ok octets.items
 string_octets (Err fault) = Err fault
 
--- a text is read, and what comes of it is told
+-- a text is read, and the result is reported
 abbrev pub TellsString : List ℕ → List ℕ → ℕ → List ℕ → Outcome → Type 0
 TellsString text old status new outcome = (answer : Result (List ℕ) Fault) × ReadsString text answer × IsTold answer old status new outcome
 
