@@ -115,7 +115,7 @@ fn write_gathered(rt: &HostRuntime, gathered: &Gathered, form: Form) -> Result<(
 pub fn run(
     rt: &HostRuntime,
     files: &[&str],
-    reading: Reading<'_>,
+    reading: &Reading<'_>,
     selection: Selection<'_>,
     form: Form,
 ) -> u8 {
@@ -162,7 +162,7 @@ fn write_sorted(rt: &HostRuntime, sorting: Sorting<'_>, form: Form) -> Result<()
 pub fn run_bounded(
     rt: &HostRuntime,
     files: &[&str],
-    reading: Reading<'_>,
+    reading: &Reading<'_>,
     selection: Selection<'_>,
     form: Form,
     size: usize,

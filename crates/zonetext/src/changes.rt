@@ -140,7 +140,7 @@ pub fn run(
     rt: &HostRuntime,
     first: &str,
     second: &str,
-    reading: Reading<'_>,
+    reading: &Reading<'_>,
     selection: Selection<'_>,
     output: Output,
 ) -> u8 {

@@ -147,6 +147,14 @@ fn options_of<'o>(rt: &HostRuntime, inner: &'o ArgMatches) -> Result<Options<'o>
     let zone = zone_of(inner)?;
     let form = form_of(rt, inner)?;
     let is_text = inner.get_flag("text");
+    let denied = inner.get_strs("deny").unwrap_or(&[]);
+    let denied = codes_of(alloc, denied, "--deny", is_text)?;
+    let allowed = inner.get_strs("allow").unwrap_or(&[]);
+    let allowed = codes_of(alloc, allowed, "--allow", is_text)?;
+    let class = match class_of(inner.get_str("class")) {
+        Ok(class) => class,
+        Err(usage) => return Err(usage),
+    };
     Ok(Options {
         form,
         most: match most {
@@ -154,20 +162,10 @@ fn options_of<'o>(rt: &HostRuntime, inner: &'o ArgMatches) -> Result<Options<'o>
             None if form == Form::Json => 0,
             None => MOST,
         },
-        denied: codes_of(
-            alloc,
-            inner.get_strs("deny").unwrap_or(&[]),
-            "--deny",
-            is_text,
-        )?,
-        allowed: codes_of(
-            alloc,
-            inner.get_strs("allow").unwrap_or(&[]),
-            "--allow",
-            is_text,
-        )?,
+        denied,
+        allowed,
         is_strict: inner.get_flag("strict"),
-        class: class_of(inner.get_str("class"))?,
+        class,
         max_ttl: seconds_of(inner.get_str("max-ttl"), "--max-ttl")?,
         max_entry: if is_text {
             usize::MAX

@@ -128,7 +128,7 @@ fn finish(rt: &HostRuntime, file: &str, mut files: PartFiles<'_>) -> u8 {
 }
 
 /// Gives the entries of a file to its parts, and returns the status.
-fn cut(rt: &HostRuntime, file: &str, reading: Reading<'_>, parter: Parter<'_>) -> u8 {
+fn cut(rt: &HostRuntime, file: &str, reading: &Reading<'_>, parter: Parter<'_>) -> u8 {
     let Outcome { status, taker, .. } = give_entries(rt, &[file], reading, parter);
     let Parter {
         files,
@@ -143,7 +143,7 @@ fn cut(rt: &HostRuntime, file: &str, reading: Reading<'_>, parter: Parter<'_>) -
 
 /// Cuts a file into parts, and returns the status: if an entry is refused, or a file is included,
 /// that is said, and none is written.
-pub fn run<'p>(rt: &'p HostRuntime, file: &str, reading: Reading<'_>, work: Work<'p>) -> u8 {
+pub fn run<'p>(rt: &'p HostRuntime, file: &str, reading: &Reading<'_>, work: Work<'p>) -> u8 {
     let octets = match octets_of(rt, file) {
         Ok(Some(octets)) => octets,
         Ok(None) => {

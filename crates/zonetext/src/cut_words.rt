@@ -45,9 +45,14 @@ fn count_of<'o>(value: &'o str) -> Result<usize, Usage<'o>> {
 /// Cuts a file by the words.
 fn cut_by<'o>(rt: &HostRuntime, inner: &'o ArgMatches) -> Result<u8, Usage<'o>> {
     let base: Option<&'o str> = None;
+    let origin = zone_of(inner)?;
+    let class = match class_of(inner.get_str("class")) {
+        Ok(class) => class,
+        Err(usage) => return Err(usage),
+    };
     let reading = Reading {
-        origin: zone_of(inner)?,
-        class: class_of(inner.get_str("class"))?,
+        origin,
+        class,
         is_one_class: false,
         includes: false,
         max_entry: max_entry_of(inner)?,
@@ -62,7 +67,7 @@ fn cut_by<'o>(rt: &HostRuntime, inner: &'o ArgMatches) -> Result<u8, Usage<'o>> 
         repeats_soa: inner.get_flag("soa"),
     };
     let file = inner.get_str("FILE").unwrap_or("-");
-    Ok(cut::run(rt, file, reading, work))
+    Ok(cut::run(rt, file, &reading, work))
 }
 
 /// Runs the command `cut`, and returns the status.

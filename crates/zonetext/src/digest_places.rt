@@ -100,7 +100,7 @@ impl TakeEntry for Finder {
 pub fn find(
     rt: &HostRuntime,
     file: &str,
-    reading: Reading<'_>,
+    reading: &Reading<'_>,
 ) -> Result<(Gathered, Vec<Placed>), u8> {
     let alloc = rt.alloc();
     let finder = Finder {

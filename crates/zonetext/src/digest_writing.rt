@@ -490,7 +490,7 @@ struct Done {
 fn write(
     rt: &HostRuntime,
     file: &str,
-    reading: Reading<'_>,
+    reading: &Reading<'_>,
     work: Work,
 ) -> Result<Done, Unwritten> {
     let alloc = rt.alloc();
@@ -572,7 +572,7 @@ fn refuse(rt: &HostRuntime, file: &str, why: Unwritten) -> io::Result<u8> {
 /// Puts the digests of the zone in a file right, in the file itself, and returns the status: 0 if
 /// all are right then. A digest is added if there is none. If the file can't stand alone, or an entry
 /// is refused, that is said, and nothing is written.
-pub fn run(rt: &HostRuntime, file: &str, reading: Reading<'_>, work: Work) -> u8 {
+pub fn run(rt: &HostRuntime, file: &str, reading: &Reading<'_>, work: Work) -> u8 {
     if file == "-" {
         let _ = eprintln!(rt;
             "zonetext: digest --write wants a file: standard input can't be replaced"

@@ -120,7 +120,7 @@ impl TakeEntry for Gatherer<'_> {
 pub fn gather(
     rt: &HostRuntime,
     files: &[&str],
-    reading: Reading<'_>,
+    reading: &Reading<'_>,
     selection: Selection<'_>,
 ) -> Result<Gathered, u8> {
     let gatherer = Gatherer::new(rt.alloc(), selection);

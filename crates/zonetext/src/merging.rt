@@ -82,7 +82,10 @@ impl RunReader {
     }
 
     /// The next record. A run that ends before or behind its last record is damaged.
-    fn next_record(&mut self, file: &RunFile<'_>) -> Result<Option<Record<Vec<u8>, Vec<u8>>>, Stop> {
+    fn next_record(
+        &mut self,
+        file: &RunFile<'_>,
+    ) -> Result<Option<Record<Vec<u8>, Vec<u8>>>, Stop> {
         if self.left == 0 {
             let is_read = self.start == self.end && self.given == self.octets.len();
             return if is_read {
@@ -139,7 +142,10 @@ impl Merger {
     }
 
     /// The record that comes next in canonical order.
-    fn next_record(&mut self, file: &RunFile<'_>) -> Result<Option<Record<Vec<u8>, Vec<u8>>>, Stop> {
+    fn next_record(
+        &mut self,
+        file: &RunFile<'_>,
+    ) -> Result<Option<Record<Vec<u8>, Vec<u8>>>, Stop> {
         let Some(Front { record, run }) = self.fronts.take_first() else {
             return Ok(None);
         };

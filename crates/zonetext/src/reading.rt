@@ -19,7 +19,7 @@ use zonetext_report::policy::Policy;
 const MOST: usize = 20;
 
 /// How files are read.
-#[derive(Clone, Copy)]
+#[derive(Drop)]
 pub struct Reading<'o> {
     /// The origin at the beginning of each file, as it is spelled.
     pub origin: Option<&'o str>,
@@ -145,7 +145,7 @@ fn unsaid_codes(alloc: Global, is_one_class: bool) -> Result<Vec<Code>, AllocErr
 }
 
 /// What stands at the beginning of each file.
-fn first_state(reading: Reading<'_>) -> State {
+fn first_state(reading: &Reading<'_>) -> State {
     let state = State::new(reading.class);
     match reading.origin.and_then(name_of) {
         Some(origin) => state.with_origin(origin),
@@ -158,7 +158,7 @@ fn first_state(reading: Reading<'_>) -> State {
 fn give_files<T: TakeEntry + Drop>(
     rt: &HostRuntime,
     files: &[&str],
-    reading: Reading<'_>,
+    reading: &Reading<'_>,
     giver: &mut Giver<'_, T>,
 ) -> u8 {
     let mut status = 0;
@@ -217,7 +217,7 @@ fn finish<T: TakeEntry + Drop>(rt: &HostRuntime, giver: Giver<'_, T>, status: u8
 pub fn give_entries<T: TakeEntry + Drop>(
     rt: &HostRuntime,
     files: &[&str],
-    reading: Reading<'_>,
+    reading: &Reading<'_>,
     taker: T,
 ) -> Outcome<T> {
     let allowed = match unsaid_codes(rt.alloc(), reading.is_one_class) {

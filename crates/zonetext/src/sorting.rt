@@ -68,7 +68,7 @@ impl TakeEntry for Sorting<'_> {
 pub fn gather_sorting<'s>(
     rt: &'s HostRuntime,
     files: &[&str],
-    reading: Reading<'_>,
+    reading: &Reading<'_>,
     selection: Selection<'s>,
     size: usize,
 ) -> Result<Sorting<'s>, u8> {

@@ -127,9 +127,14 @@ fn types_of<'o>(alloc: Global, names: &[&'o str]) -> Result<Vec<RecordType>, Usa
 
 /// How the words of a command ask files to be read.
 fn reading_of<'o>(inner: &'o ArgMatches, is_one_zone: bool) -> Result<Reading<'o>, Usage<'o>> {
+    let origin = zone_of(inner)?;
+    let class = match class_of(inner.get_str("class")) {
+        Ok(class) => class,
+        Err(usage) => return Err(usage),
+    };
     Ok(Reading {
-        origin: zone_of(inner)?,
-        class: class_of(inner.get_str("class"))?,
+        origin,
+        class,
         is_one_class: is_one_zone,
         includes: true,
         max_entry: max_entry_of(inner)?,
@@ -142,7 +147,10 @@ fn reading_of<'o>(inner: &'o ArgMatches, is_one_zone: bool) -> Result<Reading<'o
 
 /// Writes the records of files as they come.
 fn list<'o>(rt: &HostRuntime, inner: &'o ArgMatches, files: &[&str]) -> Result<u8, Usage<'o>> {
-    Ok(records::run(rt, files, reading_of(inner, false)?))
+    match reading_of(inner, false) {
+        Ok(reading) => Ok(records::run(rt, files, &reading)),
+        Err(usage) => Err(usage),
+    }
 }
 
 /// Writes the records of files in canonical form.
@@ -162,10 +170,13 @@ fn write_canonical<'o>(
         is_generic: inner.get_flag("wire"),
         keeps_order: inner.get_flag("keep-order"),
     };
-    let reading = reading_of(inner, true)?;
+    let reading = match reading_of(inner, true) {
+        Ok(reading) => reading,
+        Err(usage) => return Err(usage),
+    };
     match size_of(inner.get_str("memory"), "--memory")? {
-        Some(size) => Ok(canon::run_bounded(rt, files, reading, selection, form, size)),
-        None => Ok(canon::run(rt, files, reading, selection, form)),
+        Some(size) => Ok(canon::run_bounded(rt, files, &reading, selection, form, size)),
+        None => Ok(canon::run(rt, files, &reading, selection, form)),
     }
 }
 
@@ -182,8 +193,10 @@ fn compare<'o>(rt: &HostRuntime, inner: &'o ArgMatches) -> Result<u8, Usage<'o>>
     };
     let first = inner.get_str("A").unwrap_or("-");
     let second = inner.get_str("B").unwrap_or("-");
-    let reading = reading_of(inner, true)?;
-    Ok(changes::run(rt, first, second, reading, selection, output))
+    match reading_of(inner, true) {
+        Ok(reading) => Ok(changes::run(rt, first, second, &reading, selection, output)),
+        Err(usage) => Err(usage),
+    }
 }
 
 /// Checks the digests of a file.
@@ -193,7 +206,10 @@ fn check_digests<'o>(rt: &HostRuntime, inner: &'o ArgMatches) -> Result<u8, Usag
         takes_any: inner.get_flag("any"),
         is_verbose: inner.get_flag("verbose"),
     };
-    Ok(digest::run(rt, file, reading_of(inner, true)?, work))
+    match reading_of(inner, true) {
+        Ok(reading) => Ok(digest::run(rt, file, &reading, work)),
+        Err(usage) => Err(usage),
+    }
 }
 
 /// Runs the command `records`, and returns the status.
@@ -221,7 +237,10 @@ fn write_digests<'o>(rt: &HostRuntime, inner: &'o ArgMatches) -> Result<u8, Usag
         },
         ignores_journal: inner.get_flag("force"),
     };
-    Ok(digest_writing::run(rt, file, reading_of(inner, true)?, work))
+    match reading_of(inner, true) {
+        Ok(reading) => Ok(digest_writing::run(rt, file, &reading, work)),
+        Err(usage) => Err(usage),
+    }
 }
 
 /// Runs the command `digest`, and returns the status.
