@@ -76,7 +76,8 @@ pub fn append_field<Octets: AsOctets, B: OctetsBuilder>(
     origin: Option<&Name<Octets>>,
     target: &mut B,
 ) -> Result<(), ErrorKind>
-    ensures { ReadsField B.room (field_form (option_copied origin.entry) field) token.now.is_quoted token.now.text.now (B.octets target.old) result (B.octets target.new) }
+    ensures { ReadsField B.room (field_form (option_copied origin.entry) field)
+        token.now.is_quoted token.now.text.now (B.octets target.old) result (B.octets target.new) }
 {
     match field {
         Field::Number8 => append_word::<u8, B>(token, target),
@@ -137,7 +138,8 @@ pub fn write_field<W: fmt::Write>(
     f: &mut fmt::Formatter<W>,
 ) -> fmt::Result
     requires { (field_form None field).is_wire octets.now }
-    ensures { WritesOnOk W.write_str_gives f.old result (token_text (field_form None field) octets.now) f.new }
+    ensures { WritesOnOk W.write_str_gives f.old result
+        (token_text (field_form None field) octets.now) f.new }
 {
     match field {
         Field::Number8 => write_word::<u8, W>(octets, f),

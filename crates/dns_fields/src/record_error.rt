@@ -9,7 +9,7 @@ use std::error::Error;
 use std::fmt;
 use std::marker::Model;
 
-/// The name of a field of record data, by the field's place among those of its type: 0 is the first.
+/// The name of a field of record data, by its place among the fields of its type: 0 is the first.
 #[derive(Clone, Copy, Debug, PartialEq, Eq)]
 pub struct FieldName(pub usize);
 
@@ -23,12 +23,12 @@ impl Model for FieldName {
     ghost inverse = { λ place. record { 0 = place } };
 }
 
-/// Why a record is not read. Each layer adds what it knows: a token's reader the offset and the kind,
-/// a reader of fields the field, and a reader of a type's data the type.
+/// Why a record is not read. Each layer adds what it knows: the reader of a token the offset and
+/// the kind, a reader of fields the field, and a reader of a type's data the type.
 #[derive(Clone, Copy, Debug, PartialEq, Eq)]
 pub struct RecordError {
-    /// Octets from the text's beginning to the token or the octet that is refused, or to the entry's
-    /// end where a token is missing.
+    /// Octets from the text's beginning to the token or the octet that is refused, or to the end of
+    /// the entry where a token is missing.
     pub offset: usize,
     /// The type of the record, where its data are refused.
     pub rtype: Option<RecordType>,

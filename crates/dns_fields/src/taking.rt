@@ -18,7 +18,9 @@ pub fn take_field<S: TokenSource, Octets: AsOctets, B: OctetsBuilder>(
     source: &mut S,
     target: &mut B,
 ) -> Result<(), RecordError>
-    ensures takes { TakesField (option_copied origin.entry) B.room field (S.end source.old).at (S.left source.old) (B.octets target.old) result (S.left source.new) (B.octets target.new) }
+    ensures takes { TakesField (option_copied origin.entry) B.room field
+        (S.end source.old).at (S.left source.old) (B.octets target.old)
+        result (S.left source.new) (B.octets target.new) }
     ensures end { S.end source.new ≡ S.end source.old }
 {
     let at = source.place();
@@ -41,7 +43,9 @@ pub fn take_fields<S: TokenSource, Octets: AsOctets, B: OctetsBuilder>(
     source: &mut S,
     target: &mut B,
 ) -> Result<usize, RecordError>
-    ensures takes { TakesAllFields (option_copied origin.entry) B.room fields.now (S.end source.old).at (S.left source.old) (B.octets target.old) result (S.left source.new) (B.octets target.new) }
+    ensures takes { TakesAllFields (option_copied origin.entry) B.room fields.now
+        (S.end source.old).at (S.left source.old) (B.octets target.old)
+        result (S.left source.new) (B.octets target.new) }
     ensures end { S.end source.new ≡ S.end source.old }
 {
     let mut last = source.place();
@@ -62,7 +66,9 @@ pub fn take_each<S: TokenSource, Octets: AsOctets, B: OctetsBuilder>(
     source: &mut S,
     target: &mut B,
 ) -> Result<(), RecordError>
-    ensures takes { TakesEachAs (option_copied origin.entry) B.room field (S.end source.old).at (S.left source.old) (B.octets target.old) result (S.left source.new) (B.octets target.new) }
+    ensures takes { TakesEachAs (option_copied origin.entry) B.room field
+        (S.end source.old).at (S.left source.old) (B.octets target.old)
+        result (S.left source.new) (B.octets target.new) }
     ensures left { OnErr result (S.left source.new ≢ []) }
     ensures end { S.end source.new ≡ S.end source.old }
 {

@@ -21,7 +21,8 @@ pub(crate) fn append_string_field<B: OctetsBuilder>(
     token: &EntryToken<'_>,
     target: &mut B,
 ) -> Result<(), ErrorKind>
-    ensures { ReadsField B.room string_form token.now.is_quoted token.now.text.now (B.octets target.old) result (B.octets target.new) }
+    ensures { ReadsField B.room string_form token.now.is_quoted token.now.text.now
+        (B.octets target.old) result (B.octets target.new) }
 {
     append_string(token.text, target)
 }
@@ -51,7 +52,8 @@ pub(crate) fn append_psdn_address<B: OctetsBuilder>(
     token: &EntryToken<'_>,
     target: &mut B,
 ) -> Result<(), ErrorKind>
-    ensures { ReadsField B.room psdn_address_form token.now.is_quoted token.now.text.now (B.octets target.old) result (B.octets target.new) }
+    ensures { ReadsField B.room psdn_address_form token.now.is_quoted token.now.text.now
+        (B.octets target.old) result (B.octets target.new) }
 {
     if !is_psdn_address(token.text) {
         return Err(ErrorKind::ExpectedPsdnAddress);
@@ -77,7 +79,8 @@ pub(crate) fn append_tag_field<B: OctetsBuilder>(
     token: &EntryToken<'_>,
     target: &mut B,
 ) -> Result<(), ErrorKind>
-    ensures { ReadsField B.room tag_form token.now.is_quoted token.now.text.now (B.octets target.old) result (B.octets target.new) }
+    ensures { ReadsField B.room tag_form token.now.is_quoted token.now.text.now
+        (B.octets target.old) result (B.octets target.new) }
 {
     if token.is_quoted {
         return Err(ErrorKind::Quoted);
@@ -91,7 +94,8 @@ pub(crate) fn append_salt_field<B: OctetsBuilder>(
     token: &EntryToken<'_>,
     target: &mut B,
 ) -> Result<(), ErrorKind>
-    ensures { ReadsField B.room salt_form token.now.is_quoted token.now.text.now (B.octets target.old) result (B.octets target.new) }
+    ensures { ReadsField B.room salt_form token.now.is_quoted token.now.text.now
+        (B.octets target.old) result (B.octets target.new) }
 {
     if token.is_quoted {
         return Err(ErrorKind::Quoted);
@@ -108,7 +112,8 @@ pub(crate) fn append_hash_field<B: OctetsBuilder>(
     token: &EntryToken<'_>,
     target: &mut B,
 ) -> Result<(), ErrorKind>
-    ensures { ReadsField B.room hash_form token.now.is_quoted token.now.text.now (B.octets target.old) result (B.octets target.new) }
+    ensures { ReadsField B.room hash_form token.now.is_quoted token.now.text.now
+        (B.octets target.old) result (B.octets target.new) }
 {
     if token.is_quoted {
         return Err(ErrorKind::Quoted);
@@ -133,7 +138,8 @@ pub(crate) fn append_name_field<Octets: AsOctets, B: OctetsBuilder>(
     origin: Option<&Name<Octets>>,
     target: &mut B,
 ) -> Result<(), ErrorKind>
-    ensures { ReadsField B.room (name_form (option_copied origin.entry)) token.now.is_quoted token.now.text.now (B.octets target.old) result (B.octets target.new) }
+    ensures { ReadsField B.room (name_form (option_copied origin.entry))
+        token.now.is_quoted token.now.text.now (B.octets target.old) result (B.octets target.new) }
 {
     if token.is_quoted {
         return Err(ErrorKind::QuotedName);
@@ -156,7 +162,8 @@ pub(crate) fn write_psdn_address<W: fmt::Write>(
     f: &mut fmt::Formatter<W>,
 ) -> fmt::Result
     requires { IsWirePsdnAddress octets.now }
-    ensures { WritesOnOk W.write_str_gives f.old result (token_text psdn_address_form octets.now) f.new }
+    ensures { WritesOnOk W.write_str_gives f.old result
+        (token_text psdn_address_form octets.now) f.new }
 {
     let digits = &octets[1..];
     write!(f, "{}", QuotedOctets(digits))

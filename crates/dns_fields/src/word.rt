@@ -39,7 +39,8 @@ pub trait Word: Display + Sized {
 
     /// The value that a text spells.
     fn from_text(text: &[u8]) -> Result<Self, ErrorKind>
-        ensures { MatchResult result (λ v. valid v × spells text.now v) (RefusesWord (spells text.now) (reason text.now)) };
+        ensures { MatchResult result (λ v. valid v × spells text.now v)
+            (RefusesWord (spells text.now) (reason text.now)) };
 
     /// The value of octets.
     fn from_wire(octets: &[u8]) -> Self
@@ -53,7 +54,8 @@ pub trait Word: Display + Sized {
         requires { valid self.now }
         ensures ok { OnOk result (B.octets target.new ≡ B.octets target.old ++ wire self.now) }
         ensures err { OnErr result (B.octets target.new ≡ B.octets target.old) }
-        ensures fits { length (wire self.now) ≤ B.room.fits - length (B.octets target.old) → IsOk result };
+        ensures fits { length (wire self.now) ≤ B.room.fits - length (B.octets target.old)
+            → IsOk result };
 
     // A value has so many octets, is printed as a text that spells it, and a text spells one.
     ghost is_kind: { IsWordKind width valid spells wire printed };
@@ -64,7 +66,8 @@ pub fn append_word<W: Word + Drop, B: OctetsBuilder>(
     token: &EntryToken<'_>,
     target: &mut B,
 ) -> Result<(), ErrorKind>
-    ensures reads { ReadsField B.room (word_form W.width W.valid W.spells W.reason W.wire W.printed) token.now.is_quoted token.now.text.now (B.octets target.old) result (B.octets target.new) }
+    ensures reads { ReadsField B.room (word_form W.width W.valid W.spells W.reason W.wire W.printed)
+        token.now.is_quoted token.now.text.now (B.octets target.old) result (B.octets target.new) }
     ensures left { OnErr result (B.octets target.new ≡ B.octets target.old) }
 {
     if token.is_quoted {

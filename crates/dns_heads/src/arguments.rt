@@ -53,7 +53,8 @@ fn take_ttl_argument<S: TokenSource>(source: &mut S) -> Result<u32, RecordError>
 ///
 /// A token that is no time to live is refused, and left. So is one behind it.
 pub fn take_default_ttl<S: TokenSource>(source: &mut S) -> Result<u32, RecordError>
-    ensures takes { TakesDefaultTtl (S.end source.old).at (S.left source.old) result (S.left source.new) }
+    ensures takes { TakesDefaultTtl (S.end source.old).at (S.left source.old)
+        result (S.left source.new) }
     ensures end { S.end source.new ≡ S.end source.old }
 {
     let ttl = take_ttl_argument(source)?;
@@ -69,7 +70,8 @@ pub fn take_file<S: TokenSource, B: OctetsBuilder>(
     source: &mut S,
     target: &mut B,
 ) -> Result<(), RecordError>
-    ensures takes { TakesFile B.room (S.end source.old).at (S.left source.old) (B.octets target.old) result (S.left source.new) (B.octets target.new) }
+    ensures takes { TakesFile B.room (S.end source.old).at (S.left source.old)
+        (B.octets target.old) result (S.left source.new) (B.octets target.new) }
     ensures end { S.end source.new ≡ S.end source.old }
 {
     let at = source.place();

@@ -59,7 +59,8 @@ pub fn take_directive<S: TokenSource>(
     begins_blank: bool,
     source: &mut S,
 ) -> Result<Option<Directive>, RecordError>
-    ensures takes { TakesDirective begins_blank (S.end source.old).at (S.left source.old) result (S.left source.new) }
+    ensures takes { TakesDirective begins_blank (S.end source.old).at (S.left source.old)
+        result (S.left source.new) }
     ensures end { S.end source.new ≡ S.end source.old }
 {
     if begins_blank {

@@ -62,7 +62,8 @@ fn take_class<S: TokenSource>(source: &mut S) -> Option<Class>
 
 /// Takes a time to live and a class, each if it is there, in either order.
 fn take_head<S: TokenSource>(source: &mut S) -> Head
-    ensures takes { TakesHead SaysTtl SaysClass (S.left source.old) result.ttl result.class (S.left source.new) }
+    ensures takes { TakesHead SaysTtl SaysClass (S.left source.old)
+        result.ttl result.class (S.left source.new) }
     ensures end { S.end source.new ≡ S.end source.old }
 {
     if let Some(ttl) = take_ttl(source) {
@@ -95,7 +96,8 @@ fn type_refusal(may_be_ttl: bool, token: &EntryToken<'_>) -> ErrorKind
 
 /// Takes the next token as a type.
 fn take_type<S: TokenSource>(may_be_ttl: bool, source: &mut S) -> Result<RecordType, RecordError>
-    ensures takes { TakesType may_be_ttl (S.end source.old).at (S.left source.old) result (S.left source.new) }
+    ensures takes { TakesType may_be_ttl (S.end source.old).at (S.left source.old)
+        result (S.left source.new) }
     ensures end { S.end source.new ≡ S.end source.old }
 {
     let at = source.place();
@@ -117,7 +119,8 @@ fn take_type<S: TokenSource>(may_be_ttl: bool, source: &mut S) -> Result<RecordT
 /// text; a word that begins with a digit, as no time to live where none was said before it; and any
 /// other word as an unknown type, so also a second time to live. The refused token is left.
 pub fn take_words<S: TokenSource>(source: &mut S) -> Result<Words, WordsRefusal>
-    ensures takes { TakesWords (S.end source.old).at (S.left source.old) result (S.left source.new) }
+    ensures takes { TakesWords (S.end source.old).at (S.left source.old)
+        result (S.left source.new) }
     ensures end { S.end source.new ≡ S.end source.old }
 {
     let head = take_head(source);

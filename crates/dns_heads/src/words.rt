@@ -11,15 +11,16 @@ use dns_split::entry_tokens::EntryToken;
 /// The number of seconds from which on a time to live is 0.
 const LONG: u32 = 0x8000_0000;
 
-/// Returns a time to live of so many seconds, which is 0 if they are 2^31 or more (RFC 2181 section 8).
+/// Returns a time to live of so many seconds, which is 0 if they are 2^31 or more (RFC 2181
+/// section 8).
 pub fn ttl_of_seconds(seconds: u32) -> u32
     ensures { result ≡ ttl_of_seconds seconds }
 {
     if seconds < LONG { seconds } else { 0 }
 }
 
-/// The seconds of the time to live that a token spells: a number of them, or periods such as `1h30m`,
-/// below 2^32. From 2^31 on it is 0 (RFC 2181 section 8).
+/// The seconds of the time to live that a token spells: a number of them, or periods such as
+/// `1h30m`, below 2^32. From 2^31 on it is 0 (RFC 2181 section 8).
 pub fn ttl_word(token: &EntryToken<'_>) -> Option<u32>
     ensures { FindsWord SaysTtl (token_seen token.now) result }
 {
