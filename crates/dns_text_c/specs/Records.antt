@@ -74,6 +74,13 @@ head_with at ttl class rtype = record { place = at; ttl = ttl; class = class; rt
 abbrev pub no_head : Head
 no_head = head_with 0 0 0 0
 
+-- the numbers of what is read, if it is a record
+abbrev pub head_in : EntryRead → Option Head
+head_in (RecordRead at ttl class rtype) = Some (head_with at (seconds_of ttl) class rtype)
+head_in (Include origin) = None
+head_in Nothing = None
+head_in Directive = None
+
 -- what is reported of what the reader gives: a record with its owner; a file to include; an error; or that nothing is left
 abbrev pub TellsGiven : Option (Result EntryRead RecordError) → RecordReader → List ℕ → RecordCall → Type 0
 TellsGiven None reader octets call = TellsEnd reader call

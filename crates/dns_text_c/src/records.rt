@@ -5,7 +5,7 @@ ghost use Rattle.dns_text_c.specs.Kept.{KeepsName, said_origin};
 ghost use Rattle.dns_text_c.specs.Told.{TellsFault, at_start};
 ghost use Rattle.dns_text_c.specs.declared.outcome.Refusal.TheVariants.{BadCursor};
 ghost use Rattle.dns_text_c.specs.declared.records.Record.{Record};
-ghost use Rattle.dns_text_c.specs.Records.{KeepsReader, NextRecord, RefusalIsGiven, TellsFound, TellsGiven, TellsRefused, head_of, memory};
+ghost use Rattle.dns_text_c.specs.Records.{KeepsReader, NextRecord, RefusalIsGiven, TellsFound, TellsGiven, TellsRefused, head_in, head_of, memory};
 
 use crate::kept::{KeptName, Zone, keep_name, keep_state, put_over, state_of};
 use crate::outcome::{END, Fault, INCLUDE, OK, Outcome, Refusal, number_of, refuse};
@@ -43,6 +43,26 @@ pub(crate) struct Head {
     ttl: u32,
     class: Class,
     rtype: RecordType,
+}
+
+/// The numbers of a record that was read; of what is no record there are none.
+fn head_in(read: &EntryRead) -> Option<Head>
+    ensures { result ≡ head_in read.now }
+{
+    match read {
+        EntryRead::Record {
+            at,
+            ttl,
+            class,
+            rtype,
+        } => Some(Head {
+            place: *at,
+            ttl: ttl.seconds(),
+            class: *class,
+            rtype: *rtype,
+        }),
+        EntryRead::Include { .. } | EntryRead::Nothing | EntryRead::Directive => None,
+    }
 }
 
 /// Keeps what a reader knows, and where it stands.
@@ -144,27 +164,6 @@ fn tell_given(
         status = result; outcome = outcome.new }) }
 {
     match given {
-        Some(
-            Ok(
-                EntryRead::Record {
-                    at,
-                    ttl,
-                    class,
-                    rtype,
-                },
-            ),
-        ) => {
-            let head = Head {
-                place: at,
-                ttl: ttl.seconds(),
-                class,
-                rtype,
-            };
-            let owner = &reader.state.owner;
-            tell_found(
-                OK, reader, content, owner, head, zone, found, octets, outcome,
-            )
-        }
         Some(Ok(EntryRead::Include { origin })) => {
             let head = Head {
                 place: 0,
@@ -177,8 +176,15 @@ fn tell_given(
                 INCLUDE, reader, content, &name, head, zone, found, octets, outcome,
             )
         }
-        Some(Ok(EntryRead::Nothing)) => unreachable!(),
-        Some(Ok(EntryRead::Directive)) => unreachable!(),
+        Some(Ok(read)) => {
+            let Some(head) = head_in(&read) else {
+                unreachable!()
+            };
+            let owner = &reader.state.owner;
+            tell_found(
+                OK, reader, content, owner, head, zone, found, octets, outcome,
+            )
+        }
         Some(Err(error)) => tell_refused(reader, &error, zone, octets, outcome),
         None => {
             keep_reader(reader, zone);
