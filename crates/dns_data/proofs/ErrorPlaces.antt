@@ -1,6 +1,6 @@
 -- The places of errors.
-use Rattle.std.proofs.Common.{ℕ, ◌≡◌, ap, sym, ◌∙◌}
-use Rattle.dns_fields.specs.RecordErrors.{error_at, IsErrorAt}
+use Rattle.std.proofs.Common.{ℕ, ◌≡◌, ◌+◌, ap, sym, ◌∙◌}
+use Rattle.dns_fields.specs.RecordErrors.{error_at, error_in_field, IsErrorAt}
 use Rattle.dns_fields.specs.declared.record_error.RecordError.{RecordError}
 use Rattle.dns_kinds.specs.declared.error.ErrorKind.{ErrorKind}
 
@@ -17,3 +17,10 @@ kind_of r h = ap (λ (e : RecordError). e.kind) h
 -- an error that is known, at the same place
 pub known_at : {at place : ℕ} {kind : ErrorKind} (r : RecordError) → r ≡ error_at at kind → at ≡ place → IsErrorAt place r
 known_at {at} {place} r h is = h ∙ ap (error_at at) (sym (kind_of r h)) ∙ ap (λ p. error_at p r.kind) is
+
+-- an error of a field after others
+pub part_error : (r e : RecordError) (field before part : ℕ) → r ≡ error_in_field field e → field ≡ before + part → r ≡ error_in_field (before + part) e
+part_error r e field before part h is = h ∙ ap (λ f. error_in_field f e) is
+
+pub field_error : (r e : RecordError) (field known at place : ℕ) (kind why : ErrorKind) → r ≡ error_in_field field e → e ≡ error_at at kind → field ≡ known → at ≡ place → kind ≡ why → r ≡ error_in_field known (error_at place why)
+field_error r e field known at place kind why h k f p w = h ∙ ap (error_in_field field) k ∙ (λ i. error_in_field (f i) (error_at (p i) (w i)))

@@ -1,5 +1,5 @@
 -- Gateways, as words and as octets.
-use Rattle.std.proofs.Common.{ℕ, zero, suc, true, false, ◌≡◌, ◌≢◌, ◌<◌, ◌≤◌, ◌-◌, ◌*◌, ◌^◌, Option, Some, None, List, [], ◌∷◌, ◌++◌, length, take, drop, refl, sym, ap, subst, ◌∙◌, inl, inr, arith, length-append, take_at, take-append-drop, length-take-le, length-drop}
+use Rattle.std.proofs.Common.{ℕ, zero, suc, false, ◌≡◌, ◌≢◌, ◌<◌, ◌≤◌, ◌-◌, ◌*◌, ◌^◌, Option, Some, None, List, [], ◌∷◌, ◌++◌, length, take, drop, refl, sym, ap, subst, ◌∙◌, inl, inr, arith, length-append, take_at, take-append-drop, length-take-le, length-drop}
 use Rattle.std.specs.Prelude.{Result, Ok, Err, slice_index}
 use Rattle.std.proofs.lemmas.List.Elements.{All-tail}
 use Rattle.dns_digits.proofs.Pieces.{rest_of}
@@ -198,7 +198,7 @@ module _ (room : Room) (algorithm end : ℕ) (tokens : List TokenSeen) (old : Li
   own_key other (Ok x) left new h = (h.0, (h.1.0, (h.1.1.0, λ none. absurd (h.1.1.1 none)), h.1.2))
   own_key other (Err r) left new h = key_refused (some_form (digits_form InBase64)) r left new (λ octets sp. (sp.0, λ none. other (sp.1 none))) why h
     where
-      why : (some_form (digits_form InBase64)).reason tokens left r.why → (key_form algorithm).reason tokens left r.why
+      why : (some_form (digits_form InBase64)).reason tokens left r.kind → (key_form algorithm).reason tokens left r.kind
       why (inl bad) = inl bad
       why (inr none) = inr (none.0, none.1, other, none.2)
 

@@ -1,9 +1,8 @@
 -- Words of digits behind one another.
-use Rattle.std.proofs.Common.{ℕ, true, false, true≢false, ◌≡◌, ◌≢◌, ◌<◌, ◌+◌, ◌⊎◌, List, [], ◌∷◌, ◌++◌, length, refl, sym, ap, subst, ◌∙◌, inl, inr, arith, append-nil}
+use Rattle.std.proofs.Common.{ℕ, false, true≢false, ◌≡◌, ◌≢◌, ◌<◌, ◌+◌, List, [], ◌∷◌, ◌++◌, length, refl, sym, ap, subst, ◌∙◌, inl, inr, append-nil}
 use Rattle.std.proofs.lemmas.List.{append_assoc}
-use Rattle.std.specs.Prelude.{Result, Ok, Err}
 use Rattle.dns_octets.specs.Room.{Room}
-use Rattle.dns_octets.specs.Appending.{Extends, Gains, LacksRoom}
+use Rattle.dns_octets.specs.Appending.{Extends, Gains}
 use Rattle.dns_digits.specs.Reading.{DigitsState, HasRead, TakesPiece, RefusesPiece}
 use Rattle.dns_digits.specs.Spelled.{SpellsDigits, base_of, unfinished}
 use Rattle.dns_digits.specs.Tokens.{DigitsGoOn, RefusesToken}
@@ -19,8 +18,8 @@ use Rattle.dns_digits.proofs.TokenLemmas.{token_refused}
 use Rattle.dns_fields.specs.Source.{next_place}
 use Rattle.dns_split.specs.EntryTokens.{TokenSeen}
 use Rattle.dns_data.specs.Digits.{joined_words, AreUnquoted, SpellsJoined, IsDigitsFault, JoinedReason, digits_form}
-use Rattle.dns_data.specs.Pieces.{PushesDigits, RefusesPush, PushesNext}
-use Rattle.dns_data.specs.Rests.{RefusesAs, RefusesRest, TakesRest}
+use Rattle.dns_data.specs.Pieces.{PushesDigits, RefusesPush}
+use Rattle.dns_data.specs.Rests.{RefusesAs, RefusesRest}
 use Rattle.dns_fields.specs.RecordErrors.{IsErrorAt}
 use Rattle.dns_data.proofs.ErrorPlaces.{placed, moved}
 

@@ -1,7 +1,7 @@
 -- Locations that are refused.
 use Rattle.std.proofs.Math.Seq.{drop-cons}
 use Rattle.std.proofs.Math.ListN.{drop_of_length-le}
-use Rattle.std.proofs.Common.{ℕ, suc, length, drop, get_or, ◌+◌, ◌≤◌, ◌≡◌, ◌<◌, ◌^◌, false, List, [], ◌∷◌, ◌++◌, map, refl, sym, ap, subst, inl, inr, ◌∙◌, arith, append-nil}
+use Rattle.std.proofs.Common.{ℕ, suc, length, drop, get_or, ◌+◌, ◌≤◌, ◌≡◌, ◌<◌, false, List, [], ◌∷◌, map, refl, sym, ap, subst, inl, inr, ◌∙◌, arith, append-nil}
 use Rattle.std.specs.Int.{w32, from_be_bytes, to_be_bytes}
 use Rattle.std.proofs.lemmas.Nat.{from_be_bytes-to_be_bytes_4}
 use Rattle.dns_places.specs.LocationWords.{IsLocation, AreWords, location_words, word_text}
@@ -16,7 +16,7 @@ use Rattle.dns_places.specs.LocationTaking.{RefusesLocation}
 use Rattle.dns_fields.specs.declared.record_error.RecordError.{RecordError}
 use Rattle.dns_split.specs.EntryTokens.{TokenSeen}
 use Rattle.dns_data.specs.LocationRest.{location_at, location_form}
-use Rattle.dns_data.specs.Rests.{PrintedToken, ArePrinted, RefusesAs, RefusesRest, TakesRest}
+use Rattle.dns_data.specs.Rests.{PrintedToken, ArePrinted, RefusesRest, TakesRest}
 
 location_refused : (room : Room) (end : ℕ) (tokens left : List TokenSeen) (old new : List ℕ) (r : RecordError) → new ≡ old → RefusesLocation room end tokens left old r
     → RefusesRest room location_form end tokens old r left new

@@ -1,5 +1,5 @@
 -- Words that name types, one behind the other.
-use Rattle.std.proofs.Common.{ℕ, true, false, true≢false, ◌≡◌, ◌≢◌, ◌<◌, ◌⊎◌, List, [], ◌∷◌, ◌++◌, length, refl, sym, ap, subst, ◌∙◌, inl, inr, arith, append-nil}
+use Rattle.std.proofs.Common.{ℕ, true≢false, ◌≡◌, ◌≢◌, List, [], ◌∷◌, ◌++◌, refl, sym, ap, subst, ◌∙◌, inl, inr, append-nil}
 use Rattle.std.proofs.lemmas.List.{append_assoc}
 use Rattle.dns_kinds.specs.Types.{SpellsType}
 use Rattle.dns_kinds.proofs.CodeLaws.{types_are_kind}

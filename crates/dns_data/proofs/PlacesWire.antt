@@ -1,7 +1,6 @@
 -- What tokens spell of address prefixes and gateways are octets of their forms.
-use Rattle.std.proofs.Common.{ℕ, Option, None, ◌≡◌, ◌⊎◌, List, [], ◌∷◌, ◌++◌, refl, sym, ap, subst, ◌∙◌, inl, inr}
+use Rattle.std.proofs.Common.{ℕ, Option, None, List, [], ◌∷◌, ◌++◌, ap, subst, ◌∙◌, inl, inr}
 use Rattle.std.specs.Prelude.{slice_index}
-use Rattle.dns_digits.specs.declared.kind.DigitsKind.TheVariants.{Base64 as InBase64}
 use Rattle.dns_fields.specs.declared.field.Field.TheVariants.{Number8 as OfNumber8}
 use Rattle.dns_fields.proofs.FormLaws.{fields_are_forms}
 use Rattle.dns_places.proofs.PrefixLaws.{prefixes_are_read}
@@ -9,12 +8,11 @@ use Rattle.dns_spelling.specs.NameSpelling.{IsOrigin}
 use Rattle.dns_spelling.specs.Spelling.{AreOctetValues}
 use Rattle.dns_spelling.proofs.NameLaws.{names_spelled}
 use Rattle.dns_split.specs.EntryTokens.{TokenSeen}
-use Rattle.dns_data.specs.Digits.{digits_form}
 use Rattle.dns_data.specs.GatewayKeys.{octet_form, gateway_type_form, gateway_form, gateway_key_form, key_form}
-use Rattle.dns_data.specs.PrefixLists.{IsPrefixItem, prefix_form, prefixes_form}
+use Rattle.dns_data.specs.PrefixLists.{prefix_form, prefixes_form}
 use Rattle.dns_data.specs.RestLaws.{HoldOctets}
-use Rattle.dns_data.specs.Rests.{RestForm, some_form}
-use Rattle.dns_data.specs.TokenForms.{TokenForm, SpellOctets, AreParts, SpellsThen, IsThen, then_form}
+use Rattle.dns_data.specs.Rests.{RestForm}
+use Rattle.dns_data.specs.TokenForms.{TokenForm, SpellOctets, AreParts, SpellsThen, IsThen}
 use Rattle.dns_data.proofs.GatewayLaws.{behind_algorithm, behind_type}
 
 each_wire : (f : TokenForm) → ((t : TokenSeen) (octets : List ℕ) → AreOctetValues t.text → f.spells t octets → f.is_wire octets)

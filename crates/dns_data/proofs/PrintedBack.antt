@@ -83,29 +83,29 @@ each_back origin (s ∷ ss) (t ∷ ts) short p = (
 )
 
 abbrev type_token : ℕ → PrintedToken
-type_token code = record { is_quoted = false; text = portable_text (record { 0 = code }) }
+type_token rtype = record { is_quoted = false; text = portable_text rtype }
 
-not_zero : (code : ℕ) (types : List ℕ) → has (code ∷ types) 0 ≡ false → (code ≢ 0) × (has types 0 ≡ false)
-not_zero code types h = by (code == 0) refl h
+not_zero : (rtype : ℕ) (types : List ℕ) → has (rtype ∷ types) 0 ≡ false → (rtype ≢ 0) × (has types 0 ≡ false)
+not_zero rtype types h = by (rtype == 0) refl h
   where
-    by : (b : Bool) → (code == 0) ≡ b → (b || has types 0) ≡ false → (code ≢ 0) × (has types 0 ≡ false)
+    by : (b : Bool) → (rtype == 0) ≡ b → (b || has types 0) ≡ false → (rtype ≢ 0) × (has types 0 ≡ false)
     by true is h = absurd (true≢false h)
-    by false is h = (eqb-false code 0 is, h)
+    by false is h = (eqb-false rtype 0 is, h)
 
-named_back : (types : List ℕ) (tokens : List TokenSeen) → All (λ code. code < 65536) types → has types 0 ≡ false → ArePrinted (map type_token types) tokens → NameTypes tokens types
+named_back : (types : List ℕ) (tokens : List TokenSeen) → All (λ rtype. rtype < 65536) types → has types 0 ≡ false → ArePrinted (map type_token types) tokens → NameTypes tokens types
 named_back [] [] small some p = tt
 named_back [] (t ∷ ts) small some p = absurd p
-named_back (code ∷ types) [] small some p = absurd p
-named_back (code ∷ types) (t ∷ ts) small some p =
-    let n = not_zero code types some in
-    let low = All-head (λ c. c < 65536) code types small in (
-      (p.0, subst (λ text. SpellsType text (record { 0 = code })) (sym p.1) (portable_types_are_kind.spelled (record { 0 = record { 0 = code } }) (omega (arith, low))), n.0),
-      named_back types ts (All-tail (λ c. c < 65536) code types small) n.1 p.3,
+named_back (rtype ∷ types) [] small some p = absurd p
+named_back (rtype ∷ types) (t ∷ ts) small some p =
+    let n = not_zero rtype types some in
+    let low = All-head (λ c. c < 65536) rtype types small in (
+      (p.0, subst (λ text. SpellsType text rtype) (sym p.1) (portable_types_are_kind.spelled (record { 0 = rtype }) (omega (arith, low))), n.0),
+      named_back types ts (All-tail (λ c. c < 65536) rtype types small) n.1 p.3,
     )
 
 types_back : (octets : List ℕ) (tokens : List TokenSeen) → types_form.is_wire octets → ArePrinted (types_form.printed octets) tokens → types_form.spells tokens octets
 types_back octets tokens is p =
-    let small = subst (λ o. All (λ code. code < 65536) (types_of o)) is.0.1 (types_of_small is.0.0) in
+    let small = subst (λ o. All (λ rtype. rtype < 65536) (types_of o)) is.0.1 (types_of_small is.0.0) in
     (types_of octets, named_back (types_of octets) tokens small is.1 p, sym (bitmap_of_types octets is.0))
 
 module _ (origin : Option (List (List ℕ))) (known : IsOrigin origin) where

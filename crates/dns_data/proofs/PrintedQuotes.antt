@@ -98,9 +98,9 @@ digits_well : (kind : DigitsKind) (octets : List ℕ) → AllByRecursion IsQuote
 digits_well kind [] = tt
 digits_well kind (o ∷ os) = ((λ quoted. absurd (true≢false (sym quoted))), tt)
 
-types_well : (types : List ℕ) → AllByRecursion IsQuotedWell (map (λ code. record { is_quoted = false; text = portable_text (record { 0 = code }) }) types)
+types_well : (types : List ℕ) → AllByRecursion IsQuotedWell (map (λ rtype. record { is_quoted = false; text = portable_text rtype }) types)
 types_well [] = tt
-types_well (code ∷ types) = (plain_well (portable_text (record { 0 = code })), types_well types)
+types_well (rtype ∷ types) = (plain_well (portable_text rtype), types_well types)
 
 words_well : (words : List (List ℕ)) → AllByRecursion IsQuotedWell (map (λ word. record { is_quoted = false; text = word }) words)
 words_well [] = tt

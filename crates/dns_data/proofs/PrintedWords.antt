@@ -97,22 +97,22 @@ module _ (prefix : List ℕ) (plain : ArePlain prefix) (code : ℕ) (small : cod
       by true later = own
       by false later = later
 
-pub named_type_word : (code : ℕ) → code < 2 ^ 64 → IsPlainWord (type_text (record { 0 = code }))
-named_type_word code small = code_word type_prefix refl code small type_rows type_names
+pub named_type_word : (rtype : ℕ) → rtype < 2 ^ 64 → IsPlainWord (type_text rtype)
+named_type_word rtype small = code_word type_prefix refl rtype small type_rows type_names
 
-pub type_word : (code : ℕ) → code < 2 ^ 64 → IsPlainWord (portable_text (record { 0 = code }))
-type_word code small = by (is_portable code)
+pub type_word : (rtype : ℕ) → rtype < 2 ^ 64 → IsPlainWord (portable_text rtype)
+type_word rtype small = by (is_portable rtype)
   where
-    by : (known : Bool) → IsPlainWord (if known then type_text (record { 0 = code }) else type_prefix ++ decimal code)
-    by true = named_type_word code small
-    by false = numbered_word type_prefix refl code small
+    by : (known : Bool) → IsPlainWord (if known then type_text rtype else type_prefix ++ decimal rtype)
+    by true = named_type_word rtype small
+    by false = numbered_word type_prefix refl rtype small
 
-sig_type_word : (code : ℕ) → code < 2 ^ 64 → IsPlainWord (sig_type_text (record { 0 = code }))
-sig_type_word code small = by (code == 0)
+sig_type_word : (rtype : ℕ) → rtype < 2 ^ 64 → IsPlainWord (sig_type_text rtype)
+sig_type_word rtype small = by (rtype == 0)
   where
-    by : (none : Bool) → IsPlainWord (if none then codes "0" else portable_text (record { 0 = code }))
+    by : (none : Bool) → IsPlainWord (if none then codes "0" else portable_text rtype)
     by true = record { some = omega arith; plain = refl }
-    by false = type_word code small
+    by false = type_word rtype small
 
 -- ---- fields
 
@@ -351,9 +351,9 @@ gateway_key_words octets is =
 
 -- ---- all kinds of what goes to the end of an entry
 
-types_words : (types : List ℕ) → All (λ code. code < 65536) types → AreWell (map (λ code. record { is_quoted = false; text = portable_text (record { 0 = code }) }) types)
+types_words : (types : List ℕ) → All (λ rtype. rtype < 65536) types → AreWell (map (λ rtype. record { is_quoted = false; text = portable_text rtype }) types)
 types_words [] small = tt
-types_words (code ∷ types) small = (a_word _ (type_word code (omega (arith, All-head (λ c. c < 65536) code types small))), types_words types (All-tail (λ c. c < 65536) code types small))
+types_words (rtype ∷ types) small = (a_word _ (type_word rtype (omega (arith, All-head (λ c. c < 65536) rtype types small))), types_words types (All-tail (λ c. c < 65536) rtype types small))
 
 bitmap_words : (octets : List ℕ) → types_form.is_wire octets → AreWell (types_form.printed octets)
 bitmap_words octets is = types_words (types_of octets) (subst (λ o. All (λ code. code < 65536) (types_of o)) is.0.1 (types_of_small is.0.0))

@@ -1,8 +1,8 @@
 -- What has one octet at least.
-use Rattle.std.proofs.Common.{ℕ, ◌≡◌, ◌≢◌, ◌<◌, ◌+◌, ◌⊎◌, List, [], ◌∷◌, ◌++◌, length, refl, sym, ap, subst, ◌∙◌, inl, inr, arith, append-nil, length-append}
+use Rattle.std.proofs.Common.{ℕ, ◌≡◌, ◌≢◌, List, [], ◌∷◌, ◌++◌, length, refl, sym, ap, subst, ◌∙◌, inl, inr, arith, append-nil, length-append}
 use Rattle.std.specs.Prelude.{Result, Ok, Err}
 use Rattle.dns_octets.specs.Room.{Room}
-use Rattle.dns_octets.specs.Appending.{Extends, Gains, LacksRoom}
+use Rattle.dns_octets.specs.Appending.{Gains}
 use Rattle.dns_fields.specs.Source.{next_place}
 use Rattle.dns_split.specs.EntryTokens.{TokenSeen}
 use Rattle.dns_data.specs.Rests.{RestForm, RefusesAs, RefusesRest, TakesRest, WantsMore, some_form}

@@ -8,7 +8,6 @@ use Rattle.dns_fields.specs.Forms.{StringReason}
 use Rattle.dns_fields.specs.declared.record_error.RecordError.{RecordError}
 use Rattle.dns_kinds.specs.declared.error.ErrorKind.{ErrorKind}
 use Rattle.dns_kinds.specs.declared.error.ErrorKind.TheVariants.{ShortBuf}
-use Rattle.dns_fields.specs.declared.field.Field.{Field}
 use Rattle.dns_fields.specs.declared.field.Field.TheVariants.{String as OfString}
 use Rattle.dns_fields.proofs.Refused.{each_only_room, same_field}
 use Rattle.dns_split.specs.EntryTokens.{TokenSeen}

@@ -1,17 +1,17 @@
 -- The one token of a text.
-use Rattle.std.proofs.Common.{ℕ, Bool, true, false, true≢false, ◌≡◌, ◌≢◌, ◌<◌, ◌⊎◌, List, [], ◌∷◌, ◌++◌, length, drop, refl, sym, ap, subst, ◌∙◌, inl, inr, append-nil}
-use Rattle.std.specs.Prelude.{Result, Ok, Err, OnOk, IfErr, OnErr}
+use Rattle.std.proofs.Common.{ℕ, Bool, true, false, true≢false, ◌≡◌, List, [], ◌∷◌, refl, sym, ap, subst, ◌∙◌, inl, inr, append-nil}
+use Rattle.std.specs.Prelude.{Result, Ok, Err}
 use Rattle.dns_octets.specs.Room.{Room}
-use Rattle.dns_octets.specs.Appending.{Extends, Gains, LacksRoom}
+use Rattle.dns_octets.specs.Appending.{Extends, Gains}
 use Rattle.dns_fields.specs.Source.{next_place}
-use Rattle.dns_spelling.specs.Spelling.{SpellsOctetList, SpellsToBadEscape, RefusesOctets}
+use Rattle.dns_spelling.specs.Spelling.{SpellsOctetList, RefusesOctets}
 use Rattle.dns_fields.specs.RecordErrors.{error_at}
 use Rattle.dns_fields.specs.declared.record_error.RecordError.{RecordError}
 use Rattle.dns_kinds.specs.declared.error.ErrorKind.{ErrorKind}
 use Rattle.dns_kinds.specs.declared.error.ErrorKind.TheVariants.{ShortBuf, NotQuoted, BadEscape}
 use Rattle.dns_split.specs.EntryTokens.{TokenSeen}
 use Rattle.dns_data.specs.Rests.{RefusesAs, RefusesRest, TakesRest}
-use Rattle.dns_data.specs.Texts.{AreText, TakesNoToken, TextReason, text_form, nothing_form}
+use Rattle.dns_data.specs.Texts.{AreText, TakesNoToken, text_form, nothing_form}
 use Rattle.dns_data.proofs.ErrorPlaces.{placed, kind_of, known_at}
 
 -- nothing is left and nothing gained

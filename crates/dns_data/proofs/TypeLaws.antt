@@ -1,5 +1,5 @@
 -- Data by type.
-use Rattle.std.proofs.Common.{ℕ, Option, Some, ◌≡◌, ◌⊎◌, List, [], ◌∷◌, ◌++◌, ◌∙◌, ◌+◌, ◌-◌, false, true, arith, length, length-append, take, drop, refl, sym, ap, subst, inl, inr}
+use Rattle.std.proofs.Common.{ℕ, Option, Some, ◌≡◌, List, [], ◌++◌, ◌∙◌, ◌+◌, ◌-◌, false, true, arith, length, length-append, take, drop, sym, ap, subst, inl, inr}
 use Rattle.std.proofs.Math.Seq.{drop-append_seam}
 use Rattle.std.proofs.lemmas.List.{take_all}
 use Rattle.std.specs.Prelude.{Result, Ok, Err, option_map}

@@ -1,7 +1,7 @@
 -- Record data by the type of the record.
-use Rattle.std.specs.Prelude.{ℕ, ◌≡◌, ◌≢◌, ◌⊎◌, ◌<◌, ◌+◌, ◌==◌, find, Option, Some, None, option_map, option_copied, slice_get, List, [], ◌∷◌, ◌++◌, length, Result, Ok, Err}
+use Rattle.std.specs.Prelude.{ℕ, ◌≡◌, ◌≢◌, ◌⊎◌, ◌<◌, ◌==◌, find, Option, Some, None, option_map, slice_get, List, [], Result, Ok, Err}
 use Rattle.dns_octets.specs.Room.{Room}
-use Rattle.dns_octets.specs.Appending.{Extends, Gains}
+use Rattle.dns_octets.specs.Appending.{Gains}
 use Rattle.dns_fields.specs.Source.{next_place}
 use Rattle.dns_split.specs.EntryTokens.{TokenSeen}
 use Rattle.dns_kinds.specs.Rtype as Rtype
@@ -10,7 +10,7 @@ use Rattle.dns_fields.specs.declared.record_error.FieldName.{FieldName}
 use Rattle.dns_data.specs.Data.{SpellsData, IsDataOf, ReadsData}
 use Rattle.dns_data.specs.Generic.{BeginsGeneric, SpellsGeneric, generic_form}
 use Rattle.dns_data.specs.Rests.{RefusesRest}
-use Rattle.dns_data.specs.Types.{TypeShape, type_shape, type_shapes, row_shape}
+use Rattle.dns_data.specs.Types.{TypeShape, type_shapes, row_shape}
 use Rattle.dns_fields.specs.RecordErrors.{error_at, error_of_type}
 use Rattle.dns_fields.specs.declared.record_error.RecordError.{RecordError}
 use Rattle.dns_kinds.specs.declared.error.ErrorKind.TheVariants.{NotOfType, NoDataType, NoTextForm}
@@ -54,7 +54,7 @@ abbrev pub ReadsGeneric : Option TypeRow → Room → ℕ → List TokenSeen →
 ReadsGeneric row room end tokens old (Ok _) left new = (left ≡ []) × Gains (SpellsGenericData (option_map row_shape row) tokens) old new
 ReadsGeneric row room end tokens old (Err r) left new = RefusesGeneric (option_map row_shape row) room end tokens old r left new
 
--- the name of a field of data, by its place: those of the fields that are one token each, and behind them those of the rest
+-- the name of a field of data by its place: the fields of one token each come first, and then those of the rest
 abbrev pub name_of_field : Option TypeShape → FieldName → Option (List ℕ)
 name_of_field None field = None
 name_of_field (Some s) field = slice_get s.names field

@@ -30,13 +30,13 @@ found_length Any octets = 0
 found_length (Digest digests place) octets = length octets - (place + 1)
 found_length Hash octets = slice_index octets (5 + slice_index octets 4)
 
--- how many it has to have, as the number in front of it says: the digest as its list says, and a hash of SHA-1 20
+-- how many octets it is to have, by the number before it: a digest as its list says, and a hash of SHA-1 20
 abbrev pub wanted_length : Length → List ℕ → ℕ
 wanted_length Any octets = 0
 wanted_length (Digest digests place) octets = wanted_digest digests (slice_index octets place)
 wanted_length Hash octets = 20
 
--- it has not so many
+-- it has another number of octets
 abbrev pub wrong_length : Length → List ℕ → ErrorKind
 wrong_length lengths octets = WrongLength (found_length lengths octets) (wanted_length lengths octets)
 
@@ -72,7 +72,7 @@ HasWrongHash Any octets = ⊥
 HasWrongHash (Digest digests place) octets = ⊥
 HasWrongHash Hash octets = (5 + slice_index octets 4 < length octets) × (HasLength Hash octets → ⊥)
 
--- all tokens behind the fields are taken, and the digest among the octets has not as many as it has to
+-- all tokens after the fields are taken, and the length of the digest is wrong
 abbrev pub IsWrongLength : Shape → ℕ → List TokenSeen → List ℕ → RecordError → Type 0
 IsWrongLength shape end behind octets r =
     (HasLength shape.length octets → ⊥) × (r ≡ error_in_field (length shape.fields.now) (error_at (next_place behind end) (wrong_length shape.length octets)))

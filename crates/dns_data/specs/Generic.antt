@@ -1,6 +1,6 @@
 -- Record data in the generic form (RFC 3597 section 5).
 use Rattle.std.specs.Prelude.{ℕ, ◌≡◌, ◌≢◌, ◌⊎◌, ◌^◌, true, false, List, [], ◌∷◌, length, codes, decimal, Result, Ok, Err}
-use Rattle.dns_codec.specs.Base.{base16, encoded}
+use Rattle.dns_codec.specs.Base.{base16}
 use Rattle.dns_digits.specs.declared.kind.DigitsKind.TheVariants.{Hex}
 use Rattle.dns_fields.specs.Source.{next_place}
 use Rattle.dns_fields.specs.Words.{SpellsBelow, NumberReason}
@@ -11,7 +11,7 @@ use Rattle.dns_kinds.specs.declared.error.ErrorKind.TheVariants.{EndOfEntry, Quo
 use Rattle.dns_spelling.specs.Spelling.{AreOctetValues}
 use Rattle.dns_split.specs.EntryTokens.{TokenSeen}
 use Rattle.dns_data.specs.Digits.{SpellsJoined, digits_form, printed_digits}
-use Rattle.dns_data.specs.Rests.{RestForm, PrintedToken}
+use Rattle.dns_data.specs.Rests.{RestForm}
 
 -- a backslash and a number sign, without quotes
 abbrev pub IsGenericMark : TokenSeen → Type 0

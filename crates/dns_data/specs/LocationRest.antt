@@ -1,5 +1,5 @@
 -- Locations (RFC 1876), which go to the end of an entry.
-use Rattle.std.specs.Prelude.{ℕ, ◌≡◌, ◌==◌, Bool, not, false, List, map, take, drop, slice_index}
+use Rattle.std.specs.Prelude.{ℕ, ◌==◌, Bool, not, false, List, map, take, drop, slice_index}
 use Rattle.std.specs.Int.{from_be_bytes, w32}
 use Rattle.dns_places.specs.LocationPlaces.{IsFirstRefused}
 use Rattle.dns_places.specs.LocationTaking.{RefusesTokens}

@@ -1,5 +1,5 @@
 -- Service parameters (RFC 9460 section 2.1), which go to the end of an entry.
-use Rattle.std.specs.Prelude.{List, map}
+use Rattle.std.specs.Prelude.{map}
 use Rattle.dns_lists.specs.Params.{params_of}
 use Rattle.dns_lists.specs.ParamsFaults.{AreRightParams}
 use Rattle.dns_params.specs.ParamRefusals.{ParamsReason}

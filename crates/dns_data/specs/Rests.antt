@@ -1,5 +1,5 @@
 -- What goes to the end of an entry: the tokens that spell it, its octets, and the tokens that it is printed as.
-use Rattle.std.specs.Prelude.{ℕ, ◌≡◌, ◌≢◌, ◌⊎◌, ◌+◌, length, ⊤, Bool, true, false, List, [], ◌∷◌, ◌++◌, Result, Ok, Err}
+use Rattle.std.specs.Prelude.{ℕ, ◌≡◌, ◌≢◌, ◌⊎◌, ◌+◌, length, ⊤, Bool, false, List, [], ◌∷◌, ◌++◌, Result, Ok, Err}
 use Rattle.dns_octets.specs.Room.{Room}
 use Rattle.dns_octets.specs.Appending.{Extends, Gains, LacksRoom}
 use Rattle.dns_split.specs.EntryTokens.{TokenSeen}
@@ -50,7 +50,7 @@ abbrev pub TakesRest : Room → RestForm → ℕ → List TokenSeen → List ℕ
 TakesRest room f end tokens old (Ok _) left new = (left ≡ []) × Gains (f.spells tokens) old new
 TakesRest room f end tokens old (Err r) left new = RefusesRest room f end tokens old r left new
 
--- the same, of what has parts, each a field of the data, of which so many are before; of a token that is refused the part is known
+-- the same, of what has parts, each a field of the data after others, whose number is given; the error says which is refused
 abbrev pub TakesInParts : Room → RestForm → (List TokenSeen → List TokenSeen → ℕ → Type 0) → ℕ → ℕ → List TokenSeen → List ℕ → Result (Unit {0}) RecordError → List TokenSeen → List ℕ → Type 0
 TakesInParts room f IsPart before end tokens old (Ok x) left new = TakesRest room f end tokens old (Ok x) left new
 TakesInParts room f IsPart before end tokens old (Err r) left new =

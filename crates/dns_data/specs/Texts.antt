@@ -1,6 +1,5 @@
 -- Text of any length, as the one token that is left.
 use Rattle.std.specs.Prelude.{ℕ, ◌≡◌, ◌⊎◌, Bool, true, false, List, [], ◌∷◌, Result, Ok, Err}
-use Rattle.dns_fields.specs.Source.{next_place}
 use Rattle.dns_fields.specs.RecordErrors.{error_at}
 use Rattle.dns_fields.specs.declared.record_error.RecordError.{RecordError}
 use Rattle.dns_kinds.specs.declared.error.ErrorKind.{ErrorKind}
@@ -8,7 +7,7 @@ use Rattle.dns_kinds.specs.declared.error.ErrorKind.TheVariants.{EndOfEntry, Tra
 use Rattle.dns_spelling.specs.Shown.{text_in_quotes}
 use Rattle.dns_spelling.specs.Spelling.{AreOctetValues, SpellsOctetList, SpellsToBadEscape}
 use Rattle.dns_split.specs.EntryTokens.{TokenSeen}
-use Rattle.dns_data.specs.Rests.{RestForm, PrintedToken, BehindSome}
+use Rattle.dns_data.specs.Rests.{RestForm, BehindSome}
 
 -- no token is left, or the next is refused
 abbrev pub TakesNoToken : ℕ → List TokenSeen → Result (Unit {0}) RecordError → List TokenSeen → Type 0

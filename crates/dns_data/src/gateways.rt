@@ -151,8 +151,8 @@ fn take_key<S: TokenSource, B: OctetsBuilder>(
 /// an IPv6 address, 3 for a name), an algorithm, the gateway, and a key in base 64, and appends their
 /// octets. A gateway of type 0 is written `.`. A name is uncompressed, and a relative one before
 /// the origin. Other types are refused. The key may be left out only if the algorithm is 0 (RFC 4025
-/// section 2.4). These are four fields of data, of which so many are before, and an error says which
-/// of them is refused.
+/// section 2.4). These are four fields of data after `before` others. An error says which field is
+/// refused.
 pub(crate) fn take_gateway_parts<S: TokenSource, Octets: AsOctets, B: OctetsBuilder>(
     before: usize,
     origin: Option<&Name<Octets>>,

@@ -142,8 +142,8 @@ pub fn take_rest<S: TokenSource, Octets: AsOctets, B: OctetsBuilder + AsOctetsMu
     }
 }
 
-/// Takes the tokens that are left, and appends the octets that they spell. They are fields of data, of
-/// which so many are before. An error says which of the fields is refused.
+/// Takes the tokens that are left, and appends the octets that they spell. They are fields of data
+/// after `before` others. An error says which field is refused.
 pub(crate) fn take_parts<S: TokenSource, Octets: AsOctets, B: OctetsBuilder + AsOctetsMut>(
     before: usize,
     rest: Rest,

@@ -1,19 +1,22 @@
 use Rattle.std.proofs.Common.{refl, inl}
+use Rattle.std.proofs.lemmas.Result.{err_from_is_err_and}
 use Rattle.dns_data.specs.Types.{row_shape}
 use Rattle.dns_data.proofs.TypeLaws.{generic_typed, generic_mistyped}
 use Rattle.dns_data.proofs.by_type.read_generic.Goals as goal
 
-pub returns-in-Err-clause-reads : goal.returns-in-Err-clause-reads
-returns-in-Err-clause-reads g c = inl c.in-Err.ensures.takes
+pub returns-in_err-take_generic-clause-reads : goal.returns-in_err-take_generic-clause-reads
+returns-in_err-take_generic-clause-reads g c =
+    let p = err_from_is_err_and c.from_residual.result c.from_residual.ensures.1 in
+    rw (p.1, p.2) (inl c.in_err-take_generic.ensures.takes)
 
 pub returns-then-check_data-clause-reads : goal.returns-then-check_data-clause-reads
 returns-then-check_data-clause-reads g c =
     let e = c.shape.ensures in
     rw c.in-Some.is (generic_typed (row_shape c.in-Some.row.now) c.shape.result _ _ _ _ c.as_slice.result.now c.as_slice-begun.result.now (e.fields, e.rest, e.length)
-    c.as_slice-begun.ensures.value c.as_slice.ensures.value c.in_default.ensures.takes (c.if-check_data.ensures.0 refl))
+    c.as_slice-begun.ensures.value c.as_slice.ensures.value c.in_ok-take_generic.ensures.takes (c.if-check_data.ensures.0 refl))
 
 pub returns-else-check_data-clause-reads : goal.returns-else-check_data-clause-reads
 returns-else-check_data-clause-reads g c =
     let e = c.shape.ensures in
-    rw c.in-Some.is (generic_mistyped (row_shape c.in-Some.row.now) c.shape.result g.B.OctetsBuilder.room _ c.place-at.result _ _ _ _ c.as_slice.result.now c.as_slice-begun.result.now
-    (e.fields, e.rest, e.length) c.as_slice-begun.ensures.value c.as_slice.ensures.value c.place-at.ensures c.in_default.ensures.takes c.if-check_data.ensures.1)
+    rw (c.in-Some.is, c.at.ensures) (generic_mistyped (row_shape c.in-Some.row.now) c.shape.result g.B.OctetsBuilder.room _ c.place-at.result _ _ _ _ c.as_slice.result.now c.as_slice-begun.result.now
+    (e.fields, e.rest, e.length) c.as_slice-begun.ensures.value c.as_slice.ensures.value c.place-at.ensures c.in_ok-take_generic.ensures.takes c.if-check_data.ensures.1)

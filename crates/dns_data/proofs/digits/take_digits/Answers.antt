@@ -1,9 +1,5 @@
-use Rattle.std.proofs.Common.{refl, ◌∙◌, sym, subst, ap}
-use Rattle.std.proofs.Common.{List, ℕ}
+use Rattle.std.proofs.Common.{refl, ◌∙◌, sym, ap}
 use Rattle.std.proofs.lemmas.Result.{err_from_is_err_and}
-use Rattle.dns_digits.specs.Reading.{HasRead}
-use Rattle.dns_digits.specs.Spelled.{SpellsDigits, base_of}
-use Rattle.dns_digits.proofs.TokenLemmas.{match_ok}
 use Rattle.dns_fields.proofs.Tokens.{none_left}
 use Rattle.dns_data.proofs.Joinings.{none_joined, more_joined, all_joined, push_refused, ends_within}
 use Rattle.dns_data.proofs.Sources.{some_left}

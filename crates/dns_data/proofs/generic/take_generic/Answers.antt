@@ -1,4 +1,5 @@
-use Rattle.std.proofs.Common.{ℕ, ◌-◌, ◌≡◌, length, sym, ap, subst, ◌∙◌}
+use Rattle.std.proofs.Common.{◌-◌, ◌≡◌, length, sym, ap, ◌∙◌}
+use Rattle.std.proofs.lemmas.Result.{err_from_is_err_and}
 use Rattle.dns_data.proofs.GenericLaws.{wrong_count, count_refused, digits_refused, generic_spelled}
 use Rattle.dns_data.proofs.generic.take_generic.Goals as goal
 
@@ -7,21 +8,27 @@ returns-then-found-wanted-clause-takes g c =
     let octets = g.B.AsOctets.octets in
     let before : length c.as_slice-begun.result.now ≡ length (octets c.args.target.now) = ap length c.as_slice-begun.ensures.value in
     let after : length c.as_slice.result.now ≡ length (octets c.take_digits.new.target) = ap length c.as_slice.ensures.value in
-    wrong_count g.B.OctetsBuilder.room _ _ c.place-at.result c.in-Ok.count _ _ _ _ _ _ c.requires c.advance.ensures.left (ap (λ e. e.at) (c.take_digits.ensures.end ∙ c.take_count.ensures.end ∙ c.advance.ensures.end)) c.place-at.ensures
-    c.in-Ok.ensures.takes c.in_default.ensures.takes (λ same. c.if-gained-from.true (ap (λ n. n - length c.as_slice-begun.result.now) after ∙ ap (λ n. length (octets c.take_digits.new.target) - n) before ∙ same ∙ sym c.from.ensures))
+    let found = ap (λ n. n - length c.as_slice-begun.result.now) after ∙ ap (λ n. length (octets c.take_digits.new.target) - n) before in
+    rw (c.at.ensures, found, c.from-wanted.ensures)
+    (wrong_count g.B.OctetsBuilder.room _ _ c.place.result c.in_ok-take_count.field-0 _ _ _ _ (octets c.args.target.now) (octets c.take_digits.new.target) c.requires c.advance.ensures.left
+    (ap (λ e. e.at) (c.take_digits.ensures.end ∙ c.take_count.ensures.end ∙ c.advance.ensures.end)) c.place.ensures
+    c.in_ok-take_count.ensures.takes c.in_ok-take_digits.ensures.takes (λ same. c.if-found-wanted.true (found ∙ same ∙ sym c.from-wanted.ensures)))
 
-pub returns-in-Err-clause-takes : goal.returns-in-Err-clause-takes
-returns-in-Err-clause-takes g c =
-    count_refused g.B.OctetsBuilder.room _ _ _ _ _ _ c.in-Err.refusal c.requires c.advance.ensures.left (ap (λ e. e.at) c.advance.ensures.end) c.in-Err.ensures.takes
+pub returns-in_err-take_count-clause-takes : goal.returns-in_err-take_count-clause-takes
+returns-in_err-take_count-clause-takes g c =
+    let p = err_from_is_err_and c.from_residual.result c.from_residual.ensures.1 in
+    rw (p.1, p.2) (count_refused g.B.OctetsBuilder.room _ _ _ _ _ _ c.in_err-take_count.field-0.0 c.requires c.advance.ensures.left (ap (λ e. e.at) c.advance.ensures.end) c.in_err-take_count.ensures.takes)
 
-pub returns-in-Err-take_digits-clause-takes : goal.returns-in-Err-take_digits-clause-takes
-returns-in-Err-take_digits-clause-takes g c =
-    digits_refused g.B.OctetsBuilder.room _ _ c.in-Ok.count _ _ _ _ _ _ c.in-Err-take_digits.refusal c.requires c.advance.ensures.left (ap (λ e. e.at) (c.take_count.ensures.end ∙ c.advance.ensures.end)) c.in-Ok.ensures.takes c.in-Err-take_digits.ensures.takes
+pub returns-in_err-take_digits-clause-takes : goal.returns-in_err-take_digits-clause-takes
+returns-in_err-take_digits-clause-takes g c =
+    let p = err_from_is_err_and c.from_residual-in_err-take_digits.result c.from_residual-in_err-take_digits.ensures.1 in
+    rw (p.1, p.2) (digits_refused g.B.OctetsBuilder.room _ _ c.in_ok-take_count.field-0 _ _ _ _ _ _ c.in_err-take_digits.field-0.0 c.requires c.advance.ensures.left (ap (λ e. e.at) (c.take_count.ensures.end ∙ c.advance.ensures.end)) c.in_ok-take_count.ensures.takes
+    c.in_err-take_digits.ensures.takes)
 
 pub returns-clause-takes : goal.returns-clause-takes
 returns-clause-takes g c =
     let octets = g.B.AsOctets.octets in
     let before : length c.as_slice-begun.result.now ≡ length (octets c.args.target.now) = ap length c.as_slice-begun.ensures.value in
     let after : length c.as_slice.result.now ≡ length (octets c.take_digits.new.target) = ap length c.as_slice.ensures.value in
-    let size = sym (ap (λ n. n - length c.as_slice-begun.result.now) after ∙ ap (λ n. length (octets c.take_digits.new.target) - n) before) ∙ c.if-gained-from.false ∙ c.from.ensures in
-    generic_spelled c.in-Ok.count _ _ _ _ (octets c.args.target.now) (octets c.take_digits.new.target) c.requires c.advance.ensures.left c.in-Ok.ensures.takes c.in_default.ensures.takes size
+    let size = sym (ap (λ n. n - length c.as_slice-begun.result.now) after ∙ ap (λ n. length (octets c.take_digits.new.target) - n) before) ∙ c.if-found-wanted.false ∙ c.from-wanted.ensures in
+    generic_spelled c.in_ok-take_count.field-0 _ _ _ _ (octets c.args.target.now) (octets c.take_digits.new.target) c.requires c.advance.ensures.left c.in_ok-take_count.ensures.takes c.in_ok-take_digits.ensures.takes size

@@ -1,7 +1,6 @@
-use Rattle.std.proofs.Common.{ap, length, replicate}
+use Rattle.std.proofs.Common.{ap, length}
 use Rattle.std.specs.Option.{option_copied}
 use Rattle.dns_fields.proofs.Refused.{all_once}
-use Rattle.dns_fields.specs.declared.field.Field.TheVariants.{String as OfString}
 use Rattle.dns_data.specs.RestKinds.{strings_form}
 use Rattle.dns_data.proofs.Somes.{some_taken}
 use Rattle.dns_data.proofs.rest.take_some_strings.Goals as goal

@@ -1,12 +1,16 @@
-use Rattle.std.proofs.Common.{ℕ, ◌≡◌, ◌+◌, true≢false, length, drop, refl, sym, ap, subst}
+use Rattle.std.proofs.Common.{ℕ, true≢false, length, refl, sym, ap, subst, ◌∙◌}
 use Rattle.std.specs.Option.{option_copied}
-use Rattle.dns_data.specs.Data.{HasLength, HasWrongHash}
-use Rattle.dns_data.specs.declared.error.DataError.TheVariants.{WrongLength}
+use Rattle.std.proofs.lemmas.Result.{err_from_is_err_and}
+use Rattle.dns_fields.specs.Source.{next_place}
+use Rattle.dns_data.specs.Data.{HasLength, HasWrongHash, wrong_length}
+use Rattle.dns_data.proofs.ErrorPlaces.{field_error}
 use Rattle.dns_data.proofs.Reading.{data_taken, field_refused, hash_refused, none_wrong, rest_refused, length_refused, gained_is}
 use Rattle.dns_data.proofs.shape.read_data.Goals as goal
 
-pub returns-in-Err-clause-reads : goal.returns-in-Err-clause-reads
-returns-in-Err-clause-reads g c = field_refused (option_copied c.args.origin) g.B.OctetsBuilder.room c.args.shape.now _ _ _ c.in-Err.refused _ _ c.in-Err.ensures.takes
+pub returns-in_err-last-clause-reads : goal.returns-in_err-last-clause-reads
+returns-in_err-last-clause-reads g c =
+    let p = err_from_is_err_and c.from_residual.result c.from_residual.ensures.1 in
+    rw (p.1, p.2) (field_refused (option_copied c.args.origin) g.B.OctetsBuilder.room c.args.shape.now _ _ _ c.in_err-last.field-0.0 _ _ c.in_err-last.ensures.takes)
 
 pub returns-then-has_wrong_hash-clause-reads : goal.returns-then-has_wrong_hash-clause-reads
 returns-then-has_wrong_hash-clause-reads g c =
@@ -14,20 +18,21 @@ returns-then-has_wrong_hash-clause-reads g c =
     let shape = c.args.shape.now in
     let begun : ℕ = length c.as_slice-begun.result.now in
     let is = gained_is begun (octets c.args.target.now) (octets c.take_fields.new.target) c.as_slice.result.now (ap length c.as_slice-begun.ensures.value) c.as_slice.ensures.value in
-    hash_refused (option_copied c.args.origin) g.B.OctetsBuilder.room shape _ _ _ _ _ c.in-Ok.ensures.takes.0 (record { part = c.saturating_sub.result; at = c.in-Ok.at; why = WrongLength }) _ _ refl c.saturating_sub.ensures c.in-Ok.ensures.takes.1 refl refl
+    let known = field_error c.in_field.result c.at.result _ _ _ _ _ _ c.in_field.ensures c.at.ensures c.saturating_sub.ensures c.in_ok-last.ensures.takes.1 (c.wrong_length-why.ensures ∙ ap (wrong_length shape.length) is) in
+    hash_refused (option_copied c.args.origin) g.B.OctetsBuilder.room shape _ _ _ _ _ c.in_ok-last.ensures.takes.0 c.in_field.result _ _ known refl refl
     (subst (HasWrongHash shape.length) is (c.if-has_wrong_hash.ensures.0 refl))
 
-pub returns-in-Err-take_parts-clause-reads : goal.returns-in-Err-take_parts-clause-reads
-returns-in-Err-take_parts-clause-reads g c =
+pub returns-in_err-take_parts-clause-reads : goal.returns-in_err-take_parts-clause-reads
+returns-in_err-take_parts-clause-reads g c =
     let octets = g.B.AsOctets.octets in
     let shape = c.args.shape.now in
     let begun : ℕ = length c.as_slice-begun.result.now in
     let is = gained_is begun (octets c.args.target.now) (octets c.take_fields.new.target) c.as_slice.result.now (ap length c.as_slice-begun.ensures.value) c.as_slice.ensures.value in
-    let taken = c.in-Ok.ensures.takes.0 in
-    let refused = c.in-Err-take_parts.refused in
+    let taken = c.in_ok-last.ensures.takes.0 in
     let none = none_wrong (option_copied c.args.origin) g.B.OctetsBuilder.room shape (g.S.TokenSource.end c.args.source.now).at _ _ _ _ taken (λ w. true≢false (sym (c.if-has_wrong_hash.ensures.1 (subst (HasWrongHash shape.length) (sym is) w)))) in
-    rest_refused (option_copied c.args.origin) g.B.OctetsBuilder.room shape _ _ _ _ _ taken _ refused.part (record { part = length shape.fields.now + refused.part; at = refused.refusal.at; why = refused.refusal.why }) _ _
-    (ap (λ e. e.at) c.take_fields.ensures.end) none refl c.in-Err-take_parts.ensures.takes.1 c.in-Err-take_parts.ensures.takes.0
+    let p = err_from_is_err_and c.from_residual-in_err-take_parts.result c.from_residual-in_err-take_parts.ensures.1 in
+    rw (p.1, p.2) (rest_refused (option_copied c.args.origin) g.B.OctetsBuilder.room shape _ _ _ _ _ taken _ c.in_err-take_parts.field-0.0 _ _
+    (ap (λ e. e.at) c.take_fields.ensures.end) none c.in_err-take_parts.ensures.takes)
 
 pub returns-then-not-has_length-clause-reads : goal.returns-then-not-has_length-clause-reads
 returns-then-not-has_length-clause-reads g c =
@@ -36,10 +41,12 @@ returns-then-not-has_length-clause-reads g c =
     let begun : ℕ = length c.as_slice-begun.result.now in
     let is = gained_is begun (octets c.args.target.now) (octets c.take_fields.new.target) c.as_slice.result.now (ap length c.as_slice-begun.ensures.value) c.as_slice.ensures.value in
     let all = gained_is begun (octets c.args.target.now) (octets c.take_parts.new.target) c.as_slice-2.result.now (ap length c.as_slice-begun.ensures.value) c.as_slice-2.ensures.value in
-    let taken = c.in-Ok.ensures.takes.0 in
+    let taken = c.in_ok-last.ensures.takes.0 in
     let none = none_wrong (option_copied c.args.origin) g.B.OctetsBuilder.room shape (g.S.TokenSource.end c.args.source.now).at _ _ _ _ taken (λ w. true≢false (sym (c.if-has_wrong_hash.ensures.1 (subst (HasWrongHash shape.length) (sym is) w)))) in
-    length_refused (option_copied c.args.origin) g.B.OctetsBuilder.room shape _ _ _ _ _ taken _ _ c.place-at.result _ _ (ap (λ e. e.at) c.take_fields.ensures.end) none refl c.place-at.ensures c.in_default.ensures.takes
-    (λ l. true≢false (sym (c.if-not-has_length.ensures.1 (subst (HasLength shape.length) (sym all) l))))
+    let ends = ap (λ e. e.at) c.take_fields.ensures.end in
+    let known = field_error c.in_field-then-not-has_length.result c.at-then-not-has_length.result _ _ _ _ _ _ c.in_field-then-not-has_length.ensures c.at-then-not-has_length.ensures refl (c.place-at.ensures ∙ ap (next_place (g.S.TokenSource.left c.take_fields.new.source)) ends) (c.wrong_length-why-then-not-has_length.ensures ∙ ap (wrong_length shape.length) all) in
+    length_refused (option_copied c.args.origin) g.B.OctetsBuilder.room shape _ _ _ _ _ taken c.in_field-then-not-has_length.result _ _ none c.in_ok-take_parts.ensures.takes
+    (λ l. true≢false (sym (c.if-not-has_length.ensures.1 (subst (HasLength shape.length) (sym all) l))), known)
 
 pub returns-clause-reads : goal.returns-clause-reads
 returns-clause-reads g c =
@@ -49,4 +56,4 @@ returns-clause-reads g c =
     let begun : ℕ = length c.as_slice-begun.result.now in
     let all = gained_is begun (octets c.args.target.now) (octets c.take_parts.new.target) c.as_slice-2.result.now (ap length c.as_slice-begun.ensures.value) c.as_slice-2.ensures.value in
     data_taken (option_copied c.args.origin) g.B.OctetsBuilder.room shape (g.S.TokenSource.end c.args.source.now).at (left c.args.source.now) (octets c.args.target.now) (left c.take_fields.new.source) (octets c.take_fields.new.target)
-    c.in-Ok.ensures.takes.0 (left c.take_parts.new.source) (octets c.take_parts.new.target) c.in_default.ensures.takes (subst (HasLength shape.length) all (c.if-not-has_length.ensures.0 refl))
+    c.in_ok-last.ensures.takes.0 (left c.take_parts.new.source) (octets c.take_parts.new.target) c.in_ok-take_parts.ensures.takes (subst (HasLength shape.length) all (c.if-not-has_length.ensures.0 refl))

@@ -1,4 +1,4 @@
-use Rattle.std.proofs.Common.{◌∷◌, ◌∙◌, ◌≡◌, true, true≢false, sym, ap}
+use Rattle.std.proofs.Common.{◌∙◌, ◌≡◌, true, true≢false, sym, ap}
 use Rattle.dns_split.specs.EntryTokens.{token_seen}
 use Rattle.dns_fields.proofs.Tokens.{first_taken}
 use Rattle.dns_data.proofs.TextLaws.{unquoted_refused, escape_refused, text_taken}
@@ -8,12 +8,12 @@ use Rattle.dns_data.proofs.texts.take_text.Goals as goal
 pub returns-in-Err-clause-takes : goal.returns-in-Err-clause-takes
 returns-in-Err-clause-takes g c =
     let t = token_seen c.in-Some.token in
-    rw c.at.ensures (escape_refused c.args.wants_quotes g.B.OctetsBuilder.room _ t _ _ _ (first_taken t (g.S.TokenSource.left c.args.source.now) c.in-Some.ensures) c.place-at.result c.in-Err.why _ c.in-Err.ensures.err c.place-at.ensures c.in-Err.ensures.extends)
+    rw c.at-in-Err.ensures (escape_refused c.args.wants_quotes g.B.OctetsBuilder.room _ t _ _ _ (first_taken t (g.S.TokenSource.left c.args.source.now) c.in-Some.ensures) c.place-at.result c.in-Err.why _ c.in-Err.ensures.err c.place-at.ensures c.in-Err.ensures.extends)
 
 pub returns-then-not-token-clause-takes : goal.returns-then-not-token-clause-takes
 returns-then-not-token-clause-takes g c =
     let t = token_seen c.in-Some.token in
-    unquoted_refused c.args.wants_quotes g.B.OctetsBuilder.room _ t _ _ _ (first_taken t (g.S.TokenSource.left c.args.source.now) c.in-Some.ensures) c.place-at.result c.if-wants_quotes.true c.if-not-token.true c.place-at.ensures
+    rw c.at-then-not-token.ensures (unquoted_refused c.args.wants_quotes g.B.OctetsBuilder.room _ t _ _ _ (first_taken t (g.S.TokenSource.left c.args.source.now) c.in-Some.ensures) c.place-at.result c.if-wants_quotes.true c.if-not-token.true c.place-at.ensures)
 
 pub returns-clause-takes : goal.returns-clause-takes
 returns-clause-takes g c =

@@ -5,4 +5,4 @@ use Rattle.dns_data.proofs.types.find_row.Given as goal
 
 -- the row is that of those that are left
 abbrev pub invariant-loop-row : goal.invariant-loop-row
-invariant-loop-row l = find (λ (s : TypeShape). s.code == l.code) (row_shapes l.table) ≡ find (λ (s : TypeShape). s.code == l.code) (row_shapes (drop l.row-index l.table))
+invariant-loop-row l = find (λ (s : TypeShape). s.rtype == l.fn.rtype) (row_shapes l.table) ≡ find (λ (s : TypeShape). s.rtype == l.fn.rtype) (row_shapes (drop l.row-index l.table))
