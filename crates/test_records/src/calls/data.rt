@@ -1,7 +1,7 @@
 //! Record data by the type of the record.
 use super::tell::{Octets, origin_of};
 use dns_data::{Shape, check_data, field_text, read_type, type_row, write_data};
-use dns_fields::{RecordError, TokenList};
+use dns_fields::{FieldName, RecordError, TokenList};
 use dns_kinds::{ErrorKind, RecordType};
 use dns_split::entry_tokens::{EntryToken, EntryTokens};
 use dns_wire::Name;
@@ -85,6 +85,11 @@ pub fn tell_refused(error: RecordError, answer: &mut Answer) {
     }
 }
 
+/// The name of a field of a type's data, if the field is known and has one.
+fn named(rtype: RecordType, field: Option<FieldName>) -> Option<&'static str> {
+    field_text(rtype, field?)
+}
+
 /// The type, the field, and why it is refused.
 #[derive(Drop)]
 pub struct Why(pub RecordError);
@@ -93,8 +98,8 @@ impl fmt::Display for Why {
     fn fmt<W: fmt::Write>(&self, f: &mut fmt::Formatter<W>) -> fmt::Result {
         if let Some(rtype) = self.0.rtype {
             write!(f, "{rtype}")?;
-            if let Some(field) = self.0.field {
-                write!(f, " {}", field_text(rtype, field).unwrap_or(""))?;
+            if let Some(name) = named(rtype, self.0.field) {
+                write!(f, " {name}")?;
             }
             f.write_str(": ")?;
         }

@@ -1,9 +1,11 @@
 //! Service parameters as octets.
 use super::service;
 use super::tell::{Octets, add_comma, number16, tell};
+use dns_kinds::ErrorKind;
 use dns_lists::{Params, check_params, settle_last};
 use dns_octets::{OctetsBuilder, ShortBuf};
 use row_table::{Answer, Failure, Inputs};
+use std::fmt;
 
 pub fn call(name: &str, inputs: &Inputs, answer: &mut Answer) {
     match name {
@@ -16,9 +18,30 @@ pub fn call(name: &str, inputs: &Inputs, answer: &mut Answer) {
     }
 }
 
+/// What is wrong with parameters, with the key that is meant. The text of the kind has none.
+#[derive(Clone, Copy)]
+struct KeyFault(ErrorKind);
+
+impl fmt::Display for KeyFault {
+    fn fmt<W: fmt::Write>(&self, f: &mut fmt::Formatter<W>) -> fmt::Result {
+        match self.0 {
+            ErrorKind::ParamOrder(key) => {
+                write!(f, "key {key} of a service parameter is out of order")
+            }
+            ErrorKind::ParamValue(key) => {
+                write!(f, "key {key} of a service parameter has a wrong value")
+            }
+            ErrorKind::MissingParam(key) => {
+                write!(f, "mandatory names key {key}, which is missing")
+            }
+            kind => write!(f, "{kind}"),
+        }
+    }
+}
+
 /// Whether octets are parameters.
 fn check(octets: &[u8], answer: &mut Answer) {
-    tell(check_params(octets), b"ok", answer);
+    tell(check_params(octets).map_err(KeyFault), b"ok", answer);
 }
 
 /// Parameters as `KEY=VALUE` with commas between.
