@@ -1,18 +1,19 @@
 -- No data is refused for a fault of the text: of a kind of errors, `Syntax` says one.
 use Rattle.std.proofs.Common.{ℕ, ◌≡◌, Bool, true, false, List, [], ◌∷◌, Option, None, Some, Result, Ok, Err, sym, subst, ap, ◌∙◌, inl, inr}
-use Rattle.std.specs.Prelude.{if◌then◌else◌, slice_index}
+use Rattle.std.specs.Prelude.{◌^◌, ◌==◌, ◌||◌, if◌then◌else◌, length, nat_lt, not, slice_index}
 use Rattle.dns_octets.specs.Room.{Room}
 use Rattle.dns_split.specs.EntryTokens.{TokenSeen}
 use Rattle.dns_split.specs.declared.pieces.Wrong.{Wrong}
 use Rattle.dns_kinds.specs.declared.error.ErrorKind.{ErrorKind}
-use Rattle.dns_kinds.specs.declared.error.ErrorKind.TheVariants.{EndOfEntry, Syntax}
+use Rattle.dns_kinds.specs.declared.error.ErrorKind.TheVariants.{IllegalBase32, LongHash, NoDataType, NotOfType, NoTextForm, ShortBase32, Syntax, WrongLength}
 use Rattle.dns_kinds.specs.declared.types.RecordType.{RecordType}
+use Rattle.dns_codec.specs.Base.{base32hex}
+use Rattle.dns_codec.specs.Grammar.{may_end_after}
 use Rattle.dns_digits.specs.Hashes.{hash_refusal}
 use Rattle.dns_digits.specs.Spelled.{illegal, unfinished}
 use Rattle.dns_digits.specs.declared.kind.DigitsKind.{DigitsKind}
 use Rattle.dns_digits.specs.declared.kind.DigitsKind.TheVariants.{Hex as InHex, Base64 as InBase64}
 use Rattle.dns_fields.specs.Fields.{field_form}
-use Rattle.dns_fields.specs.Forms.{FieldForm, RefusesField, WordReason}
 use Rattle.dns_fields.specs.Taking.{RefusesNext, TakesAllFields}
 use Rattle.dns_fields.specs.Words.{NumberReason}
 use Rattle.dns_fields.specs.declared.field.Field.{Field}
@@ -31,51 +32,63 @@ use Rattle.dns_data.specs.PrefixLists.{prefix_form}
 use Rattle.dns_data.specs.RestKinds.{StringTokensReason, rest_form}
 use Rattle.dns_data.specs.Rests.{BehindSome, RefusesAs, RefusesRest, RestForm}
 use Rattle.dns_data.specs.Texts.{TextReason}
-use Rattle.dns_data.specs.TokenForms.{ReasonBehind, ThenReason, TokenForm}
+use Rattle.dns_data.specs.TokenForms.{ReasonBehind, ThenReason, TokenForm, then_form}
 use Rattle.dns_data.specs.TypeLists.{NamesNone, TypesReason}
 use Rattle.dns_data.specs.Types.{TypeShape}
 use Rattle.dns_data.specs.declared.rest.Rest.{Rest}
 use Rattle.dns_data.specs.declared.rest.Rest.TheVariants.{Nothing, Strings, Hex, Base64, Types, SomeTypes, Text, QuotedText, Location, Prefixes, GatewayKey, Params}
 use Rattle.dns_data.specs.declared.shape.Shape.{Shape}
 
-pub if_apart : {X : Type 0} (b : Bool) (x y z : X) → (x ≡ z → ⊥) → (y ≡ z → ⊥) → (if b then x else y) ≡ z → ⊥
-if_apart true x y z first second h = first h
-if_apart false x y z first second h = second h
-
 module _ (w : Wrong) where
   -- ---- fields
-
-  word_quiet : (reason : List ℕ → ErrorKind → Type 0) (quoted : Bool) (text : List ℕ) → (reason text (Syntax w) → ⊥) → WordReason reason quoted text (Syntax w) → ⊥
-  word_quiet reason quoted text no (inl h) = let e = h.0 in cc
-  word_quiet reason quoted text no (inr h) = no h.1
 
   number_quiet : (limit : ℕ) (text : List ℕ) → NumberReason limit text (Syntax w) → ⊥
   number_quiet limit text (inl h) = let e = h.0 in cc
   number_quiet limit text (inr h) = let e = h.0 in cc
 
+  hash_kind : (long short : Bool) → Syntax w ≡ (if long then LongHash else if short then ShortBase32 else IllegalBase32) → ⊥
+  hash_kind true short h = cc
+  hash_kind false true h = cc
+  hash_kind false false h = cc
+
   hash_quiet : (text : List ℕ) → Syntax w ≡ hash_refusal text → ⊥
-  hash_quiet text h = if_apart _ _ _ _ (λ e. cc) (λ k. if_apart _ _ _ _ (λ e. cc) (λ e. cc) k) (sym h)
+  hash_quiet text h = hash_kind (nat_lt 408 (length text)) ((length text == 0) || not (may_end_after base32hex (length text))) h
 
   pub field_quiet : (origin : Option (List (List ℕ))) (f : Field) (quoted : Bool) (text : List ℕ) → (field_form origin f).reason quoted text (Syntax w) → ⊥
-  field_quiet origin Number8 quoted text h = word_quiet _ quoted text (number_quiet _ text) h
-  field_quiet origin Number16 quoted text h = word_quiet _ quoted text (number_quiet _ text) h
-  field_quiet origin Number32 quoted text h = word_quiet _ quoted text (number_quiet _ text) h
-  field_quiet origin Interval quoted text h = word_quiet _ quoted text (λ e. cc) h
-  field_quiet origin Ipv4 quoted text h = word_quiet _ quoted text (λ e. cc) h
-  field_quiet origin Ipv6 quoted text h = word_quiet _ quoted text (λ e. cc) h
-  field_quiet origin OfRecordType quoted text h = word_quiet _ quoted text (λ e. cc) h
-  field_quiet origin SigType quoted text h = word_quiet _ quoted text (λ e. cc) h
-  field_quiet origin Algorithm quoted text h = word_quiet _ quoted text (λ e. cc) h
-  field_quiet origin CertificateType quoted text h = word_quiet _ quoted text (λ e. cc) h
-  field_quiet origin Eui48 quoted text h = word_quiet _ quoted text (λ e. cc) h
-  field_quiet origin Eui64 quoted text h = word_quiet _ quoted text (λ e. cc) h
-  field_quiet origin Time quoted text h = word_quiet _ quoted text (λ e. cc) h
-  field_quiet origin Locator quoted text h = word_quiet _ quoted text (λ e. cc) h
+  field_quiet origin Number8 quoted text (inl h) = let e = h.0 in cc
+  field_quiet origin Number8 quoted text (inr h) = number_quiet (2 ^ 8) text h.1
+  field_quiet origin Number16 quoted text (inl h) = let e = h.0 in cc
+  field_quiet origin Number16 quoted text (inr h) = number_quiet (2 ^ 16) text h.1
+  field_quiet origin Number32 quoted text (inl h) = let e = h.0 in cc
+  field_quiet origin Number32 quoted text (inr h) = number_quiet (2 ^ 32) text h.1
+  field_quiet origin Interval quoted text (inl h) = let e = h.0 in cc
+  field_quiet origin Interval quoted text (inr h) = let e = h.1 in cc
+  field_quiet origin Ipv4 quoted text (inl h) = let e = h.0 in cc
+  field_quiet origin Ipv4 quoted text (inr h) = let e = h.1 in cc
+  field_quiet origin Ipv6 quoted text (inl h) = let e = h.0 in cc
+  field_quiet origin Ipv6 quoted text (inr h) = let e = h.1 in cc
+  field_quiet origin OfRecordType quoted text (inl h) = let e = h.0 in cc
+  field_quiet origin OfRecordType quoted text (inr h) = let e = h.1 in cc
+  field_quiet origin SigType quoted text (inl h) = let e = h.0 in cc
+  field_quiet origin SigType quoted text (inr h) = let e = h.1 in cc
+  field_quiet origin Algorithm quoted text (inl h) = let e = h.0 in cc
+  field_quiet origin Algorithm quoted text (inr h) = let e = h.1 in cc
+  field_quiet origin CertificateType quoted text (inl h) = let e = h.0 in cc
+  field_quiet origin CertificateType quoted text (inr h) = let e = h.1 in cc
+  field_quiet origin Eui48 quoted text (inl h) = let e = h.0 in cc
+  field_quiet origin Eui48 quoted text (inr h) = let e = h.1 in cc
+  field_quiet origin Eui64 quoted text (inl h) = let e = h.0 in cc
+  field_quiet origin Eui64 quoted text (inr h) = let e = h.1 in cc
+  field_quiet origin Time quoted text (inl h) = let e = h.0 in cc
+  field_quiet origin Time quoted text (inr h) = let e = h.1 in cc
+  field_quiet origin Locator quoted text (inl h) = let e = h.0 in cc
+  field_quiet origin Locator quoted text (inr h) = let e = h.1 in cc
   field_quiet origin String quoted text h = h
   field_quiet origin PsdnAddress quoted text h = let e = h.0 in cc
   field_quiet origin Tag quoted text (inl h) = let e = h.0 in cc
   field_quiet origin Tag quoted text (inr h) = let e = h.0 in cc
-  field_quiet origin Salt quoted text h = word_quiet _ quoted text (λ e. cc) h
+  field_quiet origin Salt quoted text (inl h) = let e = h.0 in cc
+  field_quiet origin Salt quoted text (inr h) = let e = h.1 in cc
   field_quiet origin Hash quoted text (inl h) = let e = h.0 in cc
   field_quiet origin Hash quoted text (inr h) = hash_quiet text h.0
   field_quiet origin Name quoted text (inl h) = let e = h.0 in cc
@@ -95,7 +108,7 @@ module _ (w : Wrong) where
   TokenQuiet Why = (t : TokenSeen) → Why t (Syntax w) → ⊥
 
   behind_quiet : (Why : List TokenSeen → List TokenSeen → ErrorKind → Type 0) → Quiet Why → Quiet (BehindSome Why)
-  behind_quiet Why no tokens left h = no h.0 left h.2
+  behind_quiet Why quiet tokens left h = quiet h.0 left h.2
 
   strings_quiet : Quiet StringTokensReason
   strings_quiet before [] h = h
@@ -104,9 +117,9 @@ module _ (w : Wrong) where
   digits_quiet : (kind : DigitsKind) (text : List ℕ) → IsDigitsFault kind text (Syntax w) → ⊥
   digits_quiet InHex text (inl h) = let e = h.0 in cc
   digits_quiet InBase64 text (inl h) = let e = h.0 in cc
-  digits_quiet InHex text (inr (inl h, no)) = let e = h.0 in cc
-  digits_quiet InBase64 text (inr (inl h, no)) = let e = h.0 in cc
-  digits_quiet kind text (inr (inr h, no)) = let e = h.0 in cc
+  digits_quiet InHex text (inr (inl h, goes)) = let e = h.0 in cc
+  digits_quiet InBase64 text (inr (inl h, goes)) = let e = h.0 in cc
+  digits_quiet kind text (inr (inr h, goes)) = let e = h.0 in cc
 
   joined_quiet : (kind : DigitsKind) → Quiet (JoinedReason kind)
   joined_quiet kind before [] h = digits_quiet kind _ h
@@ -156,9 +169,16 @@ module _ (w : Wrong) where
   key_quiet algorithm tokens left (inl h) = digits_form_quiet InBase64 tokens left h
   key_quiet algorithm tokens left (inr h) = let e = h.0 in cc
 
+  abbrev behind_algorithm : Option (List (List ℕ)) → List ℕ → List ℕ → RestForm
+  behind_algorithm origin number algorithm = then_form (gateway_form origin (slice_index number 0)) (λ gateway. key_form (slice_index algorithm 0))
+
+  abbrev behind_type : Option (List (List ℕ)) → List ℕ → RestForm
+  behind_type origin number = then_form octet_form (behind_algorithm origin number)
+
   gateway_key_quiet : (origin : Option (List (List ℕ))) → Quiet (gateway_key_form origin).reason
   gateway_key_quiet origin =
-      then_quiet gateway_type_form _ gateway_type_quiet (λ number. then_quiet octet_form _ octet_quiet (λ algorithm. then_quiet (gateway_form origin (slice_index number 0)) _ (gateway_quiet origin (slice_index number 0)) (λ gateway. key_quiet (slice_index algorithm 0))))
+      then_quiet gateway_type_form (behind_type origin) gateway_type_quiet (λ number. then_quiet octet_form (behind_algorithm origin number) octet_quiet (λ algorithm.
+      then_quiet (gateway_form origin (slice_index number 0)) (λ gateway. key_form (slice_index algorithm 0)) (gateway_quiet origin (slice_index number 0)) (λ gateway. key_quiet (slice_index algorithm 0))))
 
   -- ---- service parameters
 
@@ -169,7 +189,7 @@ module _ (w : Wrong) where
   value_quiet OfStrings text (inr (inl h)) = cc
   value_quiet OfStrings text (inr (inr h)) = cc
   value_quiet OfNothing text h = cc
-  value_quiet Port text h = number_quiet _ text h
+  value_quiet Port text h = number_quiet (2 ^ 16) text h
   value_quiet OfIpv4 text h = cc
   value_quiet Digits text (inl h) = cc
   value_quiet Digits text (inr (inl h)) = cc
@@ -219,26 +239,29 @@ module _ (w : Wrong) where
   count_quiet : (tokens : List TokenSeen) → WhyNoCount tokens (Syntax w) → ⊥
   count_quiet [] h = cc
   count_quiet (t ∷ ts) (inl h) = let e = h.0 in cc
-  count_quiet (t ∷ ts) (inr h) = number_quiet _ t.text h.1
+  count_quiet (t ∷ ts) (inr h) = number_quiet (2 ^ 16) t.text h.1
+
+  not_length : (found wanted : ℕ) → Syntax w ≡ WrongLength found wanted → ⊥
+  not_length found wanted h = cc
 
   generic_quiet : Quiet GenericReason
   generic_quiet [] left h = h
   generic_quiet (mark ∷ tokens) left (inl h) = count_quiet tokens h.1
   generic_quiet (mark ∷ tokens) left (inr (count, digits, is, inl h)) = digits_form_quiet InHex digits left h
-  generic_quiet (mark ∷ tokens) left (inr (count, digits, is, inr (other, none))) = let e = other.5 in cc
+  generic_quiet (mark ∷ tokens) left (inr (count, digits, is, inr (other, none))) = not_length _ _ other.5
 
   -- ---- data
 
-  -- an error of a kind that is none
+  -- an error of another kind
   pub other_kind : (e : RecordError) (kind : ErrorKind) → e.kind ≡ kind → e.kind ≡ Syntax w → Syntax w ≡ kind
   other_kind e kind is fault = sym fault ∙ is
 
   rest_refused : (room : Room) (f : RestForm) (end : ℕ) (tokens left : List TokenSeen) (old new : List ℕ) (e : RecordError) → Quiet f.reason → RefusesRest room f end tokens old e left new → e.kind ≡ Syntax w → ⊥
-  rest_refused room f end tokens left old new e no h is = go (subst (λ k. RefusesAs room f tokens old left k) is h.why)
+  rest_refused room f end tokens left old new e quiet h is = go (subst (λ k. RefusesAs room f tokens old left k) is h.why)
     where
       go : RefusesAs room f tokens old left (Syntax w) → ⊥
       go (inl k) = let e = k.0 in cc
-      go (inr k) = no tokens left k.0
+      go (inr k) = quiet tokens left k.0
 
   module _ (origin : Option (List (List ℕ))) (room : Room) (end : ℕ) (tokens left : List TokenSeen) (old new : List ℕ) (e : RecordError) (is : e.kind ≡ Syntax w) where
     fields_refused : (fields : List Field) → TakesAllFields origin room fields end tokens old (Err e) left new → ⊥
@@ -246,22 +269,22 @@ module _ (w : Wrong) where
 
     behind_refused : (shape : Shape) → RefusesBehindFields origin room shape end tokens old e left new → ⊥
     behind_refused shape h = elim h.why [
-      | inl hash ↦ (let other = other_kind e _ (ap (λ x. x.kind) hash.0) is in cc)
+      | inl hash ↦ not_length _ _ (sym is ∙ ap (λ x. x.kind) hash.0)
       | inr rest ↦ elim rest.1 [
         | inl part ↦ rest_refused room (rest_form origin shape.rest) end h.behind left h.middle new part.0 (rest_quiet origin shape.rest) part.3 (sym (ap (λ x. x.kind) part.2) ∙ is)
-        | inr short ↦ (let other = other_kind e _ (ap (λ x. x.kind) short.1.1.1.1) is in cc)
+        | inr short ↦ not_length _ _ (sym is ∙ ap (λ x. x.kind) short.1.1.1.1)
       ]
     ]
 
     generic_refused : (found : Option TypeShape) → RefusesGeneric found room end tokens old e left new → ⊥
     generic_refused found (inl h) = rest_refused room generic_form end tokens left old new e generic_quiet h is
-    generic_refused found (inr h) = let other = other_kind e _ (ap (λ x. x.kind) h.0) is in cc
+    generic_refused found (inr h) = let other : Syntax w ≡ NotOfType = other_kind e NotOfType (ap (λ x. x.kind) h.0) is in cc
 
     data_refused : (rtype : RecordType) → RefusesData origin room rtype end tokens old e left new → ⊥
-    data_refused rtype (inl h) = let other = other_kind e _ (ap (λ x. x.kind) h.0) is in cc
+    data_refused rtype (inl h) = let other : Syntax w ≡ NoDataType = other_kind e NoDataType (ap (λ x. x.kind) h.0) is in cc
     data_refused rtype (inr (inl h)) = generic_refused (shape_of_code rtype) h.2
-    data_refused rtype (inr (inr (inl h))) = let other = other_kind e _ (ap (λ x. x.kind) h.0) is in cc
-    data_refused rtype (inr (inr (inr (no, (shape, has, h))))) = elim h.0 [ inl field ↦ fields_refused shape.fields.now field | inr behind ↦ behind_refused shape behind ]
+    data_refused rtype (inr (inr (inl h))) = let other : Syntax w ≡ NoTextForm = other_kind e NoTextForm (ap (λ x. x.kind) h.0) is in cc
+    data_refused rtype (inr (inr (inr (mark, (shape, has, h))))) = elim h.0 [ inl field ↦ fields_refused shape.fields.now field | inr behind ↦ behind_refused shape behind ]
 
   pub type_refused : (origin : Option (List (List ℕ))) (room : Room) (rtype : RecordType) (end : ℕ) (tokens left : List TokenSeen) (old new : List ℕ) (e : RecordError) → RefusesType origin room rtype end tokens old e left new → e.kind ≡ Syntax w → ⊥
   type_refused origin room rtype end tokens left old new e h is = data_refused origin room end tokens left old new h.0 (sym (ap (λ x. x.kind) h.1) ∙ is) rtype h.2

@@ -1,14 +1,16 @@
 -- No entry is refused for a fault of the text, which so is known by its kind.
 use Rattle.std.proofs.Common.{ℕ, ◌≡◌, Bool, true, false, List, [], ◌∷◌, Option, None, Some, Result, Ok, Err, refl, sym, subst, ap, ◌∙◌, inl, inr}
-use Rattle.std.specs.Prelude.{⊤, is_none}
+use Rattle.std.specs.Prelude.{⊤, ◌==◌, if◌then◌else◌, is_none}
+use Rattle.dns_octets.specs.Lowered.{lowered}
 use Rattle.dns_octets.specs.Room.{Room, exactly}
+use Rattle.dns_spelling.specs.PrintedNames.{dollar}
 use Rattle.dns_split.specs.EntryTokens.{TokenSeen}
 use Rattle.dns_split.specs.declared.pieces.EndOfEntry.{EndOfEntry}
 use Rattle.dns_split.specs.declared.pieces.Fault.{Fault}
 use Rattle.dns_split.specs.declared.pieces.Wrong.{Wrong}
 use Rattle.dns_wire.specs.Limits.{max_name}
 use Rattle.dns_kinds.specs.declared.error.ErrorKind.{ErrorKind}
-use Rattle.dns_kinds.specs.declared.error.ErrorKind.TheVariants.{NoTtl, ShortBuf, Syntax, TrailingArgument}
+use Rattle.dns_kinds.specs.declared.error.ErrorKind.TheVariants.{ExpectedTtl, NoTtl, NotSupported, Quoted, ShortBuf, Syntax, TrailingArgument, UnknownDirective, UnknownType}
 use Rattle.dns_fields.specs.RecordErrors.{error_at, error_of_fault}
 use Rattle.dns_fields.specs.Source.{next_place}
 use Rattle.dns_fields.specs.Taking.{RefusesNext}
@@ -31,29 +33,48 @@ use Rattle.dns_reader.specs.Records.{ReadsBegun, StandsAfter, given_of}
 use Rattle.dns_reader.specs.Source.{SourceSeen, StartsBehindLine, entry_end, entry_left}
 use Rattle.dns_reader.specs.declared.entry.EntryRead.{EntryRead}
 use Rattle.dns_reader.specs.declared.known.Known.{Known}
+use Rattle.dns_reader.specs.declared.records.RecordReader.{RecordReader}
 use Rattle.dns_reader.specs.declared.known.Known.TheVariants.{Unsaid, Name, Refused}
 use Rattle.dns_reader.specs.declared.source.StartOfEntry.{StartOfEntry}
 use Rattle.dns_reader.specs.declared.state.State.{State}
 use Rattle.dns_reader.specs.declared.ttl.RecordTtl.{RecordTtl}
-use Rattle.dns_reader.proofs.DataQuiet.{if_apart, next_quiet, other_kind, type_refused}
+use Rattle.dns_reader.proofs.DataQuiet.{next_quiet, other_kind, type_refused}
 
 module _ (w : Wrong) where
   -- ---- directives
 
+  named_kind : (a b c d : Bool) → (if a then Ok Origin else (if b then Ok Ttl else (if c then Ok OfInclude else (if d then Err NotSupported else Err UnknownDirective)))) ≡ Err (Syntax w) → ⊥
+  named_kind true b c d h = cc
+  named_kind false true c d h = cc
+  named_kind false false true d h = cc
+  named_kind false false false true h = cc
+  named_kind false false false false h = cc
+
   named_quiet : (small : List ℕ) → directive_named small ≡ Err (Syntax w) → ⊥
-  named_quiet small h =
-      if_apart _ _ _ _ (λ e. cc) (λ a. if_apart _ _ _ _ (λ e. cc) (λ b. if_apart _ _ _ _ (λ e. cc) (λ c. if_apart _ _ _ _ (λ e. cc) (λ e. cc) c) b) a) h
+  named_quiet small h = named_kind _ _ _ _ h
 
   word_quiet : (text : List ℕ) → directive_of_word text ≡ Some (Err (Syntax w)) → ⊥
   word_quiet [] h = cc
-  word_quiet (c ∷ cs) h = if_apart _ _ _ _ (λ e. let same : directive_in (c ∷ cs) ≡ Err (Syntax w) = cc in named_quiet _ same) (λ e. cc) h
+  word_quiet (c ∷ cs) h = go (c == dollar) h
+    where
+      go : (b : Bool) → (if b then Some (directive_in (c ∷ cs)) else None) ≡ Some (Err (Syntax w)) → ⊥
+      go true e = let same : directive_in (c ∷ cs) ≡ Err (Syntax w) = cc in named_quiet (lowered (c ∷ cs)) same
+      go false e = cc
 
   directive_quiet : (t : TokenSeen) → directive_of t ≡ Some (Err (Syntax w)) → ⊥
-  directive_quiet t h = if_apart t.is_quoted _ _ _ (λ e. cc) (word_quiet t.text) h
+  directive_quiet t h = go t.is_quoted h
+    where
+      go : (b : Bool) → (if b then None else directive_of_word t.text) ≡ Some (Err (Syntax w)) → ⊥
+      go true e = cc
+      go false e = word_quiet t.text e
+
+  ttl_kind : (quoted : Bool) → Syntax w ≡ (if quoted then Quoted else ExpectedTtl) → ⊥
+  ttl_kind true h = cc
+  ttl_kind false h = cc
 
   ttl_quiet : (tokens : List TokenSeen) → WhyNoTtl tokens (Syntax w) → ⊥
   ttl_quiet [] h = cc
-  ttl_quiet (t ∷ ts) h = if_apart t.is_quoted _ _ _ (λ e. cc) (λ e. cc) (sym h.0)
+  ttl_quiet (t ∷ ts) h = ttl_kind t.is_quoted h.0
 
   end_refused : (e : RecordError) (tokens left : List TokenSeen) → TakesEnd tokens (Err e) left → e.kind ≡ Syntax w → ⊥
   end_refused e [] left h is = h
@@ -65,9 +86,14 @@ module _ (w : Wrong) where
 
   -- ---- the words before the data
 
+  type_kind : (quoted digit : Bool) → Syntax w ≡ (if quoted then Quoted else (if digit then ExpectedTtl else UnknownType)) → ⊥
+  type_kind true digit h = cc
+  type_kind false true h = cc
+  type_kind false false h = cc
+
   type_quiet : (may_be_ttl : Bool) (tokens : List TokenSeen) → WhyNoType may_be_ttl tokens (Syntax w) → ⊥
   type_quiet may_be_ttl [] h = cc
-  type_quiet may_be_ttl (t ∷ ts) h = if_apart t.is_quoted _ _ _ (λ e. cc) (λ k. if_apart _ _ _ _ (λ e. cc) (λ e. cc) k) (sym h.0)
+  type_quiet may_be_ttl (t ∷ ts) h = type_kind t.is_quoted _ h.0
 
   words_refused : (r : WordsRefusal) (end : ℕ) (tokens left : List TokenSeen) → TakesWords end tokens (Err r) left → r.error.kind ≡ Syntax w → ⊥
   words_refused r end tokens left h is = type_quiet (is_none r.ttl) left (subst (WhyNoType (is_none r.ttl) left) is h.2)
@@ -144,7 +170,7 @@ module _ (w : Wrong) where
 
   meaning_refused : (before : State) (room : Room) (end : ℕ) (tokens : List TokenSeen) (m : EntryMeaning) (old new : List ℕ) (e : RecordError) (owner : Known) → e.kind ≡ Syntax w → Sound end m
       → ReadsMeaning before room end tokens m old (Err e) owner new → ⊥
-  meaning_refused before room end tokens says_nothing old new e owner is s h = let no = h.0 in cc
+  meaning_refused before room end tokens says_nothing old new e owner is s h = let none = h.0 in cc
   meaning_refused before room end tokens (says_origin t) old new e owner is s h = name_refused (known_name before.origin) t e h.0 is
   meaning_refused before room end tokens (says_default_ttl r) old new e owner is s h = default_read r e end s.0 s.1 s.2 h.0 is
   meaning_refused before room end tokens (says_include file token) old new e owner is s (inl h) = origin_refused (known_name before.origin) token e h is
@@ -158,29 +184,30 @@ entries_have_no_faults room blank end tokens before after old new e wrong h is =
 
 -- ---- a call
 
+module _ (room : Room) (before after : RecordReader) (old new : List ℕ) (e : RecordError) (wrong : Wrong) (is : e.kind ≡ Syntax wrong) where
+  abbrev Told : Type 0
+  Told = (e ≡ error_of_fault (record { at = e.offset; wrong = wrong })) × StartsBehindLine before.octets.now e.offset after.source
+
+  told : (fault : Fault) → e ≡ error_of_fault fault → StartsBehindLine before.octets.now fault.at after.source → Told
+  told fault same behind =
+      let place : fault.at ≡ e.offset = sym (ap (λ x. x.offset) same) in
+      let kind : Syntax fault.wrong ≡ Syntax wrong = sym (ap (λ x. x.kind) same) ∙ is in (
+        same ∙ ap (λ n. error_at n (Syntax fault.wrong)) place ∙ ap (error_at e.offset) kind,
+        subst (λ n. StartsBehindLine before.octets.now n after.source) place behind,
+      )
+
+  ended : (begun : SourceSeen) (start : StartOfEntry) (end : Result EndOfEntry Fault) (read : Result EntryRead RecordError)
+      → ReadsZoneEntry room start.begins_blank (entry_end begun).at (entry_left begun) before.state old read after.state new → StandsAfter before.octets.now begun end after.source → Some (Err e) ≡ Some (given_of end read) → Told
+  ended begun start (Ok end) (Ok read) reads stands same = cc
+  ended begun start (Ok end) (Err x) reads stands same =
+      let one : e ≡ x = cc in
+      absurd (entries_have_no_faults room start.begins_blank (entry_end begun).at (entry_left begun) before.state after.state old new x wrong reads (sym (ap (λ r. r.kind) one) ∙ is))
+  ended begun start (Err fault) read reads stands same = let one : e ≡ error_of_fault fault = cc in told fault one stands.1
+
+  told_begun : (begun : SourceSeen) (start : Result (Option StartOfEntry) Fault) → ReadsBegun room before.octets.now begun start before.state old (Some (Err e)) after new → Told
+  told_begun begun (Ok (Some start)) r = ended begun start r.1 r.0 r.2 r.3 r.4
+  told_begun begun (Ok None) r = let none = r.0 in cc
+  told_begun begun (Err fault) r = let one : e ≡ error_of_fault fault = cc in told fault one r.1
+
 pub faults_are_told : FaultsAreTold
-faults_are_told room before after old new e wrong h is = go h.start h.reads
-  where
-    abbrev Told : Type 0
-    Told = (e ≡ error_of_fault (record { at = e.offset; wrong = wrong })) × StartsBehindLine before.octets.now e.offset after.source
-
-    told : (fault : Fault) → e ≡ error_of_fault fault → StartsBehindLine before.octets.now fault.at after.source → Told
-    told fault same behind =
-        let place : fault.at ≡ e.offset = sym (ap (λ x. x.offset) same) in
-        let kind : Syntax fault.wrong ≡ Syntax wrong = sym (ap (λ x. x.kind) same) ∙ is in (
-          same ∙ ap (λ n. error_at n (Syntax fault.wrong)) place ∙ ap (error_at e.offset) kind,
-          subst (λ n. StartsBehindLine before.octets.now n after.source) place behind,
-        )
-
-    ended : (begun : SourceSeen) (start : StartOfEntry) (end : Result EndOfEntry Fault) (read : Result EntryRead RecordError)
-        → ReadsZoneEntry room start.begins_blank (entry_end begun).at (entry_left begun) before.state old read after.state new → StandsAfter before.octets.now begun end after.source → Some (Err e) ≡ Some (given_of end read) → Told
-    ended begun start (Ok end) (Ok read) reads stands same = cc
-    ended begun start (Ok end) (Err x) reads stands same =
-        let one : e ≡ x = cc in
-        absurd (entries_have_no_faults room start.begins_blank (entry_end begun).at (entry_left begun) before.state after.state old new x wrong reads (sym (ap (λ r. r.kind) one) ∙ is))
-    ended begun start (Err fault) read reads stands same = let one : e ≡ error_of_fault fault = cc in told fault one stands.1
-
-    go : (start : Result (Option StartOfEntry) Fault) → ReadsBegun room before.octets.now h.begun start before.state old (Some (Err e)) after new → Told
-    go (Ok (Some start)) r = ended h.begun start r.1 r.0 r.2 r.3 r.4
-    go (Ok None) r = let no = r.0 in cc
-    go (Err fault) r = let one : e ≡ error_of_fault fault = cc in told fault one r.1
+faults_are_told room before after old new e wrong h is = told_begun room before after old new e wrong is h.begun h.start h.reads

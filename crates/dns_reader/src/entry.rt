@@ -14,8 +14,8 @@ use crate::ttl::RecordTtl;
 use dns_data::read_type;
 use dns_fields::{RecordError, TokenSource};
 use dns_heads::{
-    Directive, Words, WordsRefusal, take_default_ttl, take_directive, take_end,
-    take_file, take_words, ttl_of_seconds,
+    Directive, Words, WordsRefusal, take_default_ttl, take_directive, take_end, take_file,
+    take_words, ttl_of_seconds,
 };
 use dns_kinds::{Class, ErrorKind, RecordType};
 use dns_octets::{AsOctetsMut, OctetsBuilder};

@@ -12,7 +12,10 @@ impl State {
         ensures { GivesRecord self.now read.now data.now result }
     {
         let EntryRead::Record {
-            ttl, class, rtype, ..
+            ttl,
+            class,
+            rtype,
+            ..
         } = read
         else {
             return None;
