@@ -1,14 +1,12 @@
 -- No data is refused for a fault of the text: of a kind of errors, `Syntax` says one.
 use Rattle.std.proofs.Common.{ℕ, ◌≡◌, Bool, true, false, List, [], ◌∷◌, Option, None, Some, Result, Ok, Err, sym, subst, ap, ◌∙◌, inl, inr}
-use Rattle.std.specs.Prelude.{◌^◌, ◌==◌, ◌||◌, if◌then◌else◌, length, nat_lt, not, slice_index}
+use Rattle.std.specs.Prelude.{◌^◌, if◌then◌else◌, slice_index}
 use Rattle.dns_octets.specs.Room.{Room}
 use Rattle.dns_split.specs.EntryTokens.{TokenSeen}
 use Rattle.dns_split.specs.declared.pieces.Wrong.{Wrong}
 use Rattle.dns_kinds.specs.declared.error.ErrorKind.{ErrorKind}
 use Rattle.dns_kinds.specs.declared.error.ErrorKind.TheVariants.{IllegalBase32, LongHash, NoDataType, NotOfType, NoTextForm, ShortBase32, Syntax, WrongLength}
 use Rattle.dns_kinds.specs.declared.types.RecordType.{RecordType}
-use Rattle.dns_codec.specs.Base.{base32hex}
-use Rattle.dns_codec.specs.Grammar.{may_end_after}
 use Rattle.dns_digits.specs.Hashes.{hash_refusal}
 use Rattle.dns_digits.specs.Spelled.{illegal, unfinished}
 use Rattle.dns_digits.specs.declared.kind.DigitsKind.{DigitsKind}
@@ -19,7 +17,6 @@ use Rattle.dns_fields.specs.Words.{NumberReason}
 use Rattle.dns_fields.specs.declared.field.Field.{Field}
 use Rattle.dns_fields.specs.declared.field.Field.TheVariants.{Number8, Number16, Number32, Interval, Ipv4, Ipv6, RecordType as OfRecordType, SigType, Algorithm, CertificateType, Eui48, Eui64, Time, Locator, String, PsdnAddress, Tag, Salt, Hash, Name}
 use Rattle.dns_fields.specs.declared.record_error.RecordError.{RecordError}
-use Rattle.dns_lists.specs.ParamsFaults.{IsParamsFault}
 use Rattle.dns_params.specs.ParamRefusals.{NewReason, ParamReason, ParamsReason, ValueFault, ValueReason, WordFault}
 use Rattle.dns_params.specs.declared.keys.ValueKind.{ValueKind}
 use Rattle.dns_params.specs.declared.keys.ValueKind.TheVariants.{Keys, Strings as OfStrings, Nothing as OfNothing, Port, Ipv4 as OfIpv4, Digits, Ipv6 as OfIpv6, Octets}
@@ -52,7 +49,7 @@ module _ (w : Wrong) where
   hash_kind false false h = cc
 
   hash_quiet : (text : List ℕ) → Syntax w ≡ hash_refusal text → ⊥
-  hash_quiet text h = hash_kind (nat_lt 408 (length text)) ((length text == 0) || not (may_end_after base32hex (length text))) h
+  hash_quiet text h = hash_kind _ _ h
 
   pub field_quiet : (origin : Option (List (List ℕ))) (f : Field) (quoted : Bool) (text : List ℕ) → (field_form origin f).reason quoted text (Syntax w) → ⊥
   field_quiet origin Number8 quoted text (inl h) = let e = h.0 in cc

@@ -6,10 +6,10 @@ use crate::state::State;
 use dns_fields::RecordRef;
 
 impl State {
-    /// Returns the record that was read of the last entry, whose data is `data`, or `None` if no record
+    /// Returns the record that was read of the last entry, whose data is `octets`, or `None` if no record
     /// was read or no owner is known.
-    pub fn record<'a>(&'a self, read: &EntryRead, data: &'a [u8]) -> Option<RecordRef<'a>>
-        ensures { GivesRecord self.now read.now data.now result }
+    pub fn record<'a>(&'a self, read: &EntryRead, octets: &'a [u8]) -> Option<RecordRef<'a>>
+        ensures { GivesRecord self.now read.now octets.now result }
     {
         let EntryRead::Record {
             ttl,
@@ -28,7 +28,7 @@ impl State {
             ttl: ttl.seconds(),
             class: *class,
             rtype: *rtype,
-            data,
+            data: octets,
         })
     }
 }
