@@ -7,3 +7,4 @@ pub mod RecordBack
 pub mod SameForms
 pub mod TypeDatas
 pub mod Unmarked
+pub mod WireNames

@@ -1,5 +1,5 @@
 //! Records and their octets, borrowed.
-ghost use Rattle.std.specs.Prelude.{IfNone, IfOk, IfSome};
+ghost use Rattle.std.specs.Prelude.{◌≡◌, IfNone, IfOk, IfSome};
 ghost use Rattle.dns_resource.specs.Borrowed.{IsNoRecord, IsRecordOf};
 
 use crate::data::Data;
@@ -11,20 +11,20 @@ use std::alloc::{AllocError, Allocator};
 
 /// Returns the record that has these octets, or `None` if the owner is no name or the data is not of
 /// the type.
-pub fn record_of<'a>(record: RecordRef<'a>) -> Option<Record<&'a [u8], &'a [u8]>>
-    ensures found { IfSome result (IsRecordOf record.entry) }
-    ensures none { IfNone result (IsNoRecord record.entry) }
+pub fn record_of<'a>(octets: RecordRef<'a>) -> Option<Record<&'a [u8], &'a [u8]>>
+    ensures found { IfSome result (IsRecordOf octets.entry) }
+    ensures none { IfNone result (IsNoRecord octets.entry) }
 {
-    let Ok(owner) = Name::from_octets(record.owner) else {
+    let Ok(owner) = Name::from_octets(octets.owner) else {
         return None;
     };
-    let Ok(data) = Data::from_octets(record.rtype, record.data) else {
+    let Ok(data) = Data::from_octets(octets.rtype, octets.data) else {
         return None;
     };
     Some(Record {
         owner,
-        ttl: record.ttl,
-        class: record.class,
+        ttl: octets.ttl,
+        class: octets.class,
         data,
     })
 }
@@ -46,7 +46,7 @@ impl<Owner: AsOctets, Octets: AsOctets> Record<Owner, Octets> {
 
 /// Copies octets.
 fn copied<A: Allocator>(alloc: A, octets: &[u8]) -> Result<Vec<u8, A>, AllocError>
-    ensures { IfOk result (λ copy. copy ≡ octets.now) }
+    ensures { IfOk result (λ copy. copy.items ≡ octets.now) }
 {
     let mut copy = Vec::new(alloc);
     copy.extend_from_slice(octets)?;
@@ -57,21 +57,21 @@ fn copied<A: Allocator>(alloc: A, octets: &[u8]) -> Result<Vec<u8, A>, AllocErro
 /// is not of the type. Fails if there is no memory.
 pub fn owned_record<A: Allocator + Copy>(
     alloc: A,
-    record: RecordRef<'_>,
+    octets: RecordRef<'_>,
 ) -> Result<Option<Record<Vec<u8, A>, Vec<u8, A>>>, AllocError>
-    ensures found { IfOk result (λ one. IfSome one (IsRecordOf record.entry)) }
-    ensures none { IfOk result (λ one. IfNone one (IsNoRecord record.entry)) }
+    ensures found { IfOk result (λ one. IfSome one (IsRecordOf octets.entry)) }
+    ensures none { IfOk result (λ one. IfNone one (IsNoRecord octets.entry)) }
 {
-    let Ok(owner) = Name::from_octets(copied(alloc, record.owner)?) else {
+    let Ok(owner) = Name::from_octets(copied(alloc, octets.owner)?) else {
         return Ok(None);
     };
-    let Ok(data) = Data::from_octets(record.rtype, copied(alloc, record.data)?) else {
+    let Ok(data) = Data::from_octets(octets.rtype, copied(alloc, octets.data)?) else {
         return Ok(None);
     };
     Ok(Some(Record {
         owner,
-        ttl: record.ttl,
-        class: record.class,
+        ttl: octets.ttl,
+        class: octets.class,
         data,
     }))
 }

@@ -8,5 +8,5 @@ compare_data-requires-clause-left g c = rw (c.as_slice.ensures.value, c.rtype-in
 
 pub compare_data-requires-clause-right : goal.compare_data-requires-clause-right
 compare_data-requires-clause-right g c =
-    let same = sym c.rtype.ensures ∙ ranked c.rtype.result c.rtype-2.result Equal (sym c.in-Equal.is ∙ c.cmp.ensures) ∙ c.rtype-2.ensures in
+    let same = sym c.rtype.ensures ∙ sym c.cmp.view_is ∙ ranked c.cmp.inside.0 c.cmp-2.inside.0 Equal (sym c.in-Equal.is ∙ c.cmp-3.ensures) ∙ c.cmp-2.view_is ∙ c.rtype-2.ensures in
     rw (c.as_slice-in-Equal.ensures.value, c.rtype-in-Equal.ensures, same) c.as_slice-in-Equal.ensures.is_data
