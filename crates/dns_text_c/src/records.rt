@@ -99,9 +99,11 @@ fn tell_found(
 ) -> u32
     requires { reader.now.source.is_open ≡ false }
     ensures { TellsFound status reader.now content.now name.now head (record {
-        before = memory zone.old found.old octets.old;
-        after = memory zone.new found.new octets.new;
-        status = result; outcome = outcome.new }) }
+      before = memory zone.old found.old octets.old;
+      after = memory zone.new found.new octets.new;
+      status = result;
+      outcome = outcome.new;
+    }) }
 {
     *outcome = Outcome {
         length: content.len(),
@@ -126,9 +128,11 @@ fn tell_refused(
 ) -> u32
     requires { reader.now.source.is_open ≡ false }
     ensures { (found : Record) → TellsRefused reader.now error.now (record {
-        before = memory zone.old found octets.old;
-        after = memory zone.new found octets.new;
-        status = result; outcome = outcome.new }) }
+      before = memory zone.old found octets.old;
+      after = memory zone.new found octets.new;
+      status = result;
+      outcome = outcome.new;
+    }) }
 {
     keep_reader(reader, zone);
     tell_error(error, octets, outcome)
@@ -159,9 +163,11 @@ fn tell_given(
     requires some { given ≢ Some (Ok Nothing) }
     requires last { given ≢ Some (Ok Directive) }
     ensures { TellsGiven given reader.now content.now (record {
-        before = memory zone.old found.old octets.old;
-        after = memory zone.new found.new octets.new;
-        status = result; outcome = outcome.new }) }
+      before = memory zone.old found.old octets.old;
+      after = memory zone.new found.new octets.new;
+      status = result;
+      outcome = outcome.new;
+    }) }
 {
     match given {
         Some(Ok(EntryRead::Include { origin })) => {
@@ -225,9 +231,11 @@ fn next_with_all_room(
     outcome: &mut Outcome,
 ) -> u32
     ensures { NextRecord text.now (record {
-        before = memory zone.old found.old octets.old;
-        after = memory zone.new found.new octets.new;
-        status = result; outcome = outcome.new }) }
+      before = memory zone.old found.old octets.old;
+      after = memory zone.new found.new octets.new;
+      status = result;
+      outcome = outcome.new;
+    }) }
 {
     let Some(state) = state_of(zone) else {
         return refuse_zone(outcome);
@@ -266,9 +274,11 @@ pub extern "C" fn dnstext_record_next(
     outcome: &mut Outcome,
 ) -> u32
     ensures { NextRecord text.now (record {
-        before = memory zone.old found.old octets.old;
-        after = memory zone.new found.new octets.new;
-        status = result; outcome = outcome.new }) }
+      before = memory zone.old found.old octets.old;
+      after = memory zone.new found.new octets.new;
+      status = result;
+      outcome = outcome.new;
+    }) }
 {
     let Some(state) = state_of(zone) else {
         return refuse_zone(outcome);
