@@ -1,5 +1,5 @@
 -- No data is refused for a fault of the text: of a kind of errors, `Syntax` says one.
-use Rattle.std.proofs.Common.{ℕ, ◌≡◌, Bool, true, false, List, [], ◌∷◌, Option, None, Some, Result, Ok, Err, sym, subst, ap, ◌∙◌, inl, inr}
+use Rattle.std.proofs.Common.{ℕ, ◌≡◌, Bool, true, false, List, [], ◌∷◌, Option, None, Err, sym, subst, ap, ◌∙◌, inl, inr}
 use Rattle.std.specs.Prelude.{◌^◌, if◌then◌else◌, slice_index}
 use Rattle.dns_octets.specs.Room.{Room}
 use Rattle.dns_split.specs.EntryTokens.{TokenSeen}
@@ -8,7 +8,6 @@ use Rattle.dns_kinds.specs.declared.error.ErrorKind.{ErrorKind}
 use Rattle.dns_kinds.specs.declared.error.ErrorKind.TheVariants.{IllegalBase32, LongHash, NoDataType, NotOfType, NoTextForm, ShortBase32, Syntax, WrongLength}
 use Rattle.dns_kinds.specs.declared.types.RecordType.{RecordType}
 use Rattle.dns_digits.specs.Hashes.{hash_refusal}
-use Rattle.dns_digits.specs.Spelled.{illegal, unfinished}
 use Rattle.dns_digits.specs.declared.kind.DigitsKind.{DigitsKind}
 use Rattle.dns_digits.specs.declared.kind.DigitsKind.TheVariants.{Hex as InHex, Base64 as InBase64}
 use Rattle.dns_fields.specs.Fields.{field_form}
@@ -17,20 +16,20 @@ use Rattle.dns_fields.specs.Words.{NumberReason}
 use Rattle.dns_fields.specs.declared.field.Field.{Field}
 use Rattle.dns_fields.specs.declared.field.Field.TheVariants.{Number8, Number16, Number32, Interval, Ipv4, Ipv6, RecordType as OfRecordType, SigType, Algorithm, CertificateType, Eui48, Eui64, Time, Locator, String, PsdnAddress, Tag, Salt, Hash, Name}
 use Rattle.dns_fields.specs.declared.record_error.RecordError.{RecordError}
-use Rattle.dns_params.specs.ParamRefusals.{NewReason, ParamReason, ParamsReason, ValueFault, ValueReason, WordFault}
+use Rattle.dns_params.specs.ParamRefusals.{NewReason, ParamReason, ParamsReason, ValueReason, WordFault}
 use Rattle.dns_params.specs.declared.keys.ValueKind.{ValueKind}
 use Rattle.dns_params.specs.declared.keys.ValueKind.TheVariants.{Keys, Strings as OfStrings, Nothing as OfNothing, Port, Ipv4 as OfIpv4, Digits, Ipv6 as OfIpv6, Octets}
 use Rattle.dns_data.specs.ByType.{RefusesData, RefusesGeneric, RefusesType, shape_of_code}
 use Rattle.dns_data.specs.Data.{RefusesBehindFields}
 use Rattle.dns_data.specs.Digits.{IsDigitsFault, JoinedReason, digits_form}
-use Rattle.dns_data.specs.GatewayKeys.{AddressReason, GatewayTypeReason, gateway_form, gateway_key_form, gateway_type_form, key_form, octet_form}
+use Rattle.dns_data.specs.GatewayKeys.{GatewayTypeReason, gateway_form, gateway_key_form, gateway_type_form, key_form, octet_form}
 use Rattle.dns_data.specs.Generic.{GenericReason, WhyNoCount, generic_form}
 use Rattle.dns_data.specs.PrefixLists.{prefix_form}
 use Rattle.dns_data.specs.RestKinds.{StringTokensReason, rest_form}
 use Rattle.dns_data.specs.Rests.{BehindSome, RefusesAs, RefusesRest, RestForm}
 use Rattle.dns_data.specs.Texts.{TextReason}
 use Rattle.dns_data.specs.TokenForms.{ReasonBehind, ThenReason, TokenForm, then_form}
-use Rattle.dns_data.specs.TypeLists.{NamesNone, TypesReason}
+use Rattle.dns_data.specs.TypeLists.{TypesReason}
 use Rattle.dns_data.specs.Types.{TypeShape}
 use Rattle.dns_data.specs.declared.rest.Rest.{Rest}
 use Rattle.dns_data.specs.declared.rest.Rest.TheVariants.{Nothing, Strings, Hex, Base64, Types, SomeTypes, Text, QuotedText, Location, Prefixes, GatewayKey, Params}

@@ -9,7 +9,7 @@ use Rattle.dns_split.specs.declared.pieces.Piece.{Piece}
 use Rattle.dns_split.specs.declared.pieces.Piece.TheVariants.{Word as WordAt, Quote as QuoteAt, Comment as CommentAt, End as EndAt}
 use Rattle.dns_split.specs.declared.entry_tokens.EntryPart.TheVariants.{Token as TokenOf, End as EndOf}
 use Rattle.dns_split.specs.declared.entry_tokens.EntryToken.{EntryToken}
-use Rattle.dns_split.specs.EntryTokens.{EndIs, IsInEntries, IsSeen, IsSeenFrom, PartSeen, StandsAsSpelled, TokenIs, TokenSeen, answer_seen, seen_from, spelled, token_seen}
+use Rattle.dns_split.specs.EntryTokens.{EndIs, IsInEntries, IsSeen, IsSeenFrom, StandsAsSpelled, TokenIs, TokenSeen, answer_seen, seen_from, spelled, token_seen}
 use Rattle.dns_split.specs.Pieces.{EachWithin, between}
 use Rattle.dns_split.proofs.EntryLaws.{seen_stand}
 use Rattle.dns_reader.specs.Source.{IsSourceOf, TokensEnd, token_end}

@@ -1,4 +1,4 @@
-use Rattle.std.proofs.Common.{Ok, Err, [], ◌≢◌, ◌∙◌, ap, subst}
+use Rattle.std.proofs.Common.{Ok, [], ◌≢◌, ◌∙◌, ap, subst}
 use Rattle.std.specs.Prelude.{not}
 use Rattle.dns_fields.proofs.Tokens.{none_left}
 use Rattle.dns_heads.specs.Directives.{TakesDirective}
