@@ -104,7 +104,8 @@ impl<A: Allocator + Copy> Cutter<A> {
         record: RecordRef<'_>,
         lines: &mut String<A>,
     ) -> Result<(), CutError>
-        ensures { OnOk result (BeginsPart state.now record.entry (string_bytes lines.old) (string_bytes lines.new)) }
+        ensures { OnOk result (BeginsPart state.now record.entry (string_bytes lines.old)
+            (string_bytes lines.new)) }
     {
         let first = checked(record)?;
         let repeated = self.repeated()?;
@@ -144,9 +145,12 @@ impl<A: Allocator + Copy> Cutter<A> {
         lines: &mut String<A>,
     ) -> Result<bool, CutError>
         ensures is { IfOk result (λ begins. IsTrue begins ↔ BeginsHere self.old state.now at) }
-        ensures passes { IfOk result (λ begins. PassesRecord self.old state.now at begins self.new) }
-        ensures begins { IfOk result (λ begins. begins ≡ true → BeginsPart state.now record.entry (string_bytes lines.old) (string_bytes lines.new)) }
-        ensures goes_on { IfOk result (λ begins. begins ≡ false → string_bytes lines.new ≡ string_bytes lines.old) }
+        ensures passes { IfOk result (λ begins. PassesRecord self.old state.now at begins
+            self.new) }
+        ensures begins { IfOk result (λ begins. begins ≡ true
+            → BeginsPart state.now record.entry (string_bytes lines.old) (string_bytes lines.new)) }
+        ensures goes_on { IfOk result (λ begins. begins ≡ false
+            → string_bytes lines.new ≡ string_bytes lines.old) }
     {
         let begins = self.begins(state, at);
         if begins {

@@ -48,7 +48,8 @@ impl<'a, Owner: AsOctets, Octets: AsOctets> PartHead<'a, Owner, Octets> {
 /// Prints `$ORIGIN` and the name, if one is known.
 fn write_origin<F: FormatWriter>(origin: &Known, p: &mut F) -> zonefile_fmt::Result
     requires { F.blocks p.old ≡ 0 }
-    ensures { OnOk result (WritesSteps F.blocks F.step_gives p.old (lines_of token_steps (origin_lines origin.now)) p.new) }
+    ensures { OnOk result (WritesSteps F.blocks F.step_gives p.old
+        (lines_of token_steps (origin_lines origin.now)) p.new) }
 {
     let Some(name) = origin.name() else {
         return Ok(());
@@ -61,7 +62,8 @@ fn write_origin<F: FormatWriter>(origin: &Known, p: &mut F) -> zonefile_fmt::Res
 /// Prints `$TTL` and the default time to live, if one is known.
 fn write_default_ttl<F: FormatWriter>(default: Option<u32>, p: &mut F) -> zonefile_fmt::Result
     requires { F.blocks p.old ≡ 0 }
-    ensures { OnOk result (WritesSteps F.blocks F.step_gives p.old (lines_of token_steps (default_ttl_lines default)) p.new) }
+    ensures { OnOk result (WritesSteps F.blocks F.step_gives p.old
+        (lines_of token_steps (default_ttl_lines default)) p.new) }
 {
     let Some(ttl) = default else {
         return Ok(());
@@ -89,7 +91,8 @@ fn write_repeated<Owner: AsOctets, Octets: AsOctets, F: FormatWriter>(
     p: &mut F,
 ) -> zonefile_fmt::Result
     requires { F.blocks p.old ≡ 0 }
-    ensures { OnOk result (WritesSteps F.blocks F.step_gives p.old (repeated_document one.now) p.new) }
+    ensures { OnOk result (WritesSteps F.blocks F.step_gives p.old (repeated_document one.now)
+        p.new) }
 {
     match one {
         Some(one) => write_record(one, p),

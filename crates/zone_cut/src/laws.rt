@@ -35,7 +35,8 @@ fn know_name(name: &NameBuffer)
 
 /// States that a name that is known is one on the wire.
 fn know_origin(origin: &Known)
-    ensures { (labels : List (List ℕ)) → known_name origin.now ≡ Some labels → IsWireName (wire labels) }
+    ensures { (labels : List (List ℕ)) → known_name origin.now ≡ Some labels
+        → IsWireName (wire labels) }
 {
     if let Some(name) = origin.name() {
         know_name(name);

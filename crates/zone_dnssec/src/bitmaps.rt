@@ -86,7 +86,8 @@ fn lists_only<Owner: AsOctets, Octets: AsOctets>(
     name: &Name<&[u8]>,
     bitmap: &[u8],
 ) -> bool
-    ensures { result ≡ list_all (has_listed_type origin.now records.now name.now) (types_of bitmap.now) }
+    ensures { result ≡ list_all (has_listed_type origin.now records.now name.now)
+        (types_of bitmap.now) }
 {
     BitmapTypes::new(bitmap).all(|rtype| is_to_be_listed(origin, records, name, rtype))
 }
@@ -112,7 +113,8 @@ fn lists_each<Owner: AsOctets, Octets: AsOctets>(
     name: &Name<&[u8]>,
     bitmap: &[u8],
 ) -> bool
-    ensures { result ≡ list_all (is_in_bitmap origin.now records.now name.now bitmap.now) (filter (λ r. same_name r.owner name.now) records.now) }
+    ensures { result ≡ list_all (is_in_bitmap origin.now records.now name.now bitmap.now)
+        (filter (λ r. same_name r.owner name.now) records.now) }
 {
     owned_by(records, name)
         .iter()

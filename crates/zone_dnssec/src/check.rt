@@ -192,7 +192,8 @@ fn add_each<'a, Owner: AsOctets, Octets: AsOctets, A: Allocator>(
 ) -> Result<(), AllocError>
     requires keys { facts.keys.now ≡ zone_keys origin.now records.now }
     requires ttl { facts.denial_ttl ≡ denial_ttl origin.now records.now }
-    ensures { OnOk result (found.new.items ≡ found.old.items ++ flat_map (insecure_of origin.now times records.now place) rules.now) }
+    ensures { OnOk result (found.new.items ≡ found.old.items
+        ++ flat_map (insecure_of origin.now times records.now place) rules.now) }
 {
     for rule in rules {
         let is_broken = is_broken_at(*rule, origin, times, facts, hashes, records, place);
@@ -213,7 +214,8 @@ fn add_broken<'a, Owner: AsOctets, Octets: AsOctets, A: Allocator>(
 ) -> Result<(), AllocError>
     requires keys { facts.keys.now ≡ zone_keys origin.now records.now }
     requires ttl { facts.denial_ttl ≡ denial_ttl origin.now records.now }
-    ensures { OnOk result (found.new.items ≡ found.old.items ++ insecure_at origin.now times records.now place) }
+    ensures { OnOk result (found.new.items ≡ found.old.items
+        ++ insecure_at origin.now times records.now place) }
 {
     add_each(
         &SECURITY_RULES,

@@ -140,7 +140,8 @@ fn soa<'a, Owner: AsOctets, Octets: AsOctets>(
     origin: &Name<&[u8]>,
     records: &SortedRecords<'a, Owner, Octets>,
 ) -> Option<&'a Record<Owner, Octets>>
-    ensures { option_copied result ≡ find (λ r. same_name r.owner origin.now && type_of r == Rtype.soa) records.now }
+    ensures { option_copied result ≡ find (λ r. same_name r.owner origin.now
+        && type_of r == Rtype.soa) records.now }
 {
     owned_by(records, origin)
         .iter()

@@ -74,7 +74,8 @@ fn is_out_of_order<Owner: AsOctets, Octets: AsOctets>(
     chain: &Record<Owner, Octets>,
     record: &Record<Owner, Octets>,
 ) -> bool
-    ensures { result ≡ names_chain chain.now && (is_link chain.now «record».now && not (points_to_next origin.now records.now chain.now «record».now)) }
+    ensures { result ≡ names_chain chain.now && (is_link chain.now «record».now
+        && not (points_to_next origin.now records.now chain.now «record».now)) }
 {
     is_chain(chain) && is_of_chain(chain, record) && !names_next(origin, records, chain, record)
 }
@@ -85,7 +86,8 @@ fn breaks_order<Owner: AsOctets, Octets: AsOctets>(
     records: &SortedRecords<'_, Owner, Octets>,
     record: &Record<Owner, Octets>,
 ) -> bool
-    ensures { result ≡ some_chain (λ chain. is_link chain «record».now && not (points_to_next origin.now records.now chain «record».now)) origin.now records.now }
+    ensures { result ≡ some_chain (λ chain. is_link chain «record».now
+        && not (points_to_next origin.now records.now chain «record».now)) origin.now records.now }
 {
     owned_by(records, origin)
         .iter()
@@ -217,7 +219,8 @@ fn has_fault_above<'a, Owner: AsOctets, Octets: AsOctets>(
     chain: &'a Record<Owner, Octets>,
     name: &Name<&'a [u8]>,
 ) -> bool
-    ensures { result ≡ list_any (λ above. is_empty_in_zone origin.now records.now above && fails_name fault origin.now records.now chain.now above) (names_above name.now) }
+    ensures { result ≡ list_any (λ above. is_empty_in_zone origin.now records.now above
+        && fails_name fault origin.now records.now chain.now above) (names_above name.now) }
 {
     match parent(name) {
         Some(above) => {
@@ -276,7 +279,9 @@ fn is_chain_wrong<'a, Owner: AsOctets, Octets: AsOctets>(
     chain: &'a Record<Owner, Octets>,
     name: &Name<&'a [u8]>,
 ) -> bool
-    ensures { result ≡ names_chain chain.now && (is_bounded chain.now && (is_represented origin.now records.now chain.now name.now && fails_at_or_above fault origin.now records.now chain.now name.now)) }
+    ensures { result ≡ names_chain chain.now && (is_bounded chain.now
+        && (is_represented origin.now records.now chain.now name.now
+        && fails_at_or_above fault origin.now records.now chain.now name.now)) }
 {
     is_chain(chain)
         && is_short(chain)
@@ -293,7 +298,9 @@ fn has_fault_in_chain<'a, Owner: AsOctets, Octets: AsOctets>(
     records: &SortedRecords<'a, Owner, Octets>,
     name: &Name<&'a [u8]>,
 ) -> bool
-    ensures { result ≡ some_chain (λ chain. is_bounded chain && (is_represented origin.now records.now chain name.now && fails_at_or_above fault origin.now records.now chain name.now)) origin.now records.now }
+    ensures { result ≡ some_chain (λ chain. is_bounded chain
+        && (is_represented origin.now records.now chain name.now
+        && fails_at_or_above fault origin.now records.now chain name.now)) origin.now records.now }
 {
     let all = owned_by(records, origin);
     let mut is_wrong = false;

@@ -138,7 +138,8 @@ fn link_owned_by<'a, Owner: AsOctets, Octets: AsOctets>(
     chain: &Record<Owner, Octets>,
     owner: &Name<&[u8]>,
 ) -> Option<&'a Record<Owner, Octets>>
-    ensures { option_copied result ≡ find (λ r. same_name r.owner owner.now && is_link chain.now r) records.now }
+    ensures { option_copied result ≡ find (λ r. same_name r.owner owner.now && is_link chain.now r)
+        records.now }
 {
     owned_by(records, owner)
         .iter()
@@ -194,7 +195,8 @@ fn link_behind<'a, Owner: AsOctets, Octets: AsOctets>(
     chain: &Record<Owner, Octets>,
     name: &Name<&[u8]>,
 ) -> Option<&'a Record<Owner, Octets>>
-    ensures { option_copied result ≡ find (λ r. comes_after r.owner name.now && is_link chain.now r) records.now }
+    ensures { option_copied result ≡ find (λ r. comes_after r.owner name.now
+        && is_link chain.now r) records.now }
 {
     let all = records.as_slice();
     let count = all.partition_point(|record| order_of(&record.owner, name).is_le());
@@ -208,7 +210,8 @@ fn link_in_front<'a, Owner: AsOctets, Octets: AsOctets>(
     chain: &Record<Owner, Octets>,
     name: &Name<&[u8]>,
 ) -> Option<&'a Record<Owner, Octets>>
-    ensures { option_copied result ≡ find (λ r. is_lt (name_order r.owner name.now) && is_link chain.now r) (reverse records.now) }
+    ensures { option_copied result ≡ find (λ r. is_lt (name_order r.owner name.now)
+        && is_link chain.now r) (reverse records.now) }
 {
     let all = records.as_slice();
     let count = all.partition_point(|record| order_of(&record.owner, name).is_lt());
