@@ -135,8 +135,8 @@ pub record ReadsDataText (room : Room) (rtype : RecordType) (origin : Option (Li
   pub reads : ReadsFirstData room rtype origin start begun answer
 
 -- the same of a text
-abbrev pub ReadsText : ℕ → RecordType → Option (Bor (List (List ℕ))) → List ℕ → Result (Unit {0}) RecordError → List ℕ → Type 0
-ReadsText n rtype origin text result octets = ReadsDataText (exactly n) rtype (option_copied origin) text (answered result octets)
+abbrev pub AnswersText : ℕ → RecordType → Option (Bor (List (List ℕ))) → List ℕ → Result (Unit {0}) RecordError → List ℕ → Type 0
+AnswersText n rtype origin text result octets = ReadsDataText (exactly n) rtype (option_copied origin) text (answered result octets)
 
 -- the octets are given; or the error is reported
 abbrev pub TellsData : DataAnswer → List ℕ → ℕ → List ℕ → Outcome → Type 0

@@ -118,8 +118,8 @@ pub record IsEntry (given : List (Result Piece TextFault)) (old : List TokenAt) 
   pub stop_is : stop ≡ stop_of given
 
 -- the entry at a place of a text is found so
-abbrev pub FindsEntry : List ℕ → ℕ → List TokenAt → Entry → List TokenAt → Type 0
-FindsEntry text at old entry new =
+abbrev pub NotesEntry : List ℕ → ℕ → List TokenAt → Entry → List TokenAt → Type 0
+NotesEntry text at old entry new =
     (given : List (Result Piece TextFault)) × ReadsOctetsFrom text at given × EachWithin (length text) given × IsEntry given old entry.count entry.stop new
 
 -- what is said of an entry of so many tokens where there is room for some, and where the cursor goes

@@ -55,8 +55,8 @@ abbrev pub RefusesSymbol : List ℕ → ℕ → Fault → Type 0
 RefusesSymbol text place fault = (e : SymbolOctetsError) × ReadsAt text place (Err e) × (fault ≡ record { refusal = refusal_of e; place = place })
 
 -- what is found at a place ends at a later place of the text
-abbrev pub GoesOn : {X : Type 0} → List ℕ → ℕ → Option (X × ℕ) → Type 0
-GoesOn text place found = IfSome found (λ p. (place < p.1) × (p.1 ≤ length text))
+abbrev pub PassesSome : {X : Type 0} → List ℕ → ℕ → Option (X × ℕ) → Type 0
+PassesSome text place found = IfSome found (λ p. (place < p.1) × (p.1 ≤ length text))
 
 -- the text begins with symbols that have these octets and end at a place
 pub record HasOctetsBefore (text octets : List ℕ) (place : ℕ) : Type 0 where

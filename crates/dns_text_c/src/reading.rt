@@ -1,7 +1,7 @@
 //! The text of record data.
 ghost use Rattle.std.specs.Prelude.{◌≡◌, ◌≤◌, [], false, true};
 ghost use Rattle.dns_reader.specs.Source.{entry_end};
-ghost use Rattle.dns_text_c.specs.DataText.{EndsText, ReadsLeft, ReadsOpen, ReadsText, TellsRead, TellsReadData, WritesData, trailing_token};
+ghost use Rattle.dns_text_c.specs.DataText.{EndsText, ReadsLeft, ReadsOpen, AnswersText, TellsRead, TellsReadData, WritesData, trailing_token};
 
 use crate::kept::{name_of, refusal_of_name};
 use crate::outcome::{Fault, Outcome, give, refuse};
@@ -95,7 +95,7 @@ fn read_text<const N: usize>(
     target: &mut ArrayVec<u8, N>,
 ) -> Result<(), RecordError>
     requires { target.old.items ≡ [] }
-    ensures { ReadsText N rtype origin.entry text.now result target.new.items }
+    ensures { AnswersText N rtype origin.entry text.now result target.new.items }
 {
     let mut source = EntrySource::of_octets(text);
     match source.begin() {

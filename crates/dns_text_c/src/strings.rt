@@ -5,7 +5,7 @@ ghost use Rattle.dns_symbol.specs.Index.{ReadsAt};
 ghost use Rattle.dns_symbol.specs.Printed.{symbol_of, text_of};
 ghost use Rattle.dns_charstr.specs.OctetText.{OctetAt};
 ghost use Rattle.dns_charstr.specs.Printed.{quoted_text};
-ghost use Rattle.dns_text_c.specs.Strings.{GoesOn, PrintsString, ReadsOctetString, ReadsString, RefusesOctet, RefusesSymbol, TellsOctetString, TellsString, escape_of, plain_text, refusal_of, refusal_of_escape, string_octets, string_text, unquoted_text};
+ghost use Rattle.dns_text_c.specs.Strings.{PassesSome, PrintsString, ReadsOctetString, ReadsString, RefusesOctet, RefusesSymbol, TellsOctetString, TellsString, escape_of, plain_text, refusal_of, refusal_of_escape, string_octets, string_text, unquoted_text};
 ghost use Rattle.dns_charstr.specs.Limits.{max_string};
 
 use crate::outcome::{Fault, Outcome, Refusal, give, refuse};
@@ -156,7 +156,7 @@ fn refusal_of(error: SymbolOctetsError) -> Refusal
 pub(crate) fn symbol_at(text: &[u8], place: usize) -> Result<Option<(Symbol, usize)>, Fault>
     ensures reads { IfOk result (λ found. ReadsAt text.now place (Ok found)) }
     ensures refused { IfErr result (RefusesSymbol text.now place) }
-    ensures goes { IfOk result (GoesOn text.now place) }
+    ensures goes { IfOk result (PassesSome text.now place) }
 {
     match Symbol::from_slice_index(text, place) {
         Ok(found) => Ok(found),
@@ -216,7 +216,7 @@ fn refusal_of_escape(error: SymbolCharsError) -> Refusal
 fn spelled_at(text: &[u8], place: usize) -> Result<Option<(u8, usize)>, Fault>
     ensures reads { IfOk result (λ found. OctetAt text.now place (Ok found)) }
     ensures refused { IfErr result (RefusesOctet text.now place) }
-    ensures goes { IfOk result (GoesOn text.now place) }
+    ensures goes { IfOk result (PassesSome text.now place) }
 {
     match octet_at(text, place) {
         Ok(found) => Ok(found),

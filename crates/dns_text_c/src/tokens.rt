@@ -5,7 +5,7 @@
 ghost use Rattle.std.specs.Prelude.{◌≡◌, ◌<◌, ◌≤◌, ◌^◌, drop, encode_utf8_all, length, slice_set};
 ghost use Rattle.dns_split.specs.Opening.{IsLeftOpen};
 ghost use Rattle.dns_split.specs.declared.pieces.Wrong.TheVariants.{OpenParenthesis};
-ghost use Rattle.dns_text_c.specs.Entries.{bit, refusal_of_wrong, FindsEntry, LeavesOpen, NextEntry, Opens, TakesPieces, TellsStop};
+ghost use Rattle.dns_text_c.specs.Entries.{bit, refusal_of_wrong, NotesEntry, LeavesOpen, NextEntry, Opens, TakesPieces, TellsStop};
 
 use crate::outcome::{END, Fault, OK, Outcome, Refusal, number_of, refuse};
 use dns_split::opening::outermost_open_of_octets;
@@ -137,7 +137,7 @@ pub(crate) struct Entry {
 /// Puts the tokens of the entry at a place into a slice, as many as fit.
 fn read_entry(text: &[u8], at: usize, tokens: &mut [Token]) -> Entry
     requires { at ≤ length text.now }
-    ensures entry { FindsEntry text.now at tokens.old result tokens.new }
+    ensures entry { NotesEntry text.now at tokens.old result tokens.new }
     ensures open { LeavesOpen text.now at result.stop }
 {
     let mut pieces = Pieces::of_octets_starting_at(text, at);
