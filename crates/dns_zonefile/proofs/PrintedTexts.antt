@@ -18,7 +18,7 @@ use Rattle.dns_fields.specs.declared.record_error.RecordError.{RecordError}
 use Rattle.dns_reader.specs.EntryReading.{ReadsZoneEntry, minimum_of_record, minimum_of_ttl, said_of_entry}
 use Rattle.dns_reader.specs.Past.{Said, Silent, known_name, no_origin_said, origin_said}
 use Rattle.dns_reader.specs.ReadingLaws.{SaysWholeRecord, WholeRecordsStandAlone}
-use Rattle.dns_reader.specs.Records.{given_of, given_read}
+use Rattle.dns_reader.specs.Records.{given_of}
 use Rattle.dns_reader.specs.TextEntries.{parts_of_entries, tokens_end}
 use Rattle.dns_reader.specs.WholeTexts.{EntryAsRead, IsReadBehind, IsReadSoFar, TextsAreReadToTheEnd, all_said, given_as}
 use Rattle.dns_reader.specs.declared.entry.EntryRead.{EntryRead}
@@ -83,7 +83,7 @@ module _ (whole : WholeRecordsStandAlone) (room : Room) (start : State) (known :
         let is = printed_read r shown.0 back owner_word whole room end tokens b.state x.after x.old x.new x.read shown.1 own.tokens origin_is fits reads in
         record {
           at = next_place tokens end;
-          is = ap (λ e. given_of e x.read) own.ends ∙ ap given_read is.0;
+          is = ap (λ e. given_of e x.read) own.ends ∙ is.0;
           owner = is.1;
           «data» = is.2;
         }
