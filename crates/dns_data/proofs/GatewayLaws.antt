@@ -1,5 +1,5 @@
 -- Gateways, as words and as octets.
-use Rattle.std.proofs.Common.{ℕ, zero, suc, false, ◌≡◌, ◌≢◌, ◌<◌, ◌≤◌, ◌-◌, ◌*◌, ◌^◌, Option, Some, None, List, [], ◌∷◌, ◌++◌, length, take, drop, refl, sym, ap, subst, ◌∙◌, inl, inr, arith, length-append, take_at, take-append-drop, length-take-le, length-drop}
+use Rattle.std.proofs.Common.{ℕ, false, ◌≡◌, ◌≢◌, ◌<◌, ◌≤◌, ◌-◌, ◌*◌, ◌^◌, Option, Some, None, List, [], ◌∷◌, ◌++◌, length, take, drop, refl, sym, ap, subst, ◌∙◌, inl, inr, arith, length-append, take_at, take-append-drop, length-take-le, length-drop}
 use Rattle.std.specs.Prelude.{Result, Ok, Err, slice_index}
 use Rattle.std.proofs.lemmas.List.Elements.{All-tail}
 use Rattle.dns_digits.proofs.Pieces.{rest_of}
@@ -141,15 +141,6 @@ module _ (origin : Option (List (List ℕ))) (number algorithm : ℕ) (room : Ro
 -- ---- which part is refused
 
 module _ (origin : Option (List (List ℕ))) where
-  pub part_few : (tokens left : List TokenSeen) (part : ℕ) → IsGatewayPart origin tokens left part → part ≤ 3
-  part_few tokens left zero h = omega arith
-  part_few [] left (suc part) h = absurd h
-  part_few (t ∷ ts) left (suc zero) h = omega arith
-  part_few (t ∷ []) left (suc (suc part)) h = absurd h.2
-  part_few (t ∷ u ∷ us) left (suc (suc zero)) h = omega arith
-  part_few (t ∷ u ∷ []) left (suc (suc (suc part))) h = absurd h.2.2
-  part_few (t ∷ u ∷ v ∷ vs) left (suc (suc (suc part))) h = omega (arith, h.2.2.2)
-
   module _ (tokens left : List TokenSeen) (t : TokenSeen) (rest : List TokenSeen) (is : tokens ≡ t ∷ rest) (number : ℕ) (spelled : gateway_type_form.spells t (number ∷ [])) where
     pub algorithm_part : left ≡ rest → IsGatewayPart origin tokens left 1
     algorithm_part at = subst (λ ts. IsGatewayPart origin ts left 1) (sym is) (number ∷ [], spelled, at)
