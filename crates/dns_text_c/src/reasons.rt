@@ -122,7 +122,8 @@ fn field_name(rtype: RecordType, field: Option<FieldName>) -> Option<&'static st
 
 /// Appends what is refused: a type, and a field of its data.
 fn put_part(rtype: RecordType, name: Option<&'static str>, reason: &mut ArrayVec<u8, REASON>)
-    ensures { AppendsCut (part_text rtype (option_copied name.entry)) reason.old.items reason.new.items }
+    ensures { AppendsCut (part_text rtype (option_copied name.entry)) reason.old.items
+        reason.new.items }
 {
     match name {
         Some(name) => put_type_and_name(rtype, name, reason),
