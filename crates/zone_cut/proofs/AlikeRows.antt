@@ -1,11 +1,10 @@
 -- Readers that stand alike give alike.
-use Rattle.std.proofs.Common.{◌≡◌, ℕ, List, [], ◌∷◌, ◌++◌, Option, Some, None, Result, Ok, Err, refl, sym, subst, ap, ◌∙◌}
+use Rattle.std.proofs.Common.{◌≡◌, ℕ, List, [], ◌∷◌, ◌++◌, Option, Some, None, Result, Ok, Err, refl, sym, subst, ◌∙◌}
 use Rattle.dns_octets.specs.Room.{Room}
-use Rattle.dns_split.specs.declared.pieces.EndOfEntry.{EndOfEntry}
 use Rattle.dns_split.specs.declared.pieces.Fault.{Fault}
 use Rattle.dns_fields.specs.declared.record_error.RecordError.{RecordError}
-use Rattle.dns_reader.specs.Records.{AreGivenInARow, EntryGiven, ReadsBegun, ReadsNextEntry, StandsAfter, given_next, none_given}
-use Rattle.dns_reader.specs.Source.{BeginsEntry, SourceSeen, StartsBehindLine, entry_end, entry_left}
+use Rattle.dns_reader.specs.Records.{EntryGiven, ReadsBegun, ReadsNextEntry, given_next, none_given}
+use Rattle.dns_reader.specs.Source.{BeginsEntry, SourceSeen, entry_end, entry_left}
 use Rattle.dns_reader.specs.declared.entry.EntryRead.{EntryRead}
 use Rattle.dns_reader.specs.declared.records.RecordReader.{RecordReader}
 use Rattle.dns_reader.specs.declared.source.StartOfEntry.{StartOfEntry}

@@ -1,5 +1,5 @@
 -- What the lines of a head leave.
-use Rattle.std.proofs.Common.{◌≡◌, ◌≢◌, ◌<◌, ◌≤◌, ◌+◌, ◌^◌, ℕ, false, List, [], ◌∷◌, ◌++◌, length, map, Option, Some, None, Result, Ok, Err, refl, sym, subst, ap, ◌∙◌, arith}
+use Rattle.std.proofs.Common.{◌≡◌, ◌≢◌, ◌<◌, ◌≤◌, ◌+◌, ◌^◌, ℕ, false, List, [], ◌∷◌, ◌++◌, length, map, Option, Some, None, Result, Ok, refl, sym, subst, ap, ◌∙◌, arith}
 use Rattle.std.specs.Prelude.{codes, decimal, if◌then◌else◌, unwrap_or}
 use Rattle.std.specs.List.{AllByRecursion}
 use Rattle.std.specs.Option.{option_to_list}
@@ -11,9 +11,6 @@ use Rattle.dns_spelling.specs.NameSpelling.{IsOrigin, IsWireName, SpellsName}
 use Rattle.dns_spelling.specs.PrintedNames.{wire_name_text}
 use Rattle.dns_spelling.proofs.NameLaws.{names_spelled}
 use Rattle.dns_split.specs.EntryTokens.{TokenSeen}
-use Rattle.dns_fields.specs.Taking.{SpellsField}
-use Rattle.dns_fields.specs.declared.field.Field.TheVariants.{Name as OfName}
-use Rattle.dns_data.specs.Limits.{max_data}
 use Rattle.dns_data.specs.GatewayKeys.{plain_word}
 use Rattle.dns_data.specs.Rests.{ArePrinted}
 use Rattle.dns_heads.specs.Directives.{directive_of, directive_of_word, first_directive}
@@ -33,14 +30,12 @@ use Rattle.dns_reader.specs.declared.ttl.RecordTtl.{RecordTtl}
 use Rattle.dns_reader.specs.declared.ttl.RecordTtl.TheVariants.{Own, Default, Last, Minimum}
 use Rattle.dns_reader.proofs.Learned.{default_learned, origin_learned}
 use Rattle.dns_reader.proofs.PastStates.{known_once, name_alone, starts}
-use Rattle.dns_resource.specs.RecordLaws.{AreRecordValues}
 use Rattle.dns_resource.specs.Records.{data_of, record_tokens}
 use Rattle.dns_resource.specs.declared.record.Record.{Record}
-use Rattle.dns_zonefile.specs.ReadBack.{IsPrintedRecordRead}
 use Rattle.std.proofs.lemmas.Option.{none-some}
-use Rattle.zone_cut.specs.Alike.{AreAlike, AreReadInTurn, ReadsLine}
-use Rattle.zone_cut.specs.CutLaws.{HeadLeadsThere, StandsBehindFirst}
-use Rattle.zone_cut.specs.Heads.{HasShortTtls, Line, default_ttl_lines, directive_lines, head_lines, head_records, origin_lines, state_of}
+use Rattle.zone_cut.specs.Alike.{AreReadInTurn, ReadsLine}
+use Rattle.zone_cut.specs.CutLaws.{HeadLeadsThere}
+use Rattle.zone_cut.specs.Heads.{Line, default_ttl_lines, directive_lines, head_records, origin_lines, state_of}
 use Rattle.zone_cut.specs.LawSteps.{IsKnownRecord}
 use Rattle.zone_cut.specs.declared.head.PartHead.{PartHead}
 use Rattle.zone_cut.proofs.ReadRecords.{LeavesTtls, record_leaves}

@@ -1,5 +1,5 @@
 -- What a record that is read leaves.
-use Rattle.std.proofs.Common.{◌≡◌, ℕ, Bool, List, [], ◌∷◌, ◌++◌, Option, Some, None, Result, Ok, Err, refl, sym, subst, ap, ◌∙◌}
+use Rattle.std.proofs.Common.{◌≡◌, ℕ, Bool, List, [], ◌++◌, Option, Some, None, Result, Ok, Err, refl, subst, ap, ◌∙◌}
 use Rattle.std.specs.Prelude.{⊤}
 use Rattle.dns_octets.specs.Room.{Room}
 use Rattle.dns_split.specs.EntryTokens.{TokenSeen}
@@ -13,8 +13,8 @@ use Rattle.dns_heads.specs.declared.head.Words.{Words}
 use Rattle.dns_heads.specs.declared.head.WordsRefusal.{WordsRefusal}
 use Rattle.dns_fields.specs.declared.record_error.RecordError.{RecordError}
 use Rattle.dns_reader.specs.EntryReading.{ReadsBehind, ReadsMeaning, ReadsWords, ReadsZoneEntry, minimum_of_ttl, own_ttl_of, owner_of_record, record_with, said_of_entry}
-use Rattle.dns_reader.specs.Learning.{Learns, chosen_ttl}
-use Rattle.dns_reader.specs.Past.{Said, SaysOwner, origin_said, default_ttl_said, ttl_said, Silent, IsOriginAfter, no_origin_said, origin_said_last, Knows}
+use Rattle.dns_reader.specs.Learning.{chosen_ttl}
+use Rattle.dns_reader.specs.Past.{Said, origin_said, default_ttl_said, ttl_said, Silent, IsOriginAfter, no_origin_said, origin_said_last, Knows}
 use Rattle.dns_reader.specs.declared.entry.EntryRead.{EntryRead}
 use Rattle.dns_reader.specs.declared.entry.EntryRead.TheVariants.{Record}
 use Rattle.dns_reader.specs.declared.known.Known.{Known}

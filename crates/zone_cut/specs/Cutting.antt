@@ -1,7 +1,7 @@
 -- With which records parts begin.
 use Rattle.std.specs.Prelude.{◌≡◌, ℕ, Bool, true, false, not, IsTrue}
 use Rattle.dns_reader.specs.declared.known.Known.{Known}
-use Rattle.dns_reader.specs.declared.known.Known.TheVariants.{Unsaid, Name, Refused}
+use Rattle.dns_reader.specs.declared.known.Known.TheVariants.{Name}
 use Rattle.dns_reader.specs.declared.state.State.{State}
 use Rattle.dns_wire.specs.Order.{same_name}
 use Rattle.zone_cut.specs.Shares.{BeginsShare, MayBegin}

@@ -1,5 +1,5 @@
 -- Worked rows: shares, owners, and the lines of a head.
-use Rattle.std.specs.Prelude.{◌≡◌, true, false, List, [], ◌∷◌, codes, decimal, Some, None, refl}
+use Rattle.std.specs.Prelude.{◌≡◌, true, false, [], ◌∷◌, codes, decimal, Some, None, refl}
 use Rattle.std.proofs.Common.{arith}
 use Rattle.dns_data.specs.GatewayKeys.{plain_word}
 use Rattle.dns_reader.specs.Past.{nothing_said}

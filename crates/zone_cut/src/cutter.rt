@@ -32,11 +32,37 @@ pub struct Cutter<A: Allocator> {
     soa: Option<Record<Vec<u8, A>, Vec<u8, A>>>,
 }
 
-/// Returns the record that was read.
-fn checked<'a>(record: RecordRef<'a>) -> Result<Record<&'a [u8], &'a [u8]>, CutError>
-    ensures { IfOk result (IsRecordOf record.entry) }
+/// Returns the same octets and numbers again.
+fn same<'a>(given: &RecordRef<'a>) -> RecordRef<'a>
+    ensures { result ≡ given.now }
 {
-    match record_of(record) {
+    RecordRef {
+        owner: given.owner,
+        ttl: given.ttl,
+        class: given.class,
+        rtype: given.rtype,
+        data: given.data,
+    }
+}
+
+/// Returns the same octets and numbers, for as long as these are borrowed.
+fn seen<'a>(given: &'a RecordRef<'_>) -> RecordRef<'a>
+    ensures { result ≡ given.now }
+{
+    RecordRef {
+        owner: given.owner,
+        ttl: given.ttl,
+        class: given.class,
+        rtype: given.rtype,
+        data: given.data,
+    }
+}
+
+/// Returns the record that was read.
+fn checked<'a>(given: &RecordRef<'a>) -> Result<Record<&'a [u8], &'a [u8]>, CutError>
+    ensures { IfOk result (IsRecordOf given.now) }
+{
+    match record_of(same(given)) {
         Some(one) => Ok(one),
         None => Err(CutError::NoRecord),
     }
@@ -92,7 +118,7 @@ impl<A: Allocator + Copy> Cutter<A> {
     /// The record that is repeated in front of a part.
     fn repeated(&self) -> Result<Option<Record<&[u8], &[u8]>>, CutError> {
         match &self.soa {
-            Some(soa) => Ok(Some(checked(soa.borrowed())?)),
+            Some(soa) => Ok(Some(checked(&soa.borrowed())?)),
             None => Ok(None),
         }
     }
@@ -101,13 +127,15 @@ impl<A: Allocator + Copy> Cutter<A> {
     fn push_lines(
         &self,
         state: &State,
-        record: RecordRef<'_>,
+        given: &RecordRef<'_>,
         lines: &mut String<A>,
     ) -> Result<(), CutError>
-        ensures { OnOk result (BeginsPart state.now record.entry (string_bytes lines.old)
+        ensures { OnOk result (BeginsPart state.now given.now (string_bytes lines.old)
             (string_bytes lines.new)) }
     {
-        let first = checked(record)?;
+        let own = same(given);
+        let part = seen(&own);
+        let first = checked(&part)?;
         let repeated = self.repeated()?;
         let head = PartHead {
             state,
@@ -118,12 +146,12 @@ impl<A: Allocator + Copy> Cutter<A> {
     }
 
     /// Keeps the first SOA, if it is to be repeated.
-    fn keep_soa(&mut self, record: RecordRef<'_>) -> Result<(), CutError>
+    fn keep_soa(&mut self, given: &RecordRef<'_>) -> Result<(), CutError>
         ensures shares { self.new.shares ≡ self.old.shares }
         ensures owner { self.new.owner ≡ self.old.owner }
     {
-        if self.repeats_soa && record.rtype == RecordType::SOA && self.soa.is_none() {
-            let Some(soa) = owned_record(self.alloc, record)? else {
+        if self.repeats_soa && given.rtype == RecordType::SOA && self.soa.is_none() {
+            let Some(soa) = owned_record(self.alloc, same(given))? else {
                 return Err(CutError::NoRecord);
             };
             self.soa = Some(soa);
@@ -141,23 +169,23 @@ impl<A: Allocator + Copy> Cutter<A> {
         &mut self,
         state: &State,
         at: usize,
-        record: RecordRef<'_>,
+        given: &RecordRef<'_>,
         lines: &mut String<A>,
     ) -> Result<bool, CutError>
         ensures is { IfOk result (λ begins. IsTrue begins ↔ BeginsHere self.old state.now at) }
         ensures passes { IfOk result (λ begins. PassesRecord self.old state.now at begins
             self.new) }
         ensures begins { IfOk result (λ begins. begins ≡ true
-            → BeginsPart state.now record.entry (string_bytes lines.old) (string_bytes lines.new)) }
+            → BeginsPart state.now given.now (string_bytes lines.old) (string_bytes lines.new)) }
         ensures goes_on { IfOk result (λ begins. begins ≡ false
             → string_bytes lines.new ≡ string_bytes lines.old) }
     {
         let begins = self.begins(state, at);
         if begins {
-            self.push_lines(state, record, lines)?;
+            self.push_lines(state, given, lines)?;
             self.shares.begin(at);
         }
-        self.keep_soa(record)?;
+        self.keep_soa(given)?;
         self.owner = state.owner.copied();
         Ok(begins)
     }

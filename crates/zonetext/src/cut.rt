@@ -59,7 +59,7 @@ impl<'p> Parter<'p> {
     fn take_record(&mut self, entry: &Entry<'_>, given: RecordRef<'_>) -> Result<(), Stop> {
         match self
             .cutter
-            .take(entry.state, entry.offset, given, &mut self.lines)
+            .take(entry.state, entry.offset, &given, &mut self.lines)
         {
             Ok(true) => self.begin_part(),
             Ok(false) => self.files.write(entry.octets),

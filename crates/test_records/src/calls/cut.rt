@@ -132,7 +132,7 @@ fn fill<'a>(
             continue;
         };
         let mut lines = String::new(answer.heap());
-        match cutter.take(&state, reader.began(), record, &mut lines) {
+        match cutter.take(&state, reader.began(), &record, &mut lines) {
             Ok(true) => {
                 if !parts.fill_up(text, reader.began())
                     || !parts.begin(lines.as_str(), reader.place())
