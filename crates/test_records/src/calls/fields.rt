@@ -66,8 +66,9 @@ fn take(inputs: &[Vec<u8>], answer: &mut Answer) {
     match take_fields(fields.as_slice(), origin.as_ref(), &mut source, &mut target) {
         Ok(_) => tell_taken(target.as_slice(), source.place(), answer),
         Err(error) => {
+            let field = error.field;
             tell_refusal(error, answer);
-            if let Some(field) = error.field {
+            if let Some(field) = field {
                 answer.add_text("|");
                 answer.add_number(field.0);
             }

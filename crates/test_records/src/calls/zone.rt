@@ -96,9 +96,10 @@ pub fn tell_read(state: &State, read: EntryRead, octets: &[u8], answer: &mut Ans
 
 /// Why an entry is refused, and the place.
 fn tell_refusal(error: RecordError, answer: &mut Answer) {
+    let offset = error.offset;
     answer.refuse(&Why(error));
     answer.add_text("|");
-    answer.add_number(error.offset);
+    answer.add_number(offset);
 }
 
 /// What is wrong with a text.
