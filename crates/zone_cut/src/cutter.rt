@@ -45,19 +45,6 @@ fn same<'a>(given: &RecordRef<'a>) -> RecordRef<'a>
     }
 }
 
-/// Returns the same octets and numbers, for as long as these are borrowed.
-fn seen<'a>(given: &'a RecordRef<'_>) -> RecordRef<'a>
-    ensures { result ≡ given.now }
-{
-    RecordRef {
-        owner: given.owner,
-        ttl: given.ttl,
-        class: given.class,
-        rtype: given.rtype,
-        data: given.data,
-    }
-}
-
 /// Returns the record that was read.
 fn checked<'a>(given: &RecordRef<'a>) -> Result<Record<&'a [u8], &'a [u8]>, CutError>
     ensures { IfOk result (IsRecordOf given.now) }
@@ -66,6 +53,13 @@ fn checked<'a>(given: &RecordRef<'a>) -> Result<Record<&'a [u8], &'a [u8]>, CutE
         Some(one) => Ok(one),
         None => Err(CutError::NoRecord),
     }
+}
+
+/// Returns the record that was read, for as long as `given` is borrowed.
+fn first_of<'a>(given: &'a RecordRef<'_>) -> Result<Record<&'a [u8], &'a [u8]>, CutError>
+    ensures { IfOk result (IsRecordOf given.now) }
+{
+    checked(given)
 }
 
 /// Appends the lines with which a part begins.
@@ -134,8 +128,7 @@ impl<A: Allocator + Copy> Cutter<A> {
             (string_bytes lines.new)) }
     {
         let own = same(given);
-        let part = seen(&own);
-        let first = checked(&part)?;
+        let first = first_of(&own)?;
         let repeated = self.repeated()?;
         let head = PartHead {
             state,
