@@ -3,7 +3,7 @@ use crate::part_files::PartFiles;
 use crate::reading::{Outcome, Reading, TakeEntry, give_entries};
 use crate::shown::Shown;
 use crate::stop::{Stop, TROUBLE, conclude};
-use crate::zone_files::Entry;
+use crate::zone_files::{Entry, same};
 use dns_fields::RecordRef;
 use std::alloc::Global;
 use std::fs::metadata;
@@ -56,7 +56,7 @@ impl<'p> Parter<'p> {
     }
 
     /// Takes the record of an entry.
-    fn take_record(&mut self, entry: &Entry<'_>, given: RecordRef<'_>) -> Result<(), Stop> {
+    fn take_record(&mut self, entry: &Entry<'_>, given: &RecordRef<'_>) -> Result<(), Stop> {
         match self
             .cutter
             .take(entry.state, entry.offset, &given, &mut self.lines)
@@ -82,7 +82,7 @@ impl TakeEntry for Parter<'_> {
     fn take_entry(&mut self, entry: &Entry<'_>) -> Result<(), Stop> {
         match entry.record()? {
             _ if self.has_refused => Ok(()),
-            Some(given) => self.take_record(entry, given),
+            Some(given) => self.take_record(entry, &given),
             None => self.files.write(entry.octets),
         }
     }

@@ -3,7 +3,7 @@ use crate::gathered::{Gathered, Gatherer};
 use crate::reading::{Outcome, Reading, TakeEntry, give_entries};
 use crate::spots::{tokens_of, width};
 use crate::stop::Stop;
-use crate::zone_files::Entry;
+use crate::zone_files::{Entry, same};
 use dns_fields::{RecordRef, TokenSource};
 use dns_heads::take_words;
 use dns_kinds::RecordType;
@@ -58,12 +58,12 @@ fn data_tokens(alloc: Global, entry: &Entry<'_>) -> Result<Vec<Span>, Stop> {
 }
 
 /// Returns the record of an entry, and where it stands. Fails with `Damaged` if it is no record.
-fn placed_of(alloc: Global, entry: &Entry<'_>, given: RecordRef<'_>) -> Result<Placed, Stop> {
+fn placed_of(alloc: Global, entry: &Entry<'_>, given: &RecordRef<'_>) -> Result<Placed, Stop> {
     let is_origin = match entry.state.origin.name() {
         Some(origin) => origin.as_slice().eq_ignore_ascii_case(given.owner),
         None => false,
     };
-    let Some(record) = owned_record(alloc, given)? else {
+    let Some(record) = owned_record(alloc, same(given))? else {
         return Err(Stop::Damaged);
     };
     Ok(Placed {
@@ -88,7 +88,7 @@ impl TakeEntry for Finder {
         self.gatherer.take_entry(entry)?;
         if let Some(given) = entry.record()? {
             if matches!(given.rtype, RecordType::SOA | RecordType::ZONEMD) {
-                self.found.push(placed_of(self.alloc, entry, given)?)?;
+                self.found.push(placed_of(self.alloc, entry, &given)?)?;
             }
         }
         Ok(())

@@ -5,8 +5,8 @@ ghost use Rattle.dns_spelling.specs.NameSpelling.{IsWireName};
 use super::fields::fields_of;
 use super::tell::{Octets, number16, tell};
 use dns_canonical::{
-    append_canonical_fields, append_lowered, compare_keys, compare_names,
-    compare_octets, compare_records, lowers_names, push_order_key,
+    append_canonical_fields, append_lowered, compare_keys, compare_names, compare_octets,
+    compare_records, lowers_names, push_order_key,
 };
 use dns_fields::RecordRef;
 use dns_kinds::{Class, RecordType};

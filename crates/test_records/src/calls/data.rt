@@ -112,9 +112,10 @@ fn tell_why(error: RecordError, answer: &mut Answer) {
     match error.kind {
         ErrorKind::ShortBuf => answer.refuse(&error),
         _ => {
+            let offset = error.offset;
             answer.refuse(&Why(error));
             answer.add_text("|");
-            answer.add_number(error.offset);
+            answer.add_number(offset);
         }
     }
 }
