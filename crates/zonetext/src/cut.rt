@@ -3,7 +3,7 @@ use crate::part_files::PartFiles;
 use crate::reading::{Outcome, Reading, TakeEntry, give_entries};
 use crate::shown::Shown;
 use crate::stop::{Stop, TROUBLE, conclude};
-use crate::zone_files::{Entry, same};
+use crate::zone_files::Entry;
 use dns_fields::RecordRef;
 use std::alloc::Global;
 use std::fs::metadata;
@@ -59,7 +59,7 @@ impl<'p> Parter<'p> {
     fn take_record(&mut self, entry: &Entry<'_>, given: &RecordRef<'_>) -> Result<(), Stop> {
         match self
             .cutter
-            .take(entry.state, entry.offset, &given, &mut self.lines)
+            .take(entry.state, entry.offset, given, &mut self.lines)
         {
             Ok(true) => self.begin_part(),
             Ok(false) => self.files.write(entry.octets),
