@@ -1,6 +1,4 @@
 use Rattle.std.proofs.Common.{sym, ap, ◌∙◌}
-use Rattle.std.specs.Prelude.{option_and_then}
-use Rattle.dns_resource.specs.Parts.{data_part}
 use Rattle.zone_rules.specs.Zones.{host_field}
 use Rattle.zone_rules.proofs.FieldNames.{host_named}
 use Rattle.zone_rules.proofs.hosts.host_part.Goals as goal
