@@ -1,5 +1,5 @@
 -- Data of records that look like a slip.
-use Rattle.std.specs.Prelude.{ℕ, ◌==◌, ◌||◌, ◌&&◌, not, if◌then◌else◌, Bool, false, List, [], ◌∷◌, length, Option, Some, None}
+use Rattle.std.specs.Prelude.{ℕ, ◌==◌, ◌||◌, ◌&&◌, not, if◌then◌else◌, Bool, false, List, ◌∷◌, length, Option, Some, None}
 use Rattle.dns_kinds.specs.Rtype as Rtype
 use Rattle.dns_kinds.specs.declared.types.RecordType.{RecordType}
 
