@@ -17,17 +17,15 @@ fn try_values(trial: &mut Trial, octets: &[u8], place: usize, answer: &mut Answe
 }
 
 /// How many of the lists in which one octet has another value are data.
-fn tell_changed(trial: &mut Trial, octets: &[u8], answer: &mut Answer) {
-    trial.restart();
+fn tell_changed(mut trial: Trial, octets: &[u8], answer: &mut Answer) {
     for place in 0..octets.len() {
-        try_values(trial, octets, place, answer);
+        try_values(&mut trial, octets, place, answer);
     }
     answer.add_number(trial.count());
 }
 
 /// How many of the beginnings, which are shorter, are data.
-fn tell_cut(trial: &mut Trial, octets: &[u8], answer: &mut Answer) {
-    trial.restart();
+fn tell_cut(mut trial: Trial, octets: &[u8], answer: &mut Answer) {
     for length in 0..octets.len() {
         trial.take(&octets[..length], answer);
     }
@@ -42,8 +40,7 @@ fn doubled(octets: &[u8], place: usize, alloc: Global) -> Result<Vec<u8>, AllocE
 }
 
 /// How many of the lists in which one octet stands twice are data.
-fn tell_doubled(trial: &mut Trial, octets: &[u8], answer: &mut Answer) {
-    trial.restart();
+fn tell_doubled(mut trial: Trial, octets: &[u8], answer: &mut Answer) {
     for place in 0..octets.len() {
         match doubled(octets, place, answer.alloc()) {
             Ok(octets) => trial.take(octets.as_slice(), answer),
@@ -60,12 +57,12 @@ pub fn damaged(inputs: &[Vec<u8>], answer: &mut Answer) {
     let [name, octets] = inputs else {
         return answer.fail(Failure::BadInputs);
     };
-    let Some(mut trial) = Trial::new(name.as_slice(), 1) else {
+    let Some(trial) = Trial::new(name.as_slice(), 1) else {
         return answer.fail(Failure::BadInputs);
     };
-    tell_changed(&mut trial, octets.as_slice(), answer);
+    tell_changed(trial, octets.as_slice(), answer);
     answer.add_text(",");
-    tell_cut(&mut trial, octets.as_slice(), answer);
+    tell_cut(trial, octets.as_slice(), answer);
     answer.add_text(",");
-    tell_doubled(&mut trial, octets.as_slice(), answer);
+    tell_doubled(trial, octets.as_slice(), answer);
 }

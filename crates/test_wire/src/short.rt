@@ -15,7 +15,7 @@ fn lists_of(length: usize) -> Option<u32> {
 }
 
 /// How many of the lists of a length are data.
-fn tell_length(trial: &mut Trial, length: usize, answer: &mut Answer) {
+fn tell_length(mut trial: Trial, length: usize, answer: &mut Answer) {
     let Some(count) = lists_of(length) else {
         return answer.fail(Failure::BadInputs);
     };
@@ -40,10 +40,10 @@ pub fn short(inputs: &[Vec<u8>], answer: &mut Answer) {
     };
     for length in 0..=greatest.min(3) {
         let step = if length < 3 { 1 } else { step };
-        let Some(mut trial) = Trial::new(name.as_slice(), step) else {
+        let Some(trial) = Trial::new(name.as_slice(), step) else {
             return answer.fail(Failure::BadInputs);
         };
         answer.add_text(if length == 0 { "" } else { "," });
-        tell_length(&mut trial, length, answer);
+        tell_length(trial, length, answer);
     }
 }

@@ -33,7 +33,8 @@ impl fmt::Display for Shown<'_> {
 /// were read again are the same.
 #[derive(Clone, Copy)]
 pub struct Trial {
-    rtype: RecordType,
+    /// The number of the type. (A struct with a [`RecordType`] isn't passed on by value.)
+    number: u16,
     shape: Shape,
     count: usize,
     step: usize,
@@ -47,18 +48,12 @@ impl Trial {
         let rtype = RecordType::from_text(name).ok()?;
         let shape = type_row(rtype)?.shape();
         Some(Trial {
-            rtype,
+            number: rtype.0,
             shape,
             count: 0,
             step,
             are_same: true,
         })
-    }
-
-    /// Begins anew: nothing is tried.
-    pub fn restart(&mut self) {
-        self.count = 0;
-        self.are_same = true;
     }
 
     /// How many of the octets that were tried are data.
@@ -84,7 +79,7 @@ impl Trial {
         let mut source = TokenList::new(tokens.as_slice(), text.len());
         let mut target: Vec<u8> = Vec::new(alloc);
         let origin: Option<&Name<&[u8]>> = None;
-        let made = read_type(self.rtype, origin, &mut source, &mut target);
+        let made = read_type(RecordType(self.number), origin, &mut source, &mut target);
         made.is_ok() && target.as_slice() == octets
     }
 

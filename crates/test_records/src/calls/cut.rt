@@ -2,6 +2,7 @@
 use super::blocks::record_error;
 use super::tell::Octets;
 use super::zone::{state_of, tell_not_given};
+use dns_fields::RecordRef;
 use dns_kinds::Class;
 use dns_reader::{EntryRead, RecordReader, State};
 use dns_zonefile::BlockReader;
@@ -158,6 +159,18 @@ fn tell_parts(parts: &Parts<'_>, answer: &mut Answer) {
     }
 }
 
+/// A record, in full.
+fn tell_record(record: &RecordRef<'_>, answer: &mut Answer) {
+    answer.add(record.owner);
+    answer.add_number(usize::try_from(record.ttl).unwrap_or(0));
+    answer.add_text("|");
+    answer.add_number(usize::from(record.class.0));
+    answer.add_text("|");
+    answer.add_number(usize::from(record.rtype.0));
+    answer.add_text("|");
+    answer.add(record.data);
+}
+
 /// The records of a text, in full. Returns whether memory sufficed.
 fn tell_records(text: &[u8], state: State, answer: &mut Answer) -> bool {
     let mut reader = RecordReader::new(text, state);
@@ -166,32 +179,18 @@ fn tell_records(text: &[u8], state: State, answer: &mut Answer) -> bool {
         let Some(given) = reader.next_record(&mut data) else {
             return true;
         };
-        match given {
-            Ok(
-                EntryRead::Record {
-                    ttl,
-                    class,
-                    rtype,
-                    ..
-                },
-            ) => {
-                if let Ok(owner) = reader.state.owner() {
-                    answer.add(owner.as_slice());
-                }
-                answer.add_number(usize::try_from(ttl.seconds()).unwrap_or(0));
-                answer.add_text("|");
-                answer.add_number(usize::from(class.0));
-                answer.add_text("|");
-                answer.add_number(usize::from(rtype.0));
-                answer.add_text("|");
-                answer.add(data.as_slice());
-            }
-            Ok(_) => answer.add_text("no record"),
+        let read = match given {
+            Ok(read) => read,
             Err(error) => {
                 if !tell_not_given(error, answer) {
                     return false;
                 }
+                continue;
             }
+        };
+        match reader.state.record(&read, data.as_slice()) {
+            Some(record) => tell_record(&record, answer),
+            None => answer.add_text("no record"),
         }
     }
     true

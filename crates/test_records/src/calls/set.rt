@@ -73,17 +73,17 @@ fn read<'a>(text: &[u8], state: State, answer: &mut Answer<'a>) -> Option<Record
         let mut octets: Octets<'a> = Vec::new(answer.heap());
         match reader.next_entry(&mut octets) {
             None => return Some(records),
-            Some(
-                Ok(
-                    EntryRead::Record {
-                        at: _,
-                        ttl,
-                        class,
-                        rtype,
-                    },
-                ),
-            ) => {
-                let Some(record) = record_of(&reader.state, ttl.seconds(), class, rtype, octets)
+            Some(Ok(read)) => {
+                let EntryRead::Record {
+                    ttl,
+                    class,
+                    rtype,
+                    ..
+                } = &read
+                else {
+                    continue;
+                };
+                let Some(record) = record_of(&reader.state, ttl.seconds(), *class, *rtype, octets)
                 else {
                     lack(answer);
                     return None;
@@ -93,7 +93,6 @@ fn read<'a>(text: &[u8], state: State, answer: &mut Answer<'a>) -> Option<Record
                     return None;
                 }
             }
-            Some(Ok(_)) => {}
             Some(Err(error)) => {
                 tell_refusal(error, answer);
                 return None;
