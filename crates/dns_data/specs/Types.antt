@@ -11,7 +11,7 @@ use Rattle.dns_data.specs.declared.shape.Length.{Length}
 use Rattle.dns_data.specs.declared.shape.Length.TheVariants.{Any, Digest, Hash as HashLength}
 use Rattle.dns_data.specs.declared.types.TypeRow.{TypeRow}
 
--- a type, the fields of its data, what comes behind them, the lengths that are asked for, and the names of the fields and of what comes behind them
+-- a type, the fields of its data, what comes after them, the lengths that are asked for, and the names of the fields and of what comes after them
 pub record TypeShape : Type 0 where
   pub rtype : RecordType
   pub fields : List Field

@@ -9,7 +9,7 @@ use dns_digits::Digests;
 use dns_fields::{Field, FieldName};
 use dns_kinds::RecordType;
 
-/// A type of records by its number, the fields of its data, what comes behind them, the lengths that
+/// A type of records by its number, the fields of its data, what comes after them, the lengths that
 /// are asked for, and the names of the fields: of those that are one token each, and after them of
 /// those of the rest.
 pub struct TypeRow(

@@ -20,6 +20,6 @@ least_digest Zonemd = 12
 abbrev pub IsDigestLength : Digests → ℕ → ℕ → Type 0
 IsDigestLength digests number octets = MatchOption (lookup (λ n. n == number) (digest_rows digests)) (least_digest digests ≤ octets) (λ length. octets ≡ length)
 
--- how many octets a digest behind a number has to have: as many as the list says, or if it names no such number, these at least
+-- how many octets a digest after a number has to have: as many as the list says, or if it names no such number, these at least
 abbrev pub wanted_digest : Digests → ℕ → ℕ
 wanted_digest digests number = unwrap_or (lookup (λ n. n == number) (digest_rows digests)) (least_digest digests)

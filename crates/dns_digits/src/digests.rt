@@ -16,7 +16,7 @@ pub enum Digests {
     Zonemd,
 }
 
-/// How many octets a digest behind a number has, if the list names the number.
+/// How many octets a digest after a number has, if the list names the number.
 fn named_length(digests: Digests, number: u8) -> Option<usize>
     ensures { result ≡ lookup (λ n. n == number) (digest_rows digests) }
 {
@@ -31,7 +31,7 @@ fn named_length(digests: Digests, number: u8) -> Option<usize>
     }
 }
 
-/// The fewest octets of a digest behind a number that the list doesn't name.
+/// The fewest octets of a digest after a number that the list doesn't name.
 fn least_length(digests: Digests) -> usize
     ensures { result ≡ least_digest digests }
 {
@@ -52,7 +52,7 @@ pub fn is_digest_length(digests: Digests, number: u8, length: usize) -> bool
     }
 }
 
-/// How many octets a digest behind a number has to have: as many as the list says of that number,
+/// How many octets a digest after a number has to have: as many as the list says of that number,
 /// and these at least if it names no such number.
 pub fn wanted_digest(digests: Digests, number: u8) -> usize
     ensures { result ≡ wanted_digest digests number }

@@ -11,7 +11,7 @@ use dns_split::entry_tokens::EntryToken;
 /// The number of seconds from which on a time to live is 0.
 const LONG: u32 = 0x8000_0000;
 
-/// Returns a time to live of so many seconds, which is 0 if they are 2^31 or more (RFC 2181
+/// Returns a time to live of these seconds, which is 0 if they are 2^31 or more (RFC 2181
 /// section 8).
 pub fn ttl_of_seconds(seconds: u32) -> u32
     ensures { result ≡ ttl_of_seconds seconds }

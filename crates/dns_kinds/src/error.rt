@@ -21,11 +21,11 @@ pub enum ErrorKind {
     EndOfEntry,
     /// A token is left after the data.
     TrailingToken,
-    /// A text stands in quotes where a word is asked for.
+    /// A text is in quotes where a word is asked for.
     Quoted,
-    /// A text stands in quotes where a name is asked for.
+    /// A text is in quotes where a name is asked for.
     QuotedName,
-    /// Text that has to stand in quotes does not.
+    /// Text that has to be in quotes is not.
     NotQuoted,
     /// The text is not decimal digits, one at least.
     ExpectedNumber,
@@ -59,7 +59,7 @@ pub enum ErrorKind {
     ExpectedSalt,
     /// The text is not the digits of an address of X25.
     ExpectedPsdnAddress,
-    /// A backslash stands before no octet, or before digits that are no number of three digits up
+    /// A backslash is before no octet, or before digits that are no number of three digits up
     /// to 255.
     BadEscape,
     /// A character string has more than 255 octets.
@@ -72,7 +72,7 @@ pub enum ErrorKind {
     LongLabel,
     /// A name has more than 255 octets on the wire.
     LongName,
-    /// A relative name stands where there is no origin.
+    /// A name is relative, and there is no origin.
     NoOrigin,
     /// A character is no hexadecimal digit.
     ExpectedHex,
@@ -107,7 +107,7 @@ pub enum ErrorKind {
     ExpectedGateway,
     /// The type of a gateway is above 3.
     UnknownGateway,
-    /// A quoted text stands where a service parameter begins.
+    /// A quoted text is where a service parameter begins.
     QuotedParam,
     /// A token touches the service parameter before it.
     GluedParam,
@@ -115,15 +115,15 @@ pub enum ErrorKind {
     UnknownKey,
     /// The key of a service parameter takes no value.
     UnexpectedValue,
-    /// A key stands twice in the value of `mandatory`.
+    /// A key is in the value of `mandatory` twice.
     RepeatedKey,
     /// The value of a service parameter has more than 65535 octets.
     LongValue,
-    /// The key of a service parameter stands already.
+    /// The key of a service parameter was there before.
     RepeatedParam,
     /// A string of a list has no octets or more than 255.
     ListString,
-    /// In a list a backslash stands before an octet other than a comma or a backslash.
+    /// In a list a backslash is before an octet other than a comma or a backslash.
     ListEscape,
     /// A service parameter is cut off.
     ShortParams,
@@ -133,11 +133,11 @@ pub enum ErrorKind {
     ParamValue(u16),
     /// The value of `mandatory` lists this key, which no service parameter has.
     MissingParam(u16),
-    /// Type 0 stands in a list of types.
+    /// Type 0 is in a list of types.
     TypeZero,
     /// The octets are no data of the type.
     NotOfType,
-    /// Records of the type cannot stand in a zone.
+    /// Records of the type cannot be in a zone.
     NoDataType,
     /// Data of the type has no text form but the generic one.
     NoTextForm,

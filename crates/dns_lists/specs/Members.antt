@@ -11,7 +11,7 @@ pub record EndsCodes (types : List ℕ) (end : ℕ) : Type 0 where
   pub whole : end % 256 ≡ 0
   pub last : end ≢ 0 → (code : ℕ) × (code < end) × (end ≤ code + 256) × (has types code ≡ true)
 
--- so many windows have all codes, and the last of them has one
+-- the first windows, of this count, have all codes, and the last of them has one
 pub record CoversCodes (octets : List ℕ) (windows : ℕ) : Type 0 where
   pub high : windows ≤ 256
   pub above : (code : ℕ) → code < 65536 → 256 * windows ≤ code → bit_in octets code ≡ 0

@@ -6,7 +6,7 @@ use Rattle.std.specs.List.{flat_map, AllZip}
 abbrev pub IsWithout : ℕ → List ℕ → Type 0
 IsWithout mark text = (k : ℕ) → k < length text → slice_index text k ≢ mark
 
--- a text is all before a mark, where none stands after it; or it stands around the mark
+-- a text is all before a mark, where none follows it; or it is around the mark
 abbrev pub SplitsAt : ℕ → List ℕ → List ℕ → Option (List ℕ) → Type 0
 SplitsAt mark text before rest = MatchOption rest (text ≡ before) (λ behind. text ≡ before ++ mark ∷ behind)
 

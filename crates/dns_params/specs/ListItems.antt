@@ -12,7 +12,7 @@ use Rattle.dns_params.specs.ParamRefusals.{StringsReason}
 abbrev pub EndsAtComma : List ℕ → Type 0
 EndsAtComma text = (text ≡ []) ⊎ ((rest : List ℕ) × SpellsFront text (44 ∷ []) rest)
 
--- a text begins with an octet that stands behind a backslash
+-- a text begins with an octet that follows a backslash
 abbrev pub SpellsSpecial : List ℕ → ItemOctet → Type 0
 SpellsSpecial text o = SpellsFront text (o.octet ∷ []) o.rest.now × (is_special o.octet ≡ true)
 
@@ -24,7 +24,7 @@ FindsItemOctet text first = MatchOption first (EndsAtComma text) (λ o. SpellsFr
 abbrev pub SpellsFrontItem : List ℕ → List ℕ → List ℕ → Type 0
 SpellsFrontItem text item rest = IsItem item × SpellsFront text (item_text item) rest × EndsAtComma rest
 
--- octets gained the item that a text begins with, behind its length
+-- octets gained the item that a text begins with, after its length
 abbrev pub AppendsItem : List ℕ → List ℕ → List ℕ → List ℕ → Type 0
 AppendsItem text rest old new = (item : List ℕ) × IsItem item × SpellsFront text (item_text item) rest × EndsAtComma rest × (new ≡ old ++ (length item ∷ item))
 

@@ -69,7 +69,7 @@ abbrev pub comma_if : Bool → List ℕ
 comma_if true = 44 ∷ []
 comma_if false = []
 
--- an item, behind a comma if it is a later one
+-- an item, after a comma if it is a later one
 abbrev pub next_shown : Bool → ValueKind → List ℕ → List ℕ
 next_shown is_later kind item = comma_if is_later ++ value_item_text kind item
 

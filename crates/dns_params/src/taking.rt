@@ -188,7 +188,7 @@ fn take_param<S: TokenSource, B: OctetsBuilder + AsOctetsMut>(
 /// order of keys. Refused, the target has its old octets, and perhaps more after them.
 ///
 /// The error's offset is that of the token that is refused. Where the value after an equals sign is
-/// missing, it is where the value should stand. Where the parameters together are refused, it is the
+/// missing, it is where the value is due. Where the parameters together are refused, it is the
 /// entry's end.
 pub fn take_params<S: TokenSource, B: OctetsBuilder + AsOctetsMut>(
     source: &mut S,

@@ -38,7 +38,7 @@ gateway_octets Nothing = []
 gateway_octets (Ipv4 a) = ipv4_octets a
 gateway_octets (Ipv6 a) = ipv6_octets a
 
--- its octets stand after old ones; and they surely fit there
+-- its octets follow old ones; and they surely fit there
 abbrev pub Composes : Gateway → List ℕ → List ℕ → Type 0
 Composes g old new = new ≡ old ++ gateway_octets g
 

@@ -213,7 +213,7 @@ fn read_location<S: TokenSource>(source: &mut S) -> Result<Location, ErrorKind>
 }
 
 /// Takes the tokens of a location that are left, and appends its octets. Refused, the target is as
-/// it was, and the source stands at the token that is refused, or at the entry's end. The error's
+/// it was, and the source is at the token that is refused, or at the entry's end. The error's
 /// offset is that place.
 pub fn take_location<S: TokenSource, B: OctetsBuilder>(
     source: &mut S,

@@ -51,7 +51,7 @@ module _ (rtype : RecordType) (read : Result (Unit {0}) RecordError) (octets : L
   pub ended : (end : EndOfEntry) (after : SourceSeen) → FinishesEntry middle (Ok (Some end)) after → behind_left begun ≡ Ok (EndIs end) ∷ after.parts
   ended end after h = sym (rest_kept begun middle ends opened).1 ∙ h.1
 
--- nothing stands behind no entry
+-- nothing follows no entry
 pub nothing_after : (rtype : RecordType) (read : Result (Unit {0}) RecordError) (octets : List ℕ) (parts : Parts) → parts ≡ [] → answered read octets ≡ data_answer rtype read octets parts
 nothing_after rtype (Ok u) octets parts none = sym (ap (data_answer rtype (Ok u) octets) none)
 nothing_after rtype (Err e) octets parts none = sym (ap (data_answer rtype (Err e) octets) none)

@@ -50,7 +50,7 @@ refusal_of NoUtf8 = BadUtf8
 refusal_of NoEscape = BadEscape
 refusal_of CutShort = ShortInput
 
--- no symbol stands at a place, and the fault says why
+-- no symbol is at a place, and the fault says why
 abbrev pub RefusesSymbol : List ℕ → ℕ → Fault → Type 0
 RefusesSymbol text place fault = (e : SymbolOctetsError) × ReadsAt text place (Err e) × (fault ≡ record { refusal = refusal_of e; place = place })
 

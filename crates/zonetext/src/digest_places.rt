@@ -57,7 +57,7 @@ fn data_tokens(alloc: Global, entry: &Entry<'_>) -> Result<Vec<Span>, Stop> {
     Ok(spans)
 }
 
-/// Returns the record of an entry, and where it stands. Fails with `Damaged` if it is no record.
+/// Returns the record of an entry, and its place. Fails with `Damaged` if it is no record.
 fn placed_of(alloc: Global, entry: &Entry<'_>, given: &RecordRef<'_>) -> Result<Placed, Stop> {
     let is_origin = match entry.state.origin.name() {
         Some(origin) => origin.as_slice().eq_ignore_ascii_case(given.owner),
