@@ -7,6 +7,10 @@ use Rattle.dns_kinds.specs.declared.classes.Class.{Class}
 abbrev pub class_prefix : List ℕ
 class_prefix = codes "CLASS"
 
+-- the class of the internet, IN
+abbrev pub internet : Class
+internet = 1
+
 abbrev pub class_rows : List Row
 class_rows =
     code_row 1 (codes "IN") ∷

@@ -4,7 +4,7 @@ use Rattle.std.specs.Fmt.{digits}
 use Rattle.std.specs.Net.Text.{ipv4_text}
 use Rattle.dns_kinds.specs.Addresses.{has_ipv4_end, shown_ipv6}
 use Rattle.dns_kinds.specs.Algorithms.{algorithm_rows, certificate_rows}
-use Rattle.dns_kinds.specs.Classes.{class_rows, class_prefix}
+use Rattle.dns_kinds.specs.Classes.{class_rows, class_prefix, internet}
 use Rattle.dns_kinds.specs.Eui.{dashed_text}
 use Rattle.dns_kinds.specs.Locator.{locator_text}
 use Rattle.dns_kinds.specs.Registry.{code_row, row_code, row_name, code_text}
@@ -72,6 +72,9 @@ sig_types = refl
 
 classes : map (code_text class_rows class_prefix) (1 ∷ 3 ∷ 4 ∷ 254 ∷ []) ≡ codes "IN" ∷ codes "CH" ∷ codes "HS" ∷ (codes "CLASS" ++ decimal 254) ∷ []
 classes = refl
+
+internet_class : row_name class_rows internet ≡ Some (codes "IN")
+internet_class = refl
 
 -- IANA's names, and those of BIND
 algorithms : map (row_code algorithm_rows) (codes "RsaSha256" ∷ codes "RSASHA1-NSEC3-SHA1" ∷ codes "NSEC3RSASHA1" ∷ codes "NSEC3DSA" ∷ codes "ECCGOST" ∷ codes "NSEC3" ∷ []) ≡ Some 8 ∷ Some 7 ∷ Some 7 ∷ Some 6 ∷ Some 12 ∷ None ∷ []
