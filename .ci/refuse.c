@@ -37,10 +37,18 @@ static int is_refused(void) {
     return 1;
 }
 
-void *malloc(size_t size) { return is_refused() ? NULL : __libc_malloc(size); }
-void *calloc(size_t count, size_t size) { return is_refused() ? NULL : __libc_calloc(count, size); }
-void *realloc(void *old, size_t size) { return is_refused() ? NULL : __libc_realloc(old, size); }
-void *aligned_alloc(size_t by, size_t size) { return is_refused() ? NULL : __libc_memalign(by, size); }
+void *malloc(size_t size) {
+    return is_refused() ? NULL : __libc_malloc(size);
+}
+void *calloc(size_t count, size_t size) {
+    return is_refused() ? NULL : __libc_calloc(count, size);
+}
+void *realloc(void *old, size_t size) {
+    return is_refused() ? NULL : __libc_realloc(old, size);
+}
+void *aligned_alloc(size_t by, size_t size) {
+    return is_refused() ? NULL : __libc_memalign(by, size);
+}
 
 int open(const char *path, int flags, ...) {
     int (*next)(const char *, int, ...);
@@ -62,7 +70,9 @@ static void *(*its_memalign)(size_t, size_t);
 static void (*its_free)(void *);
 static size_t (*its_size)(void *);
 
-static void *its_malloc(size_t size) { return is_refused() ? NULL : its_memalign(16, size); }
+static void *its_malloc(size_t size) {
+    return is_refused() ? NULL : its_memalign(16, size);
+}
 
 static void *its_realloc(void *old, size_t size) {
     void *made = its_malloc(size);
@@ -93,12 +103,14 @@ static void replace(const char *name, void *with) {
 }
 
 __attribute__((constructor)) static void begin(void) {
-    const char *word = getenv("REFUSE"), *descriptor = getenv("REFUSE_NOTICE"), *from_open = getenv("REFUSE_FROM_OPEN");
+    const char *word = getenv("REFUSE"), *descriptor = getenv("REFUSE_NOTICE"),
+               *from_open = getenv("REFUSE_FROM_OPEN");
     Dl_info its, ours;
     /* A shell script may start the program. */
     if (word == NULL || strcmp(program_invocation_short_name, "sh") == 0)
         return;
-    if (dladdr(dlsym(RTLD_DEFAULT, "malloc"), &its) && dladdr(&calls, &ours) && its.dli_fbase != ours.dli_fbase) {
+    if (dladdr(dlsym(RTLD_DEFAULT, "malloc"), &its) && dladdr(&calls, &ours) &&
+        its.dli_fbase != ours.dli_fbase) {
         void *found[3];
         found[0] = dlsym(RTLD_DEFAULT, "memalign");
         found[1] = dlsym(RTLD_DEFAULT, "free");

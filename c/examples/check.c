@@ -80,8 +80,8 @@ int main(int argc, char **argv) {
         return 2;
     }
     if (dnstext_name_read((const uint8_t *)argv[1], strlen(argv[1]), name, sizeof name, &is_absolute,
-                          &outcome) != DNSTEXT_OK
-        || dnstext_zone_origin(&start, name, outcome.length, &outcome) != DNSTEXT_OK) {
+                          &outcome) != DNSTEXT_OK ||
+        dnstext_zone_origin(&start, name, outcome.length, &outcome) != DNSTEXT_OK) {
         fprintf(stderr, "check: %s: no absolute name\n", argv[1]);
         return 2;
     }

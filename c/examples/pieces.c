@@ -14,8 +14,7 @@ int main(void) {
     uint32_t status;
     while ((status = dnstext_tokens_next(text, length, &standing, &piece, &outcome)) == DNSTEXT_OK) {
         if (piece.kind == DNSTEXT_WORD || piece.kind == DNSTEXT_QUOTED)
-            printf("%lu %.*s\n", entry, (int)(piece.end - piece.start),
-                   (const char *)text + piece.start);
+            printf("%lu %.*s\n", entry, (int)(piece.end - piece.start), (const char *)text + piece.start);
         if (piece.kind == DNSTEXT_ENTRY_END)
             entry++;
     }

@@ -94,7 +94,8 @@ int main(int argc, char **argv) {
     read_all(stdin);
     for (;;) {
         struct dnstext_record record;
-        uint32_t status = dnstext_record_next(text, text_len, &zone, &record, octets, sizeof octets, &outcome);
+        uint32_t status =
+            dnstext_record_next(text, text_len, &zone, &record, octets, sizeof octets, &outcome);
         if (status == DNSTEXT_END)
             break;
         if (status == DNSTEXT_OK) {

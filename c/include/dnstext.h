@@ -91,8 +91,8 @@ uint32_t dnstext_charstr_read(const uint8_t *text, size_t text_len, uint8_t *oct
  * an octet that is no digit are that octet, whichever it is. What is no escape is refused first, then
  * an octet after 255 others, which are the only faults: DNSTEXT_BAD_ESCAPE, DNSTEXT_SHORT_INPUT,
  * DNSTEXT_TOO_LONG. A text of printable ASCII is read as by dnstext_charstr_read. */
-uint32_t dnstext_charstr_read_octets(const uint8_t *text, size_t text_len, uint8_t *octets,
-                                     size_t octets_len, struct dnstext_outcome *outcome);
+uint32_t dnstext_charstr_read_octets(const uint8_t *text, size_t text_len, uint8_t *octets, size_t octets_len,
+                                     struct dnstext_outcome *outcome);
 /* Plain: a backslash alone is escaped, and what is not printable ASCII by its decimal value. */
 uint32_t dnstext_charstr_print(const uint8_t *octets, size_t octets_len, uint8_t *text, size_t text_len,
                                struct dnstext_outcome *outcome);
@@ -198,14 +198,14 @@ uint32_t dnstext_data_canonical(uint16_t code, const uint8_t *octets, size_t oct
  * DNSTEXT_BAD_ENCODING nothing is said of the octets that there was to be room for. */
 uint32_t dnstext_base16_print(const uint8_t *octets, size_t octets_len, uint8_t *text, size_t text_len,
                               struct dnstext_outcome *outcome);
-uint32_t dnstext_base32hex_print(const uint8_t *octets, size_t octets_len, uint8_t *text,
-                                 size_t text_len, struct dnstext_outcome *outcome);
+uint32_t dnstext_base32hex_print(const uint8_t *octets, size_t octets_len, uint8_t *text, size_t text_len,
+                                 struct dnstext_outcome *outcome);
 uint32_t dnstext_base64_print(const uint8_t *octets, size_t octets_len, uint8_t *text, size_t text_len,
                               struct dnstext_outcome *outcome);
 uint32_t dnstext_base16_read(const uint8_t *text, size_t text_len, uint8_t *octets, size_t octets_len,
                              struct dnstext_outcome *outcome);
-uint32_t dnstext_base32hex_read(const uint8_t *text, size_t text_len, uint8_t *octets,
-                                size_t octets_len, struct dnstext_outcome *outcome);
+uint32_t dnstext_base32hex_read(const uint8_t *text, size_t text_len, uint8_t *octets, size_t octets_len,
+                                struct dnstext_outcome *outcome);
 uint32_t dnstext_base64_read(const uint8_t *text, size_t text_len, uint8_t *octets, size_t octets_len,
                              struct dnstext_outcome *outcome);
 
@@ -226,7 +226,9 @@ struct dnstext_cursor {
     size_t opened;     /* where what is not closed was opened: after DNSTEXT_OPEN_QUOTE the double quote,
                           after DNSTEXT_OPEN_PARENTHESIS the outermost parenthesis */
 };
+/* clang-format off */
 #define DNSTEXT_CURSOR_INIT {0, false, false, 0}
+/* clang-format on */
 
 /* Gives the places of the next entry's tokens, and moves the cursor on. The length is the number of
  * tokens. Where they do not all fit, the first ones are given with DNSTEXT_NO_ROOM, and the cursor
@@ -260,7 +262,9 @@ struct dnstext_standing {
     size_t began; /* where the entry begins that is open */
     bool is_done; /* whether nothing is left */
 };
+/* clang-format off */
 #define DNSTEXT_STANDING_INIT {0, 0, 0, false}
+/* clang-format on */
 
 /* Gives the next piece, and moves the standing on. The last piece is an end. A fault comes with its
  * place, after the pieces before it, and then the text is done; dnstext_entry_next from `began`, with no
@@ -283,20 +287,22 @@ struct dnstext_kept_name {
 
 /* At first as DNSTEXT_ZONE_INIT: the class IN, and all else zeros. */
 struct dnstext_zone {
-    uint16_t class_code;         /* of records that leave it out */
-    bool has_default_ttl;        /* whether there is a default time to live .. */
-    bool has_last_ttl;           /* .. and one that a record said */
-    uint32_t default_ttl;        /* in seconds, by $TTL, or by an SOA before which none was known */
-    uint32_t last_ttl;           /* in seconds, of the last record that said one */
-    size_t at;                   /* where the next entry begins */
+    uint16_t class_code;             /* of records that leave it out */
+    bool has_default_ttl;            /* whether there is a default time to live .. */
+    bool has_last_ttl;               /* .. and one that a record said */
+    uint32_t default_ttl;            /* in seconds, by $TTL, or by an SOA before which none was known */
+    uint32_t last_ttl;               /* in seconds, of the last record that said one */
+    size_t at;                       /* where the next entry begins */
     struct dnstext_kept_name origin; /* appended to relative names */
     struct dnstext_kept_name owner;  /* of records that leave it out */
 };
+/* clang-format off */
 #define DNSTEXT_ZONE_INIT {1, false, false, 0, 0, 0, {0, false, {0}}, {0, false, {0}}}
+/* clang-format on */
 
 struct dnstext_record {
-    size_t place;              /* where its first token stands */
-    uint32_t ttl;              /* in seconds: its own; else the default; else the last that a record said;
+    size_t place; /* where its first token stands */
+    uint32_t ttl; /* in seconds: its own; else the default; else the last that a record said;
                                   else, of an SOA, its minimum. What is 2^31 or more in the text is 0
                                   (RFC 2181 section 8) */
     uint16_t class_code;
@@ -336,8 +342,7 @@ uint32_t dnstext_record_next(const uint8_t *text, size_t text_len, struct dnstex
  * Both are counted from 1. An LF ends a line, and each octet counts as a character of its own. The
  * place may be the text's length; past it the status is DNSTEXT_BAD_PLACE. `line` and `column` are not
  * NULL; they are written with DNSTEXT_OK alone. The time is linear in the place. */
-uint32_t dnstext_position(const uint8_t *text, size_t text_len, size_t place, size_t *line,
-                          size_t *column);
+uint32_t dnstext_position(const uint8_t *text, size_t text_len, size_t place, size_t *line, size_t *column);
 
 /* A place with its line and column, from which others are found: at first as DNSTEXT_POSITION_INIT. */
 struct dnstext_position {
@@ -345,7 +350,9 @@ struct dnstext_position {
     size_t line;
     size_t column;
 };
+/* clang-format off */
 #define DNSTEXT_POSITION_INIT {0, 1, 1}
+/* clang-format on */
 
 /* Moves a position to the octets before another place of the text. Past the text's length the status is
  * DNSTEXT_BAD_PLACE, and the position stays. The time is linear in the octets between, or in the offset

@@ -20,22 +20,28 @@ static void strings(void) {
     REFUSES(dnstext_charstr_read, "a\\256", DNSTEXT_BAD_ESCAPE, 1);
     REFUSES(dnstext_charstr_read, "ab\\25", DNSTEXT_SHORT_INPUT, 2);
     REFUSES(dnstext_charstr_read, "abc\xC3", DNSTEXT_SHORT_INPUT, 3);
+    /* clang-format off */
     REFUSES(dnstext_charstr_read, "\xFF" "abc", DNSTEXT_BAD_UTF8, 0);
+    /* clang-format on */
     REFUSES(dnstext_charstr_read, "abc\xFFz", DNSTEXT_BAD_UTF8, 3);
     REFUSES(dnstext_charstr_read, "ab\xC3\xA9", DNSTEXT_BAD_SYMBOL, 2);
     REFUSES(dnstext_charstr_read, "a\tb", DNSTEXT_BAD_SYMBOL, 1);
     REFUSES(dnstext_charstr_read, "abcd\xC3\xA9", DNSTEXT_BAD_SYMBOL, 4);
     refuses(dnstext_charstr_read, long_string, 256, DNSTEXT_TOO_LONG, 255, __LINE__);
     GIVES(dnstext_charstr_read_octets, "a\tb", "a\tb");
+    /* clang-format off */
     GIVES(dnstext_charstr_read_octets, "\x80" "abc\xC3\xFF", "\x80" "abc\xC3\xFF");
     GIVES(dnstext_charstr_read_octets, "\\\tb\\\xFF" "\\\\\\\"\\255\\0097", "\tb\xFF" "\\\"\xFF\t" "7");
+    /* clang-format on */
     GIVES(dnstext_charstr_read_octets, "\n\r\0", "\n\r\0");
     GIVES(dnstext_charstr_read_octets, "", "");
     gives(dnstext_charstr_read_octets, zeros, 255, zeros, 255, __LINE__);
     gives(dnstext_charstr_read_octets, zeros_text + 1, 1020, zeros, 255, __LINE__);
     REFUSES(dnstext_charstr_read_octets, "\tb\\25x", DNSTEXT_BAD_ESCAPE, 2);
     REFUSES(dnstext_charstr_read_octets, "\xFF\\256", DNSTEXT_BAD_ESCAPE, 1);
+    /* clang-format off */
     REFUSES(dnstext_charstr_read_octets, "a\\2\xFF" "1", DNSTEXT_BAD_ESCAPE, 1);
+    /* clang-format on */
     REFUSES(dnstext_charstr_read_octets, "ab\\25", DNSTEXT_SHORT_INPUT, 2);
     REFUSES(dnstext_charstr_read_octets, "ab\\", DNSTEXT_SHORT_INPUT, 2);
     refuses(dnstext_charstr_read_octets, zeros, 256, DNSTEXT_TOO_LONG, 255, __LINE__);
@@ -71,8 +77,8 @@ static uint32_t read_name(const uint8_t *text, size_t text_len, uint8_t *name, s
     return status;
 }
 
-static void named(const uint8_t *text, size_t text_len, const uint8_t *name, size_t name_len,
-                  int is_absolute, int line) {
+static void named(const uint8_t *text, size_t text_len, const uint8_t *name, size_t name_len, int is_absolute,
+                  int line) {
     absolute = is_absolute;
     row = line;
     gives(read_name, text, text_len, name, name_len, line);
@@ -95,8 +101,7 @@ static void names(void) {
     NAMED("", "", 0);
     NAMED(".", "\0", 1);
     NAMED("Action\\.domains", "\16Action.domains", 0);
-    NAMED("Donald\\032E\\.\\032Eastlake\\0323rd.example.",
-          "\26Donald E. Eastlake 3rd\7example\0", 1);
+    NAMED("Donald\\032E\\.\\032Eastlake\\0323rd.example.", "\26Donald E. Eastlake 3rd\7example\0", 1);
     UNNAMED("..a", DNSTEXT_EMPTY_LABEL, 0);
     UNNAMED("a..b", DNSTEXT_EMPTY_LABEL, 2);
     UNNAMED("a.\\[b", DNSTEXT_BINARY_LABEL, 2);
@@ -134,16 +139,18 @@ static void names(void) {
     GIVES(dnstext_name_print_zone, "\5a;(.\n", "a\\;\\(\\.\\010");
     GIVES(dnstext_name_print_zone, "\4\"$)@\2\\/\3 \xC3\xA9\0", "\\\"\\$\\)\\@.\\\\/.\\032\\195\\169.");
     REFUSES(dnstext_name_print, "\2a", DNSTEXT_SHORT_INPUT, 0);
+    /* clang-format off */
     REFUSES(dnstext_name_print_dotted, "\1a\0" "b", DNSTEXT_TRAILING_OCTETS, 0);
     REFUSES(dnstext_name_print_zone, "\1a\xC0\x0C", DNSTEXT_POINTER, 0);
     REFUSES(dnstext_name_print_zone, "\x80" "a", DNSTEXT_BAD_LABEL, 0);
+    /* clang-format on */
     refuses(dnstext_name_print, long_text, 256, DNSTEXT_TOO_LONG, 0, __LINE__);
     memset(zeros, 0, sizeof zeros);
     refuses(dnstext_name_print_zone, zeros, 256, DNSTEXT_TOO_LONG, 0, __LINE__);
 }
 
-static void number(const uint8_t *text, size_t length, uint64_t greatest, uint32_t status,
-                   uint64_t value, size_t place, int line) {
+static void number(const uint8_t *text, size_t length, uint64_t greatest, uint32_t status, uint64_t value,
+                   size_t place, int line) {
     struct dnstext_outcome outcome = {7, 7};
     uint64_t found = 7;
     expect(dnstext_number_read(text, length, greatest, &found, &outcome) == status, "status", line);
@@ -151,8 +158,7 @@ static void number(const uint8_t *text, size_t length, uint64_t greatest, uint32
     expect(outcome.length == 0 && outcome.place == place, "length and place", line);
 }
 #define NUMBER(text, greatest, value) number(BYTES(text), greatest, DNSTEXT_OK, value, 0, __LINE__)
-#define UNNUMBERED(text, greatest, status, place) \
-    number(BYTES(text), greatest, status, 0, place, __LINE__)
+#define UNNUMBERED(text, greatest, status, place) number(BYTES(text), greatest, status, 0, place, __LINE__)
 
 static void numbers(void) {
     number(NULL, 0, 255, DNSTEXT_OK, 0, 0, __LINE__);
@@ -258,8 +264,8 @@ static uint32_t type_print(const uint8_t *octets, size_t octets_len, uint8_t *te
     return dnstext_type_print(type, text, text_len, outcome);
 }
 
-static uint32_t class_print(const uint8_t *octets, size_t octets_len, uint8_t *text,
-                            size_t text_len, struct dnstext_outcome *outcome) {
+static uint32_t class_print(const uint8_t *octets, size_t octets_len, uint8_t *text, size_t text_len,
+                            struct dnstext_outcome *outcome) {
     uint16_t type = (uint16_t)(octets[0] * 256 + octets[octets_len - 1]);
     return dnstext_class_print(type, text, text_len, outcome);
 }
@@ -323,7 +329,8 @@ static void position(const uint8_t *text, size_t length, size_t place, uint32_t 
     expect(found_column == (status == DNSTEXT_OK ? column : 7), "column", here);
     for (from = 0; from <= length; from++) {
         struct dnstext_position moved = DNSTEXT_POSITION_INIT, was;
-        expect(dnstext_position_move(text, length, &moved, from) == DNSTEXT_OK, "status from the start", here);
+        expect(dnstext_position_move(text, length, &moved, from) == DNSTEXT_OK, "status from the start",
+               here);
         was = moved;
         expect(dnstext_position_move(text, length, &moved, place) == status, "status from there", here);
         expect(moved.offset == (status == DNSTEXT_OK ? place : from), "offset", here);
@@ -331,8 +338,7 @@ static void position(const uint8_t *text, size_t length, size_t place, uint32_t 
         expect(moved.column == (status == DNSTEXT_OK ? column : was.column), "column from there", here);
     }
 }
-#define POSITION(text, place, line, column) \
-    position(BYTES(text), place, DNSTEXT_OK, line, column, __LINE__)
+#define POSITION(text, place, line, column) position(BYTES(text), place, DNSTEXT_OK, line, column, __LINE__)
 #define NO_POSITION(text, place) position(BYTES(text), place, DNSTEXT_BAD_PLACE, 0, 0, __LINE__)
 
 static void positions(void) {
@@ -344,7 +350,9 @@ static void positions(void) {
     POSITION("a\n\nbc\r\n", 3, 3, 1);
     POSITION("a\n\nbc\r\n", 6, 3, 4);
     POSITION("a\n\nbc\r\n", 7, 4, 1);
+    /* clang-format off */
     POSITION("\xC3\xA9" "b", 2, 1, 3);
+    /* clang-format on */
     NO_POSITION("a\n\nbc\r\n", 8);
     NO_POSITION("a", SIZE_MAX);
     {
@@ -365,14 +373,12 @@ static void wrong(const uint8_t *text, size_t length, uint32_t status, size_t pl
         struct dnstext_cursor cursor = {0, false, false, 5};
         struct dnstext_outcome outcome = {7, 7};
         size_t opened = status == DNSTEXT_OPEN_QUOTE || status == DNSTEXT_OPEN_PARENTHESIS ? 2 : 5;
-        expect(dnstext_entry_next(text, length, &cursor, memory, room, &outcome) == status, "status",
-               line);
+        expect(dnstext_entry_next(text, length, &cursor, memory, room, &outcome) == status, "status", line);
         expect(outcome.place == place, "place", line);
         expect(outcome.length == (tokens < room ? tokens : room), "length", line);
         expect(cursor.is_done == 1, "cursor", line);
         expect(cursor.opened == opened, "where it was opened", line);
-        expect(dnstext_entry_next(text, length, &cursor, memory, room, &outcome) == DNSTEXT_END, "end",
-               line);
+        expect(dnstext_entry_next(text, length, &cursor, memory, room, &outcome) == DNSTEXT_END, "end", line);
         expect(outcome.place == 0 && outcome.length == 0, "place and length of the end", line);
     }
 }
@@ -386,7 +392,8 @@ static void entries(void) {
     static const char whole[] = " one ( \"two\"\n; comment\n) three\n\nlast";
     static const char open[] = "\351\n\351 (b) ( c (d";
     struct dnstext_token tokens[4] = {{9, 9, true}, {9, 9, true}, {9, 9, true}, {9, 9, true}};
-    struct dnstext_cursor cursor = DNSTEXT_CURSOR_INIT, past = {3, false, false, 0}, next = DNSTEXT_CURSOR_INIT;
+    struct dnstext_cursor cursor = DNSTEXT_CURSOR_INIT, past = {3, false, false, 0},
+                          next = DNSTEXT_CURSOR_INIT;
     struct dnstext_outcome outcome = {7, 7};
     EXPECT(dnstext_entry_next(BYTES(whole), &cursor, NULL, 0, &outcome) == DNSTEXT_NO_ROOM);
     EXPECT(outcome.length == 3 && cursor.at == 0 && cursor.is_done == 0);
@@ -420,8 +427,8 @@ static void entries(void) {
 
 static int is_cursor(struct dnstext_cursor cursor, size_t at, bool begins_blank, bool is_done,
                      size_t opened) {
-    return cursor.at == at && cursor.begins_blank == begins_blank && cursor.is_done == is_done
-           && cursor.opened == opened;
+    return cursor.at == at && cursor.begins_blank == begins_blank && cursor.is_done == is_done &&
+           cursor.opened == opened;
 }
 
 /* Each call with all that stands in its cursor after it. */
@@ -473,16 +480,17 @@ static void next(const uint8_t *text, size_t length, struct dnstext_standing *st
     struct dnstext_outcome outcome = {7, 7};
     expect(dnstext_tokens_next(text, length, standing, &piece, &outcome) == status, "status", line);
     expect(outcome.length == 0 && outcome.place == place, "length and place", line);
-    expect(piece.kind == wanted.kind && piece.start == wanted.start && piece.end == wanted.end
-           && piece.begins_blank == wanted.begins_blank, "piece", line);
+    expect(piece.kind == wanted.kind && piece.start == wanted.start && piece.end == wanted.end &&
+               piece.begins_blank == wanted.begins_blank,
+           "piece", line);
 }
 
 static const struct dnstext_piece no_piece = {9, 9, 9, true};
 
 static int is_standing(struct dnstext_standing standing, size_t at, size_t depth, size_t began,
                        bool is_done) {
-    return standing.at == at && standing.depth == depth && standing.began == began
-           && standing.is_done == is_done;
+    return standing.at == at && standing.depth == depth && standing.began == began &&
+           standing.is_done == is_done;
 }
 
 static void piece(const uint8_t *text, size_t length, struct dnstext_standing *standing, size_t kind,
@@ -496,11 +504,9 @@ static void piece(const uint8_t *text, size_t length, struct dnstext_standing *s
 }
 #define PIECE(text, standing, kind, start, end, blank) \
     piece(BYTES(text), standing, kind, start, end, blank, __LINE__)
-#define NO_PIECE(text, standing, status, place) \
-    next(BYTES(text), standing, status, place, no_piece, __LINE__)
+#define NO_PIECE(text, standing, status, place) next(BYTES(text), standing, status, place, no_piece, __LINE__)
 
-static void wrong_piece(const uint8_t *text, size_t length, uint32_t status, size_t place,
-                        int line) {
+static void wrong_piece(const uint8_t *text, size_t length, uint32_t status, size_t place, int line) {
     struct dnstext_standing standing = DNSTEXT_STANDING_INIT;
     struct dnstext_cursor cursor = DNSTEXT_CURSOR_INIT;
     struct dnstext_outcome outcome;
@@ -583,8 +589,8 @@ static void states_of_any_octets(void) {
         }
         memset(&cursor, (int)octet, sizeof cursor);
         cursor.is_done = false;
-        EXPECT(dnstext_entry_next(NULL, 0, &cursor, NULL, 0, &outcome)
-               == (octet == 0 ? DNSTEXT_OK : DNSTEXT_BAD_CURSOR));
+        EXPECT(dnstext_entry_next(NULL, 0, &cursor, NULL, 0, &outcome) ==
+               (octet == 0 ? DNSTEXT_OK : DNSTEXT_BAD_CURSOR));
     }
 }
 

@@ -24,8 +24,8 @@ static uint32_t canonical_data(const uint8_t *octets, size_t octets_len, uint8_t
 }
 
 /* A refusal of a text, with as much of its text as fits, and the memory after it as it was. */
-static void refuses_data(const uint8_t *text, size_t text_len, uint32_t status, size_t place,
-                         const char *why, int line) {
+static void refuses_data(const uint8_t *text, size_t text_len, uint32_t status, size_t place, const char *why,
+                         int line) {
     uint8_t memory[300];
     size_t room, i;
     for (room = 0; room <= strlen(why) + 1; room++) {

@@ -91,13 +91,26 @@ static const struct {
     call f;
     int is_encoding;
 } calls[] = {
-    {dnstext_charstr_read, 0},         {dnstext_charstr_read_octets, 0},    {dnstext_charstr_print, 0},
-    {dnstext_charstr_print_quoted, 0}, {dnstext_charstr_print_unquoted, 0}, {name_read, 0},
-    {dnstext_name_print, 0},           {dnstext_name_print_dotted, 0},      {dnstext_name_print_zone, 0},
-    {dnstext_base16_print, 0},         {dnstext_base32hex_print, 0},        {dnstext_base64_print, 0},
-    {dnstext_base16_read, 1},          {dnstext_base32hex_read, 1},         {dnstext_base64_read, 1},
-    {data_print, 0},                   {status_text, 0},                    {type_print, 0},
-    {class_print, 0},                  {data_canonical, 0},
+    {dnstext_charstr_read, 0},
+    {dnstext_charstr_read_octets, 0},
+    {dnstext_charstr_print, 0},
+    {dnstext_charstr_print_quoted, 0},
+    {dnstext_charstr_print_unquoted, 0},
+    {name_read, 0},
+    {dnstext_name_print, 0},
+    {dnstext_name_print_dotted, 0},
+    {dnstext_name_print_zone, 0},
+    {dnstext_base16_print, 0},
+    {dnstext_base32hex_print, 0},
+    {dnstext_base64_print, 0},
+    {dnstext_base16_read, 1},
+    {dnstext_base32hex_read, 1},
+    {dnstext_base64_read, 1},
+    {data_print, 0},
+    {status_text, 0},
+    {type_print, 0},
+    {class_print, 0},
+    {data_canonical, 0},
 };
 
 /* A call with so much room: what it says, and what it wrote. */
@@ -195,11 +208,11 @@ static void try_position(size_t line, size_t column) {
         CHECK(dnstext_position_move(text, text_len, &position, i) == DNSTEXT_OK && position.offset == i);
         moved = position;
         if (number > text_len)
-            CHECK(dnstext_position_move(text, text_len, &moved, number) == DNSTEXT_BAD_PLACE
-                  && memcmp(&moved, &position, sizeof moved) == 0);
+            CHECK(dnstext_position_move(text, text_len, &moved, number) == DNSTEXT_BAD_PLACE &&
+                  memcmp(&moved, &position, sizeof moved) == 0);
         else
-            CHECK(dnstext_position_move(text, text_len, &moved, number) == DNSTEXT_OK
-                  && moved.offset == number && moved.line == line && moved.column == column);
+            CHECK(dnstext_position_move(text, text_len, &moved, number) == DNSTEXT_OK &&
+                  moved.offset == number && moved.line == line && moved.column == column);
     }
     memset(&position, FILL, sizeof position);
     if (text_len != 0)
@@ -380,7 +393,8 @@ static void try_input(const uint8_t *from, size_t length) {
 #ifdef __cplusplus
 extern "C"
 #endif
-int LLVMFuzzerTestOneInput(const uint8_t *from, size_t length);
+    int
+    LLVMFuzzerTestOneInput(const uint8_t *from, size_t length);
 int LLVMFuzzerTestOneInput(const uint8_t *from, size_t length) {
     if (length <= MOST)
         try_input(from, length);
@@ -460,7 +474,8 @@ static size_t mutate(uint8_t *octets, size_t length) {
     switch (next_random(5)) {
     case 0:
         if (length != 0)
-            octets[at] = next_random(2) ? (uint8_t)next_random(256) : (uint8_t)often[next_random(sizeof often)];
+            octets[at] =
+                next_random(2) ? (uint8_t)next_random(256) : (uint8_t)often[next_random(sizeof often)];
         return length;
     case 1:
         count = length - at < 4 ? length - at : next_random(4);
@@ -472,8 +487,7 @@ static size_t mutate(uint8_t *octets, size_t length) {
         memmove(octets + at + 1, octets + at, length - at);
         octets[at] = (uint8_t)often[next_random(sizeof often)];
         return length + 1;
-    case 3:
-        return at;
+    case 3: return at;
     default:
         other = next_random((uint32_t)seeds_len);
         count = seeds[other].length - 3 < MOST - at ? seeds[other].length - 3 : MOST - at;

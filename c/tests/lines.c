@@ -26,8 +26,8 @@ static struct dnstext_token *known;
 static size_t count;
 
 static void put_token(void) {
-    static const char *const words[] = {"a", "example.com.", "3600", "IN",
-                                        "\\;", "x\\032y", "@", "caf\xC3\xA9"};
+    static const char *const words[] = {"a",   "example.com.", "3600", "IN",
+                                        "\\;", "x\\032y",      "@",    "caf\xC3\xA9"};
     static const char *const quoted[] = {"\"\"", "\"a b\"", "\"( ; )\"", "\"\\\"\""};
     known[count].start = length;
     known[count].is_quoted = chance(4) == 0;
@@ -42,8 +42,7 @@ static void fail(const char *what, size_t line) {
 }
 
 static int is_same(struct dnstext_token token, struct dnstext_token other) {
-    return token.start == other.start && token.end == other.end
-           && token.is_quoted == other.is_quoted;
+    return token.start == other.start && token.end == other.end && token.is_quoted == other.is_quoted;
 }
 
 /* The text piece by piece: the tokens, and each line's end with its flag. */

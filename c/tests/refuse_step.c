@@ -21,9 +21,11 @@ static int fails(void) {
         word = getenv("REFUSE_STEP");
         number = word != NULL ? atol(word) : 0;
     }
-    if (++calls != number) return 0;
+    if (++calls != number)
+        return 0;
     word = getenv("REFUSED");
-    if (word != NULL) close((int)syscall(SYS_open, word, O_WRONLY | O_CREAT | O_CLOEXEC, 0600));
+    if (word != NULL)
+        close((int)syscall(SYS_open, word, O_WRONLY | O_CREAT | O_CLOEXEC, 0600));
     errno = EIO;
     return 1;
 }
@@ -61,17 +63,25 @@ ssize_t write(int file, const void *from, size_t count) {
     return file > 2 && fails() ? -1 : NEXT(write_call, "write")(file, from, count);
 }
 
-int fsync(int file) { return fails() ? -1 : NEXT(file_call, "fsync")(file); }
+int fsync(int file) {
+    return fails() ? -1 : NEXT(file_call, "fsync")(file);
+}
 
 int fchown(int file, uid_t owner, gid_t group) {
     return fails() ? -1 : NEXT(owner_call, "fchown")(file, owner, group);
 }
 
-int fchmod(int file, mode_t mode) { return fails() ? -1 : NEXT(mode_call, "fchmod")(file, mode); }
+int fchmod(int file, mode_t mode) {
+    return fails() ? -1 : NEXT(mode_call, "fchmod")(file, mode);
+}
 
-int rename(const char *from, const char *to) { return fails() ? -1 : NEXT(rename_call, "rename")(from, to); }
+int rename(const char *from, const char *to) {
+    return fails() ? -1 : NEXT(rename_call, "rename")(from, to);
+}
 
-char *realpath(const char *path, char *to) { return fails() ? NULL : NEXT(path_call, "realpath")(path, to); }
+char *realpath(const char *path, char *to) {
+    return fails() ? NULL : NEXT(path_call, "realpath")(path, to);
+}
 
 int statx(int folder, const char *path, int flags, unsigned mask, struct statx *to) {
     return fails() ? -1 : NEXT(stat_call, "statx")(folder, path, flags, mask, to);

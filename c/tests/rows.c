@@ -45,8 +45,8 @@ static size_t unknowns;
 
 /* Returns the output of a call, in memory of the exact size. Sets `note` if the call succeeds with less, or
  * fails with the size that it asked for. */
-static uint8_t *sized_output_of(call f, const uint8_t *from, size_t from_len, uint32_t *status, size_t *length,
-                         const char **note) {
+static uint8_t *sized_output_of(call f, const uint8_t *from, size_t from_len, uint32_t *status,
+                                size_t *length, const char **note) {
     struct dnstext_outcome outcome = {0, 0};
     size_t needed;
     uint8_t *to;
@@ -676,9 +676,12 @@ static bool answer_one(const char *name, const char *input) {
         const char *name;
         void (*f)(const char *);
     } calls[] = {
-        {"symbol.octet", answer_symbol_octet}, {"symbol.from_octet", answer_from_octet},
-        {"symbol.is_word_char", answer_is_token}, {"label.plain", answer_label},
-        {"zone.is_token", answer_is_token},    {"zone.split", answer_split},
+        {"symbol.octet", answer_symbol_octet},
+        {"symbol.from_octet", answer_from_octet},
+        {"symbol.is_word_char", answer_is_token},
+        {"label.plain", answer_label},
+        {"zone.is_token", answer_is_token},
+        {"zone.split", answer_split},
         {"class.print", answer_class},
     };
     size_t i;

@@ -76,7 +76,9 @@ static inline void add_octets(const void *octets, size_t length) {
     came_len += length;
 }
 
-static inline void add_text(const char *text) { add_octets(text, strlen(text)); }
+static inline void add_text(const char *text) {
+    add_octets(text, strlen(text));
+}
 
 static inline void add_number(size_t number) {
     char digits[24];
@@ -85,7 +87,9 @@ static inline void add_number(size_t number) {
 }
 
 /* An error without a message. */
-static inline void refuse(void) { is_refused = true; }
+static inline void refuse(void) {
+    is_refused = true;
+}
 
 /* An error with its message. */
 static inline void refuse_for(const char *reason) {
@@ -119,7 +123,8 @@ static inline bool next_row(void) {
             if (at != NULL)
                 *at++ = '\0';
         }
-        row_line = *row_fields[0] >= '0' && *row_fields[0] <= '9' ? strtoul(row_fields[0], &end, 10) : row_line;
+        row_line =
+            *row_fields[0] >= '0' && *row_fields[0] <= '9' ? strtoul(row_fields[0], &end, 10) : row_line;
         if (*row_fields[0] >= '0' && *row_fields[0] <= '9') {
             size_t i;
             for (i = 1; i < row_count; i++)
@@ -133,7 +138,9 @@ static inline bool next_row(void) {
 }
 
 /* The expected result. */
-static inline const char *row_wanted(void) { return row_fields[row_count - 1]; }
+static inline const char *row_wanted(void) {
+    return row_fields[row_count - 1];
+}
 
 /* Compares the result with the expected one. Messages are compared if the call has them. */
 static inline bool is_wanted(void) {

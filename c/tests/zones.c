@@ -191,8 +191,8 @@ static void long_data(void) {
         EXPECT(dnstext_data_read(16, (const uint8_t *)spelled + 8, length - 8, NULL, 0, octets, LONGEST,
                                  &outcome) == DNSTEXT_OK);
         EXPECT(outcome.length == lengths[i] && memcmp(octets, wire, lengths[i]) == 0);
-        EXPECT(dnstext_data_print(16, (const uint8_t *)wire, lengths[i], printed, sizeof printed, &outcome)
-               == DNSTEXT_OK);
+        EXPECT(dnstext_data_print(16, (const uint8_t *)wire, lengths[i], printed, sizeof printed, &outcome) ==
+               DNSTEXT_OK);
         EXPECT(outcome.length == length - 8 && memcmp(printed, spelled + 8, length - 8) == 0);
     }
     begin();
@@ -200,8 +200,8 @@ static void long_data(void) {
     EXPECT(next(spelled, length, LONGEST) == DNSTEXT_BAD_DATA);
     EXPECT(outcome.length < 255 && octets[outcome.length] == '-' && zone.at == length);
     EXPECT(outcome.length == sizeof reason - 1 && memcmp(octets, reason, outcome.length) == 0);
-    EXPECT(dnstext_data_read(16, (const uint8_t *)spelled + 8, length - 8, NULL, 0, octets, LONGEST, &outcome)
-           == DNSTEXT_BAD_DATA);
+    EXPECT(dnstext_data_read(16, (const uint8_t *)spelled + 8, length - 8, NULL, 0, octets, LONGEST,
+                             &outcome) == DNSTEXT_BAD_DATA);
     EXPECT(outcome.length == sizeof reason - 1 && memcmp(octets, reason, outcome.length) == 0);
     ends(spelled, length, __LINE__);
 }

@@ -1,9 +1,9 @@
 //! Each refusal, and what comes before it.
 use dns_text::codec::{BadEncoding, BASE16, BASE32HEX, BASE64};
 use dns_text::{
-    entries, number, pieces, position, records, tokens, CharStr, Class, FaultKind, LongString, Name,
-    NameErrorKind, NameOctetsError, NumberErrorKind, Positions, ReadErrorKind, RecordType, Ttl,
-    WordErrorKind, ZoneItem,
+    entries, number, pieces, position, records, tokens, CharStr, Class, FaultKind, LongString,
+    Name, NameErrorKind, NameOctetsError, NumberErrorKind, Positions, ReadErrorKind, RecordType,
+    Ttl, WordErrorKind, ZoneItem,
 };
 use std::time::Duration;
 
@@ -158,7 +158,10 @@ fn long_ttls() {
         })
         .collect();
     assert_eq!(ttls, [0, 0, 0, 0]);
-    assert!(records(b"a. 4294967296 A 192.0.2.1").next().unwrap().is_err());
+    assert!(records(b"a. 4294967296 A 192.0.2.1")
+        .next()
+        .unwrap()
+        .is_err());
 }
 
 /// The codes of RFC 1035, 2782, 3596, 4034 and 8659.

@@ -92,7 +92,10 @@ pub fn wire(record_type: &str, octets: &str, wanted: &str) -> bool {
 /// octet or of one beyond ASCII.
 pub fn name(text: &str, origin: Option<&str>, wanted: &str) -> bool {
     let octets = octets_of(text);
-    if octets.windows(2).any(|it| it[0] == b'\\' && !matches!(it[1], b' '..=b'~')) {
+    if octets
+        .windows(2)
+        .any(|it| it[0] == b'\\' && !matches!(it[1], b' '..=b'~'))
+    {
         return false;
     }
     match (read_data("NS", text, origin).0, wanted.strip_prefix('!')) {
