@@ -1,5 +1,5 @@
 -- A tape that is filled span by span: the tokens of the pieces so far, and what is left.
-use Rattle.std.proofs.Common.{◌≡◌, ℕ, ◌≤◌, List, [], ◌∷◌, ◌++◌, length, refl, sym, ap, ◌∙◌, subst, append-nil, append_assoc}
+use Rattle.std.proofs.Common.{◌≡◌, ℕ, ◌<◌, ◌≤◌, List, [], ◌∷◌, ◌++◌, length, refl, sym, ap, ◌∙◌, subst, append-nil, append_assoc}
 use Rattle.std.specs.Prelude.{map, Option, Some, None, Result, Ok}
 use Rattle.std.specs.List.{AllByRecursion}
 use Rattle.std.proofs.lemmas.List.{map-append}
@@ -12,7 +12,7 @@ use Rattle.dns_split.specs.declared.pieces.Piece.TheVariants.{Word as WordAt, Qu
 use Rattle.dns_split.specs.Pieces.{EachWithin, IsGiven, IsWithin}
 use Rattle.dns_split.proofs.EntrySpans.{IsQuotedAt, given_quoted, quoted_wide}
 use Rattle.dns_tape.specs.FirstEntry.{last_ended, piece_tokens}
-use Rattle.dns_tape.specs.Tape.{FillsWith, IsSpanIn, span_token}
+use Rattle.dns_tape.specs.Tape.{FillsLine, FillsWith, IsSpanIn, span_token}
 use Rattle.dns_tape.specs.declared.tape.TokenSpan.{TokenSpan}
 
 more_tokens : (octets : List ℕ) (ended : Option ℕ) (found : List Piece) (p : Piece) → piece_tokens octets ended (found ++ p ∷ []) ≡ piece_tokens octets ended found ++ piece_tokens octets (last_ended ended found) (p ∷ [])
@@ -89,6 +89,10 @@ module _ (octets : List ℕ) (given left now : List (Result Piece Fault)) (ended
     tokens = x.tokens;
     within = x.within;
   }
+
+  pub ends_line : (end : EndOfEntry) → now ≡ Ok (EndAt end) ∷ left → IsGiven octets given → 0 < length left → FillsLine octets spans end.at
+  unfolding ends
+  ends_line end e g some = (ends end e g, some)
 
 -- a span of what is left is within the octets
 behind : (n : ℕ) (found : List Piece) (rest : List (Result Piece Fault)) → EachWithin n (map Ok found ++ rest) → EachWithin n rest

@@ -28,6 +28,10 @@ pub record FillsWith (octets : List ℕ) (spans : List TokenSpan) (end : ℕ) : 
   pub tokens : map (span_token octets) spans ≡ piece_tokens octets None first.found
   pub within : AllByRecursion (IsSpanIn octets) spans
 
+-- the same, and other pieces follow the entry's end: so octets added don't change it
+abbrev pub FillsLine : List ℕ → List TokenSpan → ℕ → Type 0
+FillsLine octets spans end = (f : FillsWith octets spans end) × (0 < length f.left)
+
 -- if the first entry of the octets ends at all, it has more tokens than a tape holds
 abbrev pub FitsNoTape : List ℕ → Type 0
 FitsNoTape octets = (stop : EndOfEntry) (left : List (Result Piece Fault)) (first : StopsFirst octets (Ok stop) left) → TAPE_CAPACITY < length (piece_tokens octets None first.found)

@@ -6,4 +6,4 @@ pub mod source;
 pub mod tape;
 
 pub use source::TapeTokens;
-pub use tape::{TAPE_CAPACITY, Tape, TokenSpan, fill};
+pub use tape::{TAPE_CAPACITY, Tape, TokenSpan, fill, fill_line};

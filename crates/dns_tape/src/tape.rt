@@ -4,13 +4,13 @@
 //! then returned one by one by [`TapeTokens`](crate::source::TapeTokens).
 ghost use Rattle.std.specs.Prelude.{◌≡◌, ◌≤◌, ◌+◌, IfSome, None};
 ghost use Rattle.dns_split.specs.EntryTokens.{ends_at};
-ghost use Rattle.dns_tape.specs.Tape.{FilledOnce, FillsWith, FitsNoTape, PushesSpan, quote_span, word_span};
+ghost use Rattle.dns_tape.specs.Tape.{FilledOnce, FillsLine, FillsWith, FitsNoTape, PushesSpan, quote_span, word_span};
 
 use arrayvec::ArrayVec;
 use dns_split::pieces::{Piece, Pieces, Span};
 
 /// Number of tokens that a [`Tape`] can hold.
-pub const TAPE_CAPACITY: usize = 24;
+pub const TAPE_CAPACITY: usize = 64;
 
 /// The offsets of one token, in octets from the beginning of the entry's octets.
 #[derive(Clone, Copy, Debug, PartialEq, Eq, Default)]
@@ -92,6 +92,44 @@ pub fn fill(octets: &[u8], tape: &mut Tape) -> Option<usize>
     'pieces: while let Some(piece) = pieces.next() {
         match piece {
             Ok(Piece::End(end)) => return Some(end.at),
+            Ok(Piece::Word(span)) => {
+                if !push(tape, word_span(span, ended)) {
+                    return None;
+                }
+                ended = Some(span.end);
+            }
+            Ok(Piece::Quote(span)) => {
+                if !push(tape, quote_span(span, ended)) {
+                    return None;
+                }
+                ended = Some(span.end);
+            }
+            Ok(Piece::Comment(_)) => {}
+            Err(_) => return None,
+        }
+    }
+    None
+}
+
+/// Fills `tape` as [`fill`] does, and returns the offset of the first entry's end, if more pieces
+/// follow that, so that no octets added can change it: as after a line feed.
+///
+/// Returns `None` in other cases, and in some of these. What the tape held is dropped; after `None`
+/// its contents are unspecified.
+pub fn fill_line(octets: &[u8], tape: &mut Tape) -> Option<usize>
+    ensures { IfSome result (FillsLine octets.now tape.new.items) }
+{
+    tape.clear();
+    let mut ended = None;
+    let mut pieces = Pieces::of_octets(octets);
+    'pieces: while let Some(piece) = pieces.next() {
+        match piece {
+            Ok(Piece::End(end)) => {
+                return match pieces.next() {
+                    Some(_) => Some(end.at),
+                    None => None,
+                };
+            }
             Ok(Piece::Word(span)) => {
                 if !push(tape, word_span(span, ended)) {
                     return None;
