@@ -11,9 +11,9 @@ use std::alloc::{AllocError, Allocator};
 
 /// Returns the record that has these octets, or `None` if the owner is no name or the data is not of
 /// the type.
-pub fn record_of<'a>(octets: RecordRef<'a>) -> Option<Record<&'a [u8], &'a [u8]>>
-    ensures found { IfSome result (IsRecordOf octets.entry) }
-    ensures none { IfNone result (IsNoRecord octets.entry) }
+pub fn record_of<'a>(octets: &RecordRef<'a>) -> Option<Record<&'a [u8], &'a [u8]>>
+    ensures found { IfSome result (IsRecordOf octets.now) }
+    ensures none { IfNone result (IsNoRecord octets.now) }
 {
     let Ok(owner) = Name::from_octets(octets.owner) else {
         return None;
@@ -57,10 +57,10 @@ fn copied<A: Allocator>(alloc: A, octets: &[u8]) -> Result<Vec<u8, A>, AllocErro
 /// is not of the type. Fails if there is no memory.
 pub fn owned_record<A: Allocator + Copy>(
     alloc: A,
-    octets: RecordRef<'_>,
+    octets: &RecordRef<'_>,
 ) -> Result<Option<Record<Vec<u8, A>, Vec<u8, A>>>, AllocError>
-    ensures found { IfOk result (λ one. IfSome one (IsRecordOf octets.entry)) }
-    ensures none { IfOk result (λ one. IfNone one (IsNoRecord octets.entry)) }
+    ensures found { IfOk result (λ one. IfSome one (IsRecordOf octets.now)) }
+    ensures none { IfOk result (λ one. IfNone one (IsNoRecord octets.now)) }
 {
     let Ok(owner) = Name::from_octets(copied(alloc, octets.owner)?) else {
         return Ok(None);

@@ -32,24 +32,11 @@ pub struct Cutter<A: Allocator> {
     soa: Option<Record<Vec<u8, A>, Vec<u8, A>>>,
 }
 
-/// Returns the same octets and numbers again.
-fn same<'a>(given: &RecordRef<'a>) -> RecordRef<'a>
-    ensures { result ≡ given.now }
-{
-    RecordRef {
-        owner: given.owner,
-        ttl: given.ttl,
-        class: given.class,
-        rtype: given.rtype,
-        data: given.data,
-    }
-}
-
 /// Returns the record that was read.
 fn checked<'a>(given: &RecordRef<'a>) -> Result<Record<&'a [u8], &'a [u8]>, CutError>
     ensures { IfOk result (IsRecordOf given.now) }
 {
-    match record_of(same(given)) {
+    match record_of(given) {
         Some(one) => Ok(one),
         None => Err(CutError::NoRecord),
     }
@@ -127,8 +114,7 @@ impl<A: Allocator + Copy> Cutter<A> {
         ensures { OnOk result (BeginsPart state.now given.now (string_bytes lines.old)
             (string_bytes lines.new)) }
     {
-        let own = same(given);
-        let first = first_of(&own)?;
+        let first = first_of(given)?;
         let repeated = self.repeated()?;
         let head = PartHead {
             state,
@@ -144,7 +130,7 @@ impl<A: Allocator + Copy> Cutter<A> {
         ensures owner { self.new.owner ≡ self.old.owner }
     {
         if self.repeats_soa && given.rtype == RecordType::SOA && self.soa.is_none() {
-            let Some(soa) = owned_record(self.alloc, same(given))? else {
+            let Some(soa) = owned_record(self.alloc, given)? else {
                 return Err(CutError::NoRecord);
             };
             self.soa = Some(soa);

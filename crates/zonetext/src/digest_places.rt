@@ -3,7 +3,7 @@ use crate::gathered::{Gathered, Gatherer};
 use crate::reading::{Outcome, Reading, TakeEntry, give_entries};
 use crate::spots::{tokens_of, width};
 use crate::stop::Stop;
-use crate::zone_files::{Entry, same};
+use crate::zone_files::Entry;
 use dns_fields::{RecordRef, TokenSource};
 use dns_heads::take_words;
 use dns_kinds::RecordType;
@@ -63,7 +63,7 @@ fn placed_of(alloc: Global, entry: &Entry<'_>, given: &RecordRef<'_>) -> Result<
         Some(origin) => origin.as_slice().eq_ignore_ascii_case(given.owner),
         None => false,
     };
-    let Some(record) = owned_record(alloc, same(given))? else {
+    let Some(record) = owned_record(alloc, given)? else {
         return Err(Stop::Damaged);
     };
     Ok(Placed {

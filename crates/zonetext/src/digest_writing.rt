@@ -186,7 +186,7 @@ fn full_line_of(alloc: Global, soa: &Placed, data: &[u8]) -> Result<String, Stop
         data,
         ..soa.record.borrowed()
     };
-    let Some(record) = record_of(of_digest) else {
+    let Some(record) = record_of(&of_digest) else {
         return Err(Stop::Damaged);
     };
     push_record(&mut line, &record)?;

@@ -27,7 +27,7 @@ struct RunReader {
 
 /// Returns a copy of a record. Fails with `Damaged` if its octets are no record.
 fn own(alloc: Global, one: &Record<&[u8], &[u8]>) -> Result<Record<Vec<u8>, Vec<u8>>, Stop> {
-    match owned_record(alloc, one.borrowed())? {
+    match owned_record(alloc, &one.borrowed())? {
         Some(owned) => Ok(owned),
         None => Err(Stop::Damaged),
     }

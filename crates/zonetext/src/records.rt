@@ -11,7 +11,7 @@ impl TakeEntry for Lines<'_> {
         let Some(given) = entry.record()? else {
             return Ok(());
         };
-        let Some(record) = record_of(given) else {
+        let Some(record) = record_of(&given) else {
             return Err(Stop::Damaged);
         };
         push_record(&mut self.text, &record)?;

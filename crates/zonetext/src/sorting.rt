@@ -4,7 +4,7 @@ use crate::reading::{Outcome, Reading, TakeEntry, give_entries};
 use crate::run_files::TakeRecord;
 use crate::sorter::Sorter;
 use crate::stop::Stop;
-use crate::zone_files::{Entry, same};
+use crate::zone_files::Entry;
 use dns_kinds::RecordType;
 use dns_resource::record_of;
 use zone_set::Selection;
@@ -51,7 +51,7 @@ impl TakeEntry for Sorting<'_> {
             return Ok(());
         }
         let lowered = self.lowerer.lower(given)?;
-        let Some(one) = record_of(same(&lowered)) else {
+        let Some(one) = record_of(&lowered) else {
             return Err(Stop::Damaged);
         };
         if lowered.rtype == RecordType::SOA {

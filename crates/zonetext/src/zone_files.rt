@@ -46,17 +46,6 @@ pub struct Entry<'e> {
     pub state: &'e State,
 }
 
-/// Returns the record that is lent, lent again.
-pub fn same<'e>(given: &RecordRef<'e>) -> RecordRef<'e> {
-    RecordRef {
-        owner: given.owner,
-        ttl: given.ttl,
-        class: given.class,
-        rtype: given.rtype,
-        data: given.data,
-    }
-}
-
 impl<'e> Entry<'e> {
     /// Returns the place of its first octet.
     pub fn place(&self) -> Place {
