@@ -14,7 +14,9 @@ use Rattle.dns_wire.specs.Wire.{wire, IsName}
 use Rattle.dns_canonical.specs.Names.{octet_order, labels_from_root, name_order}
 use Rattle.dns_canonical.specs.Records.{RecordKey, record_order}
 use Rattle.dns_canonical.proofs.LoweredNames.{lowered_labels}
+use Rattle.dns_canonical.specs.Walks.{IsLevelOrder}
 use Rattle.dns_canonical.proofs.NameOrders.{order_append}
+use Rattle.dns_canonical.proofs.NameWalks.{LevelWalk}
 
 pub octets_total : IsTotalOrder octet_order
 octets_total = nat_list_cmp_total
@@ -80,3 +82,10 @@ records_tied a b = (
   λ h. equal_then _ _ h.0
       (equal_then _ _ ((numbers_tied a.class b.class).1 h.1) (equal_then _ _ ((numbers_tied a.rtype b.rtype).1 h.2) ((octets_tied a.octets b.octets).1 h.3))),
 )
+
+-- names of which the same octets are left
+pub level_same : (left right : List ℕ) (otherwise : Ordering) (left_rest right_rest : List ℕ) (order : Ordering) → LevelWalk left right otherwise left_rest right_rest order
+    → left_rest ≡ right_rest → IsLevelOrder left right otherwise order
+level_same left right otherwise left_rest right_rest order w e c d p q =
+    let same = wire_same w.a w.b (sym w.left_is ∙ e ∙ w.right_is) in
+    sym (ap (λ o. ordering_then o order) (subst (λ b. name_order w.a b ≡ Equal) same (tied_itself names_total w.a))) ∙ w.same c d p q

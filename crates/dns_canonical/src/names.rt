@@ -1,7 +1,7 @@
 //! The canonical form and order of names (RFC 4034 sections 6.1 and 6.2).
 ghost use Rattle.std.specs.Prelude.{ℕ, ◌≡◌, ◌<◌, ◌≤◌, ◌+◌, List, ◌++◌, length, drop, OnOk, OnErr};
 ghost use Rattle.dns_octets.specs.Appending.{Extends};
-ghost use Rattle.dns_octets.specs.Lowered.{lowered};
+ghost use Rattle.dns_octets.specs.Lowered.{lowered, lowered_order};
 ghost use Rattle.dns_wire.specs.Wire.{wire, wire_label};
 ghost use Rattle.dns_spelling.specs.NameSpelling.{IsWireName};
 ghost use Rattle.dns_canonical.specs.Names.{IsNameOrder};
@@ -91,7 +91,25 @@ fn behind_labels(octets: &[u8], count: usize) -> &[u8]
     rest
 }
 
-/// The order of names that have as many labels, or the order that is given where they are the same.
+/// Returns the order of two labels in lower case: the first octets that differ decide, then the
+/// length.
+///
+/// Octets that are the same in both are skipped before any is lowered.
+fn compare_label(left: &[u8], right: &[u8]) -> Ordering
+    ensures { result ≡ lowered_order left.now right.now }
+{
+    let shared = left.len().min(right.len());
+    let mut same = 0;
+    while same < shared && left[same] == right[same] {
+        same += 1;
+    }
+    compare_lowered(&left[same..], &right[same..])
+}
+
+/// Returns the order of two names with the same number of labels, or `otherwise` if they are the
+/// same.
+///
+/// Stops before the labels that both end in, if their octets are the same.
 fn compare_level(left: &[u8], right: &[u8], otherwise: Ordering) -> Ordering
     requires { AreLevel left.now right.now }
     ensures { IsLevelOrder left.now right.now otherwise result }
@@ -100,9 +118,12 @@ fn compare_level(left: &[u8], right: &[u8], otherwise: Ordering) -> Ordering
     let mut left_rest = left;
     let mut right_rest = right;
     while !left_rest.is_empty() {
+        if left_rest == right_rest {
+            return order;
+        }
         let first = front_label(left_rest);
         let second = front_label(right_rest);
-        order = compare_lowered(first.label, second.label).then(order);
+        order = compare_label(first.label, second.label).then(order);
         left_rest = first.rest;
         right_rest = second.rest;
     }
