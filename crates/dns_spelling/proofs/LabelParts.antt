@@ -142,7 +142,7 @@ pub record Appended (text old rest new : List ℕ) (count : ℕ) : Type 0 where
   pub count_is : count ≡ wire_length (part_labels parts [])
   pub fits : count ≤ 254
 
-appended_none : (text old : List ℕ) → Appended text old text old 0
+pub appended_none : (text old : List ℕ) → Appended text old text old 0
 appended_none text old = record {
   parts = [];
   front = record { each = λ k d lt. absurd (omega arith); whole = refl };
@@ -369,20 +369,20 @@ plain_octet : (c : ℕ) → (c ≡ 46 → ⊥) → (c ≡ 92 → ⊥) → is_lab
 plain_octet c n m = grind (arith, nat_tests)
 
 pub plain_part : (text : List ℕ) (n : ℕ) → n ≤ length text → ((k : ℕ) → k < n → (get_or text k 0 ≡ 46 → ⊥) × (get_or text k 0 ≡ 92 → ⊥))
-    → (part : List Symbol) × (list_all is_label_spelling part ≡ true) × (flat_map spell part ≡ take n text) × (length part ≡ n)
-plain_part text zero w each = ([], refl, refl, refl)
+    → (part : List Symbol) × (list_all is_label_spelling part ≡ true) × (flat_map spell part ≡ take n text) × (length part ≡ n) × (map octet_for part ≡ take n text)
+plain_part text zero w each = ([], refl, refl, refl, refl)
 plain_part [] (suc n) w each = absurd (omega (arith, w))
 plain_part (c ∷ cs) (suc n) w each =
     let x = plain_part cs n (omega (arith, w)) (λ k less. each (suc k) (omega (arith, less))) in
     let own = each 0 (omega arith) in
-    let first = plain_octet c own.0 own.1 in (Char c ∷ x.0, rw (first, x.1) refl, ap (λ t. c ∷ t) x.2, ap suc x.3)
+    let first = plain_octet c own.0 own.1 in (Char c ∷ x.0, rw (first, x.1) refl, ap (λ t. c ∷ t) x.2, ap suc x.3, ap (λ t. c ∷ t) x.4)
 
-rest_is : (text : List ℕ) (n : ℕ) → take (length text - n) (drop n text) ≡ drop n text
+pub rest_is : (text : List ℕ) (n : ℕ) → take (length text - n) (drop n text) ≡ drop n text
 rest_is text n = take_all (length text - n) (drop n text) (omega (arith, length-drop n text))
 
 -- and open it
 pub plain_opens : (text : List ℕ) (room n : ℕ) → n ≤ length text → ((k : ℕ) → k < n → (get_or text k 0 ≡ 46 → ⊥) × (get_or text k 0 ≡ 92 → ⊥)) → n ≤ 63 → n < room
-    → (part : List Symbol) × OpensLabel text room part (take (length text - n) (drop n text)) × (take n text ≡ flat_map spell part) × (n ≡ length part)
+    → (part : List Symbol) × OpensLabel text room part (take (length text - n) (drop n text)) × (take n text ≡ flat_map spell part) × (n ≡ length part) × (map octet_for part ≡ take n text)
 plain_opens text room n w each short fits =
     let x = plain_part text n w each in (
       x.0,
@@ -394,4 +394,5 @@ plain_opens text room n w each short fits =
       },
       sym x.2,
       sym x.3,
+      x.4,
     )

@@ -7,5 +7,6 @@ pub mod NameLaws
 pub mod NameReadings
 pub mod NameWords
 pub mod PrintedLabels
+pub mod PutLabels
 pub mod Spellings
 pub mod ZoneTexts

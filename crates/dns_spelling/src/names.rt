@@ -1,5 +1,5 @@
 //! Names as text (RFC 1035 section 5.1).
-ghost use Rattle.std.specs.Prelude.{ℕ, ◌≡◌, ◌≢◌, ◌⊎◌, ◌<◌, ◌≤◌, List, [], ◌∷◌, length, slice_index, MatchBool, MatchResult, IfOk, IfErr, IfSome, IsTrue, OnOk, OnErr};
+ghost use Rattle.std.specs.Prelude.{ℕ, ◌≡◌, ◌≢◌, ◌⊎◌, ◌<◌, ◌≤◌, List, [], ◌∷◌, length, take, slice_index, MatchBool, MatchResult, IfOk, IfErr, IfSome, IsTrue, OnOk, OnErr};
 ghost use Rattle.std.specs.Option.{option_copied};
 ghost use Rattle.dns_octets.specs.Appending.{Extends, Gains};
 ghost use Rattle.std.specs.List.{flat_map};
@@ -115,8 +115,68 @@ struct Labels {
     is_absolute: bool,
 }
 
+/// The longest text whose labels are put on the wire together.
+const MOST_PUT: usize = 127;
+
+/// The octets that labels are put in, with room behind the longest text.
+const PUT: usize = 144;
+
+/// Puts the wire form of the labels of a text without escapes in front, or returns `None` where the
+/// text is long, has an escape, or has a label that is empty or long.
+///
+/// The wire form is the text after one octet, with the count of each label in place of what stands
+/// before it.
+fn put_labels(text: &[u8], wire: &mut [u8; PUT]) -> Option<Labels>
+    ensures { IfSome result (λ l. (l.count ≤ PUT) × GainsLabels text.now [] (take l.count wire.new) l.count l.is_absolute) }
+{
+    let len = text.len();
+    if len == 0 || len > MOST_PUT {
+        return None;
+    }
+    wire[1..1 + len].copy_from_slice(text);
+    let mut start = 0;
+    'labels: loop {
+        let rest = &text[start..];
+        let count = plain_label_count(rest);
+        if count == 0 || count > MAX_LABEL {
+            return None;
+        }
+        wire[start] = count as u8;
+        start += 1 + count;
+        if count == rest.len() {
+            return Some(Labels {
+                count: start,
+                is_absolute: false,
+            });
+        }
+        if rest[count] != b'.' {
+            return None;
+        }
+        if start == len {
+            return Some(Labels {
+                count: start,
+                is_absolute: true,
+            });
+        }
+    }
+}
+
 /// Appends the labels of a text.
 fn append_labels<B: OctetsBuilder>(text: &[u8], target: &mut B) -> Result<Labels, ErrorKind>
+    ensures ok { IfOk result (λ l. GainsLabels text.now (B.octets target.old) (B.octets target.new) l.count l.is_absolute) }
+    ensures err { IfErr result (λ e. ((e ≡ ShortBuf) × LacksRoomForLabels B.room text.now (B.octets target.old)) ⊎ HasBadLabel text.now e) }
+    ensures extends { OnErr result (Extends (B.octets target.old) (B.octets target.new)) }
+{
+    let mut wire = [0; PUT];
+    if let Some(labels) = put_labels(text, &mut wire) {
+        target.append_slice(&wire[..labels.count])?;
+        return Ok(labels);
+    }
+    append_each(text, target)
+}
+
+/// The same, label by label.
+fn append_each<B: OctetsBuilder>(text: &[u8], target: &mut B) -> Result<Labels, ErrorKind>
     ensures ok { IfOk result (λ l. GainsLabels text.now (B.octets target.old) (B.octets target.new) l.count l.is_absolute) }
     ensures err { IfErr result (λ e. ((e ≡ ShortBuf) × LacksRoomForLabels B.room text.now (B.octets target.old)) ⊎ HasBadLabel text.now e) }
     ensures extends { OnErr result (Extends (B.octets target.old) (B.octets target.new)) }
