@@ -1,5 +1,5 @@
 -- What is read of an entry, by what its tokens say and the state before it.
-use Rattle.std.specs.Prelude.{ℕ, ◌≡◌, ◌≢◌, ◌<◌, ◌+◌, ◌⊎◌, Bool, List, [], ◌∷◌, ◌++◌, length, drop, unwrap_or, option_map, Option, Some, None, Result, Ok, Err}
+use Rattle.std.specs.Prelude.{ℕ, ◌≡◌, ◌≢◌, ◌<◌, ◌+◌, ◌⊎◌, Bool, List, [], ◌∷◌, ◌++◌, length, drop, is_some, unwrap_or, option_map, Option, Some, None, Result, Ok, Err}
 use Rattle.std.specs.Int.{from_be_bytes, w32}
 use Rattle.dns_octets.specs.Appending.{Extends}
 use Rattle.dns_octets.specs.Room.{Room, exactly}
@@ -62,12 +62,17 @@ abbrev pub RefusesOrigin : Option (List (List ℕ)) → Option TokenSeen → Rec
 RefusesOrigin origin None r = ⊥
 RefusesOrigin origin (Some t) r = NamesOrRefuses origin t (Err r)
 
--- a file's octets are appended, and its origin is given, if one is said; or that is refused; or else the octets don't surely fit
+-- the octets of an origin behind those of a file
+abbrev pub origin_octets : Option (List (List ℕ)) → List ℕ
+origin_octets None = []
+origin_octets (Some labels) = wire labels
+
+-- a file's octets are appended, and behind them those of its origin, if one is said; or that is refused; or else the octets don't surely fit
 abbrev pub ReadsInclude : Option (List (List ℕ)) → Room → ℕ → List ℕ → Option TokenSeen → List ℕ → Result EntryRead RecordError → List ℕ → Type 0
-ReadsInclude origin room at file token old (Ok e) new = (named : Option (List (List ℕ))) × (e ≡ Include named) × IncludesOrigin origin token named × (new ≡ old ++ file)
+ReadsInclude origin room at file token old (Ok e) new = (named : Option (List (List ℕ))) × (e ≡ Include (length file) (is_some named)) × IncludesOrigin origin token named × (new ≡ old ++ (file ++ origin_octets named))
 ReadsInclude origin room at file token old (Err r) new =
     RefusesOrigin origin token r
-    ⊎ ((r ≡ error_at at ShortBuf) × (room.fits < length old + length file) × ((named : Option (List (List ℕ))) × IncludesOrigin origin token named))
+    ⊎ ((named : Option (List (List ℕ))) × IncludesOrigin origin token named × (r ≡ error_at at ShortBuf) × (room.fits < length old + (length file + length (origin_octets named))))
 
 -- ---- records
 

@@ -1,5 +1,5 @@
 -- The steps in which an entry is read.
-use Rattle.std.specs.Prelude.{ℕ, ◌≡◌, ◌<◌, ◌+◌, Bool, true, false, List, [], ◌∷◌, ◌++◌, length, drop, slice_get, Option, Some, None, Result, Ok, Err}
+use Rattle.std.specs.Prelude.{ℕ, ◌≡◌, ◌<◌, ◌+◌, Bool, true, false, List, [], ◌∷◌, ◌++◌, length, drop, is_some, slice_get, Option, Some, None, Result, Ok, Err}
 use Rattle.dns_octets.specs.Appending.{Extends}
 use Rattle.dns_octets.specs.Room.{Room}
 use Rattle.dns_split.specs.EntryTokens.{TokenSeen}
@@ -13,11 +13,11 @@ use Rattle.dns_heads.specs.declared.directive.Directive.{Directive}
 use Rattle.dns_heads.specs.declared.directive.Directive.TheVariants.{Origin, Ttl, Include as OfInclude}
 use Rattle.dns_heads.specs.declared.head.Words.{Words}
 use Rattle.dns_heads.specs.declared.head.WordsRefusal.{WordsRefusal}
-use Rattle.dns_reader.specs.EntryReading.{IncludesOrigin, ReadsInclude, NamesOrRefuses, ReadsRecord, RefusesOrigin, default_ttl_of, directive_with, said_of_record}
+use Rattle.dns_reader.specs.EntryReading.{IncludesOrigin, ReadsInclude, NamesOrRefuses, ReadsRecord, RefusesOrigin, default_ttl_of, directive_with, origin_octets, said_of_record}
 use Rattle.dns_reader.specs.Learning.{Learns}
 use Rattle.dns_reader.specs.Past.{SaysOrigin, known_name}
 use Rattle.dns_reader.specs.declared.entry.EntryRead.{EntryRead}
-use Rattle.dns_reader.specs.declared.entry.EntryRead.TheVariants.{Directive as IsDirective}
+use Rattle.dns_reader.specs.declared.entry.EntryRead.TheVariants.{Directive as IsDirective, Include}
 use Rattle.dns_reader.specs.declared.state.State.{State}
 
 -- no token is left where one is asked for; or one is left that is not
@@ -52,12 +52,12 @@ abbrev pub ReadsDefaultTtl : ℕ → List TokenSeen → State → Result EntryRe
 ReadsDefaultTtl end tokens before result after =
     (r : Result ℕ RecordError) × (left : List TokenSeen) × TakesDefaultTtl end tokens r left × (result ≡ directive_with r) × Learns (default_ttl_of r) before after
 
--- the next token is passed over: what it holds is appended, or does not surely fit
-abbrev pub AppendsFile : Room → TokenSeen → List ℕ → Result (Unit {0}) RecordError → List ℕ → Type 0
-AppendsFile room t old (Ok _) new = new ≡ old ++ t.text
+-- the next token is passed over: what it holds is appended and counted, or does not surely fit
+abbrev pub AppendsFile : Room → TokenSeen → List ℕ → Result ℕ RecordError → List ℕ → Type 0
+AppendsFile room t old (Ok n) new = (new ≡ old ++ t.text) × (n ≡ length t.text)
 AppendsFile room t old (Err r) new = (new ≡ old) × (r ≡ error_at t.at ShortBuf) × (room.fits < length old + length t.text)
 
-abbrev pub PassesFile : Room → ℕ → List TokenSeen → List ℕ → Result (Unit {0}) RecordError → List TokenSeen → List ℕ → Type 0
+abbrev pub PassesFile : Room → ℕ → List TokenSeen → List ℕ → Result ℕ RecordError → List TokenSeen → List ℕ → Type 0
 PassesFile room end [] old r left new = (left ≡ []) × (r ≡ Err (ends_early end)) × (new ≡ old)
 PassesFile room end (t ∷ ts) old r left new = (left ≡ ts) × AppendsFile room t old r new
 
@@ -70,6 +70,16 @@ abbrev pub TakesIncludedOrigin : Option (List (List ℕ)) → ℕ → List Token
 TakesIncludedOrigin origin end [] r = ReadsIncluded origin None r
 TakesIncludedOrigin origin end (t ∷ []) r = ReadsIncluded origin (Some t) r
 TakesIncludedOrigin origin end (t ∷ u ∷ ts) r = r ≡ Err (too_many u)
+
+-- the octets of an origin are appended, if there is one, or don't surely fit
+abbrev pub AppendsOrigin : Room → ℕ → Option (List (List ℕ)) → List ℕ → Result Bool RecordError → List ℕ → Type 0
+AppendsOrigin room at named old (Ok has) new = (has ≡ is_some named) × (new ≡ old ++ origin_octets named)
+AppendsOrigin room at named old (Err r) new = (new ≡ old) × (r ≡ error_at at ShortBuf) × (room.fits < length old + length (origin_octets named))
+
+-- a file of so many octets, behind which its origin is appended, or does not surely fit
+abbrev pub FinishesInclude : Room → ℕ → ℕ → Option (List (List ℕ)) → List ℕ → Result EntryRead RecordError → List ℕ → Type 0
+FinishesInclude room at n named old (Ok e) new = (e ≡ Include n (is_some named)) × (new ≡ old ++ origin_octets named)
+FinishesInclude room at n named old (Err r) new = (new ≡ old) × (r ≡ error_at at ShortBuf) × (room.fits < length old + length (origin_octets named))
 
 abbrev pub ReadsLastInclude : Option (List (List ℕ)) → Room → ℕ → List TokenSeen → List ℕ → Result EntryRead RecordError → List ℕ → Type 0
 ReadsLastInclude origin room end [] old r new = Extends old new × (r ≡ Err (ends_early end))

@@ -2,6 +2,7 @@ pub mod EntryReading
 pub mod EntrySteps
 pub mod Faults
 pub mod Given
+pub mod Included
 pub mod Learning
 pub mod Past
 pub mod PastLaws

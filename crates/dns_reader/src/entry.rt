@@ -1,10 +1,10 @@
 //! What is read of an entry: a directive, or a record.
-ghost use Rattle.std.specs.Prelude.{◌≡◌, ◌≢◌, ◌∷◌, [], None, false};
+ghost use Rattle.std.specs.Prelude.{◌≡◌, ◌≢◌, ◌∷◌, [], None, drop, false, take};
 ghost use Rattle.std.specs.Option.{option_copied};
 ghost use Rattle.dns_octets.specs.Appending.{Extends};
 ghost use Rattle.dns_fields.specs.Source.{next_place};
 ghost use Rattle.dns_reader.specs.EntryReading.{EndsInNumber, IsMinimum, ReadsZoneEntry, ReadsOwner, ReadsRecord, ReadsRecordData, ReadsWords, minimum_of_record, minimum_of_ttl, own_ttl_of, owner_of_record, record_with, said_of_record, ttl_of_words};
-ghost use Rattle.dns_reader.specs.EntrySteps.{PassesFile, PassesName, ReadsDefaultTtl, ReadsDirective, ReadsLastInclude, ReadsLastOrigin, ReadsRecordTokens, TakesIncludedOrigin, TakesLastName, tokens_behind_owner, only_token, own_or_last, owner_token};
+ghost use Rattle.dns_reader.specs.EntrySteps.{AppendsOrigin, FinishesInclude, PassesFile, PassesName, ReadsDefaultTtl, ReadsDirective, ReadsLastInclude, ReadsLastOrigin, ReadsRecordTokens, TakesIncludedOrigin, TakesLastName, tokens_behind_owner, only_token, own_or_last, owner_token};
 ghost use Rattle.dns_reader.specs.Learning.{Learns, chosen_ttl};
 ghost use Rattle.dns_reader.specs.Past.{SaysOrigin, known_name};
 
@@ -21,16 +21,18 @@ use dns_kinds::{Class, ErrorKind, RecordType};
 use dns_octets::{AsOctetsMut, OctetsBuilder};
 
 /// What is read of an entry.
-#[derive(Drop)]
+#[derive(Clone, Copy)]
 pub enum EntryRead {
     /// It has no tokens.
     Nothing,
     /// It is `$ORIGIN` or `$TTL`, and the state has changed.
     Directive,
-    /// It is `$INCLUDE`: the octets that name the file are appended, as they are written. The origin
-    /// is the one that stands where the file begins, if the entry says one.
+    /// It is `$INCLUDE`. The octets that name the file are appended, as they are written: there are
+    /// `file` of them. If `has_origin`, the wire form of the origin that stands where the file begins
+    /// is appended after them ([`include_parts`]).
     Include {
-        origin: Option<NameBuffer>,
+        file: usize,
+        has_origin: bool,
     },
     /// It is a record, whose first token stands at this place: its time to live, class and type. Its
     /// owner is the state's, and the octets of its data are appended.
@@ -40,6 +42,16 @@ pub enum EntryRead {
         class: Class,
         rtype: RecordType,
     },
+}
+
+/// The octets that name the file of [`EntryRead::Include`], and those of the origin behind them, of all
+/// that were appended.
+pub fn include_parts(appended: &[u8], file: usize) -> (&[u8], &[u8])
+    ensures file { result.0.now ≡ take file appended.now }
+    ensures origin { result.1.now ≡ drop file appended.now }
+{
+    let end = file.min(appended.len());
+    (&appended[..end], &appended[end..])
 }
 
 /// Takes the next token as a name. It is passed over also where it is refused.
@@ -113,16 +125,18 @@ fn read_default_ttl<S: TokenSource>(
     }
 }
 
-/// Takes the file of `$INCLUDE`. Its token is passed over also where the octets don't fit.
+/// Takes the file of `$INCLUDE`, and counts its octets. Its token is passed over also where these don't
+/// fit.
 fn pass_file<S: TokenSource, B: OctetsBuilder>(
     source: &mut S,
     target: &mut B,
-) -> Result<(), RecordError>
+) -> Result<usize, RecordError>
     ensures passes { PassesFile B.room (S.end source.old).at (S.left source.old) (B.octets target.old) result (S.left source.new) (B.octets target.new) }
     ensures end { S.end source.new ≡ S.end source.old }
 {
+    let begun = target.as_slice().len();
     match take_file(source, target) {
-        Ok(()) => Ok(()),
+        Ok(()) => Ok(target.as_slice().len() - begun),
         Err(error) => {
             source.advance();
             Err(error)
@@ -147,8 +161,40 @@ fn take_included_origin<S: TokenSource>(
     }
 }
 
+/// Appends the origin that stands where an included file begins, if the entry says one.
+fn append_origin<B: OctetsBuilder>(
+    at: usize,
+    origin: &Option<NameBuffer>,
+    target: &mut B,
+) -> Result<bool, RecordError>
+    ensures { AppendsOrigin B.room at origin.now (B.octets target.old) result (B.octets target.new) }
+{
+    let Some(name) = origin else {
+        return Ok(false);
+    };
+    match target.append_slice(name.as_slice()) {
+        Ok(()) => Ok(true),
+        Err(_) => Err(RecordError::at(at, ErrorKind::ShortBuf)),
+    }
+}
+
+/// A file of so many octets that is included, of which all but the origin is appended.
+fn finish_include<B: OctetsBuilder>(
+    at: usize,
+    file: usize,
+    origin: &Option<NameBuffer>,
+    target: &mut B,
+) -> Result<EntryRead, RecordError>
+    ensures { FinishesInclude B.room at file origin.now (B.octets target.old) result (B.octets target.new) }
+{
+    match append_origin(at, origin, target) {
+        Ok(has_origin) => Ok(EntryRead::Include { file, has_origin }),
+        Err(error) => Err(error),
+    }
+}
+
 /// Reads what stands behind `$INCLUDE`. Of what is refused a token too many comes first, then the
-/// origin, and then a file for which there is no room.
+/// origin, and then a file and an origin for which there is no room.
 fn read_include<S: TokenSource, B: OctetsBuilder>(
     state: &State,
     source: &mut S,
@@ -157,10 +203,11 @@ fn read_include<S: TokenSource, B: OctetsBuilder>(
     ensures reads { ReadsLastInclude (known_name state.now.origin) B.room (S.end source.old).at (S.left source.old) (B.octets target.old) result (B.octets target.new) }
     ensures end { S.end source.new ≡ S.end source.old }
 {
+    let at = source.place();
     let file = pass_file(source, target);
     match take_included_origin(state.origin.name(), source) {
         Ok(origin) => match file {
-            Ok(()) => Ok(EntryRead::Include { origin }),
+            Ok(file) => finish_include(at, file, &origin, target),
             Err(error) => Err(error),
         },
         Err(error) => Err(error),

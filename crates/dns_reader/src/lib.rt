@@ -12,7 +12,7 @@ pub mod state_laws;
 pub mod text_laws;
 pub mod ttl;
 
-pub use entry::{EntryRead, read_entry};
+pub use entry::{EntryRead, include_parts, read_entry};
 pub use known::{Known, NameBuffer};
 pub use records::RecordReader;
 pub use source::{EntrySource, StartOfEntry};

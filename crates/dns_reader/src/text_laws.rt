@@ -1,5 +1,6 @@
 //! Laws of what is read of a whole text.
 ghost use Rattle.dns_reader.specs.Faults.{EntriesHaveNoFaults, FaultsAreTold};
+ghost use Rattle.dns_reader.specs.Included.{FilesAreAppended};
 ghost use Rattle.dns_reader.specs.TextPieces.{EndedEntriesStay, PiecesAreReadOn, PiecesStandAlone};
 ghost use Rattle.dns_reader.specs.WholeTexts.{CallsEnd, ReadEntriesAreSplit, RecordsEndRows, RowsJoin, SomethingIsGiven};
 ghost use Rattle.dns_reader.specs.WholeTexts.{TextsAreRead, TextsAreReadToTheEnd};
@@ -42,6 +43,12 @@ pub fn rows_of_calls_join()
 /// States that no call gives [`EntryRead::Nothing`](crate::EntryRead::Nothing). It does nothing else.
 pub fn something_is_given()
     ensures { SomethingIsGiven }
+{}
+
+/// States that a call which gives [`EntryRead::Include`](crate::EntryRead::Include) appends the octets
+/// that name the file and those of its origin, which are an absolute name. It does nothing else.
+pub fn files_are_appended()
+    ensures { FilesAreAppended }
 {}
 
 /// States that each call which gives something leaves fewer that will, so that a loop over a text's

@@ -1,9 +1,10 @@
 -- What a call for the next record of a zone file tells.
-use Rattle.std.specs.Prelude.{◌≡◌, ◌⊎◌, ◌<◌, ◌≤◌, ℕ, List, [], length, drop, take, Option, Some, None, Result, Ok, Err}
+use Rattle.std.specs.Prelude.{⊤, ◌≡◌, ◌⊎◌, ◌<◌, ◌≤◌, ℕ, List, [], length, drop, take, Option, Some, None, Result, Ok, Err}
 use Rattle.dns_fields.specs.declared.record_error.RecordError.{RecordError}
 use Rattle.dns_kinds.specs.declared.classes.Class.{Class}
 use Rattle.dns_kinds.specs.declared.types.RecordType.{RecordType}
 use Rattle.dns_octets.specs.Room.{exactly}
+use Rattle.dns_reader.specs.Included.{IsIncluded}
 use Rattle.dns_reader.specs.Past.{seconds_of}
 use Rattle.dns_reader.specs.Records.{ReadsNextRecord}
 use Rattle.dns_reader.specs.TextPieces.{StartsAt}
@@ -77,16 +78,21 @@ no_head = head_with 0 0 0 0
 -- the numbers of what is read, if it is a record
 abbrev pub head_in : EntryRead → Option Head
 head_in (RecordRead at ttl class rtype) = Some (head_with at (seconds_of ttl) class rtype)
-head_in (Include origin) = None
+head_in (Include file has_origin) = None
 head_in Nothing = None
 head_in Directive = None
+
+-- of a file to include, the octets are those that name it, and behind them those of its origin
+abbrev pub HasIncluded : Option (Result EntryRead RecordError) → List ℕ → Type 0
+HasIncluded (Some (Ok (Include file has_origin))) octets = IsIncluded file has_origin octets
+HasIncluded _ octets = ⊤
 
 -- what is reported of what the reader gives: a record with its owner; a file to include; an error; or that nothing is left
 abbrev pub TellsGiven : Option (Result EntryRead RecordError) → RecordReader → List ℕ → RecordCall → Type 0
 TellsGiven None reader octets call = TellsEnd reader call
 TellsGiven (Some (Err e)) reader octets call = TellsRefused reader e call
 TellsGiven (Some (Ok (RecordRead at ttl class rtype))) reader octets call = TellsFound 0 reader octets reader.state.owner (head_with at (seconds_of ttl) class rtype) call
-TellsGiven (Some (Ok (Include origin))) reader octets call = TellsFound 26 reader octets (said_origin origin) no_head call
+TellsGiven (Some (Ok (Include file has_origin))) reader octets call = (read : IsIncluded file has_origin octets) × TellsFound 26 reader read.name (said_origin read.origin) no_head call
 TellsGiven (Some (Ok Nothing)) reader octets call = ⊥
 TellsGiven (Some (Ok Directive)) reader octets call = ⊥
 

@@ -1,19 +1,20 @@
 //! The records of a zone file, one by one and with no memory (RFC 1035 section 5.1).
-ghost use Rattle.std.specs.Prelude.{◌≡◌, ◌≢◌, ◌↔◌, IsTrue, Ok, Some, false};
+ghost use Rattle.std.specs.Prelude.{◌≡◌, ◌≢◌, ◌↔◌, ℕ, IsTrue, List, Ok, Option, Some, false};
+ghost use Rattle.dns_reader.specs.Included.{HasOctets};
 ghost use Rattle.dns_reader.specs.declared.entry.EntryRead.TheVariants.{Nothing, Directive};
 ghost use Rattle.dns_text_c.specs.Kept.{KeepsName, said_origin};
 ghost use Rattle.dns_text_c.specs.Told.{TellsFault, at_start};
 ghost use Rattle.dns_text_c.specs.declared.outcome.Refusal.TheVariants.{BadCursor};
 ghost use Rattle.dns_text_c.specs.declared.records.Record.{Record};
-ghost use Rattle.dns_text_c.specs.Records.{KeepsReader, NextRecord, RefusalIsGiven, TellsFound, TellsGiven, TellsRefused, head_in, head_of, memory};
+ghost use Rattle.dns_text_c.specs.Records.{HasIncluded, KeepsReader, NextRecord, RefusalIsGiven, TellsFound, TellsGiven, TellsRefused, head_in, head_of, memory};
 
-use crate::kept::{KeptName, Zone, keep_name, keep_state, put_over, state_of};
+use crate::kept::{KeptName, Zone, keep_name, keep_state, name_of, put_over, state_of};
 use crate::outcome::{END, Fault, INCLUDE, OK, Outcome, Refusal, number_of, refuse};
 use crate::reasons::tell_error;
 use arrayvec::ArrayVec;
 use dns_fields::RecordError;
 use dns_kinds::{Class, RecordType};
-use dns_reader::{EntryRead, Known, NameBuffer, RecordReader};
+use dns_reader::{EntryRead, Known, RecordReader, include_parts};
 
 /// The most octets of record data (RFC 1035 section 3.2.1).
 const MOST: usize = 65535;
@@ -138,13 +139,16 @@ fn tell_refused(
     tell_error(error, octets, outcome)
 }
 
-/// The origin that is said for a file to include, if one is.
-fn said_origin(origin: Option<NameBuffer>) -> Known
-    ensures { result ≡ said_origin origin }
+/// The origin that is said for a file to include, by its octets, if one is.
+fn included_origin(has_origin: bool, octets: &[u8]) -> Known
+    ensures { (origin : Option (List (List ℕ))) → HasOctets origin has_origin octets.now → result ≡ said_origin origin }
 {
-    match origin {
-        Some(name) => Known::Name(name),
-        None => Known::Unsaid,
+    if !has_origin {
+        return Known::Unsaid;
+    }
+    match name_of(octets) {
+        Ok(name) => Known::Name(name),
+        Err(_) => Known::Unsaid,
     }
 }
 
@@ -162,6 +166,7 @@ fn tell_given(
     requires closed { reader.now.source.is_open ≡ false }
     requires some { given ≢ Some (Ok Nothing) }
     requires last { given ≢ Some (Ok Directive) }
+    requires included { HasIncluded given content.now }
     ensures { TellsGiven given reader.now content.now (record {
       before = memory zone.old found.old octets.old;
       after = memory zone.new found.new octets.new;
@@ -170,16 +175,17 @@ fn tell_given(
     }) }
 {
     match given {
-        Some(Ok(EntryRead::Include { origin })) => {
+        Some(Ok(EntryRead::Include { file, has_origin })) => {
             let head = Head {
                 place: 0,
                 ttl: 0,
                 class: Class(0),
                 rtype: RecordType(0),
             };
-            let name = said_origin(origin);
+            let (file, origin) = include_parts(content, file);
+            let name = included_origin(has_origin, origin);
             tell_found(
-                INCLUDE, reader, content, &name, head, zone, found, octets, outcome,
+                INCLUDE, reader, file, &name, head, zone, found, octets, outcome,
             )
         }
         Some(Ok(read)) => {

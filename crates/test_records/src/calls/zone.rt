@@ -6,7 +6,7 @@ use super::rules::{dnssec, hash, refused, rules};
 use super::tell::{Octets, origin_of};
 use dns_fields::RecordError;
 use dns_kinds::{Class, ErrorKind};
-use dns_reader::{EntryRead, NameBuffer, RecordReader, RecordTtl, State};
+use dns_reader::{EntryRead, NameBuffer, RecordReader, RecordTtl, State, include_parts};
 use dns_split::pieces::Wrong;
 use row_table::{Answer, Failure, Inputs};
 
@@ -67,12 +67,13 @@ pub fn tell_read(state: &State, read: EntryRead, octets: &[u8], answer: &mut Ans
     match read {
         EntryRead::Nothing => answer.add_text("nothing"),
         EntryRead::Directive => answer.add_text("directive"),
-        EntryRead::Include { origin } => {
+        EntryRead::Include { file, has_origin } => {
+            let (name, origin) = include_parts(octets, file);
             answer.add_text("include ");
-            answer.add(octets);
-            if let Some(name) = origin {
+            answer.add(name);
+            if has_origin {
                 answer.add_text(" ");
-                answer.add(name.as_slice());
+                answer.add(origin);
             }
         }
         EntryRead::Record {
