@@ -4,7 +4,8 @@ use Rattle.std.proofs.lemmas.List.{take_rest, length-append}
 use Rattle.std.proofs.lemmas.List.Concat.{flat_map-append}
 use Rattle.std.proofs.lemmas.List.Elements.{All-tail, All-cons, All-append}
 use Rattle.std.proofs.lemmas.Bool.{both_ways, eqb-true}
-use Rattle.dns_lists.specs.Texts.{is_special, item_octet, item_text, later_text, list_text, wire_strings, IsItem, IsList, EndsItem, SplitsItem}
+use Rattle.dns_octets.specs.Appending.{Gains}
+use Rattle.dns_lists.specs.Texts.{is_special, item_octet, item_text, later_text, list_text, wire_strings, IsItem, IsList, EndsItem, SplitsItem, SpellsList}
 
 shape_by : (o : ℕ) (more : List ℕ) (b : Bool) → is_special o ≡ b
     → ((is_special o ≡ true) × (cond b (92 ∷ o ∷ []) (o ∷ []) ++ more ≡ 92 ∷ o ∷ more)) ⊎ ((is_special o ≡ false) × (cond b (92 ∷ o ∷ []) (o ∷ []) ++ more ≡ o ∷ more))
@@ -161,3 +162,8 @@ one_list_text (x ∷ xs) [] ia ib e = absurd (ib.some refl)
 one_list_text (x ∷ xs) (y ∷ ys) ia ib e =
     let one = one_item x y (later_text xs) (later_text ys) e (later_ends xs) (later_ends ys) in
     ap (λ z. z ∷ xs) one.0 ∙ ap (λ zs. y ∷ zs) (same_later xs ys (All-tail IsItem x xs ia.each) (All-tail IsItem y ys ib.each) one.1)
+
+-- nothing is left of the text
+pub list_whole : (text rest old new : List ℕ) → TakesList text rest old new → length rest ≡ 0 → Gains (SpellsList text) old new
+list_whole text [] old new h none = (wire_strings h.items, (h.items, h.is_list, sym (h.split ∙ append-nil (list_text h.items)), refl), h.strings)
+list_whole text (x ∷ rest) old new h none = absurd (omega (arith, none))

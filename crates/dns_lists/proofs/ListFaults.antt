@@ -5,10 +5,9 @@ use Rattle.std.proofs.lemmas.Bool.{cases_lt}
 use Rattle.std.proofs.lemmas.List.Concat.{flat_map-append}
 use Rattle.std.proofs.lemmas.List.Elements.{All-head, All-tail, All-cons, All-nil}
 use Rattle.dns_octets.specs.Room.{Room}
-use Rattle.dns_octets.specs.Appending.{LacksRoom}
 use Rattle.dns_lists.specs.Values.{AreWireStrings}
-use Rattle.dns_lists.specs.Texts.{item_octet, item_text, later_text, list_text, front_text, wire_strings, IsItem, IsList, EndsItem, SplitsItem, BeginsNoString}
-use Rattle.dns_lists.specs.TextFaults.{IsItemFault, IsListFault, IsStringsFault}
+use Rattle.dns_lists.specs.Texts.{item_octet, item_text, later_text, list_text, front_text, wire_strings, IsItem, IsList, EndsItem, SplitsItem, BeginsNoString, SpellsList, HasListText}
+use Rattle.dns_lists.specs.TextFaults.{IsItemFault, IsListFault, IsStringsFault, RefusesList, RefusesStrings}
 use Rattle.dns_kinds.specs.declared.error.ErrorKind.{ErrorKind}
 use Rattle.dns_kinds.specs.declared.error.ErrorKind.TheVariants.{ListString, ListEscape, ShortBuf}
 use Rattle.dns_lists.proofs.Items.{one_item, same_first, later_ends, ends_comma, TakesList, TakesItem}
@@ -96,18 +95,14 @@ list_lacks room old text front others rest item after e s l h is =
     let tail = length-append (length item ∷ item) (wire_strings first.0) in
     omega (arith, length-append old (wire_strings front))
 
-abbrev pub LacksList : Room → List ℕ → List ℕ → Type 0
-LacksList room old text = LacksRoom room (λ octets. (items : List (List ℕ)) × IsList items × (list_text items ≡ text) × (octets ≡ wire_strings items)) old
-
 lacks_by : (room : Room) (old text octets : List ℕ) (front : List (List ℕ)) (rest item after : List ℕ) → text ≡ front_text front ++ rest → SplitsItem rest item after
     → room.fits < length (old ++ wire_strings front) + length (length item ∷ item)
-    → ((items : List (List ℕ)) × IsList items × (list_text items ≡ text) × (octets ≡ wire_strings items)) → room.fits < length old + length octets
+    → SpellsList text octets → room.fits < length old + length octets
 lacks_by room old text octets front rest item after e s l (items, h, is, eo) =
     let n = ap length eo in let k = list_lacks room old text front items rest item after e s l h is in omega arith
 
 -- a fault in a text says that it is no list, or that the list does not surely fit
-pub list_fault : (room : Room) (old text : List ℕ) (e : ErrorKind) → IsListFault room old text e
-    → ((e ≡ ShortBuf) × LacksList room old text) ⊎ ((items : List (List ℕ)) → IsList items → list_text items ≢ text)
+pub list_fault : (room : Room) (old text : List ℕ) (e : ErrorKind) → IsListFault room old text e → RefusesList room text old e
 list_fault room old text ListString (front, rest, each, split, (item, after, s, none)) = inr (λ others h. no_list_length front others text rest item after split s none h)
 list_fault room old text ShortBuf (front, rest, each, split, (item, after, s, is, l)) = inl (refl, λ octets h. lacks_by room old text octets front rest item after split s l h)
 list_fault room old text ListEscape (items, rest, h, split, ends, some, n) = inr (λ others k. no_list_escape items others text rest h split ends some n k)
@@ -208,18 +203,14 @@ list_longer (i ∷ items) later =
     omega (arith, length-append (item_text i) (later_text items), length-append (item_text i) (later_text (items ++ later)))
 
 text_lacks : (room : Room) (old octets text rest : List ℕ) (items : List (List ℕ)) → octets ≡ wire_strings items ++ rest → room.fits < length old + length (list_text items)
-    → ((others : List (List ℕ)) × IsList others × (octets ≡ wire_strings others) × (text ≡ list_text others)) → room.fits < length old + length text
+    → HasListText octets text → room.fits < length old + length text
 text_lacks room old octets text rest items split l (others, h, is, e) =
     let t = strings_tell items others rest (sym split ∙ is) in
     let n = ap length e ∙ ap (λ x. length (list_text x)) t.1 in
     omega (arith, list_longer items t.0)
 
-abbrev pub LacksText : Room → List ℕ → List ℕ → Type 0
-LacksText room old octets = LacksRoom room (λ text. (items : List (List ℕ)) × IsList items × (octets ≡ wire_strings items) × (text ≡ list_text items)) old
-
 -- a fault in octets says that they are no list, or that its text does not surely fit
-pub strings_fault : (room : Room) (old octets : List ℕ) (e : ErrorKind) → IsStringsFault room old octets e
-    → ((e ≡ ShortBuf) × LacksText room old octets) ⊎ ((octets ≡ []) ⊎ (AreWireStrings octets → ⊥))
+pub strings_fault : (room : Room) (old octets : List ℕ) (e : ErrorKind) → IsStringsFault room old octets e → RefusesStrings room octets old e
 strings_fault room old octets ListString (front, rest, each, split, none, first) = inr (empty_or_not octets (no_strings front octets rest split none first))
 strings_fault room old octets ShortBuf (items, rest, h, split, l) = inl (refl, λ text h. text_lacks room old octets text rest items split l h)
 strings_fault room old octets other h = absurd h

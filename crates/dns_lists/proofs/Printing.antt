@@ -1,9 +1,10 @@
 -- Strings that are printed as a list, one by one.
-use Rattle.std.proofs.Common.{◌≡◌, ◌≢◌, ℕ, ◌+◌, ◌<◌, true, false, cond, List, [], ◌∷◌, ◌++◌, length, take, get_or, sym, ap, ◌∙◌, arith, append_assoc, append-nil}
+use Rattle.std.proofs.Common.{◌≡◌, ◌≢◌, ℕ, ◌+◌, ◌<◌, true, false, cond, List, [], ◌∷◌, ◌++◌, length, take, get_or, refl, sym, ap, ◌∙◌, arith, append_assoc, append-nil}
 use Rattle.std.proofs.lemmas.List.{take_more}
 use Rattle.std.proofs.lemmas.List.Concat.{flat_map-append}
 use Rattle.std.proofs.lemmas.List.Elements.{All-cons, All-append}
-use Rattle.dns_lists.specs.Texts.{is_special, item_octet, item_text, list_text, wire_strings, IsItem, IsList}
+use Rattle.dns_octets.specs.Appending.{Gains}
+use Rattle.dns_lists.specs.Texts.{is_special, item_octet, item_text, list_text, wire_strings, IsItem, IsList, HasListText}
 use Rattle.dns_lists.proofs.Items.{list_push, pushed_some}
 
 pub escaped_special : (o : ℕ) → is_special o ≡ true → item_octet o ≡ 92 ∷ o ∷ []
@@ -55,3 +56,8 @@ prints_more octets rest after old mid new item h is e n = record {
   split = longer_split octets rest after item h.items h.split e;
   text = n ∙ ap (λ x. x ++ (44 ∷ item_text item)) h.text ∙ append_assoc old (list_text h.items) (44 ∷ item_text item) ∙ ap (λ x. old ++ x) (sym (pushed_text h.items item h.is_list.some));
 }
+
+-- nothing is left of the octets
+pub text_whole : (octets rest old new : List ℕ) → PrintsList octets rest old new → length rest ≡ 0 → Gains (HasListText octets) old new
+text_whole octets [] old new h none = (list_text h.items, (h.items, h.is_list, h.split ∙ append-nil (wire_strings h.items), refl), h.text)
+text_whole octets (x ∷ rest) old new h none = absurd (omega (arith, none))

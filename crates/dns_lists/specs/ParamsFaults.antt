@@ -16,6 +16,9 @@ IsFormFault other octets = ⊥
 abbrev pub IsRight : List (ℕ × List ℕ) → ℕ × List ℕ → Type 0
 IsRight params p = IsParamValue params p.0 p.1
 
+abbrev pub AreAllRight : List (ℕ × List ℕ) → Type 0
+AreAllRight params = All (IsRight params) params
+
 -- the first of the parameters whose value is wrong has this key and value
 abbrev pub IsFirstWrongParam : ℕ → List ℕ → List (ℕ × List ℕ) → Type 0
 IsFirstWrongParam key value params = (front back : List (ℕ × List ℕ)) × (params ≡ front ++ (key, value) ∷ back) × All (IsRight params) front × ¬ IsParamValue params key value
@@ -34,7 +37,7 @@ HasValueFault fault octets =
 
 -- octets that are parameters, with right values
 abbrev pub AreRightParams : List ℕ → Type 0
-AreRightParams octets = IsParams octets × All (IsRight (params_of octets)) (params_of octets)
+AreRightParams octets = IsParams octets × AreAllRight (params_of octets)
 
 -- why octets are no parameters with right values
 abbrev pub IsParamsFault : ErrorKind → List ℕ → Type 0
@@ -44,7 +47,7 @@ IsParamsFault (ParamValue key) octets = HasValueFault (ParamValue key) octets
 IsParamsFault (MissingParam key) octets = HasValueFault (MissingParam key) octets
 IsParamsFault other octets = ⊥
 
--- where a key would stand among parameters, if it is not there
+-- where a key belongs among parameters, if it is not there
 abbrev pub FindsPlace : List (ℕ × List ℕ) → ℕ → List ℕ → Result ℕ ErrorKind → Type 0
 FindsPlace params key octets (Ok place) =
     (value_at params key ≡ None) × (take place octets ≡ params_from (value_at params) 0 key)

@@ -1,8 +1,8 @@
--- A list of strings as text, behind the escapes of a character string (RFC 9460 appendix A.1).
+-- A list of strings as text, after the escapes of a character string are decoded (RFC 9460 appendix A.1).
 use Rattle.std.specs.Prelude.{◌≡◌, ◌≢◌, ℕ, ◌<◌, ◌==◌, ◌||◌, Bool, cond, List, [], ◌∷◌, ◌++◌, length, All}
 use Rattle.std.specs.List.{flat_map}
 
--- a comma and a backslash stand behind a backslash
+-- a backslash escapes a comma and a backslash
 abbrev pub is_special : ℕ → Bool
 is_special octet = (octet == 44) || (octet == 92)
 
@@ -12,16 +12,16 @@ item_octet octet = cond (is_special octet) (92 ∷ octet ∷ []) (octet ∷ [])
 abbrev pub item_text : List ℕ → List ℕ
 item_text item = flat_map item_octet item
 
--- each item behind a comma
+-- each item after a comma
 abbrev pub later_text : List (List ℕ) → List ℕ
 later_text items = flat_map (λ item. 44 ∷ item_text item) items
 
--- the first item, and each other one behind a comma
+-- the first item, and each other one after a comma
 abbrev pub list_text : List (List ℕ) → List ℕ
 list_text [] = []
 list_text (item ∷ items) = item_text item ++ later_text items
 
--- each string behind its length
+-- each string after its length
 abbrev pub wire_strings : List (List ℕ) → List ℕ
 wire_strings items = flat_map (λ item. length item ∷ item) items
 
@@ -41,10 +41,21 @@ EndsItem rest = (octet : ℕ) (more : List ℕ) → rest ≢ item_octet octet ++
 abbrev pub SplitsItem : List ℕ → List ℕ → List ℕ → Type 0
 SplitsItem text item rest = (text ≡ item_text item ++ rest) × EndsItem rest
 
--- no string stands in front, behind its length
+abbrev pub BeginsWithItem : List ℕ → List ℕ → Type 0
+BeginsWithItem text item = (rest : List ℕ) × SplitsItem text item rest
+
+-- the text is that of a list, whose wire form the octets are
+abbrev pub SpellsList : List ℕ → List ℕ → Type 0
+SpellsList text octets = (items : List (List ℕ)) × IsList items × (list_text items ≡ text) × (octets ≡ wire_strings items)
+
+-- the octets are the wire form of a list, whose text this is
+abbrev pub HasListText : List ℕ → List ℕ → Type 0
+HasListText octets text = (items : List (List ℕ)) × IsList items × (octets ≡ wire_strings items) × (text ≡ list_text items)
+
+-- the octets begin with no string after its length
 abbrev pub BeginsNoString : List ℕ → Type 0
 BeginsNoString octets = (item rest : List ℕ) → IsItem item → octets ≢ length item ∷ item ++ rest
 
--- items, each with a comma behind it
+-- items, each before a comma
 abbrev pub front_text : List (List ℕ) → List ℕ
 front_text items = flat_map (λ item. item_text item ++ 44 ∷ []) items

@@ -71,9 +71,11 @@ fn append_window<B: OctetsBuilder>(
     target: &mut B,
 ) -> Result<(), ShortBuf>
     requires { length octets.now ≡ 32 }
-    ensures ok { OnOk result (B.octets target.new ≡ B.octets target.old ++ window_block window (trimmed octets.now)) }
+    ensures ok { OnOk result
+        (B.octets target.new ≡ B.octets target.old ++ window_block window (trimmed octets.now)) }
     ensures err { OnErr result (Extends (B.octets target.old) (B.octets target.new)) }
-    ensures lacks { OnErr result (LacksRoom B.room (λ block. block ≡ window_block window (trimmed octets.now)) (B.octets target.old)) }
+    ensures lacks { OnErr result (LacksRoom B.room
+        (λ block. block ≡ window_block window (trimmed octets.now)) (B.octets target.old)) }
 {
     let count = used(octets);
     if count > 0 {
@@ -120,7 +122,8 @@ impl CodeSet {
     /// Where the last window of 256 codes ends that has a code of the set, or 0: each code is below.
     pub fn end(&self) -> u32
         ensures within { result ≤ 65536 }
-        ensures above { (code : ℕ) → code < 65536 → result ≤ code → has self.now code ≡ false }
+        ensures above { (code : ℕ) → code < 65536 → result ≤ code
+            → has self.now code ≡ false }
         ensures last { EndsCodes self.now result }
     {
         256 * self.windows as u32
@@ -131,7 +134,8 @@ impl CodeSet {
     pub(crate) fn append_to<B: OctetsBuilder>(&self, target: &mut B) -> Result<(), ShortBuf>
         ensures ok { OnOk result (B.octets target.new ≡ B.octets target.old ++ bitmap self.now) }
         ensures err { OnErr result (Extends (B.octets target.old) (B.octets target.new)) }
-        ensures lacks { OnErr result (LacksRoom B.room (λ octets. octets ≡ bitmap self.now) (B.octets target.old)) }
+        ensures lacks { OnErr result (LacksRoom B.room
+            (λ octets. octets ≡ bitmap self.now) (B.octets target.old)) }
     {
         for window in 0..self.windows {
             let octets = window_part(&self.octets, window);

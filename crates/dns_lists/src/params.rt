@@ -1,7 +1,7 @@
 //! Service parameters as octets (RFC 9460 section 2.2), without memory.
 //!
 //! A parameter is a key of two octets, the length of its value in two octets, and the value. Keys
-//! ascend, so that no key stands twice.
+//! ascend, so that no key is there twice.
 ghost use Rattle.std.specs.Prelude.{◌≡◌, ◌≢◌, ℕ, ◌+◌, ◌-◌, ◌<◌, ◌≤◌, List, None, [], ◌∷◌, ◌++◌, IfOk, IfErr, OnErr, OnOk, MatchOption, MatchResult, length, take, drop};
 ghost use Rattle.dns_lists.specs.Params.{pair, value_at, param, params_from, params_wire, params_of, BeginsNoParam, HasFittingValues, IsParams, IsUnsettled};
 ghost use Rattle.dns_lists.specs.ParamsFaults.{IsFormFault, SettlesLast, FindsPlace};
@@ -16,18 +16,19 @@ pub struct Param<'a> {
     pub value: &'a [u8],
 }
 
-/// A parameter, and what stands after it.
+/// A parameter, and the octets after it.
 #[derive(Clone, Copy)]
 pub(crate) struct Front<'a> {
     pub(crate) param: Param<'a>,
     pub(crate) rest: &'a [u8],
 }
 
-/// The parameter in front of octets.
+/// The parameter that octets begin with.
 pub(crate) fn first_param(octets: &[u8]) -> Option<Front<'_>>
     ensures cases { MatchOption result (BeginsNoParam octets.now)
         (λ f. (octets.now ≡ param f.param.key f.param.value.now ++ f.rest.now) × (f.param.key < 65536) × (length f.param.value.now < 65536)) }
-    ensures list { MatchOption result (params_of octets.now ≡ []) (λ f. params_of octets.now ≡ pair f.param ∷ params_of f.rest.now) }
+    ensures list { MatchOption result (params_of octets.now ≡ [])
+        (λ f. params_of octets.now ≡ pair f.param ∷ params_of f.rest.now) }
 {
     if octets.len() < 4 {
         return None;
@@ -61,7 +62,7 @@ impl<'a> Model for Params<'a> {
 }
 
 impl<'a> Params<'a> {
-    /// The parameters that octets are. Of octets that are none it gives what can be read.
+    /// The parameters that octets are. Of octets that are none, those that can be read.
     pub fn new(octets: &'a [u8]) -> Self
         ensures { result ≡ params_of octets.now }
     {
@@ -86,7 +87,7 @@ impl<'a> Iterator for Params<'a> {
     }
 }
 
-/// Says whether octets are the wire form of parameters, whose values may be any.
+/// Fails if octets are not the wire form of parameters, whose values may be any.
 pub(crate) fn check_form(octets: &[u8]) -> Result<(), ErrorKind>
     ensures ok { OnOk result (IsParams octets.now) }
     ensures err { IfErr result (λ fault. IsFormFault fault octets.now) }
@@ -107,10 +108,11 @@ pub(crate) fn check_form(octets: &[u8]) -> Result<(), ErrorKind>
     Ok(())
 }
 
-/// Where among parameters one with a key would stand.
+/// Where among parameters one with a key belongs.
 fn find_place(octets: &[u8], key: u16) -> Result<usize, ErrorKind>
     ensures within { IfOk result (λ place. place ≤ length octets.now) }
-    ensures place { (params : List (ℕ × List ℕ)) → HasFittingValues params → octets.now ≡ params_wire params → FindsPlace params key octets.now result }
+    ensures place { (params : List (ℕ × List ℕ)) → HasFittingValues params
+        → octets.now ≡ params_wire params → FindsPlace params key octets.now result }
 {
     let mut place = 0;
     while let Some(front) = first_param(&octets[place..]) {
@@ -125,14 +127,16 @@ fn find_place(octets: &[u8], key: u16) -> Result<usize, ErrorKind>
     Ok(place)
 }
 
-/// Brings a parameter that was appended behind others to its place by its key, and sets its length.
+/// Moves a parameter that was appended to others to its place by its key, and sets its length.
 ///
-/// The others are the first `at` octets. Behind them stand the key in two octets, two octets for
-/// the length, which may be any, and the value up to the end. Refused, nothing is changed.
+/// The others are the first `at` octets. After them come the key in two octets, two octets for
+/// the length, which may be any, and the value up to the end. On an error, nothing is changed.
 pub fn settle_last(octets: &mut [u8], at: usize) -> Result<(), ErrorKind>
     requires { at + 4 ≤ length octets.old }
-    ensures settled { (params : List (ℕ × List ℕ)) (key : ℕ) (value : List ℕ) → HasFittingValues params → key < 65536 → at ≡ length (params_wire params)
-        → IsUnsettled params key value octets.old → SettlesLast params key value octets.new result }
+    ensures settled { (params : List (ℕ × List ℕ)) (key : ℕ) (value : List ℕ)
+        → HasFittingValues params → key < 65536 → at ≡ length (params_wire params)
+        → IsUnsettled params key value octets.old
+        → SettlesLast params key value octets.new result }
     ensures err { OnErr result (octets.new ≡ octets.old) }
 {
     let behind = octets.len() - at;

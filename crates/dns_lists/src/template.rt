@@ -18,7 +18,9 @@ struct Split<'a> {
 fn split_first(text: &[u8], mark: u8) -> Split<'_>
     ensures before { result.before.now ≡ before_first (λ o. o == mark) text.now }
     ensures found { is_some result.behind ≡ list_any (λ o. o == mark) text.now }
-    ensures split { slice_split (λ o. o == mark) text.now ≡ result.before.now ∷ option_map_or (λ rest. slice_split (λ o. o == mark) rest.now) result.behind [] }
+    ensures split { slice_split (λ o. o == mark) text.now
+        ≡ result.before.now
+        ∷ option_map_or (λ rest. slice_split (λ o. o == mark) rest.now) result.behind [] }
     ensures shorter { IfSome result.behind (λ rest. length rest.now < length text.now) }
 {
     for (index, octet) in text.iter().enumerate() {
@@ -225,7 +227,8 @@ fn begins_query(text: &[u8]) -> bool
 
 /// Whether an expression is after each opening brace, and one has the variable `dns`.
 fn is_template(text: &[u8]) -> bool
-    ensures { result ≡ (list_all begins_expression (behind_braces text.now) && list_any begins_query (behind_braces text.now)) }
+    ensures { result ≡ (list_all begins_expression (behind_braces text.now)
+        && list_any begins_query (behind_braces text.now)) }
 {
     let mut left = split_first(text, b'{').behind;
     let mut has_query = false;

@@ -1,13 +1,11 @@
 //! Lists of strings as text, as `alpn` has them (RFC 9460 appendix A.1).
 //!
-//! Items stand between commas. In an item a comma and a backslash stand behind a backslash. This is
-//! the text that a character string holds, whose own escapes are gone.
-ghost use Rattle.std.specs.Prelude.{◌≡◌, ◌≢◌, ℕ, ◌<◌, List, [], ◌∷◌, ◌++◌, ◌⊎◌, IfOk, IfErr, OnErr, OnOk, MatchOption, length};
-ghost use Rattle.dns_octets.specs.Appending.{Extends, LacksRoom};
-ghost use Rattle.dns_lists.specs.Values.{AreWireStrings};
-ghost use Rattle.dns_lists.specs.Texts.{is_special, item_octet, item_text, list_text, wire_strings, IsList, EndsItem, SplitsItem, IsItem, BeginsNoString};
-ghost use Rattle.dns_lists.specs.TextFaults.{IsItemFault, IsListFault, IsStringsFault};
-ghost use Rattle.dns_kinds.specs.declared.error.ErrorKind.TheVariants.{ShortBuf as NoRoom};
+//! Commas separate the items. In an item, a backslash escapes a comma and a backslash. This is the
+//! value of a character string, after its own escapes are decoded.
+ghost use Rattle.std.specs.Prelude.{◌≡◌, ℕ, List, ◌∷◌, ◌++◌, IfOk, IfErr, OnErr, OnOk, MatchOption, length};
+ghost use Rattle.dns_octets.specs.Appending.{Extends, Gains, LacksRoom};
+ghost use Rattle.dns_lists.specs.Texts.{is_special, item_octet, item_text, EndsItem, SplitsItem, BeginsWithItem, IsItem, BeginsNoString, SpellsList, HasListText};
+ghost use Rattle.dns_lists.specs.TextFaults.{IsItemFault, IsListFault, IsStringsFault, RefusesList, RefusesStrings};
 
 use dns_kinds::ErrorKind;
 use dns_octets::{OctetsBuilder, ShortBuf};
@@ -19,16 +17,17 @@ struct Octet<'a> {
     rest: &'a [u8],
 }
 
-/// Whether an octet stands behind a backslash.
+/// Whether a backslash escapes an octet.
 fn is_escaped(octet: u8) -> bool
     ensures { result ≡ is_special octet }
 {
     octet == b',' || octet == b'\\'
 }
 
-/// The octet of an item in front of a text: none at a comma, at the end and at any other escape.
+/// The octet of an item that a text begins with: none at a comma, at the end and at any other escape.
 fn first_octet(text: &[u8]) -> Option<Octet<'_>>
-    ensures { MatchOption result (EndsItem text.now) (λ o. text.now ≡ item_octet o.octet ++ o.rest.now) }
+    ensures { MatchOption result (EndsItem text.now)
+        (λ o. text.now ≡ item_octet o.octet ++ o.rest.now) }
 {
     if text.is_empty() {
         return None;
@@ -56,7 +55,7 @@ fn first_octet(text: &[u8]) -> Option<Octet<'_>>
     })
 }
 
-/// How many octets the item in front of a text has.
+/// How many octets the item has that a text begins with.
 fn count_item(text: &[u8]) -> usize
     ensures { (item rest : List ℕ) × SplitsItem text.now item rest × (result ≡ length item) }
 {
@@ -69,11 +68,13 @@ fn count_item(text: &[u8]) -> usize
     count
 }
 
-/// Appends the octets of the item in front of a text, and gives what stands after it.
+/// Appends the octets of the item that a text begins with. Returns the text after it.
 fn copy_item<'a, B: OctetsBuilder>(text: &'a [u8], target: &mut B) -> Result<&'a [u8], ShortBuf>
-    ensures ok { IfOk result (λ rest. (item : List ℕ) × SplitsItem text.now item rest.now × (B.octets target.new ≡ B.octets target.old ++ item)) }
+    ensures ok { IfOk result (λ rest. Gains (λ item. SplitsItem text.now item rest.now)
+        (B.octets target.old) (B.octets target.new)) }
     ensures extends { OnErr result (Extends (B.octets target.old) (B.octets target.new)) }
-    ensures lacks { OnErr result (LacksRoom B.room (λ item. (rest : List ℕ) × SplitsItem text.now item rest) (B.octets target.old)) }
+    ensures lacks { OnErr result
+        (LacksRoom B.room (BeginsWithItem text.now) (B.octets target.old)) }
 {
     let mut rest = text;
     while let Some(first) = first_octet(rest) {
@@ -83,11 +84,12 @@ fn copy_item<'a, B: OctetsBuilder>(text: &'a [u8], target: &mut B) -> Result<&'a
     Ok(rest)
 }
 
-/// Appends the item in front of a text behind its length, and gives what stands after it.
+/// Appends the length and the octets of the item that a text begins with. Returns the text after it.
 fn append_item<'a, B: OctetsBuilder>(text: &'a [u8], target: &mut B) -> Result<&'a [u8], ErrorKind>
-    ensures ok { IfOk result (λ rest. (item : List ℕ) × IsItem item × SplitsItem text.now item rest.now
+    ensures ok { IfOk result (λ rest. (item : List ℕ) × IsItem item
+        × SplitsItem text.now item rest.now
         × (B.octets target.new ≡ B.octets target.old ++ (length item ∷ item))) }
-    ensures fault { IfErr result (λ e. IsItemFault B.room (B.octets target.old) text.now e) }
+    ensures fault { IfErr result (IsItemFault B.room (B.octets target.old) text.now) }
     ensures extends { OnErr result (Extends (B.octets target.old) (B.octets target.new)) }
 {
     let count = count_item(text);
@@ -99,11 +101,11 @@ fn append_item<'a, B: OctetsBuilder>(text: &'a [u8], target: &mut B) -> Result<&
     Ok(rest)
 }
 
-/// Appends the strings of a list, each behind its length.
+/// Appends the strings of a list, each after its length.
 fn append_items<B: OctetsBuilder>(text: &[u8], target: &mut B) -> Result<(), ErrorKind>
-    ensures ok { OnOk result ((items : List (List ℕ)) × IsList items × (list_text items ≡ text.now)
-        × (B.octets target.new ≡ B.octets target.old ++ wire_strings items)) }
-    ensures fault { IfErr result (λ e. IsListFault B.room (B.octets target.old) text.now e) }
+    ensures ok { OnOk result (Gains (SpellsList text.now)
+        (B.octets target.old) (B.octets target.new)) }
+    ensures fault { IfErr result (IsListFault B.room (B.octets target.old) text.now) }
     ensures extends { OnErr result (Extends (B.octets target.old) (B.octets target.new)) }
 {
     let mut rest = append_item(text, target)?;
@@ -116,14 +118,13 @@ fn append_items<B: OctetsBuilder>(text: &[u8], target: &mut B) -> Result<(), Err
     Ok(())
 }
 
-/// Appends the strings of a list, each behind its length. Refused, the target has its old octets,
+/// Appends the strings of a list, each after its length. On an error, the target has its old octets,
 /// and perhaps a beginning of the strings after them.
 pub fn append_list<B: OctetsBuilder>(text: &[u8], target: &mut B) -> Result<(), ErrorKind>
-    ensures ok { OnOk result ((items : List (List ℕ)) × IsList items × (list_text items ≡ text.now)
-        × (B.octets target.new ≡ B.octets target.old ++ wire_strings items)) }
-    ensures fault { IfErr result (λ e. IsListFault B.room (B.octets target.old) text.now e) }
-    ensures err { IfErr result (λ e. ((e ≡ NoRoom) × LacksRoom B.room (λ octets. (items : List (List ℕ)) × IsList items × (list_text items ≡ text.now) × (octets ≡ wire_strings items)) (B.octets target.old))
-        ⊎ ((items : List (List ℕ)) → IsList items → list_text items ≢ text.now)) }
+    ensures ok { OnOk result (Gains (SpellsList text.now)
+        (B.octets target.old) (B.octets target.new)) }
+    ensures fault { IfErr result (IsListFault B.room (B.octets target.old) text.now) }
+    ensures err { IfErr result (RefusesList B.room text.now (B.octets target.old)) }
     ensures extends { OnErr result (Extends (B.octets target.old) (B.octets target.new)) }
 {
     append_items(text, target)
@@ -133,7 +134,8 @@ pub fn append_list<B: OctetsBuilder>(text: &[u8], target: &mut B) -> Result<(), 
 fn append_octet<B: OctetsBuilder>(octet: u8, target: &mut B) -> Result<(), ShortBuf>
     ensures ok { OnOk result (B.octets target.new ≡ B.octets target.old ++ item_octet octet) }
     ensures extends { OnErr result (Extends (B.octets target.old) (B.octets target.new)) }
-    ensures lacks { OnErr result (LacksRoom B.room (λ octets. octets ≡ item_octet octet) (B.octets target.old)) }
+    ensures lacks { OnErr result (LacksRoom B.room
+        (λ octets. octets ≡ item_octet octet) (B.octets target.old)) }
 {
     if is_escaped(octet) {
         target.append_slice(&[b'\\', octet])
@@ -146,7 +148,8 @@ fn append_octet<B: OctetsBuilder>(octet: u8, target: &mut B) -> Result<(), Short
 fn append_item_text<B: OctetsBuilder>(item: &[u8], target: &mut B) -> Result<(), ShortBuf>
     ensures ok { OnOk result (B.octets target.new ≡ B.octets target.old ++ item_text item.now) }
     ensures extends { OnErr result (Extends (B.octets target.old) (B.octets target.new)) }
-    ensures lacks { OnErr result (LacksRoom B.room (λ text. text ≡ item_text item.now) (B.octets target.old)) }
+    ensures lacks { OnErr result (LacksRoom B.room
+        (λ text. text ≡ item_text item.now) (B.octets target.old)) }
 {
     for octet in item {
         append_octet(*octet, target)?;
@@ -156,9 +159,11 @@ fn append_item_text<B: OctetsBuilder>(item: &[u8], target: &mut B) -> Result<(),
 
 /// Appends a comma, and the text of an item.
 fn append_later_text<B: OctetsBuilder>(item: &[u8], target: &mut B) -> Result<(), ShortBuf>
-    ensures ok { OnOk result (B.octets target.new ≡ B.octets target.old ++ (44 ∷ item_text item.now)) }
+    ensures ok { OnOk result
+        (B.octets target.new ≡ B.octets target.old ++ (44 ∷ item_text item.now)) }
     ensures extends { OnErr result (Extends (B.octets target.old) (B.octets target.new)) }
-    ensures lacks { OnErr result (LacksRoom B.room (λ text. text ≡ 44 ∷ item_text item.now) (B.octets target.old)) }
+    ensures lacks { OnErr result (LacksRoom B.room
+        (λ text. text ≡ 44 ∷ item_text item.now) (B.octets target.old)) }
 {
     target.append_slice(b",")?;
     append_item_text(item, target)?;
@@ -172,7 +177,7 @@ struct FirstString<'a> {
     rest: &'a [u8],
 }
 
-/// The string in front of octets.
+/// The string that octets begin with.
 fn first_string(octets: &[u8]) -> Option<FirstString<'_>>
     ensures { MatchOption result (BeginsNoString octets.now)
         (λ s. (octets.now ≡ length s.string.now ∷ s.string.now ++ s.rest.now) × IsItem s.string.now) }
@@ -190,11 +195,11 @@ fn first_string(octets: &[u8]) -> Option<FirstString<'_>>
     })
 }
 
-/// Appends the text of strings, each of which stands behind its length.
+/// Appends the text of strings, each of which follows its length.
 fn append_strings_text<B: OctetsBuilder>(octets: &[u8], target: &mut B) -> Result<(), ErrorKind>
-    ensures ok { OnOk result ((items : List (List ℕ)) × IsList items × (octets.now ≡ wire_strings items)
-        × (B.octets target.new ≡ B.octets target.old ++ list_text items)) }
-    ensures fault { IfErr result (λ e. IsStringsFault B.room (B.octets target.old) octets.now e) }
+    ensures ok { OnOk result (Gains (HasListText octets.now)
+        (B.octets target.old) (B.octets target.new)) }
+    ensures fault { IfErr result (IsStringsFault B.room (B.octets target.old) octets.now) }
     ensures extends { OnErr result (Extends (B.octets target.old) (B.octets target.new)) }
 {
     let Some(first) = first_string(octets) else {
@@ -212,14 +217,13 @@ fn append_strings_text<B: OctetsBuilder>(octets: &[u8], target: &mut B) -> Resul
     Ok(())
 }
 
-/// Appends the text of a list of strings, each of which stands behind its length. Refused, the
-/// target has its old octets, and perhaps a beginning of the text after them.
+/// Appends the text of a list of strings, each of which follows its length. On an error, the target
+/// has its old octets, and perhaps a beginning of the text after them.
 pub fn append_list_text<B: OctetsBuilder>(octets: &[u8], target: &mut B) -> Result<(), ErrorKind>
-    ensures ok { OnOk result ((items : List (List ℕ)) × IsList items × (octets.now ≡ wire_strings items)
-        × (B.octets target.new ≡ B.octets target.old ++ list_text items)) }
-    ensures fault { IfErr result (λ e. IsStringsFault B.room (B.octets target.old) octets.now e) }
-    ensures err { IfErr result (λ e. ((e ≡ NoRoom) × LacksRoom B.room (λ text. (items : List (List ℕ)) × IsList items × (octets.now ≡ wire_strings items) × (text ≡ list_text items)) (B.octets target.old))
-        ⊎ ((octets.now ≡ []) ⊎ ¬ AreWireStrings octets.now)) }
+    ensures ok { OnOk result (Gains (HasListText octets.now)
+        (B.octets target.old) (B.octets target.new)) }
+    ensures fault { IfErr result (IsStringsFault B.room (B.octets target.old) octets.now) }
+    ensures err { IfErr result (RefusesStrings B.room octets.now (B.octets target.old)) }
     ensures extends { OnErr result (Extends (B.octets target.old) (B.octets target.new)) }
 {
     append_strings_text(octets, target)

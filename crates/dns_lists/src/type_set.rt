@@ -59,7 +59,8 @@ impl TypeSet {
     pub fn append_to<B: OctetsBuilder>(&self, target: &mut B) -> Result<(), ShortBuf>
         ensures ok { OnOk result (B.octets target.new ≡ B.octets target.old ++ bitmap self.now) }
         ensures err { OnErr result (Extends (B.octets target.old) (B.octets target.new)) }
-        ensures lacks { OnErr result (LacksRoom B.room (λ octets. octets ≡ bitmap self.now) (B.octets target.old)) }
+        ensures lacks { OnErr result (LacksRoom B.room
+            (λ octets. octets ≡ bitmap self.now) (B.octets target.old)) }
     {
         self.codes.append_to(target)
     }

@@ -1,7 +1,7 @@
 //! The values of service parameters (RFC 9460 sections 7 and 8, RFC 9461 section 5).
-ghost use Rattle.std.specs.Prelude.{◌≡◌, ◌≢◌, ℕ, [], MatchBool, MatchOption, All, IfErr, OnOk, is_some, length};
+ghost use Rattle.std.specs.Prelude.{◌≡◌, ◌≢◌, ℕ, [], MatchBool, MatchOption, IfErr, OnOk, is_some, length};
 ghost use Rattle.dns_lists.specs.Params.{params_of, value_at};
-ghost use Rattle.dns_lists.specs.ParamsFaults.{IsRight, IsFirstWrong, IsFirstWrongParam, AreRightParams, IsParamsFault, value_fault};
+ghost use Rattle.dns_lists.specs.ParamsFaults.{AreAllRight, IsFirstWrong, IsFirstWrongParam, AreRightParams, IsParamsFault, value_fault};
 ghost use Rattle.dns_lists.specs.Values.{AreWireStrings, AreKeys, AreGroups, IsParamValue, first_missing};
 
 use crate::params::{Param, check_form, first_param};
@@ -24,7 +24,7 @@ pub const IPV6HINT: u16 = 6;
 
 pub const DOHPATH: u16 = 7;
 
-/// Whether octets are strings of 1 to 255 octets, each behind its length.
+/// Whether octets are strings of 1 to 255 octets, each after its length.
 fn are_strings(octets: &[u8]) -> bool
     ensures { MatchBool result (AreWireStrings octets.now) (¬ AreWireStrings octets.now) }
 {
@@ -64,7 +64,8 @@ fn has_value(params: &[u8], key: u16) -> bool
 /// Whether octets are keys of two octets, each above the one before it, and above 0, and one of
 /// the parameters.
 fn are_keys(params: &[u8], octets: &[u8]) -> bool
-    ensures { MatchBool result (AreKeys (params_of params.now) 0 octets.now) (¬ AreKeys (params_of params.now) 0 octets.now) }
+    ensures { MatchBool result (AreKeys (params_of params.now) 0 octets.now)
+        (¬ AreKeys (params_of params.now) 0 octets.now) }
 {
     let mut above = 0;
     let mut rest = octets;
@@ -84,7 +85,8 @@ fn are_keys(params: &[u8], octets: &[u8]) -> bool
 
 /// Whether the value of a key is what it has to be.
 fn is_value(params: &[u8], key: u16, value: &[u8]) -> bool
-    ensures { MatchBool result (IsParamValue (params_of params.now) key value.now) (¬ IsParamValue (params_of params.now) key value.now) }
+    ensures { MatchBool result (IsParamValue (params_of params.now) key value.now)
+        (¬ IsParamValue (params_of params.now) key value.now) }
 {
     match key {
         MANDATORY => !value.is_empty() && are_keys(params, value),
@@ -101,7 +103,8 @@ fn is_value(params: &[u8], key: u16, value: &[u8]) -> bool
 
 /// Of octets that are parameters, the first whose value is not what it has to be.
 fn first_wrong(params: &[u8]) -> Option<Param<'_>>
-    ensures { MatchOption result (All (IsRight (params_of params.now)) (params_of params.now)) (λ p. IsFirstWrongParam p.key p.value.now (params_of params.now)) }
+    ensures { MatchOption result (AreAllRight (params_of params.now))
+        (λ p. IsFirstWrongParam p.key p.value.now (params_of params.now)) }
 {
     let mut rest = params;
     while let Some(front) = first_param(rest) {
@@ -115,7 +118,8 @@ fn first_wrong(params: &[u8]) -> Option<Param<'_>>
 
 /// Of octets that are parameters, the first key whose value is not what it has to be.
 pub fn wrong_value(params: &[u8]) -> Option<u16>
-    ensures { MatchOption result (All (IsRight (params_of params.now)) (params_of params.now)) (λ key. IsFirstWrong key (params_of params.now)) }
+    ensures { MatchOption result (AreAllRight (params_of params.now))
+        (λ key. IsFirstWrong key (params_of params.now)) }
 {
     match first_wrong(params) {
         Some(param) => Some(param.key),
@@ -151,8 +155,8 @@ fn value_fault(params: &[u8], key: u16, value: &[u8]) -> ErrorKind
     }
 }
 
-/// Says whether octets are the wire form of parameters, each of whose values is what its key asks
-/// for. The form is looked at first.
+/// Fails if octets are not the wire form of parameters, each of whose values is what its key asks
+/// for. The form is checked first.
 pub fn check_params(octets: &[u8]) -> Result<(), ErrorKind>
     ensures ok { OnOk result (AreRightParams octets.now) }
     ensures fault { IfErr result (λ fault. IsParamsFault fault octets.now) }

@@ -1,7 +1,7 @@
 use Rattle.std.proofs.Common.{◌<◌, ◌-◌, sym, ap, length, take, drop, arith}
-use Rattle.std.proofs.lemmas.Bool.{eqb-false}
+use Rattle.std.proofs.lemmas.Bool.{eqb-false, eqb-true}
 use Rattle.std.proofs.lemmas.Result.{err_from_is_err_and}
-use Rattle.dns_lists.proofs.Items.{list_first, list_more, comma_split, item_shorter}
+use Rattle.dns_lists.proofs.Items.{list_first, list_more, list_whole, comma_split, item_shorter}
 use Rattle.dns_lists.proofs.ListFaults.{fault_first, fault_later, fault_escape}
 use Rattle.dns_lists.proofs.texts.append_items.Goals as goal
 
@@ -40,3 +40,8 @@ loop-rest-preserved g c =
     let some : 0 < length rest = omega (arith, eqb-false (length rest) 0 (sym c.loop-rest-test.ensures)) in
     list_more c.args.text.now rest (take (length rest - 1) (drop 1 rest)) c.in_ok-rest-2.rest.now (g.B.AsOctets.octets c.args.target.now) (g.B.AsOctets.octets c.loop-rest.target)
     (g.B.AsOctets.octets c.append_item-in-loop-rest.new.target) ok.0 c.loop-rest.invariant (comma_split rest some c.if-rest-ne44.false) ok.1 ok.2 ok.3
+
+pub returns-clause-ok : goal.returns-clause-ok
+returns-clause-ok g c =
+    let rest = c.loop-rest.rest.now in
+    list_whole c.args.text.now rest (g.B.AsOctets.octets c.args.target.now) (g.B.AsOctets.octets c.loop-rest.target) c.loop-rest.invariant (eqb-true (length rest) 0 (sym c.loop-rest-test.ensures))

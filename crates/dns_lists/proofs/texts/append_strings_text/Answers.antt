@@ -1,6 +1,7 @@
-use Rattle.std.proofs.Common.{refl}
+use Rattle.std.proofs.Common.{length, refl, sym}
+use Rattle.std.proofs.lemmas.Bool.{eqb-true}
 use Rattle.std.proofs.lemmas.Result.{err_from_is_err_and}
-use Rattle.dns_lists.proofs.Printing.{prints_first, prints_more}
+use Rattle.dns_lists.proofs.Printing.{prints_first, prints_more, text_whole}
 use Rattle.dns_lists.proofs.ListFaults.{first_text_lacks, later_text_lacks}
 use Rattle.dns_lists.proofs.texts.append_strings_text.Goals as goal
 
@@ -27,3 +28,8 @@ loop-rest-preserved g c =
     let s = c.in-Some-first_string.next in
     prints_more c.args.octets.now c.loop-rest.rest.now s.rest.now (g.B.AsOctets.octets c.args.target.now) (g.B.AsOctets.octets c.loop-rest.target) (g.B.AsOctets.octets c.append_later_text.new.target) s.string.now
     c.loop-rest.invariant c.in-Some-first_string.ensures.1 c.in-Some-first_string.ensures.0 c.in_ok-append_later_text.ensures.ok
+
+pub returns-clause-ok : goal.returns-clause-ok
+returns-clause-ok g c =
+    let rest = c.loop-rest.rest.now in
+    text_whole c.args.octets.now rest (g.B.AsOctets.octets c.args.target.now) (g.B.AsOctets.octets c.loop-rest.target) c.loop-rest.invariant (eqb-true (length rest) 0 (sym c.loop-rest-test.ensures))
