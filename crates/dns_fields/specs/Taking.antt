@@ -9,6 +9,7 @@ use Rattle.dns_fields.specs.declared.field.Field.{Field}
 use Rattle.dns_fields.specs.declared.record_error.RecordError.{RecordError}
 use Rattle.dns_fields.specs.Fields.{field_form}
 use Rattle.dns_fields.specs.Forms.{RefusesField}
+use Rattle.dns_fields.specs.TokenParsers.{TokenParser}
 use Rattle.dns_fields.specs.RecordErrors.{IsErrorAt, IsErrorInField}
 use Rattle.dns_fields.specs.Source.{next_place}
 
@@ -29,7 +30,7 @@ RefusesNext origin room f [] old e = e ≡ EndOfEntry
 RefusesNext origin room f (t ∷ ts) old e = RefusesField room (SpellsField origin f t) ((field_form origin f).reason t.is_quoted t.text) old e
 
 -- the next token is taken as a field; or it is refused at its place, and nothing is taken
-abbrev pub TakesField : Option (List (List ℕ)) → Room → Field → ℕ → List TokenSeen → List ℕ → Result (Unit {0}) RecordError → List TokenSeen → List ℕ → Type 0
+abbrev pub TakesField : Option (List (List ℕ)) → Room → Field → TokenParser (Unit {0})
 TakesField origin room f end tokens old (Ok _) left new = (t : TokenSeen) × (tokens ≡ t ∷ left) × Gains (SpellsField origin f t) old new
 TakesField origin room f end tokens old (Err e) left new = (left ≡ tokens) × IsErrorAt (next_place tokens end) e × RefusesNext origin room f tokens old e.kind × Extends old new
 
@@ -55,7 +56,7 @@ abbrev pub last_place : List Field → List TokenSeen → ℕ → ℕ
 last_place fields tokens end = next_place (drop (length fields - 1) tokens) end
 
 -- all fields are taken, and this is the place of the last; or one is refused
-abbrev pub TakesAllFields : Option (List (List ℕ)) → Room → List Field → ℕ → List TokenSeen → List ℕ → Result ℕ RecordError → List TokenSeen → List ℕ → Type 0
+abbrev pub TakesAllFields : Option (List (List ℕ)) → Room → List Field → TokenParser ℕ
 TakesAllFields origin room fields end tokens old (Ok at) left new = HasTaken origin fields tokens old left new × (at ≡ last_place fields tokens end)
 TakesAllFields origin room fields end tokens old (Err e) left new = (place : ℕ) × RefusesAField origin room fields tokens old place e.kind left new × IsErrorInField place (next_place left end) e
 
@@ -64,6 +65,6 @@ abbrev pub SpellsEach : Option (List (List ℕ)) → Field → List TokenSeen �
 SpellsEach origin f tokens octets = SpellsFields origin (replicate (length tokens) f) tokens octets
 
 -- all tokens are taken; or one is refused
-abbrev pub TakesEachAs : Option (List (List ℕ)) → Room → Field → ℕ → List TokenSeen → List ℕ → Result (Unit {0}) RecordError → List TokenSeen → List ℕ → Type 0
+abbrev pub TakesEachAs : Option (List (List ℕ)) → Room → Field → TokenParser (Unit {0})
 TakesEachAs origin room f end tokens old (Ok _) left new = (left ≡ []) × Gains (SpellsEach origin f tokens) old new
 TakesEachAs origin room f end tokens old (Err e) left new = (count : ℕ) × RefusesAField origin room (replicate (suc count) f) tokens old count e.kind left new × IsErrorAt (next_place left end) e

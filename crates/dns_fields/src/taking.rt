@@ -1,6 +1,7 @@
-//! Fields of the tokens of an entry.
+//! Parses the tokens of an entry as fields.
 ghost use Rattle.std.specs.Prelude.{◌≡◌, ◌≢◌, [], OnErr};
 ghost use Rattle.std.specs.Option.{option_copied};
+ghost use Rattle.dns_fields.specs.TokenParsers.{Parses};
 ghost use Rattle.dns_fields.specs.Taking.{TakesField, TakesAllFields, TakesEachAs};
 
 use crate::field::{Field, append_field};
@@ -10,17 +11,16 @@ use dns_kinds::ErrorKind;
 use dns_octets::{AsOctets, OctetsBuilder};
 use dns_wire::Name;
 
-/// Takes the next token, and appends the octets of the field that it spells. A relative name
-/// stands before the origin.
+/// Parses the next token as a field, and appends its octets. The origin is appended to a relative
+/// name. On an error, no token is taken.
 pub fn take_field<S: TokenSource, Octets: AsOctets, B: OctetsBuilder>(
     field: Field,
     origin: Option<&Name<Octets>>,
     source: &mut S,
     target: &mut B,
 ) -> Result<(), RecordError>
-    ensures takes { TakesField (option_copied origin.entry) B.room field
-        (S.end source.old).at (S.left source.old) (B.octets target.old)
-        result (S.left source.new) (B.octets target.new) }
+    ensures takes { Parses (TakesField (option_copied origin.entry) B.room field)
+        S.left S.end B.octets source.old target.old result source.new target.new }
     ensures end { S.end source.new ≡ S.end source.old }
 {
     let at = source.place();
@@ -34,18 +34,17 @@ pub fn take_field<S: TokenSource, Octets: AsOctets, B: OctetsBuilder>(
     Ok(())
 }
 
-/// Takes a token for each of the fields, and appends their octets one after another. Where one is
-/// refused, those before it are taken. Returns the place of the last of these tokens, or without
-/// fields that of the token that comes next.
+/// Parses a token as each of the fields, and appends their octets one after another. On an error,
+/// the tokens before the rejected one are taken. Returns the offset of the last of these tokens, or
+/// that of the next token if there are no fields.
 pub fn take_fields<S: TokenSource, Octets: AsOctets, B: OctetsBuilder>(
     fields: &[Field],
     origin: Option<&Name<Octets>>,
     source: &mut S,
     target: &mut B,
 ) -> Result<usize, RecordError>
-    ensures takes { TakesAllFields (option_copied origin.entry) B.room fields.now
-        (S.end source.old).at (S.left source.old) (B.octets target.old)
-        result (S.left source.new) (B.octets target.new) }
+    ensures takes { Parses (TakesAllFields (option_copied origin.entry) B.room fields.now)
+        S.left S.end B.octets source.old target.old result source.new target.new }
     ensures end { S.end source.new ≡ S.end source.old }
 {
     let mut last = source.place();
@@ -58,17 +57,16 @@ pub fn take_fields<S: TokenSource, Octets: AsOctets, B: OctetsBuilder>(
     Ok(last)
 }
 
-/// Takes the tokens that are left, each as the same field, and appends their octets one after
-/// another. Where one is refused, those before it are taken.
+/// Parses the tokens that are left, each as the same field, and appends their octets one after
+/// another. On an error, the tokens before the rejected one are taken.
 pub fn take_each<S: TokenSource, Octets: AsOctets, B: OctetsBuilder>(
     field: Field,
     origin: Option<&Name<Octets>>,
     source: &mut S,
     target: &mut B,
 ) -> Result<(), RecordError>
-    ensures takes { TakesEachAs (option_copied origin.entry) B.room field
-        (S.end source.old).at (S.left source.old) (B.octets target.old)
-        result (S.left source.new) (B.octets target.new) }
+    ensures takes { Parses (TakesEachAs (option_copied origin.entry) B.room field)
+        S.left S.end B.octets source.old target.old result source.new target.new }
     ensures left { OnErr result (S.left source.new ≢ []) }
     ensures end { S.end source.new ≡ S.end source.old }
 {
