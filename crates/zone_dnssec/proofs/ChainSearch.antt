@@ -5,14 +5,14 @@ use Rattle.std.specs.List.{list_any}
 use Rattle.std.proofs.lemmas.List.{take_more}
 use Rattle.std.proofs.lemmas.List.Folds.{list_any-append}
 use Rattle.dns_resource.specs.declared.record.Record.{Record}
-use Rattle.zone_dnssec.specs.HashedLinks.{fails_at_or_above, is_bounded, is_represented}
+use Rattle.zone_dnssec.specs.HashedLinks.{chain_fails}
 use Rattle.zone_dnssec.specs.Parameters.{names_chain}
+use Rattle.zone_dnssec.specs.ZoneViews.{ZoneView}
 use Rattle.zone_dnssec.specs.declared.hashed.LinkFault.{LinkFault}
 
 -- an NSEC3PARAM names a chain of few iterations in which a name is represented, and which fails it
-abbrev pub fails_name_in : {N O : Type 0} → LinkFault → List (List ℕ) → List (Record N O) → List (List ℕ) → Record N O → Bool
-fails_name_in fault origin records name chain =
-    names_chain chain && (is_bounded chain && (is_represented origin records chain name && fails_at_or_above fault origin records chain name))
+abbrev pub fails_name_in : {N O : Type 0} → LinkFault → ZoneView N O → List (List ℕ) → Record N O → Bool
+fails_name_in fault zone name chain = names_chain chain && chain_fails fault zone name chain
 
 or_false : (b : Bool) → (b || false) ≡ b
 or_false true = refl

@@ -13,6 +13,7 @@ use Rattle.zone_dnssec.specs.NsecChain.{are_at_one_name}
 use Rattle.zone_dnssec.specs.NsecTypes.{lists_exactly}
 use Rattle.zone_dnssec.specs.Nsec3Chain.{next_hash_of, hashed_bitmap, opts_out, iterations_of, is_link, some_chain, matching_owner, matching_link, link_after, link_before}
 use Rattle.zone_dnssec.specs.SignedSets.{is_authoritative, starts}
+use Rattle.zone_dnssec.specs.ZoneViews.{ZoneView}
 use Rattle.zone_dnssec.specs.declared.hashed.LinkFault.{LinkFault}
 use Rattle.zone_dnssec.specs.declared.hashed.LinkFault.TheVariants.{Missing, DifferentTypes}
 
@@ -21,57 +22,66 @@ abbrev pub is_hash_of : {N O : Type 0} → List (List ℕ) → List ℕ → Reco
 is_hash_of origin hash r = option_map_or (λ owner. same_name owner r.owner) (hashed_owner origin hash) false
 
 -- an NSEC3 names the hash of the one that comes next
-abbrev pub points_to_next : {N O : Type 0} → List (List ℕ) → List (Record N O) → Record N O → Record N O → Bool
-points_to_next origin records chain r = option_map_or (is_hash_of origin (next_hash_of r)) (link_after records chain r.owner) false
+abbrev pub points_to_next : {N O : Type 0} → ZoneView N O → Record N O → Record N O → Bool
+points_to_next zone chain r = option_map_or (is_hash_of zone.origin (next_hash_of r)) (link_after zone.records chain r.owner) false
 
 -- an NSEC3 of a chain names another than the next hash
-abbrev pub names_other_hash : {N O : Type 0} → List (List ℕ) → List (Record N O) → Record N O → Bool
-names_other_hash origin records r = type_of r == Rtype.nsec3 && some_chain (λ chain. is_link chain r && not (points_to_next origin records chain r)) origin records
+abbrev pub is_out_of_order : {N O : Type 0} → ZoneView N O → Record N O → Record N O → Bool
+is_out_of_order zone r chain = is_link chain r && not (points_to_next zone chain r)
+
+-- an NSEC3 of some chain does
+abbrev pub names_other_hash : {N O : Type 0} → ZoneView N O → Record N O → Bool
+names_other_hash zone r = type_of r == Rtype.nsec3 && some_chain (is_out_of_order zone r) zone
 
 -- no NSEC3 matches a name
-abbrev pub lacks_link : {N O : Type 0} → List (List ℕ) → List (Record N O) → Record N O → List (List ℕ) → Bool
-lacks_link origin records chain name = option_map_or (λ link. false) (matching_link origin records chain name) true
+abbrev pub lacks_link : {N O : Type 0} → ZoneView N O → Record N O → List (List ℕ) → Bool
+lacks_link zone chain name = option_map_or (λ link. false) (matching_link zone chain name) true
 
 -- no NSEC3 matches a name, and the one that covers it opts out
-abbrev pub is_covered_by_opt_out : {N O : Type 0} → List (List ℕ) → List (Record N O) → Record N O → List (List ℕ) → Bool
-is_covered_by_opt_out origin records chain name =
-    lacks_link origin records chain name && option_map_or (λ owner. option_map_or opts_out (link_before records chain owner) false) (matching_owner origin chain name) false
+abbrev pub is_covered_by_opt_out : {N O : Type 0} → ZoneView N O → Record N O → List (List ℕ) → Bool
+is_covered_by_opt_out zone chain name =
+    lacks_link zone chain name && option_map_or (λ owner. option_map_or opts_out (link_before zone.records chain owner) false) (matching_owner zone.origin chain name) false
 
 -- a name is a delegation without DS, which a chain leaves out
-abbrev pub is_opted_out : {N O : Type 0} → List (List ℕ) → List (Record N O) → Record N O → List (List ℕ) → Bool
-is_opted_out origin records chain name =
-    is_zone_cut origin records name && (not (has_type_at Rtype.ds name records) && is_covered_by_opt_out origin records chain name)
+abbrev pub is_opted_out : {N O : Type 0} → ZoneView N O → Record N O → List (List ℕ) → Bool
+is_opted_out zone chain name =
+    is_zone_cut zone.origin zone.records name && (not (has_type_at Rtype.ds name zone.records) && is_covered_by_opt_out zone chain name)
 
 -- the NSEC3 that matches a name lists other types than those at the name
-abbrev pub lists_other_hashed_types : {N O : Type 0} → List (List ℕ) → List (Record N O) → Record N O → List (List ℕ) → Bool
-lists_other_hashed_types origin records chain name =
-    option_map_or (λ link. not (lists_exactly origin records name (hashed_bitmap link))) (matching_link origin records chain name) false
+abbrev pub lists_other_hashed_types : {N O : Type 0} → ZoneView N O → Record N O → List (List ℕ) → Bool
+lists_other_hashed_types zone chain name =
+    option_map_or (λ link. not (lists_exactly zone.origin zone.records name (hashed_bitmap link))) (matching_link zone chain name) false
 
 -- no NSEC3 matches a name, or it lists other types
-abbrev pub fails_name : {N O : Type 0} → LinkFault → List (List ℕ) → List (Record N O) → Record N O → List (List ℕ) → Bool
-fails_name Missing origin records chain name = lacks_link origin records chain name
-fails_name DifferentTypes origin records chain name = lists_other_hashed_types origin records chain name
+abbrev pub fails_name : {N O : Type 0} → LinkFault → ZoneView N O → Record N O → List (List ℕ) → Bool
+fails_name Missing zone chain name = lacks_link zone chain name
+fails_name DifferentTypes zone chain name = lists_other_hashed_types zone chain name
 
 -- a name in the zone at which no record stands
-abbrev pub is_empty_in_zone : {N O : Type 0} → List (List ℕ) → List (Record N O) → List (List ℕ) → Bool
-is_empty_in_zone origin records name = is_within name origin && not (has_owner name records)
+abbrev pub is_empty_in_zone : {N O : Type 0} → ZoneView N O → List (List ℕ) → Bool
+is_empty_in_zone zone name = is_within name zone.origin && not (has_owner name zone.records)
+
+-- so it is of an empty non-terminal above a name
+abbrev pub fails_above : {N O : Type 0} → LinkFault → ZoneView N O → Record N O → List (List ℕ) → Bool
+fails_above fault zone chain name = list_any (λ above. is_empty_in_zone zone above && fails_name fault zone chain above) (names_above name)
 
 -- so it is of a name, or of an empty non-terminal above it
-abbrev pub fails_at_or_above : {N O : Type 0} → LinkFault → List (List ℕ) → List (Record N O) → Record N O → List (List ℕ) → Bool
-fails_at_or_above fault origin records chain name =
-    fails_name fault origin records chain name || list_any (λ above. is_empty_in_zone origin records above && fails_name fault origin records chain above) (names_above name)
+abbrev pub fails_at_or_above : {N O : Type 0} → LinkFault → ZoneView N O → Record N O → List (List ℕ) → Bool
+fails_at_or_above fault zone chain name = fails_name fault zone chain name || fails_above fault zone chain name
 
 -- a name is represented in a chain: it has authority, is no owner of NSEC3s, and isn't left out
-abbrev pub is_represented : {N O : Type 0} → List (List ℕ) → List (Record N O) → Record N O → List (List ℕ) → Bool
-is_represented origin records chain name =
-    is_authoritative origin records name && (not (has_type_at Rtype.nsec3 name records) && not (is_opted_out origin records chain name))
+abbrev pub is_represented : {N O : Type 0} → ZoneView N O → Record N O → List (List ℕ) → Bool
+is_represented zone chain name =
+    is_authoritative zone.origin zone.records name && (not (has_type_at Rtype.nsec3 name zone.records) && not (is_opted_out zone chain name))
 
 -- names are hashed for a chain of at most 150 iterations (RFC 9276 section 3.2)
 abbrev pub is_bounded : {N O : Type 0} → Record N O → Bool
 is_bounded chain = nat_le (iterations_of chain) 150
 
--- the record is the first at a name that is represented in such a chain which fails it
-abbrev pub fails_chain : {N O : Type 0} → LinkFault → List (List ℕ) → List (Record N O) → ℕ → Record N O → Bool
-fails_chain fault origin records place r =
-    starts are_at_one_name records place r
-    && some_chain (λ chain. is_bounded chain && (is_represented origin records chain r.owner && fails_at_or_above fault origin records chain r.owner)) origin records
+-- a name is represented in such a chain, which fails it
+abbrev pub chain_fails : {N O : Type 0} → LinkFault → ZoneView N O → List (List ℕ) → Record N O → Bool
+chain_fails fault zone name chain = is_bounded chain && (is_represented zone chain name && fails_at_or_above fault zone chain name)
+
+-- the record is the first at a name that some chain fails
+abbrev pub fails_chain : {N O : Type 0} → LinkFault → ZoneView N O → ℕ → Record N O → Bool
+fails_chain fault zone place r = starts are_at_one_name zone.records place r && some_chain (chain_fails fault zone r.owner) zone

@@ -13,3 +13,4 @@ pub mod SignatureFields
 pub mod SignatureTimes
 pub mod SignedSets
 pub mod ZoneKeys
+pub mod ZoneViews

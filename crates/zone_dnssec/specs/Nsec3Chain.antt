@@ -14,6 +14,7 @@ use Rattle.zone_rules.specs.Zones.{type_of}
 use Rattle.zone_dnssec.specs.HashedNames.{name_hash, hashed_owner}
 use Rattle.zone_dnssec.specs.NsecChain.{comes_after}
 use Rattle.zone_dnssec.specs.Parameters.{field_octets, names_chain}
+use Rattle.zone_dnssec.specs.ZoneViews.{ZoneView}
 
 -- ---- the fields: hash algorithm, flags, iterations, salt, and of NSEC3 the next hash (RFC 5155 sections 3.2 and 4.2)
 
@@ -52,16 +53,16 @@ abbrev pub is_link : {N O : Type 0} → Record N O → Record N O → Bool
 is_link chain r = type_of r == Rtype.nsec3 && (is_same_field 0 chain r && (is_same_field 2 chain r && is_same_field 3 chain r))
 
 -- some NSEC3PARAM at the apex names a chain that passes the test
-abbrev pub some_chain : {N O : Type 0} → (Record N O → Bool) → List (List ℕ) → List (Record N O) → Bool
-some_chain test origin records = list_any (λ chain. same_name chain.owner origin && (names_chain chain && test chain)) records
+abbrev pub some_chain : {N O : Type 0} → (Record N O → Bool) → ZoneView N O → Bool
+some_chain test zone = list_any (λ chain. same_name chain.owner zone.origin && (names_chain chain && test chain)) zone.records
 
 -- the owner of the NSEC3 that matches a name
 abbrev pub matching_owner : {N O : Type 0} → List (List ℕ) → Record N O → List (List ℕ) → Option (List (List ℕ))
 matching_owner origin chain name = hashed_owner origin (name_hash (salt_of chain) (iterations_of chain) name)
 
 -- the NSEC3 that matches a name
-abbrev pub matching_link : {N O : Type 0} → List (List ℕ) → List (Record N O) → Record N O → List (List ℕ) → Option (Record N O)
-matching_link origin records chain name = option_and_then (λ owner. find (λ r. same_name r.owner owner && is_link chain r) records) (matching_owner origin chain name)
+abbrev pub matching_link : {N O : Type 0} → ZoneView N O → Record N O → List (List ℕ) → Option (Record N O)
+matching_link zone chain name = option_and_then (λ owner. find (λ r. same_name r.owner owner && is_link chain r) zone.records) (matching_owner zone.origin chain name)
 
 -- the NSEC3 whose owner comes next, and after the last one the first
 abbrev pub link_after : {N O : Type 0} → List (Record N O) → Record N O → List (List ℕ) → Option (Record N O)

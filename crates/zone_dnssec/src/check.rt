@@ -4,6 +4,7 @@ ghost use Rattle.std.specs.List.{flat_map, range_with_len};
 ghost use Rattle.zone_dnssec.specs.SecurityFindings.{breaks_security, breaks_security_at, insecure_at, insecure_if, insecure_in_zone, insecure_of};
 ghost use Rattle.zone_dnssec.specs.DenialRecords.{denial_ttl};
 ghost use Rattle.zone_dnssec.specs.ZoneKeys.{zone_keys};
+ghost use Rattle.zone_dnssec.specs.ZoneViews.{zone_of, zone_with};
 ghost use Rattle.zone_rules.specs.Zones.{has_type_at};
 
 use crate::bitmaps::has_wrong_types;
@@ -22,6 +23,7 @@ use crate::signatures::{
     has_wrong_labels, has_wrong_original_ttl, has_wrong_own_ttl, has_wrong_signer,
 };
 use crate::times::{Times, has_expired, has_reversed_times, is_expiring, is_too_early};
+use crate::zone::SignedZone;
 use dns_kinds::RecordType;
 use dns_octets::AsOctets;
 use dns_resource::Record;
@@ -74,88 +76,78 @@ struct Facts<'a> {
 /// Whether a record at a place breaks a rule.
 fn breaks_rule<'a, Owner: AsOctets, Octets: AsOctets>(
     rule: SecurityRule,
-    origin: &Name<&[u8]>,
+    zone: &SignedZone<'_, 'a, Owner, Octets>,
     times: Times,
     facts: Facts<'_>,
     hashes: &mut Hashes<'a>,
-    records: &SortedRecords<'a, Owner, Octets>,
     place: usize,
     record: &'a Record<Owner, Octets>,
 ) -> bool
-    requires keys { facts.keys.now ≡ zone_keys origin.now records.now }
-    requires ttl { facts.denial_ttl ≡ denial_ttl origin.now records.now }
-    ensures { result ≡ breaks_security rule origin.now times records.now place «record».now }
+    requires keys { facts.keys.now ≡ zone_keys zone.now.origin.now zone.now.records.now }
+    requires ttl { facts.denial_ttl ≡ denial_ttl zone.now.origin.now zone.now.records.now }
+    ensures { result ≡ breaks_security rule (zone_of zone.now) times place «record».now }
 {
     match rule {
         SecurityRule::Expired => has_expired(times.instant, record),
         SecurityRule::ExpiresSoon => is_expiring(times, record),
         SecurityRule::NotYetValid => is_too_early(times.instant, record),
         SecurityRule::TimesReversed => has_reversed_times(record),
-        SecurityRule::OtherSigner => has_wrong_signer(origin, record),
+        SecurityRule::OtherSigner => has_wrong_signer(zone.origin, record),
         SecurityRule::OtherLabels => has_wrong_labels(record),
-        SecurityRule::OtherOriginalTtl => has_wrong_original_ttl(records, record),
-        SecurityRule::OtherSignatureTtl => has_wrong_own_ttl(records, record),
-        SecurityRule::Unsigned => is_unsigned(origin, records, place, record),
-        SecurityRule::NoKey => is_without_key(facts.keys, origin, records, place, record),
-        SecurityRule::KeyMissing => is_of_unknown_key(facts.keys, records, record),
+        SecurityRule::OtherOriginalTtl => has_wrong_original_ttl(zone.records, record),
+        SecurityRule::OtherSignatureTtl => has_wrong_own_ttl(zone.records, record),
+        SecurityRule::Unsigned => is_unsigned(zone.origin, zone.records, place, record),
+        SecurityRule::NoKey => is_without_key(facts.keys, zone.origin, zone.records, place, record),
+        SecurityRule::KeyMissing => is_of_unknown_key(facts.keys, zone.records, record),
         SecurityRule::RevokedKey => is_of_revoked_key(facts.keys, record),
-        SecurityRule::SignsNothing => is_without_set(records, record),
-        SecurityRule::Occluded => is_out_of_place(origin, records, record),
-        SecurityRule::NoNsec => is_without_nsec(origin, records, place, record),
-        SecurityRule::OtherNext => has_wrong_next(origin, records, record),
-        SecurityRule::OtherTypes => has_wrong_types(origin, records, record),
-        SecurityRule::NoNsec3 => is_link_wrong(
-            LinkFault::Missing,
-            hashes,
-            origin,
-            records,
-            place,
-            record,
-        ),
-        SecurityRule::OtherNextHash => has_wrong_next_hash(origin, records, record),
+        SecurityRule::SignsNothing => is_without_set(zone.records, record),
+        SecurityRule::Occluded => is_out_of_place(zone.origin, zone.records, record),
+        SecurityRule::NoNsec => is_without_nsec(zone.origin, zone.records, place, record),
+        SecurityRule::OtherNext => has_wrong_next(zone.origin, zone.records, record),
+        SecurityRule::OtherTypes => has_wrong_types(zone.origin, zone.records, record),
+        SecurityRule::NoNsec3 => is_link_wrong(LinkFault::Missing, hashes, zone, place, record),
+        SecurityRule::OtherNextHash => has_wrong_next_hash(zone, record),
         SecurityRule::OtherHashedTypes => is_link_wrong(
             LinkFault::DifferentTypes,
             hashes,
-            origin,
-            records,
+            zone,
             place,
             record,
         ),
-        SecurityRule::OtherLinkOwner => has_wrong_owner(origin, record),
+        SecurityRule::OtherLinkOwner => has_wrong_owner(zone.origin, record),
         SecurityRule::TooManyIterations => has_iterations(
             MOST_ITERATIONS,
             u16::MAX,
-            origin,
+            zone.origin,
             record,
         ),
         SecurityRule::ManyIterations => has_iterations(
             FEW_ITERATIONS,
             MOST_ITERATIONS,
-            origin,
+            zone.origin,
             record,
         ),
-        SecurityRule::SomeIterations => has_iterations(0, FEW_ITERATIONS, origin, record),
+        SecurityRule::SomeIterations => has_iterations(0, FEW_ITERATIONS, zone.origin, record),
         SecurityRule::OtherDenialTtl => has_wrong_denial_ttl(facts.denial_ttl, record),
-        SecurityRule::DeleteBesideKeys => is_delete_beside_keys(origin, records, record),
+        SecurityRule::DeleteBesideKeys => is_delete_beside_keys(zone.origin, zone.records, record),
     }
 }
 
 /// Whether the record at a place breaks a rule. After the last there is none.
 fn is_broken_at<'a, Owner: AsOctets, Octets: AsOctets>(
     rule: SecurityRule,
-    origin: &Name<&[u8]>,
+    zone: &SignedZone<'_, 'a, Owner, Octets>,
     times: Times,
     facts: Facts<'_>,
     hashes: &mut Hashes<'a>,
-    records: &SortedRecords<'a, Owner, Octets>,
     place: usize,
 ) -> bool
-    requires keys { facts.keys.now ≡ zone_keys origin.now records.now }
-    requires ttl { facts.denial_ttl ≡ denial_ttl origin.now records.now }
-    ensures { result ≡ breaks_security_at origin.now times records.now place rule }
+    requires keys { facts.keys.now ≡ zone_keys zone.now.origin.now zone.now.records.now }
+    requires ttl { facts.denial_ttl ≡ denial_ttl zone.now.origin.now zone.now.records.now }
+    ensures { result ≡ breaks_security_at (zone_of zone.now) times place rule }
 {
-    match records.as_slice().get(place) {
-        Some(record) => breaks_rule(rule, origin, times, facts, hashes, records, place, record),
+    match zone.records.as_slice().get(place) {
+        Some(record) => breaks_rule(rule, zone, times, facts, hashes, place, record),
         None => false,
     }
 }
@@ -182,21 +174,20 @@ fn add_if<A: Allocator>(
 #[tactic(auto, using(zone_rules::proofs::Steps::found_more))]
 fn add_each<'a, Owner: AsOctets, Octets: AsOctets, A: Allocator>(
     rules: &[SecurityRule],
-    origin: &Name<&[u8]>,
+    zone: &SignedZone<'_, 'a, Owner, Octets>,
     times: Times,
     facts: Facts<'_>,
     hashes: &mut Hashes<'a>,
-    records: &SortedRecords<'a, Owner, Octets>,
     place: usize,
     found: &mut Vec<SecurityFinding, A>,
 ) -> Result<(), AllocError>
-    requires keys { facts.keys.now ≡ zone_keys origin.now records.now }
-    requires ttl { facts.denial_ttl ≡ denial_ttl origin.now records.now }
+    requires keys { facts.keys.now ≡ zone_keys zone.now.origin.now zone.now.records.now }
+    requires ttl { facts.denial_ttl ≡ denial_ttl zone.now.origin.now zone.now.records.now }
     ensures { OnOk result (found.new.items ≡ found.old.items
-        ++ flat_map (insecure_of origin.now times records.now place) rules.now) }
+        ++ flat_map (insecure_of (zone_of zone.now) times place) rules.now) }
 {
     for rule in rules {
-        let is_broken = is_broken_at(*rule, origin, times, facts, hashes, records, place);
+        let is_broken = is_broken_at(*rule, zone, times, facts, hashes, place);
         add_if(is_broken, *rule, place, found)?;
     }
     Ok(())
@@ -204,29 +195,19 @@ fn add_each<'a, Owner: AsOctets, Octets: AsOctets, A: Allocator>(
 
 /// Adds the rules that the record at a place breaks.
 fn add_broken<'a, Owner: AsOctets, Octets: AsOctets, A: Allocator>(
-    origin: &Name<&[u8]>,
+    zone: &SignedZone<'_, 'a, Owner, Octets>,
     times: Times,
     facts: Facts<'_>,
     hashes: &mut Hashes<'a>,
-    records: &SortedRecords<'a, Owner, Octets>,
     place: usize,
     found: &mut Vec<SecurityFinding, A>,
 ) -> Result<(), AllocError>
-    requires keys { facts.keys.now ≡ zone_keys origin.now records.now }
-    requires ttl { facts.denial_ttl ≡ denial_ttl origin.now records.now }
+    requires keys { facts.keys.now ≡ zone_keys zone.now.origin.now zone.now.records.now }
+    requires ttl { facts.denial_ttl ≡ denial_ttl zone.now.origin.now zone.now.records.now }
     ensures { OnOk result (found.new.items ≡ found.old.items
-        ++ insecure_at origin.now times records.now place) }
+        ++ insecure_at (zone_of zone.now) times place) }
 {
-    add_each(
-        &SECURITY_RULES,
-        origin,
-        times,
-        facts,
-        hashes,
-        records,
-        place,
-        found,
-    )
+    add_each(&SECURITY_RULES, zone, times, facts, hashes, place, found)
 }
 
 /// What is found in the zone that has this origin and these records: the rules that each record
@@ -240,7 +221,7 @@ pub fn check_signed<Owner: AsOctets, Octets: AsOctets, Origin: AsOctets, A: Allo
     times: Times,
     records: &SortedRecords<'_, Owner, Octets>,
 ) -> Result<Vec<SecurityFinding, A>, AllocError>
-    ensures { IfOk result (λ found. found.items ≡ insecure_in_zone origin.now times records.now) }
+    ensures { IfOk result (λ found. found.items ≡ insecure_in_zone (zone_with origin.now records.now) times) }
 {
     let apex = view(origin);
     let mut found = Vec::new(alloc);
@@ -252,9 +233,13 @@ pub fn check_signed<Owner: AsOctets, Octets: AsOctets, Origin: AsOctets, A: Allo
         keys: keys.as_slice(),
         denial_ttl: ttl_of_denial(&apex, records),
     };
+    let zone = SignedZone {
+        origin: &apex,
+        records,
+    };
     let mut hashes = Hashes::new();
     for place in 0..records.as_slice().len() {
-        add_broken(&apex, times, facts, &mut hashes, records, place, &mut found)?;
+        add_broken(&zone, times, facts, &mut hashes, place, &mut found)?;
     }
     Ok(found)
 }

@@ -1,11 +1,10 @@
 //! What NSEC3 records say of the names of a zone (RFC 5155 section 7.1).
-ghost use Rattle.std.specs.Prelude.{◌≡◌, ◌&&◌, not};
-ghost use Rattle.std.specs.List.{list_any};
-ghost use Rattle.zone_rules.specs.Above.{names_above};
+ghost use Rattle.std.specs.Prelude.{◌≡◌, ◌&&◌};
 ghost use Rattle.zone_rules.specs.Zones.{has_owner};
-ghost use Rattle.zone_dnssec.specs.HashedLinks.{fails_at_or_above, fails_chain, fails_name, is_bounded, is_covered_by_opt_out, is_empty_in_zone, is_hash_of, is_opted_out, is_represented, lacks_link, lists_other_hashed_types, names_other_hash, points_to_next};
-ghost use Rattle.zone_dnssec.specs.Nsec3Chain.{is_link, some_chain};
+ghost use Rattle.zone_dnssec.specs.HashedLinks.{chain_fails, fails_above, fails_at_or_above, fails_chain, fails_name, is_bounded, is_covered_by_opt_out, is_empty_in_zone, is_hash_of, is_opted_out, is_out_of_order, is_represented, lacks_link, lists_other_hashed_types, names_other_hash, points_to_next};
+ghost use Rattle.zone_dnssec.specs.Nsec3Chain.{some_chain};
 ghost use Rattle.zone_dnssec.specs.Parameters.{names_chain};
+ghost use Rattle.zone_dnssec.specs.ZoneViews.{zone_of};
 
 use crate::bitmaps::lists_types;
 use crate::chain::is_first_at_owner;
@@ -16,6 +15,7 @@ use crate::nsec3::{
 };
 use crate::nsec3_hash::hashed_name;
 use crate::sets::has_authority;
+use crate::zone::SignedZone;
 use dns_kinds::RecordType;
 use dns_octets::AsOctets;
 use dns_resource::Record;
@@ -53,15 +53,14 @@ fn is_hash_for<Owner: AsOctets, Octets: AsOctets>(
 
 /// Whether an NSEC3 names the hash of the one that comes next.
 fn names_next<Owner: AsOctets, Octets: AsOctets>(
-    origin: &Name<&[u8]>,
-    records: &SortedRecords<'_, Owner, Octets>,
+    zone: &SignedZone<'_, '_, Owner, Octets>,
     chain: &Record<Owner, Octets>,
     record: &Record<Owner, Octets>,
 ) -> bool
-    ensures { result ≡ points_to_next origin.now records.now chain.now «record».now }
+    ensures { result ≡ points_to_next (zone_of zone.now) chain.now «record».now }
 {
-    match next_in_chain(records, chain, &view(&record.owner)) {
-        Some(next) => is_hash_for(origin, next_hash(record), next),
+    match next_in_chain(zone.records, chain, &view(&record.owner)) {
+        Some(next) => is_hash_for(zone.origin, next_hash(record), next),
         None => false,
     }
 }
@@ -69,72 +68,65 @@ fn names_next<Owner: AsOctets, Octets: AsOctets>(
 /// Whether an NSEC3PARAM names a chain of which a record is, and the record names another than the
 /// next hash.
 fn is_out_of_order<Owner: AsOctets, Octets: AsOctets>(
-    origin: &Name<&[u8]>,
-    records: &SortedRecords<'_, Owner, Octets>,
+    zone: &SignedZone<'_, '_, Owner, Octets>,
     chain: &Record<Owner, Octets>,
     record: &Record<Owner, Octets>,
 ) -> bool
-    ensures { result ≡ names_chain chain.now && (is_link chain.now «record».now
-        && not (points_to_next origin.now records.now chain.now «record».now)) }
+    ensures { result ≡ names_chain chain.now && is_out_of_order (zone_of zone.now) «record».now chain.now }
 {
-    is_chain(chain) && is_of_chain(chain, record) && !names_next(origin, records, chain, record)
+    is_chain(chain) && is_of_chain(chain, record) && !names_next(zone, chain, record)
 }
 
 /// Whether a record is of a chain, and names another than the next hash.
 fn breaks_order<Owner: AsOctets, Octets: AsOctets>(
-    origin: &Name<&[u8]>,
-    records: &SortedRecords<'_, Owner, Octets>,
+    zone: &SignedZone<'_, '_, Owner, Octets>,
     record: &Record<Owner, Octets>,
 ) -> bool
-    ensures { result ≡ some_chain (λ chain. is_link chain «record».now
-        && not (points_to_next origin.now records.now chain «record».now)) origin.now records.now }
+    ensures { result ≡ some_chain (is_out_of_order (zone_of zone.now) «record».now) (zone_of zone.now) }
 {
-    owned_by(records, origin)
+    owned_by(zone.records, zone.origin)
         .iter()
-        .any(|chain| is_out_of_order(origin, records, chain, record))
+        .any(|chain| is_out_of_order(zone, chain, record))
 }
 
 /// Whether a record is an NSEC3 of a chain that names another than the next hash.
 pub fn has_wrong_next_hash<Owner: AsOctets, Octets: AsOctets>(
-    origin: &Name<&[u8]>,
-    records: &SortedRecords<'_, Owner, Octets>,
+    zone: &SignedZone<'_, '_, Owner, Octets>,
     record: &Record<Owner, Octets>,
 ) -> bool
-    ensures { result ≡ names_other_hash origin.now records.now «record».now }
+    ensures { result ≡ names_other_hash (zone_of zone.now) «record».now }
 {
-    record.data.rtype() == RecordType::NSEC3 && breaks_order(origin, records, record)
+    record.data.rtype() == RecordType::NSEC3 && breaks_order(zone, record)
 }
 
 /// Whether no NSEC3 matches a name.
 fn is_without_link<'a, Owner: AsOctets, Octets: AsOctets>(
     hashes: &mut Hashes<'a>,
-    origin: &Name<&[u8]>,
-    records: &SortedRecords<'a, Owner, Octets>,
+    zone: &SignedZone<'_, 'a, Owner, Octets>,
     chain: &'a Record<Owner, Octets>,
     name: &Name<&'a [u8]>,
 ) -> bool
-    ensures { result ≡ lacks_link origin.now records.now chain.now name.now }
+    ensures { result ≡ lacks_link (zone_of zone.now) chain.now name.now }
 {
-    link_for(hashes, origin, records, chain, name).is_none()
+    link_for(hashes, zone, chain, name).is_none()
 }
 
 /// Whether no NSEC3 matches a name, and the one that covers it has Opt-Out.
 fn is_in_opt_out<'a, Owner: AsOctets, Octets: AsOctets>(
     hashes: &mut Hashes<'a>,
-    origin: &Name<&[u8]>,
-    records: &SortedRecords<'a, Owner, Octets>,
+    zone: &SignedZone<'_, 'a, Owner, Octets>,
     chain: &'a Record<Owner, Octets>,
     name: &Name<&'a [u8]>,
 ) -> bool
-    ensures { result ≡ is_covered_by_opt_out origin.now records.now chain.now name.now }
+    ensures { result ≡ is_covered_by_opt_out (zone_of zone.now) chain.now name.now }
 {
-    if !is_without_link(hashes, origin, records, chain, name) {
+    if !is_without_link(hashes, zone, chain, name) {
         return false;
     }
-    let Some(owner) = owner_for(hashes, origin, chain, name) else {
+    let Some(owner) = owner_for(hashes, zone.origin, chain, name) else {
         return false;
     };
-    match covering_link(records, chain, &view(&owner)) {
+    match covering_link(zone.records, chain, &view(&owner)) {
         Some(link) => has_opt_out(link),
         None => false,
     }
@@ -143,30 +135,28 @@ fn is_in_opt_out<'a, Owner: AsOctets, Octets: AsOctets>(
 /// Whether a name is a delegation without DS that a chain leaves out.
 fn is_left_out<'a, Owner: AsOctets, Octets: AsOctets>(
     hashes: &mut Hashes<'a>,
-    origin: &Name<&[u8]>,
-    records: &SortedRecords<'a, Owner, Octets>,
+    zone: &SignedZone<'_, 'a, Owner, Octets>,
     chain: &'a Record<Owner, Octets>,
     name: &Name<&'a [u8]>,
 ) -> bool
-    ensures { result ≡ is_opted_out origin.now records.now chain.now name.now }
+    ensures { result ≡ is_opted_out (zone_of zone.now) chain.now name.now }
 {
-    is_cut(origin, records, name)
-        && !has_type(records, name, RecordType::DS)
-        && is_in_opt_out(hashes, origin, records, chain, name)
+    is_cut(zone.origin, zone.records, name)
+        && !has_type(zone.records, name, RecordType::DS)
+        && is_in_opt_out(hashes, zone, chain, name)
 }
 
 /// Whether the NSEC3 that matches a name lists other types than those at the name.
 fn has_wrong_hashed_types<'a, Owner: AsOctets, Octets: AsOctets>(
     hashes: &mut Hashes<'a>,
-    origin: &Name<&[u8]>,
-    records: &SortedRecords<'a, Owner, Octets>,
+    zone: &SignedZone<'_, 'a, Owner, Octets>,
     chain: &'a Record<Owner, Octets>,
     name: &Name<&'a [u8]>,
 ) -> bool
-    ensures { result ≡ lists_other_hashed_types origin.now records.now chain.now name.now }
+    ensures { result ≡ lists_other_hashed_types (zone_of zone.now) chain.now name.now }
 {
-    match link_for(hashes, origin, records, chain, name) {
-        Some(link) => !lists_types(origin, records, name, bitmap(link)),
+    match link_for(hashes, zone, chain, name) {
+        Some(link) => !lists_types(zone.origin, zone.records, name, bitmap(link)),
         None => false,
     }
 }
@@ -175,16 +165,15 @@ fn has_wrong_hashed_types<'a, Owner: AsOctets, Octets: AsOctets>(
 fn has_fault<'a, Owner: AsOctets, Octets: AsOctets>(
     fault: LinkFault,
     hashes: &mut Hashes<'a>,
-    origin: &Name<&[u8]>,
-    records: &SortedRecords<'a, Owner, Octets>,
+    zone: &SignedZone<'_, 'a, Owner, Octets>,
     chain: &'a Record<Owner, Octets>,
     name: &Name<&'a [u8]>,
 ) -> bool
-    ensures { result ≡ fails_name fault origin.now records.now chain.now name.now }
+    ensures { result ≡ fails_name fault (zone_of zone.now) chain.now name.now }
 {
     match fault {
-        LinkFault::Missing => is_without_link(hashes, origin, records, chain, name),
-        LinkFault::DifferentTypes => has_wrong_hashed_types(hashes, origin, records, chain, name),
+        LinkFault::Missing => is_without_link(hashes, zone, chain, name),
+        LinkFault::DifferentTypes => has_wrong_hashed_types(hashes, zone, chain, name),
     }
 }
 
@@ -200,13 +189,12 @@ fn is_owner<Owner: AsOctets, Octets: AsOctets>(
 
 /// Whether a name is in the zone, and no record stands there.
 fn is_empty_name<Owner: AsOctets, Octets: AsOctets>(
-    origin: &Name<&[u8]>,
-    records: &SortedRecords<'_, Owner, Octets>,
+    zone: &SignedZone<'_, '_, Owner, Octets>,
     name: &Name<&[u8]>,
 ) -> bool
-    ensures { result ≡ is_empty_in_zone origin.now records.now name.now }
+    ensures { result ≡ is_empty_in_zone (zone_of zone.now) name.now }
 {
-    is_name_within(name, origin) && !is_owner(records, name)
+    is_name_within(name, zone.origin) && !is_owner(zone.records, name)
 }
 
 /// Whether a chain has a fault at an empty non-terminal above a name.
@@ -214,19 +202,17 @@ fn is_empty_name<Owner: AsOctets, Octets: AsOctets>(
 fn has_fault_above<'a, Owner: AsOctets, Octets: AsOctets>(
     fault: LinkFault,
     hashes: &mut Hashes<'a>,
-    origin: &Name<&[u8]>,
-    records: &SortedRecords<'a, Owner, Octets>,
+    zone: &SignedZone<'_, 'a, Owner, Octets>,
     chain: &'a Record<Owner, Octets>,
     name: &Name<&'a [u8]>,
 ) -> bool
-    ensures { result ≡ list_any (λ above. is_empty_in_zone origin.now records.now above
-        && fails_name fault origin.now records.now chain.now above) (names_above name.now) }
+    ensures { result ≡ fails_above fault (zone_of zone.now) chain.now name.now }
 {
     match parent(name) {
         Some(above) => {
-            (is_empty_name(origin, records, &above)
-                && has_fault(fault, hashes, origin, records, chain, &above))
-                || has_fault_above(fault, hashes, origin, records, chain, &above)
+            (is_empty_name(zone, &above)
+                && has_fault(fault, hashes, zone, chain, &above))
+                || has_fault_above(fault, hashes, zone, chain, &above)
         }
         None => false,
     }
@@ -236,30 +222,28 @@ fn has_fault_above<'a, Owner: AsOctets, Octets: AsOctets>(
 fn has_fault_from<'a, Owner: AsOctets, Octets: AsOctets>(
     fault: LinkFault,
     hashes: &mut Hashes<'a>,
-    origin: &Name<&[u8]>,
-    records: &SortedRecords<'a, Owner, Octets>,
+    zone: &SignedZone<'_, 'a, Owner, Octets>,
     chain: &'a Record<Owner, Octets>,
     name: &Name<&'a [u8]>,
 ) -> bool
-    ensures { result ≡ fails_at_or_above fault origin.now records.now chain.now name.now }
+    ensures { result ≡ fails_at_or_above fault (zone_of zone.now) chain.now name.now }
 {
-    has_fault(fault, hashes, origin, records, chain, name)
-        || has_fault_above(fault, hashes, origin, records, chain, name)
+    has_fault(fault, hashes, zone, chain, name)
+        || has_fault_above(fault, hashes, zone, chain, name)
 }
 
 /// Whether a name is represented in a chain.
 fn is_in_chain<'a, Owner: AsOctets, Octets: AsOctets>(
     hashes: &mut Hashes<'a>,
-    origin: &Name<&[u8]>,
-    records: &SortedRecords<'a, Owner, Octets>,
+    zone: &SignedZone<'_, 'a, Owner, Octets>,
     chain: &'a Record<Owner, Octets>,
     name: &Name<&'a [u8]>,
 ) -> bool
-    ensures { result ≡ is_represented origin.now records.now chain.now name.now }
+    ensures { result ≡ is_represented (zone_of zone.now) chain.now name.now }
 {
-    has_authority(origin, records, name)
-        && !has_type(records, name, RecordType::NSEC3)
-        && !is_left_out(hashes, origin, records, chain, name)
+    has_authority(zone.origin, zone.records, name)
+        && !has_type(zone.records, name, RecordType::NSEC3)
+        && !is_left_out(hashes, zone, chain, name)
 }
 
 /// Returns whether names are hashed for a chain: it has at most 150 iterations.
@@ -274,19 +258,16 @@ fn is_short<Owner: AsOctets, Octets: AsOctets>(chain: &Record<Owner, Octets>) ->
 fn is_chain_wrong<'a, Owner: AsOctets, Octets: AsOctets>(
     fault: LinkFault,
     hashes: &mut Hashes<'a>,
-    origin: &Name<&[u8]>,
-    records: &SortedRecords<'a, Owner, Octets>,
+    zone: &SignedZone<'_, 'a, Owner, Octets>,
     chain: &'a Record<Owner, Octets>,
     name: &Name<&'a [u8]>,
 ) -> bool
-    ensures { result ≡ names_chain chain.now && (is_bounded chain.now
-        && (is_represented origin.now records.now chain.now name.now
-        && fails_at_or_above fault origin.now records.now chain.now name.now)) }
+    ensures { result ≡ names_chain chain.now && chain_fails fault (zone_of zone.now) name.now chain.now }
 {
     is_chain(chain)
         && is_short(chain)
-        && is_in_chain(hashes, origin, records, chain, name)
-        && has_fault_from(fault, hashes, origin, records, chain, name)
+        && is_in_chain(hashes, zone, chain, name)
+        && has_fault_from(fault, hashes, zone, chain, name)
 }
 
 /// Whether a name is represented in a chain of few iterations which has a fault there.
@@ -294,19 +275,16 @@ fn is_chain_wrong<'a, Owner: AsOctets, Octets: AsOctets>(
 fn has_fault_in_chain<'a, Owner: AsOctets, Octets: AsOctets>(
     fault: LinkFault,
     hashes: &mut Hashes<'a>,
-    origin: &Name<&[u8]>,
-    records: &SortedRecords<'a, Owner, Octets>,
+    zone: &SignedZone<'_, 'a, Owner, Octets>,
     name: &Name<&'a [u8]>,
 ) -> bool
-    ensures { result ≡ some_chain (λ chain. is_bounded chain
-        && (is_represented origin.now records.now chain name.now
-        && fails_at_or_above fault origin.now records.now chain name.now)) origin.now records.now }
+    ensures { result ≡ some_chain (chain_fails fault (zone_of zone.now) name.now) (zone_of zone.now) }
 {
-    let all = owned_by(records, origin);
+    let all = owned_by(zone.records, zone.origin);
     let mut is_wrong = false;
     for chain in all {
         if !is_wrong {
-            is_wrong = is_chain_wrong(fault, hashes, origin, records, chain, name);
+            is_wrong = is_chain_wrong(fault, hashes, zone, chain, name);
         }
     }
     is_wrong
@@ -317,13 +295,12 @@ fn has_fault_in_chain<'a, Owner: AsOctets, Octets: AsOctets>(
 pub fn is_link_wrong<'a, Owner: AsOctets, Octets: AsOctets>(
     fault: LinkFault,
     hashes: &mut Hashes<'a>,
-    origin: &Name<&[u8]>,
-    records: &SortedRecords<'a, Owner, Octets>,
+    zone: &SignedZone<'_, 'a, Owner, Octets>,
     place: usize,
     record: &'a Record<Owner, Octets>,
 ) -> bool
-    ensures { result ≡ fails_chain fault origin.now records.now place «record».now }
+    ensures { result ≡ fails_chain fault (zone_of zone.now) place «record».now }
 {
-    is_first_at_owner(records, place, record)
-        && has_fault_in_chain(fault, hashes, origin, records, &view(&record.owner))
+    is_first_at_owner(zone.records, place, record)
+        && has_fault_in_chain(fault, hashes, zone, &view(&record.owner))
 }

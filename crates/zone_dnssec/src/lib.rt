@@ -17,6 +17,7 @@ pub mod rule;
 pub mod sets;
 pub mod signatures;
 pub mod times;
+pub mod zone;
 
 pub use check::check_signed;
 pub use rule::{SecurityFinding, SecurityRule};

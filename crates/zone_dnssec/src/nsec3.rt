@@ -8,10 +8,12 @@ ghost use Rattle.dns_wire.specs.Order.{same_name};
 ghost use Rattle.zone_dnssec.specs.Nsec3Chain.{hashed_bitmap, is_link, is_same_field, iterations_of, link_after, link_before, matching_link, matching_owner, next_hash_of, opts_out, salt_of, short_number};
 ghost use Rattle.zone_dnssec.specs.NsecChain.{comes_after};
 ghost use Rattle.zone_dnssec.specs.Parameters.{field_octets, names_chain};
+ghost use Rattle.zone_dnssec.specs.ZoneViews.{zone_of};
 
 use crate::bitmaps::behind;
 use crate::hashes::Hashes;
 use crate::nsec3_hash::hashed_name;
+use crate::zone::SignedZone;
 use arrayvec::ArrayVec;
 use dns_kinds::RecordType;
 use dns_octets::AsOctets;
@@ -149,15 +151,14 @@ fn link_owned_by<'a, Owner: AsOctets, Octets: AsOctets>(
 /// The NSEC3 that matches a name.
 pub fn link_for<'a, Owner: AsOctets, Octets: AsOctets>(
     hashes: &mut Hashes<'a>,
-    origin: &Name<&[u8]>,
-    records: &SortedRecords<'a, Owner, Octets>,
+    zone: &SignedZone<'_, 'a, Owner, Octets>,
     chain: &'a Record<Owner, Octets>,
     name: &Name<&'a [u8]>,
 ) -> Option<&'a Record<Owner, Octets>>
-    ensures { option_copied result ≡ matching_link origin.now records.now chain.now name.now }
+    ensures { option_copied result ≡ matching_link (zone_of zone.now) chain.now name.now }
 {
-    match owner_for(hashes, origin, chain, name) {
-        Some(owner) => link_owned_by(records, chain, &view(&owner)),
+    match owner_for(hashes, zone.origin, chain, name) {
+        Some(owner) => link_owned_by(zone.records, chain, &view(&owner)),
         None => None,
     }
 }
