@@ -1,5 +1,6 @@
 pub mod FormLaws
 pub mod Fronts
+pub mod LabelEnds
 pub mod LabelParts
 pub mod NameAnswers
 pub mod NameFronts

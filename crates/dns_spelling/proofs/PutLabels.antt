@@ -1,7 +1,7 @@
 -- The labels of a text that are put in front of octets.
 use Rattle.std.proofs.Common.{ℕ, zero, suc, ◌≡◌, ◌+◌, ◌-◌, ◌<◌, ◌≤◌, Bool, true, false, List, [], ◌∷◌, ◌++◌, length, take, drop, get_or, refl, sym, ap, subst, ◌∙◌, arith}
 use Rattle.std.specs.Prelude.{set, IsTrue}
-use Rattle.std.proofs.lemmas.List.{length-drop, drop-drop, drop-set, drop-set-lt, take-set, take-append-le, drop-append-le}
+use Rattle.std.proofs.lemmas.List.{length-drop, drop-drop, drop-set, drop-set-lt, take-set, take-append-le, drop-append-le, get_or_append_left}
 use Rattle.std.proofs.Math.Seq.{take-add}
 use Rattle.dns_octets.specs.Room.{Room}
 use Rattle.dns_wire.specs.Wire.{wire_length}
@@ -27,14 +27,17 @@ pub record LabelThere (text : List ℕ) (start count : ℕ) : Type 0 where
   pub short : count ≤ 63
   pub each : (k : ℕ) → k < count → (get_or (drop start text) k 0 ≡ 46 → ⊥) × (get_or (drop start text) k 0 ≡ 92 → ⊥)
 
-pub label_there : (text own : List ℕ) (start count : ℕ) → own ≡ drop start text → count ≤ length own → (count ≡ 0 → ⊥) → count ≤ 63
-    → ((k : ℕ) → k < count → (get_or own k 0 ≡ 46 → ⊥) × (get_or own k 0 ≡ 92 → ⊥)) → LabelThere text start count
-label_there text own start count e within some short each = record {
-  within = omega (arith, within, ap length e);
-  some = omega (arith, some);
-  short = short;
-  each = subst (λ r. (k : ℕ) → k < count → (get_or r k 0 ≡ 46 → ⊥) × (get_or r k 0 ≡ 92 → ⊥)) e each;
-}
+pub label_there : (text own wire : List ℕ) (start count : ℕ) → own ≡ drop start text → LabelsPut text wire start → count ≤ length own → (count ≡ 0 → ⊥) → count ≤ 63
+    → ((k : ℕ) → k < count → (get_or (drop (start + 1) wire) k 0 ≡ 46 → ⊥) × (get_or (drop (start + 1) wire) k 0 ≡ 92 → ⊥)) → LabelThere text start count
+label_there text own wire start count e i within some short each =
+    let fits : count ≤ length (drop start text) = omega (arith, within, ap length e) in
+    let same : (k : ℕ) → k < count → get_or (drop start text) k 0 ≡ get_or (drop (start + 1) wire) k 0 = (λ k less.
+    sym (ap (λ r. get_or r k 0) i.rest ∙ get_or_append_left (drop start text) i.tail 0 k (omega (arith, less, fits)))) in record {
+      within = fits;
+      some = omega (arith, some);
+      short = short;
+      each = λ k less. (λ dot. (each k less).0 (sym (same k less) ∙ dot), λ escape. (each k less).1 (sym (same k less) ∙ escape));
+    }
 
 -- the label there was put
 label_wire : (text wire : List ℕ) (start count : ℕ) → LabelsPut text wire start → LabelThere text start count

@@ -1,4 +1,5 @@
 pub mod Forms
+pub mod Lanes
 pub mod NameSpelling
 pub mod PrintedNames
 pub mod Shown

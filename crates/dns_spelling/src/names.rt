@@ -1,11 +1,13 @@
 //! Names as text (RFC 1035 section 5.1).
-ghost use Rattle.std.specs.Prelude.{ℕ, ◌≡◌, ◌≢◌, ◌⊎◌, ◌<◌, ◌≤◌, List, [], ◌∷◌, length, take, slice_index, MatchBool, MatchResult, IfOk, IfErr, IfSome, IsTrue, OnOk, OnErr};
+ghost use Rattle.std.specs.Prelude.{ℕ, ◌≡◌, ◌≢◌, ◌⊎◌, ◌+◌, ◌<◌, ◌≤◌, List, [], ◌∷◌, length, take, drop, slice_index, MatchBool, MatchResult, IfOk, IfErr, IfSome, IsTrue, OnOk, OnErr};
 ghost use Rattle.std.specs.Option.{option_copied};
 ghost use Rattle.dns_octets.specs.Appending.{Extends, Gains};
 ghost use Rattle.std.specs.List.{flat_map};
+ghost use Rattle.dns_split.specs.Skip.{first_set};
 ghost use Rattle.dns_symbol.specs.Characters.{backslash, dot};
 ghost use Rattle.dns_symbol.specs.Symbol.{spell};
 ghost use Rattle.dns_symbol.specs.declared.symbol.Symbol.{Symbol};
+ghost use Rattle.dns_spelling.specs.Lanes.{MarksLabelEnds};
 ghost use Rattle.dns_spelling.specs.NameSpelling.{SpellsName, OpensLabel, EndsLabel, RefusesFrontLabel, HasBadLabel, RefusesName, GainsLabels, LacksRoomForLabels};
 ghost use Rattle.dns_kinds.specs.declared.error.ErrorKind.TheVariants.{ShortBuf};
 
@@ -13,6 +15,7 @@ use crate::spelled::{append_behind, first_spelled};
 use dns_kinds::ErrorKind;
 use dns_octets::{AsOctets, OctetsBuilder};
 use dns_wire::{MAX_LABEL, MAX_NAME, MAX_RELATIVE, Name};
+use std::simd::prelude::*;
 
 /// A label in front of a text: its own text, how many octets it has, and what follows.
 #[derive(Clone, Copy)]
@@ -22,17 +25,58 @@ struct FrontLabel<'a> {
     rest: &'a [u8],
 }
 
+/// The octets of one load.
+const LANES: usize = 16;
+
+/// A bit for each octet of a load that is a dot or a backslash.
+#[inline(always)]
+fn label_ends(load: u8x16) -> u64
+    requires { length load ≡ LANES }
+    ensures { MarksLabelEnds load result }
+{
+    let dots = load.simd_eq(u8x16::splat(b'.'));
+    (dots | load.simd_eq(u8x16::splat(b'\\'))).to_bitmask()
+}
+
+/// The place of the lowest bit that is set, or 16.
+#[inline(always)]
+fn first_set(mask: u64) -> usize
+    ensures { result ≡ first_set mask }
+{
+    if mask == 0 {
+        LANES
+    } else {
+        mask.trailing_zeros() as usize
+    }
+}
+
+/// How many octets of one load stand before the first dot and the first backslash.
+#[inline(always)]
+fn plain_run(octets: &[u8], at: usize) -> usize
+    requires { at + LANES ≤ length octets.now }
+    ensures within { result ≤ LANES }
+    ensures plain { (k : ℕ) → at ≤ k → k < at + result → (slice_index octets.now k ≢ dot) × (slice_index octets.now k ≢ backslash) }
+{
+    first_set(label_ends(u8x16::from_slice(&octets[at..])))
+}
+
 /// How many octets stand before the first dot, the first backslash, or the end of a text.
 fn plain_label_count(text: &[u8]) -> usize
     ensures within { result ≤ length text.now }
     ensures plain { (k : ℕ) → k < result → (slice_index text.now k ≢ dot) × (slice_index text.now k ≢ backslash) }
 {
-    for (place, octet) in text.iter().enumerate() {
-        if *octet == b'.' || *octet == b'\\' {
-            return place;
+    let mut place = 0;
+    'by_load: while text.len() - place >= LANES {
+        let run = plain_run(text, place);
+        if run < LANES {
+            return place + run;
         }
+        place += LANES;
     }
-    text.len()
+    'by_one: while place < text.len() && text[place] != b'.' && text[place] != b'\\' {
+        place += 1;
+    }
+    place
 }
 
 /// Whether a label ends before a text: at its end, or at a dot.
@@ -121,6 +165,19 @@ const MOST_PUT: usize = 127;
 /// The octets that labels are put in, with room behind the longest text.
 const PUT: usize = 144;
 
+/// How many octets stand after one at `start` before the first dot or backslash, but at most so many.
+fn put_label_count(wire: &[u8; PUT], start: usize, most: usize) -> usize
+    requires { start < PUT }
+    ensures within { result ≤ most }
+    ensures plain { (k : ℕ) → k < result → (slice_index (drop (start + 1) wire.now) k ≢ dot) × (slice_index (drop (start + 1) wire.now) k ≢ backslash) }
+{
+    let count = plain_label_count(&wire[start + 1..]);
+    if count > most {
+        return most;
+    }
+    count
+}
+
 /// Puts the wire form of the labels of a text without escapes in front, or returns `None` where the
 /// text is long, has an escape, or has a label that is empty or long.
 ///
@@ -137,7 +194,7 @@ fn put_labels(text: &[u8], wire: &mut [u8; PUT]) -> Option<Labels>
     let mut start = 0;
     'labels: loop {
         let rest = &text[start..];
-        let count = plain_label_count(rest);
+        let count = put_label_count(wire, start, rest.len());
         if count == 0 || count > MAX_LABEL {
             return None;
         }
