@@ -1,7 +1,10 @@
 pub mod FieldForms
+pub mod FormLaws
 pub mod Keys
 pub mod Names
+pub mod OrderLaws
 pub mod Records
 pub mod Rows
 pub mod Untexted
+pub mod UntextedOrder
 pub mod Walks

@@ -1,5 +1,5 @@
 -- What the walks over the labels of a name need and give. It follows the code.
-use Rattle.std.specs.Prelude.{◌≡◌, ℕ, ◌≤◌, List, ◌++◌, length}
+use Rattle.std.specs.Prelude.{◌≡◌, ℕ, ◌≤◌, List, ◌++◌, length, drop}
 use Rattle.std.specs.Ordering.{ordering_then}
 use Rattle.std.specs.declared.cmp.Ordering.{Ordering}
 use Rattle.dns_wire.specs.Wire.{wire, wire_label}
@@ -12,6 +12,14 @@ BeginsWithLabel octets = (label rest : List ℕ) × (octets ≡ wire_label label
 -- the octets are those of labels, so many at least
 abbrev pub HasLabels : ℕ → List ℕ → Type 0
 HasLabels count octets = (labels : List (List ℕ)) × (octets ≡ wire labels) × (count ≤ length labels)
+
+-- so many labels have the octets
+abbrev pub IsLabelCount : List ℕ → ℕ → Type 0
+IsLabelCount octets count = (labels : List (List ℕ)) → octets ≡ wire labels → count ≡ length labels
+
+-- octets of labels behind the first so many
+abbrev pub AreBehindLabels : ℕ → List ℕ → List ℕ → Type 0
+AreBehindLabels count octets rest = (labels : List (List ℕ)) → octets ≡ wire labels → rest ≡ wire (drop count labels)
 
 -- both are octets of labels, of as many
 abbrev pub AreLevel : List ℕ → List ℕ → Type 0

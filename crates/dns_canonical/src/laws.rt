@@ -1,23 +1,21 @@
 //! What holds of all names, record data and records.
-ghost use Rattle.std.specs.Prelude.{ℕ, ◌≡◌, ◌↔◌, ◌≤◌, ◌+◌, ◌*◌, List, ◌∷◌, ◌++◌, length};
+ghost use Rattle.std.specs.Prelude.{ℕ, ◌≡◌, ◌↔◌, List, length};
 ghost use Rattle.std.specs.Cmp.{IsTotalOrder};
-ghost use Rattle.std.specs.declared.cmp.Ordering.TheVariants.{Less, Equal};
+ghost use Rattle.std.specs.declared.cmp.Ordering.TheVariants.{Equal};
 ghost use Rattle.dns_octets.specs.Lowered.{lowered};
-ghost use Rattle.dns_wire.specs.Order.{lowered_wire};
-ghost use Rattle.dns_wire.specs.Wire.{wire, IsName};
 ghost use Rattle.dns_spelling.specs.NameSpelling.{IsWireName};
 ghost use Rattle.dns_fields.specs.declared.field.Field.{Field};
 ghost use Rattle.dns_kinds.specs.declared.types.RecordType.{RecordType};
 ghost use Rattle.dns_canonical.specs.FieldForms.{StartsWithFields, CanonicalFields};
-ghost use Rattle.dns_canonical.specs.Keys.{IsAtOrBelow, label_key, order_key};
+ghost use Rattle.dns_canonical.specs.FormLaws.{EachForm, HasFormWhereBegun, IsOnlyForm, KeepsBehind, StartsUntexted};
 ghost use Rattle.dns_canonical.specs.Names.{octet_order, name_order};
+ghost use Rattle.dns_canonical.specs.OrderLaws.{GoesOnByLabel, HasShortKey, IsOrderedByKey, IsTiedByKey, IsTiedByLowering, IsWithinByKey, LowersByLabels, StandsBeforeBelow, StandsBeforeMore};
 ghost use Rattle.dns_canonical.specs.Records.{RecordKey, record_order};
-ghost use Rattle.dns_canonical.specs.Untexted.{untexted_front};
 
 /// To lower all octets of a name on the wire lowers its labels and nothing else, since no length
 /// octet is a letter. The result is a name, and doing it again changes nothing.
 pub fn names_are_lowered_by_labels()
-    ensures labels { (labels : List (List ℕ)) → IsName labels → lowered (wire labels) ≡ lowered_wire labels }
+    ensures labels { (labels : List (List ℕ)) → LowersByLabels labels }
     ensures name { (form : List ℕ) → IsWireName form → IsWireName (lowered form) }
     ensures again { (octets : List ℕ) → lowered (lowered octets) ≡ lowered octets }
 {}
@@ -26,8 +24,8 @@ pub fn names_are_lowered_by_labels()
 /// stands before the names below it.
 pub fn names_are_ordered()
     ensures total { IsTotalOrder name_order }
-    ensures equal { (a b : List (List ℕ)) → IsName a → IsName b → (name_order a b ≡ Equal) ↔ (lowered (wire a) ≡ lowered (wire b)) }
-    ensures below { (name : List (List ℕ)) (label : List ℕ) → name_order name (label ∷ name) ≡ Less }
+    ensures equal { (a b : List (List ℕ)) → IsTiedByLowering a b }
+    ensures below { (name : List (List ℕ)) (label : List ℕ) → StandsBeforeBelow name label }
 {}
 
 /// States that order keys compare octet by octet as their names do in canonical order, that two
@@ -35,11 +33,11 @@ pub fn names_are_ordered()
 /// the key of another if and only if the name is the other or below it. A key has at most twice as
 /// many octets as the name in wire format, less one for each label.
 pub fn keys_are_ordered_as_names()
-    ensures order { (a b : List (List ℕ)) → name_order a b ≡ octet_order (order_key a) (order_key b) }
-    ensures equal { (a b : List (List ℕ)) → (order_key a ≡ order_key b) ↔ (name_order a b ≡ Equal) }
-    ensures within { (name top : List (List ℕ)) → ((rest : List ℕ) × (order_key name ≡ order_key top ++ rest)) ↔ IsAtOrBelow name top }
-    ensures below { (label : List ℕ) (name : List (List ℕ)) → order_key (label ∷ name) ≡ order_key name ++ label_key (lowered label) }
-    ensures length { (labels : List (List ℕ)) → length (order_key labels) + length labels ≤ 2 * length (wire labels) }
+    ensures order { (a b : List (List ℕ)) → IsOrderedByKey a b }
+    ensures equal { (a b : List (List ℕ)) → IsTiedByKey a b }
+    ensures within { (name top : List (List ℕ)) → IsWithinByKey name top }
+    ensures below { (label : List ℕ) (name : List (List ℕ)) → GoesOnByLabel label name }
+    ensures length { (labels : List (List ℕ)) → HasShortKey labels }
 {}
 
 /// The order of octets is total, and equal exactly where they are the same. Octets stand before
@@ -47,7 +45,7 @@ pub fn keys_are_ordered_as_names()
 pub fn octets_are_ordered()
     ensures total { IsTotalOrder octet_order }
     ensures equal { (a b : List ℕ) → (octet_order a b ≡ Equal) ↔ (a ≡ b) }
-    ensures absent { (octets : List ℕ) (octet : ℕ) (more : List ℕ) → octet_order octets (octets ++ octet ∷ more) ≡ Less }
+    ensures absent { (octets : List ℕ) (octet : ℕ) (more : List ℕ) → StandsBeforeMore octets octet more }
 {}
 
 /// The order of records is total, and equal exactly where the owners' is and class, type and data
@@ -63,13 +61,12 @@ pub fn records_are_ordered()
 /// own canonical form. Octets behind the fields stay. Data of every type begins with its
 /// [`untexted_fields`](crate::untexted_fields).
 pub fn data_has_one_canonical_form()
-    ensures some { (fields : List Field) (octets : List ℕ) → StartsWithFields fields octets ↔ ((form : List ℕ) × CanonicalFields fields octets form) }
-    ensures one { (fields : List Field) (octets a b : List ℕ) → CanonicalFields fields octets a → CanonicalFields fields octets b → a ≡ b }
-    ensures length { (fields : List Field) (octets form : List ℕ) → CanonicalFields fields octets form → length form ≡ length octets }
-    ensures fields { (fields : List Field) (octets form : List ℕ) → CanonicalFields fields octets form → StartsWithFields fields form }
-    ensures alike { (fields : List Field) (octets form : List ℕ) → CanonicalFields fields octets form → lowered form ≡ lowered octets }
-    ensures behind { (fields : List Field) (octets form more : List ℕ) → CanonicalFields fields octets form
-        → CanonicalFields fields (octets ++ more) (form ++ more) }
-    ensures again { (fields : List Field) (octets form : List ℕ) → CanonicalFields fields octets form → CanonicalFields fields form form }
-    ensures untexted { (rtype : RecordType) (octets : List ℕ) → StartsWithFields (untexted_front rtype octets) octets }
+    ensures some { (fields : List Field) (octets : List ℕ) → HasFormWhereBegun fields octets }
+    ensures one { EachForm IsOnlyForm }
+    ensures length { EachForm (λ fields octets form. length form ≡ length octets) }
+    ensures fields { EachForm (λ fields octets form. StartsWithFields fields form) }
+    ensures alike { EachForm (λ fields octets form. lowered form ≡ lowered octets) }
+    ensures behind { EachForm KeepsBehind }
+    ensures again { EachForm (λ fields octets form. CanonicalFields fields form form) }
+    ensures untexted { (rtype : RecordType) (octets : List ℕ) → StartsUntexted rtype octets }
 {}

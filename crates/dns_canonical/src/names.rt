@@ -1,11 +1,11 @@
 //! The canonical form and order of names (RFC 4034 sections 6.1 and 6.2).
-ghost use Rattle.std.specs.Prelude.{ℕ, ◌≡◌, ◌<◌, ◌≤◌, ◌+◌, List, ◌++◌, length, drop, OnOk, OnErr};
+ghost use Rattle.std.specs.Prelude.{◌≡◌, ◌<◌, ◌≤◌, ◌+◌, ◌++◌, length, OnOk, OnErr};
 ghost use Rattle.dns_octets.specs.Appending.{Extends};
 ghost use Rattle.dns_octets.specs.Lowered.{lowered, lowered_order};
-ghost use Rattle.dns_wire.specs.Wire.{wire, wire_label};
+ghost use Rattle.dns_wire.specs.Wire.{wire_label};
 ghost use Rattle.dns_spelling.specs.NameSpelling.{IsWireName};
 ghost use Rattle.dns_canonical.specs.Names.{IsNameOrder};
-ghost use Rattle.dns_canonical.specs.Walks.{BeginsWithLabel, HasLabels, AreLevel, IsLevelOrder};
+ghost use Rattle.dns_canonical.specs.Walks.{AreBehindLabels, BeginsWithLabel, HasLabels, AreLevel, IsLabelCount, IsLevelOrder};
 
 use dns_octets::lowered::compare_lowered;
 use dns_octets::{OctetsBuilder, ShortBuf};
@@ -68,7 +68,7 @@ pub(crate) fn front_label(octets: &[u8]) -> FrontLabel<'_>
 /// How many labels octets are.
 fn count_labels(octets: &[u8]) -> usize
     requires { HasLabels 0 octets.now }
-    ensures { (labels : List (List ℕ)) → octets.now ≡ wire labels → result ≡ length labels }
+    ensures { IsLabelCount octets.now result }
 {
     let mut count = 0;
     let mut rest = octets;
@@ -82,7 +82,7 @@ fn count_labels(octets: &[u8]) -> usize
 /// The octets behind so many labels.
 fn behind_labels(octets: &[u8], count: usize) -> &[u8]
     requires { HasLabels count octets.now }
-    ensures { (labels : List (List ℕ)) → octets.now ≡ wire labels → result.now ≡ wire (drop count labels) }
+    ensures { AreBehindLabels count octets.now result.now }
 {
     let mut rest = octets;
     for _ in 0..count {

@@ -1,8 +1,8 @@
 //! Names in data of types that have no text form here, MD, MF, NXT and A6, and of SIG and PX.
-ghost use Rattle.std.specs.Prelude.{◌≡◌, ◌<◌, ◌≤◌, ℕ, List, length, IfSome};
-ghost use Rattle.dns_canonical.specs.FieldForms.{CanonicalFields};
+ghost use Rattle.std.specs.Prelude.{◌≡◌, ◌<◌, ◌≤◌, length, IfSome};
 ghost use Rattle.dns_canonical.specs.Names.{octet_order};
-ghost use Rattle.dns_canonical.specs.Untexted.{address_form, untexted_form, names_size, untexted_front, lowered_between};
+ghost use Rattle.dns_canonical.specs.Untexted.{address_form, untexted_form, names_size, untexted_front};
+ghost use Rattle.dns_canonical.specs.UntextedOrder.{IsUntextedOrder, LowersUntexted, lowered_within};
 
 use dns_fields::Field;
 use dns_kinds::RecordType;
@@ -103,7 +103,7 @@ pub fn untexted_fields(rtype: RecordType, octets: &[u8]) -> &'static [Field]
 
 /// The octets from `start` to before `end`.
 #[derive(Clone, Copy)]
-struct NameSpan {
+pub(crate) struct NameSpan {
     start: usize,
     end: usize,
 }
@@ -111,7 +111,7 @@ struct NameSpan {
 /// The octets of the names in data of a type without a text form.
 fn name_span(rtype: RecordType, octets: &[u8]) -> NameSpan
     ensures within { (result.start ≤ result.end) × (result.end ≤ length octets.now) }
-    ensures form { (form : List ℕ) → CanonicalFields (untexted_front rtype octets.now) octets.now form → form ≡ lowered_between result.start result.end octets.now }
+    ensures form { LowersUntexted rtype octets.now result }
 {
     let NamePlaces { front, names } = name_places(rtype, octets);
     if front > octets.len() {
@@ -130,7 +130,7 @@ fn name_span(rtype: RecordType, octets: &[u8]) -> NameSpan
 fn compare_between(left: &[u8], names: NameSpan, right: &[u8], others: NameSpan) -> Ordering
     requires left { (names.start ≤ names.end) × (names.end ≤ length left.now) }
     requires right { (others.start ≤ others.end) × (others.end ≤ length right.now) }
-    ensures { result ≡ octet_order (lowered_between names.start names.end left.now) (lowered_between others.start others.end right.now) }
+    ensures { result ≡ octet_order (lowered_within names left.now) (lowered_within others right.now) }
 {
     let lower = |octet: &u8| octet.to_ascii_lowercase();
     let first = left[..names.start]
@@ -148,7 +148,7 @@ fn compare_between(left: &[u8], names: NameSpan, right: &[u8], others: NameSpan)
 
 /// The order of the canonical forms of data of a type without a text form.
 pub fn compare_untexted(rtype: RecordType, left: &[u8], right: &[u8]) -> Ordering
-    ensures { (a b : List ℕ) → CanonicalFields (untexted_front rtype left.now) left.now a → CanonicalFields (untexted_front rtype right.now) right.now b → result ≡ octet_order a b }
+    ensures { IsUntextedOrder rtype left.now right.now result }
 {
     compare_between(left, name_span(rtype, left), right, name_span(rtype, right))
 }

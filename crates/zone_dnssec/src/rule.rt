@@ -4,13 +4,12 @@ ghost use Rattle.zone_dnssec.specs.SecurityNames.{security_name};
 
 /// A rule of DNSSEC that a record of a signed zone breaks.
 ///
-/// All are faults, with which resolvers refuse names of the zone, except for those that say that
-/// they are warnings.
+/// Whether that is an error or a warning is for the program that reports it.
 #[derive(Clone, Copy)]
 pub enum SecurityRule {
     /// The record is an RRSIG, and its time of expiration has passed (RFC 4034 section 3.1.5).
     Expired,
-    /// The record is an RRSIG that expires within the margin. A warning.
+    /// The record is an RRSIG that expires within the margin.
     ExpiresSoon,
     /// The record is an RRSIG, and its time of inception is still to come (RFC 4034 section
     /// 3.1.5).
@@ -27,7 +26,7 @@ pub enum SecurityRule {
     /// section 3).
     OtherOriginalTtl,
     /// The record is an RRSIG, and no record of the set that it covers has the TTL of the RRSIG (RFC
-    /// 4034 section 3). A warning.
+    /// 4034 section 3).
     OtherSignatureTtl,
     /// The record is the first of a set that has to be signed, and no RRSIG at its owner covers
     /// its type (RFC 4035 section 2.2).
@@ -35,8 +34,8 @@ pub enum SecurityRule {
     /// The record is the first of a set that has to be signed and is, and none of its RRSIGs fits a
     /// DNSKEY at the apex by algorithm and key tag (RFC 4035 section 2.2).
     NoKey,
-    /// The record is an RRSIG that fits no DNSKEY at the apex, and another RRSIG of the set does. A
-    /// warning: so it is while an algorithm is rolled over (RFC 6781 section 4.1.4).
+    /// The record is an RRSIG that fits no DNSKEY at the apex, and another RRSIG of the set does. So it
+    /// is while an algorithm is rolled over (RFC 6781 section 4.1.4).
     KeyMissing,
     /// The record is an RRSIG by a revoked key, and covers another type than DNSKEY (RFC 5011 section
     /// 2.1).
@@ -75,14 +74,14 @@ pub enum SecurityRule {
     /// The record is an NSEC3PARAM that names a chain of more than 150 iterations. Validators treat
     /// the zone as unsigned (RFC 9276 section 3.2), and no name is hashed for the chain.
     TooManyIterations,
-    /// The record is an NSEC3PARAM that names a chain of 51 to 150 iterations. A warning: newer
-    /// validators treat the zone as unsigned (RFC 9276 section 3.2).
+    /// The record is an NSEC3PARAM that names a chain of 51 to 150 iterations. Newer validators treat the
+    /// zone as unsigned (RFC 9276 section 3.2).
     ManyIterations,
-    /// The record is an NSEC3PARAM that names a chain of 1 to 50 iterations. A warning: there should
-    /// be none (RFC 9276 section 3.1).
+    /// The record is an NSEC3PARAM that names a chain of 1 to 50 iterations. There should be none (RFC
+    /// 9276 section 3.1).
     SomeIterations,
     /// The record is an NSEC or NSEC3, and its TTL is not the lesser of the SOA's TTL and minimum (RFC
-    /// 9077 section 3). A warning.
+    /// 9077 section 3).
     OtherDenialTtl,
     /// The record is a CDS or CDNSKEY at the apex that asks to delete DS records, and another there
     /// asks for keys (RFC 8078 section 4).

@@ -1,46 +1,19 @@
 -- Names, their octets and the names above them.
-use Rattle.std.proofs.Common.{ℕ, ◌≡◌, ◌+◌, ◌-◌, ◌<◌, ◌≤◌, Bool, true, false, cond, List, [], ◌∷◌, ◌++◌, length, take, drop, get_or, refl, sym, ap, ◌∙◌, arith, inr, length-append, length-drop, Some, None, Ok, Err}
+use Rattle.std.proofs.Common.{ℕ, ◌≡◌, ◌+◌, ◌-◌, ◌<◌, ◌≤◌, Bool, true, false, cond, List, [], ◌∷◌, ◌++◌, length, take, drop, get_or, refl, sym, ap, ◌∙◌, arith, length-append, length-drop, Some, None}
 use Rattle.std.specs.Prelude.{◌||◌}
 use Rattle.std.specs.List.{find, list_any}
 use Rattle.std.specs.Option.{option_map_or}
 use Rattle.std.proofs.Math.Seq.{take-append_seam}
 use Rattle.std.proofs.lemmas.List.{take_all, drop_at}
 use Rattle.std.proofs.lemmas.List.Elements.{All-append, All-cons, All-drop, All-nil, All-tail}
-use Rattle.dns_wire.specs.FromOctets.{SplitsIntoLabels, MakesName}
 use Rattle.dns_wire.specs.Labelled.{wire_same}
-use Rattle.dns_wire.specs.Wire.{wire, wire_label, wire_length, IsName, EndsInRoot, IsPlain}
-use Rattle.dns_wire.specs.declared.error.NameError.{NameError}
-use Rattle.dns_wire.proofs.OneAnswer.{name_same}
-use Rattle.dns_wire.proofs.Wires.{is_nil, length_wire}
+use Rattle.dns_wire.specs.Wire.{wire, wire_label, wire_length, IsName, EndsInRoot}
+use Rattle.dns_wire.proofs.Wires.{is_nil}
 use Rattle.dns_spelling.specs.Spelling.{AreOctetValues}
 use Rattle.dns_spelling.specs.NameSpelling.{IsWireName}
-use Rattle.dns_spelling.proofs.LabelParts.{wire_push, wire_length_cons}
-use Rattle.dns_spelling.proofs.NameFronts.{name_front_plain}
+use Rattle.dns_spelling.proofs.LabelParts.{wire_length_cons}
 use Rattle.zone_rules.specs.Above.{first_label_of, parent_of, names_above}
 use Rattle.zone_rules.specs.Zones.{but_root}
-
--- ---- octets of a name are one name
-
-root_ends : (label more : List ℕ) → IsPlain label → 0 ∷ [] ≡ wire_label label ++ more → ⊥
-root_ends label more plain e = let some = plain.0 in omega (arith, some, ap (λ r. get_or r 0 0) e)
-
-splits : (octets : List ℕ) → (h : IsWireName octets) → SplitsIntoLabels octets h.absolute.0 (0 ∷ [])
-splits octets h = record {
-  spelled = h.whole ∙ ap wire h.absolute.1 ∙ wire_push h.absolute.0 [];
-  plain = name_front_plain h.labels h.absolute.0 h.is_name h.absolute.1;
-  ends = root_ends;
-}
-
-makes : (octets : List ℕ) → (h : IsWireName octets) → MakesName octets (Ok h.labels)
-makes octets h =
-    inr (
-      omega (arith, h.is_name.fits, length_wire h.labels, ap length h.whole),
-      (h.absolute.0, 0 ∷ [], splits octets h, (refl, h.absolute.1)),
-    )
-
--- octets of a name are not refused
-pub never_refused : (octets : List ℕ) (e : NameError) → IsWireName octets → MakesName octets (Err e) → ⊥
-never_refused octets e h r = let same = name_same octets (Err e) (Ok h.labels) r (makes octets h) in cc
 
 -- ---- the name above
 

@@ -4,6 +4,7 @@ use Rattle.std.specs.Cmp.Lexicographic.{pointwise}
 use Rattle.std.specs.List.{list_any}
 use Rattle.std.specs.Option.{option_map_or}
 use Rattle.dns_wire.specs.Order.{same_name}
+use Rattle.dns_kinds.specs.Classes.{internet}
 use Rattle.dns_kinds.specs.Rtype as Rtype
 use Rattle.dns_kinds.specs.declared.types.RecordType.{RecordType}
 use Rattle.dns_resource.specs.Records.{data_of}
@@ -87,7 +88,7 @@ names_host test r = option_map_or test (host_of r) false
 
 -- and its class is IN, where a host has addresses
 abbrev pub names_internet_host : {N O : Type 0} → (List (List ℕ) → Bool) → Record N O → Bool
-names_internet_host test r = r.class == 1 && names_host test r
+names_internet_host test r = r.class == internet && names_host test r
 
 -- a name has CNAME, of its own or, where the zone has its data, from a wildcard
 abbrev pub is_alias : {N O : Type 0} → List (List ℕ) → List (Record N O) → List RrsetName → List (List ℕ) → Bool

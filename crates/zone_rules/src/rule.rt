@@ -4,8 +4,7 @@ ghost use Rattle.zone_rules.specs.RuleNames.{rule_name};
 
 /// A rule that a zone, or one of its records, breaks.
 ///
-/// The first thirteen are faults, with which servers refuse the zone or parts of it; the others are
-/// warnings.
+/// Whether that is an error or a warning is for the program that reports it.
 #[derive(Clone, Copy, PartialEq, Eq)]
 pub enum Rule {
     /// No SOA stands at the apex (RFC 1034 section 4.2.1).

@@ -5,11 +5,11 @@ use Rattle.dns_canonical.proofs.laws.data_has_one_canonical_form.Goals as goal
 pub returns : goal.returns
 returns c = record {
   some = λ fields octets. (forms_some fields octets, λ h. forms_begin fields octets h.0 h.1);
-  one = forms_same;
+  one = λ fields octets form h other. forms_same fields octets form other h;
   length = forms_long;
   fields = λ fields octets form h. forms_begin fields form form (forms_again fields octets form h);
   alike = forms_alike;
-  behind = forms_behind;
+  behind = λ fields octets form h more. forms_behind fields octets form more h;
   again = forms_again;
   untexted = untexted_starts;
 }

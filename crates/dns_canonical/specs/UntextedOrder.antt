@@ -1,0 +1,24 @@
+-- The order of data of types that have no text form here.
+use Rattle.std.specs.Prelude.{◌≡◌, ℕ, List}
+use Rattle.std.specs.declared.cmp.Ordering.{Ordering}
+use Rattle.dns_kinds.specs.declared.types.RecordType.{RecordType}
+use Rattle.dns_canonical.specs.FieldForms.{CanonicalFields}
+use Rattle.dns_canonical.specs.Names.{octet_order}
+use Rattle.dns_canonical.specs.Untexted.{lowered_between, untexted_front}
+use Rattle.dns_canonical.specs.declared.untexted.NameSpan.{NameSpan}
+
+-- octets with those of the names in lower case
+abbrev pub lowered_within : NameSpan → List ℕ → List ℕ
+lowered_within names octets = lowered_between names.start names.end octets
+
+-- the canonical form of data of a type
+abbrev pub IsUntextedForm : RecordType → List ℕ → List ℕ → Type 0
+IsUntextedForm rtype octets form = CanonicalFields (untexted_front rtype octets) octets form
+
+-- it has the octets of the names in lower case
+abbrev pub LowersUntexted : RecordType → List ℕ → NameSpan → Type 0
+LowersUntexted rtype octets names = (form : List ℕ) → IsUntextedForm rtype octets form → form ≡ lowered_within names octets
+
+-- the order of the canonical forms
+abbrev pub IsUntextedOrder : RecordType → List ℕ → List ℕ → Ordering → Type 0
+IsUntextedOrder rtype left right order = (a b : List ℕ) → IsUntextedForm rtype left a → IsUntextedForm rtype right b → order ≡ octet_order a b
