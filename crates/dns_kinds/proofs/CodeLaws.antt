@@ -1,11 +1,14 @@
 -- Types, classes, algorithms and types of certificates are read as they are printed.
-use Rattle.std.proofs.Common.{ℕ, ◌≡◌, ◌<◌, ◌^◌, ◌++◌, Bool, true, false, Option, List, [], ◌∷◌, get_or, refl, sym, subst, arith, ap, ◌∙◌, inl, inr, decimal}
+use Rattle.std.proofs.Common.{ℕ, ◌≡◌, ◌<◌, ◌^◌, ◌++◌, Bool, true, false, Option, None, List, [], ◌∷◌, length, get_or, refl, sym, subst, arith, ap, ◌∙◌, inl, inr, decimal}
 use Rattle.std.specs.Prelude.{◌==◌, if◌then◌else◌, codes, MatchOption}
 use Rattle.std.specs.Char.{digit_value, to_ascii_lowercase}
+use Rattle.std.specs.Str.{bytes_eq}
+use Rattle.std.proofs.lemmas.List.{length-drop, length-map}
+use Rattle.dns_octets.specs.Lowered.{lowered}
 use Rattle.std.proofs.lemmas.Bool.Decides.{nat_tests}
 use Rattle.std.proofs.lemmas.Str.Parse.{digit_from_value}
 use Rattle.dns_kinds.specs.Numbers.{SpellsNumber}
-use Rattle.dns_kinds.specs.Registry.{IsNumbered, SpellsCode}
+use Rattle.dns_kinds.specs.Registry.{row_code, IsNumbered, SpellsCode}
 use Rattle.dns_kinds.specs.Types.{type_rows, type_prefix, SpellsType, type_text, TypesAreKind, is_portable, portable_text, SpellsPortable, PortableTypesAreKind, SpellsSigType, sig_type_text, SigTypesAreKind}
 use Rattle.dns_kinds.specs.Classes.{class_rows, class_prefix, SpellsClass, class_text, ClassesAreKind}
 use Rattle.dns_kinds.specs.Algorithms.{algorithm_rows, certificate_rows, SpellsAlgorithm, AlgorithmsAreKind, SpellsCertificate, certificate_text, CertificatesAreKind}
@@ -16,7 +19,7 @@ use Rattle.dns_kinds.specs.declared.classes.Class.{Class}
 use Rattle.dns_kinds.specs.declared.algorithms.Algorithm.{Algorithm}
 use Rattle.dns_kinds.specs.declared.algorithms.CertificateType.{CertificateType}
 use Rattle.dns_kinds.proofs.ReadBack.{is_kind}
-use Rattle.dns_kinds.proofs.Registries.{is_registry, digit_first, unnamed, numbered, spelled, within, once}
+use Rattle.dns_kinds.proofs.Registries.{other, is_registry, digit_first, unnamed, numbered, spelled, within, once}
 
 type_registry : is_registry type_rows type_prefix 65535 ≡ true
 unfolding type_rows
@@ -108,6 +111,21 @@ certificates_are_kind = is_kind (λ t. t.0 < 2 ^ 16) SpellsCertificate certifica
   where
     one : (text : List ℕ) (t u : CertificateType) → SpellsCertificate text t → SpellsCertificate text u → t ≡ u
     one text t u h k = let same = once certificate_rows [] 65535 text t.0 u.0 h k in λ i. record { 0 = same i }
+
+-- a text of another length has no name
+no_row : (name text : List ℕ) → length name ≡ 2 → (length text ≡ 2 → ⊥) → bytes_eq (lowered name) (lowered text) ≡ false
+no_row name text two not_two =
+    other (lowered name) (lowered text) (λ same. not_two (omega (arith, two, ap length same, length-map name to_ascii_lowercase, length-map text to_ascii_lowercase)))
+
+-- a text that names a class has 2 octets, or a prefix of 5 and a digit
+pub class_long : (text : List ℕ) (c : ℕ) → SpellsCode class_rows class_prefix 65535 text c → (length text ≡ 2 → ⊥) → 5 < length text
+class_long text c h not_two =
+    let internet = no_row (codes "IN") text refl not_two in
+    let chaos = no_row (codes "CH") text refl not_two in
+    let hesiod = no_row (codes "HS") text refl not_two in
+    let none : row_code class_rows text ≡ None = rw (internet, chaos, hesiod) refl in
+    let numbered = subst (λ (o : Option ℕ). MatchOption o (IsNumbered class_prefix 65535 text c) (λ k. c ≡ k)) none h in
+    omega (arith, numbered.1.0.0, length-drop 5 text)
 
 -- the number of an algorithm is one of 8 bits
 pub algorithm_within : (text : List ℕ) (code : ℕ) → SpellsCode algorithm_rows [] 255 text code → code < 256

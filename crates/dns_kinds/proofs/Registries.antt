@@ -17,7 +17,7 @@ use Rattle.dns_octets.specs.Lowered.{lowered}
 use Rattle.dns_kinds.specs.declared.registry.Named.{Named}
 use Rattle.dns_kinds.specs.Registry.{Row, code_rows, row_code, row_name, FindsCode, FindsNumbered, SpellsCode, IsNumbered, code_text}
 
-other : (a b : List ℕ) → (a ≡ b → ⊥) → bytes_eq a b ≡ false
+pub other : (a b : List ℕ) → (a ≡ b → ⊥) → bytes_eq a b ≡ false
 other a b differ = by (bytes_eq a b) refl
   where
     by : (r : Bool) → bytes_eq a b ≡ r → r ≡ false

@@ -1,5 +1,5 @@
 //! The classes of records (RFC 1035 section 3.2.4, RFC 3597 section 5).
-ghost use Rattle.std.specs.Prelude.{◌≡◌, Some, option_copied};
+ghost use Rattle.std.specs.Prelude.{◌≡◌, Some, false, option_copied};
 ghost use Rattle.dns_kinds.specs.Kind.{ReadsKind};
 ghost use Rattle.dns_kinds.specs.Registry.{row_name};
 ghost use Rattle.dns_kinds.specs.Classes.{class_rows, SpellsClass, class_text, ClassesAreKind};
@@ -27,6 +27,16 @@ impl Model for Class {
     ghost inverse = { λ code. record { 0 = code } };
 }
 
+/// Returns whether a text has 2 octets, or at least 6, as each text has that names a class.
+///
+/// A word that names a type and no class is mostly of another length.
+#[inline(always)]
+fn is_class_long(text: &[u8]) -> bool
+    ensures { result ≡ false → (c : Class) → SpellsClass text.now c → ⊥ }
+{
+    text.len() == 2 || text.len() > 5
+}
+
 impl Class {
     pub const IN: Class = Class(1);
 
@@ -38,6 +48,9 @@ impl Class {
     pub fn from_text(text: &[u8]) -> Result<Class, ErrorKind>
         ensures { ReadsKind SpellsClass UnknownClass text.now result }
     {
+        if !is_class_long(text) {
+            return Err(ErrorKind::UnknownClass);
+        }
         match code_from_text(&CLASSES, "CLASS", u16::MAX, text, ErrorKind::UnknownClass) {
             Ok(code) => Ok(Class(code)),
             Err(why) => Err(why),
