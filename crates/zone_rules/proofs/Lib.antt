@@ -9,4 +9,5 @@ pub mod Searches
 pub mod SharedNames
 pub mod Steps
 mod ToldRules
+pub mod Wildcards
 pub mod Within

@@ -14,7 +14,7 @@ use Rattle.dns_resource.specs.Parts.{data_part}
 use Rattle.dns_resource.specs.Records.{data_of}
 use Rattle.dns_resource.specs.TypeData.{TypeData}
 use Rattle.dns_resource.specs.declared.record.Record.{Record}
-use Rattle.zone_rules.specs.Above.{is_within}
+use Rattle.zone_rules.specs.Above.{is_wildcard, is_within}
 
 abbrev pub type_of : {N O : Type 0} → Record N O → RecordType
 type_of r = (data_of r).rtype
@@ -47,10 +47,11 @@ AreInOrder records = AllAdjacentBelow (λ a b. IsTrue (is_le (record_order (reco
 abbrev pub is_one_class : {N O : Type 0} → List (Record N O) → Bool
 is_one_class records = option_map_or (λ first. list_all (λ r. r.class == first.class) records) (slice_get records 0) true
 
--- records are in canonical order, and flags say whether one is a DNAME, and whether they have one class
-pub record IsSortedWith {N O : Type 0} (records : List (Record N O)) (has_dname in_one_class : Bool) : Type 0 where
+-- records are in canonical order, and flags say whether one is a DNAME, whether one is at a wildcard, and whether they have one class
+pub record IsSortedWith {N O : Type 0} (records : List (Record N O)) (has_dname has_wildcard in_one_class : Bool) : Type 0 where
   pub in_order : AreInOrder records
   pub dname : has_dname ≡ has_type_among Rtype.dname records
+  pub wildcard : has_wildcard ≡ list_any (λ r. is_wildcard r.owner) records
   pub one_class : in_one_class ≡ is_one_class records
 
 -- the record before a place

@@ -1,7 +1,8 @@
 //! What is in a zone: records, and RRsets of which an entry was refused.
-ghost use Rattle.std.specs.Prelude.{◌≡◌, ◌≤◌, ◌||◌, ◌∷◌, [], length};
+ghost use Rattle.std.specs.Prelude.{◌≡◌, ◌≤◌, ◌||◌, ◌∷◌, [], IsTrue, List, false, length, ℕ};
 ghost use Rattle.std.specs.List.{find, list_any};
 ghost use Rattle.dns_kinds.specs.Rtype as Rtype;
+ghost use Rattle.dns_kinds.specs.declared.types.RecordType.{RecordType};
 ghost use Rattle.dns_wire.specs.Wire.{wire_length};
 ghost use Rattle.zone_rules.specs.Above.{names_above};
 ghost use Rattle.zone_rules.specs.Present.{closest_dname, gives_address, has_address_in, is_cut_in, is_delegated_in, is_existing, is_listed, is_present, is_synthesized, rrset_of_record};
@@ -78,6 +79,17 @@ fn has_wildcard<Owner: AsOctets, Octets: AsOctets>(
     has_set(records, refused, &name_of(octets.as_slice()), rtype)
 }
 
+/// Returns whether the zone is known to have no wildcard.
+#[tactic(auto, using(crate::proofs::Wildcards::nothing_synthesized))]
+fn has_no_wildcard<Owner: AsOctets, Octets: AsOctets>(
+    records: &SortedRecords<'_, Owner, Octets>,
+    refused: &SortedSets<'_>,
+) -> bool
+    ensures { IsTrue result → (rtype : RecordType) (name : List (List ℕ)) → is_synthesized rtype name records.now refused.now ≡ false }
+{
+    !records.has_wildcard() && refused.is_empty()
+}
+
 /// Returns whether a name doesn't exist, and gets a type from the wildcard below the closest name
 /// above it that exists (RFC 4592 section 3.3.1).
 #[tactic(auto, using(crate::proofs::Neighbours::closest_short, crate::proofs::Neighbours::closest_above, crate::proofs::Neighbours::closest_nowhere))]
@@ -89,6 +101,9 @@ pub(crate) fn gets_by_wildcard<Owner: AsOctets, Octets: AsOctets>(
 ) -> bool
     ensures { result ≡ is_synthesized rtype name.now records.now refused.now }
 {
+    if has_no_wildcard(records, refused) {
+        return false;
+    }
     // No effect at run time: the proof reads that the name has at most 255 octets.
     let _octets = octets_of(name);
     match closest_existing(records, refused, name) {

@@ -1,5 +1,5 @@
 //! The RRsets of which an entry was refused: they are in the zone, and their data are not known.
-ghost use Rattle.std.specs.Prelude.{◌≡◌, ◌↔◌, ◌∷◌, IfSome, IsSome, []};
+ghost use Rattle.std.specs.Prelude.{◌≡◌, ◌↔◌, ◌∷◌, IfSome, IsSome, IsTrue, []};
 ghost use Rattle.std.specs.List.{find};
 ghost use Rattle.zone_rules.specs.Above.{names_above};
 ghost use Rattle.zone_rules.specs.Present.{AreSetsInOrder, is_listed, is_listed_within, set_order};
@@ -91,6 +91,13 @@ impl<'a> SortedSets<'a> {
         ensures { result ≡ find (is_above_earlier (λ s. s) self.now name.now) (names_above name.now) }
     {
         closest_before(self.sets, name)
+    }
+
+    /// Returns whether there are no RRsets.
+    pub(crate) fn is_empty(&self) -> bool
+        ensures { IsTrue result → self.now ≡ [] }
+    {
+        self.sets.is_empty()
     }
 
     /// Returns the RRsets.

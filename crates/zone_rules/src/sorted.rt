@@ -1,17 +1,17 @@
 //! The records of a zone in canonical order, and lookups by owner and type among them.
 ghost use Rattle.std.specs.Prelude.{◌≡◌, ◌≤◌, ◌↔◌, ◌∷◌, ◌==◌, IfSome, IsSome, filter, length, true, false};
-ghost use Rattle.std.specs.List.{find, list_all};
+ghost use Rattle.std.specs.List.{find, list_all, list_any};
 ghost use Rattle.std.specs.List.Sorted.{IsPartitionPoint, IsPartitionedBy};
 ghost use Rattle.std.specs.Ordering.{is_le};
 ghost use Rattle.dns_kinds.specs.Rtype as Rtype;
 ghost use Rattle.dns_wire.specs.Order.{same_name};
 ghost use Rattle.dns_canonical.specs.Names.{name_order};
-ghost use Rattle.zone_rules.specs.Above.{names_above};
+ghost use Rattle.zone_rules.specs.Above.{is_wildcard, names_above};
 ghost use Rattle.zone_rules.specs.Present.{rrset_of_record};
 ghost use Rattle.zone_rules.specs.Searches.{is_above_earlier};
 ghost use Rattle.zone_rules.specs.Zones.{AreInOrder, has_owner_within, has_type_among, has_type_at, is_one_class};
 
-use crate::names::{order_of, view};
+use crate::names::{is_wildcard_name, order_of, view};
 use crate::refused::RrsetName;
 use crate::search::{OfRrset, closest, closest_before, finds};
 use dns_kinds::{Class, RecordType};
@@ -48,6 +48,8 @@ pub struct SortedRecords<'a, Owner: AsOctets, Octets: AsOctets> {
     records: &'a [Record<Owner, Octets>],
     /// Whether one of the records is a DNAME.
     has_dname: bool,
+    /// Whether the owner of one of the records is a wildcard.
+    has_wildcard: bool,
     /// Whether the records are of one class, so that those of an owner are in the order of their types.
     is_one_class: bool,
 }
@@ -75,7 +77,7 @@ impl<'a, Owner: AsOctets, Octets: AsOctets> Model for SortedRecords<'a, Owner, O
 
     ghost view = { λ s. s.records.now };
 
-    ghost invariant = { λ s. IsSortedWith s.records.now s.has_dname s.is_one_class };
+    ghost invariant = { λ s. IsSortedWith s.records.now s.has_dname s.has_wildcard s.is_one_class };
 }
 
 impl<'a, Owner: AsOctets, Octets: AsOctets> SortedRecords<'a, Owner, Octets> {
@@ -90,9 +92,13 @@ impl<'a, Owner: AsOctets, Octets: AsOctets> SortedRecords<'a, Owner, Octets> {
         let has_dname = records
             .iter()
             .any(|record| record.data.rtype() == RecordType::DNAME);
+        let has_wildcard = records
+            .iter()
+            .any(|record| is_wildcard_name(&view(&record.owner)));
         Some(SortedRecords {
             records,
             has_dname,
+            has_wildcard,
             is_one_class: are_of_one_class(records),
         })
     }
@@ -102,6 +108,13 @@ impl<'a, Owner: AsOctets, Octets: AsOctets> SortedRecords<'a, Owner, Octets> {
         ensures { result ≡ has_type_among Rtype.dname self.now }
     {
         self.has_dname
+    }
+
+    /// Returns whether the owner of one of the records is a wildcard, as `new` found.
+    pub(crate) fn has_wildcard(&self) -> bool
+        ensures { result ≡ list_any (λ r. is_wildcard r.owner) self.now }
+    {
+        self.has_wildcard
     }
 
     /// Returns whether the records are of one class, as `new` found.
