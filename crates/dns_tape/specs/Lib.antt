@@ -1,4 +1,5 @@
 pub mod FirstEntry
+pub mod Parts
 pub mod Rows
 pub mod Source
 pub mod Tape

@@ -6,7 +6,7 @@ use Rattle.dns_symbol.specs.declared.symbol.Symbol.TheVariants.{Char}
 use Rattle.dns_split.specs.Lexeme.{Blank, Close, Line, Note, Open, Quote, Word}
 use Rattle.dns_split.specs.Pieces.{comment_at, end_at, quote_at, word_at}
 use Rattle.dns_tape.specs.Source.{tape_seen}
-use Rattle.dns_tape.specs.Tape.{FillsWith}
+use Rattle.dns_tape.specs.Tape.{FillsLine, FillsWith}
 use Rattle.dns_tape.specs.declared.tape.TokenSpan.{TokenSpan}
 
 -- no octets are one entry without tokens
@@ -54,6 +54,11 @@ key_and_value = record {
   tokens = refl;
   within = ((omega arith, omega arith, omega arith), ((omega arith, omega arith, omega arith), tt));
 }
+
+-- the octets go on after it
+key_and_value_line : FillsLine (codes "(k=\"v\" ;c\n)\nx") (key ∷ value ∷ []) 12
+unfolding key_and_value
+key_and_value_line = (key_and_value, omega arith)
 
 -- its tokens, where the octets begin at the offset 100
 from_hundred : tape_seen (codes "(k=\"v\" ;c\n)\nx") 100 (key ∷ value ∷ []) 12

@@ -2,6 +2,7 @@
 //! then returned without a search.
 #![tactic(auto)]
 
+mod parts;
 pub mod source;
 pub mod tape;
 

@@ -1,54 +1,37 @@
-use Rattle.std.proofs.Common.{◌≡◌, ◌∷◌, [], ap, ◌∙◌, sym, subst, refl, arith, ◌<◌, length}
-use Rattle.std.specs.Prelude.{Ok, Some}
-use Rattle.dns_split.specs.declared.pieces.Piece.TheVariants.{Word as WordAt, Quote as QuoteAt, Comment as CommentAt, End as EndAt}
-use Rattle.dns_tape.specs.Tape.{IsSpanIn, span_token}
-use Rattle.dns_tape.proofs.Filling.{comment, ends_line, first_wide, first_within, word}
+use Rattle.std.proofs.Common.{arith}
+use Rattle.dns_tape.proofs.LineFilling.{comment_filled, line_filled, quote_filled, word_filled}
 use Rattle.dns_tape.proofs.tape.fill_line.Goals as goal
 
-pub returns-in-Some-next : goal.returns-in-Some-next
-returns-in-Some-next c =
-    let rest = c.next.new.self in
-    let now : c.pieces.pieces ≡ Ok (EndAt c.in-Ok-End.end) ∷ rest = c.in-Some.ensures.steps ∙ ap (λ x. x ∷ rest) c.in-Ok-End.is ∙ ap (λ x. Ok x ∷ rest) (rw c.in-Ok-End.is at c.in-Ok-End.field-0-is) in
-    ends_line c.args.octets.now c.of_octets-pieces.result rest c.pieces.pieces c.pieces.ended c.pieces.tape.items c.pieces.invariant.fills c.in-Ok-End.end now (c.of_octets-pieces.ensures.reads, c.of_octets-pieces.ensures.within)
-    (subst (λ l. 0 < length l) (sym c.in-Some-next.ensures.steps) (omega arith))
+pub returns-then-depth-eq0 : goal.returns-then-depth-eq0
+returns-then-depth-eq0 c =
+    line_filled c.args.octets.now c.octets.depth c.octets.at c.octets.ended c.octets.tape.items c.type_inv.octets c.octets.invariant.fills c.if-depth-eq0.true (omega (arith, c.octets-test.true)) c.in-10.is
 
-pub quote_span-requires : goal.quote_span-requires
-quote_span-requires c =
-    let rest = c.next.new.self in
-    let p = c.in-Ok-Quote.span in
-    let now : c.pieces.pieces ≡ Ok (QuoteAt p) ∷ rest = c.in-Some.ensures.steps ∙ ap (λ x. x ∷ rest) c.in-Ok-Quote.is ∙ ap (λ x. Ok x ∷ rest) (rw c.in-Ok-Quote.is at c.in-Ok-Quote.field-0-is) in
-    first_wide c.args.octets.now c.of_octets-pieces.result rest c.pieces.pieces c.pieces.ended c.pieces.tape.items (Ok (QuoteAt p)) c.pieces.invariant.fills now (c.of_octets-pieces.ensures.reads, c.of_octets-pieces.ensures.within)
-
-pub pieces-preserved-in-Ok-Word : goal.pieces-preserved-in-Ok-Word
-pieces-preserved-in-Ok-Word c =
-    let rest = c.next.new.self in
-    let octets = c.args.octets.now in
-    let p = c.in-Ok-Word.span in
-    let now : c.pieces.pieces ≡ Ok (WordAt p) ∷ rest = c.in-Some.ensures.steps ∙ ap (λ x. x ∷ rest) c.in-Ok-Word.is ∙ ap (λ x. Ok x ∷ rest) (rw c.in-Ok-Word.is at c.in-Ok-Word.field-0-is) in
-    let w = first_within octets c.of_octets-pieces.result rest c.pieces.pieces c.pieces.ended c.pieces.tape.items (Ok (WordAt p)) c.pieces.invariant.fills now c.of_octets-pieces.ensures.within in
+pub octets-preserved-in-59 : goal.octets-preserved-in-59
+octets-preserved-in-59 c =
+    let inv = c.octets.invariant in
+    let e = c.in_ok-at-in-59.ensures in
     record {
-      fills = word octets c.of_octets-pieces.result rest c.pieces.pieces c.pieces.ended c.pieces.tape.items c.pieces.invariant.fills (WordAt p) c.word_span.result c.push.new.tape.items (Some p.end) now tt
-          (ap (λ s. span_token octets s ∷ []) (sym c.word_span.ensures)) (subst (IsSpanIn octets) (sym c.word_span.ensures) (omega arith, w.0, w.1)) c.if-not-push.ensures refl;
+      deep = omega (arith, inv.deep, e.some);
+      within = omega (arith, e.within);
+      fills = comment_filled c.args.octets.now c.octets.depth c.octets.at c.octets.ended c.octets.tape.items inv.fills c.in_ok-at-in-59.at c.in-59.is e;
     }
 
-pub pieces-preserved-in-Ok-Quote : goal.pieces-preserved-in-Ok-Quote
-pieces-preserved-in-Ok-Quote c =
-    let rest = c.next.new.self in
-    let octets = c.args.octets.now in
-    let p = c.in-Ok-Quote.span in
-    let now : c.pieces.pieces ≡ Ok (QuoteAt p) ∷ rest = c.in-Some.ensures.steps ∙ ap (λ x. x ∷ rest) c.in-Ok-Quote.is ∙ ap (λ x. Ok x ∷ rest) (rw c.in-Ok-Quote.is at c.in-Ok-Quote.field-0-is) in
-    let w = first_within octets c.of_octets-pieces.result rest c.pieces.pieces c.pieces.ended c.pieces.tape.items (Ok (QuoteAt p)) c.pieces.invariant.fills now c.of_octets-pieces.ensures.within in
-    let wide = first_wide octets c.of_octets-pieces.result rest c.pieces.pieces c.pieces.ended c.pieces.tape.items (Ok (QuoteAt p)) c.pieces.invariant.fills now (c.of_octets-pieces.ensures.reads, c.of_octets-pieces.ensures.within) in
+pub octets-preserved-in-34 : goal.octets-preserved-in-34
+octets-preserved-in-34 c =
+    let inv = c.octets.invariant in
+    let e = c.in_ok-end-in-34.ensures in
     record {
-      fills = word octets c.of_octets-pieces.result rest c.pieces.pieces c.pieces.ended c.pieces.tape.items c.pieces.invariant.fills (QuoteAt p) c.quote_span.result c.push-in-Ok-Quote.new.tape.items (Some p.end) now tt
-          (ap (λ s. span_token octets s ∷ []) (sym c.quote_span.ensures))
-          (subst (IsSpanIn octets) (sym c.quote_span.ensures) (omega arith, omega (arith, wide), omega (arith, w.1))) c.if-not-push-2.ensures refl;
+      deep = omega (arith, inv.deep, e.some);
+      within = e.within;
+      fills = quote_filled c.args.octets.now c.octets.depth c.octets.at c.octets.ended c.octets.tape.items inv.fills c.in_ok-end-in-34.end c.quote_span.result c.push.new.tape.items c.in-34.is e c.quote_span.ensures c.if-not-push.ensures;
     }
 
-pub pieces-preserved : goal.pieces-preserved
-pieces-preserved c =
-    let rest = c.next.new.self in
-    let octets = c.args.octets.now in
-    let p = c.in-Ok-Comment.field-0-0 in
-    let now : c.pieces.pieces ≡ Ok (CommentAt p) ∷ rest = c.in-Some.ensures.steps ∙ ap (λ x. x ∷ rest) c.in-Ok-Comment.is ∙ ap (λ x. Ok x ∷ rest) (rw c.in-Ok-Comment.is at c.in-Ok-Comment.field-0-is) in
-    record { fills = comment octets c.of_octets-pieces.result rest c.pieces.pieces c.pieces.ended c.pieces.tape.items c.pieces.invariant.fills (CommentAt p) now tt refl refl }
+pub octets-preserved : goal.octets-preserved
+octets-preserved c =
+    let inv = c.octets.invariant in
+    let e = c.in_ok-end-in_default.ensures in
+    record {
+      deep = omega (arith, inv.deep, e.some);
+      within = omega (arith, e.within);
+      fills = word_filled c.args.octets.now c.octets.depth c.octets.at c.octets.ended c.octets.tape.items inv.fills c.in_ok-end-in_default.end c.word_span.result c.push-in_default.new.tape.items e c.word_span.ensures c.if-not-push-2.ensures;
+    }

@@ -1,0 +1,50 @@
+-- A tape that is filled token by token, from where no token and no comment is open.
+use Rattle.std.proofs.Common.{◌≡◌, ℕ, ◌+◌, ◌<◌, List, [], ◌∷◌, ◌++◌, length, drop, refl, sym, ap, subst, arith, get_or, Fits, w8}
+use Rattle.std.specs.Prelude.{Option, Some, Result}
+use Rattle.dns_split.specs.declared.pieces.Fault.{Fault}
+use Rattle.dns_split.specs.declared.pieces.Piece.{Piece}
+use Rattle.dns_split.specs.Pieces.{IsGiven, comment_at, quote_at, word_at}
+use Rattle.dns_split.specs.Run.{first_blank}
+use Rattle.dns_split.proofs.Agree.{small_scalars}
+use Rattle.dns_split.proofs.PieceMoved.{reads_octets}
+use Rattle.dns_split.proofs.PieceParts.{each_within}
+use Rattle.dns_tape.specs.Parts.{IsCommentTo, IsQuoteTo, IsWordTo}
+use Rattle.dns_tape.specs.Tape.{FillsLine, IsSpanIn, quote_span, span_token, word_span}
+use Rattle.dns_tape.specs.declared.tape.TokenSpan.{TokenSpan}
+use Rattle.dns_tape.proofs.Filling.{Filling, comment, ends_line, word}
+use Rattle.dns_tape.proofs.Outside.{comment_left, feed_left, left_run, left_some, quote_left, word_left}
+
+-- what all octets give, and what those from a place on do
+abbrev pub all_left : List ℕ → List (Result Piece Fault)
+all_left octets = left_run octets 0 0 (first_blank octets)
+
+abbrev pub rest_left : List ℕ → ℕ → ℕ → List (Result Piece Fault)
+rest_left octets d at = left_run octets d at (first_blank octets)
+
+abbrev pub FillingAt : List ℕ → ℕ → ℕ → Option ℕ → List TokenSpan → Type 0
+FillingAt octets d at ended spans = Filling octets (all_left octets) (rest_left octets d at) ended spans
+
+all_given : (octets : List ℕ) → ((n : ℕ) → Fits w8 (get_or octets n 0)) → IsGiven octets (all_left octets)
+all_given octets fits = (reads_octets octets (small_scalars octets (λ n. (fits n).fits)), each_within octets (first_blank octets))
+
+module _ (octets : List ℕ) (d at : ℕ) (ended : Option ℕ) (spans : List TokenSpan) (x : FillingAt octets d at ended spans) where
+  pub word_filled : (e : ℕ) (s : TokenSpan) (new : List TokenSpan) → IsWordTo octets d at e → s ≡ word_span (record { start = at; end = e }) ended → new ≡ spans ++ s ∷ [] → FillingAt octets d e (Some e) new
+  word_filled e s new w same pushed =
+      word octets (all_left octets) (rest_left octets d e) (rest_left octets d at) ended spans x (word_at at e) s new (Some e) (word_left octets d at e (first_blank octets) w) tt
+      (ap (λ s. span_token octets s ∷ []) (sym same)) (subst (IsSpanIn octets) (sym same) (omega arith, omega (arith, w.some), omega (arith, w.within))) pushed refl
+
+  pub quote_filled : (e : ℕ) (s : TokenSpan) (new : List TokenSpan) → get_or octets at 0 ≡ 34 → IsQuoteTo octets at e → s ≡ quote_span (record { start = at; end = e }) ended → new ≡ spans ++ s ∷ [] → FillingAt octets d e (Some e) new
+  quote_filled e s new opens w same pushed =
+      word octets (all_left octets) (rest_left octets d e) (rest_left octets d at) ended spans x (quote_at at e) s new (Some e) (quote_left octets d at e (first_blank octets) opens w) tt
+      (ap (λ s. span_token octets s ∷ []) (sym same)) (subst (IsSpanIn octets) (sym same) (omega arith, omega (arith, w.some), omega (arith, w.within))) pushed refl
+
+  pub comment_filled : (e : ℕ) → get_or octets at 0 ≡ 59 → IsCommentTo octets at e → FillingAt octets d e ended spans
+  comment_filled e opens w =
+      comment octets (all_left octets) (rest_left octets d e) (rest_left octets d at) ended spans x (comment_at at e) (comment_left octets d at e (first_blank octets) opens w) tt refl refl
+
+pub line_filled : (octets : List ℕ) (d at : ℕ) (ended : Option ℕ) (spans : List TokenSpan) → ((n : ℕ) → Fits w8 (get_or octets n 0)) → FillingAt octets d at ended spans → d ≡ 0 → at < length octets → get_or octets at 0 ≡ 10
+    → FillsLine octets spans (at + 1)
+line_filled octets d at ended spans fits x none w feed =
+    let b = first_blank (drop (at + 1) octets) in
+    ends_line octets (all_left octets) (left_run octets 0 (at + 1) b) (rest_left octets 0 at) ended spans (subst (λ n. FillingAt octets n at ended spans) none x) (record { at = at + 1; begins_blank = first_blank octets })
+    (feed_left octets at (first_blank octets) w feed) (all_given octets fits) (left_some octets 0 (at + 1) b)

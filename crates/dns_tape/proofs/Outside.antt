@@ -1,0 +1,111 @@
+-- What the reader by octets gives from a place where no token and no comment is open.
+use Rattle.std.proofs.Common.{◌≡◌, ℕ, zero, suc, ◌+◌, ◌-◌, ◌<◌, ◌≤◌, arith, Bool, true, false, ◌==◌, List, [], ◌∷◌, length, drop, refl, sym, subst, ap, ◌∙◌, get_or, inl, inr}
+use Rattle.std.specs.Prelude.{◌≢◌, if◌then◌else◌, Some, None, Result, Ok}
+use Rattle.std.proofs.lemmas.List.{drop_more}
+use Rattle.std.proofs.lemmas.Bool.{cond-false, cond-true, eq-eqb}
+use Rattle.std.proofs.lemmas.Bool.Decides.{nat_tests}
+use Rattle.dns_split.specs.declared.pieces.Fault.{Fault}
+use Rattle.dns_split.specs.declared.pieces.Piece.{Piece}
+use Rattle.dns_split.specs.Pieces.{comment_at, end_at, quote_at, word_at}
+use Rattle.dns_split.specs.Run.{SameRun, Still, before, first_blank, run}
+use Rattle.dns_split.proofs.PassedLines.{run_some}
+use Rattle.dns_split.proofs.PieceSteps.{run_step, turn_closed}
+use Rattle.dns_split.proofs.Skips.{comment_given, quote_given, quote_still, word_still}
+use Rattle.dns_tape.specs.declared.parts.Part.{Part}
+use Rattle.dns_tape.specs.declared.parts.Part.TheVariants.{Word, Quote}
+use Rattle.dns_tape.specs.Parts.{AllInside, EndsWordBefore, IsCommentTo, IsQuoteTo, IsWordTo, is_inside}
+
+-- the mode that a lemma speaks of
+module _ {M : Type 0} {m : M} where
+  abbrev mode_in : (A : M → Type 0) → A m → M
+  mode_in A a = m
+
+-- from a place on, inside so many parentheses, where the token that is open began
+abbrev pub open_run : List ℕ → ℕ → ℕ → ℕ → Bool → List (Result Piece Fault)
+open_run octets d s at b = run (mode_in (λ m. (c : ℕ) → is_inside Word c ≡ true → Still m c) word_still) d s at b (drop at octets)
+
+abbrev pub left_run : List ℕ → ℕ → ℕ → Bool → List (Result Piece Fault)
+left_run octets d at b = open_run octets d at at b
+
+word_open : (s at : ℕ) → s < at → (if s == at then None else Some (word_at s at)) ≡ Some (word_at s at)
+word_open s at less = let other : (s == at) ≡ false = grind (arith, nat_tests) in cond-false _ _ _ other
+
+self_same : (at : ℕ) → (if at == at then None else Some (word_at at at)) ≡ None
+self_same at = cond-true _ _ _ (eq-eqb at at refl)
+
+first_of : (octets : List ℕ) (i c : ℕ) → i < length octets → get_or octets i 0 ≡ c → drop i octets ≡ c ∷ drop (i + 1) octets
+first_of octets i c w is = drop_more octets i 0 w ∙ ap (λ x. x ∷ drop (i + 1) octets) is
+
+-- the octet ends the word that is open
+abbrev EndsOpen : ℕ → ℕ → Type 0
+EndsOpen d c = (octets : List ℕ) (s at : ℕ) (b : Bool) → at < length octets → s < at → get_or octets at 0 ≡ c → open_run octets d s at b ≡ Ok (word_at s at) ∷ left_run octets d at b
+
+plain_ends : (d : ℕ) → EndsOpen d 32 × EndsOpen d 9 × EndsOpen d 34 × EndsOpen d 40 × EndsOpen d 59
+plain_ends d = (
+  λ octets s at b w less is. turn_closed octets _ d s at b 32 (word_at s at) _ w (sym is) refl (word_open s at less),
+  λ octets s at b w less is. turn_closed octets _ d s at b 9 (word_at s at) _ w (sym is) refl (word_open s at less),
+  λ octets s at b w less is. turn_closed octets _ d s at b 34 (word_at s at) _ w (sym is) refl (word_open s at less),
+  λ octets s at b w less is. turn_closed octets _ d s at b 40 (word_at s at) _ w (sym is) refl (word_open s at less),
+  λ octets s at b w less is. turn_closed octets _ d s at b 59 (word_at s at) _ w (sym is) refl (word_open s at less),
+)
+
+feed_ends : (d : ℕ) → EndsOpen d 10
+feed_ends zero octets s at b w less is = turn_closed octets _ zero s at b 10 (word_at s at) _ w (sym is) refl (word_open s at less)
+feed_ends (suc d) octets s at b w less is = turn_closed octets _ (suc d) s at b 10 (word_at s at) _ w (sym is) refl (word_open s at less)
+
+close_ends : (d : ℕ) → 0 < d → EndsOpen d 41
+close_ends zero some = absurd (omega (arith, some))
+close_ends (suc d) some = λ octets s at b w less is. turn_closed octets _ (suc d) s at b 41 (word_at s at) _ w (sym is) refl (word_open s at less)
+
+ends_open : (d c : ℕ) → EndsWordBefore d c → EndsOpen d c
+ends_open d c (inl is) = subst (EndsOpen d) (sym is) (plain_ends d).0
+ends_open d c (inr (inl is)) = subst (EndsOpen d) (sym is) (plain_ends d).1
+ends_open d c (inr (inr (inl is))) = subst (EndsOpen d) (sym is) (feed_ends d)
+ends_open d c (inr (inr (inr (inl is)))) = subst (EndsOpen d) (sym is) (plain_ends d).2
+ends_open d c (inr (inr (inr (inr (inl is))))) = subst (EndsOpen d) (sym is) (plain_ends d).3
+ends_open d c (inr (inr (inr (inr (inr (inl is)))))) = subst (EndsOpen d) (sym is) (plain_ends d).4
+ends_open d c (inr (inr (inr (inr (inr (inr is)))))) = subst (EndsOpen d) (sym is.0) (close_ends d is.1)
+
+-- octets inside a part, one after the other
+still_run : {m : _} (k : Part) → ((c : ℕ) → is_inside k c ≡ true → Still m c) → (octets : List ℕ) (i r : ℕ) → i + r ≤ length octets → AllInside k octets i (i + r) → SameRun m octets i (i + r)
+still_run {m} k still octets i zero w all = subst (λ j. SameRun m octets i j) (omega arith) (λ d s b. refl)
+still_run {m} k still octets i (suc r) w all = λ d s b.
+    let rest : SameRun m octets (i + 1) (i + 1 + r) = still_run k still octets (i + 1) r (omega (arith, w)) (λ n from to. all n (omega arith) (omega (arith, to))) in
+    let further : i + 1 + r ≡ i + suc r = omega arith in
+    let moved : SameRun m octets (i + 1) (i + suc r) = subst (λ j. SameRun m octets (i + 1) j) further rest in
+    ap (run m d s i b) (drop_more octets i 0 (omega (arith, w))) ∙ still (get_or octets i 0) (all i (omega arith) (omega arith)) d s i b (drop (i + 1) octets) ∙ moved d s b
+
+still_to : {m : _} (k : Part) → ((c : ℕ) → is_inside k c ≡ true → Still m c) → (octets : List ℕ) (i j : ℕ) → i ≤ j → j ≤ length octets → AllInside k octets i j → SameRun m octets i j
+still_to {m} k still octets i j o w all = subst (λ e. SameRun m octets i e) (omega (arith, o)) (still_run k still octets i (j - i) (omega (arith, o, w)) (λ n from to. all n from (omega (arith, o, to))))
+
+-- a word, a quoted string and a comment
+pub word_left : (octets : List ℕ) (d at e : ℕ) (b : Bool) → IsWordTo octets d at e → left_run octets d at b ≡ Ok (word_at at e) ∷ left_run octets d e b
+word_left octets d at e b x = still_to Word word_still octets at e (omega (arith, x.some)) (omega (arith, x.within)) x.inside d at b
+    ∙ ends_open d (get_or octets e 0) x.ends octets at e b x.within x.some refl
+
+pub quote_left : (octets : List ℕ) (d at e : ℕ) (b : Bool) → get_or octets at 0 ≡ 34 → IsQuoteTo octets at e → left_run octets d at b ≡ Ok (quote_at at e) ∷ left_run octets d e b
+quote_left octets d at e b opens x =
+    let last : ℕ = e - 1 in
+    let same : last + 1 ≡ e = omega (arith, x.some) in
+    subst (λ n. left_run octets d at b ≡ Ok (quote_at at n) ∷ left_run octets d n b) same
+    (quote_given octets (record { depth = d; at = at }) b last (omega (arith, x.some, x.within)) opens (omega (arith, x.some)) (omega (arith, x.some, x.within))
+    (still_to Quote quote_still octets (at + 1) last (omega (arith, x.some)) (omega (arith, x.within)) x.inside) x.closes).same
+
+pub comment_left : (octets : List ℕ) (d at e : ℕ) (b : Bool) → get_or octets at 0 ≡ 59 → IsCommentTo octets at e → left_run octets d at b ≡ Ok (comment_at at e) ∷ left_run octets d e b
+comment_left octets d at e b opens x =
+    (comment_given octets (record { depth = d; at = at }) b e (omega (arith, x.some, x.within)) opens (omega (arith, x.some)) (omega (arith, x.within)) x.inside
+    (λ s k. turn_closed octets _ d s e k 10 (comment_at s e) _ x.within (sym x.ends) refl refl)).same
+
+-- a line feed outside parentheses
+pub feed_left : (octets : List ℕ) (at : ℕ) (b : Bool) → at < length octets → get_or octets at 0 ≡ 10
+    → left_run octets 0 at b ≡ Ok (end_at (at + 1) b) ∷ left_run octets 0 (at + 1) (first_blank (drop (at + 1) octets))
+feed_left octets at b w is =
+    let rest : List (Result Piece Fault) = Ok (end_at (at + 1) b) ∷ left_run octets 0 (at + 1) (first_blank (drop (at + 1) octets)) in
+    ap (run (mode_in (λ m. (c : ℕ) → is_inside Word c ≡ true → Still m c) word_still) 0 at at b) (first_of octets at 10 w is) ∙ run_step (mode_in (λ m. (c : ℕ) → is_inside Word c ≡ true → Still m c) word_still) 0 at at b 10 (drop (at + 1) octets) _ refl ∙ ap (λ o. before o rest) (self_same at)
+
+more_than_none : (l : List (Result Piece Fault)) → l ≢ [] → 0 < length l
+more_than_none [] h = absurd (h refl)
+more_than_none (x ∷ l) h = omega arith
+
+pub left_some : (octets : List ℕ) (d at : ℕ) (b : Bool) → 0 < length (left_run octets d at b)
+left_some octets d at b = more_than_none (left_run octets d at b) (run_some _ d at at b (drop at octets))
