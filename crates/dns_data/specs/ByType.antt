@@ -11,6 +11,7 @@ use Rattle.dns_data.specs.Data.{SpellsData, IsDataOf, ReadsData}
 use Rattle.dns_data.specs.Generic.{BeginsGeneric, SpellsGeneric, generic_form}
 use Rattle.dns_data.specs.Rests.{RefusesRest}
 use Rattle.dns_data.specs.Types.{TypeShape, type_shapes, row_shape}
+use Rattle.dns_fields.specs.TokenParsers.{TokenParser}
 use Rattle.dns_fields.specs.RecordErrors.{error_at, error_of_type}
 use Rattle.dns_fields.specs.declared.record_error.RecordError.{RecordError}
 use Rattle.dns_kinds.specs.declared.error.ErrorKind.TheVariants.{NotOfType, NoDataType, NoTextForm}
@@ -50,7 +51,7 @@ RefusesGeneric found room end tokens old r left new =
     RefusesRest room generic_form end tokens old r left new
     ⊎ ((r ≡ error_at (next_place tokens end) NotOfType) × (left ≡ []) × Gains (λ o. SpellsGeneric tokens o × ((shape : Shape) × HasShape found shape × (IsDataOf shape o → ⊥))) old new)
 
-abbrev pub ReadsGeneric : Option TypeRow → Room → ℕ → List TokenSeen → List ℕ → Result (Unit {0}) RecordError → List TokenSeen → List ℕ → Type 0
+abbrev pub ReadsGeneric : Option TypeRow → Room → TokenParser (Unit {0})
 ReadsGeneric row room end tokens old (Ok _) left new = (left ≡ []) × Gains (SpellsGenericData (option_map row_shape row) tokens) old new
 ReadsGeneric row room end tokens old (Err r) left new = RefusesGeneric (option_map row_shape row) room end tokens old r left new
 
@@ -69,7 +70,7 @@ RefusesData origin room rtype end tokens old r left new =
     ⊎ ((BeginsGeneric tokens → ⊥) × ((shape : Shape) × HasShape (shape_of_code rtype) shape × ReadsData origin room shape end tokens old (Err r) left new))
 
 -- all tokens are taken, and the target gained the data that they spell; or they are refused
-abbrev pub TakesData : Option (List (List ℕ)) → Room → RecordType → ℕ → List TokenSeen → List ℕ → Result (Unit {0}) RecordError → List TokenSeen → List ℕ → Type 0
+abbrev pub TakesData : Option (List (List ℕ)) → Room → RecordType → TokenParser (Unit {0})
 TakesData origin room rtype end tokens old (Ok _) left new = (left ≡ []) × Gains (SpellsTypeData origin rtype tokens) old new
 TakesData origin room rtype end tokens old (Err r) left new = RefusesData origin room rtype end tokens old r left new
 
@@ -77,6 +78,6 @@ TakesData origin room rtype end tokens old (Err r) left new = RefusesData origin
 abbrev pub RefusesType : Option (List (List ℕ)) → Room → RecordType → ℕ → List TokenSeen → List ℕ → RecordError → List TokenSeen → List ℕ → Type 0
 RefusesType origin room rtype end tokens old r left new = (e : RecordError) × (r ≡ error_of_type rtype e) × RefusesData origin room rtype end tokens old e left new
 
-abbrev pub ReadsType : Option (List (List ℕ)) → Room → RecordType → ℕ → List TokenSeen → List ℕ → Result (Unit {0}) RecordError → List TokenSeen → List ℕ → Type 0
+abbrev pub ReadsType : Option (List (List ℕ)) → Room → RecordType → TokenParser (Unit {0})
 ReadsType origin room rtype end tokens old (Ok x) left new = TakesData origin room rtype end tokens old (Ok x) left new
 ReadsType origin room rtype end tokens old (Err r) left new = RefusesType origin room rtype end tokens old r left new

@@ -5,13 +5,13 @@ use Rattle.dns_octets.specs.Room.{Room}
 use Rattle.dns_octets.specs.Appending.{Extends, Gains}
 use Rattle.dns_fields.specs.Source.{next_place}
 use Rattle.dns_fields.specs.Taking.{SpellsFields, TakesAllFields, HasTaken, last_place}
+use Rattle.dns_fields.specs.TokenParsers.{TokenParser}
 use Rattle.dns_fields.specs.RecordErrors.{error_at, error_in_field}
 use Rattle.dns_fields.specs.declared.record_error.RecordError.{RecordError}
 use Rattle.dns_kinds.specs.declared.error.ErrorKind.{ErrorKind}
 use Rattle.dns_kinds.specs.declared.error.ErrorKind.TheVariants.{ShortBuf, WrongLength}
 use Rattle.dns_split.specs.EntryTokens.{TokenSeen}
-use Rattle.dns_data.specs.Rests.{TakesInParts}
-use Rattle.dns_data.specs.RestKinds.{IsRestOf, IsRestPart, rest_form}
+use Rattle.dns_data.specs.RestKinds.{IsRestOf, TakesRestParts, rest_form}
 use Rattle.dns_data.specs.Wire.{BeginsWithFields}
 use Rattle.dns_data.specs.declared.shape.Length.{Length}
 use Rattle.dns_data.specs.declared.shape.Length.TheVariants.{Any, Digest, Hash}
@@ -86,11 +86,11 @@ pub record RefusesBehindFields (origin : Option (List (List ℕ))) (room : Room)
   pub why : ((r ≡ error_in_field (length shape.fields.now - 1) (error_at (last_place shape.fields.now tokens end) (wrong_length shape.length taken.octets)))
       × (left ≡ behind) × (new ≡ middle) × HasWrongHash shape.length taken.octets)
       ⊎ ((HasWrongHash shape.length taken.octets → ⊥)
-      × (TakesInParts room (rest_form origin shape.rest) (IsRestPart origin shape.rest) (length shape.fields.now) end behind middle (Err r) left new
+      × (TakesRestParts origin room shape.rest (length shape.fields.now) end behind middle (Err r) left new
       ⊎ ((left ≡ []) × Gains (λ back. (rest_form origin shape.rest).spells behind back × IsWrongLength shape end behind (taken.octets ++ back) r) middle new)))
 
 -- all tokens are taken, and the target gained the data that they spell; or a field is refused, and if the tokens spell data, for lack of room alone
-abbrev pub ReadsData : Option (List (List ℕ)) → Room → Shape → ℕ → List TokenSeen → List ℕ → Result (Unit {0}) RecordError → List TokenSeen → List ℕ → Type 0
+abbrev pub ReadsData : Option (List (List ℕ)) → Room → Shape → TokenParser (Unit {0})
 ReadsData origin room shape end tokens old (Ok _) left new = (left ≡ []) × Gains (SpellsData origin shape tokens) old new
 ReadsData origin room shape end tokens old (Err r) left new =
     (TakesAllFields origin room shape.fields.now end tokens old (Err r) left new ⊎ RefusesBehindFields origin room shape end tokens old r left new)

@@ -6,6 +6,7 @@ use Rattle.dns_octets.specs.Room.{Room}
 use Rattle.dns_digits.specs.declared.kind.DigitsKind.TheVariants.{Base64 as InBase64}
 use Rattle.dns_fields.specs.Fields.{field_form}
 use Rattle.dns_fields.specs.Taking.{SpellsField}
+use Rattle.dns_fields.specs.TokenParsers.{TokenParser}
 use Rattle.dns_fields.specs.declared.record_error.RecordError.{RecordError}
 use Rattle.dns_kinds.specs.declared.error.ErrorKind.{ErrorKind}
 use Rattle.dns_kinds.specs.declared.error.ErrorKind.TheVariants.{EndOfEntry, Quoted, ExpectedGateway, UnknownGateway}
@@ -17,7 +18,7 @@ use Rattle.dns_spelling.specs.NameSpelling.{IsWireName}
 use Rattle.dns_spelling.specs.PrintedNames.{wire_name_text}
 use Rattle.dns_split.specs.EntryTokens.{TokenSeen}
 use Rattle.dns_data.specs.Digits.{digits_form}
-use Rattle.dns_data.specs.Rests.{RestForm, PrintedToken}
+use Rattle.dns_data.specs.Rests.{RestForm, PrintedToken, TakesInParts}
 use Rattle.dns_data.specs.TokenForms.{TokenForm, FieldReason, PartBehind, TakesTokenAs, then_form}
 
 abbrev pub plain_word : List ℕ → PrintedToken
@@ -53,15 +54,15 @@ ReadsGatewayType t (Ok number) = gateway_type_form.spells t (number ∷ [])
 ReadsGatewayType t (Err e) = GatewayTypeReason t e × ((octets : List ℕ) → gateway_type_form.spells t octets → ⊥)
 
 -- the number that the next token spells is appended, and the token taken; or it is refused
-abbrev pub TakesNumberAs : TokenForm → Room → ℕ → List TokenSeen → List ℕ → Result ℕ RecordError → List TokenSeen → List ℕ → Type 0
+abbrev pub TakesNumberAs : TokenForm → Room → TokenParser ℕ
 TakesNumberAs f room end tokens old (Ok number) left new = (t : TokenSeen) × (tokens ≡ t ∷ left) × f.spells t (number ∷ []) × (new ≡ old ++ number ∷ [])
 TakesNumberAs f room end tokens old (Err r) left new = TakesTokenAs room f.spells f.reason end tokens old (Err r) left new
 
 -- the type of a gateway so, and the algorithm of a key
-abbrev pub TakesGatewayType : Room → ℕ → List TokenSeen → List ℕ → Result ℕ RecordError → List TokenSeen → List ℕ → Type 0
+abbrev pub TakesGatewayType : Room → TokenParser ℕ
 TakesGatewayType = TakesNumberAs gateway_type_form
 
-abbrev pub TakesAlgorithm : Room → ℕ → List TokenSeen → List ℕ → Result ℕ RecordError → List TokenSeen → List ℕ → Type 0
+abbrev pub TakesAlgorithm : Room → TokenParser ℕ
 TakesAlgorithm = TakesNumberAs octet_form
 
 -- ---- the gateway of a type
@@ -73,6 +74,10 @@ SpellsAddress number t octets = (t.is_quoted ≡ false) × ((g : Gateway) × Spe
 -- why a token spells none: it is a quoted text, or none of the type
 abbrev pub AddressReason : TokenSeen → ErrorKind → Type 0
 AddressReason t e = ((e ≡ Quoted) × (t.is_quoted ≡ true)) ⊎ ((e ≡ ExpectedGateway) × (t.is_quoted ≡ false))
+
+-- the next word is taken as such a gateway; or it is refused
+abbrev pub TakesAddress : Room → ℕ → TokenParser (Unit {0})
+TakesAddress room number = TakesTokenAs room (SpellsAddress number) AddressReason
 
 -- the octets of a gateway that is no name
 abbrev pub IsAddressOf : ℕ → List ℕ → Type 0
@@ -121,3 +126,7 @@ gateway_key_form origin =
 abbrev pub IsGatewayPart : Option (List (List ℕ)) → List TokenSeen → List TokenSeen → ℕ → Type 0
 IsGatewayPart origin =
     PartBehind gateway_type_form (λ number. PartBehind octet_form (λ algorithm. PartBehind (gateway_form origin (slice_index number 0)) (λ gateway tokens left part. part ≡ 0)))
+
+-- all tokens are taken as these parts, after so many fields of the data; or one is refused, and the error says which part
+abbrev pub TakesGatewayParts : Option (List (List ℕ)) → Room → ℕ → TokenParser (Unit {0})
+TakesGatewayParts origin room before = TakesInParts room (gateway_key_form origin) (IsGatewayPart origin) before

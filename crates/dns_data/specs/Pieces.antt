@@ -4,10 +4,10 @@ use Rattle.dns_octets.specs.Room.{Room}
 use Rattle.dns_octets.specs.Appending.{Extends}
 use Rattle.dns_digits.specs.Reading.{DigitsState, TakesPiece, RefusesPiece}
 use Rattle.dns_fields.specs.RecordErrors.{IsErrorAt}
-use Rattle.dns_fields.specs.declared.record_error.RecordError.{RecordError}
 use Rattle.dns_kinds.specs.declared.error.ErrorKind.{ErrorKind}
 use Rattle.dns_kinds.specs.declared.error.ErrorKind.TheVariants.{EndOfEntry, Quoted}
 use Rattle.dns_fields.specs.Source.{next_place}
+use Rattle.dns_fields.specs.TokenParsers.{TokenParser}
 use Rattle.dns_split.specs.EntryTokens.{TokenSeen}
 
 -- the next token is pushed as a piece, and the target gained the octets of its groups
@@ -23,6 +23,6 @@ RefusesPush room s [] old e = e ≡ EndOfEntry
 RefusesPush room s (t ∷ ts) old e = ((e ≡ Quoted) × (t.is_quoted ≡ true)) ⊎ ((t.is_quoted ≡ false) × RefusesPiece room s t.text old e)
 
 -- the next token is pushed and taken; or it is refused, and none is taken
-abbrev pub PushesNext : Room → DigitsState → ℕ → List TokenSeen → List ℕ → Result (Unit {0}) RecordError → DigitsState → List TokenSeen → List ℕ → Type 0
-PushesNext room s end tokens old (Ok _) pushed left new = (t : TokenSeen) × (tokens ≡ t ∷ left) × PushesDigits s t old pushed new
-PushesNext room s end tokens old (Err r) pushed left new = (left ≡ tokens) × IsErrorAt (next_place tokens end) r × RefusesPush room s tokens old r.kind × Extends old new
+abbrev pub PushesNext : Room → DigitsState → DigitsState → TokenParser (Unit {0})
+PushesNext room s pushed end tokens old (Ok _) left new = (t : TokenSeen) × (tokens ≡ t ∷ left) × PushesDigits s t old pushed new
+PushesNext room s pushed end tokens old (Err r) left new = (left ≡ tokens) × IsErrorAt (next_place tokens end) r × RefusesPush room s tokens old r.kind × Extends old new

@@ -1,5 +1,5 @@
 -- Record data as the tokens that it is printed as.
-use Rattle.std.specs.Prelude.{ℕ, None, ◌≡◌, ◌+◌, if◌then◌else◌, List, [], ◌∷◌, ◌++◌, map, length, take, drop, slice_index}
+use Rattle.std.specs.Prelude.{ℕ, None, Result, OnOk, OnErr, ◌≡◌, ◌+◌, if◌then◌else◌, List, [], ◌∷◌, ◌++◌, map, length, take, drop, slice_index}
 use Rattle.dns_symbol.specs.Characters.{double_quote}
 use Rattle.dns_zone.specs.Layout.{Step, token}
 use Rattle.dns_zone.specs.Writers.{WritesSteps}
@@ -80,3 +80,11 @@ pub record FailsInSteps {F : Type 0} (blocks : F → ℕ) (step_gives : F → St
   pub stands : F
   pub steps : WritesSteps blocks step_gives w taken stands
   pub failed : step_fails stands next
+
+-- a writer took these tokens one by one
+abbrev pub PrintsTokens : {F R E : Type 0} → (F → ℕ) → (F → Step → F → Type 0) → F → List PrintedToken → Result R E → F → Type 0
+PrintsTokens blocks step_gives old tokens result new = OnOk result (WritesSteps blocks step_gives old (token_steps tokens) new)
+
+-- or it failed at one of them, once it took those before
+abbrev pub FailsInTokens : {F R E : Type 0} → (F → ℕ) → (F → Step → F → Type 0) → (F → Step → Type 0) → F → List PrintedToken → Result R E → Type 0
+FailsInTokens blocks step_gives step_fails old tokens result = OnErr result (FailsInSteps blocks step_gives step_fails old (token_steps tokens))

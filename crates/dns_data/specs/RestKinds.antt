@@ -1,11 +1,13 @@
 -- The kinds of what goes to the end of an entry.
 use Rattle.std.specs.Prelude.{ℕ, zero, suc, ◌≡◌, ◌≤◌, ◌⊎◌, Bool, true, false, Option, None, List, [], ◌∷◌, ◌++◌, map, take, drop, length}
 use Rattle.std.specs.List.{AllByRecursion}
+use Rattle.dns_octets.specs.Room.{Room}
 use Rattle.dns_spelling.specs.Shown.{text_in_quotes}
 use Rattle.dns_spelling.specs.Spelling.{AreOctetValues}
 use Rattle.dns_digits.specs.declared.kind.DigitsKind.TheVariants.{Hex as InHex, Base64 as InBase64}
 use Rattle.dns_fields.specs.Forms.{StringReason}
 use Rattle.dns_fields.specs.Taking.{SpellsEach}
+use Rattle.dns_fields.specs.TokenParsers.{TokenParser}
 use Rattle.dns_kinds.specs.declared.error.ErrorKind.{ErrorKind}
 use Rattle.dns_fields.specs.declared.field.Field.TheVariants.{String as OfString}
 use Rattle.dns_split.specs.EntryTokens.{TokenSeen}
@@ -13,7 +15,7 @@ use Rattle.dns_data.specs.Digits.{digits_form}
 use Rattle.dns_data.specs.GatewayKeys.{IsGatewayPart, gateway_key_form}
 use Rattle.dns_data.specs.ParamsRest.{params_form}
 use Rattle.dns_data.specs.PrefixLists.{IsAnyItem, has_other_family, prefixes_form}
-use Rattle.dns_data.specs.Rests.{RestForm, BehindSome, some_form}
+use Rattle.dns_data.specs.Rests.{RestForm, BehindSome, TakesInParts, some_form}
 use Rattle.dns_data.specs.LocationRest.{is_other_version, location_form}
 use Rattle.dns_data.specs.TokenForms.{AreParts}
 use Rattle.dns_data.specs.Texts.{nothing_form, text_form}
@@ -84,6 +86,10 @@ IsRestPart origin OfLocation tokens left part = part ≡ 0
 IsRestPart origin Prefixes tokens left part = part ≡ 0
 IsRestPart origin GatewayKey tokens left part = IsGatewayPart origin tokens left part
 IsRestPart origin Params tokens left part = part ≡ 0
+
+-- all tokens are taken as the parts of a kind, after so many fields of the data; or one is refused, and the error says which part
+abbrev pub TakesRestParts : Option (List (List ℕ)) → Room → Rest → ℕ → TokenParser (Unit {0})
+TakesRestParts origin room rest before = TakesInParts room (rest_form origin rest) (IsRestPart origin rest) before
 
 -- ---- octets without a text form
 

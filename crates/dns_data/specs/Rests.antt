@@ -4,6 +4,7 @@ use Rattle.dns_octets.specs.Room.{Room}
 use Rattle.dns_octets.specs.Appending.{Extends, Gains, LacksRoom}
 use Rattle.dns_split.specs.EntryTokens.{TokenSeen}
 use Rattle.dns_fields.specs.Source.{next_place}
+use Rattle.dns_fields.specs.TokenParsers.{TokenParser}
 use Rattle.dns_fields.specs.RecordErrors.{error_at, error_in_field, IsErrorAt}
 use Rattle.dns_fields.specs.declared.record_error.RecordError.{RecordError}
 use Rattle.dns_kinds.specs.declared.error.ErrorKind.{ErrorKind}
@@ -46,12 +47,12 @@ pub record RefusesRest (room : Room) (f : RestForm) (end : ℕ) (tokens : List T
   pub extends : Extends old new
 
 -- all tokens are taken, and the target gained the octets that they spell; or one is refused
-abbrev pub TakesRest : Room → RestForm → ℕ → List TokenSeen → List ℕ → Result (Unit {0}) RecordError → List TokenSeen → List ℕ → Type 0
+abbrev pub TakesRest : Room → RestForm → TokenParser (Unit {0})
 TakesRest room f end tokens old (Ok _) left new = (left ≡ []) × Gains (f.spells tokens) old new
 TakesRest room f end tokens old (Err r) left new = RefusesRest room f end tokens old r left new
 
 -- the same, of what has parts, each a field of the data after others, whose number is given; the error says which is refused
-abbrev pub TakesInParts : Room → RestForm → (List TokenSeen → List TokenSeen → ℕ → Type 0) → ℕ → ℕ → List TokenSeen → List ℕ → Result (Unit {0}) RecordError → List TokenSeen → List ℕ → Type 0
+abbrev pub TakesInParts : Room → RestForm → (List TokenSeen → List TokenSeen → ℕ → Type 0) → ℕ → TokenParser (Unit {0})
 TakesInParts room f IsPart before end tokens old (Ok x) left new = TakesRest room f end tokens old (Ok x) left new
 TakesInParts room f IsPart before end tokens old (Err r) left new =
     (e : RecordError) × (part : ℕ) × (r ≡ error_in_field (before + part) e) × RefusesRest room f end tokens old e left new × IsPart tokens left part

@@ -5,6 +5,8 @@ use Rattle.dns_octets.specs.Room.{Room}
 use Rattle.dns_octets.specs.Appending.{Extends, Gains, LacksRoom}
 use Rattle.dns_fields.specs.Fields.{field_form}
 use Rattle.dns_fields.specs.Source.{next_place}
+use Rattle.dns_fields.specs.Taking.{SpellsField}
+use Rattle.dns_fields.specs.TokenParsers.{TokenParser}
 use Rattle.dns_fields.specs.RecordErrors.{IsErrorAt}
 use Rattle.dns_fields.specs.declared.record_error.RecordError.{RecordError}
 use Rattle.dns_kinds.specs.declared.error.ErrorKind.{ErrorKind}
@@ -34,9 +36,17 @@ RefusesTokenAs room Spells Reason [] old e = e ≡ EndOfEntry
 RefusesTokenAs room Spells Reason (t ∷ ts) old e = ((e ≡ ShortBuf) × LacksRoom room (Spells t) old) ⊎ (Reason t e × ((octets : List ℕ) → Spells t octets → ⊥))
 
 -- the next token is taken, and the target gained the octets that it spells; or it is refused, and none is taken
-abbrev pub TakesTokenAs : Room → (TokenSeen → List ℕ → Type 0) → (TokenSeen → ErrorKind → Type 0) → ℕ → List TokenSeen → List ℕ → Result (Unit {0}) RecordError → List TokenSeen → List ℕ → Type 0
+abbrev pub TakesTokenAs : Room → (TokenSeen → List ℕ → Type 0) → (TokenSeen → ErrorKind → Type 0) → TokenParser (Unit {0})
 TakesTokenAs room Spells Reason end tokens old (Ok _) left new = (t : TokenSeen) × (tokens ≡ t ∷ left) × Gains (Spells t) old new
 TakesTokenAs room Spells Reason end tokens old (Err r) left new = (left ≡ tokens) × IsErrorAt (next_place tokens end) r × RefusesTokenAs room Spells Reason tokens old r.kind × Extends old new
+
+-- it is taken as a field
+abbrev pub TakesOneField : Option (List (List ℕ)) → Room → Field → TokenParser (Unit {0})
+TakesOneField origin room f = TakesTokenAs room (SpellsField origin f) (FieldReason origin f)
+
+-- it is taken as a token of a form
+abbrev pub TakesTokenOf : Room → TokenForm → TokenParser (Unit {0})
+TakesTokenOf room f = TakesTokenAs room f.spells f.reason
 
 -- ---- any number of tokens of one form
 

@@ -1,6 +1,7 @@
 //! Record data by the type of the record.
 ghost use Rattle.std.specs.Prelude.{◌≡◌, ◌≤◌, ◌↔◌, ℕ, List, [], length, IfOk, IfErr, IsTrue, option_copied};
 ghost use Rattle.dns_octets.specs.Room.{within};
+ghost use Rattle.dns_fields.specs.TokenParsers.{Parses};
 ghost use Rattle.dns_data.specs.Limits.{max_data};
 ghost use Rattle.dns_data.specs.ByType.{IsDataType, ReadsGeneric, ReadsType, RefusesType, SpellsTypeData, TakesData};
 ghost use Rattle.dns_data.specs.Generic.{BeginsGeneric};
@@ -23,15 +24,16 @@ pub fn is_data_type(rtype: RecordType) -> bool
     rtype.0 != 0 && rtype != RecordType::OPT && !(128..=255).contains(&rtype.0)
 }
 
-/// Takes the tokens that are left as data in the generic form, which have to be data of the type
-/// where it has a text form.
+/// Parses the remaining tokens as data in the generic form, which have to be data of the type if it
+/// has a text form.
 fn read_generic<S: TokenSource, B: OctetsBuilder>(
     row: Option<&'static TypeRow>,
     source: &mut S,
     target: &mut B,
 ) -> Result<(), RecordError>
     requires { BeginsGeneric (S.left source.old) }
-    ensures reads { ReadsGeneric (option_copied row.entry) B.room (S.end source.old).at (S.left source.old) (B.octets target.old) result (S.left source.new) (B.octets target.new) }
+    ensures reads { Parses (ReadsGeneric (option_copied row.entry) B.room)
+        S.left S.end B.octets source.old target.old result source.new target.new }
     ensures end { S.end source.new ≡ S.end source.old }
 {
     let at = source.place();
@@ -47,7 +49,7 @@ fn read_generic<S: TokenSource, B: OctetsBuilder>(
     }
 }
 
-/// Takes the tokens that are left as data of a type, as [`read_type`] does. An error doesn't say the
+/// Parses the remaining tokens as data of a type, as [`read_type`] does. An error doesn't say the
 /// type.
 fn take_data<S: TokenSource, Octets: AsOctets, B: OctetsBuilder + AsOctetsMut>(
     rtype: RecordType,
@@ -55,7 +57,8 @@ fn take_data<S: TokenSource, Octets: AsOctets, B: OctetsBuilder + AsOctetsMut>(
     source: &mut S,
     target: &mut B,
 ) -> Result<(), RecordError>
-    ensures takes { TakesData (option_copied origin.entry) B.room rtype (S.end source.old).at (S.left source.old) (B.octets target.old) result (S.left source.new) (B.octets target.new) }
+    ensures takes { Parses (TakesData (option_copied origin.entry) B.room rtype)
+        S.left S.end B.octets source.old target.old result source.new target.new }
     ensures end { S.end source.new ≡ S.end source.old }
 {
     if !is_data_type(rtype) {
@@ -71,18 +74,19 @@ fn take_data<S: TokenSource, Octets: AsOctets, B: OctetsBuilder + AsOctetsMut>(
     read_data(&row.shape(), origin, source, target)
 }
 
-/// Takes the tokens that are left as data of a type, in its text form or in the generic one, and
-/// appends its octets. A relative name stands before the origin.
+/// Parses the remaining tokens as data of a type, in its text form or in the generic one, and appends
+/// its octets. The origin is appended to a relative name.
 ///
-/// An error says the type, and the field where one is refused: data in the generic form, and data of
-/// which nothing is read, have no fields. [`field_text`](crate::field_text) gives the field's name.
+/// An error says the type, and the field if one is rejected: data in the generic form, and data of
+/// which nothing is read, have no fields. [`field_text`](crate::field_text) returns the field's name.
 pub fn read_type<S: TokenSource, Octets: AsOctets, B: OctetsBuilder + AsOctetsMut>(
     rtype: RecordType,
     origin: Option<&Name<Octets>>,
     source: &mut S,
     target: &mut B,
 ) -> Result<(), RecordError>
-    ensures reads { ReadsType (option_copied origin.entry) B.room rtype (S.end source.old).at (S.left source.old) (B.octets target.old) result (S.left source.new) (B.octets target.new) }
+    ensures reads { Parses (ReadsType (option_copied origin.entry) B.room rtype)
+        S.left S.end B.octets source.old target.old result source.new target.new }
     ensures end { S.end source.new ≡ S.end source.old }
 {
     match take_data(rtype, origin, source, target) {
@@ -91,8 +95,8 @@ pub fn read_type<S: TokenSource, Octets: AsOctets, B: OctetsBuilder + AsOctetsMu
     }
 }
 
-/// The octets that the tokens that are left spell as data of a type: at most 65,535. More are
-/// refused at the token with which they get too long, as lack of memory is.
+/// Parses the remaining tokens as data of a type, and returns its octets, at most 65,535. If there
+/// are more, or if memory is lacking, the error is at the token with which they get too long.
 pub fn data_of_type<
     S: TokenSource,
     Octets: AsOctets,
@@ -103,8 +107,13 @@ pub fn data_of_type<
     origin: Option<&Name<Octets>>,
     source: &mut S,
 ) -> Result<B::Octets, RecordError>
-    ensures ok { IfOk result (λ octets. (S.left source.new ≡ []) × SpellsTypeData (option_copied origin.entry) rtype (S.left source.old) (B.Octets.octets octets) × (length (B.Octets.octets octets) ≤ max_data)) }
-    ensures err { IfErr result (λ error. (new : List ℕ) × RefusesType (option_copied origin.entry) (within max_data B.room) rtype (S.end source.old).at (S.left source.old) [] error (S.left source.new) new) }
+    ensures ok { IfOk result (λ octets. (S.left source.new ≡ [])
+        × SpellsTypeData (option_copied origin.entry) rtype
+            (S.left source.old) (B.Octets.octets octets)
+        × (length (B.Octets.octets octets) ≤ max_data)) }
+    ensures err { IfErr result (λ error. (new : List ℕ)
+        × RefusesType (option_copied origin.entry) (within max_data B.room) rtype
+            (S.end source.old).at (S.left source.old) [] error (S.left source.new) new) }
     ensures end { S.end source.new ≡ S.end source.old }
 {
     let mut target = DataBuilder::<B>::new(alloc);

@@ -1,6 +1,7 @@
 //! Octets in digits to the end of an entry.
 ghost use Rattle.std.specs.Prelude.{◌≡◌, ◌∷◌, ◌++◌, [], List, ℕ, false, IfErr, OnErr, OnOk};
 ghost use Rattle.dns_octets.specs.Appending.{Extends};
+ghost use Rattle.dns_fields.specs.TokenParsers.{Parses};
 ghost use Rattle.dns_split.specs.EntryTokens.{TokenSeen};
 ghost use Rattle.dns_digits.specs.Reading.{TakesPiece, RefusesPiece};
 ghost use Rattle.dns_data.specs.Digits.{digits_form};
@@ -12,13 +13,14 @@ use dns_fields::{RecordError, TokenSource};
 use dns_kinds::ErrorKind;
 use dns_octets::OctetsBuilder;
 
-/// Pushes the word that comes next to a reader, and takes it.
+/// Pushes the next word to a reader, and takes it.
 fn push_next<S: TokenSource, B: OctetsBuilder>(
     reader: &mut DigitsReader,
     source: &mut S,
     target: &mut B,
 ) -> Result<(), RecordError>
-    ensures pushes { PushesNext B.room reader.old (S.end source.old).at (S.left source.old) (B.octets target.old) result reader.new (S.left source.new) (B.octets target.new) }
+    ensures pushes { Parses (PushesNext B.room reader.old reader.new)
+        S.left S.end B.octets source.old target.old result source.new target.new }
     ensures end { S.end source.new ≡ S.end source.old }
 {
     let at = source.place();
@@ -35,14 +37,15 @@ fn push_next<S: TokenSource, B: OctetsBuilder>(
     Ok(())
 }
 
-/// Takes the words that are left, and appends the octets that they have in digits, wherever these
-/// are cut. A quoted text is refused.
+/// Parses the remaining words as octets in digits, wherever these are cut, and appends the octets. A
+/// quoted string is rejected.
 pub fn take_digits<S: TokenSource, B: OctetsBuilder>(
     kind: DigitsKind,
     source: &mut S,
     target: &mut B,
 ) -> Result<(), RecordError>
-    ensures takes { TakesRest B.room (digits_form kind) (S.end source.old).at (S.left source.old) (B.octets target.old) result (S.left source.new) (B.octets target.new) }
+    ensures takes { Parses (TakesRest B.room (digits_form kind))
+        S.left S.end B.octets source.old target.old result source.new target.new }
     ensures end { S.end source.new ≡ S.end source.old }
 {
     let mut reader = DigitsReader::new(kind);

@@ -1,12 +1,12 @@
-//! A gateway and a public key (IPSECKEY, RFC 4025 section 2.1), behind the precedence.
+//! A gateway and a public key (IPSECKEY, RFC 4025 section 2.1), after the precedence.
 ghost use Rattle.std.specs.Prelude.{◌≡◌, ◌<◌, ◌^◌, ◌↔◌, IsTrue, None};
 ghost use Rattle.std.specs.Option.{option_copied};
-ghost use Rattle.dns_fields.specs.Taking.{SpellsField};
+ghost use Rattle.dns_fields.specs.TokenParsers.{Parses};
 ghost use Rattle.dns_spelling.specs.Forms.{FindsWidth};
 ghost use Rattle.dns_split.specs.EntryTokens.{token_seen};
-ghost use Rattle.dns_data.specs.GatewayKeys.{ReadsGatewayType, TakesGatewayType, TakesAlgorithm, SpellsAddress, AddressReason, IsAddressOf, IsGatewayPart, gateway_form, gateway_key_form, key_form};
-ghost use Rattle.dns_data.specs.Rests.{TakesInParts, TakesRest};
-ghost use Rattle.dns_data.specs.TokenForms.{FieldReason, TakesTokenAs};
+ghost use Rattle.dns_data.specs.GatewayKeys.{ReadsGatewayType, TakesGatewayType, TakesAlgorithm, TakesAddress, TakesGatewayParts, IsAddressOf, gateway_form, gateway_key_form, key_form};
+ghost use Rattle.dns_data.specs.Rests.{TakesRest};
+ghost use Rattle.dns_data.specs.TokenForms.{TakesOneField, TakesTokenOf};
 
 use crate::digits::take_digits;
 use crate::rest::take_some_digits;
@@ -23,14 +23,15 @@ use dns_wire::Name;
 /// The greatest type of a gateway, that of a name.
 pub(crate) const NAME: u8 = 3;
 
-/// Takes the next token as a field.
+/// Parses the next token as a field.
 fn take_one<S: TokenSource, Octets: AsOctets, B: OctetsBuilder>(
     field: Field,
     origin: Option<&Name<Octets>>,
     source: &mut S,
     target: &mut B,
 ) -> Result<(), RecordError>
-    ensures takes { TakesTokenAs B.room (SpellsField (option_copied origin.entry) field) (FieldReason (option_copied origin.entry) field) (S.end source.old).at (S.left source.old) (B.octets target.old) result (S.left source.new) (B.octets target.new) }
+    ensures takes { Parses (TakesOneField (option_copied origin.entry) B.room field)
+        S.left S.end B.octets source.old target.old result source.new target.new }
     ensures end { S.end source.new ≡ S.end source.old }
 {
     take_field(field, origin, source, target)
@@ -50,12 +51,13 @@ fn gateway_type(token: &EntryToken<'_>) -> Result<u8, ErrorKind>
     }
 }
 
-/// Takes the next token as the type of a gateway, and appends it.
+/// Parses the next token as the type of a gateway, and appends it.
 fn take_gateway_type<S: TokenSource, B: OctetsBuilder>(
     source: &mut S,
     target: &mut B,
 ) -> Result<u8, RecordError>
-    ensures takes { TakesGatewayType B.room (S.end source.old).at (S.left source.old) (B.octets target.old) result (S.left source.new) (B.octets target.new) }
+    ensures takes { Parses (TakesGatewayType B.room)
+        S.left S.end B.octets source.old target.old result source.new target.new }
     ensures end { S.end source.new ≡ S.end source.old }
 {
     let at = source.place();
@@ -73,13 +75,14 @@ fn take_gateway_type<S: TokenSource, B: OctetsBuilder>(
     Ok(number)
 }
 
-/// Takes the next word as a gateway that is no name.
+/// Parses the next word as a gateway that is no name.
 fn take_address<S: TokenSource, B: OctetsBuilder>(
     number: u8,
     source: &mut S,
     target: &mut B,
 ) -> Result<(), RecordError>
-    ensures takes { TakesTokenAs B.room (SpellsAddress number) AddressReason (S.end source.old).at (S.left source.old) (B.octets target.old) result (S.left source.new) (B.octets target.new) }
+    ensures takes { Parses (TakesAddress B.room number)
+        S.left S.end B.octets source.old target.old result source.new target.new }
     ensures end { S.end source.new ≡ S.end source.old }
 {
     let at = source.place();
@@ -100,14 +103,15 @@ fn take_address<S: TokenSource, B: OctetsBuilder>(
     Ok(())
 }
 
-/// Takes the next word as a gateway of a type.
+/// Parses the next word as a gateway of a type.
 fn take_gateway<S: TokenSource, Octets: AsOctets, B: OctetsBuilder>(
     number: u8,
     origin: Option<&Name<Octets>>,
     source: &mut S,
     target: &mut B,
 ) -> Result<(), RecordError>
-    ensures takes { TakesTokenAs B.room (gateway_form (option_copied origin.entry) number).spells (gateway_form (option_copied origin.entry) number).reason (S.end source.old).at (S.left source.old) (B.octets target.old) result (S.left source.new) (B.octets target.new) }
+    ensures takes { Parses (TakesTokenOf B.room (gateway_form (option_copied origin.entry) number))
+        S.left S.end B.octets source.old target.old result source.new target.new }
     ensures end { S.end source.new ≡ S.end source.old }
 {
     if number == NAME {
@@ -117,13 +121,14 @@ fn take_gateway<S: TokenSource, Octets: AsOctets, B: OctetsBuilder>(
     }
 }
 
-/// Takes the next token as the algorithm of a key, and appends it.
+/// Parses the next token as the algorithm of a key, and appends it.
 fn take_algorithm<S: TokenSource, Octets: AsOctets, B: OctetsBuilder>(
     origin: Option<&Name<Octets>>,
     source: &mut S,
     target: &mut B,
 ) -> Result<u8, RecordError>
-    ensures takes { TakesAlgorithm B.room (S.end source.old).at (S.left source.old) (B.octets target.old) result (S.left source.new) (B.octets target.new) }
+    ensures takes { Parses (TakesAlgorithm B.room)
+        S.left S.end B.octets source.old target.old result source.new target.new }
     ensures end { S.end source.new ≡ S.end source.old }
 {
     let begun = target.as_slice().len();
@@ -131,13 +136,14 @@ fn take_algorithm<S: TokenSource, Octets: AsOctets, B: OctetsBuilder>(
     Ok(target.as_slice()[begun])
 }
 
-/// Takes the tokens that are left as a key in base 64, which may be left out if the algorithm is 0.
+/// Parses the remaining tokens as a key in base 64, which may be left out if the algorithm is 0.
 fn take_key<S: TokenSource, B: OctetsBuilder>(
     algorithm: u8,
     source: &mut S,
     target: &mut B,
 ) -> Result<(), RecordError>
-    ensures takes { TakesRest B.room (key_form algorithm) (S.end source.old).at (S.left source.old) (B.octets target.old) result (S.left source.new) (B.octets target.new) }
+    ensures takes { Parses (TakesRest B.room (key_form algorithm))
+        S.left S.end B.octets source.old target.old result source.new target.new }
     ensures end { S.end source.new ≡ S.end source.old }
 {
     if algorithm == 0 {
@@ -147,12 +153,12 @@ fn take_key<S: TokenSource, B: OctetsBuilder>(
     }
 }
 
-/// Takes the tokens that are left as the type of a gateway (0 for none, 1 for an IPv4 address, 2 for
-/// an IPv6 address, 3 for a name), an algorithm, the gateway, and a key in base 64, and appends their
-/// octets. A gateway of type 0 is written `.`. A name is uncompressed, and a relative one before
-/// the origin. Other types are refused. The key may be left out only if the algorithm is 0 (RFC 4025
-/// section 2.4). These are four fields of data after `before` others. An error says which field is
-/// refused.
+/// Parses the remaining tokens as the type of a gateway (0 for none, 1 for an IPv4 address, 2 for an
+/// IPv6 address, 3 for a name), an algorithm, the gateway, and a key in base 64, and appends their
+/// octets. A gateway of type 0 is written `.`. A name is uncompressed, and the origin is appended to
+/// a relative one. Other types are rejected. The key may be left out only if the algorithm is 0 (RFC
+/// 4025 section 2.4). These are four fields of the data, after `before` others. An error says which
+/// field is rejected.
 pub(crate) fn take_gateway_parts<S: TokenSource, Octets: AsOctets, B: OctetsBuilder>(
     before: usize,
     origin: Option<&Name<Octets>>,
@@ -160,7 +166,8 @@ pub(crate) fn take_gateway_parts<S: TokenSource, Octets: AsOctets, B: OctetsBuil
     target: &mut B,
 ) -> Result<(), RecordError>
     requires { before < 2 ^ 63 }
-    ensures takes { TakesInParts B.room (gateway_key_form (option_copied origin.entry)) (IsGatewayPart (option_copied origin.entry)) before (S.end source.old).at (S.left source.old) (B.octets target.old) result (S.left source.new) (B.octets target.new) }
+    ensures takes { Parses (TakesGatewayParts (option_copied origin.entry) B.room before)
+        S.left S.end B.octets source.old target.old result source.new target.new }
     ensures end { S.end source.new ≡ S.end source.old }
 {
     let number = match take_gateway_type(source, target) {
@@ -180,14 +187,15 @@ pub(crate) fn take_gateway_parts<S: TokenSource, Octets: AsOctets, B: OctetsBuil
     Ok(())
 }
 
-/// Takes the tokens that are left as a gateway and a key, as [`take_gateway_parts`] does. An error
-/// doesn't say which field is refused.
-pub fn take_gateway_key<S: TokenSource, Octets: AsOctets, B: OctetsBuilder>(
+/// Parses the remaining tokens as a gateway and a key, as [`take_gateway_parts`] does. An error
+/// doesn't say which field is rejected.
+pub(crate) fn take_gateway_key<S: TokenSource, Octets: AsOctets, B: OctetsBuilder>(
     origin: Option<&Name<Octets>>,
     source: &mut S,
     target: &mut B,
 ) -> Result<(), RecordError>
-    ensures takes { TakesRest B.room (gateway_key_form (option_copied origin.entry)) (S.end source.old).at (S.left source.old) (B.octets target.old) result (S.left source.new) (B.octets target.new) }
+    ensures takes { Parses (TakesRest B.room (gateway_key_form (option_copied origin.entry)))
+        S.left S.end B.octets source.old target.old result source.new target.new }
     ensures end { S.end source.new ≡ S.end source.old }
 {
     match take_gateway_parts(0, origin, source, target) {
@@ -196,7 +204,7 @@ pub fn take_gateway_key<S: TokenSource, Octets: AsOctets, B: OctetsBuilder>(
     }
 }
 
-/// How many of the octets in front are a gateway of a type that is no name.
+/// How many octets the gateway has that octets begin with, of a type that is no name.
 fn address_width(number: u8, octets: &[u8]) -> Option<usize>
     ensures { FindsWidth (IsAddressOf number) octets.now result }
 {
@@ -207,7 +215,7 @@ fn address_width(number: u8, octets: &[u8]) -> Option<usize>
     }
 }
 
-/// How many of the octets in front are a gateway of a type.
+/// How many octets the gateway of a type has that octets begin with.
 pub(crate) fn gateway_width(number: u8, octets: &[u8]) -> Option<usize>
     ensures { FindsWidth (gateway_form None number).is_wire octets.now result }
 {
@@ -225,7 +233,7 @@ fn may_have(algorithm: u8, count: usize) -> bool
     count > 0 || algorithm == 0
 }
 
-/// Whether octets are a gateway and a key, behind the gateway's type and the algorithm.
+/// Whether octets are the type of a gateway, an algorithm, the gateway and a key.
 pub(crate) fn is_gateway_key(octets: &[u8]) -> bool
     ensures { IsTrue result ↔ (gateway_key_form None).is_wire octets.now }
 {

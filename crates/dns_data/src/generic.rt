@@ -1,5 +1,6 @@
 //! Record data in the generic form, for types of any code (RFC 3597 section 5).
 ghost use Rattle.std.specs.Prelude.{◌≡◌, MatchBool};
+ghost use Rattle.dns_fields.specs.TokenParsers.{Parses};
 ghost use Rattle.dns_data.specs.Generic.{BeginsGeneric, TakesCount, generic_form};
 ghost use Rattle.dns_data.specs.Rests.{TakesRest};
 
@@ -9,9 +10,10 @@ use dns_fields::{RecordError, TokenSource, Word};
 use dns_kinds::ErrorKind;
 use dns_octets::OctetsBuilder;
 
-/// Whether the token that comes next is the mark of the generic form, `\#` without quotes.
+/// Whether the next token is the mark of the generic form, `\#` without quotes.
 pub fn begins_generic<S: TokenSource>(source: &S) -> bool
-    ensures { MatchBool result (BeginsGeneric (S.left source.now)) (BeginsGeneric (S.left source.now) → ⊥) }
+    ensures { MatchBool result (BeginsGeneric (S.left source.now))
+        (BeginsGeneric (S.left source.now) → ⊥) }
 {
     match source.current() {
         Some(token) => !token.is_quoted && token.text == b"\\#".as_slice(),
@@ -19,9 +21,10 @@ pub fn begins_generic<S: TokenSource>(source: &S) -> bool
     }
 }
 
-/// Takes the word that comes next as a number of 16 bits.
+/// Parses the next word as a number of 16 bits.
 fn take_count<S: TokenSource>(source: &mut S) -> Result<u16, RecordError>
-    ensures takes { TakesCount (S.end source.old).at (S.left source.old) result (S.left source.new) }
+    ensures takes { TakesCount (S.end source.old).at (S.left source.old)
+        result (S.left source.new) }
     ensures end { S.end source.new ≡ S.end source.old }
 {
     let at = source.place();
@@ -40,14 +43,15 @@ fn take_count<S: TokenSource>(source: &mut S) -> Result<u16, RecordError>
     }
 }
 
-/// Takes the tokens that are left as data in the generic form, and appends its octets: the mark,
-/// which comes next, how many octets there are, and these in hexadecimal.
+/// Parses the remaining tokens as data in the generic form, and appends its octets: the mark, which
+/// comes next, how many octets there are, and these in hexadecimal.
 pub fn take_generic<S: TokenSource, B: OctetsBuilder>(
     source: &mut S,
     target: &mut B,
 ) -> Result<(), RecordError>
     requires { BeginsGeneric (S.left source.old) }
-    ensures takes { TakesRest B.room generic_form (S.end source.old).at (S.left source.old) (B.octets target.old) result (S.left source.new) (B.octets target.new) }
+    ensures takes { Parses (TakesRest B.room generic_form)
+        S.left S.end B.octets source.old target.old result source.new target.new }
     ensures end { S.end source.new ≡ S.end source.old }
 {
     source.advance();

@@ -1,5 +1,6 @@
 //! Locations (RFC 1876) to the end of an entry.
 ghost use Rattle.std.specs.Prelude.{◌≡◌};
+ghost use Rattle.dns_fields.specs.TokenParsers.{Parses};
 ghost use Rattle.dns_data.specs.LocationRest.{is_other_version, location_form};
 ghost use Rattle.dns_data.specs.Rests.{TakesRest};
 
@@ -14,12 +15,13 @@ pub(crate) fn is_other_version(octets: &[u8]) -> bool
     !octets.is_empty() && octets[0] != 0
 }
 
-/// Takes the tokens that are left as a location, and appends its octets.
+/// Parses the remaining tokens as a location, and appends its octets.
 pub(crate) fn take_place<S: TokenSource, B: OctetsBuilder>(
     source: &mut S,
     target: &mut B,
 ) -> Result<(), RecordError>
-    ensures takes { TakesRest B.room location_form (S.end source.old).at (S.left source.old) (B.octets target.old) result (S.left source.new) (B.octets target.new) }
+    ensures takes { Parses (TakesRest B.room location_form)
+        S.left S.end B.octets source.old target.old result source.new target.new }
     ensures end { S.end source.new ≡ S.end source.old }
 {
     take_location(source, target)

@@ -1,5 +1,6 @@
 //! Service parameters (RFC 9460) to the end of an entry.
 ghost use Rattle.std.specs.Prelude.{◌≡◌, ◌↔◌, IsTrue};
+ghost use Rattle.dns_fields.specs.TokenParsers.{Parses};
 ghost use Rattle.dns_data.specs.ParamsRest.{params_form};
 ghost use Rattle.dns_data.specs.Rests.{TakesRest};
 
@@ -8,13 +9,14 @@ use dns_lists::check_params;
 use dns_octets::{AsOctetsMut, OctetsBuilder};
 use dns_params::take_params;
 
-/// Takes the tokens that are left as service parameters, and appends their octets in ascending order
-/// of keys.
+/// Parses the remaining tokens as service parameters, and appends their octets in ascending order of
+/// keys.
 pub(crate) fn take_service_params<S: TokenSource, B: OctetsBuilder + AsOctetsMut>(
     source: &mut S,
     target: &mut B,
 ) -> Result<(), RecordError>
-    ensures takes { TakesRest B.room params_form (S.end source.old).at (S.left source.old) (B.octets target.old) result (S.left source.new) (B.octets target.new) }
+    ensures takes { Parses (TakesRest B.room params_form)
+        S.left S.end B.octets source.old target.old result source.new target.new }
     ensures end { S.end source.new ≡ S.end source.old }
 {
     take_params(source, target)

@@ -1,21 +1,23 @@
 //! Address prefix lists (APL, RFC 3123) to the end of an entry.
 ghost use Rattle.std.specs.Prelude.{◌≡◌, ◌≤◌, ◌<◌, ◌↔◌, IsTrue, drop, length};
+ghost use Rattle.dns_fields.specs.TokenParsers.{Parses};
 ghost use Rattle.dns_spelling.specs.Forms.{FindsWidth};
 ghost use Rattle.dns_data.specs.PrefixLists.{has_other_family, is_other_family, item_size, prefix_form, prefixes_form, IsAnyItem, IsOtherItem};
 ghost use Rattle.dns_data.specs.Rests.{TakesRest};
-ghost use Rattle.dns_data.specs.TokenForms.{AreParts, TakesTokenAs};
+ghost use Rattle.dns_data.specs.TokenForms.{AreParts, TakesTokenOf};
 
 use dns_fields::{RecordError, TokenSource};
 use dns_kinds::ErrorKind;
 use dns_octets::OctetsBuilder;
 use dns_places::{append_prefix, item_width};
 
-/// Takes the next word, and appends the octets of the item that it spells.
+/// Parses the next word as an item, and appends its octets.
 fn take_prefix<S: TokenSource, B: OctetsBuilder>(
     source: &mut S,
     target: &mut B,
 ) -> Result<(), RecordError>
-    ensures takes { TakesTokenAs B.room prefix_form.spells prefix_form.reason (S.end source.old).at (S.left source.old) (B.octets target.old) result (S.left source.new) (B.octets target.new) }
+    ensures takes { Parses (TakesTokenOf B.room prefix_form)
+        S.left S.end B.octets source.old target.old result source.new target.new }
     ensures end { S.end source.new ≡ S.end source.old }
 {
     let at = source.place();
@@ -32,13 +34,14 @@ fn take_prefix<S: TokenSource, B: OctetsBuilder>(
     Ok(())
 }
 
-/// Takes the words that are left, each an item as `!1:192.168.38.0/28`, and appends their octets one
-/// after another. Bits behind a prefix are kept. A quoted text is refused.
+/// Parses the remaining words, each as an item such as `!1:192.168.38.0/28`, and appends their octets
+/// one after another. Bits after a prefix are kept. A quoted string is rejected.
 pub fn take_prefixes<S: TokenSource, B: OctetsBuilder>(
     source: &mut S,
     target: &mut B,
 ) -> Result<(), RecordError>
-    ensures takes { TakesRest B.room prefixes_form (S.end source.old).at (S.left source.old) (B.octets target.old) result (S.left source.new) (B.octets target.new) }
+    ensures takes { Parses (TakesRest B.room prefixes_form)
+        S.left S.end B.octets source.old target.old result source.new target.new }
     ensures end { S.end source.new ≡ S.end source.old }
 {
     while source.current().is_some() {
@@ -69,7 +72,7 @@ fn is_other_family(octets: &[u8]) -> bool
     octets[0] != 0 || octets[1] != 1 && octets[1] != 2
 }
 
-/// How many octets the item in front says that it has.
+/// How many octets the first item says that it has.
 fn item_size(octets: &[u8]) -> usize
     requires { 4 ≤ length octets.now }
     ensures size { result ≡ item_size octets.now }
@@ -78,7 +81,7 @@ fn item_size(octets: &[u8]) -> usize
     4 + usize::from(octets[3] % 128)
 }
 
-/// What follows the item in front.
+/// What follows the first item.
 fn behind_item(octets: &[u8]) -> &[u8]
     requires head { 4 ≤ length octets.now }
     requires whole { item_size octets.now ≤ length octets.now }
@@ -88,7 +91,7 @@ fn behind_item(octets: &[u8]) -> &[u8]
     &octets[item_size(octets)..]
 }
 
-/// How many of the octets in front are an item of another family than 1 and 2.
+/// How many octets the first item has, if it is of another family than 1 and 2.
 fn other_width(octets: &[u8]) -> Option<usize>
     ensures { FindsWidth IsOtherItem octets.now result }
 {
@@ -106,7 +109,7 @@ fn other_width(octets: &[u8]) -> Option<usize>
     }
 }
 
-/// How many of the octets in front are an item, whatever its family.
+/// How many octets the first item has, whatever its family.
 fn any_width(octets: &[u8]) -> Option<usize>
     ensures { FindsWidth IsAnyItem octets.now result }
 {

@@ -1,6 +1,5 @@
-//! Record data as zone text.
+//! Record data in presentation format.
 ghost use Rattle.std.specs.Prelude.{◌≡◌, ◌≤◌, ◌+◌, ℕ, List, [], ◌∷◌, None, length, take, drop, slice_index, OnOk, OnErr};
-ghost use Rattle.dns_zone.specs.Writers.{WritesSteps};
 ghost use Rattle.dns_fields.specs.Fields.{field_form};
 ghost use Rattle.dns_data.specs.Data.{IsDataOf, IsTextData};
 ghost use Rattle.dns_data.specs.Digits.{digits_form};
@@ -9,7 +8,7 @@ ghost use Rattle.dns_data.specs.Generic.{generic_form};
 ghost use Rattle.dns_data.specs.LocationRest.{location_form};
 ghost use Rattle.dns_data.specs.ParamsRest.{params_form};
 ghost use Rattle.dns_data.specs.PrefixLists.{prefixes_form};
-ghost use Rattle.dns_data.specs.Printing.{FailsInSteps, behind_fields, field_size, printed_data, printed_parts, token_step, token_steps};
+ghost use Rattle.dns_data.specs.Printing.{FailsInTokens, PrintsTokens, behind_fields, field_size, printed_data, printed_parts, token_step};
 ghost use Rattle.dns_data.specs.RestKinds.{has_no_text, rest_form, strings_form};
 ghost use Rattle.dns_data.specs.TypeLists.{types_form};
 ghost use Rattle.dns_data.specs.Wire.{BeginsWithFields};
@@ -31,7 +30,7 @@ use dns_places::{Gateway, Prefix, item_width, location_words};
 use dns_spelling::{NameText, QuotedOctets};
 use dns_zone::zonefile_fmt::{self, FormatWriter, Formatter};
 
-/// How many of the octets in front are a field. There is one.
+/// How many octets the field has that octets begin with.
 fn front_width(field: Field, octets: &[u8]) -> usize
     requires { (rest : List ℕ) × BeginsWithFields (field ∷ []) octets.now rest }
     ensures size { result ≡ field_size field octets.now }
@@ -44,10 +43,12 @@ fn front_width(field: Field, octets: &[u8]) -> usize
     }
 }
 
-/// Prints character strings, each behind its length, between double quotes.
+/// Prints character strings, each of which follows its length, between double quotes.
 fn write_strings<F: FormatWriter>(octets: &[u8], p: &mut F) -> zonefile_fmt::Result
-    ensures gives { OnOk result (WritesSteps F.blocks F.step_gives p.old (token_steps ((strings_form None).printed octets.now)) p.new) }
-    ensures fails { OnErr result (FailsInSteps F.blocks F.step_gives F.step_fails p.old (token_steps ((strings_form None).printed octets.now))) }
+    ensures gives { PrintsTokens F.blocks F.step_gives p.old
+        ((strings_form None).printed octets.now) result p.new }
+    ensures fails { FailsInTokens F.blocks F.step_gives F.step_fails p.old
+        ((strings_form None).printed octets.now) result }
 {
     let mut rest = octets;
     while !rest.is_empty() {
@@ -60,8 +61,10 @@ fn write_strings<F: FormatWriter>(octets: &[u8], p: &mut F) -> zonefile_fmt::Res
 
 /// Prints octets in digits as one word, and none as no word.
 fn write_digits<F: FormatWriter>(kind: DigitsKind, octets: &[u8], p: &mut F) -> zonefile_fmt::Result
-    ensures gives { OnOk result (WritesSteps F.blocks F.step_gives p.old (token_steps ((digits_form kind).printed octets.now)) p.new) }
-    ensures fails { OnErr result (FailsInSteps F.blocks F.step_gives F.step_fails p.old (token_steps ((digits_form kind).printed octets.now))) }
+    ensures gives { PrintsTokens F.blocks F.step_gives p.old
+        ((digits_form kind).printed octets.now) result p.new }
+    ensures fails { FailsInTokens F.blocks F.step_gives F.step_fails p.old
+        ((digits_form kind).printed octets.now) result }
 {
     if octets.is_empty() {
         return Ok(());
@@ -74,8 +77,10 @@ fn write_digits<F: FormatWriter>(kind: DigitsKind, octets: &[u8], p: &mut F) -> 
 
 /// Prints the types of a bitmap, each as a word.
 fn write_types<F: FormatWriter>(octets: &[u8], p: &mut F) -> zonefile_fmt::Result
-    ensures gives { OnOk result (WritesSteps F.blocks F.step_gives p.old (token_steps (types_form.printed octets.now)) p.new) }
-    ensures fails { OnErr result (FailsInSteps F.blocks F.step_gives F.step_fails p.old (token_steps (types_form.printed octets.now))) }
+    ensures gives { PrintsTokens F.blocks F.step_gives p.old
+        (types_form.printed octets.now) result p.new }
+    ensures fails { FailsInTokens F.blocks F.step_gives F.step_fails p.old
+        (types_form.printed octets.now) result }
 {
     for rtype in BitmapTypes::new(octets) {
         p.write_token(PortableType(rtype))?;
@@ -86,8 +91,10 @@ fn write_types<F: FormatWriter>(octets: &[u8], p: &mut F) -> zonefile_fmt::Resul
 /// Prints octets in the generic form (RFC 3597 section 5): the mark, how many there are, and these in
 /// hexadecimal as one word, or no word if there are none. An error comes from the writer alone.
 pub fn write_generic<F: FormatWriter>(octets: &[u8], p: &mut F) -> zonefile_fmt::Result
-    ensures gives { OnOk result (WritesSteps F.blocks F.step_gives p.old (token_steps (generic_form.printed octets.now)) p.new) }
-    ensures fails { OnErr result (FailsInSteps F.blocks F.step_gives F.step_fails p.old (token_steps (generic_form.printed octets.now))) }
+    ensures gives { PrintsTokens F.blocks F.step_gives p.old
+        (generic_form.printed octets.now) result p.new }
+    ensures fails { FailsInTokens F.blocks F.step_gives F.step_fails p.old
+        (generic_form.printed octets.now) result }
 {
     p.write_token("\\#")?;
     p.write_token(octets.len())?;
@@ -97,8 +104,10 @@ pub fn write_generic<F: FormatWriter>(octets: &[u8], p: &mut F) -> zonefile_fmt:
 /// Prints the items of an address prefix list, each as a word.
 fn write_prefixes<F: FormatWriter>(octets: &[u8], p: &mut F) -> zonefile_fmt::Result
     requires { prefixes_form.is_wire octets.now }
-    ensures gives { OnOk result (WritesSteps F.blocks F.step_gives p.old (token_steps (prefixes_form.printed octets.now)) p.new) }
-    ensures fails { OnErr result (FailsInSteps F.blocks F.step_gives F.step_fails p.old (token_steps (prefixes_form.printed octets.now))) }
+    ensures gives { PrintsTokens F.blocks F.step_gives p.old
+        (prefixes_form.printed octets.now) result p.new }
+    ensures fails { FailsInTokens F.blocks F.step_gives F.step_fails p.old
+        (prefixes_form.printed octets.now) result }
 {
     let mut rest = octets;
     while !rest.is_empty() {
@@ -117,8 +126,10 @@ fn write_prefixes<F: FormatWriter>(octets: &[u8], p: &mut F) -> zonefile_fmt::Re
 /// Prints the words of a location.
 fn write_location<F: FormatWriter>(octets: &[u8], p: &mut F) -> zonefile_fmt::Result
     requires { location_form.is_wire octets.now }
-    ensures gives { OnOk result (WritesSteps F.blocks F.step_gives p.old (token_steps (location_form.printed octets.now)) p.new) }
-    ensures fails { OnErr result (FailsInSteps F.blocks F.step_gives F.step_fails p.old (token_steps (location_form.printed octets.now))) }
+    ensures gives { PrintsTokens F.blocks F.step_gives p.old
+        (location_form.printed octets.now) result p.new }
+    ensures fails { FailsInTokens F.blocks F.step_gives F.step_fails p.old
+        (location_form.printed octets.now) result }
 {
     let Some(words) = location_words(octets) else {
         unreachable!()
@@ -129,11 +140,12 @@ fn write_location<F: FormatWriter>(octets: &[u8], p: &mut F) -> zonefile_fmt::Re
     Ok(())
 }
 
-/// How many of the octets behind the algorithm are the gateway.
+/// How many octets the gateway has, which follows the algorithm.
 fn gateway_front(octets: &[u8]) -> usize
     requires { (gateway_key_form None).is_wire octets.now }
     ensures size { result ≡ gateway_size (slice_index octets.now 0) (drop 2 octets.now) }
-    ensures wire { (gateway_form None (slice_index octets.now 0)).is_wire (take result (drop 2 octets.now)) }
+    ensures wire { (gateway_form None (slice_index octets.now 0)).is_wire
+        (take result (drop 2 octets.now)) }
     ensures fits { 2 + result ≤ length octets.now }
 {
     match gateway_width(octets[0], &octets[2..]) {
@@ -146,8 +158,10 @@ fn gateway_front(octets: &[u8]) -> usize
 fn write_gateway<F: FormatWriter>(number: u8, octets: &[u8], p: &mut F) -> zonefile_fmt::Result
     requires { (gateway_form None number).is_wire octets.now }
     ensures blocks { OnOk result (F.blocks p.new ≡ F.blocks p.old) }
-    ensures gives { OnOk result (F.step_gives p.old (token_step ((gateway_form None number).printed octets.now)) p.new) }
-    ensures fails { OnErr result (F.step_fails p.old (token_step ((gateway_form None number).printed octets.now))) }
+    ensures gives { OnOk result (F.step_gives p.old
+        (token_step ((gateway_form None number).printed octets.now)) p.new) }
+    ensures fails { OnErr result (F.step_fails p.old
+        (token_step ((gateway_form None number).printed octets.now))) }
 {
     if number == NAME {
         return p.write_token(NameText(octets));
@@ -161,8 +175,10 @@ fn write_gateway<F: FormatWriter>(number: u8, octets: &[u8], p: &mut F) -> zonef
 /// Prints the type of a gateway, an algorithm, the gateway, and the key as one word.
 fn write_gateway_key<F: FormatWriter>(octets: &[u8], p: &mut F) -> zonefile_fmt::Result
     requires { (gateway_key_form None).is_wire octets.now }
-    ensures gives { OnOk result (WritesSteps F.blocks F.step_gives p.old (token_steps ((gateway_key_form None).printed octets.now)) p.new) }
-    ensures fails { OnErr result (FailsInSteps F.blocks F.step_gives F.step_fails p.old (token_steps ((gateway_key_form None).printed octets.now))) }
+    ensures gives { PrintsTokens F.blocks F.step_gives p.old
+        ((gateway_key_form None).printed octets.now) result p.new }
+    ensures fails { FailsInTokens F.blocks F.step_gives F.step_fails p.old
+        ((gateway_key_form None).printed octets.now) result }
 {
     let width = gateway_front(octets);
     let number = octets[0];
@@ -175,8 +191,10 @@ fn write_gateway_key<F: FormatWriter>(octets: &[u8], p: &mut F) -> zonefile_fmt:
 
 /// Prints service parameters, each as a word.
 fn write_params<F: FormatWriter>(octets: &[u8], p: &mut F) -> zonefile_fmt::Result
-    ensures gives { OnOk result (WritesSteps F.blocks F.step_gives p.old (token_steps (params_form.printed octets.now)) p.new) }
-    ensures fails { OnErr result (FailsInSteps F.blocks F.step_gives F.step_fails p.old (token_steps (params_form.printed octets.now))) }
+    ensures gives { PrintsTokens F.blocks F.step_gives p.old
+        (params_form.printed octets.now) result p.new }
+    ensures fails { FailsInTokens F.blocks F.step_gives F.step_fails p.old
+        (params_form.printed octets.now) result }
 {
     for param in Params::new(octets) {
         p.write_token(ParamText {
@@ -190,8 +208,10 @@ fn write_params<F: FormatWriter>(octets: &[u8], p: &mut F) -> zonefile_fmt::Resu
 /// Prints what goes to the end of an entry.
 fn write_rest<F: FormatWriter>(rest: Rest, octets: &[u8], p: &mut F) -> zonefile_fmt::Result
     requires { (rest_form None rest).is_wire octets.now }
-    ensures gives { OnOk result (WritesSteps F.blocks F.step_gives p.old (token_steps ((rest_form None rest).printed octets.now)) p.new) }
-    ensures fails { OnErr result (FailsInSteps F.blocks F.step_gives F.step_fails p.old (token_steps ((rest_form None rest).printed octets.now))) }
+    ensures gives { PrintsTokens F.blocks F.step_gives p.old
+        ((rest_form None rest).printed octets.now) result p.new }
+    ensures fails { FailsInTokens F.blocks F.step_gives F.step_fails p.old
+        ((rest_form None rest).printed octets.now) result }
 {
     match rest {
         Rest::Nothing => Ok(()),
@@ -221,7 +241,8 @@ fn behind_fields<'a>(fields: &[Field], octets: &'a [u8]) -> &'a [u8]
 /// Whether data of a shape has no text form.
 fn has_no_text(shape: &Shape, octets: &[u8]) -> bool
     requires { IsDataOf shape.now octets.now }
-    ensures { result ≡ has_no_text shape.now.rest (behind_fields shape.now.fields.now octets.now) }
+    ensures { result
+        ≡ has_no_text shape.now.rest (behind_fields shape.now.fields.now octets.now) }
 {
     match shape.rest {
         Rest::Location => is_other_version(behind_fields(shape.fields, octets)),
@@ -234,8 +255,10 @@ fn has_no_text(shape: &Shape, octets: &[u8]) -> bool
 /// goes to the end of an entry.
 fn write_parts<F: FormatWriter>(shape: &Shape, octets: &[u8], p: &mut F) -> zonefile_fmt::Result
     requires { IsTextData shape.now octets.now }
-    ensures gives { OnOk result (WritesSteps F.blocks F.step_gives p.old (token_steps (printed_parts shape.now.fields.now shape.now.rest octets.now)) p.new) }
-    ensures fails { OnErr result (FailsInSteps F.blocks F.step_gives F.step_fails p.old (token_steps (printed_parts shape.now.fields.now shape.now.rest octets.now))) }
+    ensures gives { PrintsTokens F.blocks F.step_gives p.old
+        (printed_parts shape.now.fields.now shape.now.rest octets.now) result p.new }
+    ensures fails { FailsInTokens F.blocks F.step_gives F.step_fails p.old
+        (printed_parts shape.now.fields.now shape.now.rest octets.now) result }
 {
     let mut rest = octets;
     for field in shape.fields {
@@ -256,8 +279,10 @@ fn write_parts<F: FormatWriter>(shape: &Shape, octets: &[u8], p: &mut F) -> zone
 /// before it were printed.
 pub fn write_data<F: FormatWriter>(shape: &Shape, octets: &[u8], p: &mut F) -> zonefile_fmt::Result
     requires { IsDataOf shape.now octets.now }
-    ensures gives { OnOk result (WritesSteps F.blocks F.step_gives p.old (token_steps (printed_data shape.now octets.now)) p.new) }
-    ensures fails { OnErr result (FailsInSteps F.blocks F.step_gives F.step_fails p.old (token_steps (printed_data shape.now octets.now))) }
+    ensures gives { PrintsTokens F.blocks F.step_gives p.old
+        (printed_data shape.now octets.now) result p.new }
+    ensures fails { FailsInTokens F.blocks F.step_gives F.step_fails p.old
+        (printed_data shape.now octets.now) result }
 {
     if has_no_text(shape, octets) {
         write_generic(octets, p)

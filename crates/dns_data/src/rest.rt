@@ -1,9 +1,10 @@
 //! What goes to the end of an entry, after the fields that are one token each.
 ghost use Rattle.std.specs.Prelude.{◌≡◌, ◌<◌, ◌^◌};
 ghost use Rattle.std.specs.Option.{option_copied};
+ghost use Rattle.dns_fields.specs.TokenParsers.{Parses};
 ghost use Rattle.dns_data.specs.Digits.{digits_form};
-ghost use Rattle.dns_data.specs.Rests.{TakesInParts, TakesRest, WantsMore, some_form};
-ghost use Rattle.dns_data.specs.RestKinds.{IsRestPart, rest_form, strings_form};
+ghost use Rattle.dns_data.specs.Rests.{TakesRest, WantsMore, some_form};
+ghost use Rattle.dns_data.specs.RestKinds.{TakesRestParts, rest_form, strings_form};
 ghost use Rattle.dns_data.specs.TypeLists.{types_form};
 
 use crate::digits::take_digits;
@@ -49,13 +50,14 @@ pub enum Rest {
     Params,
 }
 
-/// Sees that octets were appended behind so many.
+/// Fails unless the target grew beyond `length`.
 fn want_more<S: TokenSource, B: OctetsBuilder>(
     length: usize,
     source: &S,
     target: &B,
 ) -> Result<(), RecordError>
-    ensures { WantsMore length (S.end source.now).at (S.left source.now) (B.octets target.now) result }
+    ensures { WantsMore length (S.end source.now).at (S.left source.now)
+        (B.octets target.now) result }
 {
     if target.as_slice().len() == length {
         return Err(RecordError::at(source.place(), ErrorKind::EndOfEntry));
@@ -63,25 +65,28 @@ fn want_more<S: TokenSource, B: OctetsBuilder>(
     Ok(())
 }
 
-/// Takes the character strings that are left.
+/// Parses the remaining tokens as character strings.
 fn take_strings<S: TokenSource, Octets: AsOctets, B: OctetsBuilder>(
     origin: Option<&Name<Octets>>,
     source: &mut S,
     target: &mut B,
 ) -> Result<(), RecordError>
-    ensures takes { TakesRest B.room (strings_form (option_copied origin.entry)) (S.end source.old).at (S.left source.old) (B.octets target.old) result (S.left source.new) (B.octets target.new) }
+    ensures takes { Parses (TakesRest B.room (strings_form (option_copied origin.entry)))
+        S.left S.end B.octets source.old target.old result source.new target.new }
     ensures end { S.end source.new ≡ S.end source.old }
 {
     take_each(Field::String, origin, source, target)
 }
 
-/// Takes one character string or more.
+/// Parses the remaining tokens as one character string or more.
 fn take_some_strings<S: TokenSource, Octets: AsOctets, B: OctetsBuilder>(
     origin: Option<&Name<Octets>>,
     source: &mut S,
     target: &mut B,
 ) -> Result<(), RecordError>
-    ensures takes { TakesRest B.room (some_form (strings_form (option_copied origin.entry))) (S.end source.old).at (S.left source.old) (B.octets target.old) result (S.left source.new) (B.octets target.new) }
+    ensures takes { Parses
+        (TakesRest B.room (some_form (strings_form (option_copied origin.entry))))
+        S.left S.end B.octets source.old target.old result source.new target.new }
     ensures end { S.end source.new ≡ S.end source.old }
 {
     let length = target.as_slice().len();
@@ -89,13 +94,14 @@ fn take_some_strings<S: TokenSource, Octets: AsOctets, B: OctetsBuilder>(
     want_more(length, source, target)
 }
 
-/// Takes one octet or more in digits.
+/// Parses the remaining tokens as one octet or more in digits.
 pub(crate) fn take_some_digits<S: TokenSource, B: OctetsBuilder>(
     kind: DigitsKind,
     source: &mut S,
     target: &mut B,
 ) -> Result<(), RecordError>
-    ensures takes { TakesRest B.room (some_form (digits_form kind)) (S.end source.old).at (S.left source.old) (B.octets target.old) result (S.left source.new) (B.octets target.new) }
+    ensures takes { Parses (TakesRest B.room (some_form (digits_form kind)))
+        S.left S.end B.octets source.old target.old result source.new target.new }
     ensures end { S.end source.new ≡ S.end source.old }
 {
     let length = target.as_slice().len();
@@ -103,12 +109,13 @@ pub(crate) fn take_some_digits<S: TokenSource, B: OctetsBuilder>(
     want_more(length, source, target)
 }
 
-/// Takes one type or more.
+/// Parses the remaining tokens as one type or more.
 fn take_some_types<S: TokenSource, B: OctetsBuilder>(
     source: &mut S,
     target: &mut B,
 ) -> Result<(), RecordError>
-    ensures takes { TakesRest B.room (some_form types_form) (S.end source.old).at (S.left source.old) (B.octets target.old) result (S.left source.new) (B.octets target.new) }
+    ensures takes { Parses (TakesRest B.room (some_form types_form))
+        S.left S.end B.octets source.old target.old result source.new target.new }
     ensures end { S.end source.new ≡ S.end source.old }
 {
     let length = target.as_slice().len();
@@ -116,14 +123,15 @@ fn take_some_types<S: TokenSource, B: OctetsBuilder>(
     want_more(length, source, target)
 }
 
-/// Takes the tokens that are left, and appends the octets that they spell.
-pub fn take_rest<S: TokenSource, Octets: AsOctets, B: OctetsBuilder + AsOctetsMut>(
+/// Parses the remaining tokens, and appends the octets that they spell.
+fn take_rest<S: TokenSource, Octets: AsOctets, B: OctetsBuilder + AsOctetsMut>(
     rest: Rest,
     origin: Option<&Name<Octets>>,
     source: &mut S,
     target: &mut B,
 ) -> Result<(), RecordError>
-    ensures takes { TakesRest B.room (rest_form (option_copied origin.entry) rest) (S.end source.old).at (S.left source.old) (B.octets target.old) result (S.left source.new) (B.octets target.new) }
+    ensures takes { Parses (TakesRest B.room (rest_form (option_copied origin.entry) rest))
+        S.left S.end B.octets source.old target.old result source.new target.new }
     ensures end { S.end source.new ≡ S.end source.old }
 {
     match rest {
@@ -142,8 +150,8 @@ pub fn take_rest<S: TokenSource, Octets: AsOctets, B: OctetsBuilder + AsOctetsMu
     }
 }
 
-/// Takes the tokens that are left, and appends the octets that they spell. They are fields of data
-/// after `before` others. An error says which field is refused.
+/// Parses the remaining tokens, and appends the octets that they spell. They are fields of the data,
+/// after `before` others. An error says which field is rejected.
 pub(crate) fn take_parts<S: TokenSource, Octets: AsOctets, B: OctetsBuilder + AsOctetsMut>(
     before: usize,
     rest: Rest,
@@ -152,7 +160,8 @@ pub(crate) fn take_parts<S: TokenSource, Octets: AsOctets, B: OctetsBuilder + As
     target: &mut B,
 ) -> Result<(), RecordError>
     requires { before < 2 ^ 63 }
-    ensures takes { TakesInParts B.room (rest_form (option_copied origin.entry) rest) (IsRestPart (option_copied origin.entry) rest) before (S.end source.old).at (S.left source.old) (B.octets target.old) result (S.left source.new) (B.octets target.new) }
+    ensures takes { Parses (TakesRestParts (option_copied origin.entry) B.room rest before)
+        S.left S.end B.octets source.old target.old result source.new target.new }
     ensures end { S.end source.new ≡ S.end source.old }
 {
     if let Rest::GatewayKey = rest {

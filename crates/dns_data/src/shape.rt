@@ -1,6 +1,7 @@
 //! Shapes of record data: fields that are one token each, and what goes to the entry's end.
 ghost use Rattle.std.specs.Prelude.{◌≡◌, ◌↔◌, IsTrue, slice_index};
 ghost use Rattle.std.specs.Option.{option_copied};
+ghost use Rattle.dns_fields.specs.TokenParsers.{Parses};
 ghost use Rattle.dns_data.specs.Data.{HasLength, HasWrongHash, wrong_length, ReadsData};
 
 use crate::rest::{Rest, take_parts};
@@ -18,8 +19,8 @@ const SHA1_OCTETS: usize = 20;
 pub enum Length {
     /// None.
     Any,
-    /// The digest that goes to the end has as many octets as the number before it asks for, which
-    /// stands at this place.
+    /// The digest that goes to the end has as many octets as the number at this place, before it,
+    /// asks for.
     Digest(Digests, u8),
     /// The hash of NSEC3 has 20 octets where its algorithm is 1 (RFC 5155 section 11).
     Hash,
@@ -30,13 +31,13 @@ pub enum Length {
 pub struct Shape {
     /// The fields that are one token each.
     pub fields: &'static [Field],
-    /// What comes behind them.
+    /// What comes after them.
     pub rest: Rest,
     /// The lengths that are asked for.
     pub length: Length,
 }
 
-/// The octet at a place, or 0 behind the end.
+/// The octet at a place, or 0 after the end.
 fn octet_at(octets: &[u8], place: usize) -> u8
     ensures { result ≡ slice_index octets.now place }
 {
@@ -104,10 +105,10 @@ fn wrong_length(length: Length, octets: &[u8]) -> ErrorKind
     }
 }
 
-/// Takes the tokens that are left as data of a shape, and appends its octets. A relative name stands
-/// before the origin.
+/// Parses the remaining tokens as data of a shape, and appends its octets. The origin is appended to
+/// a relative name.
 ///
-/// An error says the field that is refused. The fields are those of one token each, and after them
+/// An error says the field that is rejected. The fields are those of one token each, and after them
 /// those of the rest: four of a gateway and a key, else one.
 pub fn read_data<S: TokenSource, Octets: AsOctets, B: OctetsBuilder + AsOctetsMut>(
     shape: &Shape,
@@ -115,7 +116,8 @@ pub fn read_data<S: TokenSource, Octets: AsOctets, B: OctetsBuilder + AsOctetsMu
     source: &mut S,
     target: &mut B,
 ) -> Result<(), RecordError>
-    ensures reads { ReadsData (option_copied origin.entry) B.room shape.now (S.end source.old).at (S.left source.old) (B.octets target.old) result (S.left source.new) (B.octets target.new) }
+    ensures reads { Parses (ReadsData (option_copied origin.entry) B.room shape.now)
+        S.left S.end B.octets source.old target.old result source.new target.new }
     ensures end { S.end source.new ≡ S.end source.old }
 {
     let begun = target.as_slice().len();

@@ -1,5 +1,6 @@
-//! Text of any length, which stands at the end of an entry as one token.
+//! Text of any length, which is the last token of an entry.
 ghost use Rattle.std.specs.Prelude.{◌≡◌};
+ghost use Rattle.dns_fields.specs.TokenParsers.{Parses};
 ghost use Rattle.dns_data.specs.Rests.{TakesRest};
 ghost use Rattle.dns_data.specs.Texts.{TakesNoToken, nothing_form, text_form};
 
@@ -8,9 +9,10 @@ use dns_kinds::ErrorKind;
 use dns_octets::OctetsBuilder;
 use dns_spelling::append_spelled;
 
-/// Sees that no token is left.
+/// Fails if a token is left.
 pub fn take_nothing<S: TokenSource>(source: &mut S) -> Result<(), RecordError>
-    ensures takes { TakesNoToken (S.end source.old).at (S.left source.old) result (S.left source.new) }
+    ensures takes { TakesNoToken (S.end source.old).at (S.left source.old)
+        result (S.left source.new) }
     ensures end { S.end source.new ≡ S.end source.old }
 {
     if source.current().is_some() {
@@ -19,26 +21,28 @@ pub fn take_nothing<S: TokenSource>(source: &mut S) -> Result<(), RecordError>
     Ok(())
 }
 
-/// Sees that no token is left, and appends nothing.
+/// Fails if a token is left. Appends nothing.
 pub(crate) fn take_no_token<S: TokenSource, B: OctetsBuilder>(
     source: &mut S,
     _target: &mut B,
 ) -> Result<(), RecordError>
-    ensures takes { TakesRest B.room nothing_form (S.end source.old).at (S.left source.old) (B.octets _target.old) result (S.left source.new) (B.octets _target.new) }
+    ensures takes { Parses (TakesRest B.room nothing_form)
+        S.left S.end B.octets source.old _target.old result source.new _target.new }
     ensures end { S.end source.new ≡ S.end source.old }
 {
     take_nothing(source)
 }
 
-/// Takes the one token that is left, and appends the octets that it spells, without a length (the
-/// value of CAA, RFC 8659 section 4.1.1; the target of URI, RFC 7553 section 4.4). Where quotes are
-/// wanted, a word is refused.
+/// Parses the one remaining token, and appends the octets that it spells, without a length (the
+/// value of CAA, RFC 8659 section 4.1.1; the target of URI, RFC 7553 section 4.4). If quotes are
+/// wanted, a word is rejected.
 pub fn take_text<S: TokenSource, B: OctetsBuilder>(
     wants_quotes: bool,
     source: &mut S,
     target: &mut B,
 ) -> Result<(), RecordError>
-    ensures takes { TakesRest B.room (text_form wants_quotes) (S.end source.old).at (S.left source.old) (B.octets target.old) result (S.left source.new) (B.octets target.new) }
+    ensures takes { Parses (TakesRest B.room (text_form wants_quotes))
+        S.left S.end B.octets source.old target.old result source.new target.new }
     ensures end { S.end source.new ≡ S.end source.old }
 {
     let at = source.place();

@@ -1,5 +1,6 @@
 //! Lists of types (RFC 4034 section 4.1.2) to the end of an entry.
 ghost use Rattle.std.specs.Prelude.{◌≡◌};
+ghost use Rattle.dns_fields.specs.TokenParsers.{Parses};
 ghost use Rattle.dns_data.specs.Rests.{TakesRest};
 ghost use Rattle.dns_data.specs.TypeLists.{InsertsNext, types_form};
 
@@ -10,7 +11,8 @@ use dns_octets::OctetsBuilder;
 
 /// Adds the type that the next word names to a set, and takes the word.
 fn insert_next<S: TokenSource>(types: &mut TypeSet, source: &mut S) -> Result<(), RecordError>
-    ensures inserts { InsertsNext types.old (S.end source.old).at (S.left source.old) result types.new (S.left source.new) }
+    ensures inserts { InsertsNext types.old (S.end source.old).at (S.left source.old)
+        result types.new (S.left source.new) }
     ensures end { S.end source.new ≡ S.end source.old }
 {
     let at = source.place();
@@ -32,13 +34,14 @@ fn insert_next<S: TokenSource>(types: &mut TypeSet, source: &mut S) -> Result<()
     Ok(())
 }
 
-/// Takes the words that are left, each the name of a type, in any order and repeated or not, and
-/// appends the bitmap of these types. Type 0 is refused.
+/// Parses the remaining words, each as the name of a type, in any order and repeated or not, and
+/// appends the bitmap of these types. Type 0 is rejected.
 pub fn take_types<S: TokenSource, B: OctetsBuilder>(
     source: &mut S,
     target: &mut B,
 ) -> Result<(), RecordError>
-    ensures takes { TakesRest B.room types_form (S.end source.old).at (S.left source.old) (B.octets target.old) result (S.left source.new) (B.octets target.new) }
+    ensures takes { Parses (TakesRest B.room types_form)
+        S.left S.end B.octets source.old target.old result source.new target.new }
     ensures end { S.end source.new ≡ S.end source.old }
 {
     let mut types = TypeSet::new();

@@ -17,9 +17,10 @@ use dns_lists::{BitmapTypes, check_bitmap};
 use dns_places::is_location;
 use dns_spelling::string_width;
 
-/// What stands behind the fields that octets begin with, or none where they don't begin with these.
+/// What follows the fields that octets begin with, or none if they don't begin with these.
 pub(crate) fn split_fields<'a>(fields: &[Field], octets: &'a [u8]) -> Option<&'a [u8]>
-    ensures { MatchOption result ((rest : List ℕ) → BeginsWithFields fields.now octets.now rest → ⊥) (λ rest. BeginsWithFields fields.now octets.now rest.now) }
+    ensures { MatchOption result ((rest : List ℕ) → BeginsWithFields fields.now octets.now rest → ⊥)
+        (λ rest. BeginsWithFields fields.now octets.now rest.now) }
 {
     let mut left = octets;
     for field in fields {
@@ -29,7 +30,7 @@ pub(crate) fn split_fields<'a>(fields: &[Field], octets: &'a [u8]) -> Option<&'a
     Some(left)
 }
 
-/// Whether octets are character strings, one behind another.
+/// Whether octets are character strings, one after another.
 fn are_strings(octets: &[u8]) -> bool
     ensures { IsTrue result ↔ AreCharacterStrings octets.now }
 {
