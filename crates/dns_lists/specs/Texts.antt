@@ -41,8 +41,8 @@ EndsItem rest = (octet : ℕ) (more : List ℕ) → rest ≢ item_octet octet ++
 abbrev pub SplitsItem : List ℕ → List ℕ → List ℕ → Type 0
 SplitsItem text item rest = (text ≡ item_text item ++ rest) × EndsItem rest
 
-abbrev pub BeginsWithItem : List ℕ → List ℕ → Type 0
-BeginsWithItem text item = (rest : List ℕ) × SplitsItem text item rest
+abbrev pub BeginsWithListItem : List ℕ → List ℕ → Type 0
+BeginsWithListItem text item = (rest : List ℕ) × SplitsItem text item rest
 
 -- the text is that of a list, whose wire form the octets are
 abbrev pub SpellsList : List ℕ → List ℕ → Type 0

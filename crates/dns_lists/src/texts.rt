@@ -4,7 +4,7 @@
 //! value of a character string, after its own escapes are decoded.
 ghost use Rattle.std.specs.Prelude.{◌≡◌, ℕ, List, ◌∷◌, ◌++◌, IfOk, IfErr, OnErr, OnOk, MatchOption, length};
 ghost use Rattle.dns_octets.specs.Appending.{Extends, Gains, LacksRoom};
-ghost use Rattle.dns_lists.specs.Texts.{is_special, item_octet, item_text, EndsItem, SplitsItem, BeginsWithItem, IsItem, BeginsNoString, SpellsList, HasListText};
+ghost use Rattle.dns_lists.specs.Texts.{is_special, item_octet, item_text, EndsItem, SplitsItem, BeginsWithListItem, IsItem, BeginsNoString, SpellsList, HasListText};
 ghost use Rattle.dns_lists.specs.TextFaults.{IsItemFault, IsListFault, IsStringsFault, RefusesList, RefusesStrings};
 
 use dns_kinds::ErrorKind;
@@ -74,7 +74,7 @@ fn copy_item<'a, B: OctetsBuilder>(text: &'a [u8], target: &mut B) -> Result<&'a
         (B.octets target.old) (B.octets target.new)) }
     ensures extends { OnErr result (Extends (B.octets target.old) (B.octets target.new)) }
     ensures lacks { OnErr result
-        (LacksRoom B.room (BeginsWithItem text.now) (B.octets target.old)) }
+        (LacksRoom B.room (BeginsWithListItem text.now) (B.octets target.old)) }
 {
     let mut rest = text;
     while let Some(first) = first_octet(rest) {
