@@ -1,6 +1,6 @@
 -- Where names stand to one another (RFC 1034 section 3.1).
 use Rattle.std.specs.Prelude.{ℕ, nat_eq, ◌||◌, Bool, false, Option, Some, None, List, [], ◌∷◌}
-use Rattle.std.specs.List.{list_any}
+use Rattle.std.specs.List.{find, list_any}
 use Rattle.std.specs.Cmp.Lexicographic.{pointwise}
 use Rattle.dns_wire.specs.Order.{same_name}
 
@@ -15,6 +15,10 @@ abbrev pub names_above : List (List ℕ) → List (List (List ℕ))
 names_above [] = []
 names_above (label ∷ []) = []
 names_above (label ∷ next ∷ others) = (next ∷ others) ∷ names_above (next ∷ others)
+
+-- the closest that passes a test, of a name and the names above it
+abbrev pub closest_from : (List (List ℕ) → Bool) → List (List ℕ) → Option (List (List ℕ))
+closest_from test name = find test (name ∷ names_above name)
 
 -- a name is below another: that stands above it
 abbrev pub is_below : List (List ℕ) → List (List ℕ) → Bool

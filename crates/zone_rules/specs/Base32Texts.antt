@@ -19,9 +19,13 @@ spare_bits count = 5 * count % 8
 abbrev pub ends_in_zeros : ℕ → ℕ → Bool
 ends_in_zeros spare digit = option_map_or (λ value. value % 2 ^ spare == 0) (base32_value digit) false
 
+-- the last digit ends in zeros, if there is one
+abbrev pub last_ends_in_zeros : ℕ → List ℕ → Bool
+last_ends_in_zeros spare text = option_map_or (ends_in_zeros spare) (slice_get text (length text - 1)) false
+
 -- as many digits as some octets have, with spare bits of zero in the last one (RFC 4648 section 3.5)
 abbrev pub are_whole_octets : List ℕ → Bool
-are_whole_octets text = nat_lt (spare_bits (length text)) 5 && option_map_or (ends_in_zeros (spare_bits (length text))) (slice_get text (length text - 1)) false
+are_whole_octets text = nat_lt (spare_bits (length text)) 5 && last_ends_in_zeros (spare_bits (length text)) text
 
 abbrev pub is_base32_text : List ℕ → Bool
 is_base32_text text = list_all (λ o. is_some (base32_value o)) text && are_whole_octets text

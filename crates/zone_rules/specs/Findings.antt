@@ -45,3 +45,7 @@ found_in_zone origin records refused = found_at_apex origin records refused ++ f
 abbrev pub TellsBrokenRules : {N O : Type 0} → List (List ℕ) → List (Record N O) → List RrsetName → List Finding → Type 0
 TellsBrokenRules origin records refused found = (rule : Rule) (place : ℕ)
     → Contains found (record { rule = rule; «record» = Some place }) ↔ (Contains record_rules rule × (place < length records) × IsTrue (breaks_at origin records refused place rule))
+
+-- so it is of what is found in a zone
+abbrev pub BrokenRulesAreTold : {N O : Type 0} → List (List ℕ) → List (Record N O) → List RrsetName → Type 0
+BrokenRulesAreTold origin records refused = TellsBrokenRules origin records refused (found_in_zone origin records refused)

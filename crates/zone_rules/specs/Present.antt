@@ -68,17 +68,28 @@ gives_address name records refused = has_address_in name records refused || (is_
 abbrev pub is_cut_in : {N O : Type 0} → List (List ℕ) → List (Record N O) → List RrsetName → List (List ℕ) → Bool
 is_cut_in origin records refused name = is_below name origin && is_present Rtype.ns name records refused
 
+-- a delegation is above a name
+abbrev pub is_below_cut_in : {N O : Type 0} → List (List ℕ) → List (Record N O) → List RrsetName → List (List ℕ) → Bool
+is_below_cut_in origin records refused name = list_any (is_cut_in origin records refused) (names_above name)
+
 -- a delegation is at a name or above it
 abbrev pub is_delegated_in : {N O : Type 0} → List (List ℕ) → List (Record N O) → List RrsetName → List (List ℕ) → Bool
-is_delegated_in origin records refused name = is_cut_in origin records refused name || list_any (is_cut_in origin records refused) (names_above name)
+is_delegated_in origin records refused name = is_cut_in origin records refused name || is_below_cut_in origin records refused name
 
 -- the zone itself has the data of a name: it is in the zone, and neither a delegation nor below one
 abbrev pub is_own : {N O : Type 0} → List (List ℕ) → List (Record N O) → List RrsetName → List (List ℕ) → Bool
 is_own origin records refused name = is_within name origin && not (is_delegated_in origin records refused name)
 
+-- a DNAME is above a name, of the records, or of those that were refused
+abbrev pub has_dname_above : {N O : Type 0} → List (List ℕ) → List (Record N O) → Bool
+has_dname_above name records = list_any (λ above. has_type_at Rtype.dname above records) (names_above name)
+
+abbrev pub lists_dname_above : List (List ℕ) → List RrsetName → Bool
+lists_dname_above name refused = list_any (λ above. is_listed Rtype.dname above refused) (names_above name)
+
 -- a DNAME is above a name (RFC 6672 section 2.3)
 abbrev pub is_renamed : {N O : Type 0} → List (List ℕ) → List (Record N O) → List RrsetName → Bool
-is_renamed name records refused = list_any (λ above. has_type_at Rtype.dname above records) (names_above name) || list_any (λ above. is_listed Rtype.dname above refused) (names_above name)
+is_renamed name records refused = has_dname_above name records || lists_dname_above name refused
 
 -- the closest DNAME above a name
 abbrev pub closest_dname : {N O : Type 0} → List (List ℕ) → List (Record N O) → List RrsetName → Option (List (List ℕ))

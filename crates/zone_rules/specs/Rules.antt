@@ -1,5 +1,5 @@
 -- When a record breaks a rule.
-use Rattle.std.specs.Prelude.{ℕ, ◌==◌, ◌&&◌, ◌||◌, not, nat_eq, Bool, false, List, [], ◌∷◌, slice_get}
+use Rattle.std.specs.Prelude.{ℕ, ◌==◌, ◌&&◌, ◌||◌, not, nat_eq, Bool, false, List, [], ◌∷◌, slice_get, Option, option_and_then}
 use Rattle.std.specs.Cmp.Lexicographic.{pointwise}
 use Rattle.std.specs.List.{list_any}
 use Rattle.std.specs.Option.{option_map_or}
@@ -9,10 +9,10 @@ use Rattle.dns_kinds.specs.Rtype as Rtype
 use Rattle.dns_kinds.specs.declared.types.RecordType.{RecordType}
 use Rattle.dns_resource.specs.Records.{data_of}
 use Rattle.dns_resource.specs.declared.record.Record.{Record}
-use Rattle.zone_rules.specs.Above.{first_label_of, names_above, is_below, is_within, is_wildcard}
+use Rattle.zone_rules.specs.Above.{first_label_of, is_below, is_within, is_wildcard}
 use Rattle.zone_rules.specs.Base32Texts.{is_base32_text}
 use Rattle.zone_rules.specs.HostNames.{is_bad_host_name}
-use Rattle.zone_rules.specs.Present.{gives_address, has_address_in, is_own, is_present, is_renamed, is_synthesized}
+use Rattle.zone_rules.specs.Present.{closest_dname, gives_address, has_address_in, has_dname_above, is_own, is_present, is_renamed, is_synthesized}
 use Rattle.zone_rules.specs.Zones.{type_of, has_type_at, is_equal_record, record_before, host_of, set_type, is_one_set}
 use Rattle.zone_rules.specs.declared.refused.RrsetName.{RrsetName}
 use Rattle.zone_rules.specs.declared.rule.Rule.{Rule}
@@ -48,7 +48,7 @@ is_alias_in_company records r = type_of r == Rtype.cname && list_any (is_beside_
 
 -- a DNAME stands at a name above the record
 abbrev pub has_dname_over : {N O : Type 0} → List (Record N O) → Record N O → Bool
-has_dname_over records r = list_any (λ above. has_type_at Rtype.dname above records) (names_above r.owner)
+has_dname_over records r = has_dname_above r.owner records
 
 -- the record is an NSEC3, or an RRSIG over such
 abbrev pub is_of_hashed_chain : {N O : Type 0} → Record N O → Bool
@@ -89,6 +89,10 @@ names_host test r = option_map_or test (host_of r) false
 -- and its class is IN, where a host has addresses
 abbrev pub names_internet_host : {N O : Type 0} → (List (List ℕ) → Bool) → Record N O → Bool
 names_internet_host test r = r.class == internet && names_host test r
+
+-- the closest DNAME above the host that a record names
+abbrev pub dname_above_host : {N O : Type 0} → List (Record N O) → List RrsetName → Record N O → Option (List (List ℕ))
+dname_above_host records refused r = option_and_then (λ name. closest_dname name records refused) (host_of r)
 
 -- a name has CNAME, of its own or, where the zone has its data, from a wildcard
 abbrev pub is_alias : {N O : Type 0} → List (List ℕ) → List (Record N O) → List RrsetName → List (List ℕ) → Bool

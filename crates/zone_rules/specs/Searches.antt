@@ -1,11 +1,15 @@
 -- What searches among owners in order find.
-use Rattle.std.specs.Prelude.{ℕ, ◌&&◌, nat_lt, if◌then◌else◌, Bool, IsTrue, Option, Some, None, List, length}
-use Rattle.std.specs.List.{AllAdjacentBelow, list_any}
+use Rattle.std.specs.Prelude.{ℕ, ◌≡◌, ◌-◌, ◌==◌, ◌&&◌, ◌||◌, nat_lt, if◌then◌else◌, Bool, IsTrue, true, false, Option, Some, None, List, length, slice_get}
+use Rattle.std.specs.List.{AllAdjacentBelow, find, list_any}
+use Rattle.std.specs.List.Sorted.{IsPartitionPoint}
 use Rattle.std.specs.Ordering.{is_le, is_lt}
 use Rattle.dns_canonical.specs.Names.{name_order}
+use Rattle.dns_kinds.specs.declared.types.RecordType.{RecordType}
+use Rattle.dns_resource.specs.declared.record.Record.{Record}
+use Rattle.dns_wire.specs.Order.{same_name}
 use Rattle.dns_wire.specs.Wire.{wire_length}
-use Rattle.zone_rules.specs.Above.{is_within}
-use Rattle.zone_rules.specs.Present.{set_order}
+use Rattle.zone_rules.specs.Above.{closest_from, is_within, names_above}
+use Rattle.zone_rules.specs.Present.{rrset_of_record, set_order}
 use Rattle.zone_rules.specs.declared.refused.RrsetName.{RrsetName}
 
 -- items are in the order of the owners of their RRsets
@@ -19,6 +23,41 @@ AreRrsetsInOrder rrset items = AllAdjacentBelow (λ a b. IsTrue (is_le (set_orde
 -- an owner before a name is at or below another name
 abbrev pub is_above_earlier : {X : Type 0} → (X → RrsetName) → List X → List (List ℕ) → List (List ℕ) → Bool
 is_above_earlier rrset items name above = list_any (λ x. is_lt (name_order (rrset x).owner name) && is_within (rrset x).owner above) items
+
+-- the closest name above a name for which that is so
+abbrev pub closest_above_earlier : {X : Type 0} → (X → RrsetName) → List X → List (List ℕ) → Option (List (List ℕ))
+closest_above_earlier rrset items name = find (is_above_earlier rrset items name) (names_above name)
+
+-- for which it is so of records, or of RRsets that were refused
+abbrev pub closest_above_some : {N O : Type 0} → List (Record N O) → List RrsetName → List (List ℕ) → Option (List (List ℕ))
+closest_above_some records refused name =
+    find (λ above. is_above_earlier rrset_of_record records name above || is_above_earlier (λ s. s) refused name above) (names_above name)
+
+-- the owner of an item is at a name or below it
+abbrev pub is_owned_within : {X : Type 0} → (X → RrsetName) → List X → List (List ℕ) → Bool
+is_owned_within rrset items above = list_any (λ x. is_within (rrset x).owner above) items
+
+-- the closest name that a name and the owner of an item are at or below
+abbrev pub shared_with_owner : {X : Type 0} → (X → RrsetName) → List (List ℕ) → X → Option (List (List ℕ))
+shared_with_owner rrset name x = closest_from (is_within (rrset x).owner) name
+
+-- an item is of an RRset of a type at a name
+abbrev pub has_rrset : {X : Type 0} → (X → RrsetName) → RecordType → List (List ℕ) → List X → Bool
+has_rrset rrset rtype name items = list_any (λ x. same_name (rrset x).owner name && (rrset x).rtype == rtype) items
+
+-- so many items have owners before a name, and no other has
+abbrev pub PartsBefore : {X : Type 0} → (X → RrsetName) → List (List ℕ) → List X → ℕ → Type 0
+PartsBefore rrset name items count =
+    IsPartitionPoint (λ x. is_lt (name_order (rrset x).owner name) ≡ true) (λ x. is_lt (name_order (rrset x).owner name) ≡ false) items count
+
+-- so many records have owners at a name or before it in canonical order, and no other has
+abbrev pub PartsUpTo : {N O : Type 0} → List (List ℕ) → List (Record N O) → ℕ → Type 0
+PartsUpTo name records count =
+    IsPartitionPoint (λ r. is_le (name_order r.owner name) ≡ true) (λ r. is_le (name_order r.owner name) ≡ false) records count
+
+-- the item before a place
+abbrev pub before_place : {X : Type 0} → List X → ℕ → Option X
+before_place items place = if place == 0 then None else slice_get items (place - 1)
 
 -- the name of more octets, and the first of two that have as many
 abbrev pub longer_name : Option (List (List ℕ)) → Option (List (List ℕ)) → Option (List (List ℕ))

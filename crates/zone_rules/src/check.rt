@@ -197,7 +197,7 @@ pub fn check_zone<Owner: AsOctets, Octets: AsOctets, Origin: AsOctets, A: Alloca
     records: &SortedRecords<'_, Owner, Octets>,
     refused: &SortedSets<'_>,
 ) -> Result<Vec<Finding, A>, AllocError>
-    ensures { IfOk result (λ found. found.items ≡ found_in_zone origin.now records.now refused.now) }
+    ensures { IfOk result (λ all. all.items ≡ found_in_zone origin.now records.now refused.now) }
 {
     let apex = view(origin);
     let mut found = Vec::new(alloc);

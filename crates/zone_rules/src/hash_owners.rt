@@ -1,8 +1,7 @@
 //! Owners of NSEC3, which are hashes in base 32 hex (RFC 5155 section 3).
-ghost use Rattle.std.specs.Prelude.{◌≡◌, ◌<◌, ◌≤◌, ◌-◌, is_some, length, slice_get, false};
+ghost use Rattle.std.specs.Prelude.{◌≡◌, ◌<◌, ◌≤◌, is_some, length};
 ghost use Rattle.std.specs.List.{list_all};
-ghost use Rattle.std.specs.Option.{option_map_or};
-ghost use Rattle.zone_rules.specs.Base32Texts.{are_whole_octets, base32_value, ends_in_zeros, is_base32_text, spare_bits};
+ghost use Rattle.zone_rules.specs.Base32Texts.{are_whole_octets, base32_value, ends_in_zeros, is_base32_text, last_ends_in_zeros, spare_bits};
 ghost use Rattle.zone_rules.specs.Rules.{is_unhashed_nsec3};
 
 use crate::names::{first_label, view};
@@ -58,7 +57,7 @@ fn spare_of(count: usize) -> usize
 /// Whether the last digit has zeros in its spare bits. Without digits there is none.
 fn ends_in_zero_bits(text: &[u8], spare: usize) -> bool
     requires { spare < 5 }
-    ensures { result ≡ option_map_or (ends_in_zeros spare) (slice_get text.now (length text.now - 1)) false }
+    ensures { result ≡ last_ends_in_zeros spare text.now }
 {
     match text.last() {
         Some(digit) => has_zero_bits(*digit, spare),

@@ -1,11 +1,11 @@
 //! The hosts that records name, and the rules for them.
-ghost use Rattle.std.specs.Prelude.{◌≡◌, IfSome, option_and_then};
+ghost use Rattle.std.specs.Prelude.{◌≡◌, IfSome};
 ghost use Rattle.std.specs.List.{list_any};
 ghost use Rattle.std.specs.Option.{option_copied};
 ghost use Rattle.dns_spelling.specs.NameSpelling.{IsWireName};
 ghost use Rattle.zone_rules.specs.Above.{names_above};
-ghost use Rattle.zone_rules.specs.Present.{closest_dname, is_own, is_renamed};
-ghost use Rattle.zone_rules.specs.Rules.{is_alias, is_below_own_dname, is_dname_at_cut, is_missing, is_without_glue, is_zone_cut, lacks_address, lacks_glue, lacks_ns_address, names_alias, names_missing, names_renamed};
+ghost use Rattle.zone_rules.specs.Present.{is_own, is_renamed};
+ghost use Rattle.zone_rules.specs.Rules.{dname_above_host, is_alias, is_below_own_dname, is_dname_at_cut, is_missing, is_without_glue, is_zone_cut, lacks_address, lacks_glue, lacks_ns_address, names_alias, names_missing, names_renamed};
 ghost use Rattle.zone_rules.specs.Zones.{but_root, host_field, host_octets, host_of};
 
 use crate::host_names::name_part;
@@ -253,7 +253,7 @@ pub fn dname_over_host<'r, Owner: AsOctets, Octets: AsOctets>(
     refused: &SortedSets<'_>,
     record: &'r Record<Owner, Octets>,
 ) -> Option<Name<&'r [u8]>>
-    ensures { result ≡ option_and_then (λ name. closest_dname name records.now refused.now) (host_of «record».now) }
+    ensures { result ≡ dname_above_host records.now refused.now «record».now }
 {
     match host(record) {
         Some(name) => dname_above(records, refused, &name),

@@ -1,5 +1,5 @@
 //! What holds of all findings.
-ghost use Rattle.zone_rules.specs.Findings.{TellsBrokenRules, found_in_zone};
+ghost use Rattle.zone_rules.specs.Findings.{BrokenRulesAreTold};
 
 use crate::refused::SortedSets;
 use crate::sorted::SortedRecords;
@@ -12,5 +12,5 @@ pub fn broken_rules_are_told<Owner: AsOctets, Octets: AsOctets, Origin: AsOctets
     records: &SortedRecords<'_, Owner, Octets>,
     refused: &SortedSets<'_>,
 )
-    ensures { TellsBrokenRules origin.now records.now refused.now (found_in_zone origin.now records.now refused.now) }
+    ensures { BrokenRulesAreTold origin.now records.now refused.now }
 {}

@@ -1,12 +1,11 @@
 //! Where names stand to one another (RFC 1034 section 3.1), the case of letters apart (RFC 4343).
-ghost use Rattle.std.specs.Prelude.{◌≡◌, ◌≤◌, ℕ, List, All, length, ◌∷◌, [], Some, None};
+ghost use Rattle.std.specs.Prelude.{◌≡◌, ◌≤◌, All, length, Some};
 ghost use Rattle.dns_wire.specs.Order.{same_name};
 ghost use Rattle.dns_wire.specs.Wire.{wire, wire_length, IsName, EndsInRoot};
 ghost use Rattle.dns_spelling.specs.NameSpelling.{IsWireName};
 ghost use Rattle.dns_canonical.specs.Names.{name_order};
-ghost use Rattle.std.specs.List.{find};
 ghost use Rattle.std.specs.Option.{option_map};
-ghost use Rattle.zone_rules.specs.Above.{first_label_of, parent_of, is_below, is_within, is_wildcard, names_above};
+ghost use Rattle.zone_rules.specs.Above.{closest_from, first_label_of, is_below, is_wildcard, is_within, parent_of};
 
 use dns_canonical::compare_names;
 use dns_octets::AsOctets;
@@ -116,7 +115,7 @@ pub fn is_name_within(name: &Name<&[u8]>, top: &Name<&[u8]>) -> bool
 
 /// Returns the number of octets of the longest name that two names are at or below.
 fn shared_length(name: &Name<&[u8]>, other: &Name<&[u8]>) -> usize
-    ensures { option_map wire_length (find (is_within other.now) (name.now ∷ names_above name.now)) ≡ Some result }
+    ensures { option_map wire_length (closest_from (is_within other.now) name.now) ≡ Some result }
 {
     let mut above = name.iter_labels();
     let mut rest = other.iter_labels();
@@ -132,7 +131,7 @@ fn shared_length(name: &Name<&[u8]>, other: &Name<&[u8]>) -> usize
 
 /// Returns the longest name that two names are at or below, as the end of the first.
 pub(crate) fn shared_name<'a>(name: &Name<&'a [u8]>, other: &Name<&[u8]>) -> Name<&'a [u8]>
-    ensures { find (is_within other.now) (name.now ∷ names_above name.now) ≡ Some result }
+    ensures { closest_from (is_within other.now) name.now ≡ Some result }
 {
     let _known = octets_of(name);
     let octets: &'a [u8] = *name.as_octets();

@@ -1,10 +1,8 @@
 //! Rules for a record by its owner, and by what stands there.
 ghost use Rattle.std.specs.Prelude.{◌≡◌};
-ghost use Rattle.std.specs.List.{list_any};
 ghost use Rattle.dns_kinds.specs.Rtype as Rtype;
-ghost use Rattle.zone_rules.specs.Above.{names_above};
+ghost use Rattle.zone_rules.specs.Present.{has_dname_above};
 ghost use Rattle.zone_rules.specs.Rules.{is_alias_in_company, is_record_at_apex, is_below_dname, is_beside_alias, is_of_hashed_chain, is_out_of_zone, is_soa_below_apex, is_wildcard_ns};
-ghost use Rattle.zone_rules.specs.Zones.{has_type_at};
 
 use crate::names::{is_name_below, is_name_within, is_same, is_wildcard_name, view};
 use crate::pairs::{are_equal, have_one_owner, set_type_of};
@@ -67,7 +65,7 @@ fn is_below_some_dname<Owner: AsOctets, Octets: AsOctets>(
     records: &SortedRecords<'_, Owner, Octets>,
     name: &Name<&[u8]>,
 ) -> bool
-    ensures { result ≡ list_any (λ above. has_type_at Rtype.dname above records.now) (names_above name.now) }
+    ensures { result ≡ has_dname_above name.now records.now }
 {
     match records.closest_before(name) {
         Some(above) => has_type(records, &above, RecordType::DNAME)
@@ -81,7 +79,7 @@ pub(crate) fn has_dname_above<Owner: AsOctets, Octets: AsOctets>(
     records: &SortedRecords<'_, Owner, Octets>,
     name: &Name<&[u8]>,
 ) -> bool
-    ensures { result ≡ list_any (λ above. has_type_at Rtype.dname above records.now) (names_above name.now) }
+    ensures { result ≡ has_dname_above name.now records.now }
 {
     records.has_dname() && is_below_some_dname(records, name)
 }

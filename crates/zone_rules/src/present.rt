@@ -1,12 +1,11 @@
 //! What is in a zone: records, and RRsets of which an entry was refused.
-ghost use Rattle.std.specs.Prelude.{◌≡◌, ◌≤◌, ◌||◌, ◌∷◌, [], IsTrue, List, false, length, ℕ};
-ghost use Rattle.std.specs.List.{find, list_any};
+ghost use Rattle.std.specs.Prelude.{◌≡◌, ◌≤◌, ◌∷◌, [], IsTrue, List, false, length, ℕ};
 ghost use Rattle.dns_kinds.specs.Rtype as Rtype;
 ghost use Rattle.dns_kinds.specs.declared.types.RecordType.{RecordType};
 ghost use Rattle.dns_wire.specs.Wire.{wire_length};
-ghost use Rattle.zone_rules.specs.Above.{names_above};
-ghost use Rattle.zone_rules.specs.Present.{closest_dname, gives_address, has_address_in, is_cut_in, is_delegated_in, is_existing, is_listed, is_present, is_synthesized, rrset_of_record};
-ghost use Rattle.zone_rules.specs.Searches.{is_above_earlier};
+ghost use Rattle.zone_rules.specs.Above.{closest_from};
+ghost use Rattle.zone_rules.specs.Present.{closest_dname, gives_address, has_address_in, is_below_cut_in, is_cut_in, is_delegated_in, is_existing, is_present, is_synthesized, lists_dname_above};
+ghost use Rattle.zone_rules.specs.Searches.{closest_above_some};
 
 use crate::names::{is_name_below, name_of, octets_of};
 use crate::refused::{SortedSets, lists_set};
@@ -48,7 +47,7 @@ fn closest_existing<'a, Owner: AsOctets, Octets: AsOctets>(
     refused: &SortedSets<'_>,
     name: &Name<&'a [u8]>,
 ) -> Option<Name<&'a [u8]>>
-    ensures { result ≡ find (λ above. is_existing above records.now refused.now) (name.now ∷ names_above name.now) }
+    ensures { result ≡ closest_from (λ above. is_existing above records.now refused.now) name.now }
 {
     longer(records.closest(name), refused.closest(name))
 }
@@ -146,7 +145,7 @@ fn owner_above<'a, Owner: AsOctets, Octets: AsOctets>(
     refused: &SortedSets<'_>,
     name: &Name<&'a [u8]>,
 ) -> Option<Name<&'a [u8]>>
-    ensures { result ≡ find (λ above. is_above_earlier rrset_of_record records.now name.now above || is_above_earlier (λ s. s) refused.now name.now above) (names_above name.now) }
+    ensures { result ≡ closest_above_some records.now refused.now name.now }
 {
     longer(records.closest_before(name), refused.closest_before(name))
 }
@@ -159,7 +158,7 @@ fn is_below_cut<Owner: AsOctets, Octets: AsOctets>(
     refused: &SortedSets<'_>,
     name: &Name<&[u8]>,
 ) -> bool
-    ensures { result ≡ list_any (is_cut_in origin.now records.now refused.now) (names_above name.now) }
+    ensures { result ≡ is_below_cut_in origin.now records.now refused.now name.now }
 {
     match owner_above(records, refused, name) {
         Some(above) => {
@@ -185,7 +184,7 @@ pub(crate) fn is_delegated_name<Owner: AsOctets, Octets: AsOctets>(
 /// Returns whether a DNAME of which an entry was refused is above a name.
 #[tactic(auto, using(crate::proofs::Neighbours::listed_none, crate::proofs::Neighbours::found_fewer))]
 pub(crate) fn is_under_refused_dname(refused: &SortedSets<'_>, name: &Name<&[u8]>) -> bool
-    ensures { result ≡ list_any (λ above. is_listed Rtype.dname above refused.now) (names_above name.now) }
+    ensures { result ≡ lists_dname_above name.now refused.now }
 {
     match refused.closest_before(name) {
         Some(above) => {

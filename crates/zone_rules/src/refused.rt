@@ -1,9 +1,8 @@
 //! The RRsets of which an entry was refused: they are in the zone, and their data are not known.
-ghost use Rattle.std.specs.Prelude.{◌≡◌, ◌↔◌, ◌∷◌, IfSome, IsSome, IsTrue, []};
-ghost use Rattle.std.specs.List.{find};
-ghost use Rattle.zone_rules.specs.Above.{names_above};
+ghost use Rattle.std.specs.Prelude.{◌≡◌, ◌↔◌, IfSome, IsSome, IsTrue, []};
+ghost use Rattle.zone_rules.specs.Above.{closest_from};
 ghost use Rattle.zone_rules.specs.Present.{AreSetsInOrder, is_listed, is_listed_within, set_order};
-ghost use Rattle.zone_rules.specs.Searches.{is_above_earlier};
+ghost use Rattle.zone_rules.specs.Searches.{closest_above_earlier};
 
 use crate::names::{order_of, view};
 use crate::search::{OfRrset, closest, closest_before, finds};
@@ -80,7 +79,7 @@ impl<'a> SortedSets<'a> {
     /// Returns the closest name at or above this one that has an RRset at it or below it.
     #[tactic(auto, using(crate::proofs::Within::set_owners))]
     pub(crate) fn closest<'n>(&self, name: &Name<&'n [u8]>) -> Option<Name<&'n [u8]>>
-        ensures { result ≡ find (λ above. is_listed_within above self.now) (name.now ∷ names_above name.now) }
+        ensures { result ≡ closest_from (λ above. is_listed_within above self.now) name.now }
     {
         closest(self.sets, name)
     }
@@ -88,7 +87,7 @@ impl<'a> SortedSets<'a> {
     /// Returns the closest name above this one that is at or above the owner of an RRset before it.
     #[tactic(auto, using(crate::proofs::Within::set_owners))]
     pub(crate) fn closest_before<'n>(&self, name: &Name<&'n [u8]>) -> Option<Name<&'n [u8]>>
-        ensures { result ≡ find (is_above_earlier (λ s. s) self.now name.now) (names_above name.now) }
+        ensures { result ≡ closest_above_earlier (λ s. s) self.now name.now }
     {
         closest_before(self.sets, name)
     }

@@ -1,13 +1,8 @@
 //! Searches among what is in the order of its owners: records, and RRsets of refused entries.
-ghost use Rattle.std.specs.Prelude.{◌≡◌, ◌≤◌, ◌-◌, ◌∷◌, ◌==◌, ◌&&◌, if◌then◌else◌, None, true, false, length, option_and_then, slice_get};
-ghost use Rattle.std.specs.List.{find, list_any};
-ghost use Rattle.std.specs.List.Sorted.{IsPartitionPoint};
+ghost use Rattle.std.specs.Prelude.{◌≡◌, ◌≤◌, length, option_and_then, slice_get};
 ghost use Rattle.std.specs.Option.{option_copied};
-ghost use Rattle.std.specs.Ordering.{is_lt};
-ghost use Rattle.dns_canonical.specs.Names.{name_order};
-ghost use Rattle.dns_wire.specs.Order.{same_name};
-ghost use Rattle.zone_rules.specs.Above.{is_within, names_above};
-ghost use Rattle.zone_rules.specs.Searches.{AreOwnersInOrder, AreRrsetsInOrder, is_above_earlier, longer_name};
+ghost use Rattle.zone_rules.specs.Above.{closest_from};
+ghost use Rattle.zone_rules.specs.Searches.{AreOwnersInOrder, AreRrsetsInOrder, PartsBefore, before_place, closest_above_earlier, has_rrset, is_owned_within, longer_name, shared_with_owner};
 
 use crate::names::{octets_of, shared_name, view};
 use crate::refused::RrsetName;
@@ -36,7 +31,7 @@ pub(crate) trait OfRrset {
 /// Returns whether an item of a type is at a name.
 pub(crate) fn finds<T: OfRrset>(items: &[T], name: &Name<&[u8]>, rtype: RecordType) -> bool
     requires { AreRrsetsInOrder T.rrset items.now }
-    ensures { result ≡ list_any (λ x. same_name (T.rrset x).owner name.now && (T.rrset x).rtype == rtype) items.now }
+    ensures { result ≡ has_rrset T.rrset rtype name.now items.now }
 {
     let wanted = RrsetName {
         owner: view(name),
@@ -53,7 +48,7 @@ pub(crate) fn finds<T: OfRrset>(items: &[T], name: &Name<&[u8]>, rtype: RecordTy
 fn count_before<T: OfRrset>(items: &[T], name: &Name<&[u8]>) -> usize
     requires { AreOwnersInOrder T.rrset items.now }
     ensures bound { result ≤ length items.now }
-    ensures point { IsPartitionPoint (λ x. is_lt (name_order (T.rrset x).owner name.now) ≡ true) (λ x. is_lt (name_order (T.rrset x).owner name.now) ≡ false) items.now result }
+    ensures point { PartsBefore T.rrset name.now items.now result }
 {
     let first = RrsetName {
         owner: view(name),
@@ -64,7 +59,7 @@ fn count_before<T: OfRrset>(items: &[T], name: &Name<&[u8]>) -> usize
 
 /// Returns the item before a place.
 pub(crate) fn item_before<T>(items: &[T], place: usize) -> Option<&T>
-    ensures { option_copied result ≡ (if place == 0 then None else slice_get items.now (place - 1)) }
+    ensures { option_copied result ≡ before_place items.now place }
 {
     if place == 0 {
         return None;
@@ -81,7 +76,7 @@ fn item_at<T>(items: &[T], place: usize) -> Option<&T>
 
 /// Returns the longest name that a name and the owner of an item are at or below.
 fn shared_with<'a, T: OfRrset>(item: Option<&T>, name: &Name<&'a [u8]>) -> Option<Name<&'a [u8]>>
-    ensures { result ≡ option_and_then (λ x. find (is_within (T.rrset x).owner) (name.now ∷ names_above name.now)) (option_copied item.entry) }
+    ensures { result ≡ option_and_then (shared_with_owner T.rrset name.now) (option_copied item.entry) }
 {
     match item {
         Some(item) => Some(shared_name(name, &item.owner())),
@@ -115,7 +110,7 @@ pub(crate) fn closest_before<'a, T: OfRrset>(
     name: &Name<&'a [u8]>,
 ) -> Option<Name<&'a [u8]>>
     requires { AreOwnersInOrder T.rrset items.now }
-    ensures { result ≡ find (is_above_earlier T.rrset items.now name.now) (names_above name.now) }
+    ensures { result ≡ closest_above_earlier T.rrset items.now name.now }
 {
     // No effect at run time: the proof reads that the name ends in the root.
     let _octets = octets_of(name);
@@ -126,7 +121,7 @@ pub(crate) fn closest_before<'a, T: OfRrset>(
 /// after the name have the most labels in common with it.
 pub(crate) fn closest<'a, T: OfRrset>(items: &[T], name: &Name<&'a [u8]>) -> Option<Name<&'a [u8]>>
     requires { AreOwnersInOrder T.rrset items.now }
-    ensures { result ≡ find (λ above. list_any (λ x. is_within (T.rrset x).owner above) items.now) (name.now ∷ names_above name.now) }
+    ensures { result ≡ closest_from (is_owned_within T.rrset items.now) name.now }
 {
     // No effect at run time: the proof reads that the name ends in the root.
     let _octets = octets_of(name);

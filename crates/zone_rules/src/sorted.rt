@@ -1,14 +1,14 @@
 //! The records of a zone in canonical order, and lookups by owner and type among them.
-ghost use Rattle.std.specs.Prelude.{◌≡◌, ◌≤◌, ◌↔◌, ◌∷◌, ◌==◌, IfSome, IsSome, filter, length, true, false};
-ghost use Rattle.std.specs.List.{find, list_all, list_any};
-ghost use Rattle.std.specs.List.Sorted.{IsPartitionPoint, IsPartitionedBy};
+ghost use Rattle.std.specs.Prelude.{◌≡◌, ◌≤◌, ◌↔◌, ◌==◌, IfSome, IsSome, filter, length};
+ghost use Rattle.std.specs.List.{list_all, list_any};
+ghost use Rattle.std.specs.List.Sorted.{IsPartitionedBy};
 ghost use Rattle.std.specs.Ordering.{is_le};
 ghost use Rattle.dns_kinds.specs.Rtype as Rtype;
 ghost use Rattle.dns_wire.specs.Order.{same_name};
 ghost use Rattle.dns_canonical.specs.Names.{name_order};
-ghost use Rattle.zone_rules.specs.Above.{is_wildcard, names_above};
+ghost use Rattle.zone_rules.specs.Above.{closest_from, is_wildcard};
 ghost use Rattle.zone_rules.specs.Present.{rrset_of_record};
-ghost use Rattle.zone_rules.specs.Searches.{is_above_earlier};
+ghost use Rattle.zone_rules.specs.Searches.{PartsUpTo, closest_above_earlier};
 ghost use Rattle.zone_rules.specs.Zones.{AreInOrder, has_owner_within, has_type_among, has_type_at, is_one_class};
 
 use crate::names::{is_wildcard_name, order_of, view};
@@ -127,7 +127,7 @@ impl<'a, Owner: AsOctets, Octets: AsOctets> SortedRecords<'a, Owner, Octets> {
     /// Returns the closest name at or above this one that has an owner at it or below it.
     #[tactic(auto, using(crate::proofs::Within::record_owners))]
     pub(crate) fn closest<'n>(&self, name: &Name<&'n [u8]>) -> Option<Name<&'n [u8]>>
-        ensures { result ≡ find (λ above. has_owner_within above self.now) (name.now ∷ names_above name.now) }
+        ensures { result ≡ closest_from (λ above. has_owner_within above self.now) name.now }
     {
         closest(self.records, name)
     }
@@ -135,7 +135,7 @@ impl<'a, Owner: AsOctets, Octets: AsOctets> SortedRecords<'a, Owner, Octets> {
     /// Returns the closest name above this one that is at or above an owner before it.
     #[tactic(auto, using(crate::proofs::Within::record_owners))]
     pub(crate) fn closest_before<'n>(&self, name: &Name<&'n [u8]>) -> Option<Name<&'n [u8]>>
-        ensures { result ≡ find (is_above_earlier rrset_of_record self.now name.now) (names_above name.now) }
+        ensures { result ≡ closest_above_earlier rrset_of_record self.now name.now }
     {
         closest_before(self.records, name)
     }
@@ -160,7 +160,7 @@ fn count_up_to<Owner: AsOctets, Octets: AsOctets>(
 ) -> usize
     requires { IsPartitionedBy (λ r. is_le (name_order r.owner name.now)) records.now }
     ensures bound { result ≤ length records.now }
-    ensures point { IsPartitionPoint (λ r. is_le (name_order r.owner name.now) ≡ true) (λ r. is_le (name_order r.owner name.now) ≡ false) records.now result }
+    ensures point { PartsUpTo name.now records.now result }
 {
     let mut index: usize = 0;
     'gallop: while index < records.len() && order_of(&records[index].owner, name).is_le() {

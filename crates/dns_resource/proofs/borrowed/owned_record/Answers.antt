@@ -6,4 +6,4 @@ use Rattle.dns_resource.proofs.borrowed.owned_record.Goals as goal
 pub returns-in_default-clause-none : goal.returns-in_default-clause-none
 returns-in_default-clause-none g c = λ is typed.
     let why = c.in_default.field-0 in
-    never_refused c.args.octets.owner.now why is (subst (λ o. MakesName o (Err why)) c.in_ok-copied.ensures c.in_default.ensures)
+    never_refused c.args.octets.now.owner.now why is (subst (λ o. MakesName o (Err why)) c.in_ok-copied.ensures c.in_default.ensures)
