@@ -45,7 +45,7 @@ pub fn keys_are_ordered_as_names()
 pub fn octets_are_ordered()
     ensures total { IsTotalOrder octet_order }
     ensures equal { (a b : List ℕ) → (octet_order a b ≡ Equal) ↔ (a ≡ b) }
-    ensures absent { (octets : List ℕ) (octet : ℕ) (more : List ℕ) → StandsBeforeMore octets octet more }
+    ensures absent { (octets more : List ℕ) (octet : ℕ) → StandsBeforeMore octets octet more }
 {}
 
 /// The order of records is total, and equal exactly where the owners' is and class, type and data

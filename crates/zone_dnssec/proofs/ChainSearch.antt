@@ -1,18 +1,9 @@
 -- A search among the chains of a zone, in a loop.
 use Rattle.std.proofs.Common.{ℕ, ◌≡◌, ◌+◌, ◌<◌, Bool, false, true, List, [], ◌∷◌, length, take, get_or, refl, ap, ◌∙◌}
-use Rattle.std.specs.Prelude.{◌&&◌, ◌||◌}
+use Rattle.std.specs.Prelude.{◌||◌}
 use Rattle.std.specs.List.{list_any}
 use Rattle.std.proofs.lemmas.List.{take_more}
 use Rattle.std.proofs.lemmas.List.Folds.{list_any-append}
-use Rattle.dns_resource.specs.declared.record.Record.{Record}
-use Rattle.zone_dnssec.specs.HashedLinks.{chain_fails}
-use Rattle.zone_dnssec.specs.Parameters.{names_chain}
-use Rattle.zone_dnssec.specs.ZoneViews.{ZoneView}
-use Rattle.zone_dnssec.specs.declared.hashed.LinkFault.{LinkFault}
-
--- an NSEC3PARAM names a chain of few iterations in which a name is represented, and which fails it
-abbrev pub fails_name_in : {N O : Type 0} → LinkFault → ZoneView N O → List (List ℕ) → Record N O → Bool
-fails_name_in fault zone name chain = names_chain chain && chain_fails fault zone name chain
 
 or_false : (b : Bool) → (b || false) ≡ b
 or_false true = refl

@@ -12,6 +12,7 @@ use Rattle.zone_dnssec.specs.HashedNames.{hashed_owner}
 use Rattle.zone_dnssec.specs.NsecChain.{are_at_one_name}
 use Rattle.zone_dnssec.specs.NsecTypes.{lists_exactly}
 use Rattle.zone_dnssec.specs.Nsec3Chain.{next_hash_of, hashed_bitmap, opts_out, iterations_of, is_link, some_chain, matching_owner, matching_link, link_after, link_before}
+use Rattle.zone_dnssec.specs.Parameters.{names_chain}
 use Rattle.zone_dnssec.specs.SignedSets.{is_authoritative, starts}
 use Rattle.zone_dnssec.specs.ZoneViews.{ZoneView}
 use Rattle.zone_dnssec.specs.declared.hashed.LinkFault.{LinkFault}
@@ -29,9 +30,16 @@ points_to_next zone chain r = option_map_or (is_hash_of zone.origin (next_hash_o
 abbrev pub is_out_of_order : {N O : Type 0} → ZoneView N O → Record N O → Record N O → Bool
 is_out_of_order zone r chain = is_link chain r && not (points_to_next zone chain r)
 
--- an NSEC3 of some chain does
+-- so it is of a chain that an NSEC3PARAM names
+abbrev pub breaks_named_chain : {N O : Type 0} → ZoneView N O → Record N O → Record N O → Bool
+breaks_named_chain zone r chain = names_chain chain && is_out_of_order zone r chain
+
+-- of some chain
+abbrev pub breaks_some_chain : {N O : Type 0} → ZoneView N O → Record N O → Bool
+breaks_some_chain zone r = some_chain (is_out_of_order zone r) zone
+
 abbrev pub names_other_hash : {N O : Type 0} → ZoneView N O → Record N O → Bool
-names_other_hash zone r = type_of r == Rtype.nsec3 && some_chain (is_out_of_order zone r) zone
+names_other_hash zone r = type_of r == Rtype.nsec3 && breaks_some_chain zone r
 
 -- no NSEC3 matches a name
 abbrev pub lacks_link : {N O : Type 0} → ZoneView N O → Record N O → List (List ℕ) → Bool
@@ -82,6 +90,13 @@ is_bounded chain = nat_le (iterations_of chain) 150
 abbrev pub chain_fails : {N O : Type 0} → LinkFault → ZoneView N O → List (List ℕ) → Record N O → Bool
 chain_fails fault zone name chain = is_bounded chain && (is_represented zone chain name && fails_at_or_above fault zone chain name)
 
+-- an NSEC3PARAM names such a chain
+abbrev pub named_chain_fails : {N O : Type 0} → LinkFault → ZoneView N O → List (List ℕ) → Record N O → Bool
+named_chain_fails fault zone name chain = names_chain chain && chain_fails fault zone name chain
+
+abbrev pub some_chain_fails : {N O : Type 0} → LinkFault → ZoneView N O → List (List ℕ) → Bool
+some_chain_fails fault zone name = some_chain (chain_fails fault zone name) zone
+
 -- the record is the first at a name that some chain fails
 abbrev pub fails_chain : {N O : Type 0} → LinkFault → ZoneView N O → ℕ → Record N O → Bool
-fails_chain fault zone place r = starts are_at_one_name zone.records place r && some_chain (chain_fails fault zone r.owner) zone
+fails_chain fault zone place r = starts are_at_one_name zone.records place r && some_chain_fails fault zone r.owner

@@ -14,7 +14,7 @@ use Rattle.zone_dnssec.specs.SignatureFields.{has_other_labels, has_other_origin
 use Rattle.zone_dnssec.specs.SignatureTimes.{is_expired, expires_within, has_reversed_times, is_early}
 use Rattle.zone_dnssec.specs.SignedSets.{is_left_unsigned, signs_nothing}
 use Rattle.zone_dnssec.specs.ZoneKeys.{is_by_revoked_key, lacks_known_key, misses_key, zone_keys}
-use Rattle.zone_dnssec.specs.ZoneViews.{ZoneView}
+use Rattle.zone_dnssec.specs.ZoneViews.{ZoneView, zone_with}
 use Rattle.zone_dnssec.specs.declared.hashed.LinkFault.TheVariants.{Missing, DifferentTypes}
 use Rattle.zone_dnssec.specs.declared.rule.SecurityFinding.{SecurityFinding}
 use Rattle.zone_dnssec.specs.declared.rule.SecurityRule.{SecurityRule}
@@ -72,6 +72,6 @@ abbrev pub insecure_at : {N O : Type 0} → ZoneView N O → Times → ℕ → L
 insecure_at zone times place = flat_map (insecure_of zone times place) security_rules
 
 -- the rules that each record breaks, record by record, if the zone is signed: with DNSKEY at its apex
-abbrev pub insecure_in_zone : {N O : Type 0} → ZoneView N O → Times → List SecurityFinding
-insecure_in_zone zone times =
-    if has_type_at Rtype.dnskey zone.origin zone.records then flat_map (insecure_at zone times) (range_with_len 0 (length zone.records)) else []
+abbrev pub insecure_in_zone : {N O : Type 0} → List (List ℕ) → Times → List (Record N O) → List SecurityFinding
+insecure_in_zone origin times records =
+    if has_type_at Rtype.dnskey origin records then flat_map (insecure_at (zone_with origin records) times) (range_with_len 0 (length records)) else []

@@ -221,7 +221,7 @@ pub fn check_signed<Owner: AsOctets, Octets: AsOctets, Origin: AsOctets, A: Allo
     times: Times,
     records: &SortedRecords<'_, Owner, Octets>,
 ) -> Result<Vec<SecurityFinding, A>, AllocError>
-    ensures { IfOk result (λ found. found.items ≡ insecure_in_zone (zone_with origin.now records.now) times) }
+    ensures { IfOk result (λ found. found.items ≡ insecure_in_zone origin.now times records.now) }
 {
     let apex = view(origin);
     let mut found = Vec::new(alloc);

@@ -1,9 +1,7 @@
 //! What NSEC3 records say of the names of a zone (RFC 5155 section 7.1).
-ghost use Rattle.std.specs.Prelude.{◌≡◌, ◌&&◌};
+ghost use Rattle.std.specs.Prelude.{◌≡◌};
 ghost use Rattle.zone_rules.specs.Zones.{has_owner};
-ghost use Rattle.zone_dnssec.specs.HashedLinks.{chain_fails, fails_above, fails_at_or_above, fails_chain, fails_name, is_bounded, is_covered_by_opt_out, is_empty_in_zone, is_hash_of, is_opted_out, is_out_of_order, is_represented, lacks_link, lists_other_hashed_types, names_other_hash, points_to_next};
-ghost use Rattle.zone_dnssec.specs.Nsec3Chain.{some_chain};
-ghost use Rattle.zone_dnssec.specs.Parameters.{names_chain};
+ghost use Rattle.zone_dnssec.specs.HashedLinks.{breaks_named_chain, breaks_some_chain, fails_above, fails_at_or_above, fails_chain, fails_name, is_bounded, is_covered_by_opt_out, is_empty_in_zone, is_hash_of, is_opted_out, is_represented, lacks_link, lists_other_hashed_types, named_chain_fails, names_other_hash, points_to_next, some_chain_fails};
 ghost use Rattle.zone_dnssec.specs.ZoneViews.{zone_of};
 
 use crate::bitmaps::lists_types;
@@ -72,7 +70,7 @@ fn is_out_of_order<Owner: AsOctets, Octets: AsOctets>(
     chain: &Record<Owner, Octets>,
     record: &Record<Owner, Octets>,
 ) -> bool
-    ensures { result ≡ names_chain chain.now && is_out_of_order (zone_of zone.now) «record».now chain.now }
+    ensures { result ≡ breaks_named_chain (zone_of zone.now) «record».now chain.now }
 {
     is_chain(chain) && is_of_chain(chain, record) && !names_next(zone, chain, record)
 }
@@ -82,7 +80,7 @@ fn breaks_order<Owner: AsOctets, Octets: AsOctets>(
     zone: &SignedZone<'_, '_, Owner, Octets>,
     record: &Record<Owner, Octets>,
 ) -> bool
-    ensures { result ≡ some_chain (is_out_of_order (zone_of zone.now) «record».now) (zone_of zone.now) }
+    ensures { result ≡ breaks_some_chain (zone_of zone.now) «record».now }
 {
     owned_by(zone.records, zone.origin)
         .iter()
@@ -262,7 +260,7 @@ fn is_chain_wrong<'a, Owner: AsOctets, Octets: AsOctets>(
     chain: &'a Record<Owner, Octets>,
     name: &Name<&'a [u8]>,
 ) -> bool
-    ensures { result ≡ names_chain chain.now && chain_fails fault (zone_of zone.now) name.now chain.now }
+    ensures { result ≡ named_chain_fails fault (zone_of zone.now) name.now chain.now }
 {
     is_chain(chain)
         && is_short(chain)
@@ -278,7 +276,7 @@ fn has_fault_in_chain<'a, Owner: AsOctets, Octets: AsOctets>(
     zone: &SignedZone<'_, 'a, Owner, Octets>,
     name: &Name<&'a [u8]>,
 ) -> bool
-    ensures { result ≡ some_chain (chain_fails fault (zone_of zone.now) name.now) (zone_of zone.now) }
+    ensures { result ≡ some_chain_fails fault (zone_of zone.now) name.now }
 {
     let all = owned_by(zone.records, zone.origin);
     let mut is_wrong = false;

@@ -38,8 +38,8 @@ abbrev pub is_owned_within : {X : Type 0} → (X → RrsetName) → List X → L
 is_owned_within rrset items above = list_any (λ x. is_within (rrset x).owner above) items
 
 -- the closest name that a name and the owner of an item are at or below
-abbrev pub shared_with_owner : {X : Type 0} → (X → RrsetName) → List (List ℕ) → X → Option (List (List ℕ))
-shared_with_owner rrset name x = closest_from (is_within (rrset x).owner) name
+abbrev pub shared_with : {X : Type 0} → (X → RrsetName) → List (List ℕ) → X → Option (List (List ℕ))
+shared_with rrset name x = closest_from (is_within (rrset x).owner) name
 
 -- an item is of an RRset of a type at a name
 abbrev pub has_rrset : {X : Type 0} → (X → RrsetName) → RecordType → List (List ℕ) → List X → Bool

@@ -2,7 +2,7 @@
 ghost use Rattle.std.specs.Prelude.{◌≡◌, ◌≤◌, length, option_and_then, slice_get};
 ghost use Rattle.std.specs.Option.{option_copied};
 ghost use Rattle.zone_rules.specs.Above.{closest_from};
-ghost use Rattle.zone_rules.specs.Searches.{AreOwnersInOrder, AreRrsetsInOrder, PartsBefore, before_place, closest_above_earlier, has_rrset, is_owned_within, longer_name, shared_with_owner};
+ghost use Rattle.zone_rules.specs.Searches.{AreOwnersInOrder, AreRrsetsInOrder, PartsBefore, before_place, closest_above_earlier, has_rrset, is_owned_within, longer_name, shared_with};
 
 use crate::names::{octets_of, shared_name, view};
 use crate::refused::RrsetName;
@@ -76,7 +76,7 @@ fn item_at<T>(items: &[T], place: usize) -> Option<&T>
 
 /// Returns the longest name that a name and the owner of an item are at or below.
 fn shared_with<'a, T: OfRrset>(item: Option<&T>, name: &Name<&'a [u8]>) -> Option<Name<&'a [u8]>>
-    ensures { result ≡ option_and_then (shared_with_owner T.rrset name.now) (option_copied item.entry) }
+    ensures { result ≡ option_and_then (shared_with T.rrset name.now) (option_copied item.entry) }
 {
     match item {
         Some(item) => Some(shared_name(name, &item.owner())),
