@@ -38,7 +38,7 @@ abbrev pub WhyNoFile : Room → List TokenSeen → List ℕ → ErrorKind → Ty
 WhyNoFile room [] old e = e ≡ EndOfEntry
 WhyNoFile room (t ∷ ts) old e = (e ≡ ShortBuf) × (room.fits < length old + length t.text)
 
--- the next token is taken, and the target gained what it holds, as it is written; or nothing changed
-abbrev pub TakesFile : Room → ℕ → List TokenSeen → List ℕ → Result (Unit {0}) RecordError → List TokenSeen → List ℕ → Type 0
-TakesFile room end tokens old (Ok _) left new = (t : TokenSeen) × (tokens ≡ t ∷ left) × (new ≡ old ++ t.text)
+-- the next token is taken, and the target gained what it holds, as it is written, which is counted; or nothing changed
+abbrev pub TakesFile : Room → ℕ → List TokenSeen → List ℕ → Result ℕ RecordError → List TokenSeen → List ℕ → Type 0
+TakesFile room end tokens old (Ok n) left new = (t : TokenSeen) × (tokens ≡ t ∷ left) × (new ≡ old ++ t.text) × (n ≡ length t.text)
 TakesFile room end tokens old (Err e) left new = (left ≡ tokens) × (new ≡ old) × IsErrorAt (next_place tokens end) e × WhyNoFile room tokens old e.kind

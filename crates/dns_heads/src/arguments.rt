@@ -63,13 +63,13 @@ pub fn take_default_ttl<S: TokenSource>(source: &mut S) -> Result<u32, RecordErr
 }
 
 /// Takes the file of `$INCLUDE`, in quotes or not, and appends its octets as they are written: no
-/// backslash is an escape here. An origin may be left.
+/// backslash is an escape here. Returns how many they are. An origin may be left.
 ///
 /// Where the octets don't fit, the target is as it was, and the token is left.
 pub fn take_file<S: TokenSource, B: OctetsBuilder>(
     source: &mut S,
     target: &mut B,
-) -> Result<(), RecordError>
+) -> Result<usize, RecordError>
     ensures takes { TakesFile B.room (S.end source.old).at (S.left source.old)
         (B.octets target.old) result (S.left source.new) (B.octets target.new) }
     ensures end { S.end source.new ≡ S.end source.old }
@@ -78,9 +78,10 @@ pub fn take_file<S: TokenSource, B: OctetsBuilder>(
     let Some(token) = source.current() else {
         return Err(RecordError::at(at, ErrorKind::EndOfEntry));
     };
+    let count = token.text.len();
     if target.append_slice(token.text).is_err() {
         return Err(RecordError::at(at, ErrorKind::ShortBuf));
     }
     source.advance();
-    Ok(())
+    Ok(count)
 }

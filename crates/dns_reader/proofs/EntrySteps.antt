@@ -1,5 +1,5 @@
 -- The steps in which an entry is read: directives, and the owner of a record.
-use Rattle.std.proofs.Common.{ℕ, ◌≡◌, ◌≢◌, List, [], ◌∷◌, drop, Option, Some, None, Result, Ok, Err, refl, sym, subst, ap, ◌∙◌, inl, inr, append-nil, true, true≢false}
+use Rattle.std.proofs.Common.{ℕ, ◌≡◌, ◌≢◌, List, [], ◌∷◌, ◌++◌, length, drop, Option, Some, None, Result, Ok, Err, refl, sym, subst, ap, ◌∙◌, inl, inr, append-nil, append_assoc, length-append, arith, true, true≢false}
 use Rattle.std.specs.Prelude.{slice_get, option_map, is_some}
 use Rattle.std.proofs.lemmas.Option.{none-some}
 use Rattle.dns_octets.specs.Appending.{Extends}
@@ -11,10 +11,11 @@ use Rattle.dns_fields.specs.RecordErrors.{error_at}
 use Rattle.dns_fields.specs.declared.record_error.RecordError.{RecordError}
 use Rattle.dns_kinds.specs.declared.error.ErrorKind.TheVariants.{EndOfEntry}
 use Rattle.dns_heads.specs.Arguments.{TakesEnd, TakesFile}
-use Rattle.dns_reader.specs.EntryReading.{ReadsOwner, owner_of_record}
-use Rattle.dns_reader.specs.EntrySteps.{PassesFile, PassesName, ReadsLastInclude, TakesIncludedOrigin, TakesLastName, ends_early, only_token, too_many}
+use Rattle.dns_reader.specs.EntryReading.{IncludesOrigin, ReadsInclude, ReadsOwner, origin_octets, owner_of_record}
+use Rattle.dns_reader.specs.EntrySteps.{AppendsFile, FinishesInclude, PassesFile, PassesName, ReadsLastInclude, TakesIncludedOrigin, TakesLastName, ends_early, only_token, too_many}
 use Rattle.dns_reader.specs.Learning.{Learns, TakesName}
 use Rattle.dns_reader.specs.Past.{NamedBy, known_name}
+use Rattle.dns_reader.specs.declared.entry.EntryRead.{EntryRead}
 use Rattle.dns_reader.specs.declared.entry.EntryRead.TheVariants.{Include}
 use Rattle.dns_reader.specs.declared.known.Known.TheVariants.{Name, Refused}
 use Rattle.dns_reader.specs.declared.state.State.{State}
@@ -81,8 +82,8 @@ module _ (origin : Option (List (List ℕ))) (end : ℕ) where
   none_is_included (t ∷ u ∷ ts) r some h = let same : r ≡ too_many u = cc in ap Err same
 
   module _ (room : Room) (old : List ℕ) where
-    pub file_passed : (tokens left : List TokenSeen) (u : Unit {0}) (new : List ℕ) → TakesFile room end tokens old (Ok u) left new → PassesFile room end tokens old (Ok u) left new
-    file_passed tokens left u new h = subst (λ l. PassesFile room end l old (Ok u) left new) (sym h.1) (refl, h.2)
+    pub file_passed : (tokens left : List TokenSeen) (n : ℕ) (new : List ℕ) → TakesFile room end tokens old (Ok n) left new → PassesFile room end tokens old (Ok n) left new
+    file_passed tokens left n new h = subst (λ l. PassesFile room end l old (Ok n) left new) (sym h.1) (refl, (h.2, h.3))
 
     pub refused_file : (tokens left after : List TokenSeen) (r : RecordError) (new : List ℕ) → TakesFile room end tokens old (Err r) left new → after ≡ drop 1 left → PassesFile room end tokens old (Err r) after new
     refused_file [] left after r new h is = (is ∙ ap (drop 1) h.0, ap Err (h.2 ∙ ap (error_at end) h.3), h.1)
@@ -91,30 +92,42 @@ module _ (origin : Option (List (List ℕ))) (end : ℕ) where
     same_extends : (new : List ℕ) → new ≡ old → Extends old new
     same_extends new is = ([], is ∙ sym (append-nil old))
 
-    file_extends : (tokens left : List TokenSeen) (r : Result (Unit {0}) RecordError) (new : List ℕ) → PassesFile room end tokens old r left new → Extends old new
+    file_extends : (tokens left : List TokenSeen) (r : Result ℕ RecordError) (new : List ℕ) → PassesFile room end tokens old r left new → Extends old new
     file_extends [] left r new h = same_extends new h.2
-    file_extends (t ∷ ts) left (Ok u) new h = (t.text, h.1)
+    file_extends (t ∷ ts) left (Ok n) new h = (t.text, h.1.0)
     file_extends (t ∷ ts) left (Err e) new h = same_extends new h.1.0
 
-    pub include_given : (tokens left : List TokenSeen) (u : Unit {0}) (named : Option (List (List ℕ))) (new : List ℕ) → PassesFile room end tokens old (Ok u) left new → TakesIncludedOrigin origin end left (Ok named)
-        → ReadsLastInclude origin room end tokens old (Ok (Include named)) new
-    include_given [] left u named new h k = let no = h.1 in cc
-    include_given (f ∷ []) left u named new h k =
-        (file_extends (f ∷ []) left (Ok u) new h, (named, refl, subst (λ l. TakesIncludedOrigin origin end l (Ok named)) h.0 k, h.1))
-    include_given (f ∷ t ∷ []) left u named new h k =
-        (file_extends (f ∷ t ∷ []) left (Ok u) new h, (named, refl, subst (λ l. TakesIncludedOrigin origin end l (Ok named)) h.0 k, h.1))
-    include_given (f ∷ t ∷ v ∷ ts) left u named new h k = let no = subst (λ l. TakesIncludedOrigin origin end l (Ok named)) h.0 k in cc
+    -- the origin's octets behind the file's
+    included : (f : TokenSeen) (token : Option TokenSeen) (named : Option (List (List ℕ))) (n : ℕ) (middle new : List ℕ) (r : Result EntryRead RecordError) → AppendsFile room f old (Ok n) middle
+        → IncludesOrigin origin token named → FinishesInclude room f.at n named middle r new → Extends old new × ReadsInclude origin room f.at f.text token old r new
+    included f token named n middle new (Ok e) h k l =
+        let both : new ≡ old ++ (f.text ++ origin_octets named) = l.1 ∙ ap (λ o. o ++ origin_octets named) h.0 ∙ append_assoc old f.text (origin_octets named) in
+        ((f.text ++ origin_octets named, both), (named, l.0 ∙ ap (λ m. Include m (is_some named)) h.1, k, both))
+    included f token named n middle new (Err r) h k l =
+        ((f.text, l.0 ∙ h.0), inr (named, k, l.1, omega (arith, l.2, ap length h.0, length-append old f.text)))
+
+    pub include_finished : (tokens left : List TokenSeen) (at n : ℕ) (named : Option (List (List ℕ))) (middle new : List ℕ) (r : Result EntryRead RecordError) → at ≡ next_place tokens end → PassesFile room end tokens old (Ok n) left middle
+        → TakesIncludedOrigin origin end left (Ok named) → FinishesInclude room at n named middle r new → ReadsLastInclude origin room end tokens old r new
+    include_finished [] left at n named middle new r is h k l = let no = h.1 in cc
+    include_finished (f ∷ []) left at n named middle new r is h k l =
+        included f None named n middle new r h.1 (subst (λ x. TakesIncludedOrigin origin end x (Ok named)) h.0 k) (subst (λ m. FinishesInclude room m n named middle r new) is l)
+    include_finished (f ∷ t ∷ []) left at n named middle new r is h k l =
+        included f (Some t) named n middle new r h.1 (subst (λ x. TakesIncludedOrigin origin end x (Ok named)) h.0 k) (subst (λ m. FinishesInclude room m n named middle r new) is l)
+    include_finished (f ∷ t ∷ v ∷ ts) left at n named middle new r is h k l = let no = subst (λ x. TakesIncludedOrigin origin end x (Ok named)) h.0 k in cc
+
+    -- there is no room for the file
+    lacks : (f : TokenSeen) (token : Option TokenSeen) (named : Option (List (List ℕ))) (new : List ℕ) (r : RecordError) → AppendsFile room f old (Err r) new → IncludesOrigin origin token named
+        → Extends old new × ReadsInclude origin room f.at f.text token old (Err r) new
+    lacks f token named new r h k = (same_extends new h.0, inr (named, k, h.1, omega (arith, h.2)))
 
     pub include_lacks : (tokens left : List TokenSeen) (r : RecordError) (named : Option (List (List ℕ))) (new : List ℕ) → PassesFile room end tokens old (Err r) left new → TakesIncludedOrigin origin end left (Ok named)
         → ReadsLastInclude origin room end tokens old (Err r) new
     include_lacks [] left r named new h k = let same : r ≡ ends_early end = cc in (file_extends [] left (Err r) new h, ap Err same)
-    include_lacks (f ∷ []) left r named new h k =
-        (file_extends (f ∷ []) left (Err r) new h, inr (h.1.1, h.1.2, (named, subst (λ l. TakesIncludedOrigin origin end l (Ok named)) h.0 k)))
-    include_lacks (f ∷ t ∷ []) left r named new h k =
-        (file_extends (f ∷ t ∷ []) left (Err r) new h, inr (h.1.1, h.1.2, (named, subst (λ l. TakesIncludedOrigin origin end l (Ok named)) h.0 k)))
+    include_lacks (f ∷ []) left r named new h k = lacks f None named new r h.1 (subst (λ l. TakesIncludedOrigin origin end l (Ok named)) h.0 k)
+    include_lacks (f ∷ t ∷ []) left r named new h k = lacks f (Some t) named new r h.1 (subst (λ l. TakesIncludedOrigin origin end l (Ok named)) h.0 k)
     include_lacks (f ∷ t ∷ v ∷ ts) left r named new h k = let no = subst (λ l. TakesIncludedOrigin origin end l (Ok named)) h.0 k in cc
 
-    pub include_refused : (tokens left : List TokenSeen) (file : Result (Unit {0}) RecordError) (r : RecordError) (new : List ℕ) → PassesFile room end tokens old file left new → TakesIncludedOrigin origin end left (Err r)
+    pub include_refused : (tokens left : List TokenSeen) (file : Result ℕ RecordError) (r : RecordError) (new : List ℕ) → PassesFile room end tokens old file left new → TakesIncludedOrigin origin end left (Err r)
         → ReadsLastInclude origin room end tokens old (Err r) new
     include_refused [] left file r new h k = absurd (subst (λ l. TakesIncludedOrigin origin end l (Err r)) h.0 k)
     include_refused (f ∷ []) left file r new h k = absurd (subst (λ l. TakesIncludedOrigin origin end l (Err r)) h.0 k)

@@ -6,6 +6,7 @@ pub mod EntrySteps
 pub mod FullRecords
 pub mod GivenEntries
 pub mod GivenRows
+pub mod Included
 pub mod Kept
 pub mod Learned
 pub mod Lines

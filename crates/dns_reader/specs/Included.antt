@@ -13,7 +13,7 @@ IsAbsoluteOrigin None = ⊤
 IsAbsoluteOrigin (Some labels) = IsName labels × EndsInRoot labels
 
 -- an origin, whether there is one, and its octets
-pub record HasOctets (origin : Option (List (List ℕ))) (has_origin : Bool) (octets : List ℕ) : Type 0 where
+pub record OriginAppended (origin : Option (List (List ℕ))) (has_origin : Bool) (octets : List ℕ) : Type 0 where
   pub has : has_origin ≡ is_some origin
   pub octets_are : octets ≡ origin_octets origin
   pub absolute : IsAbsoluteOrigin origin
@@ -25,7 +25,7 @@ pub record IsIncluded (file : ℕ) (has_origin : Bool) (octets : List ℕ) : Typ
   pub behind : List ℕ
   pub count : file ≡ length name
   pub both : octets ≡ name ++ behind
-  pub said : HasOctets origin has_origin behind
+  pub said : OriginAppended origin has_origin behind
 
 -- A call that gives a file to include appends the octets that name it, and behind them those of its origin, if the entry says one.
 abbrev pub FilesAreAppended : Type 0

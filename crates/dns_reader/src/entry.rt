@@ -134,9 +134,8 @@ fn pass_file<S: TokenSource, B: OctetsBuilder>(
     ensures passes { PassesFile B.room (S.end source.old).at (S.left source.old) (B.octets target.old) result (S.left source.new) (B.octets target.new) }
     ensures end { S.end source.new ≡ S.end source.old }
 {
-    let begun = target.as_slice().len();
     match take_file(source, target) {
-        Ok(()) => Ok(target.as_slice().len() - begun),
+        Ok(count) => Ok(count),
         Err(error) => {
             source.advance();
             Err(error)
@@ -215,6 +214,9 @@ fn read_include<S: TokenSource, B: OctetsBuilder>(
 }
 
 /// Reads what stands behind the word of a directive.
+///
+/// It stands apart, since a record has no need of its room for names.
+#[inline(never)]
 fn read_directive<S: TokenSource, B: OctetsBuilder>(
     directive: Directive,
     state: &mut State,

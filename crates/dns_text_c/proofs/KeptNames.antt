@@ -1,22 +1,28 @@
 -- Names that are kept, and where a reader stands.
-use Rattle.std.proofs.Common.{◌≡◌, ◌≢◌, ℕ, ◌+◌, ◌≤◌, List, [], ◌∷◌, length, take, ap, ◌∙◌, subst, arith, false, Option, Some, None, Result, Ok, Err}
+use Rattle.std.proofs.Common.{◌≡◌, ◌≢◌, ℕ, ◌+◌, ◌≤◌, List, [], ◌∷◌, length, take, ap, ◌∙◌, refl, sym, subst, arith, Bool, true, false, true≢false, Option, Some, None, Result, Ok, Err}
 use Rattle.dns_fields.specs.declared.record_error.RecordError.{RecordError}
 use Rattle.dns_octets.specs.Room.{Room}
+use Rattle.dns_wire.specs.FromOctets.{MakesName}
 use Rattle.dns_wire.specs.Wire.{wire, wire_length, IsName, EndsInRoot}
+use Rattle.dns_wire.specs.declared.error.NameError.{NameError}
+use Rattle.dns_wire.proofs.OneAnswer.{name_same}
 use Rattle.dns_wire.proofs.Wires.{length_wire, wire_length_append}
 use Rattle.dns_split.specs.declared.pieces.EndOfEntry.{EndOfEntry}
 use Rattle.dns_split.specs.declared.pieces.Fault.{Fault}
+use Rattle.dns_reader.specs.Included.{OriginAppended, IsIncluded}
 use Rattle.dns_reader.specs.Records.{ReadsBegun, ReadsNextEntry, ReadsNextRecord, StandsAfter}
 use Rattle.dns_reader.specs.Source.{IsAtStart, SourceSeen}
 use Rattle.dns_reader.specs.declared.entry.EntryRead.{EntryRead}
-use Rattle.dns_reader.specs.declared.entry.EntryRead.TheVariants.{Nothing}
-use Rattle.dns_reader.specs.declared.known.Known.TheVariants.{Name}
+use Rattle.dns_reader.specs.declared.entry.EntryRead.TheVariants.{Nothing, Directive, Include, Record as RecordRead}
+use Rattle.dns_reader.specs.declared.known.Known.TheVariants.{Name, Unsaid}
 use Rattle.dns_reader.specs.declared.records.RecordReader.{RecordReader}
 use Rattle.dns_reader.specs.declared.source.StartOfEntry.{StartOfEntry}
 use Rattle.dns_reader.specs.declared.state.State.{State}
 use Rattle.dns_reader.proofs.GivenRows.{something_is_given}
+use Rattle.dns_reader.proofs.Included.{files_are_appended}
 use Rattle.dns_reader.proofs.NamesTaken.{made}
-use Rattle.dns_text_c.specs.Kept.{MakesOrNot}
+use Rattle.dns_text_c.specs.Kept.{MakesOrNot, said_origin}
+use Rattle.dns_text_c.specs.Records.{HasIncluded}
 
 -- the octets of a name are kept as that name
 pub held : (octets : List ℕ) (n : ℕ) (labels : List (List ℕ)) → n ≡ length (wire labels) → take (length (wire labels)) octets ≡ wire labels → length (wire labels) ≤ length octets
@@ -44,3 +50,32 @@ closed room before after old new result r = closed_begun room r.middle.octets.no
 -- what is given is something
 pub something : (room : Room) (before after : RecordReader) (old new : List ℕ) (result : Option (Result EntryRead RecordError)) → ReadsNextRecord room before old result after new → result ≢ Some (Ok Nothing)
 something room before after old new result r is = something_is_given room r.middle after old new (subst (λ g. ReadsNextEntry room r.middle old g after new) is r.last)
+
+-- of a file to include the octets are the file's and the origin's
+pub included : (room : Room) (before after : RecordReader) (new : List ℕ) (result : Option (Result EntryRead RecordError)) → ReadsNextRecord room before [] result after new → HasIncluded result new
+included room before after new None r = tt
+included room before after new (Some (Err e)) r = tt
+included room before after new (Some (Ok Nothing)) r = tt
+included room before after new (Some (Ok Directive)) r = tt
+included room before after new (Some (Ok (RecordRead at ttl class rtype))) r = tt
+included room before after new (Some (Ok (Include file has_origin))) r =
+    let h = files_are_appended room r.middle after [] new file has_origin r.last in
+    subst (IsIncluded file has_origin) (sym h.1) h.2
+
+-- the origin of a file is the name that its octets make
+pub origin_made : (octets : List ℕ) (labels : List (List ℕ)) (r : Result (List (List ℕ)) NameError) → octets ≡ wire labels → IsName labels → EndsInRoot labels → MakesName octets r → r ≡ Ok labels
+origin_made octets labels r is name root makes = sym (name_same octets (Ok labels) r (made octets labels is name root) makes)
+
+pub origin_kept : (origin : Option (List (List ℕ))) (has_origin : Bool) (octets : List ℕ) (labels : List (List ℕ)) → OriginAppended origin has_origin octets → has_origin ≡ true → MakesName octets (Ok labels) → Name labels ≡ said_origin origin
+origin_kept None has_origin octets labels h has makes = absurd (true≢false (sym has ∙ h.has))
+origin_kept (Some named) has_origin octets labels h has makes =
+    let one : Ok labels ≡ Ok named = origin_made octets named (Ok labels) h.octets_are h.absolute.0 h.absolute.1 makes in
+    let same : labels ≡ named = cc in ap Name same
+
+pub origin_is_made : (origin : Option (List (List ℕ))) (has_origin : Bool) (octets : List ℕ) (e : NameError) → OriginAppended origin has_origin octets → has_origin ≡ true → MakesName octets (Err e) → ⊥
+origin_is_made None has_origin octets e h has makes = true≢false (sym has ∙ h.has)
+origin_is_made (Some named) has_origin octets e h has makes = let one : Err e ≡ Ok named = origin_made octets named (Err e) h.octets_are h.absolute.0 h.absolute.1 makes in cc
+
+pub no_origin : (origin : Option (List (List ℕ))) (has_origin : Bool) (octets : List ℕ) → OriginAppended origin has_origin octets → has_origin ≡ false → Unsaid ≡ said_origin origin
+no_origin None has_origin octets h has = refl
+no_origin (Some named) has_origin octets h has = absurd (true≢false (sym h.has ∙ has))

@@ -296,26 +296,26 @@ error_some (Some wrong) e old new told outcome t = λ one. never_one _ (sym one 
 error_some None e old new told outcome t = λ one. never_one _ (sym one ∙ t.told_is)
 
 module _ (after : RecordReader) (octets : List ℕ) (call : RecordCall) where
-  found_some : (status : ℕ) (name : Known) (head : _) → status ≢ 1 → TellsFound status after octets name head call → call.status ≢ 1
-  found_some status name head some t =
+  found_some : (status : ℕ) (octets : List ℕ) (name : Known) (head : _) → status ≢ 1 → TellsFound status after octets name head call → call.status ≢ 1
+  found_some status octets name head some t =
       ⊎_elim (λ short. λ one. let none : call.status ≡ 2 = (t.lacks short).0 in omega (arith, none, one)) (λ fits. λ one. some (sym (t.given fits).0 ∙ one))
       (cases_lt (length call.before.octets) (length octets))
 
-  found_keeps : (status : ℕ) (name : Known) (head : _) → call.status ≢ 2 → TellsFound status after octets name head call → KeepsReader after call.before.zone call.after.zone
-  found_keeps status name head fits t =
+  found_keeps : (status : ℕ) (octets : List ℕ) (name : Known) (head : _) → call.status ≢ 2 → TellsFound status after octets name head call → KeepsReader after call.before.zone call.after.zone
+  found_keeps status octets name head fits t =
       ⊎_elim (λ short. absurd (fits (t.lacks short).0)) (λ enough. (t.given enough).5) (cases_lt (length call.before.octets) (length octets))
 
   some_told : (given : Result EntryRead RecordError) → TellsGiven (Some given) after octets call → call.status ≢ 1
   some_told (Err e) t = error_some (syntax_of e.kind) e _ _ _ _ t.reason
-  some_told (Ok (RecordRead at ttl class rtype)) t = found_some 0 _ _ (λ e. cc) t
-  some_told (Ok (Include origin)) t = found_some 26 _ _ (λ e. cc) t
+  some_told (Ok (RecordRead at ttl class rtype)) t = found_some 0 _ _ _ (λ e. cc) t
+  some_told (Ok (Include file has_origin)) t = found_some 26 _ _ _ (λ e. cc) t.1
   some_told (Ok Nothing) t = absurd t
   some_told (Ok Directive) t = absurd t
 
   some_keeps : (given : Result EntryRead RecordError) → call.status ≢ 2 → TellsGiven (Some given) after octets call → KeepsReader after call.before.zone call.after.zone
   some_keeps (Err e) fits t = t.keeps
-  some_keeps (Ok (RecordRead at ttl class rtype)) fits t = found_keeps 0 _ _ fits t
-  some_keeps (Ok (Include origin)) fits t = found_keeps 26 _ _ fits t
+  some_keeps (Ok (RecordRead at ttl class rtype)) fits t = found_keeps 0 _ _ _ fits t
+  some_keeps (Ok (Include file has_origin)) fits t = found_keeps 26 _ _ _ fits t.1
   some_keeps (Ok Nothing) fits t = absurd t
   some_keeps (Ok Directive) fits t = absurd t
 

@@ -1,6 +1,6 @@
 //! The records of a zone file, one by one and with no memory (RFC 1035 section 5.1).
 ghost use Rattle.std.specs.Prelude.{◌≡◌, ◌≢◌, ◌↔◌, ℕ, IsTrue, List, Ok, Option, Some, false};
-ghost use Rattle.dns_reader.specs.Included.{HasOctets};
+ghost use Rattle.dns_reader.specs.Included.{OriginAppended};
 ghost use Rattle.dns_reader.specs.declared.entry.EntryRead.TheVariants.{Nothing, Directive};
 ghost use Rattle.dns_text_c.specs.Kept.{KeepsName, said_origin};
 ghost use Rattle.dns_text_c.specs.Told.{TellsFault, at_start};
@@ -141,7 +141,7 @@ fn tell_refused(
 
 /// The origin that is said for a file to include, by its octets, if one is.
 fn included_origin(has_origin: bool, octets: &[u8]) -> Known
-    ensures { (origin : Option (List (List ℕ))) → HasOctets origin has_origin octets.now → result ≡ said_origin origin }
+    ensures { (origin : Option (List (List ℕ))) → OriginAppended origin has_origin octets.now → result ≡ said_origin origin }
 {
     if !has_origin {
         return Known::Unsaid;
