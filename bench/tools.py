@@ -3,12 +3,13 @@
 
 usage: bench/tools.py [--turns N] [--folder DIR] [--pages]
 
-The programs must be built (`rt run` in crates/zonetext); a peer that is not installed is left out.
-Zone files are made below DIR, `bench/target/zones`, the same in each run: `mix` (SOA, NS, A, AAAA,
-MX, TXT, DS, CNAME), `com` (delegations), `signed` (A, RRSIG, NSEC3) of 10.5 MB, and `mix` of 1 KB to
-100 MB. A figure is processor time, the least of N turns (9) in turns, of a peer the least of 3.
-Prints the tables; with --pages puts them into docs/SPEED.md and docs/ZONETEXT.md, and the chart into
-docs/tools.svg.
+The program must be built (`rt run` in crates/zonetext), and the C library (`make -C c`) for the rows of C
+and Rust; a peer that is not installed is left out. Zone files are made below DIR, `bench/target/zones`,
+the same in each run: `mix` (SOA, NS, A, AAAA, MX, TXT, DS, CNAME), `com` (delegations), `signed` (A,
+RRSIG, NSEC3) of 10.5 MB, and `mix` of 1 KB to 100 MB. A figure is processor time, the least of N turns
+(9) in turns, of a peer the least of 3, of dnspython of 1; instructions are counted by callgrind, on `mix`
+of 1 MB. Prints the tables; with --pages puts them into docs/SPEED.md and docs/ZONETEXT.md, and the chart
+into docs/tools.svg.
 """
 import argparse
 import base64
@@ -41,8 +42,12 @@ PEERS = {
     "ldns-read-zone -z": ["ldns-read-zone", "-z"],
 }
 CUT = 'rm -f "$2"-cut*; exec "$1" cut 4 "$2" -o "$2"-cut'
-CHART = ["`wc -lw`", "zonetext check --text", "zonetext check", "zonetext records", *PEERS][:-1]
-COLOURS = ["#777777", "#2a7f62", "#1f4e8c", "#7ba23f", "#c1662f", "#b0413e", "#8b5fbf", "#444444"]
+# Programs that read all records, and print how many there are and the microseconds that took.
+READERS = {"`dnstext_record_next`, C": os.path.join(TOP, "bench/target/reading"),
+           "`read_records`, Rust": os.path.join(TOP, "bench/target/rust/release/examples/reading")}
+PYTHON = "import dns.zone, sys; dns.zone.from_file(sys.argv[1], sys.argv[2], relativize=False)"
+CHART = ["`wc -lw`", "zonetext check --text", "zonetext check", "zonetext records", *READERS, *PEERS][:-1]
+COLOURS = ["#777777", "#2a7f62", "#1f4e8c", "#7ba23f", "#d0a020", "#3fa2a2", "#c1662f", "#b0413e", "#8b5fbf", "#444444"]
 B32HEX = "0123456789ABCDEFGHIJKLMNOPQRSTUV"
 
 
@@ -85,7 +90,7 @@ def signed(source, number):
 
 
 def make_zone(folder, entry, size):
-    """The path of a zone file of about so many octets, which is made where it isn't there."""
+    """The path of a zone file of about `size` octets, which is made where it isn't there."""
     path = os.path.join(folder, f"{entry.__name__}-{size}")
     if not os.path.exists(path):
         source, number, octets = random.Random(1), 0, len(HEAD)
@@ -98,8 +103,34 @@ def make_zone(folder, entry, size):
     return path
 
 
+def make_readers():
+    """Builds the programs in C and Rust over the C library, where there is one."""
+    library = os.path.join(TOP, "out/libdnstext.a")
+    for path in READERS.values():
+        if os.path.exists(path):
+            os.remove(path)
+    if not os.path.exists(library):
+        print("no out/libdnstext.a: nothing is timed of C and Rust", file=sys.stderr)
+        return
+    in_c, in_rust = READERS.values()
+    subprocess.run(["cc", "-O2", f"-I{TOP}/c/include", f"{TOP}/bench/reading.c", library, "-o", in_c], check=True)
+    if shutil.which("cargo"):
+        subprocess.run(["cargo", "build", "-q", "--release", "--offline", "--example", "reading"], cwd=f"{TOP}/rust",
+                       env=os.environ | {"DNS_TEXT_LIB": library, "CARGO_TARGET_DIR": in_rust.split("/release/")[0]}, check=True)
+
+
+def dnspython():
+    """The words that read a zone with dnspython; none where it is not installed."""
+    for python in ["python3", "/usr/bin/python3"]:
+        if shutil.which(python) and subprocess.run([python, "-c", "import dns.zone"], capture_output=True, check=False).returncode == 0:
+            return [python, "-c", PYTHON]
+    return None
+
+
 def processor_time(words):
-    """The seconds that a command takes of a processor, its own and the system's."""
+    """The seconds that a command takes of a processor, its own and the system's, or that a reader prints."""
+    if words[0] in READERS.values():
+        return int(subprocess.run(words, capture_output=True, text=True, check=True).stdout.split()[1]) / 1e6
     child = os.fork()
     if child == 0:
         null = os.open(os.devnull, os.O_RDWR)
@@ -119,8 +150,21 @@ def peak(words):
     return int(run.stderr.split()[-1]) / 1000
 
 
+def instructions(words):
+    """How many instructions a command runs; None where valgrind is not installed."""
+    if not shutil.which("valgrind"):
+        return None
+    run = subprocess.run(["valgrind", "--tool=callgrind", "--callgrind-out-file=/dev/null", *words], stdin=subprocess.DEVNULL,
+                         stdout=subprocess.DEVNULL, stderr=subprocess.PIPE, text=True, check=False)
+    return int(re.search(r"Collected : (\d+)", run.stderr)[1])
+
+
 def ours(command, path):
     return [ZONETEXT, *command.split(), path]
+
+
+def readers(path):
+    return [(name, [program, path], False) for name, program in READERS.items() if os.access(program, os.X_OK)]
 
 
 def commands(path):
@@ -156,6 +200,26 @@ def table(files, large, turns):
         memory = [number(peak(words), 1), "" if is_peer else number(peak(on_large), 1)]
         rows.append(f"| {name} | {number(measured['mix'][name] * 1000, 1)} | {' | '.join(parts + memory)} |")
     return rows, measured["mix"]
+
+
+def reading_table(path, small, turns):
+    """One row a reader of records: milliseconds on a file, nanoseconds a record, parts of `wc -lw`, and the
+    instructions an octet of a smaller file."""
+    wanted = ["`wc -lw`", "zonetext check --text", "zonetext check", "zonetext records", "kzonecheck"]
+    listed = [it for it in commands(path) if it[0] in wanted] + readers(path)
+    least = times(listed, turns)
+    if dnspython():
+        least["dnspython"] = processor_time([*dnspython(), path, ZONE])
+    said = subprocess.run(ours("check -v", path), capture_output=True, text=True, check=True).stdout
+    records = int(re.search(r"(\d+) records", said)[1])
+    counted = {name: words for name, words, is_peer in [*commands(small), *readers(small)] if name in least and not is_peer}
+    rows = [f"| On `mix`, {records} records | ms | ns a record | `wc -lw` | instructions an octet |", "|---|---|---|---|---|"]
+    for name, seconds in least.items():
+        count = instructions(counted[name]) if name in counted and "wc" not in name else None
+        each = None if count is None else count / os.path.getsize(small)
+        rows.append(f"| {name} | {number(seconds * 1000, 1)} | {number(seconds * 1e9 / records, 0)} | "
+                    f"{number(seconds / least['`wc -lw`'])} | {number(each, 1)} |")
+    return rows
 
 
 def refused_without_zone(texts):
@@ -199,7 +263,7 @@ def chart(folder, turns):
     for size in SIZES:
         path = make_zone(folder, mix, size)
         few = 1 if size > 50_000_000 else min(turns, 3)
-        wanted = [it for it in commands(path) if it[0] in CHART]
+        wanted = [it for it in [*commands(path), *readers(path)] if it[0] in CHART]
         for name, seconds in times(wanted, few).items():
             lines.setdefault(name, []).append((size, max(seconds, 1e-4)))
     return svg(lines)
@@ -253,13 +317,17 @@ def main():
     if not os.access(ZONETEXT, os.X_OK):
         sys.exit("build the program first: rt run, in crates/zonetext")
     os.makedirs(given.folder, exist_ok=True)
+    os.makedirs(os.path.join(TOP, "bench/target"), exist_ok=True)
+    make_readers()
     files = {it.__name__: make_zone(given.folder, it, SIZE) for it in (mix, com, signed)}
     rows, measured = table(files, make_zone(given.folder, mix, SIZES[-1]), given.turns)
     beside = peers_table(files["mix"], measured)
-    print("\n".join([*rows, "", *beside]), flush=True)
+    reading = reading_table(files["mix"], make_zone(given.folder, mix, 1_000_000), given.turns)
+    print("\n".join([*rows, "", *beside, "", *reading]), flush=True)
     drawn = chart(given.folder, given.turns)
     if given.pages:
         put("SPEED.md", "tools", rows)
+        put("SPEED.md", "reading", reading)
         put("ZONETEXT.md", "peers", beside)
         with open(os.path.join(TOP, "docs/tools.svg"), "w", encoding="utf-8") as file:
             file.write(drawn)

@@ -15,7 +15,7 @@ use zone_set::{Change, Selection, changes_between, push_change, serial_rises};
 pub struct Output {
     /// How many of each type there are, in place of the changes.
     pub is_summary: bool,
-    /// At most so many changes.
+    /// At most `most` changes.
     pub most: Option<u32>,
 }
 

@@ -7,7 +7,7 @@ use crate::long_ttls::{long_ttl, long_ttl_of};
 use crate::open_file::first_place;
 use crate::refusals::{refusal_text, refused_type};
 use crate::reporter::{Reporter, Spot};
-use crate::scan::{OctetScan, needs_lint, repeats_origin, scan_octets};
+use crate::scan::{OctetScan, ends_twice, needs_lint, repeats_origin, scan_octets};
 use crate::slips::{is_of_parameters, slip_of};
 use crate::spots::{
     beginning, begins_blank, data_start, fault_at, line_spot, long_at, octet_at, position_at,
@@ -252,7 +252,7 @@ impl<'a> Checker<'a> {
             return true;
         };
         scan.has_backslash
-            || repeats_origin(owner.as_slice(), origin)
+            || ends_twice(owner.as_slice(), origin)
             || repeats_origin(entry.data, origin)
     }
 
@@ -368,7 +368,7 @@ impl<'a> Checker<'a> {
     }
 
     /// Returns whether an entry is blank, or a record other than an SOA of which nothing is reported.
-    fn is_quiet(&self, entry: &Entry<'_>, scan: OctetScan) -> bool {
+    fn shows_nothing(&self, entry: &Entry<'_>, scan: OctetScan) -> bool {
         if needs_lint(entry.octets, scan) {
             return false;
         }
@@ -746,20 +746,21 @@ impl<'a> Visit for Checker<'a> {
         )
     }
 
-    fn visit_quiet(&mut self, entry: &Entry<'_>) -> Result<bool, Stop> {
+    fn is_quiet(&self, entry: &Entry<'_>) -> bool {
         // A record is stored with its position.
-        if self.held.is_some() || !self.is_quiet(entry, scan_octets(entry.octets)) {
-            return Ok(false);
-        }
+        self.held.is_none() && self.shows_nothing(entry, scan_octets(entry.octets))
+    }
+
+    fn take_quiet(&mut self, entry: &Entry<'_>) -> Result<(), Stop> {
         if let Ok(EntryRead::Record { .. }) = entry.read {
             self.count_record();
         }
-        Ok(true)
+        Ok(())
     }
 
     fn take(&mut self, entry: &Entry<'_>) -> Result<(), Stop> {
         let scan = scan_octets(entry.octets);
-        if !self.is_quiet(entry, scan) {
+        if !self.shows_nothing(entry, scan) {
             return self.check_entry(entry, scan);
         }
         match entry.read {

@@ -109,12 +109,13 @@ impl<T: TakeEntry + Drop> Visit for Giver<'_, T> {
         self.checker.begin(file, number, mark)
     }
 
-    fn visit_quiet(&mut self, entry: &Entry<'_>) -> Result<bool, Stop> {
-        if !self.checker.visit_quiet(entry)? {
-            return Ok(false);
-        }
-        self.taker.take_entry(entry)?;
-        Ok(true)
+    fn is_quiet(&self, entry: &Entry<'_>) -> bool {
+        self.checker.is_quiet(entry)
+    }
+
+    fn take_quiet(&mut self, entry: &Entry<'_>) -> Result<(), Stop> {
+        self.checker.take_quiet(entry)?;
+        self.taker.take_entry(entry)
     }
 
     fn take(&mut self, entry: &Entry<'_>) -> Result<(), Stop> {

@@ -33,42 +33,51 @@ fn other_octets(load: u8x16) -> mask8x16 {
     (low & !blank) | high
 }
 
-/// Scans a few octets, one by one.
-fn scan_few(octets: &[u8]) -> OctetScan {
+/// Returns which octets of a load are `(`, `"` or a backslash.
+#[inline(always)]
+fn mark_octets(load: u8x16) -> mask8x16 {
+    let opens = load.simd_eq(u8x16::splat(b'(')) | load.simd_eq(u8x16::splat(b'"'));
+    opens | load.simd_eq(u8x16::splat(b'\\'))
+}
+
+/// Says which of `(`, `"` and the backslash octets contain, of which `is_plain` is known.
+#[inline(never)]
+fn scan_marks(octets: &[u8], is_plain: bool) -> OctetScan {
     OctetScan {
-        is_plain: octets.iter().all(|octet| is_plain(*octet)),
-        has_parenthesis: octets.contains(&b'('),
-        has_quote: octets.contains(&b'"'),
-        has_backslash: octets.contains(&b'\\'),
+        is_plain,
+        has_parenthesis: !skip_to(octets, b'(').is_empty(),
+        has_quote: !skip_to(octets, b'"').is_empty(),
+        has_backslash: !skip_to(octets, b'\\').is_empty(),
     }
 }
 
-/// Scans octets once.
+/// Scans octets: once, if they contain none of `(`, `"` and the backslash, as most entries.
 pub fn scan_octets(octets: &[u8]) -> OctetScan {
     if octets.len() < LANES {
-        return scan_few(octets);
+        let is_plain = octets.iter().all(|octet| is_plain(*octet));
+        return scan_marks(octets, is_plain);
     }
     // The last load comes first. It may repeat octets of the load before it.
     let last = octets.len() - LANES;
     let load = u8x16::from_slice(&octets[last..]);
     let mut others = other_octets(load);
-    let mut opens = load.simd_eq(u8x16::splat(b'('));
-    let mut quotes = load.simd_eq(u8x16::splat(b'"'));
-    let mut escapes = load.simd_eq(u8x16::splat(b'\\'));
+    let mut marks = mark_octets(load);
     let mut start = 0;
     while start < last {
         let load = u8x16::from_slice(&octets[start..]);
         others = others | other_octets(load);
-        opens = opens | load.simd_eq(u8x16::splat(b'('));
-        quotes = quotes | load.simd_eq(u8x16::splat(b'"'));
-        escapes = escapes | load.simd_eq(u8x16::splat(b'\\'));
+        marks = marks | mark_octets(load);
         start += LANES;
     }
+    let is_plain = !others.any();
+    if marks.any() {
+        return scan_marks(octets, is_plain);
+    }
     OctetScan {
-        is_plain: !others.any(),
-        has_parenthesis: opens.any(),
-        has_quote: quotes.any(),
-        has_backslash: escapes.any(),
+        is_plain,
+        has_parenthesis: false,
+        has_quote: false,
+        has_backslash: false,
     }
 }
 
@@ -117,21 +126,28 @@ fn separates(octet: u8) -> bool {
     matches!(octet, b' ' | b'\t' | b'\n' | b'(' | b')')
 }
 
+/// Returns whether there is an octet, and it does not separate tokens.
+fn touches(octet: Option<&u8>) -> bool {
+    matches!(octet, Some(octet) if !separates(*octet))
+}
+
 /// Returns whether a quoted string of an entry without escapes may be adjacent to another token. Returns
 /// `true` if a comment begins, whose quotes are none.
 fn may_be_adjacent(octets: &[u8]) -> bool {
-    let mut before = b' ';
-    let mut is_quoted = false;
-    for octet in octets {
-        let octet = *octet;
-        if !is_quoted {
-            let is_joint = octet == b'"' || before == b'"';
-            if octet == b';' || (is_joint && !separates(before) && !separates(octet)) {
-                return true;
-            }
+    let mut rest = octets;
+    for _ in 0..octets.len() {
+        let quoted = skip_to(rest, b'"');
+        let words = &rest[..rest.len() - quoted.len()];
+        let [_, text @ ..] = quoted else {
+            return words.contains(&b';');
+        };
+        let [_, after @ ..] = skip_to(text, b'"') else {
+            return words.contains(&b';') || touches(words.last());
+        };
+        if words.contains(&b';') || touches(words.last()) || touches(after.first()) {
+            return true;
         }
-        is_quoted = is_quoted != (octet == b'"');
-        before = octet;
+        rest = after;
     }
     false
 }
@@ -155,6 +171,21 @@ fn begins_twice(octets: &[u8], labels: &[u8], origin: &[u8]) -> bool {
         return false;
     };
     front.eq_ignore_ascii_case(labels) && back.eq_ignore_ascii_case(origin)
+}
+
+/// Returns whether a name in wire format ends with the labels of an origin, followed by the origin itself.
+pub fn ends_twice(name: &[u8], origin: &[u8]) -> bool {
+    let Some((_, labels)) = origin.split_last() else {
+        return false;
+    };
+    if name.len() < labels.len() || name.len() - labels.len() < origin.len() {
+        return false;
+    }
+    begins_twice(
+        &name[name.len() - labels.len() - origin.len()..],
+        labels,
+        origin,
+    )
 }
 
 /// Returns whether names in wire format contain the labels of an origin, followed by the origin itself.

@@ -91,7 +91,7 @@ fn line_at(octets: &[u8], at: usize) -> &[u8] {
     line.strip_suffix(b"\r").unwrap_or(line)
 }
 
-/// A place of an entry, which is counted from the entry's beginning, and so many octets from there.
+/// A place of an entry, which is counted from the entry's beginning, and `width` octets from there.
 fn spot<'e>(entry: &Entry<'e>, at: usize, width: usize) -> Spot<'e> {
     let position = position_at(entry, at);
     let end = position_at(entry, at.saturating_add(width));

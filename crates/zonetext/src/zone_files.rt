@@ -5,7 +5,8 @@ use crate::open_file::{Includer, Input, OpenFile, behind, place_from};
 use crate::progress::Progress;
 use crate::stop::Stop;
 use dns_fields::RecordRef;
-use dns_reader::{EntryRead, Known, NameBuffer, State};
+use dns_reader::{EntryRead, Known, NameBuffer, State, include_parts};
+use dns_wire::Name;
 use dns_zonefile::{BlockReader, BlockRefusal};
 use std::alloc::{AllocError, Global};
 use std::fs::{File, canonicalize, metadata};
@@ -40,7 +41,7 @@ pub struct Entry<'e> {
     /// Whether it is the last of its file.
     pub is_last: bool,
     pub read: &'e Result<EntryRead, BlockRefusal>,
-    /// The octets of a record's data, or of an included file's name.
+    /// The octets of a record's data; or of an included file's name, with those of its origin.
     pub data: &'e [u8],
     /// What the entries so far say, this one too.
     pub state: &'e State,
@@ -68,15 +69,17 @@ impl<'e> Entry<'e> {
 
 /// What takes the entries of files.
 pub trait Visit {
-    /// Takes a file that begins with so many octets of a byte order mark, and how many files were
+    /// Takes a file that begins with the octets of a byte order mark, and how many files were
     /// opened before it.
     fn begin(&mut self, file: &str, number: usize, mark: &[u8]) -> Result<(), Stop>;
 
-    /// Visits an entry that needs neither a report nor its position. Returns `false`, and changes
-    /// nothing, if an entry is no such one.
-    fn visit_quiet(&mut self, entry: &Entry<'_>) -> Result<bool, Stop>;
+    /// Returns whether an entry needs neither a report nor its position.
+    fn is_quiet(&self, entry: &Entry<'_>) -> bool;
 
-    /// Visits an entry for which [`Visit::visit_quiet`] returned `false`.
+    /// Takes an entry of which [`Visit::is_quiet`] returned `true`.
+    fn take_quiet(&mut self, entry: &Entry<'_>) -> Result<(), Stop>;
+
+    /// Takes another entry.
     fn take(&mut self, entry: &Entry<'_>) -> Result<(), Stop>;
 
     /// Takes that the file is not included which an entry names, and why.
@@ -200,6 +203,14 @@ impl Unfit {
     }
 }
 
+/// The origin that an entry says of the file that it includes, of which these are the octets.
+fn included_origin(octets: &[u8]) -> Option<NameBuffer> {
+    match Name::from_octets(octets) {
+        Ok(name) => NameBuffer::from_labels((), &name).ok(),
+        Err(_) => None,
+    }
+}
+
 impl<'a> ZoneFiles<'a> {
     /// A file that is opened, `-` for standard input.
     fn open<'f>(
@@ -270,12 +281,20 @@ impl<'a> ZoneFiles<'a> {
         }
         for _ in 0..u64::MAX {
             self.data.clear();
-            match file.reader.next_entry(&mut self.state, &mut self.data) {
-                Some(Ok(EntryRead::Include { origin })) => {
-                    return self.give_including(file, origin, visitor);
+            let next = file.reader.next_entry(&mut self.state, &mut self.data);
+            match &next {
+                Some(
+                    Ok(
+                        EntryRead::Include {
+                            file: count,
+                            has_origin,
+                        },
+                    ),
+                ) => {
+                    return self.give_including(file, *count, *has_origin, visitor);
                 }
                 Some(Err(BlockRefusal::LongEntry)) => return self.give_long(file, visitor),
-                Some(read) => self.give(&mut file, &read, visitor)?,
+                Some(read) => self.give(&mut file, read, visitor)?,
                 None if file.is_read => return self.close(file, visitor),
                 None => return self.read(file, progress),
             }
@@ -312,7 +331,7 @@ impl<'a> ZoneFiles<'a> {
         }
     }
 
-    /// So many octets of the block that was read last, or all of it.
+    /// The first `count` octets of the block that was read last, or all of it.
     fn read_octets(&self, count: usize) -> &[u8] {
         let block = self.block.as_slice();
         &block[..count.min(block.len())]
@@ -360,19 +379,17 @@ impl<'a> ZoneFiles<'a> {
         Ok(())
     }
 
-    /// Returns the entry that was read last of a file. Fails with `Damaged` if its octets are not held.
+    /// Returns the entry that was read last of a file. It has no octets if they are not held.
     fn entry<'e>(
         &'e self,
         file: &'e OpenFile,
         read: &'e Result<EntryRead, BlockRefusal>,
-    ) -> Result<Entry<'e>, Stop> {
+    ) -> Entry<'e> {
         let offset = file.reader.began();
-        let Some(held) = file.reader.octets_from(offset) else {
-            return Err(Stop::Damaged);
-        };
+        let held = file.reader.octets_from(offset).unwrap_or(&[]);
         let len = file.reader.place().saturating_sub(offset);
         let count = len.min(held.len());
-        Ok(Entry {
+        Entry {
             file: file.name.as_str(),
             number: file.number,
             offset,
@@ -384,18 +401,7 @@ impl<'a> ZoneFiles<'a> {
             read,
             data: self.data.as_slice(),
             state: &self.state,
-        })
-    }
-
-    /// Gives an entry that needs neither a report nor its position. Returns `false`, and changes
-    /// nothing, if it is no such one.
-    fn give_quiet<V: Visit>(
-        &self,
-        file: &OpenFile,
-        read: &Result<EntryRead, BlockRefusal>,
-        visitor: &mut V,
-    ) -> Result<bool, Stop> {
-        visitor.visit_quiet(&self.entry(file, read)?)
+        }
     }
 
     /// Gives an entry that includes no file.
@@ -405,12 +411,28 @@ impl<'a> ZoneFiles<'a> {
         read: &Result<EntryRead, BlockRefusal>,
         visitor: &mut V,
     ) -> Result<(), Stop> {
-        if self.give_quiet(file, read, visitor)? {
-            return Ok(());
+        let entry = self.entry(file, read);
+        if visitor.is_quiet(&entry) {
+            return visitor.take_quiet(&entry);
         }
+        self.give_counted(file, read, visitor)
+    }
+
+    /// Gives an entry, up to which lines and columns are counted. Fails with `Damaged` if its octets are
+    /// not held.
+    #[inline(never)]
+    fn give_counted<V: Visit>(
+        &self,
+        file: &mut OpenFile,
+        read: &Result<EntryRead, BlockRefusal>,
+        visitor: &mut V,
+    ) -> Result<(), Stop> {
         let offset = file.reader.began();
+        if file.reader.octets_from(offset).is_none() {
+            return Err(Stop::Damaged);
+        }
         file.count_to(offset);
-        visitor.take(&self.entry(file, read)?)
+        visitor.take(&self.entry(file, read))
     }
 
     /// Gives an entry that is too long, and goes on after its file: the rest of that is not read.
@@ -419,18 +441,25 @@ impl<'a> ZoneFiles<'a> {
         self.close(file, visitor)
     }
 
-    /// Gives an entry that includes a file, and opens it.
+    /// Gives an entry that includes a file, and opens it. `count` of the octets that were appended name the
+    /// file, and those after them its origin, if one is said.
     fn give_including<V: Visit>(
         &mut self,
         mut file: OpenFile,
-        origin: Option<NameBuffer>,
+        count: usize,
+        has_origin: bool,
         visitor: &mut V,
     ) -> Result<(), Stop> {
         let offset = file.reader.began();
         file.count_to(offset);
-        let found = self.find_included(&file);
-        let read = Ok(EntryRead::Include { origin });
-        let entry = self.entry(&file, &read)?;
+        let (name, origin) = include_parts(self.data.as_slice(), count);
+        let found = self.find_included(&file, name);
+        let origin = included_origin(origin);
+        let read = Ok(EntryRead::Include {
+            file: count,
+            has_origin,
+        });
+        let entry = self.entry(&file, &read);
         visitor.take(&entry)?;
         let is_full = matches!(found, Err(Unfit::Full));
         if let Err(unfit) = &found {
@@ -442,16 +471,14 @@ impl<'a> ZoneFiles<'a> {
         self.is_full = self.is_full || is_full;
         let place = file.place;
         self.files.push(file)?;
-        match (read, found) {
-            (Ok(EntryRead::Include { origin }), Ok(included)) => {
-                self.include(included, origin, place)
-            }
-            _ => Ok(()),
+        match found {
+            Ok(included) => self.include(included, origin, place),
+            Err(_) => Ok(()),
         }
     }
 
-    /// Opens the file that an entry of another names by the octets that were appended.
-    fn find_included(&self, file: &OpenFile) -> Result<OpenFile, Unfit> {
+    /// Opens the file that an entry of another names by some octets.
+    fn find_included(&self, file: &OpenFile, octets: &[u8]) -> Result<OpenFile, Unfit> {
         if !self.includes {
             return Err(Unfit::Told("a file that includes others is not cut"));
         }
@@ -461,7 +488,7 @@ impl<'a> ZoneFiles<'a> {
         if self.count > MOST_FILES {
             return Err(Unfit::Full);
         }
-        let Ok(name) = str::from_utf8(self.data.as_slice()) else {
+        let Ok(name) = str::from_utf8(octets) else {
             return Err(Unfit::Told("file name is not UTF-8"));
         };
         let alloc = self.rt.alloc();
