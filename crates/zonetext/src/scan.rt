@@ -24,20 +24,31 @@ fn is_plain(octet: u8) -> bool {
     matches!(octet, b' '..=b'~' | b'\t' | b'\n')
 }
 
-/// Returns which octets of a load are not plain.
+/// The classes of octets by their low four bits and by their high four bits: an octet has those that
+/// are in both. 7 is of octets that are not plain, 24 of `(`, `"` and the backslash.
+const LOW_CLASSES: [u8; 16] = [3, 3, 11, 3, 3, 3, 3, 3, 11, 2, 2, 3, 19, 3, 3, 7];
+
+const HIGH_CLASSES: [u8; 16] = [1, 2, 8, 0, 0, 16, 0, 4, 2, 2, 2, 2, 2, 2, 2, 2];
+
+/// The classes of octets that are not plain.
+const OTHERS: u8 = 7;
+
+/// The classes of `(`, `"` and the backslash.
+const MARKS: u8 = 24;
+
+/// Returns the classes of each octet of a load.
 #[inline(always)]
-fn other_octets(load: u8x16) -> mask8x16 {
-    let low = load.simd_lt(u8x16::splat(b' '));
-    let high = load.simd_gt(u8x16::splat(b'~'));
-    let blank = load.simd_eq(u8x16::splat(b'\t')) | load.simd_eq(u8x16::splat(b'\n'));
-    (low & !blank) | high
+fn classes(load: u8x16) -> u8x16 {
+    let low = u8x16::from_array(LOW_CLASSES).swizzle_dyn(load & u8x16::splat(15));
+    low & u8x16::from_array(HIGH_CLASSES).swizzle_dyn(load >> u8x16::splat(4))
 }
 
-/// Returns which octets of a load are `(`, `"` or a backslash.
+/// Returns whether one of the octets of a load has one of some classes.
 #[inline(always)]
-fn mark_octets(load: u8x16) -> mask8x16 {
-    let opens = load.simd_eq(u8x16::splat(b'(')) | load.simd_eq(u8x16::splat(b'"'));
-    opens | load.simd_eq(u8x16::splat(b'\\'))
+fn has_class(found: u8x16, wanted: u8) -> bool {
+    (found & u8x16::splat(wanted))
+        .simd_ne(u8x16::splat(0))
+        .any()
 }
 
 /// Says which of `(`, `"` and the backslash octets contain, of which `is_plain` is known.
@@ -59,18 +70,14 @@ pub fn scan_octets(octets: &[u8]) -> OctetScan {
     }
     // The last load comes first. It may repeat octets of the load before it.
     let last = octets.len() - LANES;
-    let load = u8x16::from_slice(&octets[last..]);
-    let mut others = other_octets(load);
-    let mut marks = mark_octets(load);
+    let mut found = classes(u8x16::from_slice(&octets[last..]));
     let mut start = 0;
     while start < last {
-        let load = u8x16::from_slice(&octets[start..]);
-        others = others | other_octets(load);
-        marks = marks | mark_octets(load);
+        found = found | classes(u8x16::from_slice(&octets[start..]));
         start += LANES;
     }
-    let is_plain = !others.any();
-    if marks.any() {
+    let is_plain = !has_class(found, OTHERS);
+    if has_class(found, MARKS) {
         return scan_marks(octets, is_plain);
     }
     OctetScan {
