@@ -157,7 +157,7 @@ fn write_sorted(rt: &HostRuntime, sorting: Sorting<'_>, form: Form) -> Result<()
     Ok(())
 }
 
-/// Writes the records of files in full, in so many octets of memory, and returns the status. Their order
+/// Writes the records of files in full, in `size` octets of memory, and returns the status. Their order
 /// is the canonical one.
 pub fn run_bounded(
     rt: &HostRuntime,

@@ -34,7 +34,7 @@ struct Parter<'p> {
 }
 
 impl<'p> Parter<'p> {
-    /// Before the first entry of a file of so many octets.
+    /// Before the first entry of a file of `octets` octets.
     fn new(rt: &'p HostRuntime, octets: usize, work: Work<'p>) -> Parter<'p> {
         let alloc = rt.alloc();
         Parter {

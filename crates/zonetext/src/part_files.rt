@@ -87,7 +87,7 @@ fn folder_of(path: &str) -> &str {
 }
 
 impl<'p> PartFiles<'p> {
-    /// No files yet, of so many at most.
+    /// No files yet, of `count` at most.
     pub fn new(rt: &'p HostRuntime, prefix: &'p str, count: usize) -> PartFiles<'p> {
         PartFiles {
             rt,

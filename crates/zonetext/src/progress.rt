@@ -4,7 +4,7 @@ use std::io;
 use std::io::{IsTerminal, Write};
 use std::time::Instant;
 
-/// Nothing is said before so many seconds.
+/// The count of seconds before which nothing is said.
 const PATIENCE: u64 = 3;
 
 /// What is said of a file that takes long.

@@ -44,7 +44,7 @@ pub struct Reporter<'a> {
 }
 
 impl<'a> Reporter<'a> {
-    /// Before the first finding, of which so many are said; 0 stands for all.
+    /// Before the first finding, of which at most `most` are said; 0 is for all.
     pub fn new(rt: &'a HostRuntime, policy: Policy<'a>, form: Form, most: usize) -> Reporter<'a> {
         Reporter {
             rt,

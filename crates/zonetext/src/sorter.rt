@@ -73,7 +73,7 @@ fn give<T: TakeRecord>(set: &LentSet<'_>, taker: &mut T) -> Result<(), Stop> {
 }
 
 impl<'s> Sorter<'s> {
-    /// No records, in so many octets of memory.
+    /// No records, in `size` octets of memory.
     pub fn new(rt: &'s HostRuntime, size: usize) -> Sorter<'s> {
         Sorter {
             rt,
@@ -85,7 +85,7 @@ impl<'s> Sorter<'s> {
         }
     }
 
-    /// Whether so many octets more are too many.
+    /// Whether `more` octets more are too many.
     fn is_full(&self, more: usize) -> bool {
         let octets = self.octets.len().saturating_add(more);
         let index = self.count.saturating_add(1).saturating_mul(INDEX);

@@ -22,7 +22,7 @@ pub struct Sorting<'s> {
 }
 
 impl<'s> Sorting<'s> {
-    /// Before the first record, in so many octets of memory.
+    /// Before the first record, in `size` octets of memory.
     fn new(rt: &'s HostRuntime, selection: Selection<'s>, size: usize) -> Sorting<'s> {
         let soas = size / SOA_PART;
         Sorting {
@@ -62,7 +62,7 @@ impl TakeEntry for Sorting<'_> {
     }
 }
 
-/// The records of files that are selected, in so many octets of memory. If an entry is refused, that is
+/// The records of files that are selected, in `size` octets of memory. If an entry is refused, that is
 /// said, and the status is returned in place of them: 1, or 3 where a file can't be read or a run can't
 /// be written.
 pub fn gather_sorting<'s>(

@@ -1,4 +1,4 @@
-//! Why reading and writing do not go on.
+//! Why reading and writing do not continue.
 use crate::shown::Shown;
 use dns_zonefile::AddError;
 use std::alloc::{AllocError, AllocFailed};
@@ -8,7 +8,7 @@ use std::io::ErrorKind;
 /// The status where something could not be read or written.
 pub const TROUBLE: u8 = 3;
 
-/// Why the entries of files do not go on.
+/// Why the entries of files do not continue.
 #[derive(Drop)]
 pub enum Stop {
     /// A file can't be read.

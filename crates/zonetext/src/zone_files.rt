@@ -435,7 +435,7 @@ impl<'a> ZoneFiles<'a> {
         visitor.take(&self.entry(file, read))
     }
 
-    /// Gives an entry that is too long, and goes on after its file: the rest of that is not read.
+    /// Gives an entry that is too long, and continues after its file: the rest of that is not read.
     fn give_long<V: Visit>(&mut self, mut file: OpenFile, visitor: &mut V) -> Result<(), Stop> {
         self.give(&mut file, &Err(BlockRefusal::LongEntry), visitor)?;
         self.close(file, visitor)
@@ -541,7 +541,7 @@ impl<'a> ZoneFiles<'a> {
         false
     }
 
-    /// Goes on in an included file.
+    /// Continues in an included file.
     fn include(
         &mut self,
         mut file: OpenFile,
@@ -561,7 +561,7 @@ impl<'a> ZoneFiles<'a> {
         Ok(())
     }
 
-    /// Goes on behind a file that was read: what an included file says of the origin and of owners is
+    /// Continues after a file that was read: what an included file says of the origin and of owners is
     /// forgotten.
     fn close<V: Visit>(&mut self, mut file: OpenFile, visitor: &mut V) -> Result<(), Stop> {
         let Some(includer) = file.includer.take() else {
