@@ -224,7 +224,8 @@ fn append_labels<B: OctetsBuilder>(text: &[u8], target: &mut B) -> Result<Labels
     ensures err { IfErr result (λ e. ((e ≡ ShortBuf) × LacksRoomForLabels B.room text.now (B.octets target.old)) ⊎ HasBadLabel text.now e) }
     ensures extends { OnErr result (Extends (B.octets target.old) (B.octets target.new)) }
 {
-    let mut wire = [0; PUT];
+    // The end of the last label is found at once: a dot stands behind it.
+    let mut wire = [b'.'; PUT];
     if let Some(labels) = put_labels(text, &mut wire) {
         target.append_slice(&wire[..labels.count])?;
         return Ok(labels);
