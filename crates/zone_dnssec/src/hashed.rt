@@ -208,8 +208,7 @@ fn has_fault_above<'a, Owner: AsOctets, Octets: AsOctets>(
 {
     match parent(name) {
         Some(above) => {
-            (is_empty_name(zone, &above)
-                && has_fault(fault, hashes, zone, chain, &above))
+            (is_empty_name(zone, &above) && has_fault(fault, hashes, zone, chain, &above))
                 || has_fault_above(fault, hashes, zone, chain, &above)
         }
         None => false,
@@ -226,8 +225,7 @@ fn has_fault_from<'a, Owner: AsOctets, Octets: AsOctets>(
 ) -> bool
     ensures { result ≡ fails_at_or_above fault (zone_of zone.now) chain.now name.now }
 {
-    has_fault(fault, hashes, zone, chain, name)
-        || has_fault_above(fault, hashes, zone, chain, name)
+    has_fault(fault, hashes, zone, chain, name) || has_fault_above(fault, hashes, zone, chain, name)
 }
 
 /// Whether a name is represented in a chain.

@@ -60,6 +60,7 @@ nothing_synthesized records h rtype name =
     source : (e : Option (List (List ℕ))) → option_map_or (λ encloser. is_present rtype ((42 ∷ []) ∷ encloser) records []) e false ≡ false
     source None = refl
     source (Some e) = ap (λ b. b || false) (no_type_at_star rtype e records h)
+
     by : (b : Bool) → (b && false) ≡ false
     by true = refl
     by false = refl
