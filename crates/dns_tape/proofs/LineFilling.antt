@@ -1,18 +1,18 @@
 -- A tape that is filled token by token, from where no token and no comment is open.
-use Rattle.std.proofs.Common.{◌≡◌, ℕ, ◌+◌, ◌<◌, List, [], ◌∷◌, ◌++◌, length, drop, refl, sym, ap, subst, arith, get_or, Fits, w8}
-use Rattle.std.specs.Prelude.{Option, Some, Result}
+use Rattle.std.proofs.Common.{◌≡◌, ℕ, ◌+◌, ◌<◌, ◌≤◌, List, [], ◌∷◌, ◌++◌, length, drop, refl, sym, ap, subst, arith, get_or, Fits, w8, inl, inr}
+use Rattle.std.specs.Prelude.{Ok, Option, Some, Result}
 use Rattle.dns_split.specs.declared.pieces.Fault.{Fault}
 use Rattle.dns_split.specs.declared.pieces.Piece.{Piece}
-use Rattle.dns_split.specs.Pieces.{IsGiven, comment_at, quote_at, word_at}
+use Rattle.dns_split.specs.Pieces.{IsGiven, comment_at, end_at, quote_at, word_at}
 use Rattle.dns_split.specs.Run.{first_blank}
 use Rattle.dns_split.proofs.Agree.{small_scalars}
 use Rattle.dns_split.proofs.PieceMoved.{reads_octets}
 use Rattle.dns_split.proofs.PieceParts.{each_within}
-use Rattle.dns_tape.specs.Parts.{IsCommentTo, IsQuoteTo, IsWordTo}
+use Rattle.dns_tape.specs.Parts.{IsAfterBlank, IsAfterReturn, IsCommentTo, IsQuoteTo, IsWordTo}
 use Rattle.dns_tape.specs.Tape.{FillsLine, IsSpanIn, quote_span, span_token, word_span}
 use Rattle.dns_tape.specs.declared.tape.TokenSpan.{TokenSpan}
 use Rattle.dns_tape.proofs.Filling.{Filling, comment, ends_line, word}
-use Rattle.dns_tape.proofs.Outside.{comment_left, feed_left, left_run, left_some, quote_left, word_left}
+use Rattle.dns_tape.proofs.Outside.{blank_left, comment_left, feed_left, left_run, left_some, quote_left, return_left, return_passed, word_left}
 
 -- what all octets give, and what those from a place on do
 abbrev pub all_left : List ℕ → List (Result Piece Fault)
@@ -42,9 +42,29 @@ module _ (octets : List ℕ) (d at : ℕ) (ended : Option ℕ) (spans : List Tok
   comment_filled e opens w =
       comment octets (all_left octets) (rest_left octets d e) (rest_left octets d at) ended spans x (comment_at at e) (comment_left octets d at e (first_blank octets) opens w) tt refl refl
 
-pub line_filled : (octets : List ℕ) (d at : ℕ) (ended : Option ℕ) (spans : List TokenSpan) → ((n : ℕ) → Fits w8 (get_or octets n 0)) → FillingAt octets d at ended spans → d ≡ 0 → at < length octets → get_or octets at 0 ≡ 10
-    → FillsLine octets spans (at + 1)
-line_filled octets d at ended spans fits x none w feed =
-    let b = first_blank (drop (at + 1) octets) in
-    ends_line octets (all_left octets) (left_run octets 0 (at + 1) b) (rest_left octets 0 at) ended spans (subst (λ n. FillingAt octets n at ended spans) none x) (record { at = at + 1; begins_blank = first_blank octets })
-    (feed_left octets at (first_blank octets) w feed) (all_given octets fits) (left_some octets 0 (at + 1) b)
+  moved : (n next : ℕ) → rest_left octets d at ≡ rest_left octets n next → FillingAt octets n next ended spans
+  moved n next same = subst (λ l. Filling octets (all_left octets) l ended spans) same x
+
+  pub blank_filled : (after : ℕ) → at < length octets → IsAfterBlank octets at after → FillingAt octets d after ended spans
+  blank_filled after w h = moved d after (blank_left octets d at after (first_blank octets) w h)
+
+  pub return_filled : (after : ℕ) → get_or octets at 0 ≡ 13 → IsAfterReturn octets at after → 0 < d → FillingAt octets d after ended spans
+  return_filled after is h some = moved d after (return_passed octets d at after (first_blank octets) is h some)
+
+pub after_within : (octets : List ℕ) (at after : ℕ) → at < length octets → IsAfterBlank octets at after → (at ≤ after) × (after ≤ length octets)
+after_within octets at after w (inl same) = (omega (arith, same), omega (arith, w, same))
+after_within octets at after w (inr x) = (omega (arith, x.0), omega (arith, w, x.0))
+
+-- the entry ends
+module _ (octets : List ℕ) (d at : ℕ) (ended : Option ℕ) (spans : List TokenSpan) (fits : (n : ℕ) → Fits w8 (get_or octets n 0)) (x : FillingAt octets d at ended spans) (none : d ≡ 0) where
+  line_filled : (after : ℕ) → (rest_left octets 0 at ≡ Ok (end_at after (first_blank octets)) ∷ left_run octets 0 after (first_blank (drop after octets))) → FillsLine octets spans after
+  line_filled after same =
+      let b = first_blank (drop after octets) in
+      ends_line octets (all_left octets) (left_run octets 0 after b) (rest_left octets 0 at) ended spans (subst (λ n. FillingAt octets n at ended spans) none x) (record { at = after; begins_blank = first_blank octets })
+      same (all_given octets fits) (left_some octets 0 after b)
+
+  pub feed_filled : at < length octets → get_or octets at 0 ≡ 10 → FillsLine octets spans (at + 1)
+  feed_filled w is = line_filled (at + 1) (feed_left octets at (first_blank octets) w is)
+
+  pub return_ended : (after : ℕ) → get_or octets at 0 ≡ 13 → IsAfterReturn octets at after → FillsLine octets spans after
+  return_ended after is h = line_filled after (return_left octets at after (first_blank octets) is h)

@@ -28,7 +28,7 @@ lowest_set mask = if mask == 0 then 16 else trailing_zeros w64 mask
 
 -- a word ends before this octet, inside so many parentheses
 abbrev pub EndsWordBefore : ℕ → ℕ → Type 0
-EndsWordBefore depth c = (c ≡ space) ⊎ (c ≡ tab) ⊎ (c ≡ line_feed) ⊎ (c ≡ double_quote) ⊎ (c ≡ open_parenthesis) ⊎ (c ≡ semicolon) ⊎ ((c ≡ close_parenthesis) × (0 < depth))
+EndsWordBefore depth c = (c ≡ space) ⊎ (c ≡ tab) ⊎ (c ≡ line_feed) ⊎ (c ≡ carriage_return) ⊎ (c ≡ double_quote) ⊎ (c ≡ open_parenthesis) ⊎ (c ≡ semicolon) ⊎ ((c ≡ close_parenthesis) × (0 < depth))
 
 -- octets of a word stand from one place to before another, where it ends
 pub record IsWordTo (octets : List ℕ) (depth at end : ℕ) : Type 0 where
@@ -44,9 +44,17 @@ pub record IsQuoteTo (octets : List ℕ) (at end : ℕ) : Type 0 where
   pub inside : AllInside Quote octets (at + 1) (end - 1)
   pub closes : slice_index octets (end - 1) ≡ double_quote
 
--- a semicolon and octets of a comment stand from one place to before a line feed
+-- a semicolon and octets of a comment stand from one place to before a line feed or a carriage return
 pub record IsCommentTo (octets : List ℕ) (at end : ℕ) : Type 0 where
   pub some : at < end
   pub within : end < length octets
   pub inside : AllInside Comment octets (at + 1) end
-  pub ends : slice_index octets end ≡ line_feed
+  pub ends : (slice_index octets end ≡ line_feed) ⊎ (slice_index octets end ≡ carriage_return)
+
+-- after a blank, or in front of another octet
+abbrev pub IsAfterBlank : List ℕ → ℕ → ℕ → Type 0
+IsAfterBlank octets at after = (after ≡ at) ⊎ ((after ≡ at + 1) × ((slice_index octets at ≡ tab) ⊎ (slice_index octets at ≡ space)))
+
+-- after an octet and a line feed
+abbrev pub IsAfterReturn : List ℕ → ℕ → ℕ → Type 0
+IsAfterReturn octets at after = (at + 1 < length octets) × (slice_index octets (at + 1) ≡ line_feed) × (after ≡ at + 2)

@@ -1,6 +1,6 @@
 //! Where words, quoted strings and comments without escapes end, found by loads of 16 octets.
 ghost use Rattle.std.specs.Prelude.{◌≡◌, ◌+◌, ◌<◌, ◌≤◌, IfSome, length, slice_index};
-ghost use Rattle.dns_tape.specs.Parts.{AllInside, IsCommentTo, IsQuoteTo, IsWordTo, MarksPart, is_inside, lowest_set};
+ghost use Rattle.dns_tape.specs.Parts.{AllInside, IsAfterBlank, IsAfterReturn, IsCommentTo, IsQuoteTo, IsWordTo, MarksPart, is_inside, lowest_set};
 
 use std::simd::prelude::*;
 
@@ -107,7 +107,7 @@ pub(crate) fn word_end(octets: &[u8], depth: usize, at: usize) -> Option<usize>
         return None;
     }
     match octets[end] {
-        b' ' | b'\t' | b'\n' | b'"' | b'(' | b';' => Some(end),
+        b' ' | b'\t' | b'\n' | b'\r' | b'"' | b'(' | b';' => Some(end),
         b')' if depth > 0 => Some(end),
         _ => None,
     }
@@ -126,15 +126,42 @@ pub(crate) fn quote_end(octets: &[u8], at: usize) -> Option<usize>
     Some(last + 1)
 }
 
-/// Returns where the comment ends that begins at `at`, if a line feed follows it.
+/// Returns where the comment ends that begins at `at`, if a line feed or a carriage return follows it.
 #[inline(always)]
 pub(crate) fn comment_end(octets: &[u8], at: usize) -> Option<usize>
     requires { at < length octets.now }
     ensures { IfSome result (IsCommentTo octets.now at) }
 {
     let end = part_end(Part::Comment, octets, at + 1);
-    if end == octets.len() || octets[end] != b'\n' {
+    if end == octets.len() {
         return None;
     }
-    Some(end)
+    match octets[end] {
+        b'\n' | b'\r' => Some(end),
+        _ => None,
+    }
+}
+
+/// Returns the offset after the blank at `at`, or `at` if no blank is there.
+#[inline(always)]
+pub(crate) fn after_blank(octets: &[u8], at: usize) -> usize
+    requires { at < length octets.now }
+    ensures { IsAfterBlank octets.now at result }
+{
+    match octets[at] {
+        b' ' | b'\t' => at + 1,
+        _ => at,
+    }
+}
+
+/// Returns the offset after the line feed that follows the carriage return at `at`, if one does.
+#[inline(always)]
+pub(crate) fn after_return(octets: &[u8], at: usize) -> Option<usize>
+    requires { at < length octets.now }
+    ensures { IfSome result (IsAfterReturn octets.now at) }
+{
+    if octets.len() - at < 2 || octets[at + 1] != b'\n' {
+        return None;
+    }
+    Some(at + 2)
 }

@@ -6,7 +6,7 @@ ghost use Rattle.std.specs.Prelude.{◌≡◌, ◌≤◌, ◌+◌, IfSome, None}
 ghost use Rattle.dns_split.specs.EntryTokens.{ends_at};
 ghost use Rattle.dns_tape.specs.Tape.{FilledOnce, FillsLine, FillsWith, FitsNoTape, PushesSpan, quote_span, word_span};
 
-use crate::parts::{comment_end, quote_end, word_end};
+use crate::parts::{after_blank, after_return, comment_end, quote_end, word_end};
 use arrayvec::ArrayVec;
 use dns_split::pieces::{Piece, Pieces, Span};
 
@@ -120,12 +120,12 @@ pub fn fill(octets: &[u8], tape: &mut Tape) -> Option<usize>
     None
 }
 
-/// Fills `tape` as [`fill`] does, and faster, if the first entry of `octets` ends with a line feed,
-/// after which no octets that follow can change it. It stops there, however many octets follow.
+/// Fills `tape` as [`fill`] does, and faster, if the first entry of `octets` ends with its line, after
+/// which no octets that follow can change it. It stops there, however many octets follow.
 ///
-/// Returns `None` for any other entry, and also where there is an escape, a carriage return outside
-/// quoted strings, one of ``!#$%&'`` in a word, or a control character. Then [`fill`] may fill it.
-/// What the tape held is dropped; after `None` its contents are unspecified.
+/// Returns `None` for any other entry, and also where there is an escape, one of ``!#$%&'`` in a word,
+/// or a control character. Then [`fill`] may fill it. What the tape held is dropped; after `None` its
+/// contents are unspecified.
 pub fn fill_line(octets: &[u8], tape: &mut Tape) -> Option<usize>
     ensures { IfSome result (FillsLine octets.now tape.new.items) }
 {
@@ -141,6 +141,13 @@ pub fn fill_line(octets: &[u8], tape: &mut Tape) -> Option<usize>
                     return Some(at + 1);
                 }
                 at += 1;
+            }
+            b'\r' => {
+                let end = after_return(octets, at)?;
+                if depth == 0 {
+                    return Some(end);
+                }
+                at = end;
             }
             b'(' => {
                 depth += 1;
@@ -168,7 +175,7 @@ pub fn fill_line(octets: &[u8], tape: &mut Tape) -> Option<usize>
                     return None;
                 }
                 ended = Some(end);
-                at = end;
+                at = after_blank(octets, end);
             }
         }
     }
