@@ -174,7 +174,7 @@ module _ (w : Wrong) where
   meaning_refused before room end tokens (says_origin t) old new e owner is s h = name_refused (known_name before.origin) t e h.0 is
   meaning_refused before room end tokens (says_default_ttl r) old new e owner is s h = default_read r e end s.0 s.1 s.2 h.0 is
   meaning_refused before room end tokens (says_include file token) old new e owner is s (inl h) = origin_refused (known_name before.origin) token e h is
-  meaning_refused before room end tokens (says_include file token) old new e owner is s (inr h) = let other = other_kind w e ShortBuf (ap (λ x. x.kind) h.0) is in cc
+  meaning_refused before room end tokens (says_include file token) old new e owner is s (inr h) = let other = other_kind w e ShortBuf (ap (λ x. x.kind) h.2) is in cc
   meaning_refused before room end tokens (says_record token words left) old new e owner is s h = words_read before room (next_place tokens end) end old new e is token owner h.0 words s.0 left h.1 s.1 h.2
   meaning_refused before room end tokens (says_refused x) old new e owner is s h = let same : e ≡ x = cc in s (sym (ap (λ r. r.kind) same) ∙ is)
 

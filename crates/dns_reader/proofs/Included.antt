@@ -1,17 +1,18 @@
 -- What a file to include appends.
-use Rattle.std.proofs.Common.{ℕ, ◌≡◌, Bool, List, ◌∷◌, ◌++◌, length, Option, Some, None, Result, Ok, Err, refl, sym, subst, ap}
+use Rattle.std.proofs.Common.{ℕ, ◌≡◌, Bool, List, ◌++◌, drop, length, Option, Some, None, Result, Ok, Err, refl, sym, subst, ap}
 use Rattle.std.specs.Prelude.{is_some}
 use Rattle.dns_octets.specs.Room.{Room}
 use Rattle.dns_split.specs.declared.pieces.Fault.{Fault}
 use Rattle.dns_split.specs.EntryTokens.{TokenSeen}
 use Rattle.dns_heads.specs.EntrySays.{EntryMeaning, says_nothing, says_origin, says_default_ttl, says_include, says_record, says_refused}
 use Rattle.dns_heads.specs.declared.head.Words.{Words}
+use Rattle.dns_fields.specs.Source.{next_place}
 use Rattle.dns_fields.specs.declared.record_error.RecordError.{RecordError}
 use Rattle.dns_reader.specs.EntryReading.{IncludesOrigin, ReadsInclude, ReadsMeaning, directive_with, origin_octets, record_with}
 use Rattle.dns_reader.specs.Included.{FilesAreAppended, OriginAppended, IsIncluded}
 use Rattle.dns_reader.specs.Past.{known_name}
 use Rattle.dns_reader.specs.Records.{ReadsBegun}
-use Rattle.dns_reader.specs.Source.{BeginsEntry, entry_end, entry_left}
+use Rattle.dns_reader.specs.Source.{entry_end, entry_left}
 use Rattle.dns_reader.specs.declared.entry.EntryRead.TheVariants.{Include}
 use Rattle.dns_reader.specs.declared.known.Known.{Known}
 use Rattle.dns_reader.specs.declared.source.StartOfEntry.{StartOfEntry}
@@ -59,7 +60,7 @@ module _ (old new : List ℕ) (file : ℕ) (has_origin : Bool) where
   meaning_read before room end tokens says_nothing owner h = let no = h.0 in cc
   meaning_read before room end tokens (says_origin t) owner h = let no = h.0.0 in cc
   meaning_read before room end tokens (says_default_ttl r) owner h = absurd (no_directive r h.0)
-  meaning_read before room end tokens (says_include name token) owner h = file_read (known_name before.origin) room _ name token h
+  meaning_read before room end tokens (says_include name token) owner h = file_read (known_name before.origin) room (next_place (drop 1 tokens) end) name token h
   meaning_read before room end tokens (says_record token words left) owner h = absurd (not_words before room _ end old new (Include file has_origin) (no_record before _) h.0 words left h.2)
   meaning_read before room end tokens (says_refused r) owner h = cc
 
