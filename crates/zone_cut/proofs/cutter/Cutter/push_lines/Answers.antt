@@ -1,7 +1,6 @@
-use Rattle.std.proofs.Common.{ℕ, List, refl, subst}
+use Rattle.std.proofs.Common.{ℕ, List, refl}
 use Rattle.std.specs.Borrow.{Bor}
 use Rattle.std.proofs.lemmas.Result.{on_ok_weaker}
-use Rattle.dns_resource.specs.Borrowed.{IsRecordOf}
 use Rattle.zone_cut.specs.declared.head.PartHead.{PartHead}
 use Rattle.zone_cut.proofs.HeadSteps.{part_begins}
 use Rattle.zone_cut.proofs.cutter.Cutter.push_lines.Goals as goal
@@ -9,4 +8,4 @@ use Rattle.zone_cut.proofs.cutter.Cutter.push_lines.Goals as goal
 pub returns : goal.returns
 returns g c =
     let head : PartHead (Bor (List ℕ)) (Bor (List ℕ)) = record { state = c.args.state; repeated = c.in_ok-repeated.repeated; first = c.in_ok-first.first } in
-    on_ok_weaker c.push_head.result (part_begins c.args.state.now c.args.given.now _ _ head refl (subst (λ r. IsRecordOf r c.in_ok-first.first) c.same-own.ensures c.in_ok-first.ensures)) c.push_head.ensures
+    on_ok_weaker c.push_head.result (part_begins c.args.state.now c.args.given.now _ _ head refl c.in_ok-first.ensures) c.push_head.ensures
