@@ -14,7 +14,7 @@ use Rattle.zone_store.specs.Groups.{group_order, key_at, has_lesser_key, is_befo
 use Rattle.zone_store.specs.declared.groups.Group.{Group}
 use Rattle.zone_store.proofs.KeyPrefixes.{all_octets, prefixes_decide, key_octets_small}
 
-first_not : (o rest : Ordering) → is_lt (ordering_then o rest) ≡ false → is_lt o ≡ false
+pub first_not : (o rest : Ordering) → is_lt (ordering_then o rest) ≡ false → is_lt o ≡ false
 first_not Less rest h = h
 first_not Equal rest h = refl
 first_not Greater rest h = refl

@@ -1,5 +1,7 @@
 pub mod Counted
 pub mod Groups
+pub mod Parts
 pub mod Prefixes
 pub mod Rows
 pub mod Stored
+pub mod Stores
