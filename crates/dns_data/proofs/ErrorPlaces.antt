@@ -1,8 +1,12 @@
 -- The places of errors.
-use Rattle.std.proofs.Common.{ℕ, ◌≡◌, ◌+◌, ap, sym, ◌∙◌}
+use Rattle.std.proofs.Common.{ℕ, ◌≡◌, ◌+◌, List, ap, sym, ◌∙◌, arith, refl}
+use Rattle.std.specs.Prelude.{Result, Ok, Err}
+use Rattle.dns_octets.specs.Room.{Room}
+use Rattle.dns_split.specs.EntryTokens.{TokenSeen}
 use Rattle.dns_fields.specs.RecordErrors.{error_at, error_in_field, IsErrorAt}
 use Rattle.dns_fields.specs.declared.record_error.RecordError.{RecordError}
 use Rattle.dns_kinds.specs.declared.error.ErrorKind.{ErrorKind}
+use Rattle.dns_data.specs.Rests.{RestForm, TakesInParts, TakesRest, in_field_after}
 
 pub placed : {at place : ℕ} (kind : ErrorKind) → at ≡ place → IsErrorAt place (error_at at kind)
 placed kind is = ap (λ p. error_at p kind) is
@@ -24,3 +28,10 @@ part_error r e field before part h is = h ∙ ap (λ f. error_in_field f e) is
 
 pub field_error : (r e : RecordError) (field known at place : ℕ) (kind why : ErrorKind) → r ≡ error_in_field field e → e ≡ error_at at kind → field ≡ known → at ≡ place → kind ≡ why → r ≡ error_in_field known (error_at place why)
 field_error r e field known at place kind why h k f p w = h ∙ ap (error_in_field field) k ∙ (λ i. error_in_field (f i) (error_at (p i) (w i)))
+
+-- what has one part
+pub one_part : (room : Room) (f : RestForm) (before end : ℕ) (tokens : List TokenSeen) (old : List ℕ) (r : Result (Unit {0}) RecordError) (left : List TokenSeen) (new : List ℕ) → TakesRest room f end tokens old r left new
+    → TakesInParts room f (λ tokens left part. part ≡ 0) before end tokens old (in_field_after before r) left new
+one_part room f before end tokens old (Ok x) left new h = h
+one_part room f before end tokens old (Err e) left new h =
+    let whole : before ≡ before + 0 = omega arith in (e, 0, ap (λ n. error_in_field n e) whole, h, refl)

@@ -69,7 +69,7 @@ module _ (f : TokenForm) where
     each_once [] a b h k = h ∙ sym k
     each_once (t ∷ ts) a b h k = h.2 ∙ ap (λ o. o ++ h.1) (once t h.0 k.0 h.3 k.3) ∙ ap (λ o. k.0 ++ o) (each_once ts h.1 k.1 h.4 k.4) ∙ sym k.2
 
-    -- what tokens spell goes on behind what the first of them do
+    -- what tokens spell continues what the first of them do
     goes_on : (before ts : List TokenSeen) (t : TokenSeen) (o octets : List ℕ) → SpellOctets f before o → SpellOctets f (before ++ t ∷ ts) octets → (mid : List ℕ) × (back : List ℕ) × (octets ≡ o ++ (mid ++ back)) × f.spells t mid
     goes_on [] ts t o octets h k = (k.0, k.1, k.2 ∙ ap (λ z. z ++ (k.0 ++ k.1)) (sym h), k.3)
     goes_on (b ∷ bs) ts t o octets h k =

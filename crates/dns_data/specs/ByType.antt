@@ -1,5 +1,5 @@
 -- Record data by the type of the record.
-use Rattle.std.specs.Prelude.{ℕ, ◌≡◌, ◌≢◌, ◌⊎◌, ◌<◌, ◌==◌, find, Option, Some, None, option_map, slice_get, List, [], Result, Ok, Err}
+use Rattle.std.specs.Prelude.{ℕ, ◌≡◌, ◌≢◌, ◌⊎◌, ◌<◌, ◌==◌, find, Option, Some, None, option_map, slice_get, List, [], Ok, Err}
 use Rattle.dns_octets.specs.Room.{Room}
 use Rattle.dns_octets.specs.Appending.{Gains}
 use Rattle.dns_fields.specs.Source.{next_place}
@@ -18,7 +18,7 @@ use Rattle.dns_kinds.specs.declared.error.ErrorKind.TheVariants.{NotOfType, NoDa
 use Rattle.dns_data.specs.declared.shape.Shape.{Shape}
 use Rattle.dns_data.specs.declared.types.TypeRow.{TypeRow}
 
--- records of the type can stand in a zone
+-- records of the type can be in a zone
 abbrev pub IsDataType : RecordType → Type 0
 IsDataType rtype = (rtype ≢ 0) × (rtype ≢ Rtype.opt) × ((rtype < 128) ⊎ (255 < rtype))
 
@@ -60,7 +60,7 @@ abbrev pub name_of_field : Option TypeShape → FieldName → Option (List ℕ)
 name_of_field None field = None
 name_of_field (Some s) field = slice_get s.names field
 
--- why tokens are refused as data of a type, and which are left then: no record of it can stand in a zone; those in the generic form are refused;
+-- why tokens are refused as data of a type, and which are left then: no record of it can be in a zone; those in the generic form are rejected;
 -- the type has no other form; or a field of it is refused, which alone the error names
 abbrev pub RefusesData : Option (List (List ℕ)) → Room → RecordType → ℕ → List TokenSeen → List ℕ → RecordError → List TokenSeen → List ℕ → Type 0
 RefusesData origin room rtype end tokens old r left new =

@@ -1,5 +1,5 @@
 -- Record data of a shape: fields that are one token each, and what goes to the entry's end.
-use Rattle.std.specs.Prelude.{ℕ, ◌≡◌, ◌⊎◌, ◌<◌, ◌+◌, ◌-◌, ⊤, Option, None, List, [], ◌++◌, length, slice_index, Result, Ok, Err}
+use Rattle.std.specs.Prelude.{ℕ, ◌≡◌, ◌⊎◌, ◌<◌, ◌+◌, ◌-◌, ⊤, Option, None, List, [], ◌++◌, length, slice_index, Ok, Err}
 use Rattle.dns_digits.specs.DigestLengths.{IsDigestLength, wanted_digest}
 use Rattle.dns_octets.specs.Room.{Room}
 use Rattle.dns_octets.specs.Appending.{Extends, Gains}
@@ -17,7 +17,7 @@ use Rattle.dns_data.specs.declared.shape.Length.{Length}
 use Rattle.dns_data.specs.declared.shape.Length.TheVariants.{Any, Digest, Hash}
 use Rattle.dns_data.specs.declared.shape.Shape.{Shape}
 
--- the lengths that octets of the data ask for: none; behind the octet at a place, which names it, comes a digest; and the hash of NSEC3, behind
+-- the lengths that octets of the data ask for: none; after the octet at a place, which names it, comes a digest; and the hash of NSEC3, after
 -- algorithm, flags, iterations and salt, has 20 octets if the algorithm is 1
 abbrev pub HasLength : Length → List ℕ → Type 0
 HasLength Any octets = ⊤
@@ -40,7 +40,7 @@ wanted_length Hash octets = 20
 abbrev pub wrong_length : Length → List ℕ → ErrorKind
 wrong_length lengths octets = WrongLength (found_length lengths octets) (wanted_length lengths octets)
 
--- tokens spell data of a shape: the first of them its fields, and the others what comes behind
+-- tokens spell data of a shape: the first of them its fields, and the others what comes after them
 pub record SpellsData (origin : Option (List (List ℕ))) (shape : Shape) (tokens : List TokenSeen) (octets : List ℕ) : Type 0 where
   pub first : List TokenSeen
   pub last : List TokenSeen

@@ -1,4 +1,4 @@
--- A gateway and a public key (IPSECKEY, RFC 4025 section 2.1), behind the precedence.
+-- A gateway and a public key (IPSECKEY, RFC 4025 section 2.1), after the precedence.
 use Rattle.std.specs.Prelude.{ℕ, zero, suc, ◌≡◌, ◌≢◌, ◌⊎◌, ◌<◌, ◌≤◌, ◌+◌, ◌==◌, if◌then◌else◌, true, false, Option, None, Result, Ok, Err, List, [], ◌∷◌, ◌++◌, drop, length, slice_index, codes}
 use Rattle.std.specs.Net.Addr.{segments_of}
 use Rattle.std.specs.Net.Text.{ipv4_text}
@@ -7,7 +7,6 @@ use Rattle.dns_digits.specs.declared.kind.DigitsKind.TheVariants.{Base64 as InBa
 use Rattle.dns_fields.specs.Fields.{field_form}
 use Rattle.dns_fields.specs.Taking.{SpellsField}
 use Rattle.dns_fields.specs.TokenParsers.{TokenParser}
-use Rattle.dns_fields.specs.declared.record_error.RecordError.{RecordError}
 use Rattle.dns_kinds.specs.declared.error.ErrorKind.{ErrorKind}
 use Rattle.dns_kinds.specs.declared.error.ErrorKind.TheVariants.{EndOfEntry, Quoted, ExpectedGateway, UnknownGateway}
 use Rattle.dns_fields.specs.declared.field.Field.TheVariants.{Number8 as OfNumber8, Name as OfName}
@@ -75,7 +74,7 @@ SpellsAddress number t octets = (t.is_quoted ≡ false) × ((g : Gateway) × Spe
 abbrev pub AddressReason : TokenSeen → ErrorKind → Type 0
 AddressReason t e = ((e ≡ Quoted) × (t.is_quoted ≡ true)) ⊎ ((e ≡ ExpectedGateway) × (t.is_quoted ≡ false))
 
--- the next word is taken as such a gateway; or it is refused
+-- the next word is taken as such a gateway; or it is rejected
 abbrev pub TakesAddress : Room → ℕ → TokenParser (Unit {0})
 TakesAddress room number = TakesTokenAs room (SpellsAddress number) AddressReason
 
@@ -83,7 +82,7 @@ TakesAddress room number = TakesTokenAs room (SpellsAddress number) AddressReaso
 abbrev pub IsAddressOf : ℕ → List ℕ → Type 0
 IsAddressOf number octets = (g : Gateway) × IsGateway g × (gateway_type g ≡ number) × (octets ≡ gateway_octets g)
 
--- the octets of labels in front, each behind its length, up to the empty one and with it; so many labels or fewer
+-- how many octets the first labels have, each after its length, up to the empty one and with it; at most `count` labels
 abbrev pub labels_size : ℕ → List ℕ → ℕ
 labels_size zero octets = 0
 labels_size (suc count) [] = 0
@@ -96,7 +95,7 @@ gateway_size number octets = if number == 0 then 0 else if number == 1 then 4 el
 abbrev pub gateway_word : ℕ → List ℕ → List ℕ
 gateway_word number octets = if number == 0 then codes "." else if number == 1 then ipv4_text octets else if number == 2 then shown_ipv6 (segments_of octets) else wire_name_text octets
 
--- a gateway as a word; a relative name stands before the origin
+-- a gateway as a word; the origin is appended to a relative name
 abbrev pub gateway_form : Option (List (List ℕ)) → ℕ → TokenForm
 gateway_form origin number = record {
   spells = λ t octets. ((number ≡ 3) × SpellsField origin OfName t octets) ⊎ SpellsAddress number t octets;
@@ -122,11 +121,11 @@ abbrev pub gateway_key_form : Option (List (List ℕ)) → RestForm
 gateway_key_form origin =
     then_form gateway_type_form (λ number. then_form octet_form (λ algorithm. then_form (gateway_form origin (slice_index number 0)) (λ gateway. key_form (slice_index algorithm 0))))
 
--- these are four parts; a refused token is of the part that this tells, by its place, once those before it are taken
+-- these are four parts; a rejected token is of this part, by its place, once those before it are taken
 abbrev pub IsGatewayPart : Option (List (List ℕ)) → List TokenSeen → List TokenSeen → ℕ → Type 0
 IsGatewayPart origin =
     PartBehind gateway_type_form (λ number. PartBehind octet_form (λ algorithm. PartBehind (gateway_form origin (slice_index number 0)) (λ gateway tokens left part. part ≡ 0)))
 
--- all tokens are taken as these parts, after so many fields of the data; or one is refused, and the error says which part
+-- all tokens are taken as these parts, which follow other fields of the data; or one is rejected, and the error says which part
 abbrev pub TakesGatewayParts : Option (List (List ℕ)) → Room → ℕ → TokenParser (Unit {0})
 TakesGatewayParts origin room before = TakesInParts room (gateway_key_form origin) (IsGatewayPart origin) before

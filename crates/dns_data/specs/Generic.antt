@@ -25,7 +25,7 @@ BeginsGeneric (t ∷ ts) = IsGenericMark t
 abbrev pub IsCount : TokenSeen → ℕ → Type 0
 IsCount t count = (t.is_quoted ≡ false) × SpellsBelow (2 ^ 16) t.text count
 
--- why a token is none
+-- why a token is not one
 abbrev pub IsNoCount : TokenSeen → ErrorKind → Type 0
 IsNoCount t e = ((e ≡ Quoted) × (t.is_quoted ≡ true)) ⊎ ((t.is_quoted ≡ false) × NumberReason (2 ^ 16) t.text e × ((n : ℕ) → SpellsBelow (2 ^ 16) t.text n → ⊥))
 
@@ -44,11 +44,11 @@ SpellsGeneric [] octets = ⊥
 SpellsGeneric (mark ∷ []) octets = ⊥
 SpellsGeneric (mark ∷ count ∷ digits) octets = IsGenericMark mark × IsCount count (length octets) × SpellsJoined base16 digits octets
 
--- octets in digits are not as many as a word says, and the error says how many they are and how many it wants
+-- the number of octets in digits is not that of a word, and the error has both
 abbrev pub IsOtherCount : TokenSeen → List TokenSeen → ErrorKind → Type 0
 IsOtherCount count digits e = (wanted : ℕ) × (octets : List ℕ) × IsCount count wanted × SpellsJoined base16 digits octets × (length octets ≢ wanted) × (e ≡ WrongLength (length octets) wanted)
 
--- behind the mark, why tokens are refused: the first is no number; the others are no octets in digits; or they are not so many
+-- why tokens after the mark are rejected: the first is not a number; the others are not octets in digits; or their count is another
 abbrev pub GenericReason : List TokenSeen → List TokenSeen → ErrorKind → Type 0
 GenericReason [] left e = ⊥
 GenericReason (mark ∷ tokens) left e =

@@ -1,5 +1,5 @@
--- One word of digits behind others.
-use Rattle.std.specs.Prelude.{ℕ, ◌≡◌, ◌⊎◌, true, false, List, [], ◌∷◌, ◌++◌, Result, Ok, Err}
+-- One word of digits after others.
+use Rattle.std.specs.Prelude.{ℕ, ◌≡◌, ◌⊎◌, true, false, List, [], ◌∷◌, ◌++◌, Ok, Err}
 use Rattle.dns_octets.specs.Room.{Room}
 use Rattle.dns_octets.specs.Appending.{Extends}
 use Rattle.dns_digits.specs.Reading.{DigitsState, TakesPiece, RefusesPiece}

@@ -21,7 +21,7 @@ IsPrefixItem octets = (p : Prefix) × IsPrefix p × IsPrefixWire p octets
 
 -- ---- the item that octets are
 
--- octets, and zeros up to so many
+-- octets, and zeros up to a count
 abbrev pub with_zeros : ℕ → List ℕ → List ℕ
 with_zeros size part = part ++ replicate (size - length part) 0
 
@@ -65,7 +65,7 @@ pub record IsOtherItem (octets : List ℕ) : Type 0 where
 abbrev pub IsAnyItem : List ℕ → Type 0
 IsAnyItem octets = IsPrefixItem octets ⊎ IsOtherItem octets
 
--- one of the items, of which there are at most so many, is of another family
+-- one of at most `count` items is of another family
 abbrev pub is_other_in : ℕ → List ℕ → Bool
 is_other_in zero octets = false
 is_other_in (suc count) [] = false

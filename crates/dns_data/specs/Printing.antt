@@ -13,11 +13,11 @@ use Rattle.dns_data.specs.RestKinds.{has_no_text, rest_form}
 use Rattle.dns_data.specs.declared.rest.Rest.{Rest}
 use Rattle.dns_data.specs.declared.shape.Shape.{Shape}
 
--- as many octets as the first one tells, and that one
+-- the number of octets that the first one is, and that one
 abbrev pub counted_size : List ℕ → ℕ
 counted_size octets = 1 + slice_index octets 0
 
--- how many octets a field in front has
+-- how many octets the first field has
 abbrev pub field_size : Field → List ℕ → ℕ
 field_size Number8 octets = 1
 field_size Number16 octets = 2
@@ -44,12 +44,12 @@ field_size Name octets = labels_size (length octets) octets
 abbrev pub printed_field : Field → List ℕ → PrintedToken
 printed_field f form = record { is_quoted = (field_form None f).quotes; text = (field_form None f).printed form }
 
--- the tokens of the fields in front, one after another, and behind them those of the rest
+-- the tokens of the first fields, one after another, and after them those of the rest
 abbrev pub printed_parts : List Field → Rest → List ℕ → List PrintedToken
 printed_parts [] rest octets = (rest_form None rest).printed octets
 printed_parts (f ∷ fs) rest octets = printed_field f (take (field_size f octets) octets) ∷ printed_parts fs rest (drop (field_size f octets) octets)
 
--- what follows the fields in front
+-- what follows the first fields
 abbrev pub behind_fields : List Field → List ℕ → List ℕ
 behind_fields [] octets = octets
 behind_fields (f ∷ fs) octets = behind_fields fs (drop (field_size f octets) octets)
@@ -61,7 +61,7 @@ printed_with fields rest octets = if has_no_text rest (behind_fields fields octe
 abbrev pub printed_data : Shape → List ℕ → List PrintedToken
 printed_data shape octets = printed_with shape.fields.now shape.rest octets
 
--- a token as it stands in zone text: what a quoted text holds stands between double quotes
+-- a token in presentation format: the value of a quoted string is between double quotes
 abbrev pub token_bytes : PrintedToken → List ℕ
 token_bytes t = if t.is_quoted then double_quote ∷ (t.text ++ double_quote ∷ []) else t.text
 

@@ -28,7 +28,7 @@ abbrev pub StringTokensReason : List TokenSeen → List TokenSeen → ErrorKind 
 StringTokensReason before [] e = ⊥
 StringTokensReason before (t ∷ ts) e = StringReason t.is_quoted t.text e
 
--- strings behind their lengths, one after another
+-- strings after their lengths, one after another
 abbrev pub strings_wire : List (List ℕ) → List ℕ
 strings_wire [] = []
 strings_wire (s ∷ ss) = length s ∷ (s ++ strings_wire ss)
@@ -39,7 +39,7 @@ AreShortStrings strings = AllByRecursion (λ s. AreOctetValues s × (length s �
 abbrev pub AreCharacterStrings : List ℕ → Type 0
 AreCharacterStrings octets = (strings : List (List ℕ)) × AreShortStrings strings × (octets ≡ strings_wire strings)
 
--- the strings of so many lengths or fewer
+-- the strings of at most `count` lengths
 abbrev pub strings_in : ℕ → List ℕ → List (List ℕ)
 strings_in zero octets = []
 strings_in (suc count) [] = []
@@ -57,7 +57,7 @@ strings_form origin = record {
   printed = λ octets. map (λ s. record { is_quoted = true; text = text_in_quotes s }) (strings_in_octets octets);
 }
 
--- each kind, where relative names stand before an origin
+-- each kind, where an origin is appended to relative names
 abbrev pub rest_form : Option (List (List ℕ)) → Rest → RestForm
 rest_form origin Nothing = nothing_form
 rest_form origin Strings = some_form (strings_form origin)
@@ -87,7 +87,7 @@ IsRestPart origin Prefixes tokens left part = part ≡ 0
 IsRestPart origin GatewayKey tokens left part = IsGatewayPart origin tokens left part
 IsRestPart origin Params tokens left part = part ≡ 0
 
--- all tokens are taken as the parts of a kind, after so many fields of the data; or one is refused, and the error says which part
+-- all tokens are taken as the parts of a kind, which follow other fields of the data; or one is rejected, and the error says which part
 abbrev pub TakesRestParts : Option (List (List ℕ)) → Room → Rest → ℕ → TokenParser (Unit {0})
 TakesRestParts origin room rest before = TakesInParts room (rest_form origin rest) (IsRestPart origin rest) before
 

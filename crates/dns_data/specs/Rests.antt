@@ -15,7 +15,7 @@ pub record PrintedToken : Type 0 where
   pub is_quoted : Bool
   pub text : List ℕ
 
--- tokens are as they are printed, and stand apart
+-- tokens are as they are printed, and none is adjacent
 abbrev pub ArePrinted : List PrintedToken → List TokenSeen → Type 0
 ArePrinted [] [] = ⊤
 ArePrinted [] (t ∷ ts) = ⊥
@@ -51,11 +51,16 @@ abbrev pub TakesRest : Room → RestForm → TokenParser (Unit {0})
 TakesRest room f end tokens old (Ok _) left new = (left ≡ []) × Gains (f.spells tokens) old new
 TakesRest room f end tokens old (Err r) left new = RefusesRest room f end tokens old r left new
 
--- the same, of what has parts, each a field of the data after others, whose number is given; the error says which is refused
+-- the same, of what has parts, each a field of the data after others, whose number is given; the error says which is rejected
 abbrev pub TakesInParts : Room → RestForm → (List TokenSeen → List TokenSeen → ℕ → Type 0) → ℕ → TokenParser (Unit {0})
 TakesInParts room f IsPart before end tokens old (Ok x) left new = TakesRest room f end tokens old (Ok x) left new
 TakesInParts room f IsPart before end tokens old (Err r) left new =
     (e : RecordError) × (part : ℕ) × (r ≡ error_in_field (before + part) e) × RefusesRest room f end tokens old e left new × IsPart tokens left part
+
+-- the same result, whose error says the field with this number before it
+abbrev pub in_field_after : ℕ → Result (Unit {0}) RecordError → Result (Unit {0}) RecordError
+in_field_after before (Ok x) = Ok x
+in_field_after before (Err e) = Err (error_in_field before e)
 
 -- the same, with one octet at least
 abbrev pub some_form : RestForm → RestForm
@@ -66,7 +71,7 @@ some_form f = record {
   printed = f.printed;
 }
 
--- there are more octets than so many; or there are so many, and the place is that of what comes next
+-- there are not only `count` octets; or there are only these, and the place is that of what comes next
 abbrev pub WantsMore : ℕ → ℕ → List TokenSeen → List ℕ → Result (Unit {0}) RecordError → Type 0
 WantsMore count end left octets (Ok _) = length octets ≢ count
 WantsMore count end left octets (Err r) = (length octets ≡ count) × (r ≡ error_at (next_place left end) EndOfEntry)

@@ -1,5 +1,5 @@
 -- What one token is read as, and what goes to the end of an entry as such tokens.
-use Rattle.std.specs.Prelude.{ℕ, zero, suc, ◌≡◌, ◌⊎◌, Option, List, [], ◌∷◌, ◌++◌, take, drop, length, Result, Ok, Err}
+use Rattle.std.specs.Prelude.{ℕ, zero, suc, ◌≡◌, ◌⊎◌, Option, List, [], ◌∷◌, ◌++◌, take, drop, length, Ok, Err}
 use Rattle.std.specs.List.{AllByRecursion, concat}
 use Rattle.dns_octets.specs.Room.{Room}
 use Rattle.dns_octets.specs.Appending.{Extends, Gains, LacksRoom}
@@ -8,7 +8,6 @@ use Rattle.dns_fields.specs.Source.{next_place}
 use Rattle.dns_fields.specs.Taking.{SpellsField}
 use Rattle.dns_fields.specs.TokenParsers.{TokenParser}
 use Rattle.dns_fields.specs.RecordErrors.{IsErrorAt}
-use Rattle.dns_fields.specs.declared.record_error.RecordError.{RecordError}
 use Rattle.dns_kinds.specs.declared.error.ErrorKind.{ErrorKind}
 use Rattle.dns_kinds.specs.declared.error.ErrorKind.TheVariants.{ShortBuf, EndOfEntry}
 use Rattle.dns_fields.specs.declared.field.Field.{Field}
@@ -22,7 +21,7 @@ pub record TokenForm : Type 1 where
   pub reason : TokenSeen → ErrorKind → Type 0
   -- the octets that it can have
   pub is_wire : List ℕ → Type 0
-  -- how many of octets are those in front
+  -- how many octets there are at the beginning of others
   pub width : List ℕ → ℕ
   pub printed : List ℕ → PrintedToken
 
@@ -50,12 +49,12 @@ TakesTokenOf room f = TakesTokenAs room f.spells f.reason
 
 -- ---- any number of tokens of one form
 
--- each token spells octets, and these stand one after another
+-- each token spells octets, and these follow one another
 abbrev pub SpellOctets : TokenForm → List TokenSeen → List ℕ → Type 0
 SpellOctets f [] octets = octets ≡ []
 SpellOctets f (t ∷ ts) octets = (front : List ℕ) × (back : List ℕ) × (octets ≡ front ++ back) × f.spells t front × SpellOctets f ts back
 
--- tokens spell octets, and behind them the next is refused
+-- tokens spell octets, and the next after them is rejected
 abbrev pub ReasonBehind : TokenForm → List TokenSeen → List TokenSeen → ErrorKind → Type 0
 ReasonBehind f before [] e = ⊥
 ReasonBehind f before (t ∷ ts) e = ((octets : List ℕ) × SpellOctets f before octets) × f.reason t e
@@ -64,7 +63,7 @@ ReasonBehind f before (t ∷ ts) e = ((octets : List ℕ) × SpellOctets f befor
 abbrev pub AreParts : (List ℕ → Type 0) → List ℕ → Type 0
 AreParts Is octets = (parts : List (List ℕ)) × AllByRecursion Is parts × (octets ≡ concat parts)
 
--- so many tokens or fewer of the octets in front
+-- at most `count` tokens, of the octets from the first on
 abbrev pub printed_each : TokenForm → ℕ → List ℕ → List PrintedToken
 printed_each f zero octets = []
 printed_each f (suc count) [] = []
@@ -78,7 +77,7 @@ each_form f = record {
   printed = λ octets. printed_each f (length octets) octets;
 }
 
--- ---- one token, and behind it what its octets ask for
+-- ---- one token, and after it what its octets ask for
 
 pub record SpellsThen (f : TokenForm) (behind : List ℕ → RestForm) (tokens : List TokenSeen) (octets : List ℕ) : Type 0 where
   pub first : TokenSeen
@@ -90,7 +89,7 @@ pub record SpellsThen (f : TokenForm) (behind : List ℕ → RestForm) (tokens :
   pub spelled : f.spells first front
   pub rest : (behind front).spells last back
 
--- there is no token; the first is refused; or it spells octets, and what is behind it is refused
+-- no token is there; the first is rejected; or it spells octets, and what follows it is rejected
 abbrev pub ThenReason : TokenForm → (List ℕ → RestForm) → List TokenSeen → List TokenSeen → ErrorKind → Type 0
 ThenReason f behind [] left e = (left ≡ []) × (e ≡ EndOfEntry)
 ThenReason f behind (t ∷ ts) left e = ((left ≡ t ∷ ts) × f.reason t e) ⊎ ((front : List ℕ) × f.spells t front × (behind front).reason ts left e)

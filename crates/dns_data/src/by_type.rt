@@ -16,7 +16,7 @@ use dns_kinds::{ErrorKind, RecordType};
 use dns_octets::{AsOctets, AsOctetsMut, EmptyBuilder, FreezeBuilder, OctetsBuilder};
 use dns_wire::Name;
 
-/// Whether records of a type can stand in a zone: those of type 0, OPT, and the types 128 to 255
+/// Whether records of a type can be in a zone: those of type 0, OPT, and the types 128 to 255
 /// cannot (RFC 6895 section 3.1).
 pub fn is_data_type(rtype: RecordType) -> bool
     ensures { IsTrue result ↔ IsDataType rtype }
@@ -109,11 +109,11 @@ pub fn data_of_type<
 ) -> Result<B::Octets, RecordError>
     ensures ok { IfOk result (λ octets. (S.left source.new ≡ [])
         × SpellsTypeData (option_copied origin.entry) rtype
-            (S.left source.old) (B.Octets.octets octets)
+        (S.left source.old) (B.Octets.octets octets)
         × (length (B.Octets.octets octets) ≤ max_data)) }
     ensures err { IfErr result (λ error. (new : List ℕ)
         × RefusesType (option_copied origin.entry) (within max_data B.room) rtype
-            (S.end source.old).at (S.left source.old) [] error (S.left source.new) new) }
+        (S.end source.old).at (S.left source.old) [] error (S.left source.new) new) }
     ensures end { S.end source.new ≡ S.end source.old }
 {
     let mut target = DataBuilder::<B>::new(alloc);

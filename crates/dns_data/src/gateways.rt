@@ -187,23 +187,6 @@ pub(crate) fn take_gateway_parts<S: TokenSource, Octets: AsOctets, B: OctetsBuil
     Ok(())
 }
 
-/// Parses the remaining tokens as a gateway and a key, as [`take_gateway_parts`] does. An error
-/// doesn't say which field is rejected.
-pub(crate) fn take_gateway_key<S: TokenSource, Octets: AsOctets, B: OctetsBuilder>(
-    origin: Option<&Name<Octets>>,
-    source: &mut S,
-    target: &mut B,
-) -> Result<(), RecordError>
-    ensures takes { Parses (TakesRest B.room (gateway_key_form (option_copied origin.entry)))
-        S.left S.end B.octets source.old target.old result source.new target.new }
-    ensures end { S.end source.new ≡ S.end source.old }
-{
-    match take_gateway_parts(0, origin, source, target) {
-        Ok(()) => Ok(()),
-        Err(error) => Err(RecordError::at(error.offset, error.kind)),
-    }
-}
-
 /// How many octets the gateway has that octets begin with, of a type that is no name.
 fn address_width(number: u8, octets: &[u8]) -> Option<usize>
     ensures { FindsWidth (IsAddressOf number) octets.now result }

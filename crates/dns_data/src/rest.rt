@@ -3,12 +3,12 @@ ghost use Rattle.std.specs.Prelude.{◌≡◌, ◌<◌, ◌^◌};
 ghost use Rattle.std.specs.Option.{option_copied};
 ghost use Rattle.dns_fields.specs.TokenParsers.{Parses};
 ghost use Rattle.dns_data.specs.Digits.{digits_form};
-ghost use Rattle.dns_data.specs.Rests.{TakesRest, WantsMore, some_form};
-ghost use Rattle.dns_data.specs.RestKinds.{TakesRestParts, rest_form, strings_form};
+ghost use Rattle.dns_data.specs.Rests.{TakesRest, WantsMore, in_field_after, some_form};
+ghost use Rattle.dns_data.specs.RestKinds.{TakesRestParts, strings_form};
 ghost use Rattle.dns_data.specs.TypeLists.{types_form};
 
 use crate::digits::take_digits;
-use crate::gateways::{take_gateway_key, take_gateway_parts};
+use crate::gateways::take_gateway_parts;
 use crate::locations::take_place;
 use crate::params::take_service_params;
 use crate::prefixes::take_prefixes;
@@ -123,30 +123,13 @@ fn take_some_types<S: TokenSource, B: OctetsBuilder>(
     want_more(length, source, target)
 }
 
-/// Parses the remaining tokens, and appends the octets that they spell.
-fn take_rest<S: TokenSource, Octets: AsOctets, B: OctetsBuilder + AsOctetsMut>(
-    rest: Rest,
-    origin: Option<&Name<Octets>>,
-    source: &mut S,
-    target: &mut B,
-) -> Result<(), RecordError>
-    ensures takes { Parses (TakesRest B.room (rest_form (option_copied origin.entry) rest))
-        S.left S.end B.octets source.old target.old result source.new target.new }
-    ensures end { S.end source.new ≡ S.end source.old }
+/// The same result, whose error says the field after `before` others.
+fn in_field_after(before: usize, parsed: Result<(), RecordError>) -> Result<(), RecordError>
+    ensures { result ≡ in_field_after before parsed }
 {
-    match rest {
-        Rest::Nothing => take_no_token(source, target),
-        Rest::Strings => take_some_strings(origin, source, target),
-        Rest::Hex => take_some_digits(DigitsKind::Hex, source, target),
-        Rest::Base64 => take_some_digits(DigitsKind::Base64, source, target),
-        Rest::Types => take_types(source, target),
-        Rest::SomeTypes => take_some_types(source, target),
-        Rest::Text => take_text(false, source, target),
-        Rest::QuotedText => take_text(true, source, target),
-        Rest::Location => take_place(source, target),
-        Rest::Prefixes => take_prefixes(source, target),
-        Rest::GatewayKey => take_gateway_key(origin, source, target),
-        Rest::Params => take_service_params(source, target),
+    match parsed {
+        Ok(()) => Ok(()),
+        Err(error) => Err(error.in_field(FieldName(before))),
     }
 }
 
@@ -164,11 +147,21 @@ pub(crate) fn take_parts<S: TokenSource, Octets: AsOctets, B: OctetsBuilder + As
         S.left S.end B.octets source.old target.old result source.new target.new }
     ensures end { S.end source.new ≡ S.end source.old }
 {
-    if let Rest::GatewayKey = rest {
-        return take_gateway_parts(before, origin, source, target);
-    }
-    match take_rest(rest, origin, source, target) {
-        Ok(()) => Ok(()),
-        Err(error) => Err(error.in_field(FieldName(before))),
+    match rest {
+        Rest::GatewayKey => take_gateway_parts(before, origin, source, target),
+        Rest::Nothing => in_field_after(before, take_no_token(source, target)),
+        Rest::Strings => in_field_after(before, take_some_strings(origin, source, target)),
+        Rest::Hex => in_field_after(before, take_some_digits(DigitsKind::Hex, source, target)),
+        Rest::Base64 => in_field_after(
+            before,
+            take_some_digits(DigitsKind::Base64, source, target),
+        ),
+        Rest::Types => in_field_after(before, take_types(source, target)),
+        Rest::SomeTypes => in_field_after(before, take_some_types(source, target)),
+        Rest::Text => in_field_after(before, take_text(false, source, target)),
+        Rest::QuotedText => in_field_after(before, take_text(true, source, target)),
+        Rest::Location => in_field_after(before, take_place(source, target)),
+        Rest::Prefixes => in_field_after(before, take_prefixes(source, target)),
+        Rest::Params => in_field_after(before, take_service_params(source, target)),
     }
 }
