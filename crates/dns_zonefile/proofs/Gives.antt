@@ -17,6 +17,9 @@ use Rattle.dns_fields.specs.declared.record_error.RecordError.{RecordError}
 use Rattle.dns_reader.specs.declared.entry.EntryRead.{EntryRead}
 use Rattle.dns_reader.specs.declared.state.State.{State}
 use Rattle.dns_tape.specs.FirstEntry.{StopsFirst, piece_tokens, stop_offset}
+use Rattle.dns_tape.specs.Tape.{FillsLine}
+use Rattle.dns_tape.specs.declared.tape.TokenSpan.{TokenSpan}
+use Rattle.dns_tape.proofs.Filling.{end_within as tape_within}
 use Rattle.dns_zonefile.specs.Adding.{FindsEntry, IsHeldStop, IsPutOff, LetsRead, SkipsLine, after_long_entry, after_stop, found_len, with_left}
 use Rattle.dns_zonefile.specs.Blocks.{Blocks, HoldsLast, MayFollow, after_line_if, held_left, place_of_next, text_left}
 use Rattle.dns_zonefile.specs.First.{BeginsEntryWith, StandsFirst}
@@ -247,6 +250,19 @@ module _ (room : Room) (all : List ℕ) (b m f c : Blocks) (before after : State
           subst (λ g. ReadsNext room all b before old (Some g) c after new) (given_ends (place_of_next f) end at read)
           (gives_end end left (subst (λ i. FindsEntry m (Some (Ok i)) f) back n) x why (omega (arith, short, e)) (subst (λ i. ReadsPending room f (Ok i) before old read after new) back reads) (subst (λ i. c ≡ after_stop f (Ok i)) back is))
   gives_some (Err e) n short reads is = gives_fault e n n.finds.3.0 n.finds.3.1 short reads is
+
+-- ---- an entry was found whose end no octets that follow change
+
+module _ (b : Blocks) (within : b.next ≤ length b.octets) (spans : List TokenSpan) (at : ℕ) (fills : FillsLine (drop b.next b.octets) spans at) where
+  pub held_line : IsHeldStop b (Ok at)
+  held_line = omega (arith, within, length-drop b.next b.octets, tape_within (drop b.next b.octets) spans at fills.0)
+
+  pub gives_line : (room : Room) (all : List ℕ) (c : Blocks) (before after : State) (old new : List ℕ) (read : Result EntryRead RecordError) → HoldsLast all b → b.skips ≡ false → AreOctets (drop b.next b.octets) → drop b.next b.octets ≢ []
+      → at ≤ b.limit → ReadsPending room b (Ok at) before old read after new → c ≡ after_stop (with_left b 0) (Ok at) → ReadsNext room all b before old (Some (given_by {E = ℕ} (place_of_next b) (Ok at) read)) c after new
+  gives_line room all c before after old new read h skips ok some short reads is =
+      let f = fills.0 in
+      gives_some room all b b (with_left b 0) c before after old new read h (record { same = refl; on = omega arith; within = within; ahead_is = λ more. refl; skips = inl skips; stays = λ e. refl }) (Ok at)
+      (record { same = refl; finds = (ok, within, some, (f.stop, f.left, f.first, f.ends, inl fills.1)) }) short reads is
 
 -- ---- an entry is too long
 

@@ -1,5 +1,5 @@
 -- Octets that are held, and what is left of a text.
-use Rattle.std.proofs.Common.{◌≡◌, ℕ, ◌+◌, ◌≤◌, Bool, true, false, List, [], ◌++◌, length, take, drop, refl, sym, ap, ◌∙◌, subst, arith, append-nil, append_assoc, length-append}
+use Rattle.std.proofs.Common.{◌≡◌, ℕ, ◌+◌, ◌-◌, ◌≤◌, Bool, true, false, List, [], ◌++◌, length, take, drop, refl, sym, ap, ◌∙◌, subst, arith, append-nil, append_assoc, length-append, length-drop, take_all}
 use Rattle.std.proofs.Math.Seq.{drop-append-add, take-append-add}
 use Rattle.std.proofs.lemmas.List.{drop-append-le, drop_all, take-append-drop, length-take-le}
 use Rattle.zone_format.specs.Place.{IsAt}
@@ -7,6 +7,10 @@ use Rattle.zone_format.specs.declared.place.Place.{Place}
 use Rattle.dns_split.specs.declared.position.Position.{Position}
 use Rattle.dns_zonefile.specs.Adding.{LetsRead}
 use Rattle.dns_zonefile.specs.Blocks.{Blocks, HoldsLast, IsPlaceOf, after_line_if, held_left, text_left}
+
+-- from a place to the end
+pub all_after : (n : ℕ) (l : List ℕ) → take (length l - n) (drop n l) ≡ drop n l
+all_after n l = take_all (length l - n) (drop n l) (omega (arith, length-drop n l))
 
 module _ (all : List ℕ) (b : Blocks) (h : HoldsLast all b) where
   -- from a place on

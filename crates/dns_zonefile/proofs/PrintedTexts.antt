@@ -44,7 +44,7 @@ quiet_ttl (Minimum ttl) = (refl, tt)
 quiet_minimum : (read : Result EntryRead RecordError) → Silent origin_said (minimum_of_record read)
 quiet_minimum (Ok Nothing) = tt
 quiet_minimum (Ok Directive) = tt
-quiet_minimum (Ok (Include named)) = tt
+quiet_minimum (Ok (Include file has_origin)) = tt
 quiet_minimum (Ok (IsRecord at ttl class rtype)) = quiet_ttl ttl
 quiet_minimum (Err r) = tt
 

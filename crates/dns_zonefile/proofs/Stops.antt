@@ -187,7 +187,7 @@ module _ (rest : List ℕ) (ok : AreOctets rest) (end : EndOfEntry) where
         (sym (taken_length (y ∷ left) x), refl),
       )
 
-  found_within : (left : List (Result Piece Fault)) (x : StopsFirst rest (Ok end) left) → EachWithin (length (take end.at rest)) (map Ok x.found)
+  pub found_within : (left : List (Result Piece Fault)) (x : StopsFirst rest (Ok end) left) → EachWithin (length (take end.at rest)) (map Ok x.found)
   found_within left x = let a = alone left x in within_before _ x.found (Ok (EndAt end) ∷ a.0) a.1.1
 
   -- and stay so

@@ -1,18 +1,21 @@
 -- The tokens on a tape are those of the first entry.
-use Rattle.std.proofs.Common.{◌≡◌, ℕ, ◌+◌, Bool, List, [], ◌∷◌, refl, sym, ap, ◌∙◌, subst}
-use Rattle.std.specs.Prelude.{map, None, Result}
+use Rattle.std.proofs.Common.{◌≡◌, ℕ, ◌+◌, Bool, List, [], ◌∷◌, take, drop, refl, sym, ap, ◌∙◌, subst}
+use Rattle.std.specs.Prelude.{map, None, Result, Ok}
+use Rattle.std.proofs.lemmas.List.{take-append-drop}
 use Rattle.dns_octets.specs.Room.{Room}
-use Rattle.dns_tape.specs.FirstEntry.{piece_tokens, stop_offset}
+use Rattle.dns_split.specs.Pieces.{AreOctets}
+use Rattle.dns_tape.specs.FirstEntry.{StopsFirst, piece_tokens, stop_offset}
 use Rattle.dns_tape.specs.Source.{UnreadSeen, tape_seen, token_after, tokens_after}
 use Rattle.dns_tape.specs.Tape.{FillsWith, span_token}
 use Rattle.dns_tape.specs.declared.tape.TokenSpan.{TokenSpan}
-use Rattle.dns_tape.proofs.Once.{filled_once}
+use Rattle.dns_tape.proofs.Once.{filled_once, first_once}
 use Rattle.dns_fields.specs.declared.record_error.RecordError.{RecordError}
 use Rattle.dns_reader.specs.EntryReading.{ReadsZoneEntry}
 use Rattle.dns_reader.specs.declared.entry.EntryRead.{EntryRead}
 use Rattle.dns_reader.specs.declared.state.State.{State}
 use Rattle.dns_zonefile.specs.Giving.{ReadsStop}
 use Rattle.dns_zonefile.specs.Placed.{BeginsPlaced}
+use Rattle.dns_zonefile.proofs.Stops.{alone, found_within, tokens_front}
 
 spans_after : (octets : List ℕ) (base : ℕ) (spans : List TokenSpan) → map (λ s. token_after base (span_token octets s)) spans ≡ tokens_after base (map (span_token octets) spans)
 spans_after octets base [] = refl
@@ -35,3 +38,25 @@ read_placed room octets base blank p before old read after new b r stop left x a
     let same = b stop left x a in
     let own = tokens_after base (piece_tokens octets None x.found) in
     subst (λ i. ReadsZoneEntry room blank i own before old read after new) same.1 (subst (λ l. ReadsZoneEntry room blank p.end.at l before old read after new) same.0 r)
+
+-- and so it is by a tape of octets that go on after the entry: its tokens are those of the entry alone
+pub read_within : (room : Room) (octets : List ℕ) (base at : ℕ) (blank : Bool) (p : UnreadSeen) (spans : List TokenSpan) (before : State) (old : List ℕ) (read : Result EntryRead RecordError) (after : State) (new : List ℕ)
+    → AreOctets octets → FillsWith octets spans at → p ≡ tape_seen octets base spans at → ReadsZoneEntry room blank p.end.at p.tokens before old read after new → ReadsStop room (take at octets) blank base before old read after new
+read_within room octets base at blank p spans before old read after new ok f e r = subst (λ n. ReadsStop room (take n octets) blank base before old read after new) f.ends go
+  where
+    front : List ℕ
+    front = take f.stop.at octets
+
+    own : StopsFirst front (Ok f.stop) (alone octets ok f.stop f.left f.first).0
+    own = record { found = f.first.found; is_open = f.first.is_open; given = (alone octets ok f.stop f.left f.first).1 }
+
+    same : piece_tokens octets None f.first.found ≡ piece_tokens front None f.first.found
+    same = ap (λ l. piece_tokens l None f.first.found) (sym (take-append-drop f.stop.at octets)) ∙ tokens_front front (drop f.stop.at octets) None f.first.found (found_within octets ok f.stop f.left f.first)
+
+    go : ReadsStop room front blank base before old read after new
+    go stop left x a =
+        let once = first_once front stop (Ok f.stop) left (alone octets ok f.stop f.left f.first).0 x own in
+        let tokens : p.tokens ≡ tokens_after base (piece_tokens front None x.found) =
+        ap (λ (q : UnreadSeen). q.tokens) e ∙ spans_after octets base spans ∙ ap (tokens_after base) (f.tokens ∙ same ∙ ap (piece_tokens front None) (sym once.0)) in
+        let end : p.end.at ≡ base + stop_offset stop = ap (λ (q : UnreadSeen). q.end.at) e ∙ ap (λ i. base + i) (sym (ap stop_offset once.1 ∙ f.ends)) in
+        subst (λ i. ReadsZoneEntry room blank i (tokens_after base (piece_tokens front None x.found)) before old read after new) end (subst (λ l. ReadsZoneEntry room blank p.end.at l before old read after new) tokens r)

@@ -1,7 +1,9 @@
 //! Entries of a file that comes in blocks.
-ghost use Rattle.std.specs.Prelude.{◌≡◌, ◌≢◌, ◌↔◌, ◌+◌, ◌++◌, ◌<◌, ◌≤◌, ◌^◌, ℕ, [], List, IsTrue, drop, length, option_map, take, true, false};
+ghost use Rattle.std.specs.Prelude.{◌≡◌, ◌≢◌, ◌↔◌, ◌+◌, ◌++◌, ◌<◌, ◌≤◌, ◌^◌, ℕ, [], List, IsTrue, Ok, drop, length, option_map, take, true, false};
 ghost use Rattle.dns_split.specs.Pieces.{AreOctets};
+ghost use Rattle.dns_split.specs.Standing.{blank_at};
 ghost use Rattle.zone_format.specs.Place.{IsAt};
+ghost use Rattle.dns_tape.specs.Tape.{FillsWith};
 ghost use Rattle.dns_zonefile.specs.Blocks.{HoldsLast, no_blocks, place_of_next};
 ghost use Rattle.dns_zonefile.specs.Adding.{AddsOctets, FindsEntry, HasOctetsFrom, HasPositionOf, IsHeldStop, IsPutOff, LetsRead, SkipsLine, after_long_entry, after_stop, found_len, with_left};
 ghost use Rattle.dns_zonefile.specs.Giving.{CanMove, ReadsNext, ReadsPending, ReadsStop, given_by};
@@ -18,7 +20,7 @@ use dns_reader::{EntryRead, State, read_entry};
 use dns_split::pieces::Fault;
 use dns_split::position::Position;
 use dns_split::standing::Standing;
-use dns_tape::{Tape, TapeTokens, fill};
+use dns_tape::{Tape, TapeTokens, TokenSpan, fill, fill_line};
 use std::alloc::Allocator;
 use std::marker::Model;
 use zone_format::place::{Place, advance, moved};
@@ -27,20 +29,40 @@ use zone_format::place::{Place, advance, moved};
 /// as `\DDD` and quoted, take 270 KB.
 pub const ENTRY_LIMIT: usize = 1 << 20;
 
+/// Reads the first entry of octets, which ends at `end`, by the state. Its tokens are at these spans,
+/// and the octets begin at a place among others.
+fn read_spans<B: OctetsBuilder + AsOctetsMut>(
+    octets: &[u8],
+    spans: &[TokenSpan],
+    at: usize,
+    end: usize,
+    state: &mut State,
+    target: &mut B,
+) -> Result<EntryRead, RecordError>
+    requires octets { AreOctets octets.now }
+    requires fills { FillsWith octets.now spans.now end }
+    requires room { at + length octets.now < 2 ^ 64 }
+    ensures { ReadsStop B.room (take end octets.now) (blank_at octets.now 0) at state.old (B.octets target.old) result state.new (B.octets target.new) }
+{
+    let begins_blank = Standing::at_entry(0).begins_blank(octets);
+    let mut tokens = TapeTokens::new(octets, spans, at, end);
+    read_entry(state, begins_blank, &mut tokens, target)
+}
+
 /// Reads the first entry of octets, or the tokens before a fault, by the state. The octets begin at a
-/// place among others.
+/// place among others. What the tape held is dropped.
 fn read_first<B: OctetsBuilder + AsOctetsMut>(
     octets: &[u8],
     begins_blank: bool,
     at: usize,
+    tape: &mut Tape,
     state: &mut State,
     target: &mut B,
 ) -> Result<EntryRead, RecordError>
     requires { at + length octets.now < 2 ^ 64 }
     ensures { ReadsStop B.room octets.now begins_blank at state.old (B.octets target.old) result state.new (B.octets target.new) }
 {
-    let mut tape = Tape::new();
-    if let Some(end) = fill(octets, &mut tape) {
+    if let Some(end) = fill(octets, tape) {
         let mut tokens = TapeTokens::new(octets, tape.as_slice(), at, end);
         return read_entry(state, begins_blank, &mut tokens, target);
     }
@@ -78,7 +100,8 @@ fn given_by(
 ///
 /// Octets that were read are dropped. Once [`BlockReader::next_entry`] has returned `None`, at most as
 /// many are held as an entry may have. So where no more are added before that, the reader holds that
-/// many and a block, in a buffer of at most twice the size.
+/// many and a block, in a buffer of at most twice the size; and a tape of 2 KB for the tokens of an
+/// entry.
 #[derive(Drop)]
 pub struct BlockReader<A: Allocator> {
     /// The octets that are held.
@@ -96,6 +119,8 @@ pub struct BlockReader<A: Allocator> {
     left: usize,
     /// No entry may have more octets.
     limit: usize,
+    /// The spans of the tokens of the entry that is read.
+    tape: Tape,
 }
 
 impl<A: Allocator> Model for BlockReader<A> {
@@ -128,6 +153,7 @@ impl<A: Allocator> BlockReader<A> {
             is_finished: false,
             left: 0,
             limit,
+            tape: Tape::new(),
         }
     }
 
@@ -329,20 +355,24 @@ impl<A: Allocator> BlockReader<A> {
 
     /// Reads the next entry, or what a fault cuts off, by the state.
     fn read_stop<B: OctetsBuilder + AsOctetsMut>(
-        &self,
+        &mut self,
         stop: Result<usize, Fault>,
         state: &mut State,
         target: &mut B,
     ) -> Result<EntryRead, RecordError>
-        requires { IsHeldStop self.now stop }
-        ensures { ReadsPending B.room self.now stop state.old (B.octets target.old) result state.new (B.octets target.new) }
+        requires { IsHeldStop self.old stop }
+        ensures reads { ReadsPending B.room self.old stop state.old (B.octets target.old) result state.new (B.octets target.new) }
+        ensures same { self.new ≡ self.old }
     {
         let at = self.place();
-        let rest = self.rest();
+        let rest = as_octets(&self.held.as_slice()[self.next..]);
         let begins_blank = Standing::at_entry(0).begins_blank(rest);
         match stop {
-            Ok(count) => read_first(&rest[..count], begins_blank, at, state, target),
-            Err(_) => read_first(rest, begins_blank, at, state, target),
+            Ok(count) => {
+                let octets = &rest[..count];
+                read_first(octets, begins_blank, at, &mut self.tape, state, target)
+            }
+            Err(_) => read_first(rest, begins_blank, at, &mut self.tape, state, target),
         }
     }
 
@@ -376,6 +406,16 @@ impl<A: Allocator> BlockReader<A> {
         }
     }
 
+    /// Goes on after an entry that ended among the octets that are held.
+    fn pass_line(&mut self, count: usize)
+        requires { IsHeldStop self.old (Ok count) }
+        ensures { self.new ≡ after_stop (with_left self.old 0) (Ok count) }
+    {
+        self.began = self.place();
+        self.next += count;
+        self.left = 0;
+    }
+
     /// Gives the next entry by what those before it say, once no octets that follow can change it;
     /// or returns `None`, where more octets are wanted or all entries were given.
     ///
@@ -388,6 +428,32 @@ impl<A: Allocator> BlockReader<A> {
     /// fault is [`BlockRefusal::LongEntry`]: it is given once, at the first octet too many however the
     /// octets are cut into blocks, and no more is read, as after [`BlockReader::finish`].
     pub fn next_entry<B: OctetsBuilder + AsOctetsMut>(
+        &mut self,
+        state: &mut State,
+        target: &mut B,
+    ) -> Option<Result<EntryRead, BlockRefusal>>
+        ensures { (all : List ℕ) → HoldsLast all self.old → ReadsNext B.room all self.old state.old (B.octets target.old) result self.new state.new (B.octets target.new) }
+    {
+        if self.skips || self.is_put_off() {
+            return self.next_slowly(state, target);
+        }
+        let at = self.place();
+        let rest = as_octets(&self.held.as_slice()[self.next..]);
+        let Some(count) = fill_line(rest, &mut self.tape) else {
+            return self.next_slowly(state, target);
+        };
+        if count > self.limit {
+            return self.next_slowly(state, target);
+        }
+        let read = read_spans(rest, self.tape.as_slice(), at, count, state, target);
+        self.pass_line(count);
+        Some(given_by(at, Ok(count), read))
+    }
+
+    /// Does the same for any entry: of more tokens than a tape has room for, with escapes, with a fault,
+    /// with more octets than it may have; or where more octets are wanted.
+    #[inline(never)]
+    fn next_slowly<B: OctetsBuilder + AsOctetsMut>(
         &mut self,
         state: &mut State,
         target: &mut B,

@@ -1,44 +1,57 @@
-use Rattle.std.proofs.Common.{◌≤◌, ℕ, ap, sym, ◌∙◌, subst}
-use Rattle.std.specs.Prelude.{Some, Option, Result, Err}
-use Rattle.dns_split.specs.declared.pieces.Fault.{Fault}
+use Rattle.std.proofs.Common.{◌≡◌, ◌≤◌, ◌+◌, ◌-◌, ℕ, List, length, drop, take, ap, sym, ◌∙◌, subst, arith}
+use Rattle.std.specs.Prelude.{Some, Result, Ok}
+use Rattle.dns_split.specs.Pieces.{AreOctets}
+use Rattle.dns_split.specs.Standing.{blank_at}
+use Rattle.dns_tape.specs.Tape.{FillsLine}
 use Rattle.dns_reader.specs.declared.entry.EntryRead.{EntryRead}
-use Rattle.dns_zonefile.specs.Adding.{found_len}
-use Rattle.dns_zonefile.specs.Giving.{ReadsNext, given_by}
+use Rattle.dns_zonefile.specs.Adding.{after_stop, with_left}
+use Rattle.dns_zonefile.specs.Blocks.{Blocks, HoldsLast, place_of_next}
+use Rattle.dns_zonefile.specs.Giving.{ReadsNext, ReadsPending, given_by}
 use Rattle.dns_zonefile.specs.declared.refusal.BlockRefusal.{BlockRefusal}
-use Rattle.dns_zonefile.proofs.Gives.{can_move, ends_long, gives_none, gives_some, held_stop, not_long}
+use Rattle.dns_zonefile.proofs.Gives.{gives_line, held_line}
+use Rattle.dns_zonefile.proofs.Held.{all_after}
+use Rattle.dns_zonefile.proofs.Stops.{read_same}
 use Rattle.dns_zonefile.proofs.blocks.BlockReader.next_entry.Goals as goal
 
-pub returns-then-is_long : goal.returns-then-is_long
-returns-then-is_long g c = λ all h.
-    let octets = g.B.AsOctets.octets in
-    let room = g.B.OctetsBuilder.room in
-    subst (λ (e : BlockRefusal). ReadsNext room all c.args.self.now c.args.state.now (octets c.args.target.now) (Some (Err e)) c.end_at_long.new.self c.args.state.now (octets c.args.target.now)) (sym c.end_at_long.ensures.refusal)
-    (ends_long room all c.args.self.now c.skip_line.new.self c.find_entry-found.new.self c.end_at_long.new.self c.args.state.now (octets c.args.target.now) h c.skip_line.ensures c.end_at_long.ensures.ends c.find_entry-found.result
-    c.find_entry-found.ensures (c.is_long.ensures.0 c.if-is_long.true))
-
 pub returns-in_default : goal.returns-in_default
-returns-in_default g c = λ all h.
-    let f = c.find_entry-found.new.self in
-    let short = subst (λ (o : Option (Result ℕ Fault)). found_len f o ≤ f.limit) c.in_default.is (not_long f.limit (found_len f c.find_entry-found.result) c.is_long.result c.is_long.ensures c.if-is_long.false) in
-    gives_none g.B.OctetsBuilder.room all c.args.self.now c.skip_line.new.self f c.drop_read.new.self c.args.state.now (g.B.AsOctets.octets c.args.target.now) h c.skip_line.ensures c.in_default.ensures short c.drop_read.ensures
+returns-in_default g c =
+    let octets = g.B.AsOctets.octets in
+    let slowly = c.next_slowly-in_default in
+    subst (λ (b : Blocks). (all : List ℕ) → HoldsLast all b → ReadsNext g.B.OctetsBuilder.room all b c.args.state.now (octets c.args.target.now) slowly.result slowly.new.self slowly.new.state (octets slowly.new.target)) c.self-2.view_is slowly.ensures
 
-pub read_stop-read-requires : goal.read_stop-read-requires
-read_stop-read-requires g c = let n = c.in-Some.ensures.finds in held_stop c.find_entry-found.new.self n.1 n.0 c.in-Some.stop n.3
+pub returns-then-count-self : goal.returns-then-count-self
+returns-then-count-self g c =
+    let octets = g.B.AsOctets.octets in
+    let slowly = c.next_slowly-then-count-self in
+    subst (λ (b : Blocks). (all : List ℕ) → HoldsLast all b → ReadsNext g.B.OctetsBuilder.room all b c.args.state.now (octets c.args.target.now) slowly.result slowly.new.self slowly.new.state (octets slowly.new.target)) c.self-2.view_is slowly.ensures
 
-pub pass-requires : goal.pass-requires
-pass-requires g c = let n = c.in-Some.ensures.finds in held_stop c.find_entry-found.new.self n.1 n.0 c.in-Some.stop n.3
-
-pub given_by-requires : goal.given_by-requires
-given_by-requires g c = let n = c.in-Some.ensures.finds in can_move c.find_entry-found.new.self n.1 n.0 c.in-Some.stop c.place-at.result n.3 c.place-at.ensures.room
+pub pass_line-requires : goal.pass_line-requires
+pass_line-requires g c =
+    let me = c.args.self.now in
+    let rest : c.as_octets-rest.result.now ≡ drop me.next me.octets =
+    c.as_octets-rest.ensures.same ∙ all_after c.self-2.inside.next c.as_slice.result.now ∙ ap (drop c.self-2.inside.next) c.as_slice.ensures.value ∙ ap (λ (b : Blocks). drop b.next b.octets) c.self-2.view_is in
+    let within : me.next ≤ length me.octets = subst (λ (b : Blocks). b.next ≤ length b.octets) c.self-2.view_is c.self-2.invariant.0 in
+    let fills : FillsLine (drop me.next me.octets) c.fill_line.new.tape.items c.in-Some.count = subst (λ l. FillsLine l c.fill_line.new.tape.items c.in-Some.count) rest c.in-Some.ensures in
+    subst (λ (b : Blocks). b.next + c.in-Some.count ≤ length b.octets) (sym c.self-2.view_is) (held_line me within c.fill_line.new.tape.items c.in-Some.count fills)
 
 pub returns : goal.returns
 returns g c = λ all h.
     let octets = g.B.AsOctets.octets in
     let room = g.B.OctetsBuilder.room in
-    let f = c.find_entry-found.new.self in
-    let read = c.read_stop-read.result in
-    let short = subst (λ (o : Option (Result ℕ Fault)). found_len f o ≤ f.limit) c.in-Some.is (not_long f.limit (found_len f c.find_entry-found.result) c.is_long.result c.is_long.ensures c.if-is_long.false) in
-    subst (λ (x : Result EntryRead BlockRefusal). ReadsNext room all c.args.self.now c.args.state.now (octets c.args.target.now) (Some x) c.pass.new.self c.read_stop-read.new.state (octets c.read_stop-read.new.target))
-    (sym (◌∙◌ {b = given_by c.place-at.result c.in-Some.stop read} c.given_by.ensures (ap (λ p. given_by p c.in-Some.stop read) c.place-at.ensures.place)))
-    (gives_some room all c.args.self.now c.skip_line.new.self f c.pass.new.self c.args.state.now c.read_stop-read.new.state (octets c.args.target.now) (octets c.read_stop-read.new.target) read h c.skip_line.ensures c.in-Some.stop
-    c.in-Some.ensures short c.read_stop-read.ensures c.pass.ensures)
+    let me = c.args.self.now in
+    let count = c.in-Some.count in
+    let read = c.read_spans-read in
+    let left : take (length c.as_slice.result.now - c.self-2.inside.next) (drop c.self-2.inside.next c.as_slice.result.now) ≡ drop me.next me.octets =
+    all_after c.self-2.inside.next c.as_slice.result.now ∙ ap (drop c.self-2.inside.next) c.as_slice.ensures.value ∙ ap (λ (b : Blocks). drop b.next b.octets) c.self-2.view_is in
+    let rest : c.as_octets-rest.result.now ≡ drop me.next me.octets = c.as_octets-rest.ensures.same ∙ left in
+    let within : me.next ≤ length me.octets = subst (λ (b : Blocks). b.next ≤ length b.octets) c.self-2.view_is c.self-2.invariant.0 in
+    let fills : FillsLine (drop me.next me.octets) c.fill_line.new.tape.items count = subst (λ l. FillsLine l c.fill_line.new.tape.items count) rest c.in-Some.ensures in
+    let short : count ≤ me.limit = omega (arith, c.if-count-self.false, ap (λ (b : Blocks). b.limit) c.self-2.view_is) in
+    let reads : ReadsPending room me (Ok count) c.args.state.now (octets c.args.target.now) read.result read.new.state (octets read.new.target) =
+    read_same room (take count c.as_octets-rest.result.now) (take count (drop me.next me.octets)) (blank_at c.as_octets-rest.result.now 0) (blank_at (drop me.next me.octets) 0) c.place-at.result (place_of_next me) c.args.state.now (octets c.args.target.now)
+    read.result read.new.state (octets read.new.target) (ap (take count) rest) (ap (λ l. blank_at l 0) rest) c.place-at.ensures.place read.ensures in
+    subst (λ (x : Result EntryRead BlockRefusal). ReadsNext room all me c.args.state.now (octets c.args.target.now) (Some x) c.pass_line.new.self read.new.state (octets read.new.target))
+    (sym (◌∙◌ {b = given_by {E = ℕ} c.place-at.result (Ok count) read.result} c.given_by.ensures (ap (λ p. given_by {E = ℕ} p (Ok count) read.result) c.place-at.ensures.place)))
+    (gives_line me within c.fill_line.new.tape.items count fills room all c.pass_line.new.self c.args.state.now read.new.state (octets c.args.target.now) (octets read.new.target) read.result h
+    (ap (λ (b : Blocks). b.skips) (sym c.self.view_is) ∙ c.if-self.false) (subst AreOctets left c.as_octets-rest.ensures.octets) (c.is_put_off.ensures.some c.if-is_put_off.false) short reads
+    (c.pass_line.ensures ∙ ap (λ (b : Blocks). after_stop (with_left b 0) (Ok count)) c.self-2.view_is))
