@@ -203,14 +203,6 @@ impl Unfit {
     }
 }
 
-/// The origin that an entry says of the file that it includes, of which these are the octets.
-fn included_origin(octets: &[u8]) -> Option<NameBuffer> {
-    match Name::from_octets(octets) {
-        Ok(name) => NameBuffer::from_labels((), &name).ok(),
-        Err(_) => None,
-    }
-}
-
 impl<'a> ZoneFiles<'a> {
     /// A file that is opened, `-` for standard input.
     fn open<'f>(
@@ -452,9 +444,8 @@ impl<'a> ZoneFiles<'a> {
     ) -> Result<(), Stop> {
         let offset = file.reader.began();
         file.count_to(offset);
-        let (name, origin) = include_parts(self.data.as_slice(), count);
-        let found = self.find_included(&file, name);
-        let origin = included_origin(origin);
+        let found = self.find_included(&file, count);
+        let origin = self.included_origin(count);
         let read = Ok(EntryRead::Include {
             file: count,
             has_origin,
@@ -477,8 +468,19 @@ impl<'a> ZoneFiles<'a> {
         }
     }
 
-    /// Opens the file that an entry of another names by some octets.
-    fn find_included(&self, file: &OpenFile, octets: &[u8]) -> Result<OpenFile, Unfit> {
+    /// Returns the origin of an included file, if the octets that were appended have one after the first
+    /// `count`.
+    fn included_origin(&self, count: usize) -> Option<NameBuffer> {
+        let (_, octets) = include_parts(self.data.as_slice(), count);
+        match Name::from_octets(octets) {
+            Ok(name) => NameBuffer::from_labels((), &name).ok(),
+            Err(_) => None,
+        }
+    }
+
+    /// Opens the file that an entry of another names, by the first `count` of the octets that were
+    /// appended.
+    fn find_included(&self, file: &OpenFile, count: usize) -> Result<OpenFile, Unfit> {
         if !self.includes {
             return Err(Unfit::Told("a file that includes others is not cut"));
         }
@@ -488,6 +490,7 @@ impl<'a> ZoneFiles<'a> {
         if self.count > MOST_FILES {
             return Err(Unfit::Full);
         }
+        let (octets, _) = include_parts(self.data.as_slice(), count);
         let Ok(name) = str::from_utf8(octets) else {
             return Err(Unfit::Told("file name is not UTF-8"));
         };
