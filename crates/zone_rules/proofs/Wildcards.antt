@@ -3,15 +3,15 @@ use Rattle.std.proofs.Common.{ℕ, ◌≡◌, Bool, true, false, Option, Some, N
 use Rattle.std.specs.Prelude.{◌==◌, ◌&&◌, ◌||◌, not, nat_eq, map}
 use Rattle.std.specs.Cmp.Lexicographic.{pointwise}
 use Rattle.std.specs.Char.{to_ascii_lowercase}
-use Rattle.std.specs.List.{find, list_any}
+use Rattle.std.specs.List.{list_any}
 use Rattle.std.specs.Option.{option_map_or}
-use Rattle.std.proofs.lemmas.Bool.{false≢true, eqb-true}
+use Rattle.std.proofs.lemmas.Bool.{false≢true}
 use Rattle.std.proofs.lemmas.Bool.Decides.{nat_tests}
 use Rattle.dns_octets.specs.Lowered.{lowered}
 use Rattle.dns_wire.specs.Order.{same_name}
 use Rattle.dns_kinds.specs.declared.types.RecordType.{RecordType}
 use Rattle.dns_resource.specs.declared.record.Record.{Record}
-use Rattle.zone_rules.specs.Above.{is_wildcard, names_above}
+use Rattle.zone_rules.specs.Above.{is_wildcard}
 use Rattle.zone_rules.specs.Present.{closest_encloser, is_existing, is_present, is_synthesized}
 use Rattle.zone_rules.specs.Zones.{has_type_at, type_of}
 
