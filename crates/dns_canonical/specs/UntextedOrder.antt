@@ -8,8 +8,8 @@ use Rattle.dns_canonical.specs.Untexted.{lowered_between, untexted_front}
 use Rattle.dns_canonical.specs.declared.untexted.NameSpan.{NameSpan}
 
 -- octets with those of the names in lower case
-abbrev pub lowered_in : NameSpan → List ℕ → List ℕ
-lowered_in names octets = lowered_between names.start names.end octets
+abbrev pub lower_names : NameSpan → List ℕ → List ℕ
+lower_names names octets = lowered_between names.start names.end octets
 
 -- the canonical form of data of a type
 abbrev pub IsUntextedForm : RecordType → List ℕ → List ℕ → Type 0
@@ -17,7 +17,7 @@ IsUntextedForm rtype octets form = CanonicalFields (untexted_front rtype octets)
 
 -- it has the octets of the names in lower case
 abbrev pub LowersUntexted : RecordType → List ℕ → NameSpan → Type 0
-LowersUntexted rtype octets names = (form : List ℕ) → IsUntextedForm rtype octets form → form ≡ lowered_in names octets
+LowersUntexted rtype octets names = (form : List ℕ) → IsUntextedForm rtype octets form → form ≡ lower_names names octets
 
 -- the order of the canonical forms
 abbrev pub IsUntextedOrder : RecordType → List ℕ → List ℕ → Ordering → Type 0

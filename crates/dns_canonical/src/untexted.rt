@@ -2,7 +2,7 @@
 ghost use Rattle.std.specs.Prelude.{◌≡◌, ◌<◌, ◌≤◌, length, IfSome};
 ghost use Rattle.dns_canonical.specs.Names.{octet_order};
 ghost use Rattle.dns_canonical.specs.Untexted.{address_form, untexted_form, names_size, untexted_front};
-ghost use Rattle.dns_canonical.specs.UntextedOrder.{IsUntextedOrder, LowersUntexted, lowered_in};
+ghost use Rattle.dns_canonical.specs.UntextedOrder.{IsUntextedOrder, LowersUntexted, lower_names};
 
 use dns_fields::Field;
 use dns_kinds::RecordType;
@@ -130,7 +130,7 @@ fn name_span(rtype: RecordType, octets: &[u8]) -> NameSpan
 fn compare_between(left: &[u8], names: NameSpan, right: &[u8], others: NameSpan) -> Ordering
     requires left { (names.start ≤ names.end) × (names.end ≤ length left.now) }
     requires right { (others.start ≤ others.end) × (others.end ≤ length right.now) }
-    ensures { result ≡ octet_order (lowered_in names left.now) (lowered_in others right.now) }
+    ensures { result ≡ octet_order (lower_names names left.now) (lower_names others right.now) }
 {
     let lower = |octet: &u8| octet.to_ascii_lowercase();
     let first = left[..names.start]
