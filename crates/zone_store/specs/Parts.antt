@@ -1,8 +1,9 @@
 -- A record of a group as octets: its type, class, TTL, file and offset, then its RDATA.
 use Rattle.std.specs.Prelude.{◌<◌, ◌^◌, ℕ, ◌==◌, ◌&&◌, ◌||◌, nat_lt, Bool, if◌then◌else◌, zero, suc, List, [], ◌∷◌, ◌++◌, length, take, drop, get_or}
 use Rattle.std.specs.Int.{from_be_bytes, to_be_bytes, w16, w32, w64}
+use Rattle.dns_kinds.specs.Classes.{internet}
 use Rattle.zone_store.specs.Counted.{counted_octets, first_counted, after_counted}
-use Rattle.zone_store.specs.declared.records.GroupRecord.{GroupRecord}
+use Rattle.zone_store.specs.declared.records.GroupEntry.{GroupEntry}
 
 -- what a record has besides its owner: its type, class and TTL, the number of its file, its offset there, and its RDATA
 pub record RecordParts : Type 0 where
@@ -13,8 +14,9 @@ pub record RecordParts : Type 0 where
   pub offset : ℕ
   pub rdata : List ℕ
 
-abbrev pub record_parts : GroupRecord → RecordParts
-record_parts r = record { code = r.code; class = r.class; ttl = r.ttl; file = r.file; offset = r.offset; rdata = r.rdata.now }
+abbrev pub record_parts : GroupEntry → RecordParts
+record_parts r =
+    record { code = r.header.rtype; class = r.header.class; ttl = r.header.ttl; file = r.header.file; offset = r.header.offset; rdata = r.rdata.now }
 
 -- each number fits its octets, and so does the length of the RDATA
 pub record PartsFit (r : RecordParts) : Type 0 where
@@ -37,7 +39,7 @@ octets64 n = to_be_bytes w64 n
 
 -- the class is IN, and the type, the file and the offset are small
 abbrev pub is_short : RecordParts → Bool
-is_short r = (nat_lt r.code 256 && nat_lt r.file 256) && (nat_lt r.offset 4294967296 && (r.class == 1))
+is_short r = (nat_lt r.code 256 && nat_lt r.file 256) && (nat_lt r.offset 4294967296 && (r.class == internet))
 
 -- the octet 253, the type and the file as an octet each, then the TTL and the offset
 abbrev pub short_octets : RecordParts → List ℕ
@@ -79,7 +81,7 @@ short_at octets i = get_or (take 11 octets) i 0
 abbrev pub first_short : List ℕ → RecordParts
 first_short octets = record {
   code = short_at octets 1;
-  class = 1;
+  class = internet;
   ttl = from_be_bytes w32 (short_at octets 3 ∷ short_at octets 4 ∷ short_at octets 5 ∷ short_at octets 6 ∷ []);
   file = short_at octets 2;
   offset = from_be_bytes w32 (short_at octets 7 ∷ short_at octets 8 ∷ short_at octets 9 ∷ short_at octets 10 ∷ []);

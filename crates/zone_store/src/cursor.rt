@@ -6,7 +6,7 @@ ghost use Rattle.zone_store.specs.Stores.{added_record, stored_records, left_rec
 
 use crate::counted::split_counted;
 use crate::groups::{Group, key_at};
-use crate::records::{GroupRecord, split_record};
+use crate::records::{GroupEntry, split_record};
 use std::marker::Model;
 
 /// Returns the octets after the key at an offset.
@@ -22,9 +22,9 @@ fn records_at(octets: &[u8], offset: usize) -> &[u8]
 /// A record, the key of its group, and what follows it: the rest of the group's records and the
 /// groups after it.
 #[derive(Clone, Copy)]
-struct NextRecord<'s> {
+struct NextEntry<'s> {
     key: &'s [u8],
-    added: GroupRecord<'s>,
+    added: GroupEntry<'s>,
     rest: &'s [u8],
     groups: &'s [Group],
 }
@@ -36,7 +36,7 @@ fn next_record<'s>(
     groups: &'s [Group],
     key: &'s [u8],
     rest: &'s [u8],
-) -> Option<NextRecord<'s>>
+) -> Option<NextEntry<'s>>
     ensures { MatchOption result (left_records octets.now groups.now key.now rest.now ≡ []) (λ n. left_records octets.now groups.now key.now rest.now ≡ added_record n.key.now (record_parts n.added) ∷ left_records octets.now n.groups.now n.key.now n.rest.now) }
 {
     let mut groups = groups;
@@ -44,7 +44,7 @@ fn next_record<'s>(
     let mut rest = rest;
     loop {
         if let Some((added, after)) = split_record(rest) {
-            return Some(NextRecord {
+            return Some(NextEntry {
                 key,
                 added,
                 rest: after,
@@ -95,7 +95,7 @@ impl<'s> Records<'s> {
 
     /// Takes the first of the records that are left: its owner's key, and the rest of it. Returns
     /// `None` if none is left.
-    pub fn take(&mut self) -> Option<(&'s [u8], GroupRecord<'s>)>
+    pub fn take(&mut self) -> Option<(&'s [u8], GroupEntry<'s>)>
         ensures { MatchOption result (self.old ≡ []) (λ r. self.old ≡ added_record r.0.now (record_parts r.1) ∷ self.new) }
     {
         match next_record(self.octets, self.groups, self.key, self.rest) {

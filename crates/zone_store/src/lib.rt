@@ -13,6 +13,6 @@ pub mod stored;
 pub use counted::{push_counted, split_counted};
 pub use cursor::Records;
 pub use groups::{Group, compare_groups, group_at, key_at, key_prefix, lower_bound, sort_groups};
-pub use records::{GroupRecord, push_record, split_record};
+pub use records::{EntryHeader, GroupEntry, push_record, split_record};
 pub use store::{RecordStore, SortedStore};
 pub use stored::{StoredRecord, push_stored, split_stored};

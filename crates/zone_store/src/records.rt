@@ -5,20 +5,25 @@ ghost use Rattle.zone_store.specs.Counted.{after_counted};
 ghost use Rattle.zone_store.specs.Parts.{record_parts, parts_octets, numbers_octets, is_short, short_octets, long_octets, header_octets, position_octets, octets16, octets32, octets64, begins_parts, begins_short, begins_long, first_parts, first_short, first_whole, after_parts};
 
 use crate::counted::{push_counted, split_counted};
+use dns_kinds::{Class, RecordType};
 use std::alloc::{AllocError, Allocator};
 
-/// A record of a group: all but its owner.
+/// What a record has besides its owner and its RDATA.
 #[derive(Clone, Copy)]
-pub struct GroupRecord<'a> {
-    /// Code of its type.
-    pub code: u16,
-    /// Code of its class.
-    pub class: u16,
+pub struct EntryHeader {
+    pub rtype: RecordType,
+    pub class: Class,
     pub ttl: u32,
     /// Number of the file that it comes from.
     pub file: u32,
     /// Offset in that file.
     pub offset: u64,
+}
+
+/// A record of a group: all but its owner.
+#[derive(Clone, Copy)]
+pub struct GroupEntry<'a> {
+    pub header: EntryHeader,
     /// RDATA in wire format.
     pub rdata: &'a [u8],
 }
@@ -58,59 +63,59 @@ fn push_u64<A: Allocator>(number: u64, out: &mut Vec<u8, A>) -> Result<(), Alloc
 
 /// Appends the first octet of a record, its type, class and TTL. Fails if there is no memory; the
 /// first octets may then have been appended.
-fn push_header<A: Allocator>(
-    added: &GroupRecord<'_>,
-    out: &mut Vec<u8, A>,
-) -> Result<(), AllocError>
+fn push_header<A: Allocator>(added: &GroupEntry<'_>, out: &mut Vec<u8, A>) -> Result<(), AllocError>
     ensures ok { OnOk result (out.new.items ≡ out.old.items ++ header_octets (record_parts added.now)) }
     ensures err { OnErr result (Extends out.old.items out.new.items) }
 {
     out.push(LONG)?;
-    push_u16(added.code, out)?;
-    push_u16(added.class, out)?;
-    push_u32(added.ttl, out)
+    push_u16(added.header.rtype.0, out)?;
+    push_u16(added.header.class.0, out)?;
+    push_u32(added.header.ttl, out)
 }
 
 /// Appends the file and the offset of a record. Fails if there is no memory; the first octets may
 /// then have been appended.
 fn push_position<A: Allocator>(
-    added: &GroupRecord<'_>,
+    added: &GroupEntry<'_>,
     out: &mut Vec<u8, A>,
 ) -> Result<(), AllocError>
     ensures ok { OnOk result (out.new.items ≡ out.old.items ++ position_octets (record_parts added.now)) }
     ensures err { OnErr result (Extends out.old.items out.new.items) }
 {
-    push_u32(added.file, out)?;
-    push_u64(added.offset, out)
+    push_u32(added.header.file, out)?;
+    push_u64(added.header.offset, out)
 }
 
 /// Returns whether a record's class is IN and its type, file and offset take few octets.
-fn is_short(added: &GroupRecord<'_>) -> bool
+fn is_short(added: &GroupEntry<'_>) -> bool
     ensures value { result ≡ is_short (record_parts added.now) }
-    ensures code { result ≡ true → added.now.code < 256 }
-    ensures file { result ≡ true → added.now.file < 256 }
-    ensures offset { result ≡ true → added.now.offset < 2 ^ 32 }
+    ensures code { result ≡ true → added.now.header.rtype < 256 }
+    ensures file { result ≡ true → added.now.header.file < 256 }
+    ensures offset { result ≡ true → added.now.header.offset < 2 ^ 32 }
 {
-    added.code < 256 && added.file < 256 && added.offset < 4294967296 && added.class == 1
+    added.header.rtype.0 < 256
+        && added.header.file < 256
+        && added.header.offset < 4294967296
+        && added.header.class.0 == Class::IN.0
 }
 
 /// Appends the numbers of a short record. Fails if there is no memory; the first octets may then
 /// have been appended.
-fn push_short<A: Allocator>(added: &GroupRecord<'_>, out: &mut Vec<u8, A>) -> Result<(), AllocError>
-    requires code { added.now.code < 256 }
-    requires file { added.now.file < 256 }
-    requires offset { added.now.offset < 2 ^ 32 }
+fn push_short<A: Allocator>(added: &GroupEntry<'_>, out: &mut Vec<u8, A>) -> Result<(), AllocError>
+    requires code { added.now.header.rtype < 256 }
+    requires file { added.now.header.file < 256 }
+    requires offset { added.now.header.offset < 2 ^ 32 }
     ensures ok { OnOk result (out.new.items ≡ out.old.items ++ short_octets (record_parts added.now)) }
     ensures err { OnErr result (Extends out.old.items out.new.items) }
 {
-    out.extend_from_slice(&[SHORT, added.code as u8, added.file as u8])?;
-    push_u32(added.ttl, out)?;
-    push_u32(added.offset as u32, out)
+    out.extend_from_slice(&[SHORT, added.header.rtype.0 as u8, added.header.file as u8])?;
+    push_u32(added.header.ttl, out)?;
+    push_u32(added.header.offset as u32, out)
 }
 
 /// Appends the numbers of any record. Fails if there is no memory; the first octets may then have
 /// been appended.
-fn push_long<A: Allocator>(added: &GroupRecord<'_>, out: &mut Vec<u8, A>) -> Result<(), AllocError>
+fn push_long<A: Allocator>(added: &GroupEntry<'_>, out: &mut Vec<u8, A>) -> Result<(), AllocError>
     ensures ok { OnOk result (out.new.items ≡ out.old.items ++ long_octets (record_parts added.now)) }
     ensures err { OnErr result (Extends out.old.items out.new.items) }
 {
@@ -121,7 +126,7 @@ fn push_long<A: Allocator>(added: &GroupRecord<'_>, out: &mut Vec<u8, A>) -> Res
 /// Appends the numbers of a record. Fails if there is no memory; the first octets may then have
 /// been appended.
 fn push_numbers<A: Allocator>(
-    added: &GroupRecord<'_>,
+    added: &GroupEntry<'_>,
     out: &mut Vec<u8, A>,
 ) -> Result<(), AllocError>
     ensures ok { OnOk result (out.new.items ≡ out.old.items ++ numbers_octets (record_parts added.now)) }
@@ -140,7 +145,7 @@ fn push_numbers<A: Allocator>(
 /// Fails if there is no memory; the first octets of the record may then have been appended.
 #[tactic(auto, unfolding(crate::specs::Parts::parts_octets))]
 pub fn push_record<A: Allocator>(
-    added: &GroupRecord<'_>,
+    added: &GroupEntry<'_>,
     out: &mut Vec<u8, A>,
 ) -> Result<(), AllocError>
     requires { length added.now.rdata.now < 2 ^ 16 }
@@ -152,7 +157,7 @@ pub fn push_record<A: Allocator>(
 }
 
 /// Splits octets that begin with a short record.
-fn split_short(octets: &[u8]) -> Option<(GroupRecord<'_>, &[u8])>
+fn split_short(octets: &[u8]) -> Option<(GroupEntry<'_>, &[u8])>
     ensures some { IsSome result ↔ (begins_short octets.now ≡ true) }
     ensures value { IfSome result (λ r. record_parts r.0 ≡ first_short octets.now) }
     ensures rest { IfSome result (λ r. r.1.now ≡ after_counted (drop 11 octets.now)) }
@@ -162,19 +167,18 @@ fn split_short(octets: &[u8]) -> Option<(GroupRecord<'_>, &[u8])>
         return None;
     }
     let (rdata, rest) = split_counted(counted);
-    let added = GroupRecord {
-        code: u16::from(head[1]),
-        class: 1,
+    let header = EntryHeader {
+        rtype: RecordType(u16::from(head[1])),
+        class: Class::IN,
         ttl: u32::from_be_bytes([head[3], head[4], head[5], head[6]]),
         file: u32::from(head[2]),
         offset: u64::from(u32::from_be_bytes([head[7], head[8], head[9], head[10]])),
-        rdata,
     };
-    Some((added, rest))
+    Some((GroupEntry { header, rdata }, rest))
 }
 
 /// Splits octets that begin with a record that is not short.
-fn split_long(octets: &[u8]) -> Option<(GroupRecord<'_>, &[u8])>
+fn split_long(octets: &[u8]) -> Option<(GroupEntry<'_>, &[u8])>
     ensures some { IsSome result ↔ (begins_long octets.now ≡ true) }
     ensures value { IfSome result (λ r. record_parts r.0 ≡ first_whole octets.now) }
     ensures rest { IfSome result (λ r. r.1.now ≡ after_counted (drop 21 octets.now)) }
@@ -184,22 +188,21 @@ fn split_long(octets: &[u8]) -> Option<(GroupRecord<'_>, &[u8])>
         return None;
     }
     let (rdata, rest) = split_counted(counted);
-    let added = GroupRecord {
-        code: u16::from_be_bytes([head[1], head[2]]),
-        class: u16::from_be_bytes([head[3], head[4]]),
+    let header = EntryHeader {
+        rtype: RecordType(u16::from_be_bytes([head[1], head[2]])),
+        class: Class(u16::from_be_bytes([head[3], head[4]])),
         ttl: u32::from_be_bytes([head[5], head[6], head[7], head[8]]),
         file: u32::from_be_bytes([head[9], head[10], head[11], head[12]]),
         offset: u64::from_be_bytes([
             head[13], head[14], head[15], head[16], head[17], head[18], head[19], head[20],
         ]),
-        rdata,
     };
-    Some((added, rest))
+    Some((GroupEntry { header, rdata }, rest))
 }
 
 /// Splits octets that begin with a record as [`push_record`] appends it. Returns `None` if they begin
 /// with none.
-pub fn split_record(octets: &[u8]) -> Option<(GroupRecord<'_>, &[u8])>
+pub fn split_record(octets: &[u8]) -> Option<(GroupEntry<'_>, &[u8])>
     ensures some { IsSome result ↔ (begins_parts octets.now ≡ true) }
     ensures value { IfSome result (λ r. record_parts r.0 ≡ first_parts octets.now) }
     ensures rest { IfSome result (λ r. r.1.now ≡ after_parts octets.now) }

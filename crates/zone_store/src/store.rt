@@ -9,7 +9,7 @@ ghost use Rattle.zone_store.specs.Stores.{added_order, added_record, run_group, 
 use crate::counted::push_counted;
 use crate::cursor::Records;
 use crate::groups::{Group, key_at, key_prefix, lower_bound, sort_groups};
-use crate::records::{GroupRecord, push_record};
+use crate::records::{EntryHeader, GroupEntry, push_record};
 use std::alloc::{AllocError, Allocator, Global};
 use std::marker::Model;
 
@@ -18,7 +18,7 @@ const GROUP: u8 = 255;
 
 /// Appends a record, or nothing if there is no memory.
 fn append_record<A: Allocator>(
-    added: &GroupRecord<'_>,
+    added: &GroupEntry<'_>,
     octets: &mut Vec<u8, A>,
 ) -> Result<(), AllocError>
     requires { length added.now.rdata.now < 2 ^ 16 }
@@ -37,7 +37,7 @@ fn append_record<A: Allocator>(
 /// there is no memory; the first octets may then have been appended.
 fn push_run<A: Allocator>(
     key: &[u8],
-    added: &GroupRecord<'_>,
+    added: &GroupEntry<'_>,
     octets: &mut Vec<u8, A>,
 ) -> Result<(), AllocError>
     requires key { length key.now < 2 ^ 16 }
@@ -71,7 +71,7 @@ fn push_group<A: Allocator>(
 /// Appends a group of one record and adds it to the groups, or does nothing if there is no memory.
 fn append_run<A: Allocator>(
     key: &[u8],
-    added: &GroupRecord<'_>,
+    added: &GroupEntry<'_>,
     octets: &mut Vec<u8, A>,
     groups: &mut Vec<Group, A>,
 ) -> Result<(), AllocError>
@@ -104,20 +104,37 @@ fn ends_with_key(octets: &[u8], groups: &[Group], key: &[u8]) -> bool
     }
 }
 
-/// States that the numbers of a record fit their octets.
-fn numbers_fit(code: u16, class: u16, ttl: u32, file: u32, offset: u64)
-    ensures code { code < 2 ^ 16 }
-    ensures class { class < 2 ^ 16 }
+/// States that numbers of a record fit their octets.
+fn numbers_fit(first: u16, second: u16, ttl: u32, file: u32, offset: u64)
+    ensures first { first < 2 ^ 16 }
+    ensures second { second < 2 ^ 16 }
     ensures ttl { ttl < 2 ^ 32 }
     ensures file { file < 2 ^ 32 }
     ensures offset { offset < 2 ^ 64 }
 {}
 
+/// States that the numbers of a header fit their octets.
+fn header_fits(header: &EntryHeader)
+    ensures rtype { header.now.rtype < 2 ^ 16 }
+    ensures class { header.now.class < 2 ^ 16 }
+    ensures ttl { header.now.ttl < 2 ^ 32 }
+    ensures file { header.now.file < 2 ^ 32 }
+    ensures offset { header.now.offset < 2 ^ 64 }
+{
+    numbers_fit(
+        header.rtype.0,
+        header.class.0,
+        header.ttl,
+        header.file,
+        header.offset,
+    );
+}
+
 /// Adds a record to the last group if that has its key, and else a group, or does nothing if there
 /// is no memory.
 fn append_added<A: Allocator>(
     key: &[u8],
-    added: &GroupRecord<'_>,
+    added: &GroupEntry<'_>,
     octets: &mut Vec<u8, A>,
     groups: &mut Vec<Group, A>,
 ) -> Result<(), AllocError>
@@ -128,7 +145,7 @@ fn append_added<A: Allocator>(
     ensures same_octets { OnErr result (octets.new.items ≡ octets.old.items) }
     ensures same_groups { OnErr result (groups.new.items ≡ groups.old.items) }
 {
-    numbers_fit(added.code, added.class, added.ttl, added.file, added.offset);
+    header_fits(&added.header);
     if ends_with_key(octets.as_slice(), groups.as_slice(), key) {
         return append_record(added, octets);
     }
@@ -170,7 +187,7 @@ impl<A: Allocator + Copy> RecordStore<A> {
 
 impl<A: Allocator> RecordStore<A> {
     /// Adds a record after all others. Fails if there is no memory; the store is then unchanged.
-    pub fn add(&mut self, key: &[u8], added: &GroupRecord<'_>) -> Result<(), AllocError>
+    pub fn add(&mut self, key: &[u8], added: &GroupEntry<'_>) -> Result<(), AllocError>
         requires key { length key.now < 2 ^ 16 }
         requires rdata { length added.now.rdata.now < 2 ^ 16 }
         ensures ok { OnOk result (self.new ≡ self.old ++ added_record key.now (record_parts added.now) ∷ []) }

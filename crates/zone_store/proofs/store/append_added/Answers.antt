@@ -19,7 +19,7 @@ returns-then-ends_with_key-clause-ok g c =
     let groups = c.args.groups.now.items in
     let key = c.args.key.now in
     let r = record_parts c.args.added.now in
-    let fits : PartsFit r = record { code = c.numbers_fit.ensures.code; class = c.numbers_fit.ensures.class; ttl = c.numbers_fit.ensures.ttl; file = c.numbers_fit.ensures.file; offset = c.numbers_fit.ensures.offset; rdata = c.requires.rdata } in
+    let fits : PartsFit r = record { code = c.header_fits.ensures.rtype; class = c.header_fits.ensures.class; ttl = c.header_fits.ensures.ttl; file = c.header_fits.ensures.file; offset = c.header_fits.ensures.offset; rdata = c.requires.rdata } in
     let ends : EndsWithKey octets groups key =
     subst (λ (os : List ℕ). EndsWithKey os groups key) c.as_slice.ensures.value
     (subst (λ (gs : List Group). EndsWithKey c.as_slice.result.now gs key) c.as_slice-2.ensures.value (c.ends_with_key.ensures c.if-ends_with_key.true)) in
@@ -33,7 +33,7 @@ returns-clause-ok g c =
     let groups = c.args.groups.now.items in
     let key = c.args.key.now in
     let r = record_parts c.args.added.now in
-    let fits : PartsFit r = record { code = c.numbers_fit.ensures.code; class = c.numbers_fit.ensures.class; ttl = c.numbers_fit.ensures.ttl; file = c.numbers_fit.ensures.file; offset = c.numbers_fit.ensures.offset; rdata = c.requires.rdata } in
+    let fits : PartsFit r = record { code = c.header_fits.ensures.rtype; class = c.header_fits.ensures.class; ttl = c.header_fits.ensures.ttl; file = c.header_fits.ensures.file; offset = c.header_fits.ensures.offset; rdata = c.requires.rdata } in
     on_ok_both c.append_run.result
     (λ e f. subst (λ (os : List ℕ). StoresMore octets groups os c.append_run.new.groups.items (added_record key r)) (sym e)
     (subst (λ (gs : List Group). StoresMore octets groups (octets ++ 255 ∷ (counted_octets key ++ parts_octets r)) gs (added_record key r)) (sym f) (new_run octets groups key r c.requires.key fits c.requires.stored)))
