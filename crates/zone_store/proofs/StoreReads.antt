@@ -14,7 +14,7 @@ use Rattle.zone_store.specs.Stores.{added_record, records_at, stored_records, Ow
 use Rattle.zone_store.specs.declared.groups.Group.{Group}
 use Rattle.zone_store.proofs.PartsRead.{counted_first, counted_after, parts_all, parts_long}
 
--- a list of records is no longer than their octets
+-- a list of records is not longer than their octets
 records_short : (rs : List RecordParts) → length rs ≤ length (flat_map parts_octets rs)
 records_short [] = omega arith
 records_short (r ∷ rs) =

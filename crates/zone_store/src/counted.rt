@@ -8,7 +8,7 @@ use std::alloc::{AllocError, Allocator};
 /// Appends the length of octets, then the octets. A length below 255 is one octet; any other is the
 /// octet 255 and then two octets, the most significant first.
 ///
-/// Fails if there is no memory; the first octets may then have been appended.
+/// Fails without memory; the first octets may then have been appended.
 pub fn push_counted<A: Allocator>(octets: &[u8], out: &mut Vec<u8, A>) -> Result<(), AllocError>
     requires { length octets.now < 2 ^ 16 }
     ensures ok { OnOk result (out.new.items ≡ out.old.items ++ counted_octets octets.now) }

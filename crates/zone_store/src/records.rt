@@ -61,7 +61,7 @@ fn push_u64<A: Allocator>(number: u64, out: &mut Vec<u8, A>) -> Result<(), Alloc
     out.extend_from_slice(&number.to_be_bytes())
 }
 
-/// Appends the first octet of a record, its type, class and TTL. Fails if there is no memory; the
+/// Appends the first octet of a record, its type, class and TTL. Fails without memory; the
 /// first octets may then have been appended.
 fn push_header<A: Allocator>(added: &GroupEntry<'_>, out: &mut Vec<u8, A>) -> Result<(), AllocError>
     ensures ok { OnOk result (out.new.items ≡ out.old.items ++ header_octets (record_parts added.now)) }
@@ -73,7 +73,7 @@ fn push_header<A: Allocator>(added: &GroupEntry<'_>, out: &mut Vec<u8, A>) -> Re
     push_u32(added.header.ttl, out)
 }
 
-/// Appends the file and the offset of a record. Fails if there is no memory; the first octets may
+/// Appends the file and the offset of a record. Fails without memory; the first octets may
 /// then have been appended.
 fn push_position<A: Allocator>(
     added: &GroupEntry<'_>,
@@ -99,7 +99,7 @@ fn is_short(added: &GroupEntry<'_>) -> bool
         && added.header.class.0 == Class::IN.0
 }
 
-/// Appends the numbers of a short record. Fails if there is no memory; the first octets may then
+/// Appends the numbers of a short record. Fails without memory; the first octets may then
 /// have been appended.
 fn push_short<A: Allocator>(added: &GroupEntry<'_>, out: &mut Vec<u8, A>) -> Result<(), AllocError>
     requires code { added.now.header.rtype < 256 }
@@ -113,7 +113,7 @@ fn push_short<A: Allocator>(added: &GroupEntry<'_>, out: &mut Vec<u8, A>) -> Res
     push_u32(added.header.offset as u32, out)
 }
 
-/// Appends the numbers of any record. Fails if there is no memory; the first octets may then have
+/// Appends the numbers of any record. Fails without memory; the first octets may then have
 /// been appended.
 fn push_long<A: Allocator>(added: &GroupEntry<'_>, out: &mut Vec<u8, A>) -> Result<(), AllocError>
     ensures ok { OnOk result (out.new.items ≡ out.old.items ++ long_octets (record_parts added.now)) }
@@ -123,7 +123,7 @@ fn push_long<A: Allocator>(added: &GroupEntry<'_>, out: &mut Vec<u8, A>) -> Resu
     push_position(added, out)
 }
 
-/// Appends the numbers of a record. Fails if there is no memory; the first octets may then have
+/// Appends the numbers of a record. Fails without memory; the first octets may then have
 /// been appended.
 fn push_numbers<A: Allocator>(
     added: &GroupEntry<'_>,
@@ -142,7 +142,7 @@ fn push_numbers<A: Allocator>(
 /// Appends a record: its numbers, then its RDATA after the length
 /// ([`push_counted`](crate::push_counted)).
 ///
-/// Fails if there is no memory; the first octets of the record may then have been appended.
+/// Fails without memory; the first octets of the record may then have been appended.
 #[tactic(auto, unfolding(crate::specs::Parts::parts_octets))]
 pub fn push_record<A: Allocator>(
     added: &GroupEntry<'_>,

@@ -16,7 +16,7 @@ use std::marker::Model;
 /// First octet of a group.
 const GROUP: u8 = 255;
 
-/// Appends a record, or nothing if there is no memory.
+/// Appends a record, or nothing without memory.
 fn append_record<A: Allocator>(
     added: &GroupEntry<'_>,
     octets: &mut Vec<u8, A>,
@@ -33,8 +33,8 @@ fn append_record<A: Allocator>(
     Ok(())
 }
 
-/// Appends the first octet of a group, its key after the length, and its first record. Fails if
-/// there is no memory; the first octets may then have been appended.
+/// Appends the first octet of a group, its key after the length, and its first record. Fails
+/// without memory; the first octets may then have been appended.
 fn push_run<A: Allocator>(
     key: &[u8],
     added: &GroupEntry<'_>,
@@ -50,7 +50,7 @@ fn push_run<A: Allocator>(
     push_record(added, octets)
 }
 
-/// Adds a group, or nothing if there is no memory.
+/// Adds a group, or nothing without memory.
 fn push_group<A: Allocator>(
     key: &[u8],
     offset: usize,
@@ -68,7 +68,7 @@ fn push_group<A: Allocator>(
     Ok(())
 }
 
-/// Appends a group of one record and adds it to the groups, or does nothing if there is no memory.
+/// Appends a group of one record and adds it to the groups, or does nothing without memory.
 fn append_run<A: Allocator>(
     key: &[u8],
     added: &GroupEntry<'_>,
@@ -130,7 +130,7 @@ fn header_fits(header: &EntryHeader)
     );
 }
 
-/// Adds a record to the last group if that has its key, and else a group, or does nothing if there
+/// Adds a record to the last group if that has its key, and else a group, or does nothing without
 /// is no memory.
 fn append_added<A: Allocator>(
     key: &[u8],
@@ -186,7 +186,7 @@ impl<A: Allocator + Copy> RecordStore<A> {
 }
 
 impl<A: Allocator> RecordStore<A> {
-    /// Adds a record after all others. Fails if there is no memory; the store is then unchanged.
+    /// Adds a record after all others. Fails without memory; the store is then unchanged.
     pub fn add(&mut self, key: &[u8], added: &GroupEntry<'_>) -> Result<(), AllocError>
         requires key { length key.now < 2 ^ 16 }
         requires rdata { length added.now.rdata.now < 2 ^ 16 }

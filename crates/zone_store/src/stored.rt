@@ -23,7 +23,7 @@ pub struct StoredRecord<'a> {
 /// Appends a record: one octet for its header, one for its position, then its RDATA after the
 /// length ([`push_counted`](crate::push_counted)).
 ///
-/// Fails if there is no memory; the first octets of the record may then have been appended.
+/// Fails without memory; the first octets of the record may then have been appended.
 pub fn push_stored<A: Allocator>(
     header: u8,
     position: u8,
