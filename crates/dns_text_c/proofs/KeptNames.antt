@@ -1,5 +1,6 @@
 -- Names that are kept, and where a reader stands.
-use Rattle.std.proofs.Common.{◌≡◌, ◌≢◌, ℕ, ◌+◌, ◌≤◌, List, [], ◌∷◌, length, take, ap, ◌∙◌, refl, sym, subst, arith, Bool, true, false, true≢false, Option, Some, None, Result, Ok, Err}
+use Rattle.std.proofs.Common.{◌≡◌, ◌≢◌, ℕ, ◌+◌, ◌≤◌, List, [], ◌∷◌, ◌++◌, length, take, drop, ap, ◌∙◌, refl, sym, subst, arith, Bool, true, false, true≢false, Option, Some, None, Result, Ok, Err}
+use Rattle.std.proofs.Math.Seq.{drop-append_seam, take-append_seam}
 use Rattle.dns_fields.specs.declared.record_error.RecordError.{RecordError}
 use Rattle.dns_octets.specs.Room.{Room}
 use Rattle.dns_wire.specs.FromOctets.{MakesName}
@@ -79,3 +80,12 @@ origin_is_made (Some named) has_origin octets e h has makes = let one : Err e �
 pub no_origin : (origin : Option (List (List ℕ))) (has_origin : Bool) (octets : List ℕ) → OriginAppended origin has_origin octets → has_origin ≡ false → Unsaid ≡ said_origin origin
 no_origin None has_origin octets h has = refl
 no_origin (Some named) has_origin octets h has = absurd (true≢false (sym h.has ∙ has))
+
+-- what is cut of the octets is the file, and its origin behind it
+pub file_told : (file : ℕ) (has_origin : Bool) (octets front behind : List ℕ) (read : IsIncluded file has_origin octets) → front ≡ take file octets → behind ≡ drop file octets
+    → (front ≡ read.name) × OriginAppended read.origin has_origin behind
+file_told file has_origin octets front behind read first then = (
+  first ∙ ap (λ n. take n octets) read.count ∙ ap (take (length read.name)) read.both ∙ take-append_seam read.name read.behind,
+  subst (OriginAppended read.origin has_origin)
+      (sym (then ∙ ap (λ n. drop n octets) read.count ∙ ap (drop (length read.name)) read.both ∙ drop-append_seam read.name read.behind)) read.said,
+)

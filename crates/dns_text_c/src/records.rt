@@ -182,10 +182,10 @@ fn tell_given(
                 class: Class(0),
                 rtype: RecordType(0),
             };
-            let (file, origin) = include_parts(content, file);
-            let name = included_origin(has_origin, origin);
+            let (name, origin) = include_parts(content, file);
+            let known = included_origin(has_origin, origin);
             tell_found(
-                INCLUDE, reader, file, &name, head, zone, found, octets, outcome,
+                INCLUDE, reader, name, &known, head, zone, found, octets, outcome,
             )
         }
         Some(Ok(read)) => {
