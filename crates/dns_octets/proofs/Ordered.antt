@@ -1,4 +1,4 @@
--- The order of lists, where the lengths decide.
+-- The order of lists where one is a prefix of the other.
 use Rattle.std.proofs.Common.{◌≡◌, ℕ, ◌-◌, ◌<◌, List, [], ◌∷◌, length, drop, min, arith, length-drop}
 use Rattle.std.specs.Ordering.{nat_cmp}
 use Rattle.std.specs.declared.cmp.Ordering.TheVariants.{Less, Equal, Greater}
@@ -14,7 +14,7 @@ equal_to a b h = Prim.grind (arith, nat_tests)
 greater_than : (a b : ℕ) → b < a → nat_cmp a b ≡ Greater
 greater_than a b h = Prim.grind (arith, nat_tests)
 
--- where one list has ended, the lengths decide
+-- if one list has ended, the lengths decide
 pub order_end : (xs ys : List ℕ) (i : ℕ) → i ≡ min (length xs) (length ys) → nat_cmp (length xs) (length ys) ≡ lowered_order (drop i xs) (drop i ys)
 order_end xs ys i ended = by (drop i xs) (drop i ys) (length-drop i xs) (length-drop i ys)
   where

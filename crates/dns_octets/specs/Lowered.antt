@@ -1,4 +1,4 @@
--- How octets are compared where the case of letters doesn't count (RFC 4343).
+-- Comparison of octets without regard to the case of letters (RFC 4343).
 use Rattle.std.specs.Prelude.{ℕ, List, map, Bool, nat_eq}
 use Rattle.std.specs.List.{flat_map}
 use Rattle.std.specs.Hash.{HashWrites, u8 as write_u8}
@@ -11,14 +11,14 @@ use Rattle.std.specs.declared.cmp.Ordering.{Ordering}
 abbrev pub lowered : List ℕ → List ℕ
 lowered = map to_ascii_lowercase
 
--- equal but for the case of letters
+-- equal without regard to the case of letters
 abbrev pub same_lowered : List ℕ → List ℕ → Bool
 same_lowered a b = pointwise nat_eq (lowered a) (lowered b)
 
--- the order of the lowered octets, the first difference deciding
+-- the order of the lowered octets: by the first difference, or else by length
 abbrev pub lowered_order : List ℕ → List ℕ → Ordering
 lowered_order a b = slice_cmp nat_cmp (lowered a) (lowered b)
 
--- what a hasher is given: the lowered octets, one by one
+-- what a hasher is fed: the lowered octets, one by one
 abbrev pub hash_writes : List ℕ → HashWrites
 hash_writes octets = flat_map write_u8 (lowered octets)

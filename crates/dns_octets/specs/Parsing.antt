@@ -1,14 +1,14 @@
--- Octets and a place among them.
+-- Octets with an offset that separates the read ones from the unread ones.
 use Rattle.std.specs.Prelude.{ℕ, ◌+◌, List, drop}
 
 pub record Parsing : Type 0 where
   pub octets : List ℕ
   pub place : ℕ
 
--- the octets that are left
+-- the unread octets
 abbrev pub rest : Parsing → List ℕ
 rest p = drop p.place p.octets
 
--- the same octets, so many places on
+-- the same octets, with the offset increased by a count
 abbrev pub gone_on : ℕ → Parsing → Parsing
 gone_on count p = record p { place = p.place + count }

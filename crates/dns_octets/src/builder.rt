@@ -1,4 +1,4 @@
-//! Builders of octets.
+//! Traits of types that octets are appended to.
 ghost use Rattle.std.specs.Prelude.{◌≡◌, ℕ, ◌+◌, ◌-◌, ◌≤◌, ◌↔◌, [], ◌++◌, length, take, Bool, true, false, IsTrue, IfOk, IsOk, OnOk, OnErr};
 ghost use Rattle.dns_octets.specs.Room.{Room, exactly, of_memory};
 ghost use Rattle.arrayvec.specs.ArrayVec.{array_vec_len};
@@ -10,14 +10,15 @@ use std::alloc::Allocator;
 
 /// Octets that more octets can be appended to.
 ///
-/// Each such type has room for a number of octets that surely fit in all, and for a number that
-/// it holds at most. They are equal for a buffer of fixed size. A vector has 0 and the greatest
-/// `usize`, since it may find no memory.
+/// Each such type has two capacities: a guaranteed one, up to which every append succeeds, and a
+/// maximum, which its length never exceeds. They are equal for a buffer of fixed size. A vector
+/// guarantees 0 octets, since an allocation can fail; its maximum is the greatest `usize`.
 pub trait OctetsBuilder: AsOctets {
-    // How many octets surely fit in all, and how many it holds at most.
+    // The guaranteed and the maximum capacity, in octets.
     ghost room: { Room };
 
-    /// Appends all of the slice, or changes nothing.
+    /// Appends the whole slice. Fails with [`ShortBuf`] if the slice doesn't fit or an allocation
+    /// fails; then nothing is changed.
     fn append_slice(&mut self, slice: &[u8]) -> Result<(), ShortBuf>
         ensures ok { OnOk result (Self.octets self.new ≡ Self.octets self.old ++ slice.now) }
         ensures err { OnErr result (Self.octets self.new ≡ Self.octets self.old) }
@@ -25,19 +26,20 @@ pub trait OctetsBuilder: AsOctets {
         ensures within { OnOk result (length (Self.octets self.new) ≤ room.capacity) };
 }
 
-/// A builder that can be made with no octets in it.
+/// A builder that can be made empty.
 pub trait EmptyBuilder: OctetsBuilder + Sized {
-    /// What is allocated from, or `()` where nothing is.
+    /// The allocator, or `()` if the type doesn't allocate.
     type Alloc: Copy;
 
     // Whether `with_capacity` always succeeds.
     ghost takes_no_memory: { Bool };
 
-    /// A builder of no octets. It takes no memory.
+    /// Returns an empty builder, without allocating.
     fn empty(alloc: Self::Alloc) -> Self
         ensures { Self.octets result ≡ [] };
 
-    /// A builder of no octets, with room set aside for `capacity` where that can be done.
+    /// Returns an empty builder, with memory for `capacity` octets where the type can reserve it.
+    /// Fails with [`ShortBuf`] if the allocation fails.
     fn with_capacity(alloc: Self::Alloc, capacity: usize) -> Result<Self, ShortBuf>
         ensures value { IfOk result (λ b. Self.octets b ≡ []) }
         ensures succeeds { IsTrue takes_no_memory → IsOk result };
@@ -45,37 +47,37 @@ pub trait EmptyBuilder: OctetsBuilder + Sized {
 
 /// A builder that can be turned into finished octets.
 pub trait FreezeBuilder: AsOctets + Sized {
-    /// The finished octets.
+    /// The type of the finished octets.
     type Octets: AsOctets;
 
-    /// The same octets, finished.
+    /// Returns the builder's octets as the finished type.
     fn freeze(self) -> Self::Octets
         ensures { Self.Octets.octets result ≡ Self.octets self };
 }
 
 /// Octets that can be made from their builder.
 pub trait FromBuilder: AsOctets + Sized {
-    /// The builder.
+    /// The type of the builder.
     type Builder: AsOctets;
 
-    /// The builder's octets.
+    /// Returns the builder's octets.
     fn from_builder(builder: Self::Builder) -> Self
         ensures { Self.octets result ≡ Self.Builder.octets builder };
 }
 
 /// Octets that can be turned into their builder.
 pub trait IntoBuilder: AsOctets + Sized {
-    /// The builder.
+    /// The type of the builder.
     type Builder: AsOctets;
 
-    /// A builder of the same octets.
+    /// Returns a builder that holds the same octets.
     fn into_builder(self) -> Self::Builder
         ensures { Self.Builder.octets result ≡ Self.octets self };
 }
 
-/// Octets that can be cut short.
+/// Octets that can be truncated.
 pub trait Truncate: AsOctets {
-    /// Keeps the first `len` octets. A greater `len` changes nothing.
+    /// Truncates to the first `len` octets. Does nothing if there are no more than `len`.
     fn truncate(&mut self, len: usize)
         ensures { Self.octets self.new ≡ take len (Self.octets self.old) };
 }

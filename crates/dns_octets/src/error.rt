@@ -2,15 +2,15 @@
 
 use thiserror::Error;
 
-/// There was no room for the octets, or no memory.
+/// The buffer is too small, or an allocation failed.
 #[derive(Clone, Copy, Debug, PartialEq, Eq, Error)]
 #[error("buffer size exceeded")]
 pub struct ShortBuf;
 
-/// Why octets can't be read.
+/// The cause of a failed read.
 #[derive(Clone, Copy, Debug, PartialEq, Eq, Error)]
 pub enum ParseError {
-    /// Fewer octets are left than were asked for.
+    /// Fewer octets remain than were requested.
     #[error("unexpected end of input")]
     ShortInput,
 }

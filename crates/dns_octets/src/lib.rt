@@ -1,8 +1,9 @@
-//! The layer below the text of DNS: octets and the builders that make them.
+//! Octets, and traits of types that hold and build them: the base of all crates of presentation
+//! format.
 //!
-//! [`AsOctets`] is the one meaning that octets have here: a list, each of 0 to 255. Every builder
-//! trait stands on it. A builder is such a list, and a refused append changes nothing. [`lowered`]
-//! compares octets without the case of letters.
+//! [`AsOctets`] defines the octets of a value: a list of numbers from 0 to 255. Every builder trait
+//! extends it. A failed append doesn't change a builder. [`lowered`] compares octets without regard
+//! to the case of letters.
 #![tactic(auto)]
 
 pub mod builder;

@@ -1,21 +1,21 @@
-//! Octets compared without the case of letters.
+//! Comparison of octets without regard to the case of letters.
 //!
-//! Letters from A to Z count as their lower case, in character strings and in names alike
-//! (RFC 4343).
+//! The letters A to Z are compared as their lower case, in character strings and in names (RFC
+//! 4343).
 ghost use Rattle.std.specs.Prelude.{◌≡◌, fold};
 ghost use Rattle.dns_octets.specs.Lowered.{same_lowered, lowered_order, hash_writes};
 
 use std::cmp::Ordering;
 use std::hash::{Hash, Hasher};
 
-/// Whether the octets are the same but for the case of letters.
+/// Returns whether the octets are equal without regard to the case of letters.
 pub fn same_octets(left: &[u8], right: &[u8]) -> bool
     ensures { result ≡ same_lowered left.now right.now }
 {
     left.eq_ignore_ascii_case(right)
 }
 
-/// The order of the octets in lower case: the first difference decides, then the length.
+/// Compares the octets in lower case: by the first difference, or else by length.
 pub fn compare_lowered(left: &[u8], right: &[u8]) -> Ordering
     ensures { result ≡ lowered_order left.now right.now }
 {
@@ -31,7 +31,7 @@ pub fn compare_lowered(left: &[u8], right: &[u8]) -> Ordering
     left.len().cmp(&right.len())
 }
 
-/// Gives a hasher the octets in lower case, one by one.
+/// Feeds the octets in lower case to a hasher, one by one.
 pub fn hash_lowered<H: Hasher>(octets: &[u8], state: &mut H)
     ensures { state.new ≡ fold H.write state.old (hash_writes octets.now) }
 {

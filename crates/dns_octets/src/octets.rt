@@ -1,4 +1,4 @@
-//! Octets: what can be read as a slice, written over in place, or made from other octets.
+//! Traits of octets that can be read as a slice, overwritten in place, or copied from other octets.
 ghost use Rattle.std.specs.Prelude.{◌≡◌, ℕ, ◌<◌, ◌≤◌, ◌↔◌, List, length, All, IfOk, IsOk, refl};
 ghost use Rattle.std.specs.Borrow.{sem, Lends, Array, u8 as byte};
 ghost use Rattle.std.specs.Vec.{with_items};
@@ -15,18 +15,18 @@ pub trait AsOctets {
     // The octets.
     ghost octets: { Self → List ℕ };
 
-    /// The octets.
+    /// Returns the octets.
     fn as_slice(&self) -> &[u8]
         ensures value { result.now ≡ octets self.now }
         ensures bytes { All (λ b. b < 256) (octets self.now) };
 }
 
-/// Octets that can be written over in place. Their count stays.
+/// Octets that can be overwritten in place. Their number stays the same.
 pub trait AsOctetsMut: AsOctets {
-    // The value with other octets, as many as it had.
+    // The value with its octets replaced by the same number of octets.
     ghost with_octets: { Self → List ℕ → Self };
 
-    /// The octets, to be written over.
+    /// Returns the octets as a mutable slice.
     fn as_slice_mut(&mut self) -> &mut [u8]
         ensures* writes_back { sem 𝓛 (Lends Self.row (Array byte 0) self.entry result (with_octets self.old)) }
         ensures value { result.now ≡ Self.octets self.old };
@@ -34,22 +34,22 @@ pub trait AsOctetsMut: AsOctets {
     ghost octets_with: { (x : Self) (new : List ℕ) → Self.octets (with_octets x new) ≡ written_over (Self.octets x) new };
 }
 
-/// Octets that can be made from others.
+/// Octets that can be copied from octets of another type.
 pub trait OctetsFrom<S: AsOctets>: AsOctets + Sized {
-    /// What is allocated from, or `()` where nothing is.
+    /// The allocator, or `()` if the type doesn't allocate.
     type Alloc;
 
-    // How many octets surely fit, and how many it takes at most.
+    // The guaranteed and the maximum capacity, in octets.
     ghost room: { Room };
 
-    /// The same octets, or lack of room for them.
+    /// Copies the octets. Fails with [`ShortBuf`] if they don't fit or an allocation fails.
     fn try_octets_from(alloc: Self::Alloc, source: S) -> Result<Self, ShortBuf>
         ensures value { IfOk result (λ t. Self.octets t ≡ S.octets source) }
         ensures succeeds { length (S.octets source) ≤ room.fits → IsOk result }
         ensures within { IsOk result → length (S.octets source) ≤ room.capacity };
 }
 
-// The slice as it is, and that it has bytes.
+// Returns the slice, and states that its elements are octets.
 fn known_bytes(slice: &[u8]) -> &[u8]
     ensures value { result.now ≡ slice.now }
     ensures bytes { All (λ b. b < 256) slice.now }

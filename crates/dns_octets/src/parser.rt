@@ -1,13 +1,13 @@
-//! Reading octets from the front.
+//! A parser that reads octets from the beginning.
 ghost use Rattle.std.specs.Prelude.{◌≡◌, ◌∷◌, ◌≤◌, ◌<◌, ◌↔◌, length, take, IsOk, IfOk, is_ok, if◌then◌else◌};
 ghost use Rattle.dns_octets.specs.Parsing.{Parsing, rest, gone_on};
 
 pub use crate::error::ParseError;
 use std::marker::Model;
 
-/// A place among octets, before which everything has been read.
+/// A position among octets: all octets before it have been read.
 ///
-/// A call that is refused leaves the parser as it was.
+/// A failed call doesn't change the parser.
 #[derive(Drop)]
 pub struct Parser<'a> {
     octets: &'a [u8],
@@ -23,14 +23,14 @@ impl<'a> Model for Parser<'a> {
 }
 
 impl<'a> Parser<'a> {
-    /// A parser that stands before the first octet.
+    /// Returns a parser before the first octet.
     pub fn from_slice(octets: &'a [u8]) -> Self
         ensures { result ≡ record { octets = octets.now; place = 0 } }
     {
         Parser { octets, pos: 0 }
     }
 
-    /// How many octets have been read.
+    /// Returns the number of octets read, which is the offset of the next octet.
     pub fn pos(&self) -> usize
         ensures value { result ≡ self.now.place }
         ensures within { result ≤ length self.now.octets }
@@ -38,14 +38,14 @@ impl<'a> Parser<'a> {
         self.pos
     }
 
-    /// The octets that are left. They stay unread.
+    /// Returns the unread octets, without reading them.
     pub fn peek_all(&self) -> &'a [u8]
         ensures { result.now ≡ rest self.now }
     {
         &self.octets[self.pos..]
     }
 
-    /// Passes over `len` octets.
+    /// Skips `len` octets. Fails with [`ParseError::ShortInput`] if fewer remain.
     pub fn advance(&mut self, len: usize) -> Result<(), ParseError>
         ensures ok { IsOk result ↔ (len ≤ length (rest self.old)) }
         ensures moved { self.new ≡ (if is_ok result then gone_on len self.old else self.old) }
@@ -54,7 +54,7 @@ impl<'a> Parser<'a> {
         Ok(())
     }
 
-    /// Reads one octet.
+    /// Reads one octet. Fails with [`ParseError::ShortInput`] if none remains.
     pub fn parse_u8(&mut self) -> Result<u8, ParseError>
         ensures ok { IsOk result ↔ (1 ≤ length (rest self.old)) }
         ensures value { IfOk result (λ octet. rest self.old ≡ octet ∷ rest self.new) }
@@ -64,7 +64,7 @@ impl<'a> Parser<'a> {
         Ok(octets[0])
     }
 
-    /// Reads `len` octets.
+    /// Reads `len` octets. Fails with [`ParseError::ShortInput`] if fewer remain.
     pub fn parse_octets(&mut self, len: usize) -> Result<&'a [u8], ParseError>
         ensures ok { IsOk result ↔ (len ≤ length (rest self.old)) }
         ensures value { IfOk result (λ octets. octets.now ≡ take len (rest self.old)) }

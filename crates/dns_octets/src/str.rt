@@ -1,10 +1,10 @@
-//! Octets that are UTF-8.
+//! Octets that are valid UTF-8.
 ghost use Rattle.std.specs.Prelude.{◌≡◌, ℕ, List, IsUtf8, IsOk, IfOk, IfErr, IfOk, MatchResult};
 
 use crate::octets::AsOctets;
 use std::marker::Model;
 
-/// Octets that are UTF-8, always.
+/// Octets that are always valid UTF-8.
 #[derive(Drop)]
 pub struct Str<Octets: AsOctets> {
     octets: Octets,
@@ -19,7 +19,7 @@ impl<Octets: AsOctets> Model for Str<Octets> {
 }
 
 impl<Octets: AsOctets + Drop> Str<Octets> {
-    /// The octets as a text, or the octets back where they aren't UTF-8.
+    /// Returns the octets as a text, or the octets unchanged as the error if they aren't UTF-8.
     pub fn from_utf8(octets: Octets) -> Result<Self, Octets>
         ensures cases { MatchResult result (λ s. (s ≡ Octets.octets octets) × IsUtf8 (Octets.octets octets)) (λ o. (o ≡ octets) × (IsUtf8 (Octets.octets octets) → ⊥)) }
     {
@@ -31,15 +31,15 @@ impl<Octets: AsOctets + Drop> Str<Octets> {
 }
 
 impl<Octets: AsOctets> Str<Octets> {
-    /// The text.
+    /// Returns the text.
     pub fn as_str(&self) -> &str
         ensures { result.now ≡ self.now }
     {
-        // Every `Str` holds UTF-8, as its invariant says.
+        // Every `Str` holds UTF-8, by its invariant.
         unsafe { std::str::from_utf8_unchecked(self.octets.as_slice()) }
     }
 
-    /// The octets.
+    /// Returns the octets.
     pub fn into_octets(self) -> Octets
         ensures value { Octets.octets result ≡ self }
         ensures utf8 { IsUtf8 self }

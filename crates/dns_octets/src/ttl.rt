@@ -1,9 +1,9 @@
-//! Times to live.
+//! Time to live (TTL).
 ghost use Rattle.std.specs.Prelude.{◌≡◌, ◌<◌, ◌^◌, ℕ};
 
 use std::marker::Model;
 
-/// A time to live, in whole seconds (RFC 1035 section 3.2.1, RFC 2181 section 8).
+/// A TTL, in whole seconds (RFC 1035 section 3.2.1, RFC 2181 section 8).
 #[derive(Clone, Copy, Debug, PartialEq, Eq)]
 pub struct Ttl {
     secs: u32,
@@ -18,14 +18,14 @@ impl Model for Ttl {
 }
 
 impl Ttl {
-    /// So many seconds.
+    /// Returns a TTL of `secs` seconds.
     pub fn from_secs(secs: u32) -> Self
         ensures { result ≡ secs }
     {
         Ttl { secs }
     }
 
-    /// The seconds.
+    /// Returns the TTL in seconds.
     pub fn as_secs(&self) -> u32
         ensures { result ≡ self.now }
     {

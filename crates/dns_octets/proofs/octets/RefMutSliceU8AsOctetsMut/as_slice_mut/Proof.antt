@@ -1,4 +1,4 @@
--- The slice behind the reference is lent on, by hand: the borrow checker has no rule for `&mut **self` at a slice that is handed out.
+-- Proves the reborrow by hand: the checker has no rule for a returned `&mut **self` of a slice.
 use mathlib.Core.Path.{◌≡◌, refl, sym, ap}
 use Prim.Native.Nat.{ℕ}
 use mathlib.Core.List.{List, [], ◌∷◌}
