@@ -1,4 +1,4 @@
--- What a closure over symbols answers, by cases.
+-- The result of a closure over symbols, by cases.
 use Rattle.std.proofs.Common.{◌≡◌, sym, Result, Ok, Err, subst}
 use Rattle.std.specs.Prelude.{IsErrAnd}
 use Rattle.dns_symbol.specs.Symbols.{Answers, answer_of}

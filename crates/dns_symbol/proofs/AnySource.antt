@@ -1,4 +1,4 @@
--- A printed symbol is read back from any source of characters.
+-- A printed symbol is parsed as itself from any source of characters.
 use Rattle.std.proofs.Common.{◌≡◌, ℕ, true, List, [], ◌∷◌, ◌++◌, refl, sym, ap, ◌∙◌, append-nil, Option, Some, None, Result, Ok, Err, ◌⊎◌, inl, inr}
 use Rattle.std.specs.Prelude.{encode_utf8_all}
 use Rattle.std.specs.Iterator.{Yields, AlwaysYields}
@@ -16,7 +16,7 @@ no_item : (c : ℕ) (o : Option ℕ) → o ≡ None → o ≡ Some c → ⊥
 no_item c o none some = cc
 
 module _ {S : Type 0} (steps : S → Option ℕ → S → Type 0) where
-  -- of the characters that come first and those that were taken, one list begins the other
+  -- of the next characters and the consumed ones, one list is a prefix of the other
   along : (cs ds : List ℕ) (s t : S) → AlwaysBegins steps s cs → Yields steps s ds t
       → ((m : List ℕ) × (cs ≡ ds ++ m) × AlwaysBegins steps t m) ⊎ ((n : List ℕ) × (ds ≡ cs ++ n))
   along cs [] s t h k = inl (cs, refl, rw (← k) h)
@@ -36,7 +36,7 @@ module _ {S : Type 0} (steps : S → Option ℕ → S → Type 0) where
     | inr p ↦ (p.0, [], sym (p.1) ∙ sym (append-nil ds))
   ]
 
-  -- where the source ends, they were taken whole
+  -- if the source ends, they were consumed whole
   whole : (cs ds : List ℕ) (s t u : S) → AlwaysBegins steps s cs → Yields steps s ds t → steps t None u → (n : List ℕ) × (ds ≡ cs ++ n)
   whole cs ds s t u h k last = elim (along cs ds s t h k) [ inl p ↦ ended p.0 p.1 p.2 | inr p ↦ p ]
     where
@@ -47,7 +47,7 @@ module _ {S : Type 0} (steps : S → Option ℕ → S → Type 0) where
   encoded : (x : Symbol) (n : List ℕ) → encode_utf8_all (spell x ++ n) ≡ bytes x ++ encode_utf8_all n
   encoded x n = encodes-append (spell x) n
 
-  -- whatever one reading answers, it is the symbol, and its characters were taken
+  -- whatever the result of one parse, it is the symbol, and its characters were consumed
   pub read_from_any : (x : Symbol) (s t : S) (q : Result (Option Symbol) SymbolCharsError) → is_readable x ≡ true → AlwaysBegins steps s (spell x)
       → ReadsSymbol steps s q t → (q ≡ Ok (Some x)) × Yields steps s (spell x) t
   read_from_any x s t (Ok None) are h k = absurd (never x h)
@@ -70,7 +70,7 @@ module _ {S : Type 0} (steps : S → Option ℕ → S → Type 0) where
       let e = meet (spell x) k.0 s t h k.2 in
       absurd (k.1.5 e.1 e.0 x are (sym e.2))
 
-  -- characters that the source always gives, and those after them
+  -- characters that the source always yields, and those after them
   pub begins_of : (cs rest : List ℕ) (s : S) → AlwaysYields steps (λ c. c) s (cs ++ rest) → AlwaysBegins steps s cs
   begins_of [] rest s h = tt
   begins_of (c ∷ cs) rest s h = λ o t k. one (λ t e. begins_of cs rest t e) o t k

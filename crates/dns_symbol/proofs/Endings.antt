@@ -1,4 +1,4 @@
--- Where the symbols of a text end by an error: a cut escape, or a refused one.
+-- Symbols of a text that end with an error: a cut escape, or an invalid one.
 use Rattle.std.proofs.Common.{◌≡◌, ℕ, ◌<◌, true, false, List, [], ◌∷◌, ◌++◌, length, drop, refl, sym, ap, ◌∙◌, arith, append_assoc, length-append, Some, ⊎_elim}
 use Rattle.std.specs.Prelude.{slice_index, encode_utf8_all, ◌==◌, nat_lt}
 use Rattle.std.specs.Char.{encode_utf8}
@@ -53,7 +53,7 @@ digit_at (w ∷ []) h = (λ k. absurd (omega arith), λ k. absurd (omega arith))
 digit_at (w ∷ x ∷ []) h = (λ k. (and_parts _ _ h).0, λ k. absurd (omega arith))
 digit_at (w ∷ x ∷ y ∷ rest) h = (λ k. (and_parts _ _ h).0, λ k. (and_parts _ _ (and_parts _ _ h).1).0)
 
--- a front of a cut escape, with a character, is one
+-- a prefix of a cut escape, with at least one character, is a cut escape
 cut_front : (text more : List ℕ) → 0 < length text → is_cut_escape (text ++ more) ≡ true → is_cut_escape text ≡ true
 cut_front [] more some h = absurd (omega arith)
 cut_front (x ∷ xs) more some h =
@@ -75,7 +75,7 @@ cut_ends text cut =
     let e = escape_short text f.0 f.1 f.2 d.0 d.1 in
     (f.1, e.0, sym (cond-true _ _ _ cut))
 
--- refused characters begin with no symbol either, however they go on
+-- rejected characters begin with no symbol either, whatever follows them
 pub refused_ends : (taken more : List ℕ) → IsRefusedAt taken → EndsAs (encode_utf8_all (taken ++ more)) (Some BadEscape)
 refused_ends taken more refused =
     let text = encode_utf8_all (taken ++ more) in

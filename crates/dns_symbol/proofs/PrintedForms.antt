@@ -1,4 +1,4 @@
--- What is printed is read: the symbols of octets in a printed form.
+-- What is printed is parsed: the symbols of octets in a printed form.
 use Rattle.std.proofs.Common.{◌≡◌, ℕ, ◌<◌, Bool, true, false, List, [], ◌∷◌, ◌++◌, map, All, refl, sym, ap, ◌∙◌, arith, append-nil, append_assoc, None, Ok}
 use Rattle.std.specs.Prelude.{encode_utf8_all, if◌then◌else◌}
 use Rattle.std.specs.List.{flat_map, list_all}
@@ -13,7 +13,7 @@ use Rattle.dns_symbol.specs.Text.{SymbolsOf}
 use Rattle.dns_symbol.specs.Printed.{symbol_of, text_of, IsReadBack, is_unquoted_escape, is_quoted_escape, is_plain_escape}
 use Rattle.dns_symbol.specs.declared.symbol.Symbol.TheVariants.{Char, SimpleEscape, DecimalEscape}
 
--- a form that escapes the backslash, and simply only what is no digit
+-- a form that escapes the backslash, and escapes no digit simply
 pub record IsForm (is_escape : ℕ → Bool) : Type 0 where
   pub backslash : is_escape 92 ≡ true
   pub no_digits : (o : ℕ) → is_escape o ≡ true → is_digit o ≡ false
@@ -28,7 +28,7 @@ pub unquoted_form : IsForm is_unquoted_escape
 unquoted_form = record { backslash = refl; no_digits = λ o e. Prim.grind (arith, nat_tests) }
 
 module _ (is_escape : ℕ → Bool) where
-  -- each octet's symbol stands for it
+  -- the symbol of each octet has that octet as its value
   pub printed_octet : (o : ℕ) → octet_of (symbol_of is_escape o) ≡ Ok o
   printed_octet o = by_tests (is_printable o) (is_escape o) refl
     where

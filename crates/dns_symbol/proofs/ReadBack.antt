@@ -1,4 +1,4 @@
--- A printed symbol is read back.
+-- A printed symbol is parsed as itself.
 use Rattle.std.proofs.Common.{◌≡◌, ℕ, ◌+◌, true, List, [], ◌∷◌, ◌++◌, length, drop, refl, sym, ap, ◌∙◌, arith, append-nil, length-append, Option, Some, None, Result, Ok, Err}
 use Rattle.std.specs.Prelude.{encode_utf8_all}
 use Rattle.std.specs.Str.Iter.{chars_steps, chars_rest}
@@ -16,7 +16,7 @@ use Rattle.dns_symbol.proofs.Endings.{cut_ends, cut_ascii}
 use Rattle.dns_symbol.proofs.Agree.{Chars-Yields, Chars-end, Chars-all, drop_front}
 use Rattle.dns_symbol.proofs.Readers.{reads_same}
 
--- of two lists of characters whose bytes stand at the front of one text, one begins the other
+-- of two lists of characters whose bytes both begin one text, one is a prefix of the other
 meets : (xs ys a b : List ℕ) → encode_utf8_all xs ++ a ≡ encode_utf8_all ys ++ b → (m : List ℕ) × (n : List ℕ) × (xs ++ m ≡ ys ++ n)
 meets [] ys a b h = (ys, [], sym (append-nil ys))
 meets (x ∷ xs) [] a b h = ([], x ∷ xs, append-nil (x ∷ xs))

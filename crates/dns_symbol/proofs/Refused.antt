@@ -1,4 +1,4 @@
--- The beginnings of escapes, and the characters that end them.
+-- The prefixes of escapes, and the characters that end them.
 use Rattle.std.proofs.Common.{◌≡◌, ℕ, ◌+◌, ◌*◌, ◌/◌, ◌%◌, ◌<◌, ◌≤◌, ◌⊎◌, inl, inr, true, false, [], ◌∷◌, refl, arith, ⊎_elim, subst, Option, Some}
 use Rattle.std.specs.Char.{IsDigitOf}
 use Rattle.std.proofs.lemmas.Bool.{cases_lt}
@@ -15,7 +15,7 @@ cut_one a p = rw p refl
 pub cut_two : (a b : ℕ) → is_digit a ≡ true → is_digit b ≡ true → is_cut_escape (92 ∷ a ∷ b ∷ []) ≡ true
 cut_two a b p q = rw (p, q) refl
 
--- a plain character is no backslash
+-- a plain character isn't a backslash
 no_plain : (x : ℕ) → is_readable (Char x) ≡ true → x ≡ 92 → ⊥
 no_plain x h e = grind (arith, nat_tests)
 
@@ -38,7 +38,7 @@ refused_second c out =
     let no : is_digit c ≡ false = grind (arith, nat_tests) in
     (92 ∷ [], c, refl, refl, rw no refl, none_second c out)
 
--- after a backslash and one digit, a character that is no digit
+-- after a backslash and one digit, a character that isn't a digit
 none_third : (a c : ℕ) → is_digit a ≡ true → is_digit c ≡ false → CharsBeginNone (92 ∷ a ∷ c ∷ [])
 none_third a c p out more rest (Char x) h e = let f : x ≡ 92 = cc e in no_plain x h f
 none_third a c p out more rest (SimpleEscape o) h e = let f : o ≡ a = cc e in no_digit o a h p f
@@ -50,7 +50,7 @@ none_third a c p out more rest (DecimalEscape o) h e =
 pub refused_third : (a c : ℕ) → is_digit a ≡ true → is_digit c ≡ false → IsRefusedAt (92 ∷ a ∷ c ∷ [])
 refused_third a c p out = (92 ∷ a ∷ [], c, cut_one a p, refl, rw (p, out) refl, none_third a c p out)
 
--- after a backslash and two digits, a character that is no digit
+-- after a backslash and two digits, a character that isn't a digit
 none_fourth : (a b c : ℕ) → is_digit a ≡ true → is_digit c ≡ false → CharsBeginNone (92 ∷ a ∷ b ∷ c ∷ [])
 none_fourth a b c p out more rest (Char x) h e = let f : x ≡ 92 = cc e in no_plain x h f
 none_fourth a b c p out more rest (SimpleEscape o) h e = let f : o ≡ a = cc e in no_digit o a h p f
@@ -62,7 +62,7 @@ none_fourth a b c p out more rest (DecimalEscape o) h e =
 pub refused_fourth : (a b c : ℕ) → is_digit a ≡ true → is_digit b ≡ true → is_digit c ≡ false → IsRefusedAt (92 ∷ a ∷ b ∷ c ∷ [])
 refused_fourth a b c p q out = (92 ∷ a ∷ b ∷ [], c, cut_two a b p q, refl, refl, none_fourth a b c p out)
 
--- three digits whose value is no octet
+-- three digits whose value exceeds 255
 none_value : (a b c : ℕ) → a < 10 → b < 10 → c < 10 → 255 < a * 100 + b * 10 + c → CharsBeginNone (92 ∷ (48 + a) ∷ (48 + b) ∷ (48 + c) ∷ [])
 none_value a b c p q r over more rest (Char x) h e = let f : x ≡ 92 = cc e in no_plain x h f
 none_value a b c p q r over more rest (SimpleEscape o) h e =

@@ -1,4 +1,4 @@
--- Octets that a text spells: each in one way, and none where no escape begins.
+-- Octets that a text spells: each in one way, and none if no escape begins.
 use Rattle.std.proofs.Common.{ℕ, ◌≡◌, ◌≢◌, ◌+◌, ◌/◌, ◌%◌, ◌<◌, Bool, true, false, List, ◌++◌, length, refl, ap, arith}
 use Rattle.std.specs.Prelude.{slice_index, if◌then◌else◌}
 use Rattle.std.proofs.lemmas.Bool.Decides.{nat_tests}
@@ -23,7 +23,7 @@ no_digit o n h k e = let low : n < 256 = grind (arith, nat_tests) in let few : n
 digits_same : (o n : ℕ) → 48 + o / 100 ≡ 48 + n / 100 → 48 + o / 10 % 10 ≡ 48 + n / 10 % 10 → 48 + o % 10 ≡ 48 + n % 10 → o ≡ n
 digits_same o n p q r = omega (arith, p, q, r)
 
--- what is spelled in front of a text
+-- the symbol that is spelled at the beginning of a text
 pub spell_same : (x y : Symbol) (a b : List ℕ) → is_spelling x ≡ true → is_spelling y ≡ true → spell x ++ a ≡ spell y ++ b → (x ≡ y) × (a ≡ b)
 spell_same (Char c) (Char d) a b p q h = (cc, cc)
 spell_same (Char c) (SimpleEscape o) a b p q h = absurd (no_backslash c p (cc))

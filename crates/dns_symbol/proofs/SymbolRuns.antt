@@ -1,4 +1,4 @@
--- What an iterator over symbols gives is the symbols of its source's characters.
+-- An iterator over symbols yields the symbols of its source's characters.
 use Rattle.std.proofs.Common.{◌≡◌, ℕ, true, List, [], ◌∷◌, ◌++◌, refl, sym, ap, subst, ◌∙◌, append_assoc, append-nil, Option, Some, None, Result, Ok, Err}
 use Rattle.std.specs.Prelude.{encode_utf8_all}
 use Rattle.std.specs.List.{flat_map, list_all}
@@ -37,7 +37,7 @@ module _ {S : Type 0} (steps : S → Option ℕ → S → Type 0) where
   joined [] ys s t u p q = subst (λ v. Yields steps v ys u) (sym p) q
   joined (x ∷ xs) ys s t u p q = (p.0, p.1, joined xs ys p.0 t u p.2 q)
 
-  -- readable symbols were taken from s, and the source goes on
+  -- readable symbols were consumed from s, without an error
   abbrev Taken : List Symbol → S → Result S SymbolCharsError → Type 0
   Taken symbols s u = (t : S) × (u ≡ Ok t) × (list_all is_readable symbols ≡ true) × Yields steps s (flat_map spell symbols) t
 
@@ -47,7 +47,7 @@ module _ {S : Type 0} (steps : S → Option ℕ → S → Type 0) where
       (m.0, m.1, rw (g.0, m.2) refl, joined (spell x) (flat_map spell xs) s j m.0 g.1 m.3)
   taken_first x xs s u (Err e) g others = absurd g
 
-  -- the symbols given are readable, and their spellings were taken
+  -- the yielded symbols are readable, and their spellings were consumed
   pub taken_of : (symbols : List Symbol) (s : S) (u : Result S SymbolCharsError) → Yields (GivesSymbol steps) (Ok s) symbols u → Taken symbols s u
   taken_of [] s u h = (s, sym h, refl, refl)
   taken_of (x ∷ xs) s u h = taken_first x xs s u h.0 h.1 (λ t is. taken_of xs t u (subst (λ j. Yields (GivesSymbol steps) j xs u) is h.2))
@@ -74,7 +74,7 @@ module _ {S : Type 0} (steps : S → Option ℕ → S → Type 0) where
             (symbols_before symbols (refused ++ more) (Some BadEscape) are (refused_ends refused more h.1.1)),
       )
 
-  -- all that calls gave, up to the end
+  -- all that calls yielded, up to the end
   pub source_symbols : (s : S) (symbols : List Symbol) (u : Result S SymbolCharsError) → YieldsThen (GivesSymbol steps) (Ok s) symbols None u
       → HasSymbols steps s symbols (error_of u)
   source_symbols s symbols u h =

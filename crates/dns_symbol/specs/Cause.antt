@@ -1,4 +1,4 @@
--- Why a scanner refused.
+-- The cause of a scanner's error.
 use Rattle.std.specs.Prelude.{ℕ, List, Result, IsErrAnd, ◌≡◌}
 
 -- which call made an error of a scanner
@@ -8,6 +8,6 @@ pub data Cause : Type 0 where
   short_buf : Cause
   trailing_tokens : Cause
 
--- a refusal made by that call
+-- an error made by that call
 abbrev pub IsCause : {E V : Type 0} → (E → Cause) → Result V E → Cause → Type 0
 IsCause cause r c = IsErrAnd r (λ e. cause e ≡ c)

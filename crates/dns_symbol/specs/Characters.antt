@@ -1,4 +1,4 @@
--- The characters of zone text by name, as code points, which are their octets too.
+-- The characters of zone files by name, as code points, which are their octets too.
 use Rattle.std.specs.Prelude.{ℕ}
 
 abbrev pub tab : ℕ

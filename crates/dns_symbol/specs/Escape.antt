@@ -18,7 +18,7 @@ escape_symbol e = if e.is_decimal then DecimalEscape e.octet else SimpleEscape e
 abbrev pub BeginsNoEscape : EscapeRule → List ℕ → Type 0
 BeginsNoEscape rule text = (s : Symbol) (rest : List ℕ) → is_escape_by rule s ≡ true → text ≢ spell s ++ rest
 
--- the escape that a text begins with, or why it begins with none
+-- the escape that a text begins with, or the error
 abbrev pub ReadsEscape : EscapeRule → List ℕ → Result EscapedOctet SymbolCharsError → Type 0
 ReadsEscape rule text (Ok e) = (is_escape_by rule (escape_symbol e) ≡ true) × (text ≡ spell (escape_symbol e) ++ drop (length (spell (escape_symbol e))) text)
 ReadsEscape rule text (Err e) = BeginsNoEscape rule text × (e ≡ chars_error text)
@@ -29,7 +29,7 @@ octet_for (Char o) = o
 octet_for (SimpleEscape o) = o
 octet_for (DecimalEscape o) = o
 
--- an octet is spelled by itself, but for the backslash, or by an escape, which may be of any octet
+-- an octet is spelled by itself, except the backslash, or by an escape, which may be of any octet
 abbrev pub is_spelling : Symbol → Bool
 is_spelling (Char o) = not (o == backslash)
 is_spelling (SimpleEscape o) = is_escape_by AnyOctet (SimpleEscape o)

@@ -27,7 +27,7 @@ symbol_of is_escape o = if is_printable o then (if is_escape o then SimpleEscape
 abbrev pub text_of : (ℕ → Bool) → List ℕ → List ℕ
 text_of is_escape = flat_map (λ o. spell (symbol_of is_escape o))
 
--- the text of octets in that form has as its symbols just theirs, and these stand for the octets
+-- the text of octets in that form has just their symbols, whose values are the octets
 pub record IsReadBack (is_escape : ℕ → Bool) (octets : List ℕ) : Type 0 where
   pub read : SymbolsOf (encode_utf8_all (text_of is_escape octets)) (map (symbol_of is_escape) octets) None
   pub given : map octet_of (map (symbol_of is_escape) octets) ≡ map Ok octets

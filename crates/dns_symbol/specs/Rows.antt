@@ -1,4 +1,4 @@
--- Worked rows of the definitions, each computed.
+-- Computed examples of the definitions.
 use Rattle.std.specs.Prelude.{◌≡◌, true, false, [], ◌∷◌, map, None, Ok, Err, codes, refl}
 use Rattle.std.specs.Char.{encode_utf8}
 use Rattle.dns_symbol.specs.Symbol.{spell, is_escape_by, is_readable, octet_of, ascii_of, char_of, digit_of, is_word_char, stands_in_word}
@@ -39,7 +39,7 @@ escapes_any : map (is_escape_by AnyOctet) (SimpleEscape 32 ∷ SimpleEscape 126 
     ≡ true ∷ true ∷ false ∷ true ∷ true ∷ true ∷ true ∷ false ∷ false ∷ []
 escapes_any = refl
 
--- ---- what symbols stand for
+-- ---- values of symbols
 
 octet_rows : map octet_of (Char 126 ∷ Char 233 ∷ Char 6 ∷ SimpleEscape 46 ∷ DecimalEscape 200 ∷ []) ≡ Ok 126 ∷ Err NonAscii ∷ Err NonAscii ∷ Ok 46 ∷ Ok 200 ∷ []
 octet_rows = refl

@@ -1,18 +1,18 @@
-//! Symbols read from characters.
+//! Parses symbols from characters.
 ghost use Rattle.dns_symbol.specs.Reading.{ReadsSymbol, TakesOnFrom};
 
 use crate::symbol::{Symbol, SymbolCharsError};
 
 impl Symbol {
-    /// Reads a symbol from characters, and takes no more of them than it needs.
+    /// Parses a symbol from characters, and consumes no more of them than needed.
     ///
-    /// Where no character is left, there is none. A first character other than a backslash is
-    /// itself the symbol. After a backslash, a digit needs two more digits and a value of at
-    /// most 255, and any other character must be one of 0x20 to 0x7E.
+    /// Returns `None` if no character remains. A first character other than a backslash is the
+    /// symbol itself. After a backslash, a digit has to be followed by two more digits, and the
+    /// three to have a value of at most 255; any other character has to be from 0x20 to 0x7E.
     ///
-    /// The end of the input inside an escape is `ShortInput`. A wrong character or a value above
-    /// 255 is `BadEscape`, and the characters are then taken up to and with the one that was
-    /// refused.
+    /// Fails with `ShortInput` if the input ends inside an escape. Fails with `BadEscape` if a
+    /// character is wrong or the value exceeds 255; the characters up to and including the rejected
+    /// one are then consumed.
     pub fn from_chars<C: Iterator<Item = char>>(
         chars: &mut C,
     ) -> Result<Option<Symbol>, SymbolCharsError>

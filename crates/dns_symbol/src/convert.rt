@@ -1,36 +1,36 @@
-//! Converters: from the symbols of tokens to octets.
+//! Converters from the symbols of tokens to octets, such as decoders.
 ghost use Rattle.std.specs.Prelude.{◌≡◌, ◌≢◌, ℕ, List, [], Result, IfOk, IfSome};
 ghost use Rattle.dns_symbol.specs.Convert.{handed, lent_octets};
 
-/// Makes octets of symbols, some at a time, as a decoder does.
+/// Converts symbols to octets, step by step, as a decoder does.
 ///
-/// A converter's author writes `take_symbol`, `take_tail` and `lent`. The octets that a step makes
-/// stand in the converter, and `lent` hands them out until the next step. `process_symbol` and
-/// `process_tail` take a step and hand out its octets in one call.
+/// A type that implements this trait has `take_symbol`, `take_tail` and `lent`. The converter
+/// stores the octets of its last step, and `lent` returns them until the next step.
+/// `process_symbol` and `process_tail` make a step and return its octets in one call.
 pub trait ConvertSymbols<Sym, Error>: Drop {
-    // The octets that the last step made.
+    // The octets of the last step.
     ghost lends: { Self → List ℕ };
 
-    // The state before, the symbol, the octets made or the refusal, and the state after.
+    // The state before, the symbol, the octets produced or the error, and the state after.
     ghost takes: { Self → Sym → Result (List ℕ) Error → Self → Type 0 };
 
-    // The state before, the octets made or the refusal once all symbols are taken, and the state
-    // after.
+    // The state before, the octets or the error at the end of the symbols, and the state after.
     ghost tail: { Self → Result (List ℕ) Error → Self → Type 0 };
 
-    /// Takes a symbol, or refuses it.
+    /// Converts a symbol, or rejects it.
     fn take_symbol(&mut self, symbol: Sym) -> Result<(), Error>
         ensures { takes self.old symbol (handed result (lends self.new)) self.new };
 
-    /// Takes the end of the symbols, or refuses it.
+    /// Ends the conversion after the last symbol, or rejects the end.
     fn take_tail(&mut self) -> Result<(), Error>
         ensures { tail self.old (handed result (lends self.new)) self.new };
 
-    /// The octets that the last step made, none where it made none.
+    /// Returns the octets of the last step; they are empty if it produced none.
     fn lent(&self) -> &[u8]
         ensures { result.now ≡ lends self.now };
 
-    /// Takes a symbol and lends the octets that it makes, if it makes any.
+    /// Converts a symbol and returns the octets that it produces, or `None` if it produces none.
+    /// Fails as `take_symbol` does.
     final fn process_symbol(&mut self, symbol: Sym) -> Result<Option<&[u8]>, Error>
         ensures answer { (after : Self) × takes self.old symbol (lent_octets result) after }
         ensures some { IfOk result (λ octets. IfSome octets (λ o. o.now ≢ [])) }
@@ -43,7 +43,8 @@ pub trait ConvertSymbols<Sym, Error>: Drop {
         Ok(Some(octets))
     }
 
-    /// Takes the end of the symbols and lends the octets that it makes, if it makes any.
+    /// Ends the conversion and returns the octets that the end produces, or `None` if it produces
+    /// none. Fails as `take_tail` does.
     final fn process_tail(&mut self) -> Result<Option<&[u8]>, Error>
         ensures answer { (after : Self) × tail self.old (lent_octets result) after }
         ensures some { IfOk result (λ octets. IfSome octets (λ o. o.now ≢ [])) }

@@ -1,4 +1,4 @@
-//! Why no symbol is read, why one isn't what was asked for, and what an error of a scanner is.
+//! Errors of parsing symbols, of converting a symbol, and of scanners.
 ghost use Rattle.std.specs.Prelude.{◌≡◌, Some};
 ghost use Rattle.dns_symbol.specs.Symbol.{chars_error_text, octets_error_text, bad_symbol_text};
 ghost use Rattle.dns_symbol.specs.Cause.{Cause, custom_text, end_of_entry, short_buf, trailing_tokens};
@@ -6,10 +6,10 @@ ghost use Rattle.dns_symbol.specs.Cause.{Cause, custom_text, end_of_entry, short
 use std::error::Error;
 use std::fmt;
 
-/// Why no symbol can be read from characters.
+/// The error if no symbol can be parsed from characters.
 #[derive(Clone, Copy, Debug, PartialEq, Eq)]
 pub enum SymbolCharsError {
-    /// A backslash is followed by what makes no escape.
+    /// A backslash isn't followed by an escape.
     BadEscape,
 
     /// The input ends inside an escape.
@@ -17,7 +17,7 @@ pub enum SymbolCharsError {
 }
 
 impl SymbolCharsError {
-    /// The text that the error prints as.
+    /// Returns the text that the error prints as.
     pub fn as_str(self) -> &'static str
         ensures { result.now ≡ chars_error_text self }
     {
@@ -38,13 +38,13 @@ impl fmt::Display for SymbolCharsError {
 
 impl Error for SymbolCharsError {}
 
-/// Why no symbol can be read from octets.
+/// The error if no symbol can be parsed from octets.
 #[derive(Clone, Copy, Debug, PartialEq, Eq)]
 pub enum SymbolOctetsError {
-    /// The octets are no UTF-8 encoding of a character.
+    /// The octets aren't the UTF-8 encoding of a character.
     BadUtf8,
 
-    /// A backslash is followed by what makes no escape.
+    /// A backslash isn't followed by an escape.
     BadEscape,
 
     /// The octets end inside an escape, or inside what may become a character.
@@ -52,7 +52,7 @@ pub enum SymbolOctetsError {
 }
 
 impl SymbolOctetsError {
-    /// The text that the error prints as.
+    /// Returns the text that the error prints as.
     pub fn as_str(self) -> &'static str
         ensures { result.now ≡ octets_error_text self }
     {
@@ -74,24 +74,24 @@ impl fmt::Display for SymbolOctetsError {
 
 impl Error for SymbolOctetsError {}
 
-/// Why a symbol doesn't stand for what was asked of it.
+/// The error if a symbol has no value of the requested kind.
 #[derive(Clone, Copy, Debug, PartialEq, Eq)]
 pub enum BadSymbol {
     /// The symbol is outside printable ASCII.
     NonAscii,
 
-    /// The symbol is an escape without a character.
+    /// The symbol is an escape that denotes no character.
     NonUtf8,
 
-    /// The symbol is no digit of the base.
+    /// The symbol isn't a digit of the base.
     NonDigit,
 
-    /// The symbol is an escape where a plain character is wanted.
+    /// The symbol is an escape where a plain character is required.
     Escape,
 }
 
 impl BadSymbol {
-    /// The text that the error prints as.
+    /// Returns the text that the error prints as.
     pub fn as_str(self) -> &'static str
         ensures { result.now ≡ bad_symbol_text self }
     {
@@ -114,24 +114,24 @@ impl fmt::Display for BadSymbol {
 
 impl Error for BadSymbol {}
 
-/// An error of a scanner. It tells which of these calls made it.
+/// An error of a scanner, which records which of these calls made it.
 pub trait ScannerError: Error {
-    // Which call made the error, and the text of `custom`.
+    // The call that made the error, and the text of `custom`.
     ghost cause: { Self → Cause };
 
-    /// An error with a text of the caller's.
+    /// Returns an error with the caller's text.
     fn custom(msg: &'static str) -> Self
         ensures { cause result ≡ custom_text msg.now };
 
-    /// No token was left where one was asked for.
+    /// Returns the error if a token was requested and none is left.
     fn end_of_entry() -> Self
         ensures { cause result ≡ end_of_entry };
 
-    /// There was no room for the octets, or no memory.
+    /// Returns the error if a buffer is too small or an allocation failed.
     fn short_buf() -> Self
         ensures { cause result ≡ short_buf };
 
-    /// Tokens were left where none was expected.
+    /// Returns the error if tokens are left where the entry should end.
     fn trailing_tokens() -> Self
         ensures { cause result ≡ trailing_tokens };
 }

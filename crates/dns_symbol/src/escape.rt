@@ -1,7 +1,7 @@
 //! Escapes among octets: a backslash, and an octet or three digits (RFC 1035 section 5.1).
 //!
-//! Whatever reads an escape of octets calls [`first_escape`] with the rule of its text. From
-//! characters `Symbol::from_chars` reads them.
+//! Every parser of escapes in octets calls [`first_escape`] with the rule of its text.
+//! `Symbol::from_chars` parses escapes in characters.
 ghost use Rattle.std.specs.Prelude.{◌≡◌, ◌<◌, ◌≤◌, length, slice_index, IfOk};
 ghost use Rattle.dns_symbol.specs.Characters.{backslash};
 ghost use Rattle.dns_symbol.specs.Escape.{ReadsEscape, escape_symbol};
@@ -10,28 +10,28 @@ ghost use Rattle.dns_symbol.specs.Symbol.{is_digit, may_be_escaped, spell};
 use crate::error::SymbolCharsError;
 use crate::symbol::Symbol;
 
-/// Which octets may stand after a backslash. A digit never does, since it begins a number.
+/// Which octets may follow a backslash. A digit never may, since it begins a number.
 #[derive(Clone, Copy)]
 pub enum EscapeRule {
-    /// Those from the space to the tilde, as in symbols.
+    /// The octets from the space to the tilde, as in symbols.
     Printable,
 
-    /// All, as name servers read the octets of names and character strings.
+    /// All octets, as name servers read names and character strings.
     AnyOctet,
 }
 
 /// An octet that is written as an escape.
 #[derive(Clone, Copy)]
 pub struct EscapedOctet {
-    /// The octet.
+    /// The value of the escape.
     pub octet: u8,
 
-    /// Whether three digits tell it, and not the octet itself.
+    /// Whether it is written as three digits (`\DDD`), and not as the octet itself (`\X`).
     pub is_decimal: bool,
 }
 
 impl EscapedOctet {
-    /// How many octets the escape has.
+    /// Returns the length of the escape in octets.
     #[inline(always)]
     pub fn len(self) -> usize
         ensures { result ≡ length (spell (escape_symbol self)) }
@@ -39,7 +39,7 @@ impl EscapedOctet {
         if self.is_decimal { 4 } else { 2 }
     }
 
-    /// The escape as a symbol.
+    /// Returns the escape as a symbol.
     #[inline(always)]
     pub fn symbol(self) -> Symbol
         ensures { result ≡ escape_symbol self }
@@ -51,20 +51,20 @@ impl EscapedOctet {
     }
 }
 
-/// Returns the escape that a text begins with, whose first octet is a backslash.
+/// Parses the escape at the beginning of a text whose first octet is a backslash.
 ///
-/// A backslash and three digits are the octet of that number, and a backslash and an octet other
-/// than a digit are that octet, where the rule allows it.
+/// A backslash and three digits denote the octet of that number. A backslash and an octet other
+/// than a digit denote that octet, if the rule allows it.
 ///
-/// A backslash with at most two digits before the end is `ShortInput`. What else makes no escape
-/// is `BadEscape`.
+/// Fails with `ShortInput` if the text ends after the backslash and at most two digits. Fails with
+/// `BadEscape` if the backslash begins no escape for another reason.
 #[inline]
 pub fn first_escape(rule: EscapeRule, text: &[u8]) -> Result<EscapedOctet, SymbolCharsError>
     requires some { 0 < length text.now }
     requires lead { slice_index text.now 0 ≡ backslash }
     ensures reads { ReadsEscape rule text.now result }
 
-    // For callers' loops: the escape ends no further than the text.
+    // For callers' loops: the escape doesn't extend beyond the text.
     ensures goes { IfOk result (λ e. length (spell (escape_symbol e)) ≤ length text.now) }
 {
     if text.len() < 2 {
@@ -111,7 +111,7 @@ fn is_digit(octet: u8) -> bool
     octet.is_ascii_digit()
 }
 
-// Whether an octet other than a digit may stand after a backslash.
+// Returns whether the octet, if it isn't a digit, may follow a backslash.
 #[inline(always)]
 fn may_be_escaped(rule: EscapeRule, octet: u8) -> bool
     ensures { result ≡ may_be_escaped rule octet }

@@ -1,4 +1,4 @@
-//! The forms in which octets are printed, and printing in blocks.
+//! The forms in which octets are printed, and functions that print octets in a form.
 ghost use Rattle.std.specs.Prelude.{◌≡◌, ℕ, ◌+◌, ◌*◌, ◌<◌, ◌≤◌, Bool, All, ◌++◌, length, take, encode_utf8_all};
 ghost use Rattle.std.specs.Fmt.{WritesOnOk};
 ghost use Rattle.std.specs.Str.{IsAscii};
@@ -9,16 +9,16 @@ ghost use Rattle.dns_symbol.specs.Printed.{symbol_of, text_of, is_unquoted_escap
 use crate::symbol::Symbol;
 use std::{fmt, str};
 
-/// A form in which octets are printed, told by which of them it escapes simply.
+/// A form in which octets are printed, defined by which of them it escapes simply.
 ///
-/// It prints those of 0x20 to 0x7E that it escapes as a backslash and the character, the others
-/// as the character alone, and all other octets as a backslash and three decimal digits (RFC 1035
-/// section 5.1).
+/// An octet from 0x20 to 0x7E is printed as a backslash and the character if the form escapes it,
+/// and else as the character alone. All other octets are printed as a backslash and three decimal
+/// digits (RFC 1035 section 5.1).
 pub trait Form {
-    // Which of the octets from 0x20 to 0x7E the form escapes simply.
+    // Which octets from 0x20 to 0x7E the form escapes simply.
     ghost is_escape: { ℕ → Bool };
 
-    /// Whether the form escapes an octet simply, if it is one of 0x20 to 0x7E.
+    /// Returns whether the form escapes an octet from 0x20 to 0x7E simply.
     fn is_escape(octet: u8) -> bool
         ensures { result ≡ is_escape octet };
 }
@@ -36,7 +36,7 @@ impl Form for Unquoted {
     }
 }
 
-/// The form between double quotes: it escapes the double quote and the backslash.
+/// The form of a quoted string: it escapes the double quote and the backslash.
 pub struct Quoted;
 
 impl Form for Quoted {
@@ -48,7 +48,7 @@ impl Form for Quoted {
     }
 }
 
-/// The form in which no character but the backslash is special.
+/// The form of plain display: it escapes the backslash alone.
 pub struct Plain;
 
 impl Form for Plain {
@@ -60,13 +60,14 @@ impl Form for Plain {
     }
 }
 
-// How many octets are turned into text at a time.
+// Number of octets that are formatted at a time.
 const BLOCK: usize = 64;
 
-// The most characters of a block: four of each octet.
+// Maximum number of characters of a block: four for each octet.
 const TEXT: usize = 256;
 
-/// Prints octets in a form, without the formatter's width. The only error is the formatter's.
+/// Prints octets in a form, without regard to the formatter's width. Fails only if the formatter's
+/// writer fails.
 pub fn write_octets<F: Form, W: fmt::Write>(octets: &[u8], f: &mut fmt::Formatter<W>) -> fmt::Result
     ensures { WritesOnOk W.write_str_gives f.old result (encode_utf8_all (text_of F.is_escape octets.now)) f.new }
 {
@@ -78,7 +79,7 @@ pub fn write_octets<F: Form, W: fmt::Write>(octets: &[u8], f: &mut fmt::Formatte
     Ok(())
 }
 
-/// ASCII as text.
+/// Returns ASCII octets as text.
 pub fn ascii_text(bytes: &[u8]) -> &str
     requires { IsAscii bytes.now }
     ensures { result.now ≡ bytes.now }
@@ -87,8 +88,8 @@ pub fn ascii_text(bytes: &[u8]) -> &str
     unsafe { str::from_utf8_unchecked(bytes) }
 }
 
-/// Puts the characters of octets in a form into a text at a place, and returns the place after
-/// them. There has to be room for four characters of each octet.
+/// Writes octets in a form into a text at an offset, and returns the offset after them. The text
+/// must have at least four octets from there for each octet.
 pub fn put_octets<F: Form>(octets: &[u8], text: &mut [u8], at: usize) -> usize
     requires room { at + 4 * length octets.now ≤ length text.old }
     ensures text { take result text.new ≡ take at text.old ++ text_of F.is_escape octets.now }
@@ -102,7 +103,7 @@ pub fn put_octets<F: Form>(octets: &[u8], text: &mut [u8], at: usize) -> usize
     end
 }
 
-// Puts the characters of an octet into a text at a place, and returns the place after them.
+// Writes an octet in a form into a text at an offset, and returns the offset after it.
 #[inline(always)]
 fn put_octet<F: Form>(octet: u8, text: &mut [u8], at: usize) -> usize
     requires room { at + 4 ≤ length text.old }
@@ -123,8 +124,8 @@ fn put_octet<F: Form>(octet: u8, text: &mut [u8], at: usize) -> usize
     }
 }
 
-/// Puts a backslash and the three decimal digits of an octet into a text at a place, and returns
-/// the place after them.
+/// Writes a backslash and the three decimal digits of an octet into a text at an offset, and
+/// returns the offset after them.
 #[inline(always)]
 pub fn put_decimal(octet: u8, text: &mut [u8], at: usize) -> usize
     requires room { at + 4 ≤ length text.old }

@@ -1,4 +1,4 @@
-//! The symbols of an iterator over characters.
+//! An iterator over the symbols of an iterator over characters.
 ghost use Rattle.std.specs.Prelude.{◌≡◌, Result, IfOk, IsOk};
 ghost use Rattle.std.specs.Fn.{FnOnceTakesAtMut};
 ghost use Rattle.dns_symbol.specs.declared.error.SymbolCharsError.{SymbolCharsError};
@@ -8,16 +8,16 @@ use crate::symbol::{Symbol, SymbolCharsError};
 use std::alloc::AllocError;
 use std::marker::Model;
 
-/// The symbols of an iterator over characters, one after another.
+/// An iterator over the symbols of an iterator over characters.
 ///
-/// An error ends it, and it stays ended: [`Symbols::ok`] tells afterwards whether one came.
+/// It ends at the first error, for good: [`Symbols::ok`] returns that error afterwards.
 #[derive(Debug, Drop)]
 pub struct Symbols<Chars> {
     // The characters, or the error that ended the symbols.
     chars: Result<Chars, SymbolCharsError>,
 }
 
-/// In a contract it is the source of characters, or the error that ended it.
+/// In contracts: the source of characters, or the error that ended the symbols.
 impl<Chars> Model for Symbols<Chars> {
     ghost Value = { Result Chars SymbolCharsError };
 
@@ -25,24 +25,24 @@ impl<Chars> Model for Symbols<Chars> {
 }
 
 impl<Chars: Iterator<Item = char>> Symbols<Chars> {
-    /// The symbols of some characters.
+    /// Returns an iterator over the symbols of some characters.
     pub fn new(chars: Chars) -> Self
         ensures { result ≡ Ok chars }
     {
         Symbols { chars: Ok(chars) }
     }
 
-    /// The error that ended the symbols, if a call of `next` has met one.
+    /// Fails with the error that ended the symbols, if a call of `next` has met one.
     pub fn ok(self) -> Result<(), SymbolCharsError>
         ensures { result ≡ answer_of self }
     {
         self.chars.map(|_| ())
     }
 
-    /// Lets a closure use the symbols of some characters.
+    /// Calls a closure with an iterator over the symbols of some characters.
     ///
-    /// An error of the closure is returned first, then the error that ended the symbols where
-    /// the closure came to it, and else the closure's value.
+    /// Returns the closure's error if it fails, else the error that ended the symbols if the
+    /// closure met one, and else the closure's value.
     pub fn with<F, T, E>(chars: Chars, op: F) -> Result<T, E>
     where
         F: FnOnce(&mut Self) -> Result<T, E>,
@@ -57,7 +57,7 @@ impl<Chars: Iterator<Item = char>> Symbols<Chars> {
         Ok(value)
     }
 
-    /// The same symbols from here on, from a clone of the characters.
+    /// Clones the iterator. Fails if the clone of the characters fails.
     pub fn clone(&self) -> Result<Self, AllocError>
     where
         Chars: Clone,

@@ -1,11 +1,11 @@
-//! Characters outside ASCII at the start of octets, by their UTF-8 encoding (RFC 3629).
+//! Decodes a character outside ASCII at the beginning of octets (UTF-8, RFC 3629).
 ghost use Rattle.std.specs.Prelude.{◌≡◌, ◌<◌, ◌≤◌, [], ◌∷◌, length, slice_index, IfOk};
 ghost use Rattle.std.specs.List.{list_all};
 ghost use Rattle.dns_symbol.specs.Index.{ReadsFirst, IsEncoded, BeginsAsCharacter, octets_error, is_continuation, needed};
 
 use crate::symbol::{Symbol, SymbolOctetsError};
 
-// The character outside ASCII that a text begins with, and its length.
+// Returns the character outside ASCII at the beginning of a text, and its length.
 pub(crate) fn first_character(text: &[u8]) -> Result<(Symbol, usize), SymbolOctetsError>
     requires some { 0 < length text.now }
     requires wide { 128 ≤ slice_index text.now 0 }
@@ -25,7 +25,7 @@ pub(crate) fn first_character(text: &[u8]) -> Result<(Symbol, usize), SymbolOcte
     }
 }
 
-// Why a lead with too few octets after it begins no character.
+// Returns the error if too few octets follow a lead octet.
 fn cut_error(text: &[u8]) -> SymbolOctetsError
     requires some { 0 < length text.now }
     requires lead { 192 ≤ slice_index text.now 0 }
@@ -39,7 +39,7 @@ fn cut_error(text: &[u8]) -> SymbolOctetsError
     }
 }
 
-// The character that a lead and as many octets as it needs are the encoding of.
+// Returns the character that a lead octet and the octets that it requires encode.
 fn whole_character(text: &[u8]) -> Option<char>
     requires some { 0 < length text.now }
     requires lead { 192 ≤ slice_index text.now 0 }
@@ -54,8 +54,8 @@ fn whole_character(text: &[u8]) -> Option<char>
     }
 }
 
-// How many octets a lead needs in all. One of 0xF8 or more begins no character, but it is told
-// from a cut one only where three octets stand.
+// Returns the total number of octets that a lead octet requires. One of 0xF8 or more begins no
+// character; 3 is the length below which it is reported as a short input.
 fn octets_needed(lead: u8) -> usize
     ensures { result ≡ needed lead }
 {
