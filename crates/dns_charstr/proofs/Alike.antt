@@ -1,4 +1,4 @@
--- Comparisons of lists, and where they tie.
+-- Comparisons of lists, and when they tie.
 use Rattle.std.proofs.Common.{◌≡◌, ℕ, true, List, refl, sym, ap, ◌∙◌}
 use Rattle.std.specs.Prelude.{nat_eq}
 use Rattle.std.specs.Ordering.{nat_cmp, is_eq}
@@ -19,7 +19,7 @@ tied_same a b h = texts_ties a b ∙ ap is_eq h
 pub same_tied : (a b : List ℕ) → pointwise nat_eq a b ≡ true → slice_cmp nat_cmp a b ≡ Equal
 same_tied a b h = equal_is (slice_cmp nat_cmp a b) (sym (texts_ties a b) ∙ h)
 
--- two lists whose wire forms tie are the same list
+-- two lists whose wire formats tie are the same list
 pub wire_tied : (a b : List ℕ) → slice_cmp nat_cmp (wire_of a) (wire_of b) ≡ Equal → a ≡ b
 wire_tied a b h =
     let same : wire_of a ≡ wire_of b = same_text (wire_of a) (wire_of b) (sym (tied_same (wire_of a) (wire_of b) h)) in cc

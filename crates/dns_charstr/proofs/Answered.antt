@@ -1,4 +1,4 @@
--- A text has one answer.
+-- A text has at most one list of octets, and parsing it returns them if they fit.
 use Rattle.std.proofs.Common.{◌≡◌, ℕ, suc, ◌<◌, ◌≤◌, List, [], ◌∷◌, ◌++◌, length, map, refl, sym, ap, ◌∙◌, arith, length-append, Some, None, Result, Ok, Err, inl, inr, ⊎_elim, ◌⊎◌}
 use Rattle.dns_octets.specs.Room.{Room}
 use Rattle.dns_symbol.specs.Symbol.{octet_of}
@@ -10,7 +10,7 @@ use Rattle.dns_charstr.specs.declared.charstr.error.FromStrError.{FromStrError}
 use Rattle.dns_charstr.specs.declared.charstr.error.FromStrError.TheVariants.{Presentation, ShortBuf}
 use Rattle.dns_charstr.specs.declared.charstr.error.PresentationError.TheVariants.{LongString, SymbolChars, BadSymbol as Bad}
 
--- there are as many symbols as octets
+-- the symbols are equal in number to the octets
 pub octets_count : (symbols : List Symbol) (octets : List ℕ) → map octet_of symbols ≡ map Ok octets → length symbols ≡ length octets
 octets_count [] [] h = refl
 octets_count [] (o ∷ os) h = cc
@@ -49,7 +49,7 @@ octet_next text octets begun x whole part =
     let same = (symbols_same text whole.symbols (part.front ++ x ∷ part.others) None part.error whole.read part.read).0 in
     octets_each part.front x part.others octets (sym (ap (map octet_of) same) ∙ whole.octets_are)
 
--- a text whose symbols all have octets is read as these, or more octets than surely fit were needed
+-- a text whose symbols all have octets is parsed as these, or they exceed the guaranteed capacity
 pub read_or_short : (room : Room) (text octets : List ℕ) (r : Result (List ℕ) FromStrError) → ReadsText room text r → HasOctets text octets
     → length octets ≤ 255 → (r ≡ Ok octets) ⊎ ((r ≡ Err ShortBuf) × (room.fits < length octets))
 read_or_short room text octets (Ok os) h whole short = inl (ap Ok (one_list text os octets h.0 whole))
@@ -62,7 +62,7 @@ read_or_short room text octets (Err (Presentation (Bad e))) h whole short =
 read_or_short room text octets (Err ShortBuf) h whole short =
     inr (refl, omega (arith, count_before text octets h.0 h.1 whole h.3, h.7))
 
--- so it is read where its octets surely fit
+-- so it is parsed if its octets fit the guaranteed capacity
 pub whole_is_read : (room : Room) (text octets : List ℕ) (r : Result (List ℕ) FromStrError) → ReadsText room text r → HasOctets text octets
     → length octets ≤ room.fits → length octets ≤ 255 → r ≡ Ok octets
 whole_is_read room text octets r h whole fits short =

@@ -1,4 +1,4 @@
--- A text of octets has one answer.
+-- Parsing a text of octets returns them if they fit, and has at most one result.
 use Rattle.std.proofs.Common.{◌≡◌, ℕ, ◌<◌, ◌≤◌, ◌⊎◌, true, false, List, [], length, refl, sym, ap, ◌∙◌, arith, Option, Some, None, Result, Ok, Err, inl, inr, ⊎_elim}
 use Rattle.std.specs.Prelude.{nat_lt, ◌&&◌, if◌then◌else◌}
 use Rattle.std.proofs.lemmas.Bool.Decides.{nat_tests}
@@ -11,7 +11,7 @@ use Rattle.dns_charstr.specs.declared.charstr.error.FromStrError.TheVariants.{Pr
 use Rattle.dns_charstr.specs.declared.charstr.error.PresentationError.TheVariants.{LongString, SymbolChars, BadSymbol as Bad}
 use Rattle.dns_charstr.proofs.OctetSpellings.{spells_one, spells_longer, spells_all, empty_none, OctetsEnd, end_stops, AllOf}
 
--- a text that is all spelled octets is read as these, or more octets than surely fit were needed
+-- a text that is all spelled octets is parsed as these, or they exceed the guaranteed capacity
 pub octets_or_short : (room : Room) (text octets : List ℕ) (r : Result (List ℕ) FromStrError) → ReadsOctetText room text r → SpellsOctets text octets []
     → length octets ≤ 255 → (r ≡ Ok octets) ⊎ ((r ≡ Err ShortBuf) × (room.fits < length octets))
 octets_or_short room text octets (Ok os) h whole short = inl (ap Ok (spells_one text os octets h.0 whole))
@@ -24,7 +24,7 @@ octets_or_short room text octets (Err (Presentation (Bad e))) h whole short = ab
 octets_or_short room text octets (Err ShortBuf) h whole short =
     inr (refl, omega (arith, spells_longer h.0 octets text h.1.rest [] h.1.after h.1.next h.1.front whole empty_none h.1.goes_on, h.4))
 
--- so it is read where its octets surely fit
+-- so it is parsed if its octets fit the guaranteed capacity
 pub octets_are_read : (room : Room) (text octets : List ℕ) (r : Result (List ℕ) FromStrError) → ReadsOctetText room text r → SpellsOctets text octets []
     → length octets ≤ room.fits → length octets ≤ 255 → r ≡ Ok octets
 octets_are_read room text octets r h whole fits short =
@@ -34,7 +34,7 @@ abbrev ended : List ℕ → Option SymbolCharsError → Result (List ℕ) FromSt
 ended octets None = Ok octets
 ended octets (Some e) = Err (Presentation (SymbolChars e))
 
--- the answer where `size` octets fit, to all that a text spells
+-- the result for all that a text spells, if `size` octets fit
 abbrev answer : ℕ → List ℕ → Option SymbolCharsError → Result (List ℕ) FromStrError
 answer size octets error = if nat_lt size 255 && nat_lt size (length octets) then Err ShortBuf else (if nat_lt 255 (length octets) then Err (Presentation LongString) else ended octets error)
 

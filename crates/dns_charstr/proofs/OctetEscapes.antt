@@ -12,7 +12,7 @@ use Rattle.dns_symbol.specs.declared.error.SymbolCharsError.{SymbolCharsError}
 use Rattle.dns_symbol.proofs.Spelled.{escape_spelling, escaped_octet_is, no_spelling}
 use Rattle.dns_charstr.specs.OctetText.{SpellsOctet, SpellsNone}
 
--- an octet that is no backslash
+-- an octet other than the backslash
 pub spells_plain : (text : List ℕ) → 0 < length text → (slice_index text 0 ≡ 92 → ⊥) → SpellsOctet text (slice_index text 0) (drop 1 text)
 spells_plain text some isnt = record { symbol = Char (slice_index text 0); spelling = grind (arith, nat_tests); whole = drop_more text 0 0 some; stands_for = refl }
 

@@ -1,4 +1,4 @@
--- Worked rows: texts of octets that are read and refused.
+-- Computed examples: texts of octets that are parsed and rejected.
 use Rattle.std.proofs.Common.{◌≡◌, ℕ, ◌<◌, false, [], ◌∷◌, ◌++◌, List, arith, refl, Err}
 use Rattle.std.specs.Prelude.{codes}
 use Rattle.std.proofs.lemmas.Bool.Decides.{nat_tests}
@@ -30,7 +30,7 @@ as_themselves = (_, itself 9 _ (λ e. omega (arith, e)), (_, itself 128 _ (λ e.
 after_a_backslash : SpellsOctets (codes "\\a\\" ++ 9 ∷ codes "\\" ++ 255 ∷ codes "\\\\") (97 ∷ 9 ∷ 255 ∷ 92 ∷ []) []
 after_a_backslash = (_, escaped 97 _ refl, (_, escaped 9 _ refl, (_, escaped 255 _ refl, (_, escaped 92 _ refl, refl))))
 
--- by its number, of which three digits are read
+-- by its number, of which three digits are parsed
 by_its_number : SpellsOctets (codes "\\0097") (9 ∷ 55 ∷ []) []
 by_its_number = (_, numbered 9 _ (omega arith), (_, itself 55 _ (λ e. omega (arith, e)), refl))
 
@@ -50,7 +50,7 @@ cut_off = (
 above_255 : ReadsOctetText (exactly 255) (codes "\\256") (Err (Presentation (SymbolChars BadEscape)))
 above_255 = ([], record { rest = codes "\\256"; front = refl; stops = spells_no_escape (codes "\\256") BadEscape (omega arith) refl (great_number AnyOctet (codes "\\256") refl (omega arith) refl (omega arith)) }, omega arith, omega arith)
 
--- no room for the second octet
+-- the second octet doesn't fit
 no_room : ReadsOctetText (exactly 1) (9 ∷ 10 ∷ []) (Err ShortBuf)
 no_room = (
   9 ∷ [],

@@ -21,7 +21,7 @@ spells_same text m n o p h k =
 spells_shorter : (text rest : List ℕ) (o : ℕ) → SpellsOctet text o rest → length rest < length text
 spells_shorter text rest o h = omega (arith, ap length h.whole, length-append (spell h.symbol) rest, spell_some h.symbol)
 
--- no text is no spelling
+-- the empty text isn't a spelling
 pub empty_none : (o : ℕ) (rest : List ℕ) → SpellsOctet [] o rest → ⊥
 empty_none o rest h = omega (arith, spells_shorter [] rest o h)
 
@@ -30,7 +30,7 @@ pub spells_one_more : (text octets rest after : List ℕ) (octet : ℕ) → Spel
 spells_one_more text [] rest after octet h next = (after, rw h next, refl)
 spells_one_more text (o ∷ os) rest after octet h next = (h.0, h.1, spells_one_more h.0 os rest after octet h.2 next)
 
--- of all that a text spells, up to where no octet is spelled, any octets are the first ones
+-- of all that a text spells, up to the first part that spells none, any octets are the first ones
 pub spells_others : (octets all text rest end : List ℕ) → SpellsOctets text octets rest → SpellsOctets text all end
     → ((o : ℕ) (after : List ℕ) → SpellsOctet end o after → ⊥) → (more : List ℕ) × (all ≡ octets ++ more) × SpellsOctets rest more end
 spells_others [] all text rest end h k stop = (all, refl, subst (λ t. SpellsOctets t all end) h k)
@@ -50,7 +50,7 @@ spells_one text xs ys h k = let others = spells_others xs ys text [] [] h k empt
     none_left [] e s = sym (e ∙ append-nil xs)
     none_left (o ∷ os) e s = absurd (empty_none o s.0 s.1)
 
--- where another octet is spelled, there are more
+-- if another octet is spelled, there are more
 pub spells_longer : (octets all text rest end after : List ℕ) (o : ℕ) → SpellsOctets text octets rest → SpellsOctets text all end
     → ((o : ℕ) (after : List ℕ) → SpellsOctet end o after → ⊥) → SpellsOctet rest o after → length octets < length all
 spells_longer octets all text rest end after o h k stop next = let others = spells_others octets all text rest end h k stop in some_left others.0 others.1 others.2
@@ -59,7 +59,7 @@ spells_longer octets all text rest end after o h k stop next = let others = spel
     some_left [] e s = absurd (stop o after (subst (λ t. SpellsOctet t o after) s next))
     some_left (x ∷ xs) e s = omega (arith, ap length e, length-append octets (x ∷ xs))
 
--- and where none is, there are no more
+-- if the text continues with no spelling, there are no more octets
 pub spells_all : (octets all text rest end : List ℕ) → SpellsOctets text octets rest → SpellsOctets text all end
     → ((o : ℕ) (after : List ℕ) → SpellsOctet end o after → ⊥) → ((o : ℕ) (after : List ℕ) → SpellsOctet rest o after → ⊥) → (all ≡ octets) × (rest ≡ end)
 spells_all octets all text rest end h k stop none = let others = spells_others octets all text rest end h k stop in none_left others.0 others.1 others.2
@@ -82,7 +82,7 @@ first_or_none : (text : List ℕ) → 0 < length text → First text
 first_or_none text some =
     ⊎_elim (λ lead. escaped_or_none text some lead) (λ isnt. inl (_, _, spells_plain text some isnt)) (cases_eq (slice_index text 0) 92)
 
--- where the octets of a text end: at its end, or before what spells none
+-- the end of the octets of a text: its end, or the first part that spells none
 abbrev pub OctetsEnd : List ℕ → Option SymbolCharsError → Type 0
 OctetsEnd end None = end ≡ []
 OctetsEnd end (Some e) = SpellsNone end e

@@ -1,4 +1,4 @@
--- Where it is known how many octets fit, a text has one answer.
+-- If the capacity is known exactly, parsing a text has one result.
 use Rattle.std.proofs.Common.{◌≡◌, ℕ, ◌+◌, ◌<◌, ◌≤◌, Bool, true, false, List, [], ◌∷◌, ◌++◌, length, map, refl, sym, ap, ◌∙◌, arith, append_assoc, append-nil, length-append, Option, Some, None}
 use Rattle.std.proofs.Common.{Result, Ok, Err}
 use Rattle.std.specs.Prelude.{◌==◌, nat_le}
@@ -18,14 +18,14 @@ use Rattle.dns_charstr.specs.declared.charstr.error.PresentationError.TheVariant
 abbrev Answer : Type 0
 Answer = Result (List ℕ) FromStrError
 
--- what a symbol leads to: a refusal, or what its octet leads to
+-- what a symbol leads to: an error, or what its octet leads to
 abbrev took : (full short : Bool) → Result ℕ BadSymbol → (ℕ → Answer) → Answer
 took true short octet more = Err (Presentation LongString)
 took false short (Err e) more = Err (Presentation (Bad e))
 took false true (Ok o) more = Err ShortBuf
 took false false (Ok o) more = more o
 
--- the octets of some symbols after others, or the first refusal, where `room` octets fit
+-- the octets of some symbols after others, or the first error, if `room` octets fit
 abbrev answer : ℕ → List ℕ → List Symbol → Option SymbolCharsError → Answer
 answer size before [] None = Ok before
 answer size before [] (Some e) = Err (Presentation (SymbolChars e))
@@ -71,7 +71,7 @@ module _ (size : ℕ) where
       let b : nat_le size (length before) ≡ true = grind (arith, nat_tests) in
       rw (a, is, b) refl
 
-  -- the answer to all symbols, by what stands after those whose octets fit
+  -- the result of all symbols, by what follows those whose octets fit
   after : (text : List ℕ) (symbols front rest : List Symbol) (error e : Option SymbolCharsError) (os : List ℕ) → SymbolsOf text symbols error
       → SymbolsOf text (front ++ rest) e → map octet_of front ≡ map Ok os → length os ≤ 255 → length os ≤ size
       → answer size [] symbols error ≡ answer size os rest e

@@ -28,7 +28,7 @@ use Rattle.dns_charstr.specs.declared.charstr.error.FromStrError.{FromStrError}
 use Rattle.dns_charstr.specs.declared.charstr.error.FromStrError.TheVariants.{Presentation, ShortBuf}
 use Rattle.dns_charstr.specs.declared.charstr.error.PresentationError.TheVariants.{LongString, SymbolChars, BadSymbol as Bad}
 
--- a symbol that stands for an octet spells it
+-- a symbol whose value is an octet spells that octet
 pub symbol_spells : (x : Symbol) (o : ℕ) (rest : List ℕ) → is_readable x ≡ true → octet_of x ≡ Ok o → SpellsOctet (bytes x ++ rest) o rest
 symbol_spells (Char c) o rest r is = by_test (is_printable c) refl is
   where
@@ -102,7 +102,7 @@ first_shown : (text : List ℕ) → 0 < length text → Printable text → is_pr
 first_shown [] some p = absurd (omega (arith, some))
 first_shown (o ∷ os) some p = printable_first o os p
 
--- a symbol among printable octets stands for one
+-- a symbol among printable octets has an octet
 symbol_has_octet : (text rest : List ℕ) (x : Symbol) → Printable text → BeginsWith text x rest → (o : ℕ) × (octet_of x ≡ Ok o)
 symbol_has_octet text rest (Char c) p b = (c, rw shown refl)
   where
@@ -140,7 +140,7 @@ are_symbols (o ∷ os) text rest p h =
 left_printable : (octets text rest : List ℕ) → Printable text → HasRead text octets rest → Printable rest
 left_printable octets text rest p read = printable_rest (flat_map bytes read.front) rest (subst Printable read.spelled p)
 
--- the same where no symbol and no octet is next
+-- the same if no symbol and no octet is next
 none_of_characters : (rest : List ℕ) (e : SymbolCharsError) → Printable rest → EndsAs rest (Some e) → SpellsNone rest e
 none_of_characters rest e p h = record { some = h.0; none = λ o after s. let b = spelling_begins rest after o p s in h.1 b.0 after b.1; why = h.2 }
 
@@ -161,7 +161,7 @@ until_of_octets text octets e p h =
     let read = are_symbols octets text h.rest p h.front in
     read_broken text octets h.rest e read (none_of_octets h.rest e (left_printable octets text h.rest p read) h.stops)
 
--- and where one is
+-- and if one is
 pub record Another (text octets : List ℕ) (x : Symbol) : Type 0 where
   pub more : SpellsMore text octets
   pub octet : ℕ

@@ -1,4 +1,4 @@
--- Worked rows: texts that are refused.
+-- Computed examples: texts that are rejected.
 use Rattle.std.proofs.Common.{[], ◌∷◌, ◌++◌, replicate, arith, refl, None, Err}
 use Rattle.std.specs.Prelude.{codes}
 use Rattle.std.specs.Char.{encode_utf8}
@@ -49,7 +49,7 @@ too_great = (
   omega arith,
 )
 
--- a character that is no octet
+-- a character that has no octet
 no_octet : ReadsText (exactly 255) (0xC3 ∷ 0xB6 ∷ []) (Err (Presentation (BadSymbol NonAscii)))
 unfolding encode_utf8
 no_octet = (

@@ -1,4 +1,4 @@
--- The wire form that was passed over.
+-- The wire format that was passed over.
 use Rattle.std.proofs.Common.{◌≡◌, ℕ, suc, ◌+◌, ◌≤◌, List, ◌∷◌, ◌++◌, length, take, drop, refl, sym, ap, ◌∙◌, arith, Result, Ok, Err}
 use Rattle.std.specs.Prelude.{IsOk, OnOk, is_ok, if◌then◌else◌}
 use Rattle.std.proofs.lemmas.List.{length-take-le, drop-drop, take-append-drop}
@@ -6,7 +6,7 @@ use Rattle.dns_octets.specs.Parsing.{Parsing, rest, gone_on}
 use Rattle.dns_octets.specs.declared.error.ParseError.{ParseError}
 use Rattle.dns_charstr.specs.Wire.{wire_of}
 
--- past a length octet and as many octets as it says
+-- after a length octet and the number of octets that it states
 pub passed : (old mid new : Parsing) (len : ℕ) (r : Result (Unit {0}) ParseError) → rest old ≡ len ∷ rest mid → mid ≡ gone_on 1 old
     → (IsOk r → len ≤ length (rest mid)) → new ≡ (if is_ok r then gone_on len mid else mid)
     → OnOk r ((s : List ℕ) × (rest old ≡ wire_of s ++ rest new) × (new ≡ gone_on (length (wire_of s)) old))

@@ -1,4 +1,4 @@
--- A text that has been read in part.
+-- A text that has been parsed in part.
 use Rattle.std.proofs.Common.{◌≡◌, ℕ, true, List, [], ◌∷◌, ◌++◌, length, map, refl, ap, ◌∙◌, arith, Option, Some, None, Ok}
 use Rattle.std.specs.List.{flat_map, list_all}
 use Rattle.std.specs.Str.{IsUtf8}
@@ -61,12 +61,12 @@ pub read_all : (text octets rest : List ℕ) → HasRead text octets rest → re
 read_all text octets rest read h =
     record { symbols = read.front; read = ends_here text octets rest None read h; octets_are = read.octets_are }
 
--- where no symbol follows
+-- if no symbol follows
 pub read_broken : (text octets rest : List ℕ) (e : SymbolCharsError) → HasRead text octets rest → EndsAs rest (Some e) → BreaksOff text octets e
 read_broken text octets rest e read h =
     record { symbols = read.front; read = ends_here text octets rest (Some e) read h; octets_are = read.octets_are }
 
--- where one follows
+-- if one follows
 pub read_next : (text octets rest after : List ℕ) (x : Symbol) → HasRead text octets rest → BeginsWith rest x after → GoesOnWithSymbol text octets x
 read_next text octets rest after x read begins =
     let more = symbols_exist (length after) after (omega arith) (rest_utf8 (spell x) rest after read.characters begins.spelled) in

@@ -1,4 +1,4 @@
--- What a reader of characters has taken from a text.
+-- What a parser of characters has consumed of a text.
 use Rattle.std.proofs.Common.{◌≡◌, ℕ, ◌<◌, true, List, [], ◌∷◌, ◌++◌, length, drop, refl, sym, ap, subst, ◌∙◌, arith, Option, Some, None, Result, Ok, Err, ⊎_elim}
 use Rattle.std.specs.Iterator.{Yields}
 use Rattle.std.specs.Str.{IsUtf8}
@@ -16,11 +16,11 @@ use Rattle.dns_symbol.specs.declared.error.SymbolOctetsError.{SymbolOctetsError}
 use Rattle.dns_symbol.proofs.Agree.{Chars-Yields, agree}
 use Rattle.dns_symbol.proofs.Texts.{begins_or_none, same_error}
 
--- a symbol that was taken stood at the front
+-- a symbol that was consumed was the beginning of the text
 pub symbol_taken : (x : Symbol) (s t : Chars) → (is_readable x ≡ true) × Yields chars_steps s (spell x) t → BeginsWith (chars_rest s) x (chars_rest t)
 symbol_taken x s t h = record { readable = h.0; spelled = Chars-Yields s t (spell x) h.1 }
 
--- where no character came, none was left
+-- if no character came, none was left
 pub none_taken : (s t : Chars) → chars_steps s None t → chars_rest s ≡ []
 none_taken s t h = empty_of (chars_rest s) h.0.0
   where
@@ -38,7 +38,7 @@ after_front : (xs ys : List ℕ) → drop (length xs) (xs ++ ys) ≡ ys
 after_front [] ys = refl
 after_front (x ∷ xs) ys = after_front xs ys
 
--- where no symbol was taken, the text has the error there
+-- if no symbol was consumed, the text has the error there
 pub refusal_taken : (e : SymbolCharsError) (s t : Chars) → IsUtf8 (chars_rest s) → ReadsSymbol chars_steps s (Err e) t → EndsAs (chars_rest s) (Some e)
 refusal_taken e s t u h =
     ⊎_elim

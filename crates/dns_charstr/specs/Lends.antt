@@ -1,4 +1,4 @@
--- What a character string ends as, where a write through its octets was lent.
+-- The final value of a character string after a write through its mutable slice.
 use Rattle.std.specs.Prelude.{ℕ, List}
 use Rattle.std.specs.Borrow.{Lends, Array, MutBor, Fml, u8 as byte, RattleType}
 use Rattle.dns_octets.specs.Octets.{written_over}

@@ -1,4 +1,4 @@
--- Texts in which each octet but the backslash stands for itself (RFC 1035 section 5.1).
+-- Texts in which every octet but the backslash denotes itself (RFC 1035 section 5.1).
 use Rattle.std.specs.Prelude.{◌≡◌, ℕ, ◌<◌, ◌≤◌, true, List, [], ◌∷◌, ◌++◌, length, drop, Option, Some, None, Result, Ok, Err}
 use Rattle.dns_octets.specs.Room.{Room}
 use Rattle.dns_symbol.specs.Escape.{is_spelling, octet_for}
@@ -23,7 +23,7 @@ abbrev pub SpellsOctets : List ℕ → List ℕ → List ℕ → Type 0
 SpellsOctets text [] rest = text ≡ rest
 SpellsOctets text (octet ∷ octets) rest = (more : List ℕ) × SpellsOctet text octet more × SpellsOctets more octets rest
 
--- there is a text, it spells no octet first, and this is why: an escape is cut short, or it is none
+-- a text that isn't empty and spells no octet first, and why: an escape is cut short, or is invalid
 pub record SpellsNone (text : List ℕ) (error : SymbolCharsError) : Type 0 where
   pub some : 0 < length text
   pub none : (octet : ℕ) (rest : List ℕ) → SpellsOctet text octet rest → ⊥
@@ -43,18 +43,18 @@ pub record SpellsUntil (text octets : List ℕ) (error : SymbolCharsError) : Typ
   pub front : SpellsOctets text octets rest
   pub stops : SpellsNone rest error
 
--- the first octet of a text that is not empty and the length of its spelling, or why there is none
+-- the first octet of a text that is not empty and the length of its spelling, or the error
 abbrev pub OctetFirst : List ℕ → Result (ℕ × ℕ) SymbolCharsError → Type 0
 OctetFirst text (Ok p) = SpellsOctet text p.0 (drop p.1 text) × (p.1 ≤ length text)
 OctetFirst text (Err e) = SpellsNone text e
 
--- the octet that is spelled at a place, and the place after it; none at or past the end; or why none is spelled there
+-- the octet that is spelled at an offset, and the offset after it; none at or after the end; or the error
 abbrev pub OctetAt : List ℕ → ℕ → Result (Option (ℕ × ℕ)) SymbolCharsError → Type 0
 OctetAt text place (Ok None) = length text ≤ place
 OctetAt text place (Ok (Some p)) = SpellsOctet (drop place text) p.0 (drop p.1 text) × (p.1 ≤ length text)
 OctetAt text place (Err e) = SpellsNone (drop place text) e
 
--- what reading a text answers, in a builder with that room: its octets, or the first refusal, with the octets before it
+-- the result of parsing a text with a builder of that room: its octets, or the first error, with the octets before it
 abbrev pub ReadsOctetText : Room → List ℕ → Result (List ℕ) FromStrError → Type 0
 ReadsOctetText room text (Ok octets) = SpellsOctets text octets [] × (length octets ≤ max_string) × (length octets ≤ room.capacity)
 ReadsOctetText room text (Err (Presentation (SymbolChars e))) =

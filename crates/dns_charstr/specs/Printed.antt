@@ -1,4 +1,4 @@
--- What the display types show, and the texts that they print.
+-- The octets of the display types, and the texts that they print.
 use Rattle.std.specs.Prelude.{Bool, if◌then◌else◌, ℕ, ◌/◌, ◌%◌, List, [], ◌∷◌, ◌++◌, codes, slice_index}
 use Rattle.std.specs.List.{flat_map}
 use Rattle.dns_symbol.specs.Characters.{double_quote}

@@ -1,4 +1,4 @@
--- Reading a character string from its text.
+-- Parsing a character string from its text.
 use Rattle.std.specs.Prelude.{◌≡◌, ℕ, ◌<◌, ◌≤◌, List, ◌∷◌, ◌++◌, length, map, Option, Some, None, Result, Ok, Err}
 use Rattle.dns_octets.specs.Room.{Room}
 use Rattle.dns_symbol.specs.Symbol.{octet_of}
@@ -30,7 +30,7 @@ pub record GoesOnWithSymbol (text octets : List ℕ) (x : Symbol) : Type 0 where
   pub error : Option SymbolCharsError
   pub read : SymbolsOf text (front ++ x ∷ others) error
 
--- what reading a text answers, in a builder with that room: its octets, or the first refusal, with the octets before it
+-- the result of parsing a text with a builder of that room: its octets, or the first error, with the octets before it
 abbrev pub ReadsText : Room → List ℕ → Result (List ℕ) FromStrError → Type 0
 ReadsText room text (Ok octets) = HasOctets text octets × (length octets ≤ max_string) × (length octets ≤ room.capacity)
 ReadsText room text (Err (Presentation (SymbolChars e))) =

@@ -1,4 +1,4 @@
--- Worked rows: what the definitions say of small inputs.
+-- Computed examples of the definitions on small inputs.
 use Rattle.std.specs.Prelude.{◌≡◌, [], ◌∷◌, codes, refl}
 use Rattle.std.specs.Char.{encode_utf8}
 use Rattle.std.specs.declared.cmp.Ordering.TheVariants.{Less, Equal, Greater}
@@ -75,7 +75,7 @@ case_canonical = refl
 length_canonical : wire_order (codes "B") (codes "aa") ≡ Less
 length_canonical = refl
 
--- wire forms
+-- wire formats
 wire_some : wire_of (codes "foo") ≡ 3 ∷ codes "foo"
 wire_some = refl
 

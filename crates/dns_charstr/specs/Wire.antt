@@ -1,4 +1,4 @@
--- The wire form of a character string.
+-- The wire format of a character string.
 use Rattle.std.specs.Prelude.{◌≡◌, ℕ, ◌+◌, ◌<◌, ◌≤◌, ◌⊎◌, List, [], ◌∷◌, ◌++◌, length}
 use Rattle.dns_octets.specs.Room.{Room}
 
@@ -6,11 +6,11 @@ use Rattle.dns_octets.specs.Room.{Room}
 abbrev pub wire_of : List ℕ → List ℕ
 wire_of octets = length octets ∷ octets
 
--- no wire form stands at the front
+-- the octets begin with no wire format
 abbrev pub BeginsNoWireForm : List ℕ → Type 0
 BeginsNoWireForm front = (octets more : List ℕ) → front ≡ wire_of octets ++ more → ⊥
 
--- what a refused append leaves: the octets as they were, if the length octet didn't surely fit; or these and the length octet, if the whole wire form didn't
+-- the octets after a failed append: the old ones, if the length octet exceeds the guaranteed capacity; or these and the length octet, if the whole does
 abbrev pub IsLeftByRefusal : Room → List ℕ → List ℕ → List ℕ → Type 0
 IsLeftByRefusal room octets old new =
     ((new ≡ old) × (room.fits ≤ length old)) ⊎ ((new ≡ old ++ length octets ∷ []) × (length new ≤ room.capacity) × (room.fits < length old + length (wire_of octets)))

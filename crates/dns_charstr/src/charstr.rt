@@ -37,17 +37,18 @@ impl<Octs: AsOctets> Model for CharStr<Octs> {
 }
 
 impl CharStr<&[u8]> {
-    /// The greatest number of octets of a character string.
+    /// Maximum length of a character string, in octets.
     pub const MAX_LEN: usize = 255;
 
-    /// The character string of no octets.
+    /// Returns the empty character string.
     pub fn empty_slice() -> CharStr<&'static [u8]>
         ensures { result ≡ [] }
     {
         CharStr { octets: &[] }
     }
 
-    /// The character string of these octets, 255 at most.
+    /// Returns the character string of the octets. Fails with [`CharStrError`] if there are more
+    /// than 255.
     pub fn from_slice(slice: &[u8]) -> Result<CharStr<&[u8]>, CharStrError>
         ensures ok { IsOk result ↔ (length slice.now ≤ max_string) }
         ensures value { IfOk result (λ s. s ≡ slice.now) }
@@ -57,7 +58,7 @@ impl CharStr<&[u8]> {
 }
 
 impl<Octs: AsOctets> CharStr<Octs> {
-    /// The character string of no octets. It takes no memory.
+    /// Returns the empty character string, without allocating.
     pub fn empty(alloc: <Octs::Builder as EmptyBuilder>::Alloc) -> Self
     where
         Octs: FromBuilder,
@@ -69,8 +70,8 @@ impl<Octs: AsOctets> CharStr<Octs> {
         }
     }
 
-    /// The character string of these octets, 255 at most. Refused, they are
-    /// dropped.
+    /// Returns the character string of the octets. Fails with [`CharStrError`] if there are more
+    /// than 255; the octets are then dropped.
     pub fn from_octets(octets: Octs) -> Result<Self, CharStrError>
     where
         Octs: Drop,
@@ -83,7 +84,7 @@ impl<Octs: AsOctets> CharStr<Octs> {
         Ok(CharStr { octets })
     }
 
-    /// The octets themselves.
+    /// Returns the octets in the type that holds them.
     pub fn into_octets(self) -> Octs
         ensures value { Octs.octets result ≡ self }
         ensures short { length self ≤ max_string }
@@ -91,7 +92,7 @@ impl<Octs: AsOctets> CharStr<Octs> {
         self.octets
     }
 
-    /// The octets.
+    /// Returns the octets.
     pub fn as_slice(&self) -> &[u8]
         ensures value { result.now ≡ self.now }
         ensures short { length self.now ≤ max_string }
@@ -100,7 +101,7 @@ impl<Octs: AsOctets> CharStr<Octs> {
         self.octets.as_slice()
     }
 
-    /// How many octets there are: 255 at most.
+    /// Returns the length in octets, at most 255.
     pub fn len(&self) -> usize
         ensures value { result ≡ length self.now }
         ensures short { result ≤ max_string }
@@ -108,7 +109,7 @@ impl<Octs: AsOctets> CharStr<Octs> {
         self.as_slice().len()
     }
 
-    /// Whether there are no octets.
+    /// Returns whether the length is 0.
     pub fn is_empty(&self) -> bool
         ensures { IsTrue result ↔ (self.now ≡ []) }
     {
@@ -117,7 +118,7 @@ impl<Octs: AsOctets> CharStr<Octs> {
 }
 
 impl<Octs: AsOctets> CharStr<Octs> {
-    /// A view of the same octets.
+    /// Returns a character string that borrows the octets.
     pub fn for_slice(&self) -> CharStr<&[u8]>
         ensures { result ≡ self.now }
     {
@@ -126,9 +127,9 @@ impl<Octs: AsOctets> CharStr<Octs> {
         }
     }
 
-    /// A copy of the character string. It is refused as that of its octets is.
+    /// Clones the character string. Fails if the clone of its octets fails.
     ///
-    /// The copies of the octets' type must have the same octets.
+    /// A clone of the octets' type must have the same octets.
     pub fn clone(&self) -> Result<Self, AllocError>
     where
         Octs: Clone,
@@ -141,7 +142,7 @@ impl<Octs: AsOctets> CharStr<Octs> {
         })
     }
 
-    /// A builder of no octets. It takes no memory.
+    /// Returns an empty builder, without allocating.
     pub fn builder(
         alloc: <<Octs as IntoBuilder>::Builder as EmptyBuilder>::Alloc,
     ) -> CharStrBuilder<<Octs as IntoBuilder>::Builder>
@@ -153,7 +154,7 @@ impl<Octs: AsOctets> CharStr<Octs> {
         CharStrBuilder::new(alloc)
     }
 
-    /// A builder that goes on from the octets.
+    /// Returns a builder that holds the octets, to which more can be appended.
     pub fn into_builder(self) -> CharStrBuilder<<Octs as IntoBuilder>::Builder>
     where
         Octs: IntoBuilder,
@@ -170,7 +171,7 @@ impl<Octs: AsOctetsMut> CharStr<Octs> {
     ghost use Rattle.std.specs.Borrow.{sem};
     ghost use Rattle.dns_charstr.specs.Lends.{lends_octets};
 
-    /// The octets, to be written over. Their count stays.
+    /// Returns the octets as a mutable slice. Their number stays the same.
     pub fn as_slice_mut(&mut self) -> &mut [u8]
         ensures* writes_back { sem 𝓛 (lends_octets Octs.row Octs.AsOctets self.entry result) }
         ensures value { result.now ≡ self.old }
@@ -179,11 +180,11 @@ impl<Octs: AsOctetsMut> CharStr<Octs> {
         self.octets.as_slice_mut()
     }
 
-    /// A view of the same octets, to be written over.
+    /// Returns a character string that borrows the octets mutably.
     ///
-    /// The contract says what the view holds at first. That the string then holds what was written
-    /// through the view, as many octets as it had, is tested and not proved; see
-    /// [`CharStr::as_slice_mut`] for a call whose contract says it.
+    /// The contract states what the borrowed string holds at first. That this string afterwards
+    /// holds what was written through it, in the same number of octets, is tested and not proved.
+    /// The contract of [`CharStr::as_slice_mut`] states it.
     pub fn for_slice_mut(&mut self) -> CharStr<&mut [u8]>
         ensures { result ≡ self.old }
     {
@@ -197,11 +198,13 @@ impl<Octs: AsOctets> CharStr<Octs> {
     ghost use Rattle.dns_charstr.specs.Reading.{ReadsText, HasOctets};
     ghost use Rattle.dns_charstr.specs.OctetText.{ReadsOctetText, SpellsOctets};
 
-    /// Reads the text of a character string: the octets of its symbols (RFC 1035 section 5.1).
+    /// Parses a character string in presentation format: the octets of its symbols (RFC 1035
+    /// section 5.1).
     ///
-    /// Symbols are handled in order. What is no symbol is refused first, then a symbol after 255
-    /// octets by `LongString`, then one that has no octet, then an octet for which the buffer has
-    /// no room by `ShortBuf`. The first refusal is returned.
+    /// Symbols are handled in order, and the first error is returned. For each symbol, the errors
+    /// are checked in this order: text that isn't a symbol, by its own error; `LongString`, if 255
+    /// octets precede the symbol; a symbol without an octet, by its own error; `ShortBuf`, if the
+    /// buffer lacks capacity for the octet or an allocation fails.
     pub fn from_str(
         alloc: <<Octs as FromBuilder>::Builder as EmptyBuilder>::Alloc,
         text: &str,
@@ -237,14 +240,15 @@ impl<Octs: AsOctets> CharStr<Octs> {
         Ok(builder.finish())
     }
 
-    /// Reads a text in which each octet but the backslash stands for itself: a tab and the octets
-    /// from 0x80 to 0xFF too, as name servers read it. Escapes are read as by
+    /// Parses a text in which every octet but the backslash denotes itself, also a tab and the
+    /// octets from 0x80 to 0xFF, as name servers parse it. Escapes are parsed as by
     /// [`octet_at`](crate::octet_text::octet_at) (RFC 1035 section 5.1). A text of printable ASCII
-    /// is read as by [`from_str`](CharStr::from_str).
+    /// is parsed as by [`from_str`](CharStr::from_str).
     ///
-    /// What is no escape, or is cut short, is refused first, by `SymbolChars`; then an octet after
-    /// 255 others by `LongString`; then one for which the buffer has no room by `ShortBuf`. The
-    /// first refusal is returned. There is no `BadSymbol`.
+    /// The first error is returned. For each octet, the errors are checked in this order:
+    /// `SymbolChars`, if a backslash begins no escape or the escape is cut short; `LongString`, if
+    /// 255 octets precede it; `ShortBuf`, if the buffer lacks capacity for it or an allocation
+    /// fails. `BadSymbol` never occurs.
     pub fn from_octets_text(
         alloc: <<Octs as FromBuilder>::Builder as EmptyBuilder>::Alloc,
         text: &[u8],

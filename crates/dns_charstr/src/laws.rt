@@ -1,4 +1,4 @@
-//! Laws on character strings: what holds of all octets and texts.
+//! Laws of character strings: facts about all octets and texts.
 ghost use Rattle.std.specs.Prelude.{◌≡◌, ◌<◌, ◌≤◌, ◌↔◌, ℕ, List, [], ◌∷◌, ◌++◌, All, length, true, IsTrue, Result, Ok, Err, ◌⊎◌, encode_utf8_all};
 ghost use Rattle.std.specs.List.{flat_map, list_all};
 ghost use Rattle.std.specs.Cmp.{IsEquivalence, IsTotalOrder};
@@ -16,22 +16,22 @@ ghost use Rattle.dns_charstr.specs.declared.charstr.error.FromStrError.{FromStrE
 ghost use Rattle.dns_charstr.specs.declared.charstr.error.FromStrError.TheVariants.{ShortBuf};
 ghost use Rattle.dns_charstr.specs.Limits.{max_string};
 
-/// The plain text of octets is read as these octets.
+/// Octets in plain form parse as these octets.
 pub fn plain_text_reads_back(octets: &[u8])
     ensures { HasOctets (encode_utf8_all (text_of is_plain_escape octets.now)) octets.now }
 {
     let _octets = octets;
 }
 
-/// The unquoted text of octets is read as these octets.
+/// Octets in unquoted form parse as these octets.
 pub fn unquoted_text_reads_back(octets: &[u8])
     ensures { HasOctets (encode_utf8_all (text_of is_unquoted_escape octets.now)) octets.now }
 {
     let _octets = octets;
 }
 
-/// The quoted text of octets has a double quote at each end, and what stands between the two is
-/// read as these octets.
+/// The quoted form of octets has a double quote at each end, and the text between the two parses as
+/// these octets.
 pub fn quoted_text_reads_back(octets: &[u8])
     ensures quotes { (between : List ℕ) × (encode_utf8_all (quoted_text octets.now) ≡ 34 ∷ between ++ 34 ∷ []) }
     ensures between { (between : List ℕ) → encode_utf8_all (quoted_text octets.now) ≡ 34 ∷ between ++ 34 ∷ []
@@ -40,8 +40,8 @@ pub fn quoted_text_reads_back(octets: &[u8])
     let _octets = octets;
 }
 
-/// The unquoted text of octets, if there are any, is a word: symbols that can be read and may
-/// stand in one.
+/// The unquoted form of octets, unless there are none, is a word: readable symbols that may be part
+/// of a word.
 pub fn unquoted_text_is_a_word(octets: &[u8])
     ensures { 0 < length octets.now → (symbols : List Symbol) × (0 < length symbols) × (list_all is_word_symbol symbols ≡ true)
         × (encode_utf8_all (text_of is_unquoted_escape octets.now) ≡ flat_map bytes symbols) }
@@ -49,9 +49,9 @@ pub fn unquoted_text_is_a_word(octets: &[u8])
     let _octets = octets;
 }
 
-/// A text has the octets of one list at most. If there are at most 255 of them, reading the text
-/// gives them, or they didn't surely fit and there was no room. Where the octets that surely fit
-/// are those that ever do, reading any text has one answer.
+/// A text has at most one list of octets. If these are at most 255, parsing returns them, or fails
+/// because the guaranteed capacity is smaller. If the guaranteed capacity equals the maximum one,
+/// parsing any text has at most one result.
 pub fn texts_have_one_reading(text: &str)
     ensures octets { (xs ys : List ℕ) → HasOctets text.now xs → HasOctets text.now ys → xs ≡ ys }
     ensures whole { (room : Room) (octets : List ℕ) (r : Result (List ℕ) FromStrError) → ReadsText room text.now r
@@ -61,8 +61,8 @@ pub fn texts_have_one_reading(text: &str)
     let _text = text;
 }
 
-/// The same of texts of octets: they are the octets of one list at most, and reading one has one
-/// answer.
+/// The same holds of texts of octets: a text has at most one list of octets, and parsing it has at
+/// most one result, if the capacities are equal.
 pub fn octet_texts_have_one_reading(text: &[u8])
     ensures octets { (xs ys : List ℕ) → SpellsOctets text.now xs [] → SpellsOctets text.now ys [] → xs ≡ ys }
     ensures whole { (room : Room) (octets : List ℕ) (r : Result (List ℕ) FromStrError) → ReadsOctetText room text.now r
@@ -72,8 +72,9 @@ pub fn octet_texts_have_one_reading(text: &[u8])
     let _text = text;
 }
 
-/// A text of printable ASCII is read alike as characters and as octets, whatever the room: the
-/// same octets, or the same refusal. What characters are read as, octets always are.
+/// A text of printable ASCII parses alike as characters and as octets, for any capacity: to the
+/// same octets, or the same error. If a text parses as characters, it parses as octets to the same
+/// octets.
 pub fn printable_texts_read_alike(text: &[u8])
     ensures alike { (room : Room) (r : Result (List ℕ) FromStrError) → list_all is_printable text.now ≡ true → ReadsText room text.now r ↔ ReadsOctetText room text.now r }
     ensures octets { (octets : List ℕ) → HasOctets text.now octets → SpellsOctets text.now octets [] }
@@ -81,8 +82,8 @@ pub fn printable_texts_read_alike(text: &[u8])
     let _text = text;
 }
 
-/// The printed texts of octets are read back as texts of octets: the plain and the unquoted one,
-/// and what stands between the double quotes of the quoted one.
+/// The printed forms of octets parse as texts of octets: the plain form, the unquoted form, and the
+/// text between the double quotes of the quoted form.
 pub fn printed_texts_read_back_as_octets(octets: &[u8])
     ensures plain { SpellsOctets (encode_utf8_all (text_of is_plain_escape octets.now)) octets.now [] }
     ensures unquoted { SpellsOctets (encode_utf8_all (text_of is_unquoted_escape octets.now)) octets.now [] }
@@ -91,8 +92,8 @@ pub fn printed_texts_read_back_as_octets(octets: &[u8])
     let _octets = octets;
 }
 
-/// Two lists of octets are equal exactly if they are the same once lowered, which is where their
-/// order is `Equal`. Equality is an equivalence, and the order is total.
+/// Two lists of octets are equal exactly if their lower-case forms are the same, and exactly if
+/// their order is `Equal`. Equality is an equivalence, and the order is total.
 pub fn order_ties_where_equal(left: &[u8], right: &[u8])
     ensures equal { IsTrue (same_lowered left.now right.now) ↔ (lowered left.now ≡ lowered right.now) }
     ensures order { (lowered_order left.now right.now ≡ Equal) ↔ IsTrue (same_lowered left.now right.now) }
@@ -103,7 +104,7 @@ pub fn order_ties_where_equal(left: &[u8], right: &[u8])
     let _right = right;
 }
 
-/// Equal octets are hashed alike.
+/// Equal octets have equal hashes.
 pub fn equal_octets_hash_alike(left: &[u8], right: &[u8])
     ensures { IsTrue (same_lowered left.now right.now) → hash_writes left.now ≡ hash_writes right.now }
 {
@@ -111,7 +112,7 @@ pub fn equal_octets_hash_alike(left: &[u8], right: &[u8])
     let _right = right;
 }
 
-/// The canonical order is `Equal` exactly for the same octets, and total.
+/// The canonical order is `Equal` exactly for the same octets, and is total.
 pub fn canonical_order_ties_where_same(left: &[u8], right: &[u8])
     ensures same { (wire_order left.now right.now ≡ Equal) ↔ (left.now ≡ right.now) }
     ensures total { IsTotalOrder wire_order }

@@ -1,7 +1,7 @@
-//! Texts in which each octet but the backslash stands for itself.
+//! Parses texts in which every octet but the backslash denotes itself.
 //!
-//! This is how name servers read the character strings of zone text: an octet that is no
-//! printable ASCII, a tab too, needs no escape. [`CharStr::from_octets_text`] reads a whole text.
+//! Name servers parse the character strings of zone files in this way: an octet that isn't
+//! printable ASCII, also a tab, needs no escape. [`CharStr::from_octets_text`] parses a whole text.
 //!
 //! [`CharStr::from_octets_text`]: crate::charstr::CharStr::from_octets_text
 ghost use Rattle.std.specs.Prelude.{◌≡◌, ◌<◌, ◌≤◌, length, slice_index, IfOk, IfSome};
@@ -10,19 +10,20 @@ ghost use Rattle.dns_charstr.specs.OctetText.{OctetAt, OctetFirst};
 use dns_symbol::escape::{EscapeRule, first_escape};
 use dns_symbol::symbol::SymbolCharsError;
 
-/// Returns the octet that is written at a place of a text, and the place after it (RFC 1035
-/// section 5.1). At or past the end there is none. Places are counted in octets.
+/// Returns the octet that is written at an offset of a text, and the offset after it (RFC 1035
+/// section 5.1). Returns `None` if the offset is at or after the end. Offsets are in octets.
 ///
-/// An octet other than the backslash stands for itself. A backslash and three digits are the octet
-/// of that number, and a backslash and an octet that is no digit are that octet, whether it is
+/// An octet other than the backslash denotes itself. A backslash and three digits denote the octet
+/// of that number. A backslash and an octet that isn't a digit denote that octet, whether it is
 /// printable ASCII or not.
 ///
-/// A backslash with at most two digits before the end is refused by `ShortInput`. One with a digit
-/// and then no two others, or with a number above 255, is refused by `BadEscape`.
+/// Fails with `ShortInput` if the text ends after a backslash and at most two digits. Fails with
+/// `BadEscape` if a backslash and a digit aren't followed by two other digits, or if the number
+/// exceeds 255.
 pub fn octet_at(text: &[u8], place: usize) -> Result<Option<(u8, usize)>, SymbolCharsError>
     ensures reads { OctetAt text.now place result }
 
-    // For callers' loops: the place after is further on and no further than the end.
+    // For callers' loops: the returned offset is greater, and at most the length.
     ensures goes { IfOk result (λ found. IfSome found (λ p. (place < p.1) × (p.1 ≤ length text.now))) }
 {
     if place >= text.len() {
@@ -32,7 +33,7 @@ pub fn octet_at(text: &[u8], place: usize) -> Result<Option<(u8, usize)>, Symbol
     Ok(Some((octet, place + len)))
 }
 
-// The octet that is written first in a text, and how many octets it is written in.
+// Returns the first octet that a text denotes, and the length of its spelling.
 #[inline(always)]
 fn first_octet(text: &[u8]) -> Result<(u8, usize), SymbolCharsError>
     requires { 0 < length text.now }
@@ -45,7 +46,7 @@ fn first_octet(text: &[u8]) -> Result<(u8, usize), SymbolCharsError>
     Ok((text[0], 1))
 }
 
-// The same of a text that begins with a backslash.
+// Returns the same for a text that begins with a backslash.
 fn escaped_octet(text: &[u8]) -> Result<(u8, usize), SymbolCharsError>
     requires some { 0 < length text.now }
     requires escape { slice_index text.now 0 ≡ 92 }

@@ -1,4 +1,4 @@
-//! Character strings that are being built.
+//! A builder of character strings.
 ghost use Rattle.std.specs.Prelude.{◌≡◌, ◌≤◌, ◌<◌, ◌↔◌, List, [], ℕ, length, min, All, IsTrue, IfOk, IsOk, refl};
 ghost use Rattle.dns_octets.specs.Octets.{written_over};
 ghost use Rattle.dns_octets.specs.Room.{within};
@@ -11,7 +11,7 @@ use dns_octets::{
 use std::alloc::{AllocError, Allocator};
 use std::marker::Model;
 
-/// A character string that is being built: a list of at most 255 octets.
+/// A builder of a character string, which holds at most 255 octets.
 #[derive(Drop)]
 pub struct CharStrBuilder<B: OctetsBuilder> {
     pub(super) inner: B,
@@ -26,7 +26,7 @@ impl<B: OctetsBuilder> Model for CharStrBuilder<B> {
 }
 
 impl<B: OctetsBuilder> CharStrBuilder<B> {
-    /// A builder of no octets. It takes no memory.
+    /// Returns an empty builder, without allocating.
     pub fn new(alloc: B::Alloc) -> Self
     where
         B: EmptyBuilder,
@@ -37,7 +37,8 @@ impl<B: OctetsBuilder> CharStrBuilder<B> {
         }
     }
 
-    /// A builder of no octets, with room set aside for `capacity` where that can be done.
+    /// Returns an empty builder, with memory for `capacity` octets where the inner builder can
+    /// reserve it. Fails with [`ShortBuf`] if the allocation fails.
     pub fn with_capacity(alloc: B::Alloc, capacity: usize) -> Result<Self, ShortBuf>
     where
         B: EmptyBuilder,
@@ -49,8 +50,8 @@ impl<B: OctetsBuilder> CharStrBuilder<B> {
         })
     }
 
-    /// Goes on from the octets of another builder, of which there may be at most 255. Refused,
-    /// they are dropped.
+    /// Returns a builder that holds the octets of another builder. Fails with [`CharStrError`] if
+    /// there are more than 255; they are then dropped.
     pub fn from_builder(inner: B) -> Result<Self, CharStrError>
     where
         B: Drop,
@@ -63,9 +64,9 @@ impl<B: OctetsBuilder> CharStrBuilder<B> {
         Ok(CharStrBuilder { inner })
     }
 
-    /// A copy of the builder. It is refused as that of the builder below is.
+    /// Clones the builder. Fails if the clone of the inner builder fails.
     ///
-    /// The copies of the builder below must have the same octets.
+    /// A clone of the inner builder must have the same octets.
     pub fn clone(&self) -> Result<Self, AllocError>
     where
         B: Clone,
@@ -78,7 +79,7 @@ impl<B: OctetsBuilder> CharStrBuilder<B> {
         })
     }
 
-    /// The octets so far.
+    /// Returns the octets appended so far.
     pub fn as_slice(&self) -> &[u8]
         ensures value { result.now ≡ self.now }
         ensures short { length self.now ≤ max_string }
@@ -87,7 +88,7 @@ impl<B: OctetsBuilder> CharStrBuilder<B> {
         self.inner.as_slice()
     }
 
-    /// How many octets there are so far: 255 at most.
+    /// Returns the number of octets appended so far, at most 255.
     pub fn len(&self) -> usize
         ensures value { result ≡ length self.now }
         ensures short { result ≤ max_string }
@@ -95,14 +96,14 @@ impl<B: OctetsBuilder> CharStrBuilder<B> {
         self.as_slice().len()
     }
 
-    /// Whether there are no octets yet.
+    /// Returns whether no octets have been appended.
     pub fn is_empty(&self) -> bool
         ensures { IsTrue result ↔ (self.now ≡ []) }
     {
         self.as_slice().is_empty()
     }
 
-    /// The character string of the octets.
+    /// Returns the character string of the octets.
     pub fn finish(self) -> CharStr<B::Octets>
     where
         B: FreezeBuilder,
@@ -115,14 +116,15 @@ impl<B: OctetsBuilder> CharStrBuilder<B> {
 }
 
 impl<A: Allocator + Copy> CharStrBuilder<Vec<u8, A>> {
-    /// A builder of no octets over a vector. It takes no memory.
+    /// Returns an empty builder over a vector, without allocating.
     pub fn new_vec(alloc: A) -> Self
         ensures { result ≡ [] }
     {
         CharStrBuilder::new(alloc)
     }
 
-    /// A builder of no octets over a vector, with room set aside for `capacity`.
+    /// Returns an empty builder over a vector, with memory for `capacity` octets. Fails with
+    /// [`ShortBuf`] if the allocation fails.
     pub fn vec_with_capacity(alloc: A, capacity: usize) -> Result<Self, ShortBuf>
         ensures { IfOk result (λ b. b ≡ []) }
     {
@@ -134,7 +136,7 @@ impl<B: OctetsBuilder + AsOctetsMut> CharStrBuilder<B> {
     ghost use Rattle.std.specs.Borrow.{sem};
     ghost use Rattle.dns_charstr.specs.Lends.{lends_built};
 
-    /// The octets so far, to be written over. Their count stays.
+    /// Returns the octets appended so far as a mutable slice. Their number stays the same.
     pub fn as_slice_mut(&mut self) -> &mut [u8]
         ensures* writes_back { sem 𝓛 (lends_built B.row B.AsOctets B.room self.entry result) }
         ensures value { result.now ≡ self.old }
@@ -152,7 +154,7 @@ impl<B: OctetsBuilder> AsOctets for CharStrBuilder<B> {
     }
 }
 
-/// Appends only while there are at most 255 octets.
+/// An append fails if the total would exceed 255 octets.
 impl<B: OctetsBuilder> OctetsBuilder for CharStrBuilder<B> {
     ghost room = { within max_string B.room };
 

@@ -1,7 +1,7 @@
-//! Comparisons of character strings.
+//! Comparison of character strings.
 //!
-//! Letters from A to Z count as their lower case (RFC 4343). The canonical order alone tells
-//! them apart.
+//! The letters A to Z are compared as their lower case (RFC 4343). Only the canonical order
+//! distinguishes the cases.
 ghost use Rattle.std.specs.Prelude.{◌≡◌};
 ghost use Rattle.dns_octets.specs.Lowered.{same_lowered, lowered_order};
 
@@ -12,14 +12,14 @@ use std::cmp::Ordering;
 use std::hash::{Hash, Hasher};
 
 impl<Octs: AsOctets> CharStr<Octs> {
-    /// Whether these octets are the same but for the case of letters.
+    /// Returns whether the octets are equal without regard to the case of letters.
     pub fn eq_octets(&self, octets: &[u8]) -> bool
         ensures { result ≡ same_lowered self.now octets.now }
     {
         same_octets(self.as_slice(), octets)
     }
 
-    /// How the octets stand to others, the case of letters left aside.
+    /// Compares the octets without regard to the case of letters.
     pub fn cmp_octets(&self, octets: &[u8]) -> Ordering
         ensures { result ≡ lowered_order self.now octets.now }
     {

@@ -7,7 +7,7 @@ use dns_octets::AsOctets;
 use dns_symbol::form::{Plain, Quoted, Unquoted, write_octets};
 use std::fmt;
 
-/// Prints the octets with no character special but the backslash.
+/// Prints the octets with the backslash as the only special character.
 impl<Octs: AsOctets> fmt::Display for CharStr<Octs> {
     ghost use Rattle.std.specs.Prelude.{Some, encode_utf8_all};
     ghost use Rattle.dns_symbol.specs.Printed.{text_of, is_plain_escape};
@@ -22,28 +22,29 @@ impl<Octs: AsOctets> fmt::Display for CharStr<Octs> {
 impl<Octs: AsOctets> CharStr<Octs> {
     ghost use Rattle.dns_charstr.specs.Printed.{quoted_octets, unquoted_octets, octets_in_hex};
 
-    /// The octets between double quotes.
+    /// Returns the octets, which print between double quotes.
     pub fn display_quoted(&self) -> DisplayQuoted<'_>
         ensures { quoted_octets result ≡ self.now }
     {
         DisplayQuoted::from_slice(self.as_slice())
     }
 
-    /// The octets as a word of a zone file. No octets print nothing, which is no word.
+    /// Returns the octets, which print as a word of a zone file. The empty string prints nothing,
+    /// which isn't a word.
     pub fn display_unquoted(&self) -> DisplayUnquoted<'_>
         ensures { unquoted_octets result ≡ self.now }
     {
         DisplayUnquoted::from_slice(self.as_slice())
     }
 
-    /// Two lower case hexadecimal digits an octet.
+    /// Returns the octets, which print as two lower-case hexadecimal digits each.
     pub fn display_lower_hex(&self) -> LowerHexDisplay<'_>
         ensures { octets_in_hex result ≡ self.now }
     {
         LowerHexDisplay::from_slice(self.as_slice())
     }
 
-    /// Two upper case hexadecimal digits an octet.
+    /// Returns the octets, which print as two upper-case hexadecimal digits each.
     pub fn display_upper_hex(&self) -> UpperHexDisplay<'_>
         ensures { octets_in_hex result ≡ self.now }
     {
@@ -60,7 +61,7 @@ pub struct DisplayQuoted<'a> {
 impl<'a> DisplayQuoted<'a> {
     ghost use Rattle.dns_charstr.specs.Printed.{quoted_octets};
 
-    /// Prints these octets, however many they are.
+    /// Returns octets of any number for printing.
     pub fn from_slice(octets: &'a [u8]) -> Self
         ensures { quoted_octets result ≡ octets.now }
     {
@@ -90,7 +91,7 @@ pub struct DisplayUnquoted<'a> {
 impl<'a> DisplayUnquoted<'a> {
     ghost use Rattle.dns_charstr.specs.Printed.{unquoted_octets};
 
-    /// Prints these octets, however many they are.
+    /// Returns octets of any number for printing.
     pub fn from_slice(octets: &'a [u8]) -> Self
         ensures { unquoted_octets result ≡ octets.now }
     {
@@ -116,16 +117,16 @@ pub struct HexDisplay<'a, const IS_UPPER: bool> {
     octets: &'a [u8],
 }
 
-/// Octets that print as lower case hexadecimal digits.
+/// Octets that print as lower-case hexadecimal digits.
 pub type LowerHexDisplay<'a> = HexDisplay<'a, false>;
 
-/// Octets that print as upper case hexadecimal digits.
+/// Octets that print as upper-case hexadecimal digits.
 pub type UpperHexDisplay<'a> = HexDisplay<'a, true>;
 
 impl<'a, const IS_UPPER: bool> HexDisplay<'a, IS_UPPER> {
     ghost use Rattle.dns_charstr.specs.Printed.{octets_in_hex};
 
-    /// Prints these octets, however many they are.
+    /// Returns octets of any number for printing.
     pub fn from_slice(octets: &'a [u8]) -> Self
         ensures { octets_in_hex result ≡ octets.now }
     {
@@ -133,7 +134,7 @@ impl<'a, const IS_UPPER: bool> HexDisplay<'a, IS_UPPER> {
     }
 }
 
-// The hexadecimal digits in a case.
+// Returns the hexadecimal digits in one case.
 fn digits_of(is_upper: bool) -> &'static [u8; 16]
     ensures { result.now ≡ hex_digits is_upper }
 {

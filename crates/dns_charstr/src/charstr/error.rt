@@ -1,4 +1,4 @@
-//! Why there is no character string.
+//! Errors of making and parsing character strings.
 ghost use Rattle.std.specs.Prelude.{Some, codes};
 
 use dns_octets::ShortBuf;
@@ -6,7 +6,7 @@ use dns_symbol::symbol::{BadSymbol, SymbolCharsError};
 use std::error::Error;
 use std::fmt;
 
-/// More than 255 octets.
+/// The octets are more than 255.
 #[derive(Clone, Copy, Debug, Default, PartialEq, Eq)]
 pub struct CharStrError;
 
@@ -20,12 +20,12 @@ impl fmt::Display for CharStrError {
 
 impl Error for CharStrError {}
 
-/// Why a text is no character string.
+/// The error if a text isn't a character string.
 #[derive(Clone, Copy, Debug, PartialEq, Eq)]
 pub enum PresentationError {
-    /// A symbol stands after 255 octets.
+    /// A symbol follows 255 octets.
     LongString,
-    /// What stands in the text is no symbol.
+    /// The text doesn't continue with a symbol.
     SymbolChars(SymbolCharsError),
     /// A symbol has no octet.
     BadSymbol(BadSymbol),
@@ -72,12 +72,12 @@ impl From<BadSymbol> for PresentationError {
     }
 }
 
-/// Why no character string was read from a text.
+/// The error if no character string could be parsed from a text.
 #[derive(Clone, Copy, Debug, PartialEq, Eq)]
 pub enum FromStrError {
-    /// The text is none of a character string.
+    /// The text isn't that of a character string.
     Presentation(PresentationError),
-    /// There was no room for the octets, or no memory.
+    /// The buffer is too small, or an allocation failed.
     ShortBuf,
 }
 

@@ -5,7 +5,7 @@ use crate::charstr::CharStr;
 use dns_octets::AsOctets;
 use std::marker::Model;
 
-/// The octets of a character string that is borrowed.
+/// An iterator over the octets of a borrowed character string.
 #[derive(Drop)]
 pub struct Iter<'a> {
     octets: &'a [u8],
@@ -35,7 +35,7 @@ impl<'a> Iterator for Iter<'a> {
     }
 }
 
-/// The octets of a character string that is used up.
+/// An iterator over the octets of an owned character string.
 #[derive(Drop)]
 pub struct IntoIter<Octs: AsOctets> {
     charstr: CharStr<Octs>,
@@ -67,7 +67,7 @@ impl<Octs: AsOctets + Drop> Iterator for IntoIter<Octs> {
 }
 
 impl<Octs: AsOctets> CharStr<Octs> {
-    /// The octets in order.
+    /// Returns an iterator over the octets.
     pub fn iter(&self) -> Iter<'_>
         ensures { result ≡ self.now }
     {

@@ -1,4 +1,4 @@
-//! The wire form of character strings: a length octet and the octets (RFC 1035 section 3.3).
+//! The wire format of character strings: a length octet and the octets (RFC 1035 section 3.3).
 ghost use Rattle.std.specs.Prelude.{◌≡◌, ◌≤◌, ◌-◌, ◌∷◌, [], ◌++◌, ℕ, List, length, min, IfOk, IsOk, OnOk, OnErr};
 ghost use Rattle.dns_octets.specs.Parsing.{rest, gone_on};
 ghost use Rattle.dns_charstr.specs.Wire.{wire_of, BeginsNoWireForm, IsLeftByRefusal};
@@ -7,10 +7,10 @@ use crate::charstr::CharStr;
 use dns_octets::{AsOctets, OctetsBuilder, ParseError, Parser, ShortBuf};
 
 impl<'a> CharStr<&'a [u8]> {
-    /// Takes the wire form of a character string from a parser.
+    /// Parses a character string in wire format.
     ///
-    /// Without a length octet the parser is left as it was. With too few octets after it, the
-    /// parser stands past the length octet.
+    /// Fails if there is no length octet, and the parser is then unchanged. Fails if too few octets
+    /// follow the length octet, and the parser is then after that octet.
     pub fn parse(parser: &mut Parser<'a>) -> Result<Self, ParseError>
         ensures value { IfOk result (λ s. rest parser.old ≡ wire_of s ++ rest parser.new) }
         ensures goes { IfOk result (λ s. parser.new ≡ gone_on (length (wire_of s)) parser.old) }
@@ -22,7 +22,7 @@ impl<'a> CharStr<&'a [u8]> {
         Ok(CharStr { octets })
     }
 
-    /// The same as `parse`.
+    /// Parses a character string as `parse` does.
     pub fn parse_slice(parser: &mut Parser<'a>) -> Result<Self, ParseError>
         ensures value { IfOk result (λ s. rest parser.old ≡ wire_of s ++ rest parser.new) }
         ensures goes { IfOk result (λ s. parser.new ≡ gone_on (length (wire_of s)) parser.old) }
@@ -32,8 +32,8 @@ impl<'a> CharStr<&'a [u8]> {
         Self::parse(parser)
     }
 
-    /// Passes over the wire form of a character string. Refused, the parser is left as `parse`
-    /// leaves it.
+    /// Skips a character string in wire format. Fails as `parse` does, with the parser at the same
+    /// position.
     pub fn skip(parser: &mut Parser<'a>) -> Result<(), ParseError>
         ensures goes { OnOk result ((s : List ℕ) × (rest parser.old ≡ wire_of s ++ rest parser.new)
             × (parser.new ≡ gone_on (length (wire_of s)) parser.old)) }
@@ -46,16 +46,17 @@ impl<'a> CharStr<&'a [u8]> {
 }
 
 impl<Octs: AsOctets> CharStr<Octs> {
-    /// How many octets the wire form has: one more than the character string.
+    /// Returns the length of the wire format in octets: one more than that of the string.
     pub fn compose_len(&self) -> u16
         ensures { result ≡ length (wire_of self.now) }
     {
         self.len() as u16 + 1
     }
 
-    /// Appends the wire form.
+    /// Appends the character string in wire format.
     ///
-    /// Refused, the target is as it was, or has the length octet appended.
+    /// Fails with [`ShortBuf`] if the target lacks capacity or an allocation fails. The target is
+    /// then unchanged, or has the length octet appended.
     pub fn compose<Target: OctetsBuilder>(&self, target: &mut Target) -> Result<(), ShortBuf>
         ensures ok { OnOk result (Target.octets target.new ≡ Target.octets target.old ++ wire_of self.now) }
         ensures err { OnErr result (IsLeftByRefusal Target.room self.now (Target.octets target.old) (Target.octets target.new)) }
