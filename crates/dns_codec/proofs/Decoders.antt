@@ -26,13 +26,13 @@ use Rattle.dns_codec.proofs.Reading.{Decoded}
 use Rattle.dns_codec.proofs.Steps.{IsRead, no_cause, stepped}
 use Rattle.dns_codec.proofs.Wholes.{HaveValues-length}
 
--- what a decoder holds after a text, where no error is stored
+-- the state of a decoder after a text, if no error is stored
 pub record Stands (b : Base) (room : Room) (text : List ℕ) (d : DecoderState) : Type 0 where
   pub quiet : d.error ≡ None
   pub held : length d.octets ≤ max room.fits room.capacity
   pub read : IsRead b text d.octets d.group.digits d.group.padding
 
--- what stands after a character that was refused
+-- the state after a character that was rejected
 pub record Refuses (b : Base) (room : Room) (text : List ℕ) (c : ℕ) (d j : DecoderState) : Type 0 where
   pub error : DecodeError
   pub stored_is : j.error ≡ Some error

@@ -1,4 +1,4 @@
--- What holds of each of the three encodings.
+-- Facts about each of the three encodings.
 use Rattle.std.proofs.Common.{◌≡◌, ℕ, ◌<◌, List, inl, inr}
 use Rattle.std.specs.List.{AllByRecursion}
 use Rattle.dns_codec.specs.Base.{Base, IsEncoding, encoded}

@@ -19,7 +19,7 @@ use Rattle.dns_codec.proofs.RoundTrip.{last64}
 use Rattle.dns_codec.proofs.Steps.{CountsOf, IsRead, lengths, plain_text, due_is, no_cause, closed_octets}
 use Rattle.dns_codec.proofs.Wholes.{whole-nil, HaveValues-length}
 
--- why the text is refused at its end, and its value where it isn't
+-- the error of the text at its end, and its value without an error
 pub record Ended (b : Base) (text octets digits : List ℕ) (padding : Padding) : Type 0 where
   pub refusal_is : (limit : ℕ) → length octets ≤ limit
       → refusal b limit text ≡ (if may_end_in b digits padding then short_buf_if limit (length octets + length (whole b.width digits)) else Some ShortInput)

@@ -1,4 +1,4 @@
--- What tells the encodings apart: padding.
+-- The property that distinguishes the encodings: padding.
 use Rattle.std.proofs.Common.{◌≡◌, ℕ, ◌+◌, ◌==◌, ◌&&◌, nat_lt, nat_le, Bool, true, false, if◌then◌else◌, List, length, Option, Some, None, refl, sym, ap, subst, ◌∙◌, inl, inr}
 use Rattle.std.proofs.lemmas.Bool.{cases_Bool, and_right}
 use Rattle.dns_octets.specs.Room.{Room}

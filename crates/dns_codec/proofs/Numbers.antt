@@ -1,4 +1,4 @@
--- What the numbers of the three encodings have in common.
+-- The common properties of the numbers of the three encodings.
 use Rattle.std.proofs.Common.{◌≡◌, ℕ, ◌+◌, ◌-◌, ◌*◌, ◌/◌, ◌%◌, ◌^◌, ◌<◌, ◌≤◌, ◌⊎◌, true, false, nat_lt, refl, arith, Some, None, inl, inr}
 use Rattle.dns_codec.specs.Base.{Base, base16, base32hex, base64, value, IsEncoding}
 use Rattle.dns_codec.specs.Outcome.{grouped}

@@ -145,7 +145,7 @@ module _ (b : Base) (known : IsEncoding b) (plain : IsPlain b) where
       let grows = (numbers b known).grouped_grows (length text) (length (text ++ c ∷ [])) (omega (arith, length-append text (c ∷ []))) in
       want_more limit (grouped b (length text)) (grouped b (length (text ++ c ∷ []))) e grows held
 
-  -- a stored error stays, or a later illegal character takes its place
+  -- a stored error stays, or a later illegal character replaces it
   stored_later : (limit : ℕ) (text : List ℕ) (c : ℕ) (e : DecodeError) (o : Option ℕ) → value b c ≡ o → stored b limit text ≡ Some e
       → stored b limit (text ++ c ∷ []) ≡ or_else (illegal_in c o) (Some e)
   stored_later limit text c e None is held =
@@ -246,7 +246,7 @@ stored_here b known text os ps p c e at limit le why = elim (kinds b known) [
 
 -- ---- lists of pushes
 
--- what stands after a text that was pushed
+-- the state after a text that was pushed
 pub record Reached (b : Base) (room : Room) (text : List ℕ) (d : DecoderState) : Type 0 where
   pub limit : ℕ
   pub is_limit : IsLimit room limit
@@ -356,7 +356,7 @@ same32 text os ps p at limit le =
     let known : IsEncoding base32hex = inr (inl refl) in
     rw (stored_none base32hex known text os ps p at limit le, no_cause base32hex known text os ps p at limit le) refl
 
--- a text without a cause is refused in one way, whether all of it was pushed or not
+-- a text without a cause is rejected in one way, whether all of it was pushed or not
 pub same_refusal : (b : Base) → IsEncoding b → (text os ps : List ℕ) (p : Padding) → IsRead b text os ps p → (limit : ℕ) → length os ≤ limit → pushed_refusal b limit text ≡ refusal b limit text
 same_refusal b (inl is) = rw is same16
 same_refusal b (inr (inl is)) = rw is same32
@@ -377,7 +377,7 @@ stored_end16 limit text k e absent count is held = elim (cases_Bool (legal_count
       rw (one, absent, size) refl
 ]
 
--- the end of a text that left an error
+-- the end of a text with a stored error
 stored_end : (b : Base) → IsEncoding b → (limit : ℕ) (text : List ℕ) (k : DecoderState) (e : DecodeError)
     → (IsPlain b → (k.group.padding ≡ Absent) × (length k.group.digits ≡ legal_count b text % b.group)) → k.error ≡ Some e
     → stored b limit text ≡ Some e → pushed_refusal b limit text ≡ end_error b k

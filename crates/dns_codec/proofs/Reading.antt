@@ -27,7 +27,7 @@ abbrev pub Decoded : Base → (ℕ → List ℕ → Option DecodeError) → Room
 Decoded b refusal room text (Ok octets) = Decodes b text octets
 Decoded b refusal room text (Err e) = IsRefusedBy refusal room text e
 
--- a text that is read wherever there is room isn't refused
+-- a text that is decoded if it fits isn't rejected
 pub never_refused : (refusal : ℕ → List ℕ → Option DecodeError) (room : Room) (text octets : List ℕ) (e : DecodeError)
     → ((limit : ℕ) → length octets ≤ limit → refusal limit text ≡ None) → length octets ≤ room.fits → IsRefusedBy refusal room text e → ⊥
 never_refused refusal room text octets e reads le by =

@@ -1,4 +1,4 @@
--- The refusal of a text, and the grammar.
+-- The error of a text, and the grammar.
 use Rattle.std.proofs.Common.{◌≡◌, ℕ, ◌+◌, ◌≤◌, nat_lt, Bool, true, false, List, [], ◌∷◌, ◌++◌, length, refl, sym, ap, ◌∙◌, arith, Option, Some, None, inl, inr, append_assoc, append-nil}
 use Rattle.std.proofs.Common.{length-append}
 use Rattle.std.specs.Prelude.{if◌then◌else◌}
@@ -20,7 +20,7 @@ use Rattle.dns_codec.proofs.Numbers.{IsPlain, plain16, plain32}
 use Rattle.dns_codec.proofs.Pushed.{all_legal, legal_stored, same_refusal}
 use Rattle.dns_codec.proofs.Steps.{IsRead, read_none, no_cause, stepped}
 
--- a text of the grammar isn't refused where there is room for its octets
+-- a text of the grammar isn't rejected if its octets fit
 pub reads : (b : Base) → IsEncoding b → (text octets : List ℕ) (limit : ℕ) → Decodes b text octets → length octets ≤ limit → (refusal b limit text ≡ None) × (pushed_refusal b limit text ≡ None)
 reads b known text octets limit d le =
     let r = read_of b known text octets d in
@@ -47,7 +47,7 @@ not_short limit n true e = (refl, want_fits limit n e)
 not_short limit n false e = cc e
 
 module _ (b : Base) (known : IsEncoding b) (limit : ℕ) where
-  -- what isn't refused has no cause at the next character
+  -- what isn't rejected has no cause at the next character
   unrefused_next : (text os ps rest : List ℕ) (p : Padding) (c : ℕ) → IsRead b text os ps p → length os ≤ limit → refusal b limit (text ++ c ∷ rest) ≡ None → char_error b limit text c ≡ None
   unrefused_next text os ps rest p c at le e = elim (cases_error (char_error b limit text c)) [
     | inl none ↦ none
@@ -73,7 +73,7 @@ module _ (b : Base) (known : IsEncoding b) (limit : ℕ) where
 pub unrefused : (b : Base) → IsEncoding b → (text : List ℕ) (limit : ℕ) → refusal b limit text ≡ None → (octets : List ℕ) × Decodes b text octets × (length octets ≤ limit)
 unrefused b known text limit e = unrefused_from b known limit [] text [] [] Absent (read_none b known) (omega arith) e
 
--- ---- where there is too little room, lack of room alone refuses a text of the grammar
+-- ---- if the capacity is too small, a text of the grammar fails only with `ShortBuf`
 
 want_is : (limit n : ℕ) (e : DecodeError) → short_buf_if limit n ≡ Some e → e ≡ ShortBuf
 want_is limit n e is = elim (cases_Bool (nat_lt limit n)) [
@@ -105,7 +105,7 @@ module _ (b : Base) (known : IsEncoding b) (limit wide : ℕ) (e : DecodeError) 
             sym equals ∙ want_is limit _ short.0 short.1
       ]
 
--- in base 16 and base32hex, a text of the grammar is characters of the alphabet, as many as whole octets need
+-- in base 16 and base32hex, a text of the grammar has characters of the alphabet that make whole octets
 decodes_valued : (b : Base) → IsPlain b → (text octets : List ℕ) → Decodes b text octets → (ps : List ℕ) × HaveValues b text ps × (may_end_after b (length text) ≡ true)
 decodes_valued b plain text octets d =
     let all : text ≡ d.chars = d.spelled ∙ rw (plain.no_marks (length d.chars)) (append-nil d.chars) in

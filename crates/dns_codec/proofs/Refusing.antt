@@ -1,4 +1,4 @@
--- A converter's answer, from the text of its refusal.
+-- A converter's result, from the text of its error.
 use Rattle.std.proofs.Common.{◌≡◌, ℕ, List, refl, sym, ap, ◌∙◌, subst, Option, Some, None, Ok, Err}
 use Rattle.std.specs.Borrow.{Bor}
 use Rattle.dns_symbol.specs.Cause.{Cause, custom_text}

@@ -1,4 +1,4 @@
--- Short texts, read at once: their octets are their characters, and only lack of room refuses them.
+-- Short texts, decoded at once: their octets are their characters, and only `ShortBuf` can result.
 use Rattle.std.proofs.Common.{◌≡◌, ℕ, zero, suc, ◌≤◌, List, [], ◌∷◌, length, sym, ap, ◌∙◌, arith, Some, None, inl, inr}
 use Rattle.std.specs.Str.{chars, IsAscii}
 use Rattle.std.proofs.Math.Nat.{le-max_left}
@@ -34,7 +34,7 @@ chars_decodes b known text octets d =
     let ascii : IsAscii text = rw d.spelled (IsAscii-append _ _ (valued_ascii b known d.chars d.digits d.valued) (marks_ascii _)) in
     rw (chars-IsAscii text ascii) d
 
--- a text of the grammar is refused for lack of room where its octets needn't fit
+-- a text of the grammar fails with `ShortBuf` if its octets needn't fit
 pub wants_room : (b : Base) → IsEncoding b → (room : Room) (text octets : List ℕ)
     → Decodes b text octets → (length octets ≤ room.fits → ⊥) → IsRefusedBy (refusal b) room text ShortBuf
 wants_room b known room text octets d over = elim (cases_error (refusal b room.fits text)) [

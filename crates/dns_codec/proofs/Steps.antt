@@ -1,4 +1,4 @@
--- Texts that are read character by character, without builders: what stands after them, and their end.
+-- Texts decoded character by character, without builders: the state after them, and their end.
 use Rattle.std.proofs.Common.{◌≡◌, ℕ, suc, ◌+◌, ◌-◌, ◌*◌, ◌/◌, ◌%◌, ◌^◌, ◌==◌, ◌<◌, ◌≤◌, ◌⊎◌, true, false, nat_lt, List, [], ◌∷◌, ◌++◌, length, replicate, refl, sym, ap, ◌∙◌, arith, Option, Some}
 use Rattle.std.proofs.Common.{None, inl, inr, append_assoc, append-nil, length-append}
 use Rattle.std.specs.Prelude.{nat_le, ◌&&◌}
@@ -19,7 +19,7 @@ use Rattle.dns_codec.proofs.Marks.{marks-spelled, legal, illegal, chars_none, ma
 use Rattle.dns_codec.proofs.Numbers.{numbers, kinds, is_padded}
 use Rattle.dns_codec.proofs.Wholes.{length-whole, whole-nil, whole-append, HaveValues-below, HaveValues-push, HaveValues-length, below_front}
 
--- how many digits are open, how many `=` came, and how many digits stand in front
+-- the number of open digits, of `=`, and of digits before the group
 abbrev pub CountsOf : Base → Padding → ℕ → ℕ → ℕ → Type 0
 CountsOf b Absent g m f = (m ≡ 0) × (g < b.group) × (f % b.group ≡ 0)
 CountsOf b One g m f = (b ≡ base64) × (m ≡ 1) × (g ≡ 2) × (f % b.group ≡ 0)
@@ -58,7 +58,7 @@ lengths b text os ps p at =
     let sum : length text ≡ length at.chars + at.count = ap length at.spelled ∙ (length-append at.chars (replicate at.count 61) ∙ ap (λ n. length at.chars + n) (length-replicate at.count 61)) in
     record { text_is = omega arith; chars_are = len; octets_are = ap length at.made ∙ length-whole b.width at.front }
 
--- where no `=` came, the text is characters of the alphabet
+-- if no `=` came, the text is characters of the alphabet
 pub plain_text : (b : Base) (text os ps : List ℕ) → (at : IsRead b text os ps Absent) → text ≡ at.chars
 plain_text b text os ps at = let none = at.counts.0 in rw (none, append-nil) at at.spelled
 
@@ -144,14 +144,14 @@ pub record Stepped (b : Base) (text octets : List ℕ) (c : ℕ) (s : CharacterS
   pub cause_is : (limit : ℕ) → length octets ≤ limit → char_error b limit text c ≡ or_else (short_buf_if limit (length octets + length s.octets)) s.error
   pub goes_on : s.error ≡ None → IsRead b (text ++ c ∷ []) (octets ++ s.octets) s.group.digits s.group.padding
 
--- a group that is closed: its octets follow those of the front
+-- a group that is closed: its octets follow those of the prefix
 pub closed_octets : (b : Base) → IsEncoding b → (os front g chars : List ℕ) → os ≡ whole b.width front → length front % b.group ≡ 0 → HaveValues b chars (front ++ g)
     → os ++ whole b.width g ≡ whole b.width (front ++ g)
 closed_octets b known os front g chars made whole_groups valued =
     let n = numbers b known in
     rw made (sym (whole-append b.width front g (n.bits (length front) whole_groups) (below_front (2 ^ b.width) front g (HaveValues-below b n.below chars (front ++ g) valued))))
 
--- refused, whatever the room
+-- rejected, whatever the capacity
 at_once : (b : Base) (text os : List ℕ) (c : ℕ) (s : CharacterStep) (e : DecodeError) → s.octets ≡ [] → s.error ≡ Some e → ((limit : ℕ) → char_error b limit text c ≡ Some e) → Stepped b text os c s
 at_once b text os c s e nothing is why =
     let sum : length os + length s.octets ≡ length os = rw nothing (omega arith) in

@@ -42,7 +42,7 @@ read_as b c t u bits n m text new is of_t of_u width bytes all read =
     let same : map (slice_index u) (take n text) ≡ map (slice_index t) (take n text) = same_values c t u of_t (rw is at of_u) (take n text) low all in
     (rw (width, same) all, rw (width, same) read)
 
--- ---- what a count of groups says
+-- ---- facts from a count of groups
 
 pub groups_even : (count bits chars octets : ℕ) → bits * chars ≡ 8 * octets → (count * octets * 8 % bits ≡ 0) × (bits * (count * chars) ≡ 8 * (count * octets))
 groups_even count bits chars octets even =

@@ -67,7 +67,7 @@ looked_up table places long low =
     let one : 16 * ((0 + i) / 16) + get_or places i 0 ≡ get_or places i 0 = omega arith in
     get_or-swz_l_below w8 16 table 0 places i inside (at_place places i low) ∙ (ap (λ k. get_or table k 0) one ∙ sym (get_or-map (slice_index table) places i 0 0 inside)))
 
--- the same, where the places are computed from a vector
+-- the same, with the offsets computed from a vector
 pub may_look_up_by : (n : ℕ) (v places : List ℕ) (f : ℕ → ℕ) → length v ≡ 16 → AllByRecursion (λ x. x < n) v → places ≡ map f v → agree_below (λ x. ltb (f x) 16) (λ _. true) n ≡ true
     → SwzOk w8 16 16 0 places
 may_look_up_by n v places f long low is agree = may_look_up places (ap length is ∙ (length-map v f ∙ long)) (by_bound n 16 v places f low is agree)

@@ -236,7 +236,7 @@ pub below_more : (xs : List ℕ) → AllByRecursion (λ v. v < 64) xs → AllByR
 below_more [] all = tt
 below_more (x ∷ xs) all = (omega (arith, all.0), below_more xs all.1)
 
--- the front of a vector that is stored
+-- the prefix of a vector that is stored
 pub stored_front : (at n : ℕ) (octets v : List ℕ) → n ≤ length v → at + length v ≤ length octets → take (at + n) (put_chunk at octets v) ≡ take at octets ++ take n v
 stored_front at n octets v few room =
     let len : length (take at octets) ≡ at = length-take-le at octets (omega arith) in

@@ -1,5 +1,5 @@
--- What becomes of a text, as a function of the text and of the octets that there is room for. It looks at the text
--- alone: nothing here speaks of groups that are open, of padding that was seen or of errors that are stored.
+-- The result of decoding a text, as a function of the text and of the capacity in octets. The text alone defines
+-- it, without open groups, padding that was seen or stored errors.
 use Rattle.std.specs.Prelude.{◌≡◌, ℕ, ◌+◌, ◌-◌, ◌*◌, ◌/◌, ◌%◌, ◌==◌, ◌&&◌, Bool, nat_lt, nat_le, if◌then◌else◌, is_some, is_none, List, [], ◌∷◌, ◌++◌, length, reverse, find, count_by, Option}
 use Rattle.std.specs.Prelude.{Some, None, Result, Ok, Err}
 use Rattle.dns_octets.specs.Room.{Room}
@@ -10,15 +10,15 @@ use Rattle.dns_codec.specs.Limit.{IsLimit}
 use Rattle.dns_codec.specs.declared.error.DecodeError.{DecodeError}
 use Rattle.dns_codec.specs.declared.error.DecodeError.TheVariants.{IllegalChar, TrailingInput, ShortInput, ShortBuf}
 
--- ShortBuf, if there is no room for so many octets
+-- ShortBuf, if the octets exceed the limit
 abbrev pub short_buf_if : ℕ → ℕ → Option DecodeError
 short_buf_if limit octets = if nat_lt limit octets then Some ShortBuf else None
 
--- the octets of the whole groups of so many characters
+-- the octets of the whole groups of n characters
 abbrev pub grouped : Base → ℕ → ℕ
 grouped b n = n / b.group * b.group * b.width / 8
 
--- how many `=` a text has, where the encoding has them
+-- the number of `=` in a text, if the encoding has them
 abbrev pub pad_count : Base → List ℕ → ℕ
 pad_count b text = if nat_lt 1 b.unit then count_by (λ c. c == 61) text else 0
 
@@ -26,9 +26,9 @@ pad_count b text = if nat_lt 1 b.unit then count_by (λ c. c == 61) text else 0
 abbrev pub octet_count : Base → List ℕ → ℕ
 octet_count b text = (length text - pad_count b text) * b.width / 8
 
--- ---- reading a text to the first character that is refused
+-- ---- decoding a text to the first character that is rejected
 
--- why a character is refused, or its digit, after a text without `=`
+-- the error of a character, or its digit, after a text without `=`
 abbrev pub char_error_open : Base → ℕ → List ℕ → ℕ → Option ℕ → Option DecodeError
 char_error_open b limit front c (Some v) = short_buf_if limit (grouped b (length front + 1))
 char_error_open b limit front c None =
@@ -41,19 +41,19 @@ abbrev pub char_error_padded : Base → ℕ → List ℕ → ℕ → Option ℕ 
 char_error_padded b limit front c (Some v) = or_else (short_buf_if limit (octet_count b front)) (Some TrailingInput)
 char_error_padded b limit front c None = if c == 61 then short_buf_if limit (octet_count b front) else Some (IllegalChar c)
 
--- why a character is refused after those in front of it. After a padded group each is
+-- the error of a character after those before it. After a padded group every character has one
 abbrev pub char_error : Base → ℕ → List ℕ → ℕ → Option DecodeError
 char_error b limit front c =
     if pad_count b front == 0 then char_error_open b limit front c (value b c)
     else if length front % b.unit == 0 then Some TrailingInput
     else char_error_padded b limit front c (value b c)
 
--- the cause at the earliest character that has one. `front` is what stands before the text
+-- the error of the first character that has one. `front` precedes the text
 abbrev pub first_char_error : (List ℕ → ℕ → Option DecodeError) → List ℕ → List ℕ → Option DecodeError
 first_char_error why front [] = None
 first_char_error why front (c ∷ cs) = or_else (why front c) (first_char_error why (front ++ c ∷ []) cs)
 
--- a text of so many characters may end
+-- a text of n characters may end
 abbrev pub may_stop : Base → ℕ → Bool
 may_stop b n = if nat_lt 1 b.unit then n % b.unit == 0 else may_end_after b n
 
@@ -79,11 +79,11 @@ abbrev pub stored_by : Base → ℕ → ℕ → Option ℕ → Option DecodeErro
 stored_by b limit n (Some c) = Some (IllegalChar c)
 stored_by b limit n None = short_buf_if limit (grouped b n)
 
--- the error that is stored then: the first, if that is kept; or the last illegal character, else lack of room
+-- the error that is stored then: the first, if that is kept; or the last illegal character, else `ShortBuf`
 abbrev pub stored : Base → ℕ → List ℕ → Option DecodeError
 stored b limit text = if b.keeps_first then first_char_error (char_error b limit) [] text else stored_by b limit (length text) (last_illegal b text)
 
--- why the decoder refuses the text at its end
+-- the decoder's error at the end of the text
 abbrev pub pushed_refusal : Base → ℕ → List ℕ → Option DecodeError
 pushed_refusal b limit text =
     if b.ends_first then (if may_end_after b (legal_count b text) then stored b limit text else Some ShortInput)
@@ -91,12 +91,12 @@ pushed_refusal b limit text =
 
 -- ---- results
 
--- the result is the value of a text of the grammar, or the error said
+-- the result is the value of a text of the grammar, or that error
 abbrev pub Outcome : Base → List ℕ → Option DecodeError → Result (List ℕ) DecodeError → Type 0
 Outcome b text e (Ok octets) = (e ≡ None) × Decodes b text octets
 Outcome b text e (Err f) = e ≡ Some f
 
--- for some room that the builder may have, the error that is stored and the result at the end are as said
+-- for some capacity that the builder may have, the stored error and the result at the end are those
 pub record IsPushed (b : Base) (error_of refusal : ℕ → List ℕ → Option DecodeError) (room : Room) (text : List ℕ) (error : Option DecodeError) (result_is : Result (List ℕ) DecodeError) : Type 0
   where
     pub limit : ℕ

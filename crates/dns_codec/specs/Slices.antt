@@ -1,4 +1,4 @@
--- What calls over slices write and read: the characters of octets, and the octets of characters.
+-- The characters of octets, and the octets of characters, as calls over slices write and read them.
 use Rattle.std.specs.Prelude.{◌≡◌, ◌≢◌, ◌<◌, ◌≤◌, ℕ, ◌+◌, ◌-◌, List, Result, IsOk, OnOk, length, map, slice_index, take}
 use Rattle.std.specs.Fmt.{WritesInCalls}
 use Rattle.std.specs.List.{AllByRecursion}
@@ -15,7 +15,7 @@ digit_text b bits octets = map (slice_index b.alphabet) (digits bits octets)
 abbrev pub number_text : Base → ℕ → ℕ → ℕ → List ℕ
 number_text b bits count number = map (slice_index b.alphabet) (low_digits bits count number)
 
--- a text, by calls of the sink, where the answer is `Ok`
+-- a text, by calls of the sink, if the result is `Ok`
 abbrev pub CallsOnOk : {W E : Type 0} → (W → List ℕ → W → Type 0) → W → Result (Unit {0}) E → List ℕ → W → Type 0
 CallsOnOk took f r text g = OnOk r (WritesInCalls took f text g)
 
@@ -31,7 +31,7 @@ value_octets bits table text = whole bits (map (slice_index table) text)
 abbrev pub EndsInMarks : List ℕ → ℕ → Type 0
 EndsInMarks text n = (k : ℕ) → length text ≤ k + n → k < length text → slice_index text k ≡ 61
 
--- the character before them is none
+-- the character before them isn't `=`
 abbrev pub HasNoMarkBefore : List ℕ → ℕ → Type 0
 HasNoMarkBefore text n = n < length text → slice_index text (length text - 1 - n) ≢ 61
 
@@ -47,6 +47,6 @@ DecodesToMore b text count = (v : List ℕ) → Decodes b text v → count < len
 abbrev pub DecodesWithin : Base → ℕ → List ℕ → Type 0
 DecodesWithin b limit text = (octets : List ℕ) × Decodes b text octets × (length octets ≤ limit)
 
--- a text of the grammar is read where its octets surely fit
+-- a text of the grammar is decoded if its octets fit the guaranteed capacity
 abbrev pub ReadsFitting : {V E : Type 0} → Base → Room → List ℕ → Result V E → Type 0
 ReadsFitting b room text r = (octets : List ℕ) → Decodes b text octets → length octets ≤ room.fits → IsOk r

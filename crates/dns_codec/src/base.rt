@@ -1,4 +1,4 @@
-//! The three encodings, by their numbers and rules.
+//! The three encodings, defined by their parameters and rules.
 ghost use Rattle.std.specs.Prelude.{◌≡◌, ℕ, List, ◌<◌, ◌^◌, nat_lt, length, IfSome};
 ghost use Rattle.dns_codec.specs.Base.{Base, IsShape, IsStride, IsTable, IsEncoding, value};
 ghost use Rattle.dns_codec.specs.Grammar.{may_end_after};
@@ -8,36 +8,36 @@ use crate::read::{VALUES16, VALUES32HEX, VALUES64};
 /// The rules in which encodings differ.
 #[derive(Clone, Copy)]
 pub struct Rules {
-    /// Whether `=` fills a last group.
+    /// Whether `=` pads the last group.
     pub is_padded: bool,
-    /// Whether a decoder keeps the first error, and nothing changes after it. Else an illegal
-    /// character takes the place of the stored error, and legal ones are counted.
+    /// Whether a decoder keeps its first error, so that nothing changes after it. If not, a later
+    /// illegal character replaces the stored error, and legal characters are still counted.
     pub keeps_first: bool,
-    /// Whether an open group is refused before the stored error.
+    /// Whether an open group at the end is reported before the stored error.
     pub ends_first: bool,
-    /// Why a converter refuses a symbol.
+    /// Message of a converter that rejects a symbol.
     pub illegal: &'static str,
-    /// Why a converter refuses a symbol after the padding.
+    /// Message of a converter that rejects a symbol after the padding.
     pub trailing: &'static str,
-    /// Why a converter refuses the end.
+    /// Message of a converter that rejects the end.
     pub incomplete: &'static str,
 }
 
-/// What sets an encoding apart from the others.
+/// The parameters of an encoding.
 ///
-/// The list of encodings is closed: whoever implements this shows that `base` is base 16,
-/// base32hex or base 64 of RFC 4648 (`known`). The laws of encodings rest on that.
+/// The list of encodings is closed: an implementation proves that `base` is base 16, base32hex or
+/// base 64 of RFC 4648 (`known`). The laws of encodings depend on that.
 pub trait Encoding {
-    /// The bits of a character.
+    /// Number of bits of a character.
     const BITS: u32;
 
-    /// The characters of a whole group.
+    /// Number of characters of a whole group.
     const CHARS: u32;
 
-    /// The octets of a whole group.
+    /// Number of octets of a whole group.
     const OCTETS: usize;
 
-    /// How many octets are written at a time: whole characters.
+    /// Number of octets that are written at a time, which make whole characters.
     const STRIDE: usize;
 
     ghost BITS: { ℕ };
@@ -52,21 +52,22 @@ pub trait Encoding {
 
     ghost table: { List ℕ };
 
-    /// The value of each octet as a character, and 255 where it has none.
+    /// Returns the table of the value of each octet as a character, and 255 for an octet without a
+    /// value.
     fn values() -> &'static [u8; 256]
         ensures { result.now ≡ table };
 
-    /// The characters, by their values.
+    /// Returns the alphabet, indexed by value.
     fn alphabet() -> &'static [u8]
         ensures characters { result.now ≡ base.alphabet }
         ensures len { length result.now ≡ 2 ^ BITS };
 
-    /// Whether a text may end after `count` characters of a group.
+    /// Returns whether a text may end after `count` characters of a group.
     fn may_end(count: u32) -> bool
         requires { count < base.group }
         ensures { result ≡ may_end_after base count };
 
-    /// The other rules.
+    /// Returns the other rules.
     fn rules() -> Rules
         ensures is_padded { result.is_padded ≡ nat_lt 1 base.unit }
         ensures keeps_first { result.keeps_first ≡ base.keeps_first }
@@ -84,7 +85,7 @@ pub trait Encoding {
     ghost known: { IsEncoding base };
 }
 
-/// The value of a character.
+/// Returns the value of a character, or `None` if it isn't in the alphabet.
 #[inline(always)]
 pub(crate) fn value_of<K: Encoding>(c: char) -> Option<u8>
     ensures value { result ≡ value K.base c }
@@ -103,7 +104,7 @@ pub(crate) fn value_of<K: Encoding>(c: char) -> Option<u8>
     }
 }
 
-/// Base 16.
+/// Base 16 (RFC 4648 section 8).
 #[derive(Debug, Drop)]
 pub struct Base16;
 
@@ -166,7 +167,7 @@ impl Encoding for Base16 {
     ghost known = { inl refl };
 }
 
-/// Base 32 with the extended hex alphabet.
+/// Base 32 with the extended hex alphabet (RFC 4648 section 7).
 #[derive(Debug, Drop)]
 pub struct Base32Hex;
 
@@ -229,7 +230,7 @@ impl Encoding for Base32Hex {
     ghost known = { inr (inl refl) };
 }
 
-/// Base 64.
+/// Base 64 (RFC 4648 section 4).
 #[derive(Debug, Drop)]
 pub struct Base64;
 

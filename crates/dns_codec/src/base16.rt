@@ -1,6 +1,6 @@
 //! Base 16, also called hex (RFC 4648, section 8).
 //!
-//! Two characters spell an octet. Texts are printed with capitals and read without case.
+//! Two characters encode an octet. Texts are printed in upper case and parsed in either case.
 ghost use Rattle.std.specs.Prelude.{◌≡◌, length, ◌<◌, IfSome, IfNone, IfOk, IfErr};
 ghost use Rattle.std.specs.Str.{chars};
 ghost use Rattle.std.specs.String.{string_bytes};
@@ -20,17 +20,17 @@ use dns_octets::{EmptyBuilder, FreezeBuilder, OctetsBuilder, ShortBuf};
 use std::alloc::Allocator;
 use std::fmt;
 
-/// Reads base 16, one character after another.
+/// A decoder of base 16, to which characters are pushed one by one.
 pub type Decoder<B> = decoder::Decoder<B, Base16>;
 
-/// Makes octets of the symbols of base 16.
+/// A converter from symbols of base 16 to octets.
 ///
-/// The refusals are "expected hex digits" for a symbol, and "uneven number of hex digits" for half
-/// an octet at the end.
+/// Its errors are "expected hex digits" for a symbol, and "uneven number of hex digits" for half an
+/// octet at the end.
 pub type SymbolConverter = converter::Converter<Base16>;
 
 impl<B: OctetsBuilder + EmptyBuilder + Drop> decoder::Decoder<B, Base16> {
-    /// A decoder that nothing was pushed to.
+    /// Returns a decoder to which nothing was pushed.
     pub fn new(alloc: B::Alloc) -> Self
         ensures { IsNew result }
     {
@@ -46,10 +46,10 @@ impl<B: OctetsBuilder + EmptyBuilder<Alloc = ()> + Drop> Default for decoder::De
     }
 }
 
-/// Reads a text of base 16, up to the first character that is refused.
+/// Decodes a text of base 16, up to the first character that is rejected.
 ///
-/// The errors are those of [`Decoder::push`] and [`Decoder::finalize`]. A text of the grammar is
-/// read wherever its octets surely fit into the builder.
+/// Fails as [`Decoder::push`] and [`Decoder::finalize`] do. A text of the grammar is decoded if its
+/// octets fit the builder's guaranteed capacity.
 pub fn decode<B: OctetsBuilder + EmptyBuilder + FreezeBuilder + Drop>(
     alloc: B::Alloc,
     s: &str,
@@ -61,10 +61,11 @@ pub fn decode<B: OctetsBuilder + EmptyBuilder + FreezeBuilder + Drop>(
     decoder::decode::<B, Base16>(alloc, s)
 }
 
-/// Reads a text of base 16 into the start of a slice, and returns how many octets; `None` where the
-/// text isn't in the grammar or its octets don't fit. [`decode`] says why.
+/// Decodes a text of base 16 into the beginning of a slice, and returns the number of octets.
+/// Returns `None` if the text isn't of the grammar or its octets don't fit. [`decode`] returns the
+/// cause.
 ///
-/// After `None` nothing is said of the slice.
+/// After `None` the contents of the slice are unspecified.
 pub fn decode_slice(text: &[u8], octets: &mut [u8]) -> Option<usize>
     ensures read { IfSome result (DecodesInto base16 text.now octets.new) }
     ensures refused { IfNone result (DecodesToMore base16 text.now (length octets.old)) }
@@ -72,7 +73,7 @@ pub fn decode_slice(text: &[u8], octets: &mut [u8]) -> Option<usize>
     read::decode_slice::<Base16>(text, octets)
 }
 
-/// Reads a text of base 16 into a vector, as [`decode`] does.
+/// Decodes a text of base 16 into a vector. Fails as [`decode`] does.
 pub fn decode_vec<A: Allocator + Copy>(alloc: A, s: &str) -> Result<Vec<u8, A>, DecodeError>
     ensures value { IfOk result (λ octets. Decodes base16 (chars s.now) octets.items) }
     ensures refused { IfErr result (λ e. IsRefusedBy (refusal base16) of_memory (chars s.now) e) }
@@ -80,23 +81,23 @@ pub fn decode_vec<A: Allocator + Copy>(alloc: A, s: &str) -> Result<Vec<u8, A>, 
     decode::<Vec<u8, A>>(alloc, s)
 }
 
-/// Writes octets in base 16, with capitals.
+/// Writes octets in base 16, in upper case. Fails if the writer fails.
 pub fn display<W: fmt::Write>(bytes: &[u8], f: &mut W) -> fmt::Result
     ensures { CallsOnOk W.write_str_gives f.old result (encoded base16 bytes.now) f.new }
 {
     encode::display::<Base16, W>(bytes, f)
 }
 
-/// Writes the text of octets at the start of a slice, and returns how many characters it has.
+/// Writes octets in base 16 at the beginning of a slice, and returns the number of characters.
 ///
-/// The only error is that they don't fit; nothing is written then.
+/// Fails with [`ShortBuf`] if they don't fit, and then writes nothing.
 pub fn encode_slice(bytes: &[u8], text: &mut [u8]) -> Result<usize, ShortBuf>
     ensures { IsWritten (encoded base16 bytes.now) text.old result text.new }
 {
     encode::encode_slice::<Base16>(bytes, text)
 }
 
-/// The text of octets in base 16. The only error is lack of memory.
+/// Returns octets in base 16 as a string. Fails with [`ShortBuf`] if an allocation fails.
 pub fn encode_string<A: Allocator>(alloc: A, bytes: &[u8]) -> Result<String<A>, ShortBuf>
     ensures { IfOk result (λ text. string_bytes text ≡ encoded base16 bytes.now) }
 {
@@ -106,7 +107,7 @@ pub fn encode_string<A: Allocator>(alloc: A, bytes: &[u8]) -> Result<String<A>, 
 /// Octets that print as base 16.
 pub type Encoded<'a> = encode::Encoded<'a, Base16>;
 
-/// The octets, to be printed as [`display`] does.
+/// Returns the octets, which print as [`display`] writes them.
 pub fn encode_display(octets: &[u8]) -> Encoded<'_>
     ensures { shown result ≡ octets.entry.now }
 {

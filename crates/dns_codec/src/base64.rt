@@ -1,6 +1,6 @@
 //! Base 64 (RFC 4648, section 4).
 //!
-//! Four characters spell three octets, and a last group is padded with `=` to four characters.
+//! Four characters encode three octets, and a last group is padded with `=` to four characters.
 ghost use Rattle.std.specs.Prelude.{◌≡◌, length, ◌<◌, IfSome, IfNone, IfOk, IfErr};
 ghost use Rattle.std.specs.Str.{chars};
 ghost use Rattle.std.specs.String.{string_bytes};
@@ -19,28 +19,28 @@ use dns_octets::{EmptyBuilder, FreezeBuilder, OctetsBuilder, ShortBuf};
 use std::alloc::Allocator;
 use std::fmt;
 
-/// The `=` that were read of a group.
+/// The `=` of a group that were read so far.
 #[derive(Clone, Copy, Debug)]
 pub enum Padding {
-    /// None.
+    /// No `=`.
     Absent,
-    /// One, and a second has to follow.
+    /// One `=`, which a second has to follow.
     One,
-    /// All: the group is closed, and nothing may follow it.
+    /// All `=`: the group is closed, and nothing may follow it.
     Complete,
 }
 
-/// Reads base 64, one character after another.
+/// A decoder of base 64, to which characters are pushed one by one.
 pub type Decoder<B> = decoder::Decoder<B, Base64>;
 
-/// Makes octets of the symbols of base 64.
+/// A converter from symbols of base 64 to octets.
 ///
-/// The refusals are "illegal Base 64 data" for a symbol, "trailing Base 64 data" for a character
+/// Its errors are "illegal Base 64 data" for a symbol, "trailing Base 64 data" for a character
 /// after a padded group, and "incomplete Base 64 data" for the end within a group.
 pub type SymbolConverter = converter::Converter<Base64>;
 
 impl<B: OctetsBuilder + EmptyBuilder + Drop> decoder::Decoder<B, Base64> {
-    /// A decoder that nothing was pushed to.
+    /// Returns a decoder to which nothing was pushed.
     pub fn new(alloc: B::Alloc) -> Self
         ensures { IsNew result }
     {
@@ -56,10 +56,10 @@ impl<B: OctetsBuilder + EmptyBuilder<Alloc = ()> + Drop> Default for decoder::De
     }
 }
 
-/// Reads a text of base 64, up to the first character that is refused.
+/// Decodes a text of base 64, up to the first character that is rejected.
 ///
-/// The errors are those of [`Decoder::push`] and [`Decoder::finalize`]. A text of the grammar is
-/// read wherever its octets surely fit into the builder.
+/// Fails as [`Decoder::push`] and [`Decoder::finalize`] do. A text of the grammar is decoded if its
+/// octets fit the builder's guaranteed capacity.
 pub fn decode<B: OctetsBuilder + EmptyBuilder + FreezeBuilder + Drop>(
     alloc: B::Alloc,
     s: &str,
@@ -71,10 +71,11 @@ pub fn decode<B: OctetsBuilder + EmptyBuilder + FreezeBuilder + Drop>(
     decoder::decode::<B, Base64>(alloc, s)
 }
 
-/// Reads a text of base 64 into the start of a slice, and returns how many octets; `None` where the
-/// text isn't in the grammar or its octets don't fit. [`decode`] says why.
+/// Decodes a text of base 64 into the beginning of a slice, and returns the number of octets.
+/// Returns `None` if the text isn't of the grammar or its octets don't fit. [`decode`] returns the
+/// cause.
 ///
-/// After `None` nothing is said of the slice.
+/// After `None` the contents of the slice are unspecified.
 pub fn decode_slice(text: &[u8], octets: &mut [u8]) -> Option<usize>
     ensures read { IfSome result (DecodesInto base64 text.now octets.new) }
     ensures refused { IfNone result (DecodesToMore base64 text.now (length octets.old)) }
@@ -82,23 +83,23 @@ pub fn decode_slice(text: &[u8], octets: &mut [u8]) -> Option<usize>
     read::decode_slice::<Base64>(text, octets)
 }
 
-/// Writes octets in base 64, with padding.
+/// Writes octets in base 64, with padding. Fails if the writer fails.
 pub fn display<W: fmt::Write>(bytes: &[u8], f: &mut W) -> fmt::Result
     ensures { CallsOnOk W.write_str_gives f.old result (encoded base64 bytes.now) f.new }
 {
     encode::display::<Base64, W>(bytes, f)
 }
 
-/// Writes the text of octets at the start of a slice, and returns how many characters it has.
+/// Writes octets in base 64 at the beginning of a slice, and returns the number of characters.
 ///
-/// The only error is that they don't fit; nothing is written then.
+/// Fails with [`ShortBuf`] if they don't fit, and then writes nothing.
 pub fn encode_slice(bytes: &[u8], text: &mut [u8]) -> Result<usize, ShortBuf>
     ensures { IsWritten (encoded base64 bytes.now) text.old result text.new }
 {
     encode::encode_slice::<Base64>(bytes, text)
 }
 
-/// The text of octets in base 64. The only error is lack of memory.
+/// Returns octets in base 64 as a string. Fails with [`ShortBuf`] if an allocation fails.
 pub fn encode_string<A: Allocator>(alloc: A, bytes: &[u8]) -> Result<String<A>, ShortBuf>
     ensures { IfOk result (λ text. string_bytes text ≡ encoded base64 bytes.now) }
 {
@@ -108,7 +109,7 @@ pub fn encode_string<A: Allocator>(alloc: A, bytes: &[u8]) -> Result<String<A>, 
 /// Octets that print as base 64.
 pub type Encoded<'a> = encode::Encoded<'a, Base64>;
 
-/// The octets, to be printed as [`display`] does.
+/// Returns the octets, which print as [`display`] writes them.
 pub fn encode_display(octets: &[u8]) -> Encoded<'_>
     ensures { shown result ≡ octets.entry.now }
 {

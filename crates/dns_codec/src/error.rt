@@ -1,4 +1,4 @@
-//! Why a text isn't decoded.
+//! The error of decoding.
 ghost use Rattle.std.specs.Prelude.{◌≡◌, Some};
 ghost use Rattle.dns_codec.specs.Errors.{decode_error_text};
 
@@ -6,16 +6,16 @@ use dns_octets::ShortBuf;
 use std::error::Error;
 use std::fmt;
 
-/// Why a text isn't decoded, in any of the three encodings.
+/// The error of decoding a text, in any of the three encodings.
 #[derive(Clone, Copy, Debug, PartialEq, Eq)]
 pub enum DecodeError {
-    /// A character that may not stand in its place.
+    /// A character that isn't allowed in its place.
     IllegalChar(char),
-    /// Characters after the padding.
+    /// A character after the padding.
     TrailingInput,
     /// The text ends within a group.
     ShortInput,
-    /// The builder refused an octet.
+    /// The buffer is too small, or an allocation failed.
     ShortBuf,
 }
 

@@ -1,4 +1,4 @@
-//! Whole groups by vectors, where an encoding has them: those at the start of octets or of a text.
+//! Encodes and decodes whole groups at the beginning by vectors, for the encodings that have them.
 ghost use Rattle.std.specs.Prelude.{◌≡◌, ◌*◌, ◌^◌, ◌<◌, ◌≤◌, length, take, drop};
 ghost use Rattle.dns_codec.specs.Bits.{whole};
 ghost use Rattle.dns_codec.specs.Slices.{digit_text, AreValued, value_octets};
@@ -6,8 +6,8 @@ ghost use Rattle.dns_codec.specs.Slices.{digit_text, AreValued, value_octets};
 use crate::base::Encoding;
 use crate::{lanes16, lanes64};
 
-/// Puts the characters of whole groups of octets at the start of a text, and returns how many
-/// groups. Fewer than 32 octets in base 64 are left to the caller: for them vectors are slower.
+/// Writes the characters of whole groups of octets at the beginning of a text, and returns the
+/// number of groups. Writes none for fewer than 32 octets in base 64, for which vectors are slower.
 #[inline(always)]
 pub(crate) fn put_vectors<K: Encoding>(octets: &[u8], text: &mut [u8]) -> usize
     requires room { 8 * length octets.now ≤ K.BITS * length text.old }
@@ -24,9 +24,9 @@ pub(crate) fn put_vectors<K: Encoding>(octets: &[u8], text: &mut [u8]) -> usize
     }
 }
 
-/// Reads whole groups of characters from the start of a text into the start of `octets`, and
-/// returns how many groups. All their characters have values. Fewer than 40 characters of base
-/// 64 are left to the caller: for them vectors are slower.
+/// Decodes whole groups at the beginning of a text into the beginning of `octets`, and returns the
+/// number of groups, in which all characters have values. Decodes none of fewer than 40 characters
+/// of base 64, for which vectors are slower.
 #[inline(always)]
 pub(crate) fn read_vectors<K: Encoding>(text: &[u8], octets: &mut [u8]) -> usize
     ensures text { result * K.CHARS ≤ length text.now }

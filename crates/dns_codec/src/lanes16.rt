@@ -1,4 +1,4 @@
-//! Base 16 by vectors: 16 octets, and their 32 characters, at a time.
+//! Base 16 by vectors: 16 octets and their 32 characters at a time.
 ghost use Rattle.std.specs.Prelude.{◌≡◌, ◌*◌, ◌<◌, ◌≤◌, ◌++◌, length, map, take, drop, slice_index};
 ghost use Rattle.std.specs.List.{AllByRecursion};
 ghost use Rattle.dns_codec.specs.Base.{base16};
@@ -8,14 +8,14 @@ ghost use Rattle.dns_codec.specs.Slices.{digit_text, AreValued, value_octets};
 
 use std::simd::prelude::*;
 
-// The octets of a vector.
+// Number of octets of a vector.
 const LANES: usize = 16;
 
 const CHARACTERS: [u8; 16] = [
     b'0', b'1', b'2', b'3', b'4', b'5', b'6', b'7', b'8', b'9', b'A', b'B', b'C', b'D', b'E', b'F',
 ];
 
-// The characters of digits.
+// Returns the characters of digits.
 #[inline(always)]
 fn characters(digits: u8x16) -> u8x16
     requires { AllByRecursion (λ v. v < 16) digits }
@@ -24,7 +24,7 @@ fn characters(digits: u8x16) -> u8x16
     u8x16::from_array(CHARACTERS).swizzle_dyn(digits)
 }
 
-// The text of 16 octets, in two halves.
+// Returns the text of 16 octets, in two halves.
 #[inline(always)]
 fn text_of(octets: u8x16) -> (u8x16, u8x16)
     ensures text { result.0 ++ result.1 ≡ digit_text base16 4 octets }
@@ -36,8 +36,8 @@ fn text_of(octets: u8x16) -> (u8x16, u8x16)
     high.interleave(low)
 }
 
-/// Puts the characters of as many octets as make whole vectors at the start of a text, and returns
-/// how many octets.
+/// Writes the characters of octets at the beginning of a text, for whole vectors only, and returns
+/// the number of octets.
 #[inline(always)]
 pub(crate) fn put(octets: &[u8], text: &mut [u8]) -> usize
     requires { 2 * length octets.now ≤ length text.old }
@@ -55,7 +55,7 @@ pub(crate) fn put(octets: &[u8], text: &mut [u8]) -> usize
     blocks * LANES
 }
 
-// The values of characters, and 255 where one has none.
+// Returns the values of characters, and 255 for a character without a value.
 #[inline(always)]
 fn values(text: u8x16) -> u8x16
     ensures { result ≡ map (slice_index VALUES16) text }
@@ -68,7 +68,7 @@ fn values(text: u8x16) -> u8x16
     digit.simd_lt(u8x16::splat(10)).select(digit, other)
 }
 
-// The octets of 32 values.
+// Returns the octets of 32 values.
 #[inline(always)]
 fn octets_of(front: u8x16, back: u8x16) -> u8x16
     requires { AllByRecursion (λ v. v < 16) (front ++ back) }
@@ -79,8 +79,8 @@ fn octets_of(front: u8x16, back: u8x16) -> u8x16
     high << u8x16::splat(4) | low
 }
 
-/// Reads vectors of characters from the start of a text into the start of `octets`, as long as all
-/// their characters have values and their octets fit, and returns how many octets.
+/// Decodes vectors of characters at the beginning of a text into the beginning of `octets`, while
+/// all their characters have values and their octets fit. Returns the number of octets.
 #[inline(always)]
 pub(crate) fn read(text: &[u8], octets: &mut [u8]) -> usize
     ensures text { result * 2 ≤ length text.now }

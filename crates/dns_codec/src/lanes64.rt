@@ -1,4 +1,4 @@
-//! Base 64 by vectors: 12 octets, and their 16 characters, at a time.
+//! Base 64 by vectors: 12 octets and their 16 characters at a time.
 ghost use Rattle.std.specs.Prelude.{◌≡◌, ◌+◌, ◌*◌, ◌<◌, ◌≤◌, length, map, take, drop, slice_index};
 ghost use Rattle.std.specs.List.{AllByRecursion};
 ghost use Rattle.dns_codec.specs.Base.{base64};
@@ -8,19 +8,20 @@ ghost use Rattle.dns_codec.specs.Slices.{digit_text, AreValued, value_octets};
 
 use std::simd::prelude::*;
 
-// The characters of a vector.
+// Number of characters of a vector.
 const LANES: usize = 16;
 
-// The octets that they spell.
+// Number of octets that they encode.
 const OCTETS: usize = 12;
 
-// What is added to a digit, by its class: 0 for small letters, 1 to 10 for decimal digits, 11 and
-// 12 for `+` and `/`, 13 for capitals.
+// What is added to a digit, indexed by its class: 0 for lower-case letters, 1 to 10 for decimal
+// digits, 11 and 12 for `+` and `/`, 13 for upper-case letters.
 const SHIFTS: [u8; 16] = [
     71, 252, 252, 252, 252, 252, 252, 252, 252, 252, 252, 237, 240, 65, 0, 0,
 ];
 
-// The digits of the first 12 of 16 octets. Three octets are a number of 24 bits in each word.
+// Returns the digits of the first 12 of 16 octets. Three octets are a number of 24 bits in each
+// word.
 #[inline(always)]
 fn digits_of(octets: u8x16) -> u8x16
     ensures len { length result ≡ 16 }
@@ -38,7 +39,7 @@ fn digits_of(octets: u8x16) -> u8x16
     (fourth | third | second | first).to_le_bytes()
 }
 
-// The characters of digits.
+// Returns the characters of digits.
 #[inline(always)]
 fn characters(digits: u8x16) -> u8x16
     requires { AllByRecursion (λ v. v < 64) digits }
@@ -51,8 +52,8 @@ fn characters(digits: u8x16) -> u8x16
     digits + u8x16::from_array(SHIFTS).swizzle_dyn(class)
 }
 
-/// Puts the characters of octets at the start of a text, as long as there is a vector of octets,
-/// and returns how many groups.
+/// Writes the characters of octets at the beginning of a text, for whole vectors only, and returns
+/// the number of groups.
 #[inline(always)]
 pub(crate) fn put(octets: &[u8], text: &mut [u8]) -> usize
     requires { 8 * length octets.now ≤ 6 * length text.old }
@@ -68,7 +69,7 @@ pub(crate) fn put(octets: &[u8], text: &mut [u8]) -> usize
     blocks * 4
 }
 
-// The values of characters, and 255 where one has none.
+// Returns the values of characters, and 255 for a character without a value.
 #[inline(always)]
 fn values(text: u8x16) -> u8x16
     ensures { result ≡ map (slice_index VALUES64) text }
@@ -91,7 +92,7 @@ fn values(text: u8x16) -> u8x16
     capital.simd_lt(u8x16::splat(26)).select(capital, small)
 }
 
-// The 12 octets of 16 values, and four more octets.
+// Returns the 12 octets of 16 values, followed by four more octets.
 #[inline(always)]
 fn octets_of(values: u8x16) -> u8x16
     requires { AllByRecursion (λ v. v < 64) values }
@@ -110,8 +111,8 @@ fn octets_of(values: u8x16) -> u8x16
         .swizzle([2, 1, 0, 6, 5, 4, 10, 9, 8, 14, 13, 12, 12, 12, 12, 12])
 }
 
-/// Reads vectors of characters from the start of a text into the start of `octets`, as long as all
-/// their characters have values and there is room for a vector, and returns how many groups.
+/// Decodes vectors of characters at the beginning of a text into the beginning of `octets`, while
+/// all their characters have values and a vector fits. Returns the number of groups.
 #[inline(always)]
 pub(crate) fn read(text: &[u8], octets: &mut [u8]) -> usize
     ensures text { result * 4 ≤ length text.now }

@@ -1,7 +1,7 @@
-//! Laws of encoding and decoding, of each of the three encodings.
+//! Laws of encoding and decoding, for each of the three encodings.
 //!
-//! They speak of the definitions alone: a text, the octets that it spells, and what decoders hold.
-//! `room` is that of a decoder's builder.
+//! They relate the definitions alone: a text, the octets that it encodes, and the state of
+//! decoders. `room` is that of a decoder's builder.
 ghost use Rattle.std.specs.Prelude.{is_none, ◌≡◌, ℕ, ◌<◌, ◌≤◌, ◌⊎◌, ◌+◌, List, [], length, map, true, false, nat_lt, None, IsSome, IsErr, Some, Result};
 ghost use Rattle.std.specs.Cmp.Lexicographic.{slice_cmp};
 ghost use Rattle.std.specs.List.{AllByRecursion, flat_map};
@@ -21,13 +21,13 @@ ghost use Rattle.dns_codec.specs.declared.error.DecodeError.{DecodeError};
 ghost use Rattle.dns_codec.specs.declared.error.DecodeError.TheVariants.{IllegalChar, ShortBuf};
 ghost use Rattle.dns_codec.specs.Slices.{DecodesWithin};
 
-/// The text of octets is in the grammar, and its value is these octets.
+/// The text of octets is of the grammar, and its value is these octets.
 pub fn encoded_decodes()
     ensures { (b : Base) → IsEncoding b → (octets : List ℕ) → AllByRecursion (λ x. x < 256) octets
         → Decodes b (encoded b octets) octets }
 {}
 
-/// A text has one value.
+/// A text has at most one value.
 pub fn one_value()
     ensures { (b : Base) → IsEncoding b → (text xs ys : List ℕ)
         → Decodes b text xs → Decodes b text ys → xs ≡ ys }
@@ -40,8 +40,8 @@ pub fn encoded_order()
         → slice_cmp nat_cmp (encoded b xs) (encoded b ys) ≡ slice_cmp nat_cmp xs ys }
 {}
 
-/// What becomes of a list of characters that are pushed to a new decoder, and of its end: a
-/// function of the text and of the room that the builder turns out to have.
+/// The result of pushing a list of characters to a new decoder, and of its end: a function of the
+/// text and of the capacity that the builder turns out to have.
 pub fn pushes()
     ensures { (b : Base) → IsEncoding b → (room : Room) (h k : DecoderState) (text : List ℕ)
         (r : Result (List ℕ) DecodeError)
@@ -49,32 +49,31 @@ pub fn pushes()
         → IsPushed b (stored b) (pushed_refusal b) room text k.error r }
 {}
 
-/// A text of the grammar isn't refused where there is room for its octets, neither by `decode` nor
-/// by a decoder that it is pushed to.
+/// A text of the grammar is decoded if its octets fit, both by `decode` and by a decoder to which
+/// it is pushed.
 pub fn grammar_is_read()
     ensures { (b : Base) → IsEncoding b → (text octets : List ℕ) (limit : ℕ)
         → Decodes b text octets → length octets ≤ limit
         → (refusal b limit text ≡ None) × (pushed_refusal b limit text ≡ None) }
 {}
 
-/// Where there is too little room, lack of room alone refuses a text of the grammar: `decode`
-/// returns no other error, and neither does a decoder that it is pushed to.
+/// A text of the grammar fails only with `ShortBuf`, both in `decode` and in a decoder to which it
+/// is pushed.
 pub fn grammar_wants_room()
     ensures { (b : Base) → IsEncoding b → (text octets : List ℕ) (limit : ℕ) (e : DecodeError)
         → Decodes b text octets
         → (refusal b limit text ≡ Some e → e ≡ ShortBuf) × (pushed_refusal b limit text ≡ Some e → e ≡ ShortBuf) }
 {}
 
-/// And only such a text isn't refused: what `decode` doesn't refuse is a text of the grammar, and
-/// there is room for its octets.
+/// A text that `decode` accepts is of the grammar, and its octets fit.
 pub fn only_grammar_is_read()
     ensures { (b : Base) → IsEncoding b → (text : List ℕ) (limit : ℕ)
         → refusal b limit text ≡ None → DecodesWithin b limit text }
 {}
 
-/// A decoder that failed once keeps failing. The octets stay, and so does the error, unless a later
-/// illegal character takes its place. Where the first error is kept, nothing changes any more. A
-/// new decoder has seen no padding, and in an encoding without padding that stays so.
+/// A decoder that failed once keeps failing. The octets don't change, nor does the error, unless a
+/// later illegal character replaces it. If the first error is kept, nothing changes any more. A new
+/// decoder has seen no padding, and in an encoding without padding none is ever recorded.
 pub fn failure_is_kept()
     ensures pushes { (b : Base) (room : Room) (old new : DecoderState) (c : ℕ)
         → IsSome old.error → Pushes b room old c new
@@ -90,21 +89,22 @@ pub fn failure_is_kept()
         → IsSome k.error → Ends b room k r → IsErr r }
 {}
 
-/// On a text without backslash a new converter with its tail gives the octets that decoding gives,
-/// and fails where decoding does, room aside.
+/// On a text without backslash a new converter with its tail produces the octets that decoding
+/// returns, and fails if decoding does, apart from `ShortBuf`.
 pub fn converters_decode()
     ensures { (b : Base) → IsEncoding b → (text : List ℕ) (limit : ℕ) → length text + 3 ≤ limit
         → Agrees b text (refusal b limit text) (converted b (map Char text)) }
 {}
 
-/// On a text without backslash a new converter refuses a character exactly where decoding meets a
-/// cause: no character of a text is refused exactly if none has a cause, and so for each beginning.
+/// On a text without backslash a new converter rejects a character exactly if decoding finds an
+/// error there: it accepts all characters of a text exactly if none has an error, and so for each
+/// prefix.
 pub fn converters_stop()
     ensures { (b : Base) → IsEncoding b → (text : List ℕ) (limit : ℕ) → length text + 3 ≤ limit
         → takes_all_of b (map Char text) ≡ is_none (first_char_error (char_error b limit) [] text) }
 {}
 
-/// The tokens of an entry convert as their join.
+/// The tokens of an entry convert as their concatenation.
 pub fn entries_convert()
     ensures { (b : Base) (tokens : List (List Symbol))
         → converts (convert_entry b) (convert_tail b) fresh false (entry_symbols tokens)

@@ -1,10 +1,10 @@
-//! Base 16 an octet at a time: its two characters stand side by side in a table.
+//! Base 16 an octet at a time, by a table of the two characters of each octet.
 ghost use Rattle.std.specs.Prelude.{◌≡◌, ◌+◌, ◌*◌, ◌≤◌, ◌++◌, length, take, drop};
 ghost use Rattle.dns_codec.specs.Base.{base16};
 ghost use Rattle.dns_codec.specs.Pairs.{IsPairs};
 ghost use Rattle.dns_codec.specs.Slices.{digit_text};
 
-// The two characters of each octet, of octet 0 first.
+// Returns the two characters of each octet, those of octet 0 first.
 fn pairs() -> &'static [u8]
     ensures pairs { IsPairs result.now }
     ensures len { length result.now ≡ 512 }
@@ -21,7 +21,7 @@ fn pairs() -> &'static [u8]
         "
 }
 
-/// Puts the characters of octets into a text at a place, and returns the place after them.
+/// Writes the characters of octets into a text at an offset, and returns the offset after them.
 #[inline(always)]
 pub(crate) fn put_pairs(octets: &[u8], text: &mut [u8], at: usize) -> usize
     requires { at + 2 * length octets.now ≤ length text.old }
