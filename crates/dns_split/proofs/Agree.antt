@@ -22,14 +22,14 @@ moved_oks : (f : ℕ → ℕ) (found : List Piece) → map (moved f) (map Ok fou
 moved_oks f [] = refl
 moved_oks f (p ∷ found) = ap (λ l. Ok (moved_piece f p) ∷ l) (moved_oks f found)
 
--- pieces and a fault are two
+-- pieces and an error are two
 no_fault : (found other : List Piece) (f : Fault) → map Ok found ≡ map Ok other ++ Err f ∷ [] → ⊥
 no_fault [] [] f h = cc
 no_fault [] (q ∷ other) f h = cc
 no_fault (p ∷ found) [] f h = cc
 no_fault (p ∷ found) (q ∷ other) f h = let rest : map Ok found ≡ map Ok other ++ Err f ∷ [] = cc in no_fault found other f rest
 
--- what is read without a fault are the pieces
+-- what is read without an error are the pieces
 read_pieces : (text : List ℕ) (given : List (Result Piece Fault)) (found : List Piece) → Reads text given → given ≡ map Ok found → IsPieces text found
 read_pieces text given found (inl w) h = subst (IsPieces text) (same_found w.found found (sym w.is ∙ h)) w.placed
 read_pieces text given found (inr f) h = elim (no_fault found f.found f.fault (sym h ∙ f.is)) [ ]
@@ -44,7 +44,7 @@ octets_have_pieces text ok found p =
 pub pieces_of_octets : (octets : List ℕ) (found : List Piece) → IsPieces (encode_utf8_all octets) found → (given : List (Result Piece Fault)) × (map (moved (place_of octets)) given ≡ map Ok found)
 pieces_of_octets octets found p = (run Outside 0 0 0 (first_blank octets) octets, sym (octets_run octets) ∙ pieces_run (encode_utf8_all octets) found p)
 
--- a text is bad in one place
+-- a text is bad at one offset
 pub bad_once : (text : List ℕ) (i j : ℕ) → IsBad text i → IsBad text j → i ≡ j
 bad_once text i j a b = elim (cases_lt i j) [
   | inl less ↦ absurd (a.at.longest j less b.at.within b.at.viable)

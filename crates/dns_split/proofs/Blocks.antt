@@ -1,4 +1,4 @@
--- What octets give that more octets follow.
+-- The items of octets that more octets follow.
 use Rattle.std.proofs.Common.{◌≡◌, ℕ, suc, ◌+◌, ◌<◌, Bool, true, false, cond, ◌==◌, nat_lt, List, [], ◌∷◌, ◌++◌, length, take, drop, refl, sym, ap, ◌∙◌, subst, arith, append-nil, append_assoc}
 use Rattle.std.proofs.Common.{length-append}
 use Rattle.std.specs.Prelude.{⊤, Option, Some, None, map, Result, Ok, Err}
@@ -25,7 +25,7 @@ use Rattle.dns_split.proofs.PieceGiven.{tail_of, first_of}
 use Rattle.dns_split.proofs.PieceMoved.{from_place}
 use Rattle.dns_split.proofs.OctetsOnce.{run_given, given_run}
 
--- the blank flag is known where an octet follows
+-- the blank flag is known if an octet follows
 blank_front : (a : Act) (b : Bool) (front y z : List ℕ) → 0 < length front → blank_after a b (front ++ y) ≡ blank_after a b (front ++ z)
 blank_front a b [] y z h = absurd (omega arith)
 blank_front EndEntry b (c ∷ front) y z h = refl
@@ -34,7 +34,7 @@ blank_front BeginToken b (c ∷ front) y z h = refl
 blank_front EndToken b (c ∷ front) y z h = refl
 blank_front FinishToken b (c ∷ front) y z h = refl
 
--- a fault before the end
+-- an error before the end
 abbrev pub first_fault : List (Result Piece Fault) → Option Fault
 first_fault [] = None
 first_fault (Ok p ∷ given) = first_fault given
@@ -88,7 +88,7 @@ stays (c ∷ bs) y m d s at b f h l = go (step m d c) refl (stays bs y)
     go None e ih = run_stop m d s at b c (bs ++ y) e ∙ sym (run_stop m d s at b c bs e)
     go (Some v) e ih = stays_on bs y m d s at b c f v e ih h l bs refl
 
--- a piece that is no entry's end
+-- a piece other than the end of an entry
 abbrev NoEnd : Option Piece → Type 0
 NoEnd None = ⊤
 NoEnd (Some (EndAt p)) = ⊥
@@ -123,7 +123,7 @@ skip None given found i x left n e = record { more = found; is = e; back = λ k.
 skip (Some p) given [] i x left n e = elim (subst (λ q. NoEnd (Some q)) (ap (first_of p) e) n) [ ]
 skip (Some p) given (q ∷ found) i x left n e = record { more = found; is = ap tail_of e; back = λ k. ap (λ z. Ok z ∷ (map Ok found ++ k)) (ap (first_of p) e) }
 
--- octets up to the end of an entry, after which the reader stands as at the beginning
+-- octets up to the end of an entry, after which the state is that of the beginning
 record Passed (m : Mode) (d s at : ℕ) (b : Bool) (bs : List ℕ) (found : List Piece) (i : ℕ) (x : Bool) : Type 0 where
   pub front : List ℕ
   pub rest : List ℕ
@@ -136,7 +136,7 @@ abbrev Passes : List ℕ → Type 0
 Passes bs = (m : Mode) (d s at : ℕ) (b : Bool) (found : List Piece) (i : ℕ) (x : Bool) (left : List (Result Piece Fault))
     → run m d s at b bs ≡ map Ok found ++ Ok (end_at i x) ∷ left → 0 < length left → Passed m d s at b bs found i x
 
--- one thing is given, or two
+-- one item is yielded, or two
 one_given : (g : Result Piece Fault) (found : List Piece) (p : Piece) (left : List (Result Piece Fault)) → g ∷ [] ≡ map Ok found ++ Ok p ∷ left → 0 < length left → ⊥
 one_given g found p left e h = absurd (omega (arith, ap length e, length-append (map Ok found) (Ok p ∷ left), h))
 
@@ -244,7 +244,7 @@ Read octets = run Outside 0 0 0 (first_blank octets) octets
 first_front : (front y z : List ℕ) → 0 < length front → first_blank (front ++ y) ≡ first_blank (front ++ z)
 first_front front y z h = blank_front EndEntry false front y z h
 
--- what stands before the end of an entry is read alike, whatever follows
+-- what precedes the end of an entry is read alike, whatever follows
 front_read : (octets y : List ℕ) (found : List Piece) (i : ℕ) (x : Bool) (left : List (Result Piece Fault)) → Read octets ≡ map Ok found ++ Ok (end_at i x) ∷ left → 0 < length left
     → Read (take i octets ++ y) ≡ map Ok found ++ Ok (end_at i x) ∷ later i (Read y)
 front_read octets y found i x left e h =
@@ -277,7 +277,7 @@ entries_stay octets rest found at blank left alone o r given some then =
     ∙ ap (λ l. map Ok found ++ Ok (end_at at blank) ∷ later at l) (sym (given_run rest alone r then)))
     (run_given (take at octets ++ rest) all)
 
--- and so is a fault before the end
+-- and so is an error before the end
 last_fault : (found : List Piece) (f : Fault) → first_fault (map Ok found ++ Err f ∷ []) ≡ Some f
 last_fault [] f = refl
 last_fault (p ∷ found) f = last_fault found f
@@ -292,7 +292,7 @@ faults_stay octets more found f o r given before =
     (ap (λ t. run Outside 0 0 0 t (octets ++ more)) same ∙ stays octets more Outside 0 0 0 (first_blank octets) f here (omega (arith, before)) ∙ sym is)
     (run_given (octets ++ more) (both_octets octets more o r))
 
--- a place further on, twice
+-- an offset increased, twice
 twice : (a b i : ℕ) → a + (b + i) ≡ a + b + i
 twice a b i = omega arith
 
@@ -320,17 +320,17 @@ later_later a b (Err f ∷ given) =
     ∙ ap (λ w. Err (fault_at (a + b + f.at) w) ∷ later a (later b given)) (wrong_later a b f.wrong)
     ∙ ap (λ g. Err (moved_fault (λ i. a + b + i) f) ∷ g) (later_later a b given)
 
--- what was given of all octets, where these are left, whatever follows them
+-- what was yielded of all octets, if these remain, whatever follows them
 abbrev pub GivenSoFar : List ℕ → List ℕ → List (Result Piece Fault) → ℕ → Type 0
 GivenSoFar all left front base = (y : List ℕ) (alone : List (Result Piece Fault)) → AreOctets y → IsGiven (left ++ y) alone → IsGiven (all ++ y) (front ++ later base alone)
 
--- a block more is left
+-- another block remains
 pub block_read : (all left block : List ℕ) (front : List (Result Piece Fault)) (base : ℕ) → AreOctets block → GivenSoFar all left front base → GivenSoFar (all ++ block) (left ++ block) front base
 block_read all left block front base o g y alone r given =
     subst (λ l. IsGiven l (front ++ later base alone)) (sym (append_assoc all block y))
     (g (block ++ y) alone (both_octets block y o r) (subst (λ l. IsGiven l alone) (append_assoc left block y) given))
 
--- entries that have ended are given
+-- entries that have ended are yielded
 pub entries_given : (all left : List ℕ) (front : List (Result Piece Fault)) (base : ℕ) (found : List Piece) (at : ℕ) (blank : Bool) (more : List (Result Piece Fault)) → AreOctets left
     → GivenSoFar all left front base → IsGiven left (map Ok found ++ Ok (end_at at blank) ∷ more) → 0 < length more
     → GivenSoFar all (drop at left) (front ++ later base (map Ok found ++ Ok (end_at at blank) ∷ [])) (base + at)
@@ -373,7 +373,7 @@ later_zero given =
 pub nothing_given : GivenSoFar [] [] [] 0
 nothing_given y alone r given = subst (IsGiven y) (sym (later_zero alone)) given
 
--- a fault that no more octets mend
+-- an error that no more octets resolve
 pub fault_given : (all left : List ℕ) (front : List (Result Piece Fault)) (base : ℕ) (found : List Piece) (f : Fault) (y : List ℕ) → AreOctets left → AreOctets y → GivenSoFar all left front base
     → IsGiven left (map Ok found ++ Err f ∷ []) → f.at < length left → IsGiven (all ++ y) (front ++ later base (map Ok found ++ Err f ∷ []))
 fault_given all left front base found f y o r g given before = g y (map Ok found ++ Err f ∷ []) r (faults_stay left y found f o r given before)

@@ -1,4 +1,4 @@
--- What splits is read so.
+-- A text that splits is read with the same entries.
 use Rattle.std.proofs.Common.{◌≡◌, ℕ, zero, suc, ◌+◌, ◌-◌, ◌*◌, ◌/◌, ◌%◌, ◌<◌, ◌≤◌, Bool, true, false, not, ◌&&◌, ◌||◌, ◌==◌, nat_le, List, [], ◌∷◌, ◌++◌, length, refl, sym, ap, ◌∙◌, subst}
 use Rattle.std.proofs.Common.{arith, append_assoc, append-nil, inl, inr, ◌⊎◌, length-append}
 use Rattle.std.specs.Prelude.{unwrap_or, Option, Some, None, option_map, option_and_then, encode_utf8, encode_utf8_all}
@@ -55,7 +55,7 @@ view c =
       unescaped = e92;
     })
 
--- a symbol that may stand in a quoted text, and in a word
+-- a symbol that may be in a quoted string, and in a word
 abbrev pub allowed : Within → Symbol → Bool
 allowed InQuote s = is_quote_symbol s
 allowed InWord s = is_word_symbol s
@@ -183,7 +183,7 @@ note_read d (c ∷ cs) rest h =
     ∙ map_open_nil (read Comment d [] (cs ++ rest))
     ∙ note_read d cs rest p.1
 
--- after a comment stands nothing, or a line's end
+-- a comment is followed by nothing, or by a line end
 note_end : (d : ℕ) (ls : List Lexeme) (cs : List ℕ) → may_precede (Note cs) ls ≡ true → nests d ls ≡ true → read Comment d [] (flat_map characters ls) ≡ read Outside d [] (flat_map characters ls)
 note_end zero [] cs h n = refl
 note_end (suc d) [] cs h n = cc

@@ -1,4 +1,4 @@
--- What a token holds.
+-- The content of a token.
 use Rattle.std.proofs.Common.{◌≡◌, ℕ, ◌-◌, ◌<◌, ◌≤◌, true, List, [], ◌∷◌, ◌++◌, length, take, drop, refl, sym, ap, ◌∙◌, subst, arith, append_assoc, append-nil, length-append, get_or}
 use Rattle.std.specs.Prelude.{encode_utf8, None}
 use Rattle.std.specs.List.{flat_map, list_all}

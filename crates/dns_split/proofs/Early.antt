@@ -1,4 +1,4 @@
--- Texts that stop too early, and their faults.
+-- Texts that stop too early, and their errors.
 use Rattle.std.proofs.Common.{◌≡◌, ◌↔◌, ℕ, ◌≤◌, List, length, sym, ap, subst, arith, take_all, inl, inr}
 use Rattle.std.specs.Prelude.{encode_utf8_all}
 use Rattle.std.proofs.lemmas.Bool.{cases_lt}
@@ -7,7 +7,7 @@ use Rattle.dns_split.specs.Viable.{IsViable, IsBad}
 use Rattle.dns_split.specs.Pieces.{place_of}
 use Rattle.dns_split.proofs.PieceMoved.{mono}
 
--- a bad text is viable where its longest viable beginning is all of it
+-- a bad text is viable if its longest viable prefix is all of it
 pub viable_at_end : (text : List ℕ) (at : ℕ) → IsBad text at → ((length text ≤ at) ↔ IsViable text)
 viable_at_end text at bad = (
   λ h. subst IsViable (take_all at text h) bad.at.viable,

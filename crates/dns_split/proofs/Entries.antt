@@ -1,4 +1,4 @@
--- What a text splits into are tokens, and its pieces are what they say.
+-- The parts that a text splits into are tokens, and its pieces are of their kinds.
 use Rattle.std.proofs.Common.{◌≡◌, ℕ, zero, suc, ◌+◌, ◌-◌, ◌<◌, ◌≤◌, Bool, true, ◌&&◌, List, [], ◌∷◌, ◌++◌, length, take, drop}
 use Rattle.std.proofs.Common.{refl, sym, ap, ◌∙◌, subst, arith, append_assoc, length-append, length-drop, inl, inr}
 use Rattle.std.specs.Prelude.{map, Result, Ok, Err, Vec, String}
@@ -85,7 +85,7 @@ entries_of_tokens {A} v h = All-from_recursion (λ e. AllByRecursion IsToken (te
     go [] h = tt
     go (e ∷ v) h = (h.0, go v h.1)
 
--- pieces are what they say
+-- pieces are of their kinds
 abbrev Spelled : List ℕ → List Piece → Type 0
 Spelled text found = AllByRecursion (IsSpelled text) (map Ok found)
 
@@ -97,7 +97,7 @@ on : (l : Lexeme) (ls : List Lexeme) → Says ls → (text before : List ℕ) (d
 on l ls ih text before d at b e k v = ih text (before ++ lexeme_bytes l) d (at + length (lexeme_bytes l)) b (append_assoc before (lexeme_bytes l) (flat_map lexeme_bytes ls) ∙ e)
     (omega (arith, k, length-append before (lexeme_bytes l))) (rest_valid l ls v)
 
--- the octets of a lexeme, where it stands
+-- the octets of a lexeme, at its offset
 here : (P : List ℕ → Type 0) (l : Lexeme) (ls : List Lexeme) (text before : List ℕ) (at : ℕ) → before ++ flat_map lexeme_bytes (l ∷ ls) ≡ text → at ≡ length before
     → P (lexeme_bytes l) → P (between text at (at + length (lexeme_bytes l)))
 here P l ls text before at e k h = subst P (sym (between_is before (lexeme_bytes l) (flat_map lexeme_bytes ls) text at e k)) h
@@ -155,7 +155,7 @@ faulty_spelled text given f =
     (front_spelled text front (drop f.fault.at text) viable.tail (take-append-drop f.fault.at text) f.found begun.0 f.settled.ended
     (subst (Spelled (front ++ viable.tail)) begun.1 (pieces_spelled (front ++ viable.tail) all.0 all.1)) f.fault)
 
--- what the cursor gives is what it says
+-- the pieces of the iterator are of their kinds
 pub given_spelled : (text : List ℕ) (given : List (Result Piece Fault)) → Reads text given → AllByRecursion (IsSpelled text) given
 given_spelled text given (inl w) = subst (AllByRecursion (IsSpelled text)) (sym w.is) (pieces_spelled text w.found w.placed)
 given_spelled text given (inr f) = faulty_spelled text given f

@@ -1,4 +1,4 @@
--- What is seen of octets: the entries that they split into, each token at its place.
+-- The tokens of octets: the entries that they split into, each token at its offset.
 use Rattle.std.proofs.Common.{◌≡◌, ℕ, ◌+◌, ◌-◌, ◌≤◌, List, [], ◌∷◌, ◌++◌, length, take, drop, refl, sym, ap, ◌∙◌, subst, arith, append_assoc, inl}
 use Rattle.std.proofs.Common.{length-append}
 use Rattle.std.specs.Prelude.{map, Option, Some, None, Result, Ok, Err}
@@ -21,7 +21,7 @@ use Rattle.dns_split.proofs.EntrySpans.{IsQuotedAt, given_quoted}
 pub seen_once : (octets : List ℕ) (seen other : List (Result PartSeen Fault)) → IsSeen octets seen → IsSeen octets other → seen ≡ other
 seen_once octets seen other s o = s.2 ∙ ap (seen_from octets 0 None) (given_once octets s.0 o.0 s.1 o.1) ∙ sym o.2
 
--- what stands between double quotes
+-- the text between double quotes
 inner_is : (l inner : List ℕ) (n : ℕ) → n ≤ length l → take n l ≡ 34 ∷ (inner ++ 34 ∷ []) → (n ≡ length inner + 2) × (take (length inner) (drop 1 l) ≡ inner)
 inner_is l inner n h e =
     let k : ℕ = length inner in
@@ -37,7 +37,7 @@ inner_between octets inner s e o w h =
     let i = inner_is (drop s octets) inner (e - s) (omega (arith, length-drop s octets, o, w)) h in
     ap (λ l. take (e - 1 - (s + 1)) l) (sym (drop-drop 1 s octets)) ∙ ap (λ n. take n (drop 1 (drop s octets))) (omega (arith, i.0)) ∙ i.1
 
--- a quoted text as it is spelled is all of it
+-- a quoted string as it is spelled is all of it
 quote_spelled : (octets : List ℕ) (ended : Option ℕ) (p : Span) → (p.start ≤ p.end) × (p.end ≤ length octets) → IsQuotedAt octets (Ok (QuoteAt p))
     → spelled (quote_seen octets ended p) ≡ between octets p.start p.end
 quote_spelled octets ended p w q = ap (λ l. 34 ∷ (l ++ 34 ∷ [])) (inner_between octets q.0 p.start p.end w.0 w.1 q.1) ∙ sym q.1
@@ -62,7 +62,7 @@ text_entries text found seen ok t s =
     let g : IsGiven text (map Ok p.0) = (given_alike text (splits_utf8 text found t) ok (map Ok p.0)).0 (inl (record { found = p.0; is = refl; placed = p.1 })) in
     octet_entries text p.0 seen g s ∙ p.2
 
--- each token stands at its place
+-- each token is at its offset
 stands : (octets : List ℕ) (t : TokenSeen) (e : ℕ) → t.at ≤ e → e ≤ length octets → spelled t ≡ between octets t.at e → between octets t.at (t.at + length (spelled t)) ≡ spelled t
 stands octets t e o w h =
     let long : length (spelled t) ≡ e - t.at = ap length h ∙ length-take-le (e - t.at) (drop t.at octets) (omega (arith, length-drop t.at octets, o, w)) in

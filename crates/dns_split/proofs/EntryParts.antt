@@ -1,4 +1,4 @@
--- What is seen of what is left where a reader stands.
+-- The tokens of the pieces that remain at a position.
 use Rattle.std.proofs.Common.{◌≡◌, ℕ, ◌+◌, ◌<◌, ◌≤◌, true, false, Bool, List, [], ◌∷◌, length, drop, cond, refl, inl, inr, sym, ap, ◌∙◌, subst, arith}
 use Rattle.std.specs.Prelude.{⊤, Option, Some, None, option_map, is_some, IfSome, Result, Ok, Err}
 use Rattle.std.specs.Iterator.{YieldsFirstBy}
@@ -34,7 +34,7 @@ seen_step octets began ended (Ok (EndAt e)) given = refl
 seen_step octets began ended (Err f) given = refl
 
 module _ (octets : List ℕ) (s t : Standing) (ok : AreOctets octets) where
-  -- a call takes the first of what the reader gives
+  -- a call consumes the first item that the machine yields
   pub takes_ahead : (answer : Option (Result Piece Fault)) → Takes octets s answer t → ahead octets s ≡ with_answer answer (ahead octets t)
   takes_ahead answer h =
       left_once octets s (ahead octets s) (with_answer answer h.left) (left_ahead octets s ok) h.before
@@ -44,7 +44,7 @@ module _ (octets : List ℕ) (s t : Standing) (ok : AreOctets octets) where
   pub takes_none : Takes octets s None t → ahead octets t ≡ []
   takes_none h = left_once octets t (ahead octets t) h.left (left_ahead octets t ok) h.after ∙ h.none refl
 
-  -- and a quoted text has room for its double quotes
+  -- and a quoted string includes its double quotes
   pub takes_wide : (x : Result Piece Fault) → Takes octets s (Some x) t → IsWide x
   takes_wide x h = quoted_wide octets x (left_quoted octets s (x ∷ h.left) h.before).0
 
@@ -56,7 +56,7 @@ starts octets ok = (ahead octets (at_entry 0), run_given octets ok, refl)
 pub starts_from : (octets : List ℕ) (at : ℕ) → AreOctets octets → IsSeenFrom octets at (seen_from octets at None (ahead octets (at_entry at)))
 starts_from octets at ok = (ahead octets (at_entry at), entry_left octets at ok (ahead octets (at_entry at)) (left_ahead octets (at_entry at) ok), refl)
 
--- a piece that is taken is seen, or passed over
+-- a consumed piece is a token, or is skipped
 pub seen_taken : (octets : List ℕ) (s t : Standing) (ended : Option ℕ) (x : Result Piece Fault) → AreOctets octets → Takes octets s (Some x) t → t.began ≡ began_after x s.began
     → seen_from octets s.began ended (ahead octets s) ≡ with_seen (seen_of octets (blank_at octets s.began) ended x) (seen_from octets t.began (ended_after x ended) (ahead octets t))
 seen_taken octets s t ended x ok takes began =
@@ -76,7 +76,7 @@ pub taken_part : (part : Option (Result EntryPart Fault)) (old new : List (Resul
 taken_part (Some y) old new h e = e
 taken_part None old new h e = cc
 
--- and nothing else where it is passed over
+-- and nothing else if it is skipped
 pub passed_part : (part : Option (Result EntryPart Fault)) (old new : List (Result PartSeen Fault)) → is_some part ≡ false → old ≡ with_seen (option_map answer_seen part) new → old ≡ new
 passed_part (Some y) old new h e = cc
 passed_part None old new h e = e
@@ -87,7 +87,7 @@ fewer octets s t x ok takes = omega (arith, ap length (takes_ahead octets s t ok
 pub stands_at : (octets : List ℕ) (at : ℕ) → AreOctets octets → at ≤ length octets → StandsIn octets (at_entry at)
 stands_at octets at ok within = record { are_octets = ok; deep = omega arith; within = within }
 
--- what the reader gives has an end, or a fault, which is the last
+-- the items of the machine have an end, or an error, which is the last
 abbrev Closes : List (Result Piece Fault) → Type 0
 Closes [] = ⊥
 Closes (Ok (EndAt e) ∷ given) = ⊤

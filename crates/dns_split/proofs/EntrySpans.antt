@@ -1,4 +1,4 @@
--- Quoted texts of octets stand between double quotes.
+-- Quoted strings of octets begin and end with double quotes.
 use Rattle.std.proofs.Common.{◌≡◌, ℕ, ◌+◌, ◌-◌, ◌≤◌, true, false, Bool, List, [], ◌∷◌, ◌++◌, length, take, drop, refl, sym, ap, ◌∙◌, subst, arith, append-nil, inl, inr}
 use Rattle.std.proofs.Common.{length-append}
 use Rattle.std.specs.Prelude.{⊤, map, Result, Ok, Err, encode_utf8, encode_utf8_all}
@@ -93,7 +93,7 @@ left_if false octets s given g =
     subst (AllByRecursion (IsQuotedAt octets)) (sym g.2)
     (moved_quoted front octets s.at g.0 (given_quoted (front ++ drop s.at octets) (later (length front) g.0) g.1))
 
--- and of what is left where a reader stands
+-- and of the pieces that remain at a position
 pub left_quoted : (octets : List ℕ) (s : Standing) (given : List (Result Piece Fault)) → IsLeft octets s given → AllByRecursion (IsQuotedAt octets) given
 left_quoted octets s given = left_if s.is_done octets s given
 

@@ -1,4 +1,4 @@
--- Faults of a text after another, with a line's end between.
+-- Errors of a text after another, with a line end between.
 use Rattle.std.proofs.Common.{◌≡◌, ℕ, zero, suc, ◌+◌, ◌-◌, ◌/◌, ◌%◌, ◌<◌, ◌≤◌, Bool, true, false, ◌&&◌, ◌==◌, nat_le, List, [], ◌∷◌, ◌++◌, length, take, drop, replicate, refl, sym, ap, ◌∙◌}
 use Rattle.std.proofs.Common.{subst, arith, append_assoc, length-append, inl, inr, ◌⊎◌}
 use Rattle.std.specs.Prelude.{Option, Some, None, option_and_then, not, encode_utf8, encode_utf8_all}
@@ -80,7 +80,7 @@ lexemes_scalars (l ∷ ls) h =
     let p = and_parts (is_lexeme l && may_precede l ls) (are_lexemes ls) h in
     scalars_both (characters l) (flat_map characters ls) (lexeme_scalars l (and_parts (is_lexeme l) (may_precede l ls) p.0).0) (lexemes_scalars ls p.1)
 
--- where a text is read, each beginning is walked, and the rest is read from there
+-- if a text is read, each prefix is walked, and the rest is read from there
 record Goes (m : Mode) (d : ℕ) (xs ys : List ℕ) : Type 0 where
   pub place : Mode × ℕ
   pub walked : walk m d xs ≡ Some place
@@ -100,7 +100,7 @@ goes (c ∷ xs) ys m d t e h = go (step m d c) refl h (λ (v : Move). goes xs ys
         let g = ih v r.0 r.1 r.2 in
         record { place = g.place; walked = ap (option_and_then (λ (w : Move). walk w.mode w.depth xs)) s ∙ g.walked; token = g.token; found = g.found; is_read = g.is_read }
 
--- after the end of a line where a text may end, another begins
+-- after the end of a line at which a text may end, another begins
 line_read : (m : Mode) (d : ℕ) (r : Bool) (t us : List ℕ) (e : Entries) → may_end m d ≡ true → read m d t (characters (Line r) ++ us) ≡ Some e → (f : Entries) × (read Outside 0 [] us ≡ Some f)
 line_read Outside zero false t us e k h = let p = map_some (λ (x : Entries). with_open t ([] ∷ x)) (read Outside 0 [] us) e h in (p.0, p.1)
 line_read Comment zero false t us e k h = let p = map_some (λ (x : Entries). with_open t ([] ∷ x)) (read Outside 0 [] us) e h in (p.0, p.1)
@@ -142,7 +142,7 @@ behind_line x w r e g s t =
 joined_more : (x l z w : List ℕ) → (x ++ (l ++ z)) ++ w ≡ x ++ (l ++ (z ++ w))
 joined_more x l z w = append_assoc x (l ++ z) w ∙ ap (λ t. x ++ t) (append_assoc l z w)
 
--- so a beginning is viable exactly if it is so after such a text
+-- so a prefix is viable exactly if it is so after such a text
 pub viable_behind : (x z : List ℕ) (r : Bool) (e : Entries) → Splits x e → IsViable (x ++ (lexeme_bytes (Line r) ++ z)) → IsViable z
 viable_behind x z r e s v =
     let f = behind_line x (z ++ v.tail) r e v.found s (subst (λ l. Splits l v.found) (joined_more x (lexeme_bytes (Line r)) z v.tail) v.splits) in
@@ -183,7 +183,7 @@ bad_joined x y r e n s b =
       };
     }
 
--- with a double quote after it, the same quoted text ends
+-- with a double quote after it, the same quoted string ends
 quote_joined : (x front : List ℕ) (r : Bool) (e : Entries) (i : ℕ) → Splits x e → EndsQuote front i → EndsQuote (x ++ (lexeme_bytes (Line r) ++ front)) (length x + length (lexeme_bytes (Line r)) + i)
 quote_joined x front r e i s h more all there =
     let l : List ℕ = lexeme_bytes (Line r) in
@@ -206,7 +206,7 @@ quote_joined x front r e i s h more all there =
           ∙ ap (λ z. front_pieces ++ quote_at (k + i) z ∷ further k c.1) place,
     )
 
--- the same parentheses are left open
+-- the same parentheses are open at the end
 pub open_joined : (x front : List ℕ) (r : Bool) (e : Entries) → Splits x e → IsLeftOpen front → IsLeftOpen (x ++ (lexeme_bytes (Line r) ++ front))
 open_joined x front r e s h =
     let tail : List ℕ = 10 ∷ replicate (suc h.0) 41 in
@@ -246,7 +246,7 @@ fault_joined x y r e f s h =
       boundary = IsCharBoundary-from_rest all k f.at (omega (arith, length-append x (l ++ y), length-append l y)) (subst (λ t. IsCharBoundary t f.at) (sym left) h.boundary);
     }
 
--- and left open by the same parenthesis
+-- and the same outermost parenthesis is open
 pub opener_joined : (x y : List ℕ) (r : Bool) (e : Entries) (i : ℕ) → Splits x e → IsOpener y i → IsOpener (x ++ (lexeme_bytes (Line r) ++ y)) (length x + length (lexeme_bytes (Line r)) + i)
 opener_joined x y r e i s o =
     let l : List ℕ = lexeme_bytes (Line r) in

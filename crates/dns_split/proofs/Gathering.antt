@@ -1,4 +1,4 @@
--- The tokens of an entry, gathered one by one.
+-- The tokens of an entry, collected one by one.
 use Rattle.std.proofs.Common.{◌≡◌, Bool, false, List, [], ◌∷◌, ◌++◌, refl, sym, ap, ◌∙◌, subst, append_assoc, inl, inr, ◌⊎◌}
 use Rattle.std.specs.Prelude.{Some, None, Result, Ok, Err}
 use Rattle.std.proofs.lemmas.List.{map-append}
@@ -8,7 +8,7 @@ use Rattle.dns_split.specs.declared.entry_tokens.EntryToken.{EntryToken}
 use Rattle.dns_split.specs.declared.entry_tokens.NextEntryError.TheVariants.{BadText}
 use Rattle.dns_split.specs.EntryTokens.{GivesEntry, IsInEntries, IsOpen, PartSeen, TokenIs, EndIs, token_seen, tokens_seen}
 
--- the tokens so far, and what is left: the entry is open, or nothing was there
+-- the tokens before, and what remains: the entry is open, or nothing was there
 pub record Gathers (old now : List (Result PartSeen Fault)) (tokens : List EntryToken) : Type 0 where
   pub blank : Bool
   pub is : old ≡ tokens_seen blank tokens ++ now

@@ -1,4 +1,4 @@
--- Texts one after the other, with a line's end between.
+-- Texts one after the other, with a line end between.
 use Rattle.std.proofs.Common.{◌≡◌, ℕ, zero, suc, ◌<◌, Bool, true, ◌&&◌, List, [], ◌∷◌, ◌++◌, length, refl, sym, ap, ◌∙◌, arith, length-append}
 use Rattle.std.specs.List.{flat_map}
 use Rattle.std.proofs.lemmas.Bool.{and_parts, and_from}
@@ -6,7 +6,7 @@ use Rattle.std.proofs.lemmas.Grind.{flat_map-append}
 use Rattle.dns_split.specs.Lexeme.{Lexeme, Blank, Line, Open, Close, Note, Word, Quote, lexeme_bytes, is_lexeme}
 use Rattle.dns_split.specs.Splitting.{Splits, Entries, may_precede, are_lexemes, nests, with_token, entries}
 
--- before a line's end stands whatever may stand last
+-- whatever may be last may precede a line end
 line_after : (l : Lexeme) (ls more : List Lexeme) (r : Bool) → may_precede l ls ≡ true → may_precede l (ls ++ Line r ∷ more) ≡ true
 line_after (Word s ss) [] more r h = refl
 line_after (Word s ss) (Word _ _ ∷ ls) more r h = cc
@@ -30,7 +30,7 @@ line_after Open ls more r h = refl
 line_after Close ls more r h = refl
 line_after (Quote ss) ls more r h = refl
 
--- and what stands before a line's end may stand last
+-- whatever precedes a line end may be last
 pub last_before : (l : Lexeme) (ls more : List Lexeme) (r : Bool) → may_precede l (ls ++ Line r ∷ more) ≡ true → may_precede l ls ≡ true
 last_before (Word s ss) [] more r h = refl
 last_before (Word s ss) (Word _ _ ∷ ls) more r h = cc
@@ -132,7 +132,7 @@ split_joined x y r e f s t = record {
   cut = join_entries s.lexemes t.lexemes r 0 s.nested ∙ ap (λ l. l ++ entries 0 t.lexemes) s.cut ∙ ap (λ l. e ++ l) t.cut;
 }
 
--- lexemes cut after so many entries
+-- lexemes cut after a number of entries
 record IsCut (d : ℕ) (ls : List Lexeme) (e f : Entries) : Type 0 where
   pub front : List Lexeme
   pub ends : Bool
@@ -146,7 +146,7 @@ record IsCut (d : ℕ) (ls : List Lexeme) (e f : Entries) : Type 0 where
 abbrev Cuts : List Lexeme → Type 0
 Cuts ls = (d : ℕ) (e f : Entries) → nests d ls ≡ true → entries d ls ≡ e ++ f → 0 < length e → 0 < length f → IsCut d ls e f
 
--- the same with another lexeme before, where the depth and the entries are those of the rest
+-- the same with another lexeme before, if the depth and the entries are those of the rest
 one_before : (l : Lexeme) (ls : List Lexeme) (d d' : ℕ) (e e' f : Entries) → IsCut d' ls e' f → ((more : List Lexeme) → nests d (l ∷ more) ≡ nests d' more)
     → ((more : List Lexeme) → entries d' more ≡ e' → entries d (l ∷ more) ≡ e) → IsCut d (l ∷ ls) e f
 one_before l ls d d' e e' f c n k = record {

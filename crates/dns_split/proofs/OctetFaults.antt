@@ -1,4 +1,4 @@
--- UTF-8 text and its octets as characters give the same, with the same faults.
+-- UTF-8 text and its octets as characters yield the same, with the same errors.
 use Rattle.std.proofs.Common.{◌≡◌, ◌↔◌, ℕ, zero, suc, ◌<◌, ◌≤◌, true, List, [], ◌∷◌, ◌++◌, length, take, replicate, refl, sym, ap, ◌∙◌, subst, arith, append_assoc, append-nil, inl, inr, IsUtf8}
 use Rattle.std.proofs.Common.{length-append, length-drop}
 use Rattle.std.proofs.Math.Seq.{take-append_seam}
@@ -26,14 +26,14 @@ use Rattle.dns_split.proofs.OctetsOnce.{given_run, run_given}
 use Rattle.dns_split.proofs.Openers.{Opened, one_walked, first_opened, still_opened, opener, tail_read, not_open}
 use Rattle.dns_split.proofs.OctetOpeners.{left_open_alike, opener_alike}
 
--- what a text gives, its octets give, and nothing else
+-- its octets yield what a text yields, and nothing else
 pub given_alike : (text : List ℕ) → IsUtf8 text → AreOctets text → (given : List (Result Piece Fault)) → (Reads text given ↔ IsGiven text given)
 given_alike text u octets given = (
   λ r. subst (IsGiven text) (read_once text (run Outside 0 0 0 (first_blank text) text) given (reads text u) r) (run_given text octets),
   λ g. subst (Reads text) (sym (given_run text given octets g)) (reads text u),
 )
 
--- the last of what is given
+-- the last item
 last_fault : Fault → List (Result Piece Fault) → Fault
 last_fault f [] = f
 last_fault f (Ok p ∷ given) = last_fault f given
@@ -82,7 +82,7 @@ opens : (zs : List ℕ) → Opens zs
 opens [] ys m d p h o e = subst (λ l. OpenedIf l p.1) (sym (append-nil ys)) (subst (OpenedIf ys) (ap (λ (q : Mode × ℕ). q.1) (Some_same e)) o)
 opens (c ∷ zs) ys m d p h o e = opened_more c zs ys m d p (opens zs) h o (step m d c) refl e
 
--- what is left open was opened
+-- an open parenthesis was opened
 walked_before : (ys : List ℕ) → IsLeftOpen (encode_utf8_all ys) → (p : Mode × ℕ) × (walk Outside 0 ys ≡ Some p)
 walked_before ys w =
     let t = tail_read ys w in
@@ -101,7 +101,7 @@ was_opened ys w = let p = walked_before ys w in go p.0 p.1
     go (m, zero) h = elim (not_open ys m 0 h (λ deep f. absurd (omega (arith, deep))) w) [ ]
     go (m, suc d) h = opens ys [] Outside 0 (m, suc d) refl (λ deep. absurd (omega (arith, deep))) h (omega arith)
 
--- in one place
+-- at one offset
 openers_once : (text : List ℕ) (i j : ℕ) → i ≤ length text → j ≤ length text → IsOpener text i → IsOpener text j → i ≡ j
 openers_once text i j h k o p = elim (cases_lt i j) [
   | inl less ↦ elim (o.never_closed j less k p.found p.splits) [ ]

@@ -12,7 +12,7 @@ use Rattle.dns_split.proofs.PieceMoved.{mono}
 use Rattle.dns_split.proofs.PieceSettled.{end_of}
 use Rattle.dns_split.proofs.PieceJoins.{further, pieces_go_on}
 
--- octets, and a place among them
+-- octets, and an offset among them
 module _ (octets : List ℕ) (at : ℕ) (fits : at ≤ length octets) where
   place_split : (i : ℕ) → place_of octets (at + i) ≡ place_of octets at + place_of (drop at octets) i
   place_split i =
@@ -22,7 +22,7 @@ module _ (octets : List ℕ) (at : ℕ) (fits : at ≤ length octets) where
       ap (λ l. length (encode_utf8_all l)) e ∙ ap length (encodes-append (take at octets) (take i (drop at octets)))
       ∙ length-append (encode_utf8_all (take at octets)) (encode_utf8_all (take i (drop at octets)))
 
-  -- a place after this one, counted from here
+  -- an offset after this one, counted from here
   place_back : (i j : ℕ) → place_of octets i ≡ place_of octets at + j → (i ≡ at + (i - at)) × (place_of (drop at octets) (i - at) ≡ j)
   place_back i j e = elim (cases_lt i at) [
     | inl less ↦ absurd (omega (arith, e, mono octets i at less fits))

@@ -1,4 +1,4 @@
--- UTF-8 text and its octets as characters split alike, and their parentheses are left open alike.
+-- UTF-8 text and its octets as characters split alike, and leave the same parentheses open.
 use Rattle.std.proofs.Common.{◌≡◌, ◌↔◌, ℕ, suc, ◌+◌, ◌<◌, ◌≤◌, true, List, [], ◌∷◌, ◌++◌, length, take, drop, replicate, get_or, sym, ap, ◌∙◌, subst, arith, inl, inr, IsUtf8}
 use Rattle.std.proofs.Common.{length-append, get_or-drop}
 use Rattle.std.specs.Prelude.{map, encode_utf8_all}
@@ -38,7 +38,7 @@ text_splits text f u ok s = go (reads text u)
     go (inl w) = (tokens_by_entry text w.found, pieces_split text w.found w.placed)
     go (inr b) = elim ((octets_are_bad text u ok b.fault.at b.is_fault.bad).splits_not f s) [ ]
 
--- the octets before and after a place
+-- the octets before and after an offset
 pub taken : (octets : List ℕ) (i : ℕ) → take (place_of octets i) (encode_utf8_all octets) ≡ encode_utf8_all (take i octets)
 taken octets i =
     ap (λ l. take (place_of octets i) (encode_utf8_all l)) (sym (take-append-drop i octets)) ∙ ap (take (place_of octets i)) (encodes-append (take i octets) (drop i octets))
@@ -59,7 +59,7 @@ place_within octets i =
 front_scalars : (text : List ℕ) (i : ℕ) → scalars text ≡ true → scalars (take i text) ≡ true
 front_scalars text i ok = scalars_left (take i text) (drop i text) (ap scalars (take-append-drop i text) ∙ ok)
 
--- parentheses are left open alike
+-- the same parentheses are open
 module _ (text : List ℕ) (u : IsUtf8 text) (ok : scalars text ≡ true) where
   abbrev tail : ℕ → List ℕ
   tail n = 10 ∷ replicate (suc n) 41

@@ -1,4 +1,4 @@
--- Octets are read in one way.
+-- Reading octets has at most one result.
 use Rattle.std.proofs.Common.{◌≡◌, ℕ, zero, suc, ◌+◌, ◌-◌, ◌<◌, ◌≤◌, true, cond, ◌==◌, nat_lt, List, [], ◌∷◌, ◌++◌, length, take, drop, refl, sym, ap, ◌∙◌, subst, arith, append_assoc, get_or, ◌^◌}
 use Rattle.std.proofs.Common.{length-append, length-take-le, take_all, inl, inr}
 use Rattle.std.specs.Prelude.{⊤, map, Result, Ok, Err, encode_utf8, encode_utf8_all}
@@ -36,7 +36,7 @@ pub are_octets : (l : List ℕ) → ((i : ℕ) → get_or l i 0 < 2 ^ 8) → Are
 are_octets [] h = refl
 are_octets (x ∷ l) h = and_from _ _ (lt-ltb x 256 (omega (arith, h 0))) (are_octets l (λ i. h (suc i)))
 
--- a quoted text that is open begins before the fault
+-- a quoted string that is open begins before the error
 picked : (text : List ℕ) (first last : List Piece) (p : Piece) → AllByRecursion (IsSpelled text) (map Ok (first ++ p ∷ last)) → IsSpelled text (Ok p)
 picked text [] last p h = h.0
 picked text (q ∷ first) last p h = picked text first last p h.1
@@ -67,7 +67,7 @@ quote_before front i v q =
       | inr most ↦ absurd (short (length front + 1 - i) (drop i text) (flat_map bytes s.symbols) (omega (arith, most)) s.spelled)
     ]
 
--- how many octets are before a place of their text
+-- the number of octets before an offset of their text
 abbrev unplaced : List ℕ → ℕ → ℕ
 unplaced [] k = 0
 unplaced (x ∷ l) k = cond (k == 0) 0 (unplaced l (k - length (encode_utf8 x)) + 1)
@@ -84,7 +84,7 @@ restored (x ∷ l) (suc i) h =
     ap (unplaced (x ∷ l)) is ∙ cond-false (w + k == 0) 0 (unplaced l (w + k - w) + 1) (ne_eqb (w + k) 0 (λ e. omega (arith, e, some)))
     ∙ ap (λ n. unplaced l n + 1) left ∙ ap (λ n. n + 1) (restored l i (omega (arith, h))) ∙ omega arith
 
--- so what is given of octets is known by its places in their text
+-- so the items of octets are known by their offsets in their text
 abbrev Round : List ℕ → Piece → Type 0
 Round l p = moved_piece (unplaced l) (moved_piece (place_of l) p) ≡ p
 
@@ -123,7 +123,7 @@ all_restored l (Ok p ∷ given) h k =
 all_restored l (Err f ∷ given) h k =
     ap (λ e. Err e ∷ map (moved (unplaced l)) (map (moved (place_of l)) given)) (fault_restored l f h.0 k.0) ∙ ap (λ g. Err f ∷ g) (all_restored l given h.1 k.1)
 
--- a quoted text that is open begins among the octets
+-- a quoted string that is open begins among the octets
 pub wrong_within : (l front rest : List ℕ) (w : Wrong) → length front ≤ length (encode_utf8_all l) → IsWrong front rest (moved_wrong (place_of l) w) → WrongWithin (length l) w
 wrong_within l front rest Late h k = tt
 wrong_within l front rest OpenParenthesis h k = tt
@@ -174,7 +174,7 @@ given_once octets given other g h =
     ∙ ap (map (moved (unplaced octets))) (read_once (encode_utf8_all octets) (map (moved (place_of octets)) given) (map (moved (place_of octets)) other) g.0 h.0)
     ∙ all_restored octets other h.1 (each_wrong octets other h.0)
 
--- what the reader gives is what is given
+-- what the machine yields are the items
 pub run_given : (octets : List ℕ) → AreOctets octets → IsGiven octets (run Outside 0 0 0 (first_blank octets) octets)
 run_given octets h = (reads_octets octets (octet_scalars octets h), each_within octets (first_blank octets))
 

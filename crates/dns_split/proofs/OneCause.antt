@@ -1,4 +1,4 @@
--- A fault has one cause: it is told by where the reader stands.
+-- An error has one cause, which the state determines.
 use Rattle.std.proofs.Common.{◌≡◌, ℕ, zero, suc, ◌+◌, ◌<◌, ◌≤◌, Bool, true, false, cond, ◌==◌, if◌then◌else◌, nat_lt, List, [], ◌∷◌, ◌++◌, length, take, drop, replicate, refl, sym, ap, ◌∙◌}
 use Rattle.std.proofs.Common.{subst, arith, append_assoc, IsUtf8, inl, inr}
 use Rattle.std.specs.Prelude.{⊤, Option, Some, None, map, Result, Ok, Err, encode_utf8, encode_utf8_all}
@@ -85,7 +85,7 @@ reached front v =
     let w = walked u.0 q.0 Outside 0 [] v.found (ap (read Outside 0 []) (sym q.1) ∙ splits_read cs (front ++ v.tail) v.found is v.splits) in
     record { ys = u.0; is = u.1.1; fine = u.1.0; place = w.0; walked = w.1 }
 
--- each quoted text ends beyond
+-- each quoted string ends beyond
 abbrev Past : ℕ → List (Result Piece Fault) → Type 0
 Past n [] = ⊤
 Past n (Ok (WordAt p) ∷ k) = Past n k
@@ -161,7 +161,7 @@ abbrev start_of : ℕ → Piece → ℕ
 start_of n (QuoteAt p) = p.start
 start_of n _ = n
 
--- where the reader stands, and what is wrong there
+-- the state, and the cause of an error there
 abbrev sort : Mode → ℕ
 sort Outside = 0
 sort Comment = 0
@@ -178,7 +178,7 @@ sort_of (OpenQuote i) = 1
 sort_of LoneReturn = 2
 sort_of BadEscape = 3
 
--- in a quoted text alone a double quote ends one, and that is the one that is open
+-- in a quoted string alone a double quote ends one, and that is the one that is open
 abbrev Ends : Mode → ℕ → ℕ → Type 0
 Ends m s i = (sort m ≡ 1) × (i ≡ s)
 
@@ -200,7 +200,7 @@ ends_open (TwoDigits q v) d s n i x w first l e = elim (no_start s n (n + 1) i B
 ends_open Quoted d s n i x w [] l e = (refl, ap (start_of i) (ap (first_of (quote_at i (n + 1))) (sym e)))
 ends_open Quoted d s n i x w (p ∷ first) l e = elim (none_here (n + 1) i first _ l (run_past w Outside d (n + 1) (n + 1) x (n + 1) (omega arith)) (ap tail_of e)) [ ]
 
--- the quoted text that a double quote would end
+-- the quoted string that a double quote would end
 pub quote_open : (ys : List ℕ) (m : Mode) (d s i : ℕ) (found : List Piece) → GivesAll ys m d found s → IsViable (encode_utf8_all ys ++ 34 ∷ []) → EndsQuote (encode_utf8_all ys) i → Ends m s i
 quote_open ys m d s i found gives v q =
     let front : List ℕ = encode_utf8_all ys in
@@ -214,7 +214,7 @@ quote_open ys m d s i found gives v q =
     let k = skipped n i found e.0 _ (map Ok e.1) (ended ys m d s found gives) there in
     ends_open m d s n i g.0 v.tail k.0 (map Ok e.1) (ap (λ j. run m d s j g.0 (34 ∷ v.tail)) (sym (zero-add n)) ∙ k.1)
 
--- where a text may end
+-- a state in which a text may end
 end_sort : (m : Mode) (d : ℕ) → may_end m d ≡ true → sort m ≡ 0
 end_sort Outside d h = refl
 end_sort Comment d h = refl
@@ -230,7 +230,7 @@ late_sort ys m d e h s = elim (cases_Bool (may_end m d)) [
   | inr k ↦ absurd (not_ended ys Outside 0 (m, d) h k [] e (splits_read ys (encode_utf8_all ys) e refl s))
 ]
 
--- where a tab can't follow
+-- a state in which a tab can't follow
 no_tab : (ys : List ℕ) (m : Mode) (d : ℕ) → scalars ys ≡ true → walk Outside 0 ys ≡ Some (m, d) → step m d 9 ≡ None → ¬ IsViable (encode_utf8_all ys ++ 9 ∷ [])
 no_tab ys m d ok h e v = cant_follow ys 9 (m, d) ok refl h e (subst (λ l. IsViable (encode_utf8_all ys ++ l)) (sym (encode_ascii 9 (omega arith))) v)
 
@@ -278,7 +278,7 @@ escape_sort ys (Escape q) d ok h t f = refl
 escape_sort ys (OneDigit q n) d ok h t f = refl
 escape_sort ys (TwoDigits q n) d ok h t f = refl
 
--- what is wrong tells where the reader stands, and what a quoted text was opened by
+-- the cause determines the state, and the opening double quote of a quoted string
 abbrev Tells : Mode → ℕ → Wrong → Type 0
 Tells m s (OpenQuote i) = Ends m s i
 Tells m s w = sort m ≡ sort_of w
@@ -332,7 +332,7 @@ one_wrong front rest v w viable a b =
 abbrev fault_at : ℕ → Wrong → Fault
 fault_at i w = record { at = i; wrong = w }
 
--- a text has one fault
+-- a text has one error
 pub one_fault : (text : List ℕ) (f g : Fault) → IsFault text f → IsFault text g → f ≡ g
 one_fault text f g a b =
     let same : f.at ≡ g.at = bad_once text f.at g.at a.bad b.bad in

@@ -1,4 +1,4 @@
--- The parenthesis that is left open.
+-- The outermost open parenthesis.
 use Rattle.std.proofs.Common.{◌≡◌, ℕ, zero, suc, ◌+◌, ◌-◌, ◌*◌, ◌<◌, Bool, true, false, cond, ◌&&◌, nat_le, List, [], ◌∷◌, ◌++◌, length, take, drop, replicate, refl, sym, ap, ◌∙◌, subst, arith}
 use Rattle.std.proofs.Common.{append_assoc, append-nil, length-append, inl, inr, ◌⊎◌, IsUtf8}
 use Rattle.std.specs.Prelude.{Some, None, option_and_then, encode_utf8, encode_utf8_all}
@@ -95,7 +95,7 @@ begins (Escape q) c v h p = absurd (omega (arith, either (is_digit c) (nat_le c 
 begins (OneDigit q n) c v h p = absurd (omega (arith, only (is_digit c && nat_le (10 * n + (c - 48)) 25) (TwoDigits q (10 * n + (c - 48))) 0 v h))
 begins (TwoDigits q n) c v h p = absurd (omega (arith, only (is_digit c && nat_le (10 * n + (c - 48)) 255) (home q) 0 v h))
 
--- what was read: a parenthesis at that place, and no return to depth 0 after it
+-- what was read: a parenthesis at that offset, and no return to depth 0 after it
 pub record Opened (ys : List ℕ) (opened : ℕ) : Type 0 where
   pub front : List ℕ
   pub back : List ℕ
@@ -179,7 +179,7 @@ ended_outside (Escape q) d h = cc
 ended_outside (OneDigit q n) d h = cc
 ended_outside (TwoDigits q n) d h = cc
 
--- where characters that split end, no parenthesis is open
+-- at the end of characters that split, no parenthesis is open
 split_ends : (cs : List ℕ) (e : Entries) → read Outside 0 [] cs ≡ Some e → (p : Mode × ℕ) × (walk Outside 0 cs ≡ Some p) × (p.1 ≡ 0)
 split_ends cs e r =
     let w = walked cs [] Outside 0 [] e (ap (read Outside 0 []) (append-nil cs) ∙ r) in

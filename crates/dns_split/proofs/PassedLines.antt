@@ -1,4 +1,4 @@
--- The rest of an entry on its line, passed over at once.
+-- The rest of an entry on its line, skipped at once.
 use Rattle.std.proofs.Common.{◌≡◌, ℕ, zero, suc, ◌+◌, ◌-◌, ◌<◌, ◌≤◌, arith, rules, Bool, true, false, ◌==◌, List, [], ◌∷◌, ◌++◌, length, drop, refl, sym, ap, ◌∙◌, subst, inl, inr, ◌⊎◌}
 use Rattle.std.specs.Prelude.{◌≢◌, if◌then◌else◌, map, Option, Some, None, option_map, unwrap_or, Result, Ok}
 use Rattle.std.proofs.Common.{get_or}
@@ -18,7 +18,7 @@ use Rattle.dns_split.specs.Run.{Still, before, closed_piece, fault, finished, fi
 use Rattle.dns_split.specs.Skip.{EachIn, StopsAt, is_in}
 use Rattle.dns_split.proofs.PieceSteps.{run_step, stepped}
 
--- ---- something is left
+-- ---- something remains
 before_some : (o : Option Piece) (k : List (Result Piece Fault)) → k ≢ [] → before o k ≢ []
 before_some None k h = h
 before_some (Some p) k h = λ e. cc
@@ -43,7 +43,7 @@ plain_still c h k d s at b bs = search rules
 blank_ends : (c d : ℕ) → is_in Blank c ≡ true → step Outside d c ≡ move_to Outside d EndToken
 blank_ends c d h = search rules
 
--- up to a line feed the reader gives words, and then the end of the entry
+-- up to a line feed the machine yields words, and then the end of the entry
 abbrev EndsAt : List ℕ → ℕ → ℕ → Bool → ℕ → Type 0
 EndsAt text s i b e = (found : List Piece) × HasNoEnd found
     × (run Outside 0 s i b (drop i text) ≡ map Ok found ++ Ok (end_at (e + 1) b) ∷ run Outside 0 (e + 1) (e + 1) (first_blank (drop (e + 1) text)) (drop (e + 1) text))
@@ -100,7 +100,7 @@ line_run text (suc r) s i b w all feed =
       | inr word ↦ plain_here text s i (i + suc r) b (omega (arith, w)) here word (rest s)
     ]
 
--- from where nothing is open
+-- from a position with nothing open
 pub line_passed : (text : List ℕ) (done : Bool) (d at e : ℕ) (b k : Bool) (old : List (Result Piece Fault)) → old ≡ (if done then [] else run Outside d at at b (drop at text)) → done ≡ false → d ≡ 0
     → at ≤ e → e < length text → EachIn Line text at e → get_or text e 0 ≡ 10 → k ≡ first_blank (drop (e + 1) text)
     → PassesEntry old (e + 1) (if done then [] else run Outside d (e + 1) (e + 1) k (drop (e + 1) text))
@@ -126,7 +126,7 @@ clash t is not_so = cc
 feed_stops : (c : ℕ) → is_in Line c ≡ true → c ≢ 10
 feed_stops c plain feed = clash (is_in Line c) plain (ap (is_in Line) feed)
 
--- the first octet that isn't of such a line is no line feed
+-- the first octet that isn't of such a line isn't a line feed
 no_line : (text : List ℕ) (at e : ℕ) → at ≤ e → EachIn Line text at e → (e < length text → StopsAt Line text e) → (e < length text → get_or text e 0 ≢ 10) → HasNoLine text at
 no_line text at e on each stops other feed from within plain is = elim (cases_lt feed e) [
   | inl early ↦ feed_stops (get_or text feed 0) (each feed from early) is
@@ -138,14 +138,14 @@ no_line text at e on each stops other feed from within plain is = elim (cases_lt
   ]
 ]
 
--- where the reader is done or inside parentheses
+-- if the machine is done or inside parentheses
 pub none_left : (text : List ℕ) (done : Bool) (d at : ℕ) (b : Bool) (old : List (Result Piece Fault)) → old ≡ (if done then [] else run Outside d at at b (drop at text))
     → (done ≡ true) ⊎ (0 < d) → LacksLine old
 none_left text true d at b old is why = inl is
 none_left text false d at b old is (inl why) = cc
 none_left text false d at b old is (inr deep) = inr (record { octets = text; depth = d; at = at; began = b; is = is; none = inl deep })
 
--- where the line goes on with something else
+-- if the line continues with something else
 pub other_line : (text : List ℕ) (done : Bool) (d at e : ℕ) (b : Bool) (old : List (Result Piece Fault)) → old ≡ (if done then [] else run Outside d at at b (drop at text)) → at ≤ e
     → EachIn Line text at e → (e < length text → StopsAt Line text e) → (e < length text → get_or text e 0 ≢ 10) → LacksLine old
 other_line text true d at e b old is on each stops other = inl is

@@ -1,4 +1,4 @@
--- What the reader of pieces gives of any text.
+-- What the machine yields for any text.
 use Rattle.std.proofs.Common.{◌≡◌, ℕ, zero, suc, ◌+◌, ◌<◌, Bool, true, false, List, [], ◌∷◌, ◌++◌, length, take, drop, replicate, refl, sym, ap, ◌∙◌, subst, arith, append_assoc, append-nil}
 use Rattle.std.proofs.Common.{inl, inr, ◌⊎◌, IsUtf8}
 use Rattle.std.specs.Prelude.{Some, None, map, Result, Ok, encode_utf8, encode_utf8_all, option_and_then}
@@ -34,7 +34,7 @@ use Rattle.dns_split.proofs.PieceGiven.{Stop, stop, Gives, front_of, same_first,
 use Rattle.dns_split.proofs.PieceSettled.{gives_all, longest, Ended, ended}
 use Rattle.dns_split.proofs.PieceWhole.{pieces_run}
 
--- with a double quote after it, the quoted text that is open is a piece
+-- with a double quote after it, the quoted string that is open is a piece
 quoted_piece : (c : ℕ) (ys r : List ℕ) (d : ℕ) → (g : Gives Outside 0 0 0 (first_blank (encode_utf8_all (c ∷ ys) ++ r)) (c ∷ ys) (Quoted, d))
     → EndsQuote (encode_utf8_all (c ∷ ys)) g.start
 quoted_piece c ys r d g more all is =
@@ -109,7 +109,7 @@ comment_goes DoubleQuote d h = cc
 comment_goes Backslash d h = cc
 comment_goes Plain d h = cc
 
--- a character that the reader takes goes on with what is viable
+-- a character that the machine accepts extends a viable text
 pub next_viable : (ys : List ℕ) (c : ℕ) (m : Mode) (d : ℕ) (v : Move) → scalars ys ≡ true → scalar c ≡ true → walk Outside 0 ys ≡ Some (m, d) → step m d c ≡ Some v
     → IsViable (encode_utf8_all ys ++ encode_utf8 c)
 next_viable ys c m d v ok fine h e =
@@ -129,7 +129,7 @@ parenthesis ys m d ok h k =
     let is : encode_utf8_all (ys ++ tail) ≡ encode_utf8_all ys ++ tail = encodes-append ys tail ∙ ap (λ l. encode_utf8_all ys ++ l) (low_encodes tail (low_close d)) in
     (d, r.0, subst (λ l. Splits l r.0) is (read_splits (ys ++ tail) r.0 (scalars_both ys tail ok (low_scalars tail (low_close d))) r.1))
 
--- in a quoted text, after CR or in an escape
+-- in a quoted string, after CR or in an escape
 abbrev is_inside : Mode → Bool
 is_inside Outside = false
 is_inside Comment = false
@@ -146,7 +146,7 @@ inside_wrong (c ∷ ys) r rest (TwoDigits q n) d g ok h i = bad_escape (c ∷ ys
 inside_wrong (c ∷ ys) r rest Outside d g ok h i = cc
 inside_wrong (c ∷ ys) r rest Comment d g ok h i = cc
 
--- before a character that is refused
+-- before a character that is rejected
 step_wrong : (ys r : List ℕ) (c : ℕ) (m : Mode) (d : ℕ) → (g : Gives Outside 0 0 0 (first_blank (encode_utf8_all ys ++ (encode_utf8 c ++ r))) ys (m, d)) → scalars ys ≡ true
     → walk Outside 0 ys ≡ Some (m, d) → step m d c ≡ None
     → IsWrong (encode_utf8_all ys) (encode_utf8 c ++ r) (wrong_at m g.start)
@@ -188,7 +188,7 @@ all_settled ys r p g h e ok w lone =
     go other (inl b) = inl b
     go other (inr b) = inr (lone b.0, b.1.0, b.1.1)
 
--- the pieces that were settled, and the fault
+-- the pieces that were settled, and the error
 faulty : (text ys r : List ℕ) (p : Mode × ℕ) → IsUtf8 text → encode_utf8_all ys ++ r ≡ text → walk Outside 0 ys ≡ Some p → (w : ℕ → Wrong)
     → ((t n : ℕ) (x : Bool) → run p.0 p.1 t n x r ≡ fault n (w t)) → IsBad text (length (encode_utf8_all ys))
     → ((g : Gives Outside 0 0 0 (first_blank (encode_utf8_all ys ++ r)) ys p) → scalars ys ≡ true → IsWrong (encode_utf8_all ys) r (w g.start)) → ((i : ℕ) → p.0 ≡ Return → w i ≡ LoneReturn)

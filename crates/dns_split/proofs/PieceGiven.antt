@@ -1,4 +1,4 @@
--- The pieces of what the reader has walked, whatever follows, and where what is open begins.
+-- The pieces of what the machine has walked, whatever follows, and the start of what is open.
 use Rattle.std.proofs.Common.{◌≡◌, ℕ, zero, suc, ◌+◌, ◌-◌, ◌*◌, ◌<◌, ◌≤◌, Bool, true, false, List, [], ◌∷◌, ◌++◌, length, refl, sym, ap, ◌∙◌, subst, arith, append_assoc, append-nil}
 use Rattle.std.proofs.Common.{length-append, inl, inr, ◌⊎◌}
 use Rattle.std.specs.Prelude.{Option, Some, None, map, Result, Ok, encode_utf8, encode_utf8_all, option_and_then, nat_le, ◌&&◌, cond}
@@ -166,7 +166,7 @@ step_returns (Escape q) d c v h = one_other (is_digit c) (nat_le c 50) (nat_le 3
 step_returns (OneDigit q n) d c v h = only_other (is_digit c && nat_le (10 * n + (c - 48)) 25) (OneDigit q n) c (TwoDigits q (10 * n + (c - 48))) d v refl h
 step_returns (TwoDigits q n) d c v h = only_other (is_digit c && nat_le (10 * n + (c - 48)) 255) (TwoDigits q n) c (home q) d v (home_other q) h
 
--- where what is open begins: after a CR, here
+-- the start of what is open: after a CR, here
 abbrev pub Stands : Mode → ℕ → ℕ → Type 0
 Stands m s at = (s ≤ at) × (is_return m ≡ true → s ≡ at)
 

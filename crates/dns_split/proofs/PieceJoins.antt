@@ -47,7 +47,7 @@ abbrev Joins : List Lexeme → Type 0
 Joins ls = (more : List Lexeme) (r : Bool) (at d : ℕ) (b : Bool) → nests d ls ≡ true
     → Joined at d b ls more r (at + length (flat_map lexeme_bytes ls)) (at + length (flat_map lexeme_bytes ls) + length (lexeme_bytes (Line r)))
 
--- one more lexeme, which gives these pieces
+-- one more lexeme, with these pieces
 one_more : (l : Lexeme) (ls more : List Lexeme) (r : Bool) (at d d' : ℕ) (b b' : Bool) (given : List Piece) → pieces at d b (l ∷ ls) ≡ given ++ pieces (at + length (lexeme_bytes l)) d' b' ls
     → pieces at d b (l ∷ (ls ++ Line r ∷ more)) ≡ given ++ pieces (at + length (lexeme_bytes l)) d' b' (ls ++ Line r ∷ more)
     → Joined (at + length (lexeme_bytes l)) d' b' ls more r (at + length (lexeme_bytes l) + length (flat_map lexeme_bytes ls)) (at + length (lexeme_bytes l) + length (flat_map lexeme_bytes ls) + length (lexeme_bytes (Line r)))
@@ -152,7 +152,7 @@ abbrev first_in : List Piece → ℕ
 first_in [] = 0
 first_in (x ∷ xs) = place_in x
 
--- after a piece that is no end
+-- after a piece other than an end
 past : (l : Lexeme) (ls : List Lexeme) (p : Piece) (at d : ℕ) (b : Bool) (found more : List Piece) (e : ℕ) (t : Bool) → ((q : Piece) → p ≡ q → q ≡ end_at e t → ⊥) → Goes ls
     → are_lexemes ls ≡ true → nests d ls ≡ true → p ∷ pieces (at + length (lexeme_bytes l)) d b ls ≡ found ++ end_at e t ∷ more
     → (more ≡ []) ⊎ GoesOn at (l ∷ ls) e more

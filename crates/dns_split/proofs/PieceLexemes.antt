@@ -1,4 +1,4 @@
--- The reader of pieces on characters, and on lexemes.
+-- The machine of pieces on characters, and on lexemes.
 use Rattle.std.proofs.Common.{◌≡◌, ℕ, zero, suc, ◌+◌, ◌*◌, ◌/◌, ◌%◌, ◌<◌, ◌≤◌, Bool, true, false, cond, ◌==◌, nat_le, List, [], ◌∷◌, ◌++◌, length, refl, sym, ap, ◌∙◌, subst, arith, append_assoc}
 use Rattle.std.proofs.Common.{append-nil, length-append, inl, inr}
 use Rattle.std.specs.Prelude.{Some, None, Result, Ok, encode_utf8, encode_utf8_all}
@@ -63,7 +63,7 @@ high_bytes c h = elim (cases_lt c 2048) [
   ]
 ]
 
--- where such bytes change nothing
+-- if such bytes change nothing
 abbrev pub stays : Mode → Bool
 stays Outside = true
 stays Quoted = true
@@ -86,7 +86,7 @@ high_run (x ∷ bs) rest m d s at b h k =
     go (OneDigit q n) k big on = cc
     go (TwoDigits q n) k big on = cc
 
--- what a character gives and leaves
+-- what a character yields and leaves
 abbrev pub char_stepped : Mode → ℕ → ℕ → Bool → ℕ → List ℕ → Move → List (Result Piece Fault)
 char_stepped m s at b w rest v = before (closed_piece m v.mode v.act s at)
     (before (finished v.act s (at + 1) b) (run v.mode v.depth (start_after m v.mode v.act s at) (at + w) (blank_after v.act b rest) rest))
@@ -136,7 +136,7 @@ first_blank_char c rest = elim (cases_lt c 128) [
       ap (λ l. first_blank (l ++ rest)) f.2 ∙ not_blank f.0 f.3 ∙ sym (not_blank c big)
 ]
 
--- a character that goes on with what is open
+-- a character that extends the open piece
 add_run : (m m' : Mode) (d s at e : ℕ) (b : Bool) (c : ℕ) (rest : List ℕ) → closed_piece m m' Add s at ≡ None → step m d c ≡ move_to m' d Add → e ≡ at + length (encode_utf8 c)
     → run m d s at b (encode_utf8 c ++ rest) ≡ run m' d s e b rest
 add_run m m' d s at e b c rest n h k =

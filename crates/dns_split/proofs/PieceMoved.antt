@@ -1,4 +1,4 @@
--- The reader elsewhere in a text, and on octets that are characters.
+-- The machine at other offsets of a text, and on octets that are characters.
 use Rattle.std.proofs.Common.{◌≡◌, ℕ, zero, suc, ◌+◌, ◌<◌, ◌≤◌, Bool, true, false, cond, ◌==◌, List, [], ◌∷◌, ◌++◌, length, take, drop, refl, sym, ap, ◌∙◌, subst, arith, append_assoc, append-nil}
 use Rattle.std.proofs.Common.{length-append, inl, inr, IsUtf8}
 use Rattle.std.specs.Prelude.{Option, Some, None, option_map, map, Result, Ok, IfSome, encode_utf8, encode_utf8_all}
@@ -64,7 +64,7 @@ blank_run (c ∷ bs) m d s at b x h = go (step m d c) refl (blank_run bs)
     go (Some v) e ih = act_blank bs ih v.act v.mode v.depth s (start_after m v.mode v.act s at) (at + 1) (at + 1) b x
         (sym (closed_blank (goes_on m v.mode v.act) m s at _) ∙ ap next_blank (sym (run_step m d s at b c bs v e)) ∙ h)
 
--- places moved by f, which keeps neighbours where it is asked
+-- offsets moved by f, which keeps neighbours if required
 before_moved : (f : ℕ → ℕ) (o : Option Piece) (k : List (Result Piece Fault)) → map (moved f) (before o k) ≡ before (option_map (moved_piece f) o) (map (moved f) k)
 before_moved f None k = refl
 before_moved f (Some p) k = refl
@@ -145,7 +145,7 @@ end_wrong_moved f (Escape q) s = refl
 end_wrong_moved f (OneDigit q n) s = refl
 end_wrong_moved f (TwoDigits q n) s = refl
 
--- what is left after one octet, moved
+-- what remains after one octet, moved
 turn_moved : (f : ℕ → ℕ) (m : Mode) (v : Move) (s at : ℕ) (b x : Bool) (bs cs : List ℕ) → f (at + 1) ≡ f at + 1 → (f s == f at) ≡ (s == at) → blank_after v.act b bs ≡ blank_after v.act b cs
     → ((t : ℕ) → t ≤ at + 1 → run v.mode v.depth (f t) (f (at + 1)) (blank_after v.act b bs) cs ≡ map (moved f) (run v.mode v.depth t (at + 1) (blank_after v.act b bs) bs)) → s ≤ at
     → before (closed_piece m v.mode v.act (f s) (f at)) (before (finished v.act (f s) (f at + 1) b) (run v.mode v.depth (start_after m v.mode v.act (f s) (f at)) (f at + 1) (blank_after v.act b cs) cs))
@@ -197,7 +197,7 @@ later_run n (c ∷ bs) m d s at b h = go (step m d c) refl (later_run n bs)
         ∙ turn_moved (λ i. n + i) m v s at b b bs bs (omega arith) (same_later n s at) refl (λ t w. ih v.mode v.depth t (at + 1) (blank_after v.act b bs) w) h
         ∙ ap (later n) (sym (run_step m d s at b c bs v e))
 
--- from a place on, the same further on
+-- from an offset on, the same moved
 pub from_place : (rest : List ℕ) (at : ℕ) → run Outside 0 at at (first_blank rest) rest ≡ later at (run Outside 0 0 0 (first_blank rest) rest)
 from_place rest at = ap (λ n. run Outside 0 n n (first_blank rest) rest) (omega arith) ∙ later_run at rest Outside 0 0 0 (first_blank rest) (omega arith)
 
@@ -205,7 +205,7 @@ from_place rest at = ap (λ n. run Outside 0 n n (first_blank rest) rest) (omega
 pub reads_from : (text : List ℕ) (at : ℕ) → IsUtf8 (drop at text) → ReadsFrom text at (run Outside 0 at at (first_blank (drop at text)) (drop at text))
 reads_from text at u = (run Outside 0 0 0 (first_blank (drop at text)) (drop at text), reads (drop at text) u, from_place (drop at text) at)
 
--- the flag of what is left
+-- the flag of what remains
 pub blank_left : (done : Bool) (m : Mode) (d s at : ℕ) (b : Bool) (bs : List ℕ) (given : List (Result Piece Fault)) → cond done [] (run m d s at b bs) ≡ given → IfSome (next_blank given) (λ x. b ≡ x)
 blank_left done m d s at b bs given e = go (next_blank given) refl
   where
@@ -246,7 +246,7 @@ place_at : (all front rest : List ℕ) (at : ℕ) → front ++ rest ≡ all → 
 place_at all front rest at e k = ap (λ n. length (encode_utf8_all (take n all))) k ∙ ap (λ l. length (encode_utf8_all (take (length front) l))) (sym e)
     ∙ ap (λ l. length (encode_utf8_all l)) (take-append_seam front rest)
 
--- the place after one more
+-- the offset after one more
 place_next : (all front os : List ℕ) (at c : ℕ) → front ++ (c ∷ os) ≡ all → at ≡ length front → place_of all (at + 1) ≡ place_of all at + length (encode_utf8 c)
 place_next all front os at c e k =
     place_at all (front ++ c ∷ []) os (at + 1) (append_assoc front (c ∷ []) os ∙ e) (omega (arith, k, length-append front (c ∷ [])))
@@ -322,6 +322,6 @@ octets_run octets = ap (λ b. run Outside 0 0 0 b (encode_utf8_all octets)) (sym
 pub reads_octets : (octets : List ℕ) → scalars octets ≡ true → ReadsOctets octets (run Outside 0 0 0 (first_blank octets) octets)
 reads_octets octets ok = subst (Reads (encode_utf8_all octets)) (octets_run octets) (reads (encode_utf8_all octets) (octets, (ok, refl)))
 
--- octets from a place on
+-- octets from an offset on
 pub reads_octets_from : (octets : List ℕ) (at : ℕ) → scalars (drop at octets) ≡ true → ReadsOctetsFrom octets at (run Outside 0 at at (first_blank (drop at octets)) (drop at octets))
 reads_octets_from octets at ok = (run Outside 0 0 0 (first_blank (drop at octets)) (drop at octets), reads_octets (drop at octets) ok, from_place (drop at octets) at)

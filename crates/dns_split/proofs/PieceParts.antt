@@ -1,4 +1,4 @@
--- What is given are parts of the text.
+-- The items are parts of the text.
 use Rattle.std.proofs.Common.{◌≡◌, ℕ, ◌+◌, ◌<◌, ◌≤◌, Bool, true, false, cond, ◌==◌, List, [], ◌∷◌, ◌++◌, length, refl, sym, ap, ◌∙◌, subst, arith, append_assoc, append-nil, length-append, inl}
 use Rattle.std.proofs.Common.{inr, IsUtf8, get_or, take, drop}
 use Rattle.std.specs.Prelude.{⊤, Option, Some, None, map, Result, Ok, Err}
@@ -21,7 +21,7 @@ use Rattle.dns_split.specs.Run.{open_piece, goes_on, before, closed_piece, finis
 use Rattle.dns_split.proofs.Viable.{high_is}
 use Rattle.dns_split.proofs.PieceSteps.{run_step, run_stop}
 
--- each place has Q, and a fault's R
+-- each offset has Q, and an error's R
 module _ (Q R : ℕ → Type 0) where
   pub record IsSpan (s e : ℕ) : Type 0 where
     pub ordered : s ≤ e
@@ -169,7 +169,7 @@ pub each_is_part : (text : List ℕ) (at : ℕ) → IsUtf8 text → IsCharBounda
 each_is_part text at u p = parts_of text _ (right_parts text (take at text) (drop at text) at u (take-append-drop at text) (sym (length-take-le at text p.0)) Outside 0 at
     (first_blank (drop at text)) (omega arith) p)
 
--- parts, and the text's fault
+-- parts, and the text's error
 all_fit : (text : List ℕ) (found : List Piece) (k : List (Result Piece Fault)) → EachFits text k → EachIsPart text (map Ok found ++ k) → EachFits text (map Ok found ++ k)
 all_fit text [] k h p = h
 all_fit text (x ∷ xs) k h p = (p.0, all_fit text xs k h p.1)

@@ -1,4 +1,4 @@
--- What is given before a fault is all that is settled.
+-- The items before an error are all that is settled.
 use Rattle.std.proofs.Common.{◌≡◌, ℕ, zero, suc, ◌+◌, ◌*◌, ◌<◌, ◌≤◌, Bool, true, false, cond, ◌==◌, List, [], ◌∷◌, ◌++◌, length, replicate, refl, sym, ap, ◌∙◌, subst, arith}
 use Rattle.std.proofs.Common.{append-nil, inl, inr, ◌⊎◌}
 use Rattle.std.specs.Prelude.{Some, None, map, Result, Ok, encode_utf8_all}
@@ -41,7 +41,7 @@ Differ l k = (p : Piece) (xs ys : List (Result Piece Fault)) → l ≡ Ok p ∷ 
 by_ends : (p q : Piece) (xs ys l k : List (Result Piece Fault)) → l ≡ Ok p ∷ xs → k ≡ Ok q ∷ ys → (end_of p ≡ end_of q → ⊥) → Differ l k
 by_ends p q xs ys l k h g apart r us vs e f = apart (ap end_of (ap (first_of p) (sym h ∙ e) ∙ sym (ap (first_of q) (sym g ∙ f))))
 
--- two ways to go on, each to a text of the grammar, whose pieces differ at once
+-- two continuations, each to a text of the grammar, whose pieces differ at once
 record Apart (m : Mode) (d s n : ℕ) : Type 0 where
   pub one : List ℕ
   pub two : List ℕ
@@ -74,7 +74,7 @@ outside_one d = 34 ∷ quoted_one d
 outside_completes : (d : ℕ) → Completes Outside d (outside_one d)
 outside_completes d = step_completes Outside d 34 (quoted_one d) (record { mode = Quoted; depth = d; act = BeginToken }) refl (quoted_completes d)
 
--- where a quoted text begins, a word that is open ends
+-- where a quoted string begins, an open word ends
 quote_next : (d s n : ℕ) (x t : Bool) → (s == n) ≡ t
     → run Outside d s n x (outside_one d) ≡ before (cond t None (Some (word_at s n))) (Ok (quote_at n (n + 1 + 1)) ∷ run Outside d (n + 1 + 1) (n + 1 + 1) x (replicate d 41))
 quote_next d s n x t e = ap (λ o. before (cond o None (Some (word_at s n))) (Ok (quote_at n (n + 1 + 1)) ∷ run Outside d (n + 1 + 1) (n + 1 + 1) x (replicate d 41))) e
@@ -186,7 +186,7 @@ completed ys w p ok h small c =
     let r = split_pieces (encode_utf8_all ys ++ w) k.0 (subst (λ l. Splits l k.0) is (read_splits (ys ++ w) k.0 (scalars_both ys w ok (low_scalars w small)) k.1)) in
     (r.0, r.1)
 
--- what the reader gives of every text that begins with what was walked
+-- what the machine yields for every text that begins with what was walked
 abbrev pub GivesAll : List ℕ → Mode → ℕ → List Piece → ℕ → Type 0
 GivesAll ys m d found s = (w : List ℕ) → (x : Bool) × (run Outside 0 0 0 (first_blank (encode_utf8_all ys ++ w)) (encode_utf8_all ys ++ w) ≡ map Ok found ++ run m d s
     (0 + length (encode_utf8_all ys)) x w)
@@ -204,7 +204,7 @@ gives_all (c ∷ ys) r p g h e w =
     let k = g.gives w in
     (k.0, ap (λ b. run Outside 0 0 0 b (encode_utf8_all (c ∷ ys) ++ w)) (same_first c ys w r) ∙ k.1)
 
--- where two ways differ, nothing more is settled
+-- where two texts differ, nothing more is settled
 apart_longest : (ys : List ℕ) (m : Mode) (d s : ℕ) (found other : List Piece) → Apart m d s (0 + length (encode_utf8_all ys)) → GivesAll ys m d found s → scalars ys ≡ true
     → walk Outside 0 ys ≡ Some (m, d)
     → BeginsPieces (encode_utf8_all ys) other → Begins other found
@@ -273,7 +273,7 @@ return_longest ys s found other is gives ok h begins =
         last [] e f g = e ∙ ap (λ q. found ++ q ∷ []) (sym same) ∙ ap (λ i. found ++ end_at (i + 1) x ∷ []) (zero-add (length (encode_utf8_all ys)))
         last (o ∷ os) e f g = elim (a.differ (first_blank a.one) (first_blank a.two) o _ _ (ap tail_of f) (ap tail_of g)) [ ]
 
--- nothing more is settled than what was given
+-- nothing more is settled than what was yielded
 pub longest : (ys : List ℕ) (m : Mode) (d s : ℕ) (found other : List Piece) → GivesAll ys m d found s → scalars ys ≡ true → walk Outside 0 ys ≡ Some (m, d)
     → Stands m s (0 + length (encode_utf8_all ys)) → Fine m
     → BeginsPieces (encode_utf8_all ys) other → Begins other found ⊎ ((m ≡ Return) × Ended other found (length (encode_utf8_all ys)))

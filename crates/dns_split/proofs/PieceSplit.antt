@@ -22,7 +22,7 @@ between_is before w rest text at e k =
     let n : at + length w - at ≡ length w = omega arith in
     ap (λ l. take (at + length w - at) (drop at l)) (sym e) ∙ ap (take (at + length w - at)) (drop_at before (w ++ rest) at (sym k)) ∙ ap (λ i. take i (w ++ rest)) n ∙ take-append_seam w rest
 
--- a reading of lexemes and one of their pieces say the same
+-- a reading of lexemes and one of their pieces agree
 abbrev pub Agrees : {A : Type 0} → (ℕ → Bool → List Lexeme → A) → (List ℕ → List Piece → A) → List Lexeme → Type 0
 Agrees of_lexemes of_pieces ls = (text before : List ℕ) (d at : ℕ) (b : Bool) → before ++ flat_map lexeme_bytes ls ≡ text → at ≡ length before → nests d ls ≡ true
     → of_lexemes d b ls ≡ of_pieces text (pieces at d b ls)
@@ -34,7 +34,7 @@ pub past : {A : Type 0} (of_lexemes : ℕ → Bool → List Lexeme → A) (of_pi
 past of_lexemes of_pieces l ls agrees text before d at b e k n =
     agrees text (before ++ lexeme_bytes l) d (at + length (lexeme_bytes l)) b (append_assoc before (lexeme_bytes l) (flat_map lexeme_bytes ls) ∙ e) (omega (arith, k, length-append before (lexeme_bytes l))) n
 
--- the tokens of pieces, cut where entries end, are the entries
+-- the tokens of pieces, cut at the ends of entries, are the entries
 abbrev entries_at : ℕ → Bool → List Lexeme → Entries
 entries_at d b ls = entries d ls
 
@@ -96,7 +96,7 @@ same_found (x ∷ xs) (y ∷ ys) e = ap (λ z. z ∷ xs) (ap (first_of x) e) ∙
 pub pieces_one_way : (text : List ℕ) (xs ys : List Piece) → IsPieces text xs → IsPieces text ys → xs ≡ ys
 pieces_one_way text xs ys p q = same_found xs ys (sym (pieces_run text xs p) ∙ pieces_run text ys q)
 
--- the entries of what is given, if no fault is
+-- the entries of the items, if there is no error
 abbrev pub answer : List ℕ → List (Result Piece Fault) → Option Entries
 answer text [] = Some []
 answer text (Ok (WordAt p) ∷ k) = option_map (with_token (between text p.start p.end)) (answer text k)
@@ -105,7 +105,7 @@ answer text (Ok (CommentAt p) ∷ k) = answer text k
 answer text (Ok (EndAt p) ∷ k) = option_map (λ e. [] ∷ e) (answer text k)
 answer text (Err f ∷ k) = None
 
--- the last that is given is the end of an entry, or a fault
+-- the last item is the end of an entry, or an error
 abbrev pub closes : Bool → List (Result Piece Fault) → Bool
 closes t [] = t
 closes t (Ok (WordAt p) ∷ k) = closes false k

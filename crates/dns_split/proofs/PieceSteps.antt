@@ -1,4 +1,4 @@
--- One turn of the reader of pieces.
+-- One step of the machine of pieces.
 use Rattle.std.proofs.Common.{◌≡◌, ℕ, zero, suc, ◌+◌, ◌-◌, ◌*◌, ◌<◌, Bool, true, false, cond, ◌&&◌, ◌==◌, nat_le, List, ◌∷◌, length, drop, refl, sym, ap, ◌∙◌, subst}
 use Rattle.std.specs.Prelude.{Option, Some, None, option_map, unwrap_or, Result, Ok}
 use Rattle.std.proofs.Common.{get_or}
@@ -20,7 +20,7 @@ use Rattle.dns_split.specs.Pieces.{word_at}
 use Rattle.dns_split.specs.Run.{before, closed_piece, finished, start_after, first_blank, blank_after, blank_then, fault, goes_on, open_piece, wrong_at, run}
 use Rattle.dns_split.proofs.Complete.{Some_same}
 
--- what a step gives and leaves
+-- what a step yields and leaves
 abbrev pub stepped : Mode → ℕ → ℕ → Bool → List ℕ → Move → List (Result Piece Fault)
 stepped m s at b bs v = before (closed_piece m v.mode v.act s at) (before (finished v.act s (at + 1) b) (run v.mode v.depth (start_after m v.mode v.act s at) (at + 1) (blank_after v.act b bs) bs))
 
@@ -116,7 +116,7 @@ quoted_again Semicolon d s at b c bs p v h = added Quoted Quoted d s at b c bs p
 quoted_again Plain d s at b c bs p v h = added Quoted Quoted d s at b c bs p v refl h
 quoted_again Backslash d s at b c bs p v h = added Quoted (Escape InQuote) d s at b c bs p v refl h
 
--- where the reader gives what was open, it may stand before the same octet with nothing open
+-- if the machine yields the open piece, it may be before the same octet without an open piece
 pub reopens : (m : Mode) (d s at : ℕ) (b : Bool) (c : ℕ) (bs : List ℕ) (p : Piece) (v : Move) → step m d c ≡ Some v → Reopens m d s at b c bs p v
 reopens Outside d s at b c bs p v h = outside_again d s at b c bs p v.mode v.depth v.act h
 reopens Quoted d s at b c bs p v h = quoted_again (kind c) d s at b c bs p v h
@@ -126,7 +126,7 @@ reopens (Escape q) d s at b c bs p v h = one_or (is_digit c) (nat_le c 50) (nat_
 reopens (OneDigit q n) d s at b c bs p v h = only_added (is_digit c && nat_le (10 * n + (c - 48)) 25) (OneDigit q n) (TwoDigits q (10 * n + (c - 48))) d s at b c bs p v refl h
 reopens (TwoDigits q n) d s at b c bs p v h = only_added (is_digit c && nat_le (10 * n + (c - 48)) 255) (TwoDigits q n) (home q) d s at b c bs p v refl h
 
--- in a text: the piece, and what is left
+-- in a text: the piece, and what remains
 pub turn_closed : (text : List ℕ) (m : Mode) (d s at : ℕ) (b : Bool) (c : ℕ) (p : Piece) (v : Move) → at < length text → c ≡ get_or text at 0 → step m d c ≡ Some v
     → closed_piece m v.mode v.act s at ≡ Some p
     → run m d s at b (drop at text) ≡ Ok p ∷ run Outside d at at b (drop at text)
@@ -155,7 +155,7 @@ turn_on text m d s at b c v h e g k f =
     turn text m d s at b c v h e g ∙ ap (λ o. before o (before (finished v.act s (at + 1) b) left)) k ∙ ap (λ o. before o left) f
     ∙ ap (λ x. run v.mode v.depth (start_after m v.mode v.act s at) (at + 1) x rest) (same_blank v.act s (at + 1) b rest f)
 
--- where a piece ends with an octet, the reader stands outside after it, and where an entry does, no parentheses are open
+-- if a piece ends with an octet, the machine is outside after it, and if an entry does, no parentheses are open
 abbrev is_outside : Mode → Bool
 is_outside Outside = true
 is_outside _ = false
@@ -240,7 +240,7 @@ outside_is (Escape q) h = cc
 outside_is (OneDigit q n) h = cc
 outside_is (TwoDigits q n) h = cc
 
--- where the reader stands after an entry's end
+-- the state after the end of an entry
 pub entry_home : (m : Mode) (d c : ℕ) (v : Move) → step m d c ≡ Some v → v.act ≡ EndEntry → (v.mode ≡ Outside) × (v.depth ≡ 0)
 entry_home m d c v h e =
     let home : is_home v.mode v.depth v.act ≡ true = ap comes_home (sym h) ∙ step_home m d c in

@@ -1,4 +1,4 @@
--- What the reader of pieces gives of a whole text.
+-- What the machine yields for a whole text.
 use Rattle.std.proofs.Common.{◌≡◌, ℕ, zero, suc, ◌+◌, ◌<◌, Bool, true, false, ◌&&◌, ◌==◌, if◌then◌else◌, List, [], ◌∷◌, ◌++◌, length, refl, sym, ap, ◌∙◌, subst, arith, append_assoc}
 use Rattle.std.proofs.Common.{length-append, inl, inr, ◌⊎◌}
 use Rattle.std.specs.Prelude.{Some, None, map, Result, Ok, encode_utf8, encode_utf8_all}
@@ -43,7 +43,7 @@ word_first (Char c) ss rest h = ap first_blank (append_assoc (encode_utf8 c) (en
 word_first (SimpleEscape o) ss rest h = ap first_blank (append_assoc (encode_utf8 92) (encode_utf8_all (o ∷ flat_map spell ss)) rest) ∙ first_blank_char 92 _
 word_first (DecimalEscape o) ss rest h = ap first_blank (append_assoc (encode_utf8 92) _ rest) ∙ first_blank_char 92 _
 
--- a text of lexemes begins with a blank where they do
+-- a text of lexemes begins with a blank if they do
 blank_lexemes : (ls : List Lexeme) → are_lexemes ls ≡ true → first_blank (flat_map lexeme_bytes ls) ≡ begins_blank ls
 blank_lexemes [] v = refl
 blank_lexemes (Blank true ∷ ls) v = rw (blank_bytes true) refl
@@ -82,7 +82,7 @@ word_open at e n h k = ne_eqb at e (λ x. omega (arith, h, k, x))
 two_on : (at : ℕ) → at + 1 + 1 ≡ at + 2
 two_on at = omega arith
 
--- a text of lexemes gives their pieces
+-- a text of lexemes yields their pieces
 pub lexemes_run : (ls : List Lexeme) (d s at : ℕ) (b : Bool) → are_lexemes ls ≡ true → nests d ls ≡ true → (s ≡ at) ⊎ (no_word ls ≡ true)
     → run Outside d s at b (flat_map lexeme_bytes ls) ≡ before (open_piece Outside s at) (map Ok (pieces at d b ls))
 lexemes_run [] zero s at b v n a = refl
@@ -144,7 +144,7 @@ lexemes_run (Quote ss ∷ ls) d s at b v n a =
     ∙ ap (λ i. Ok (quote_at at i) ∷ run Outside d i i b rest) k
     ∙ ap (λ l. Ok (quote_at at e) ∷ l) (lexemes_run ls d e e b p.1 n (inl refl) ∙ clear e _))
 
--- a text of the grammar gives its pieces
+-- a text of the grammar yields its pieces
 pub pieces_run : (text : List ℕ) (found : List Piece) → IsPieces text found → run Outside 0 0 0 (first_blank text) text ≡ map Ok found
 pieces_run text found p =
     let is : first_blank text ≡ begins_blank p.lexemes = ap first_blank (sym p.spelled) ∙ blank_lexemes p.lexemes p.valid in

@@ -1,4 +1,4 @@
--- Worked texts that don't split: the bytes of the longest viable beginning of each.
+-- Computed examples of texts that don't split: the length of the longest viable prefix of each.
 use Rattle.std.proofs.Common.{[], ◌∷◌, refl, codes}
 use lib.Utf8.{encode}
 use Rattle.dns_split.specs.declared.reader.Mode.TheVariants.{Outside, Quoted, Return, Escape, OneDigit}

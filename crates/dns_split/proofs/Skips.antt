@@ -1,4 +1,4 @@
--- Octets passed over, and the reader that takes them one by one.
+-- Skipped octets, and the machine that reads them one by one.
 use Rattle.std.proofs.Common.{◌≡◌, ℕ, zero, suc, ◌+◌, ◌-◌, ◌*◌, ◌/◌, ◌%◌, ◌<◌, ◌≤◌, arith, rules, Bool, true, false, not, ◌&&◌, nat_le, List, ◌∷◌, ◌++◌, length, length-append, take, drop, Ok, refl, ap, ◌∙◌, subst, inl, inr, ◌⊎◌}
 use Rattle.std.proofs.Common.{get_or}
 use Rattle.std.proofs.lemmas.List.{drop_more, drop-drop, length-drop, take_all}
@@ -140,7 +140,7 @@ escape_run q (DecimalEscape o) is d s at b rest =
     digit : (n : ℕ) → n < 10 → is_digit (48 + n) ≡ true
     digit n few = grind (arith, nat_tests)
 
--- and in a text, in a word and in a quoted text
+-- and in a text, in a word and in a quoted string
 pub escape_skipped : (text : List ℕ) (i : ℕ) (e : EscapedOctet) → i < length text → ReadsEscape Printable (take (length text - i) (drop i text)) (Ok e)
     → Skips text i (i + length (spell (escape_symbol e)))
 escape_skipped text i e in_text read = record {
@@ -173,7 +173,7 @@ class_run q text i j o w all = still_between (home q) (class_of q) (class_still 
 pub run_joined : (m : Mode) (text : List ℕ) (i j e : ℕ) → SameRun m text i j → SameRun m text j e → SameRun m text i e
 run_joined m text i j e front back d s b = front d s b ∙ back d s b
 
--- a run of the class, after what gave the same
+-- a run of the class, after what yielded the same
 pub class_more : (q : Within) (k : Class) → k ≡ class_of q → (text : List ℕ) (i j e : ℕ) → SameRun (home q) text i j → j ≤ e → e ≤ length text → EachIn k text j e → SameRun (home q) text i e
 class_more q k is text i j e before on within each =
     run_joined (home q) text i j e before (class_run q text j e on within (subst (λ l. EachIn l text j e) is each))

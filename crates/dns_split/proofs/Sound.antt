@@ -1,4 +1,4 @@
--- What is read splits so.
+-- A text that is read splits into the same entries.
 use Rattle.std.proofs.Common.{◌≡◌, ℕ, zero, suc, ◌+◌, ◌-◌, ◌*◌, ◌/◌, ◌%◌, ◌<◌, ◌≤◌, Bool, true, false, cond, ◌&&◌, nat_le, List, [], ◌∷◌, ◌++◌, refl, sym, ap, ◌∙◌, subst, arith, append_assoc}
 use Rattle.std.proofs.Common.{append-nil, inl, inr, ◌⊎◌}
 use Rattle.std.specs.Prelude.{Option, Some, None, option_map, option_and_then, encode_utf8, encode_utf8_all}
@@ -29,7 +29,7 @@ pub record Lexed (d : ℕ) (cs : List ℕ) (e : Entries) : Type 0 where
   pub nested : nests d ls ≡ true
   pub is : e ≡ entries d ls
 
--- the text is what is left of a word, if any, and lexemes
+-- the text is the rest of a word, if any, and lexemes
 pub record FromGap (d : ℕ) (t cs : List ℕ) (e : Entries) : Type 0 where
   pub ss : List Symbol
   pub ls : List Lexeme
@@ -40,7 +40,7 @@ pub record FromGap (d : ℕ) (t cs : List ℕ) (e : Entries) : Type 0 where
   pub nested : nests d ls ≡ true
   pub is : e ≡ with_open (t ++ encode_utf8_all (flat_map spell ss)) (entries d ls)
 
--- what is left of a quoted text, a double quote, and lexemes
+-- the rest of a quoted string, a double quote, and lexemes
 pub record FromQuoted (d : ℕ) (t cs : List ℕ) (e : Entries) : Type 0 where
   pub ss : List Symbol
   pub ls : List Lexeme
@@ -101,7 +101,7 @@ pub record FromDigit (q : Within) (d : ℕ) (t cs : List ℕ) (e : Entries) : Ty
   pub text : cs ≡ (48 + x) ∷ rest
   pub then : FromOne q x d (t ++ encode_utf8 (48 + x)) rest e
 
--- what the text is, where the reader has begun so
+-- what the text is, if the machine has begun so
 abbrev pub From : Mode → ℕ → List ℕ → List ℕ → Entries → Type 0
 From Outside d t cs e = FromGap d t cs e
 From Quoted d t cs e = FromQuoted d t cs e

@@ -1,4 +1,4 @@
--- What is left where a reader stands.
+-- The pieces that remain at a position.
 use Rattle.std.proofs.Common.{◌≡◌, ℕ, zero, suc, ◌+◌, ◌-◌, ◌≤◌, Bool, true, false, cond, List, [], ◌∷◌, ◌++◌, length, take, drop, refl, sym, ap, ◌∙◌, subst, arith, length-append}
 use Rattle.std.specs.Prelude.{map, replicate, Some, None, Result, Ok, Err, IfSome}
 use Rattle.std.proofs.lemmas.List.{length-drop, length-replicate, take-append-drop}
@@ -62,7 +62,7 @@ shift : (n k m : ℕ) (b : Bool) (rest : List ℕ) → m ≡ n + k → run Outsi
 shift n k m b rest e =
     ap (λ i. run Outside i (n + k) (n + k) b rest) (omega arith) ∙ ap (λ i. run Outside n i i b rest) (omega (arith, e)) ∙ later_run m rest Outside n 0 0 b (omega arith)
 
--- after the beginning of an entry and as many parentheses the reader gives what is left
+-- after the beginning of an entry and n parentheses, the machine yields the remaining pieces
 enters : (b : Bool) (n : ℕ) (rest : List ℕ) → run Outside 0 0 0 (first_blank (entered b n ++ rest)) (entered b n ++ rest) ≡ later (length (entered b n)) (run Outside n 0 0 b rest)
 enters true n rest =
     moved_on 32 0 0 0 true (replicate n 40 ++ rest) refl ∙ opens n 0 1 true rest
@@ -80,7 +80,7 @@ entered_octets true n = open_octets n
 entered_octets false n = open_octets n
 
 module _ (octets : List ℕ) (s : Standing) where
-  -- is what is left
+  -- is what remains
   pub left_ahead : AreOctets octets → IsLeft octets s (ahead octets s)
   left_ahead o = go s.is_done
     where
@@ -103,7 +103,7 @@ module _ (octets : List ℕ) (s : Standing) where
       go true = refl
       go false = (run Outside s.depth 0 0 (blank_at octets s.began) (drop s.at octets), given, further)
 
--- one list is left
+-- one list remains
 once_if : (t : Bool) (octets : List ℕ) (s : Standing) (given other : Given) → LeftIf t octets s given → LeftIf t octets s other → given ≡ other
 once_if true octets s given other g h = g ∙ sym h
 once_if false octets s given other g h =
@@ -155,7 +155,7 @@ module _ (octets : List ℕ) (at : ℕ) (o : AreOctets octets) where
   left_entry given g =
       subst (IsLeft octets (at_entry at)) (from_place (drop at octets) at ∙ ap (later at) (sym (given_run (drop at octets) g.0 rest_octets g.1)) ∙ sym g.2) (left_ahead octets (at_entry at) o)
 
--- answers one after another are what is left
+-- successive results are what remains
 pub takes_all : (octets : List ℕ) (found : Given) (first last : Standing) (given : Given) → IsLeft octets first given → TakesAll octets first found last → found ≡ given
 takes_all octets [] first last given g t = sym (left_once octets first given t.left g t.before ∙ t.none refl)
 takes_all octets (x ∷ more) first last given g t =
@@ -164,7 +164,7 @@ takes_all octets (x ∷ more) first last given g t =
 pub takes_from_entry : (octets : List ℕ) (at : ℕ) (given found : Given) (last : Standing) → AreOctets octets → IsGivenFrom octets at given → TakesAll octets (at_entry at) found last → found ≡ given
 takes_from_entry octets at given found last o g t = takes_all octets found (at_entry at) last given (left_entry octets at o given g) t
 
--- and at the start what all octets give
+-- and at the start what all octets yield
 pub given_left : (octets : List ℕ) (given : Given) → AreOctets octets → IsGiven octets given → IsLeft octets (at_entry 0) given
 given_left octets given o g =
     let is : given ≡ run Outside 0 0 0 (first_blank octets) octets = given_run octets given o g in
@@ -173,7 +173,7 @@ given_left octets given o g =
 pub takes_from_start : (octets : List ℕ) (given found : Given) (last : Standing) → AreOctets octets → IsGiven octets given → TakesAll octets (at_entry 0) found last → found ≡ given
 takes_from_start octets given found last o g t = takes_all octets found (at_entry 0) last given (given_left octets given o g) t
 
--- a step of the reader takes what is first
+-- a step of the machine consumes what is first
 then_began : (octets : List ℕ) (x : Result Piece Fault) (began : ℕ) → blank_then octets x (blank_at octets began) ≡ blank_at octets (began_after x began)
 then_began octets (Ok (WordAt p)) began = refl
 then_began octets (Ok (QuoteAt p)) began = refl

@@ -1,4 +1,4 @@
--- Where blanks stand is the same for each lexeme list of a text.
+-- Every list of lexemes of a text has blanks in the same places.
 use Rattle.std.proofs.Common.{◌≡◌, ℕ, zero, suc, ◌+◌, ◌*◌, ◌/◌, ◌%◌, ◌<◌, Bool, true, false, not, ◌&&◌, List, [], ◌∷◌, ◌++◌, refl, sym, ap, ◌∙◌, arith, append_assoc}
 use Rattle.std.specs.Prelude.{option_map, unwrap_or}
 use Rattle.std.specs.List.{flat_map, list_all}
@@ -127,7 +127,7 @@ tight_is (Quote ss ∷ ls) starts d v n =
     ap (tight false Quoted d) (append_assoc (flat_map spell ss) (34 ∷ []) (flat_map characters ls))
     ∙ symbols_tight InQuote d (34 ∷ flat_map characters ls) ss r.0 ∙ tight_is ls false d p.1 n
 
--- one such lexeme list speaks for all
+-- one such lexeme list represents all
 pub tight_all : (text : List ℕ) (ls : List Lexeme) → flat_map lexeme_bytes ls ≡ text → are_lexemes ls ≡ true → nests 0 ls ≡ true → is_tight true 0 ls ≡ true → BeginsNoBlank text
 tight_all text ls s v n t ks ss kv kn =
     let same : flat_map characters ks ≡ flat_map characters ls = encodes_same _ _ (sym (bytes_all ks) ∙ ss ∙ sym s ∙ bytes_all ls) in

@@ -1,4 +1,4 @@
--- Where the reader stops is the end of the longest viable beginning.
+-- The machine stops at the end of the longest viable prefix.
 use Rattle.std.proofs.Common.{IsUtf8, ◌≡◌, ℕ, zero, suc, ◌+◌, ◌-◌, ◌*◌, ◌<◌, ◌≤◌, Bool, true, false, cond, ◌&&◌, if◌then◌else◌, nat_lt, nat_le, List, [], ◌∷◌, ◌++◌, length, take, replicate, refl}
 use Rattle.std.proofs.Common.{sym, ap, ◌∙◌, subst, arith, append_assoc, append-nil, inl, inr, length-append}
 use Rattle.std.specs.Prelude.{Option, Some, None, option_map, option_and_then, encode_utf8, encode_utf8_all}
@@ -43,7 +43,7 @@ after_gives Add c t k h = h (t ++ encode_utf8 c)
 after_gives BeginToken c t k h = let p = h (encode_utf8 c) in (with_open t p.0, ap (option_map (with_open t)) p.1)
 after_gives FinishToken c t k h = let p = h [] in (with_open (t ++ encode_utf8 c) p.0, ap (option_map (with_open (t ++ encode_utf8 c))) p.1)
 
--- where a text is read, each beginning is walked
+-- if a text is read, each prefix is walked
 abbrev Walked : List ℕ → List ℕ → Type 0
 Walked xs ys = (m : Mode) (d : ℕ) (t : List ℕ) (e : Entries) → read m d t (xs ++ ys) ≡ Some e → (p : Mode × ℕ) × (walk m d xs ≡ Some p)
 
@@ -56,7 +56,7 @@ pub walked : (xs ys : List ℕ) → Walked xs ys
 walked [] ys m d t e h = ((m, d), refl)
 walked (c ∷ xs) ys m d t e h = walked_on c xs ys t e (walked xs ys) (step m d c) h
 
--- the digits of an escape so far can be completed
+-- the digits of an escape can be completed
 abbrev pub Fine : Mode → Type 0
 Fine (OneDigit q n) = n ≤ 2
 Fine (TwoDigits q n) = n ≤ 25
@@ -293,7 +293,7 @@ walk_append (c ∷ xs) ys m d = go (step m d c) (λ (v : Move). walk_append xs y
     go None ih = refl
     go (Some v) ih = ih v
 
--- where the walk ends at a place that is no end, nothing is read
+-- if the walk ends at a position where no text may end, the text isn't read
 pub not_ended : (xs : List ℕ) (m : Mode) (d : ℕ) (p : Mode × ℕ) → walk m d xs ≡ Some p → may_end p.0 p.1 ≡ false → (t : List ℕ) (e : Entries) → read m d t xs ≡ Some e → ⊥
 not_ended [] m d p h n t e r =
     let no : may_end m d ≡ false = subst (λ (q : Mode × ℕ). may_end q.0 q.1 ≡ false) (sym (Some_same h)) n in
@@ -310,7 +310,7 @@ not_ended (c ∷ xs) m d p h n t e r = go (step m d c) (λ (v : Move) (f : walk 
     go None ih h r = cc
     go (Some v) ih h r = let a = after_had v.act c t (λ u. read v.mode v.depth u xs) e r in ih v h a.0 a.1 a.2
 
--- beyond ASCII the reader tells no characters apart
+-- beyond ASCII the machine treats all characters alike
 high_kind : (c : ℕ) → View c → 128 ≤ c → kind c ≡ Plain
 high_kind c (v_plain p) h = p.kind_is
 high_kind _ v_space h = absurd (omega arith)
@@ -366,7 +366,7 @@ begin_same (x ∷ xs) ys r h =
     let q = begin_same xs p.0 r p.2 in
     (q.0, p.1 ∙ ap (λ l. x ∷ l) q.1, q.2)
 
--- where the reader stops, no text that goes on with this byte splits
+-- if the machine stops, no text that continues with this byte splits
 no_further : (xs : List ℕ) (c : ℕ) (p : Mode × ℕ) → walk Outside 0 xs ≡ Some p → step p.0 p.1 c ≡ None → (b : ℕ) (v w rest : List ℕ) → b ∷ v ≡ encode_utf8 c ++ rest → (e : Entries)
     → Splits (encode_utf8_all xs ++ (b ∷ w)) e → ⊥
 no_further xs c p h stop b v w rest first e s =
@@ -440,7 +440,7 @@ begins_viable x y e u s =
     let w = walked u.0 q.0 Outside 0 [] e (ap (read Outside 0 []) (sym q.1) ∙ splits_read ys (x ++ y) e is s) in
     subst IsViable u.1.1 (walked_viable u.0 w.0 u.1.0 w.1)
 
--- no text goes on with a character that the reader refuses
+-- no text continues with a character that the machine rejects
 pub cant_follow : (xs : List ℕ) (c : ℕ) (p : Mode × ℕ) → scalars xs ≡ true → scalar c ≡ true → walk Outside 0 xs ≡ Some p → step p.0 p.1 c ≡ None → ¬ IsViable (encode_utf8_all xs ++ encode_utf8 c)
 cant_follow xs c p ok fine h stop v =
     let front : List ℕ = encode_utf8_all xs in

@@ -159,7 +159,7 @@ between_all text s e h =
     let end : e - s ≡ length text = omega (arith, start, eqb-true e (length text) p.1) in
     ap (λ i. take (e - s) (drop i text)) start ∙ ap (λ n. take n text) end ∙ take-length text
 
--- a text is a token exactly if its first piece is a word or a quoted text that is all of it
+-- a text is a token exactly if its first piece is a word or a quoted string that is all of it
 all_token : (text : List ℕ) (given : List (Result Piece Fault)) → Reads text given → spans_all (first given) (length text) ≡ true → IsToken text
 all_token text given r a = go given (given_spelled text given r) a
   where
@@ -181,7 +181,7 @@ first_is : {A : Type 0} (given more : List A) (o : Option A) → YieldsFirst (λ
 first_is given more None h = ap first (sym h.0)
 first_is given more (Some x) h = ap first (sym h)
 
--- the same of what the cursor yields first
+-- the same of what the iterator yields first
 pub first_token : (text : List ℕ) (given more : List (Result Piece Fault)) (o : Option (Result Piece Fault)) (b : Bool) → Reads text given → YieldsFirst (λ s. s) given o more
     → b ≡ spans_all o (length text) → IsTrue b ↔ IsToken text
 first_token text given more o b r y e =
@@ -190,7 +190,7 @@ first_token text given more o b r y e =
       λ t. is ∙ token_all text given r t,
     )
 
--- a text at whose end the word that begins it still goes on
+-- a text whose first word extends to its end
 pub word_reaches : (text : List ℕ) → IsUtf8 text → 0 < length text → SameRun Outside text 0 (length text) → IsToken text
 word_reaches text u some same =
     let given = same 0 0 b ∙ ap (run Outside 0 0 n b) (drop_all n text (omega arith)) ∙ word in
@@ -205,7 +205,7 @@ word_reaches text u some same =
     word : run Outside 0 0 n b [] ≡ Ok (word_at 0 n) ∷ Ok (end_at n b) ∷ []
     word = ap (λ o. before o (Ok (end_at n b) ∷ [])) (cond-false _ _ _ (ne_eqb 0 n (λ e. omega (arith, e, some))))
 
--- a text whose last octet is the double quote that ends the quoted text that begins it
+-- a text whose last octet is the double quote that ends the quoted string that begins it
 pub quote_reaches : (text : List ℕ) → IsUtf8 text → (last : ℕ) → last + 1 ≡ length text → 1 ≤ last → get_or text 0 0 ≡ 34 → SameRun Quoted text 1 last → get_or text last 0 ≡ 34 → IsToken text
 quote_reaches text u last e o is same ends =
     let g = quote_given text (record { depth = 0; at = 0 }) (first_blank text) last (omega (arith, e)) is o (omega (arith, e)) same ends in

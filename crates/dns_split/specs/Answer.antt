@@ -1,4 +1,4 @@
--- What `split` answers.
+-- The result of `split`.
 use Rattle.std.specs.Prelude.{⊤, ◌≡◌, ℕ, List, [], ◌∷◌, ◌++◌, map, codes, Result, Ok, Err, Vec, String, string_bytes}
 use Rattle.dns_split.specs.declared.error.SplitError.{SplitError}
 use Rattle.dns_split.specs.declared.error.SplitError.TheVariants.{BadText, ShortBuf}
@@ -20,26 +20,26 @@ texts ts = map string_bytes ts
 abbrev pub entries_of : {A : Type 0} → List (Vec (String A) A) → Entries
 entries_of es = map (λ e. texts e.items) es
 
--- the entries that the text splits into, or the bytes of its longest viable beginning; nothing is said where memory ran out
+-- the entries that the text splits into, or the length of its longest viable prefix; unspecified if an allocation failed
 abbrev pub IsSplitOf : {A : Type 0} → Result (Vec (Vec (String A) A) A) SplitError → List ℕ → Type 0
 IsSplitOf (Ok v) text = Splits text (entries_of v.items)
 IsSplitOf (Err (BadText i)) text = IsBad text i
 IsSplitOf (Err ShortBuf) text = ⊤
 
--- a piece is kept: a word or a quoted text is one more token, and an entry's end ends the entry
+-- a piece is kept: a word or a quoted string is one more token, and an entry's end ends the entry
 abbrev pub KeepsPiece : {A : Type 0} → List ℕ → Piece → Collected A → Collected A → Type 0
 KeepsPiece text (WordAt p) old new = (new.found ≡ old.found) × (texts new.entry.items ≡ texts old.entry.items ++ between text p.start p.end ∷ [])
 KeepsPiece text (QuoteAt p) old new = (new.found ≡ old.found) × (texts new.entry.items ≡ texts old.entry.items ++ between text p.start p.end ∷ [])
 KeepsPiece text (CommentAt p) old new = new ≡ old
 KeepsPiece text (EndAt p) old new = (entries_of new.found.items ≡ entries_of old.found.items ++ texts old.entry.items ∷ []) × (texts new.entry.items ≡ [])
 
--- all pieces of the text were kept, as these entries; or its fault, or nothing is said where memory ran out
+-- all pieces of the text were stored, as these entries; or its error; unspecified if an allocation failed
 abbrev pub IsKeptOf : Result (Unit {0}) SplitError → List ℕ → Entries → Type 0
 IsKeptOf (Ok u) text e = Splits text e
 IsKeptOf (Err (BadText i)) text e = IsBad text i
 IsKeptOf (Err ShortBuf) text e = ⊤
 
--- what an error prints
+-- the text of an error
 abbrev pub split_error_text : SplitError → List ℕ
 split_error_text (BadText i) = codes "bad text at " ++ decimal i
 split_error_text ShortBuf = codes "buffer size exceeded"

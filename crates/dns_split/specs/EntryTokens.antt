@@ -1,4 +1,4 @@
--- What a reader of records sees of octets: the tokens of each entry with their places, quotes and glue, whether it begins with a blank, and its end.
+-- The tokens of octets for parsers of records: those of each entry with offsets, quotes and adjacency, its leading blank, and its end.
 use Rattle.std.specs.Prelude.{⊤, ◌≡◌, ◌⊎◌, ◌≤◌, ℕ, ◌+◌, ◌-◌, ◌==◌, Bool, true, false, if◌then◌else◌, List, [], ◌∷◌, ◌++◌, map, length, Option, Some, None, Result, Ok, Err}
 use Rattle.dns_symbol.specs.Characters.{double_quote}
 use Rattle.dns_split.specs.declared.pieces.Span.{Span}
@@ -16,7 +16,7 @@ use Rattle.dns_split.specs.Splitting.{Entries, with_token}
 use Rattle.dns_split.specs.Pieces.{AreOctets, IsGiven, between}
 use Rattle.dns_split.specs.Standing.{IsGivenFrom, blank_at}
 
--- what a token holds, whether it is a quoted text, whether it begins where the token before it in its entry ended, and where it begins
+-- a token: its text, whether it is a quoted string, whether it begins where the token before it ended, and its offset
 pub record TokenSeen : Type 0 where
   pub text : List ℕ
   pub is_quoted : Bool
@@ -28,7 +28,7 @@ pub data PartSeen : Type 0 where
   TokenIs : TokenSeen → Bool → PartSeen
   EndIs : EndOfEntry → PartSeen
 
--- the token before ended there, if there was one
+-- the token before ended there, if there is one
 abbrev pub ends_at : Option ℕ → ℕ → Bool
 ends_at None at = false
 ends_at (Some e) at = e == at
@@ -36,14 +36,14 @@ ends_at (Some e) at = e == at
 abbrev pub token_at : List ℕ → Bool → ℕ → Option ℕ → TokenSeen
 token_at text is_quoted at ended = record { text = text; is_quoted = is_quoted; is_glued = ends_at ended at; at = at }
 
--- a word holds itself, and a quoted text what stands between its double quotes
+-- the text of a word is the word, that of a quoted string is between its double quotes
 abbrev pub word_seen : List ℕ → Option ℕ → Span → TokenSeen
 word_seen octets ended p = token_at (between octets p.start p.end) false p.start ended
 
 abbrev pub quote_seen : List ℕ → Option ℕ → Span → TokenSeen
 quote_seen octets ended p = token_at (between octets (p.start + 1) (p.end - 1)) true p.start ended
 
--- what is seen of pieces, the first of which is in an entry that began at an octet, and whose token before, if it had one, ended before another
+-- the tokens of pieces: the first piece is in an entry that began at an octet; the token before it, if there is one, ended at `ended`
 abbrev pub seen_from : List ℕ → ℕ → Option ℕ → List (Result Piece Fault) → List (Result PartSeen Fault)
 seen_from octets began ended [] = []
 seen_from octets began ended (Ok (WordAt p) ∷ given) = Ok (TokenIs (word_seen octets ended p) (blank_at octets began)) ∷ seen_from octets began (Some p.end) given
@@ -52,11 +52,11 @@ seen_from octets began ended (Ok (CommentAt p) ∷ given) = seen_from octets beg
 seen_from octets began ended (Ok (EndAt e) ∷ given) = Ok (EndIs e) ∷ seen_from octets e.at None given
 seen_from octets began ended (Err f ∷ given) = Err f ∷ seen_from octets began ended given
 
--- what is seen of octets
+-- the tokens of octets
 abbrev pub IsSeen : List ℕ → List (Result PartSeen Fault) → Type 0
 IsSeen octets seen = (given : List (Result Piece Fault)) × IsGiven octets given × (seen ≡ seen_from octets 0 None given)
 
--- and of those from an entry's beginning on, with the places among all
+-- and those from an entry's beginning on, with the offsets among all
 abbrev pub IsSeenFrom : List ℕ → ℕ → List (Result PartSeen Fault) → Type 0
 IsSeenFrom octets at seen = (given : List (Result Piece Fault)) × IsGivenFrom octets at given × (seen ≡ seen_from octets at None given)
 
@@ -64,20 +64,20 @@ IsSeenFrom octets at seen = (given : List (Result Piece Fault)) × IsGivenFrom o
 abbrev pub spelled : TokenSeen → List ℕ
 spelled t = if t.is_quoted then double_quote ∷ (t.text ++ double_quote ∷ []) else t.text
 
--- at its place a token stands as it is spelled
+-- a token is at its offset as it is spelled
 abbrev pub StandsAsSpelled : List ℕ → Result PartSeen Fault → Type 0
 StandsAsSpelled octets (Ok (TokenIs t b)) = between octets t.at (t.at + length (spelled t)) ≡ spelled t
 StandsAsSpelled octets (Ok (EndIs e)) = ⊤
 StandsAsSpelled octets (Err f) = ⊤
 
--- the tokens as they are spelled, cut where entries end
+-- the tokens as they are spelled, cut at the ends of entries
 abbrev pub entries_seen : List (Result PartSeen Fault) → Entries
 entries_seen [] = []
 entries_seen (Ok (TokenIs t b) ∷ seen) = with_token (spelled t) (entries_seen seen)
 entries_seen (Ok (EndIs e) ∷ seen) = [] ∷ entries_seen seen
 entries_seen (Err f ∷ seen) = []
 
--- what a caller gets, as it is seen
+-- the item that a caller gets, as a token
 abbrev pub token_seen : EntryToken → TokenSeen
 token_seen t = record { text = t.text.now; is_quoted = t.is_quoted; is_glued = t.is_glued; at = t.at }
 
@@ -89,7 +89,7 @@ abbrev pub answer_seen : Result EntryPart Fault → Result PartSeen Fault
 answer_seen (Ok p) = Ok (part_seen p)
 answer_seen (Err f) = Err f
 
--- of one piece: nothing where it is a comment
+-- of one piece: nothing for a comment
 abbrev pub seen_of : List ℕ → Bool → Option ℕ → Result Piece Fault → Option (Result PartSeen Fault)
 seen_of octets blank ended (Ok (WordAt p)) = Some (Ok (TokenIs (word_seen octets ended p) blank))
 seen_of octets blank ended (Ok (QuoteAt p)) = Some (Ok (TokenIs (quote_seen octets ended p) blank))
@@ -97,7 +97,7 @@ seen_of octets blank ended (Ok (CommentAt p)) = None
 seen_of octets blank ended (Ok (EndAt e)) = Some (Ok (EndIs e))
 seen_of octets blank ended (Err f) = Some (Err f)
 
--- where the last token of the entry that is open after a piece ended
+-- the end of the last token of the entry that is open after a piece
 abbrev pub ended_after : Result Piece Fault → Option ℕ → Option ℕ
 ended_after (Ok (WordAt p)) ended = Some p.end
 ended_after (Ok (QuoteAt p)) ended = Some p.end
@@ -105,7 +105,7 @@ ended_after (Ok (CommentAt p)) ended = ended
 ended_after (Ok (EndAt e)) ended = None
 ended_after (Err f) ended = ended
 
--- a quoted text has room for its double quotes
+-- a quoted string includes its double quotes
 abbrev pub IsWide : Result Piece Fault → Type 0
 IsWide (Ok (QuoteAt p)) = p.start + 2 ≤ p.end
 IsWide _ = ⊤
@@ -114,25 +114,25 @@ IsWide _ = ⊤
 abbrev pub tokens_seen : Bool → List EntryToken → List (Result PartSeen Fault)
 tokens_seen blank tokens = map (λ t. Ok (TokenIs (token_seen t) blank)) tokens
 
--- the tokens of an entry come first and then its end, or the fault, which is the last; and each says whether the entry begins with a blank
+-- the tokens of an entry come first and then its end, or the error, which is the last; each has whether the entry begins with a blank
 abbrev pub IsOpen : Bool → List (Result PartSeen Fault) → Type 0
 IsOpen blank [] = ⊥
 IsOpen blank (Ok (TokenIs t b) ∷ seen) = (b ≡ blank) × IsOpen blank seen
 IsOpen blank (Ok (EndIs e) ∷ seen) = e.begins_blank ≡ blank
 IsOpen blank (Err f ∷ seen) = seen ≡ []
 
--- nothing is left, or some entry is open
+-- nothing remains, or some entry is open
 abbrev pub IsInEntries : List (Result PartSeen Fault) → Type 0
 IsInEntries seen = (seen ≡ []) ⊎ ((blank : Bool) × IsOpen blank seen)
 
--- the tokens of an entry are given and its end is taken; or nothing is left; or the tokens before the fault are given, after which nothing is left; or all is left, since memory was refused
+-- the tokens of an entry and its end are returned; or nothing remains; or the tokens before the error, after which nothing remains; or all remains, since an allocation failed
 abbrev pub GivesEntry : List (Result PartSeen Fault) → List EntryToken → Result (Option EndOfEntry) NextEntryError → List (Result PartSeen Fault) → Type 0
 GivesEntry old tokens (Ok (Some end)) new = old ≡ tokens_seen end.begins_blank tokens ++ Ok (EndIs end) ∷ new
 GivesEntry old tokens (Ok None) new = (old ≡ []) × (tokens ≡ []) × (new ≡ [])
 GivesEntry old tokens (Err (BadText f)) new = (blank : Bool) × (old ≡ tokens_seen blank tokens ++ Err f ∷ new) × (new ≡ [])
 GivesEntry old tokens (Err ShortBuf) new = (tokens ≡ []) × (new ≡ old)
 
--- a place among octets, with no more parentheses open than octets before it
+-- an offset among octets, with at most as many open parentheses as octets before it
 pub record StandsIn (octets : List ℕ) (s : Standing) : Type 0 where
   pub are_octets : AreOctets octets
   pub deep : s.depth ≤ s.at

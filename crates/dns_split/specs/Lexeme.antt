@@ -1,4 +1,4 @@
--- The pieces that a zone text is made of (RFC 1035, section 5.1).
+-- The pieces of a zone file (RFC 1035 section 5.1).
 use Rattle.std.specs.Prelude.{ℕ, Bool, true, false, if◌then◌else◌, ◌&&◌, ◌||◌, ◌==◌, not, List, [], ◌∷◌, ◌++◌, encode_utf8_all}
 use Rattle.std.specs.List.{flat_map, list_all}
 use lib.Utf8.{scalar}
@@ -7,17 +7,17 @@ use Rattle.dns_symbol.specs.Symbol.{spell, is_readable, is_word_symbol}
 use Rattle.dns_symbol.specs.declared.symbol.Symbol.{Symbol}
 use Rattle.dns_symbol.specs.declared.symbol.Symbol.TheVariants.{Char, SimpleEscape, DecimalEscape}
 
--- the characters that may stand plain between double quotes: not the double quote, LF or CR
+-- the characters that may be plain between double quotes: not the double quote, LF or CR
 abbrev pub is_quote_char : ℕ → Bool
 is_quote_char c = not (c == double_quote || c == line_feed || c == carriage_return)
 
--- a symbol that may stand between double quotes: an escape always may
+-- a symbol that may be between double quotes: an escape always may
 abbrev pub stands_in_quote : Symbol → Bool
 stands_in_quote (Char c) = is_quote_char c
 stands_in_quote (SimpleEscape o) = true
 stands_in_quote (DecimalEscape o) = true
 
--- the symbols that quoted texts are made of
+-- the symbols of quoted strings
 abbrev pub is_quote_symbol : Symbol → Bool
 is_quote_symbol s = stands_in_quote s && is_readable s
 
@@ -50,7 +50,7 @@ characters (Quote ss) = double_quote ∷ (flat_map spell ss ++ double_quote ∷ 
 abbrev pub lexeme_bytes : Lexeme → List ℕ
 lexeme_bytes l = encode_utf8_all (characters l)
 
--- a lexeme holds only what may stand in it
+-- a lexeme contains only what is allowed in it
 abbrev pub is_lexeme : Lexeme → Bool
 is_lexeme (Note cs) = list_all is_note_char cs
 is_lexeme (Word s ss) = list_all is_word_symbol (s ∷ ss)

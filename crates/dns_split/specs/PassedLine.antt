@@ -1,4 +1,4 @@
--- The rest of an entry that is passed over at once.
+-- The rest of an entry that is skipped at once.
 use Rattle.std.specs.Prelude.{⊤, ◌≡◌, ◌≢◌, ◌<◌, ◌≤◌, ◌⊎◌, ℕ, Bool, List, [], ◌∷◌, ◌++◌, length, drop, map, slice_index, Option, Some, None, Result, Ok}
 use Rattle.dns_symbol.specs.Characters.{line_feed}
 use Rattle.dns_split.specs.declared.pieces.EndOfEntry.{EndOfEntry}
@@ -18,7 +18,7 @@ HasNoEnd (QuoteAt p ∷ ps) = HasNoEnd ps
 HasNoEnd (CommentAt p ∷ ps) = HasNoEnd ps
 HasNoEnd (EndAt e ∷ ps) = ⊥
 
--- pieces of one entry and its end are taken, at this place, and something is left
+-- the pieces of one entry and its end are skipped, up to this offset, and something remains
 pub record PassesEntry (old : List (Result Piece Fault)) (at : ℕ) (new : List (Result Piece Fault)) : Type 0 where
   pub found : List Piece
   pub is_open : HasNoEnd found
@@ -27,16 +27,16 @@ pub record PassesEntry (old : List (Result Piece Fault)) (at : ℕ) (new : List 
   pub is : old ≡ map Ok found ++ Ok (EndAt end) ∷ new
   pub some : new ≢ []
 
--- or nothing is taken
+-- or nothing is skipped
 abbrev pub PassesIf : List (Result Piece Fault) → Option ℕ → List (Result Piece Fault) → Type 0
 PassesIf old (Some at) new = PassesEntry old at new
 PassesIf old None new = new ≡ old
 
--- from a place on, no line feed comes after words without escapes and blanks alone
+-- from an offset on, no line feed follows only words without escapes and blanks
 abbrev pub HasNoLine : List ℕ → ℕ → Type 0
 HasNoLine octets at = (feed : ℕ) → at ≤ feed → feed < length octets → EachIn Line octets at feed → slice_index octets feed ≢ line_feed
 
--- what octets give from a place on, where parentheses are open or no such line begins
+-- the items of octets from an offset on, at which parentheses are open or no such line begins
 pub record GivenWithoutLine (given : List (Result Piece Fault)) : Type 0 where
   pub octets : List ℕ
   pub depth : ℕ
@@ -45,6 +45,6 @@ pub record GivenWithoutLine (given : List (Result Piece Fault)) : Type 0 where
   pub is : given ≡ run Outside depth at at began (drop at octets)
   pub none : (0 < depth) ⊎ HasNoLine octets at
 
--- no line can be passed over: nothing is left, or it is given so
+-- no line can be skipped: nothing remains, or what remains is such
 abbrev pub LacksLine : List (Result Piece Fault) → Type 0
 LacksLine given = (given ≡ []) ⊎ GivenWithoutLine given

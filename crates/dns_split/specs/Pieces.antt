@@ -1,4 +1,4 @@
--- The pieces of a zone text with their places: words, quoted texts, comments and ends of entries.
+-- The pieces of a zone file with offsets: words, quoted strings, comments and ends of entries.
 use Rattle.std.specs.Prelude.{⊤, ◌≡◌, ◌≤◌, ℕ, zero, suc, ◌+◌, ◌-◌, ◌⊎◌, Bool, true, false, ◌&&◌, ◌==◌, nat_lt, List, [], ◌∷◌, ◌++◌, length, take, drop, map, Option, Some, None, Result, Ok, Err}
 use Rattle.std.specs.Prelude.{encode_utf8, encode_utf8_all}
 use Rattle.std.specs.List.{flat_map, list_all}
@@ -16,7 +16,7 @@ use Rattle.dns_split.specs.Splitting.{Entries, Splits, are_lexemes, nests, with_
 use Rattle.dns_split.specs.Token.{IsWord, IsQuote, IsComment}
 use Rattle.dns_split.specs.Viable.{IsBad, IsViable}
 
--- a word, a quoted text with its quotes, and a comment with its semicolon, from an octet to before another
+-- a word, a quoted string with its quotes, and a comment with its semicolon, by its start and end
 abbrev pub word_at : ℕ → ℕ → Piece
 word_at s e = WordAt (record { start = s; end = e })
 
@@ -30,7 +30,7 @@ comment_at s e = CommentAt (record { start = s; end = e })
 abbrev pub end_at : ℕ → Bool → Piece
 end_at e b = EndAt (record { at = e; begins_blank = b })
 
--- where a piece begins, and where the one after an entry's end does
+-- the offset of a piece, and of the entry after an entry's end
 abbrev pub piece_start : Piece → ℕ
 piece_start (WordAt p) = p.start
 piece_start (QuoteAt p) = p.start
@@ -42,7 +42,7 @@ abbrev pub begins_blank : List Lexeme → Bool
 begins_blank (Blank _ ∷ _) = true
 begins_blank _ = false
 
--- the pieces of lexemes that stand from an octet on, at a depth, in an entry that began with a blank or didn't
+-- the pieces of lexemes from an offset on, at a depth, in an entry that began with a blank or didn't
 abbrev pub pieces : ℕ → ℕ → Bool → List Lexeme → List Piece
 pieces at depth b [] = end_at at b ∷ []
 pieces at depth b (Open ∷ ls) = pieces (at + length (lexeme_bytes Open)) (suc depth) b ls
@@ -61,7 +61,7 @@ pub record IsPieces (text : List ℕ) (found : List Piece) : Type 0 where
   pub nested : nests 0 lexemes ≡ true
   pub placed : pieces 0 0 (begins_blank lexemes) lexemes ≡ found
 
--- what a text of so many octets gives first is a word or a quoted text, and all of it
+-- the first piece of a text of n octets is a word or a quoted string, and is the whole text
 abbrev pub spans_all : Option (Result Piece Fault) → ℕ → Bool
 spans_all (Some (Ok (WordAt p))) n = p.start == 0 && p.end == n
 spans_all (Some (Ok (QuoteAt p))) n = p.start == 0 && p.end == n
@@ -83,17 +83,17 @@ EachWithin n (x ∷ xs) = IsWithin n x × EachWithin n xs
 abbrev pub Begins : List Piece → List Piece → Type 0
 Begins first all = (more : List Piece) × (all ≡ first ++ more)
 
--- every text of the grammar that begins so has these pieces first
+-- every text of the grammar with this prefix has these pieces first
 abbrev pub BeginsPieces : List ℕ → List Piece → Type 0
 BeginsPieces front found = (rest : List ℕ) (all : List Piece) → IsPieces (front ++ rest) all → Begins found all
 
--- with a double quote after it, the quoted text from i on ends
+-- with a double quote after it, the quoted string from i on ends
 abbrev pub EndsQuote : List ℕ → ℕ → Type 0
 EndsQuote front i = (more : List ℕ) (all : List Piece) → IsPieces (front ++ (double_quote ∷ more)) all → (first : List Piece) × (last : List Piece)
     × (all ≡ first ++ quote_at i (length front + 1) ∷ last)
 
--- why the longest viable beginning can't go on with the rest of the text
--- a closing parenthesis follows what splits already; what it is inside of has to be closed, and a tab may follow; a double quote may follow, and would end the quoted text from i on;
+-- why the longest viable prefix can't be followed by the rest of the text
+-- a closing parenthesis follows what splits already; an open parenthesis must be closed, and a tab may follow; a double quote may follow, and would end the quoted string from i on;
 -- only LF may follow; neither a tab nor LF may
 abbrev pub IsWrong : List ℕ → List ℕ → Wrong → Type 0
 IsWrong front rest Closing = (more : List ℕ) × (e : Entries) × (rest ≡ close_parenthesis ∷ more) × Splits front e
@@ -102,19 +102,19 @@ IsWrong front rest (OpenQuote i) = IsViable (front ++ double_quote ∷ []) × En
 IsWrong front rest LoneReturn = (c : ℕ) → scalar c ≡ true → IsViable (front ++ encode_utf8 c) → c ≡ line_feed
 IsWrong front rest BadEscape = (¬ IsViable (front ++ tab ∷ [])) × (¬ IsViable (front ++ line_feed ∷ []))
 
--- every text of the grammar that begins so has these pieces first, and no more; but where a CR waits for its LF, that the entry ends with it is known
+-- every text of the grammar with this prefix has these pieces first, and no more; but if a CR waits for its LF, the end of the entry with it is known
 pub record Settles (front : List ℕ) (wrong : Wrong) (found : List Piece) : Type 0 where
   pub first : BeginsPieces front found
   pub ended : EachWithin (length front) (map Ok found)
   pub longest : (other : List Piece) → BeginsPieces front other → Begins other found ⊎ ((wrong ≡ LoneReturn) × (b : Bool) × (other ≡ found ++ end_at (length front + 1) b ∷ []))
 
--- the text isn't of the grammar; its longest viable beginning, and why it can't go on
+-- the text isn't of the grammar: its longest viable prefix, and the cause of the error
 pub record IsFault (text : List ℕ) (f : Fault) : Type 0 where
   pub bad : IsBad text f.at
   pub wrong : IsWrong (take f.at text) (drop f.at text) f.wrong
   pub boundary : IsCharBoundary text f.at
 
--- the pieces of a text; or, where it isn't of the grammar, the pieces that its longest viable beginning settles, and then its fault
+-- the pieces of a text; or, if it isn't of the grammar, the pieces that its longest viable prefix settles, and then its error
 pub record Faulty (text : List ℕ) (given : List (Result Piece Fault)) : Type 0 where
   pub found : List Piece
   pub fault : Fault
@@ -130,7 +130,7 @@ pub record Whole (text : List ℕ) (given : List (Result Piece Fault)) : Type 0 
 abbrev pub Reads : List ℕ → List (Result Piece Fault) → Type 0
 Reads text given = Whole text given ⊎ Faulty text given
 
--- the same with each place moved
+-- the same with each offset moved
 abbrev pub moved_piece : (ℕ → ℕ) → Piece → Piece
 moved_piece f (WordAt p) = word_at (f p.start) (f p.end)
 moved_piece f (QuoteAt p) = quote_at (f p.start) (f p.end)
@@ -148,27 +148,27 @@ abbrev pub moved : (ℕ → ℕ) → Result Piece Fault → Result Piece Fault
 moved f (Ok p) = Ok (moved_piece f p)
 moved f (Err e) = Err (moved_fault f e)
 
--- so much further on
+-- increased by an offset
 abbrev pub later : ℕ → List (Result Piece Fault) → List (Result Piece Fault)
 later n given = map (moved (λ i. n + i)) given
 
--- what the text from an octet on gives alone, with the places in the whole text
+-- the items of the text from an octet on alone, with the offsets in the whole text
 abbrev pub ReadsFrom : List ℕ → ℕ → List (Result Piece Fault) → Type 0
 ReadsFrom text at given = (alone : List (Result Piece Fault)) × Reads (drop at text) alone × (given ≡ later at alone)
 
--- where a character of octets, each a character, stands in their text
+-- the offset of a character, where the octets are characters, in their text
 abbrev pub place_of : List ℕ → ℕ → ℕ
 place_of octets i = length (encode_utf8_all (take i octets))
 
--- the pieces, or the fault, of the text of the characters with these numbers
+-- the pieces, or the error, of the text of the characters with these numbers
 abbrev pub ReadsOctets : List ℕ → List (Result Piece Fault) → Type 0
 ReadsOctets octets given = Reads (encode_utf8_all octets) (map (moved (place_of octets)) given)
 
--- what the octets from a place on give alone, with the places among all
+-- the items of the octets from an offset on alone, with the offsets among all
 abbrev pub ReadsOctetsFrom : List ℕ → ℕ → List (Result Piece Fault) → Type 0
 ReadsOctetsFrom octets at given = (alone : List (Result Piece Fault)) × ReadsOctets (drop at octets) alone × (given ≡ later at alone)
 
--- what is given of octets
+-- the items of octets
 abbrev pub IsGiven : List ℕ → List (Result Piece Fault) → Type 0
 IsGiven octets given = ReadsOctets octets given × EachWithin (length octets) given
 
@@ -190,7 +190,7 @@ next_blank _ = None
 abbrev pub between : List ℕ → ℕ → ℕ → List ℕ
 between text s e = take (e - s) (drop s text)
 
--- the words and quotes of a text, cut where entries end
+-- the words and quotes of a text, cut at the ends of entries
 abbrev pub tokens_by_entry : List ℕ → List Piece → Entries
 tokens_by_entry text [] = []
 tokens_by_entry text (WordAt p ∷ ps) = with_token (between text p.start p.end) (tokens_by_entry text ps)
@@ -198,7 +198,7 @@ tokens_by_entry text (QuoteAt p ∷ ps) = with_token (between text p.start p.end
 tokens_by_entry text (CommentAt p ∷ ps) = tokens_by_entry text ps
 tokens_by_entry text (EndAt p ∷ ps) = [] ∷ tokens_by_entry text ps
 
--- between its places stands what the piece says
+-- the octets of a piece's span are what the piece is
 abbrev pub IsSpelled : List ℕ → Result Piece Fault → Type 0
 IsSpelled text (Ok (WordAt p)) = IsWord (between text p.start p.end)
 IsSpelled text (Ok (QuoteAt p)) = IsQuote (between text p.start p.end)
@@ -219,7 +219,7 @@ IsPieceOf text (QuoteAt p) = IsPart text p.start p.end
 IsPieceOf text (CommentAt p) = IsPart text p.start p.end
 IsPieceOf text (EndAt p) = IsCharBoundary text p.at
 
--- and a fault is the text's
+-- and an error is the text's
 abbrev pub IsPieceOrFault : List ℕ → Result Piece Fault → Type 0
 IsPieceOrFault text (Ok p) = IsPieceOf text p
 IsPieceOrFault text (Err f) = IsFault text f
@@ -228,7 +228,7 @@ abbrev pub EachFits : List ℕ → List (Result Piece Fault) → Type 0
 EachFits text [] = ⊤
 EachFits text (x ∷ xs) = IsPieceOrFault text x × EachFits text xs
 
--- each that is no fault is a part of the text
+-- each item that isn't an error is a part of the text
 abbrev pub IsPartOf : List ℕ → Result Piece Fault → Type 0
 IsPartOf text (Ok p) = IsPieceOf text p
 IsPartOf text (Err f) = ⊤

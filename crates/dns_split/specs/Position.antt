@@ -6,7 +6,7 @@ use Rattle.dns_symbol.specs.Characters.{line_feed}
 abbrev pub no_feed : List ℕ → Bool
 no_feed l = list_all (λ c. not (c == line_feed)) l
 
--- what stands before is so many lines, each with its LF, and so many characters of the next; both are counted from 1
+-- the text before has `line - 1` lines, each with its LF, and `column - 1` characters of the next
 pub record IsPosition (before : List ℕ) (line column : ℕ) : Type 0 where
   pub lines : List (List ℕ)
   pub last : List ℕ

@@ -1,4 +1,4 @@
--- The reader of zone text, one character after the other.
+-- The state machine that reads a zone file, one character after the other.
 use Rattle.std.specs.Prelude.{ℕ, zero, suc, ◌+◌, ◌-◌, ◌*◌, Bool, true, false, if◌then◌else◌, ◌&&◌, ◌==◌, nat_le, List, [], ◌∷◌, ◌++◌, Option, Some, None, option_map, option_and_then, encode_utf8}
 use Rattle.dns_symbol.specs.Characters.{tab, line_feed, carriage_return, space, double_quote, open_parenthesis, close_parenthesis, semicolon, backslash}
 use Rattle.dns_split.specs.declared.reader.Mode.{Mode}
@@ -13,7 +13,7 @@ use Rattle.dns_split.specs.Splitting.{with_token, Entries}
 use Rattle.dns_split.specs.declared.reader.Within.{Within}
 use Rattle.dns_split.specs.declared.reader.Within.TheVariants.{InWord, InQuote}
 
--- what a character is to the grammar
+-- the class of a character
 abbrev pub kind : ℕ → Kind
 kind c =
     if c == space then White else (if c == tab then White else (if c == line_feed then LineFeed else (if c == carriage_return then CarriageReturn else (if c == open_parenthesis then Opening else (
@@ -23,7 +23,7 @@ kind c =
 abbrev pub move_to : Mode → ℕ → Act → Option Move
 move_to m d a = Some (record { mode = m; depth = d; act = a })
 
--- where symbols of a quoted text, or of a word, are read
+-- the mode in which symbols of a quoted string, or of a word, are read
 abbrev pub home : Within → Mode
 home InQuote = Quoted
 home InWord = Outside
@@ -33,7 +33,7 @@ abbrev pub line_end : ℕ → Act
 line_end zero = EndEntry
 line_end (suc _) = EndToken
 
--- a closing parenthesis, where that many are open
+-- a closing parenthesis, at that depth
 abbrev pub close_one : ℕ → Option Move
 close_one zero = None
 close_one (suc d) = move_to Outside d EndToken
@@ -90,7 +90,7 @@ abbrev pub with_open : List ℕ → Entries → Entries
 with_open [] e = e
 with_open (b ∷ bs) e = with_token (b ∷ bs) e
 
--- the entries from the open token on, where the character's part is done and k gives those that follow
+-- the entries from the open token on, with the character's part done, where k has those that follow
 abbrev pub after : Act → ℕ → List ℕ → (List ℕ → Option Entries) → Option Entries
 after EndToken c t k = option_map (with_open t) (k [])
 after EndEntry c t k = option_map (λ e. with_open t ([] ∷ e)) (k [])
@@ -98,7 +98,7 @@ after Add c t k = k (t ++ encode_utf8 c)
 after BeginToken c t k = option_map (with_open t) (k (encode_utf8 c))
 after FinishToken c t k = option_map (with_open (t ++ encode_utf8 c)) (k [])
 
--- the entries of what follows, where the token has begun with these bytes
+-- the entries of what follows, if the token has begun with these bytes
 abbrev pub read : Mode → ℕ → List ℕ → List ℕ → Option Entries
 read m d t [] = if may_end m d then Some (with_open t ([] ∷ [])) else None
 read m d t (c ∷ cs) = option_and_then (λ v. after v.act c t (λ u. read v.mode v.depth u cs)) (step m d c)

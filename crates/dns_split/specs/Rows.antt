@@ -1,4 +1,4 @@
--- Worked texts: the lexemes that spell each, and the entries that they are.
+-- Computed examples: the lexemes that spell each text, and its entries.
 use Rattle.std.specs.Prelude.{[], ◌∷◌, codes, true, false, refl}
 use lib.Utf8.{encode}
 use Rattle.dns_symbol.specs.declared.symbol.Symbol.TheVariants.{Char, SimpleEscape}

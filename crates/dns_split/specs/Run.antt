@@ -1,4 +1,4 @@
--- The reader by octets, with the pieces that it gives.
+-- The machine over octets, with the pieces that it yields.
 use Rattle.std.specs.Prelude.{◌≡◌, ◌<◌, ◌≤◌, drop, length, ℕ, ◌+◌, Bool, true, false, if◌then◌else◌, ◌||◌, ◌==◌, List, [], ◌∷◌, Option, Some, None, option_map, unwrap_or, Result, Ok, Err}
 use Rattle.dns_symbol.specs.Characters.{tab, space}
 use Rattle.dns_split.specs.declared.reader.Mode.{Mode}
@@ -23,7 +23,7 @@ abbrev pub open_piece : Mode → ℕ → ℕ → Option Piece
 open_piece Comment s at = Some (comment_at s at)
 open_piece _ s at = if s == at then None else Some (word_at s at)
 
--- what is open goes on
+-- the open piece continues
 abbrev pub goes_on : Mode → Mode → Act → Bool
 goes_on Comment Comment a = true
 goes_on Comment _ a = false
@@ -41,7 +41,7 @@ finished FinishToken s e b = Some (quote_at s e)
 finished EndEntry s e b = Some (end_at e b)
 finished _ s e b = None
 
--- where what is open begins, after an octet at which a token ended or in a comment
+-- the start of what is open, after an octet at which a token ended or in a comment
 abbrev pub opens : Mode → ℕ → ℕ
 opens Comment at = at
 opens _ at = at + 1
@@ -54,7 +54,7 @@ abbrev pub next_open : Mode → Mode → ℕ → ℕ → ℕ
 next_open Comment n s at = in_comment n s at
 next_open _ n s at = opens n at
 
--- where what is open begins after the octet at
+-- the start of what is open after the octet at
 abbrev pub start_after : Mode → Mode → Act → ℕ → ℕ → ℕ
 start_after m n Add s at = s
 start_after m n BeginToken s at = at
@@ -75,7 +75,7 @@ abbrev pub blank_after : Act → Bool → List ℕ → Bool
 blank_after EndEntry b bs = first_blank bs
 blank_after _ b bs = b
 
--- what is wrong before an octet that can't follow, and where the text may not end
+-- the cause of an error before an octet that can't follow, and where the text may not end
 abbrev pub wrong_at : Mode → ℕ → Wrong
 wrong_at Outside s = Closing
 wrong_at Comment s = Closing
@@ -95,7 +95,7 @@ takes_feed Comment = true
 takes_feed Return = true
 takes_feed _ = false
 
--- the fault alone
+-- the error alone
 abbrev pub fault : ℕ → Wrong → List (Result Piece Fault)
 fault at w = Err (record { at = at; wrong = w }) ∷ []
 
@@ -103,41 +103,41 @@ abbrev pub before : Option Piece → List (Result Piece Fault) → List (Result 
 before None k = k
 before (Some p) k = Ok p ∷ k
 
--- what the reader gives from here on
+-- the items that the machine yields from here on
 abbrev pub run : Mode → ℕ → ℕ → ℕ → Bool → List ℕ → List (Result Piece Fault)
 run m d s at b [] = if may_end m d then before (open_piece m s at) (Ok (end_at at b) ∷ []) else fault at (wrong_at_end m s)
 run m d s at b (c ∷ bs) = unwrap_or (option_map (λ (v : Move). before (closed_piece m v.mode v.act s at) (before (finished v.act s (at + 1) b)
     (run v.mode v.depth (start_after m v.mode v.act s at) (at + 1) (blank_after v.act b bs) bs))) (step m d c)) (fault at (wrong_at m s))
 
--- the octet changes nothing but the place
+-- the octet changes nothing but the offset
 abbrev pub Still : Mode → ℕ → Type 0
 Still m c = (d s at : ℕ) (b : Bool) (bs : List ℕ) → run m d s at b (c ∷ bs) ≡ run m d s (at + 1) b bs
 
--- the reader gives the same from both places
+-- the machine yields the same from both offsets
 abbrev pub SameRun : Mode → List ℕ → ℕ → ℕ → Type 0
 SameRun m text i j = (d s : ℕ) (b : Bool) → run m d s i b (drop i text) ≡ run m d s j b (drop j text)
 
--- the octets between are an escape, in a word and in a quoted text
+-- the octets between are an escape, in a word and in a quoted string
 pub record Skips (text : List ℕ) (i j : ℕ) : Type 0 where
   pub on : i < j
   pub within : j ≤ length text
   pub word : SameRun Outside text i j
   pub quoted : SameRun Quoted text i j
 
--- a later place, from which the reader gives the same in a word, or in a quoted text
+-- a later offset, from which the machine yields the same in a word, or in a quoted string
 pub record GoesOn (q : Within) (text : List ℕ) (i j : ℕ) : Type 0 where
   pub on : i < j
   pub within : j ≤ length text
   pub same : SameRun (home q) text i j
 
--- a later place in the text, from which the reader gives the same; nothing is open at either
+-- a later position in the text, from which the machine yields the same; nothing is open at either
 pub record Passes (text : List ℕ) (p q : Place) : Type 0 where
   pub on : p.at ≤ q.at
   pub within : q.at ≤ length text
   pub deep : q.depth ≤ q.at
   pub same : (b : Bool) → run Outside p.depth p.at p.at b (drop p.at text) ≡ run Outside q.depth q.at q.at b (drop q.at text)
 
--- before an octet, or the text's end, the reader gives the word that is open, and then stands with nothing open
+-- before an octet, or the text's end, the machine yields the open word, after which no piece is open
 pub record EndsWord (text : List ℕ) (d e at : ℕ) : Type 0 where
   pub on : e ≤ at
   pub within : at ≤ length text
@@ -152,14 +152,14 @@ abbrev pub blank_then : List ℕ → Result Piece Fault → Bool → Bool
 blank_then text (Ok (EndAt e)) b = first_blank (drop e.at text)
 blank_then text _ b = b
 
--- the reader gives a piece, and then stands with nothing open
+-- the machine yields a piece, after which no piece is open
 pub record Gives (text : List ℕ) (p : Place) (b : Bool) (g : Given) : Type 0 where
   pub on : p.at ≤ g.at
   pub within : g.at ≤ length text
   pub same : run Outside p.depth p.at p.at b (drop p.at text) ≡ Ok g.piece ∷ run Outside p.depth g.at g.at g.begins_blank (drop g.at text)
   pub blank : g.begins_blank ≡ blank_then text (Ok g.piece) b
 
--- the reader gives a piece or a fault, and then stands with nothing open or is done
+-- the machine yields a piece or an error, after which no piece is open or it is done
 pub record Steps (text : List ℕ) (p : Place) (b : Bool) (t : Stepped) : Type 0 where
   pub within : t.place.at ≤ length text
   pub deep : t.place.depth ≤ t.place.at

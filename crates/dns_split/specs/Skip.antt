@@ -1,4 +1,4 @@
--- Octets that the reader passes over together.
+-- Octets that the machine skips together.
 use Rattle.std.specs.Prelude.{◌≡◌, ◌≤◌, ◌<◌, ℕ, ◌+◌, if◌then◌else◌, Bool, true, false, not, nat_lt, nat_le, ◌&&◌, ◌||◌, ◌==◌, List, map, slice_index}
 use Rattle.std.specs.Int.{w64, trailing_zeros}
 use lib.Lanes.{mask_l}
@@ -16,15 +16,15 @@ is_in Comment c = not (c == line_feed) && not (c == carriage_return)
 is_in Blank c = c == space || c == tab
 is_in Line c = not ((c == line_feed || (c == carriage_return || c == semicolon)) || ((c == double_quote || (c == open_parenthesis || c == close_parenthesis)) || c == backslash))
 
--- each octet from one place to before another
+-- each octet from one offset to before another
 abbrev pub EachIn : Class → List ℕ → ℕ → ℕ → Type 0
 EachIn k text i j = (n : ℕ) → i ≤ n → n < j → is_in k (slice_index text n) ≡ true
 
--- an octet at this place is of another class
+-- the octet at this offset is of another class
 abbrev pub StopsAt : Class → List ℕ → ℕ → Type 0
 StopsAt k text i = is_in k (slice_index text i) ≡ false
 
--- the first octets of 16, as many as are of the class
+-- of the 16 octets, the first `run` are of the class
 abbrev pub RunIn : Class → List ℕ → ℕ → ℕ → Type 0
 RunIn k text i run = (run ≤ 16) × EachIn k text i (i + run) × (run < 16 → StopsAt k text (i + run))
 
@@ -34,11 +34,11 @@ pub record Marks (k : Class) (octets : List ℕ) (bits : ℕ) : Type 0 where
   pub is : bits ≡ mask_l (map marked octets)
   pub exact : (c : ℕ) → c < 256 → is_in k c ≡ not (marked c)
 
--- the class in a word, and in a quoted text
+-- the class in a word, and in a quoted string
 abbrev pub class_of : Within → Class
 class_of InWord = Word
 class_of InQuote = Quote
 
--- the place of the lowest bit that is set, or 16
+-- the index of the lowest bit that is set, or 16
 abbrev pub first_set : ℕ → ℕ
 first_set mask = if mask == 0 then 16 else trailing_zeros w64 mask

@@ -1,4 +1,4 @@
--- Which texts split into which entries: by concatenation of lexemes.
+-- The entries that a text splits into, by concatenation of lexemes.
 use Rattle.std.specs.Prelude.{◌≡◌, ◌↔◌, ℕ, zero, suc, Bool, true, false, ◌&&◌, not, List, [], ◌∷◌}
 use Rattle.std.specs.List.{flat_map}
 use Rattle.dns_split.specs.Lexeme.{Lexeme, Blank, Line, Open, Close, Note, Word, Quote, lexeme_bytes, is_lexeme}
@@ -11,12 +11,12 @@ may_precede (Note _) (Line _ ∷ _) = true
 may_precede (Note _) (_ ∷ _) = false
 may_precede _ _ = true
 
--- each lexeme holds only what may stand in it, and may precede those after it
+-- each lexeme contains only what is allowed in it, and may precede those after it
 abbrev pub are_lexemes : List Lexeme → Bool
 are_lexemes [] = true
 are_lexemes (l ∷ ls) = is_lexeme l && may_precede l ls && are_lexemes ls
 
--- the parentheses nest and close, where depth of them are open before
+-- the parentheses nest and close, from a depth of open ones
 abbrev pub nests : ℕ → List Lexeme → Bool
 nests depth (Open ∷ ls) = nests (suc depth) ls
 nests zero (Close ∷ ls) = false
@@ -34,7 +34,7 @@ abbrev pub with_token : List ℕ → Entries → Entries
 with_token t [] = (t ∷ []) ∷ []
 with_token t (e ∷ es) = (t ∷ e) ∷ es
 
--- the bytes of the words and quotes, cut at each line that stands outside parentheses
+-- the bytes of the words and quotes, cut at each line end outside parentheses
 abbrev pub entries : ℕ → List Lexeme → Entries
 entries depth [] = [] ∷ []
 entries depth (Open ∷ ls) = entries (suc depth) ls
@@ -61,7 +61,7 @@ abbrev pub is_outside : ℕ → Bool
 is_outside zero = true
 is_outside (suc _) = false
 
--- no blank where a line begins outside parentheses: here, if starts, and after each line's end
+-- no blank at the beginning of a line outside parentheses: here, if starts, and after each line end
 abbrev pub is_tight : Bool → ℕ → List Lexeme → Bool
 is_tight starts depth [] = true
 is_tight starts depth (Open ∷ ls) = is_tight false (suc depth) ls

@@ -1,9 +1,9 @@
--- Which beginnings of a text can be completed to one that splits.
+-- The prefixes of a text that can be completed to one that splits.
 use Rattle.std.specs.Prelude.{◌≡◌, ℕ, ◌<◌, ◌≤◌, Bool, if◌then◌else◌, List, [], ◌∷◌, ◌++◌, length, take, replicate}
 use Rattle.dns_symbol.specs.Characters.{line_feed, double_quote, close_parenthesis}
 use Rattle.dns_split.specs.Splitting.{Entries, Splits}
 
--- what may complete a beginning: an escape's last digits, a double quote, LF, and closing parentheses
+-- what may complete a prefix: an escape's last digits, a double quote, LF, and closing parentheses
 pub record IsTail (tail : List ℕ) : Type 0 where
   pub zeros : ℕ
   pub few : zeros ≤ 3
@@ -19,13 +19,13 @@ pub record IsViable (beginning : List ℕ) : Type 0 where
   pub found : Entries
   pub splits : Splits (beginning ++ tail) found
 
--- the longest viable beginning of the text has i bytes
+-- the longest viable prefix of the text has i bytes
 pub record IsLongestViable (text : List ℕ) (i : ℕ) : Type 0 where
   pub within : i ≤ length text
   pub viable : IsViable (take i text)
   pub longest : (j : ℕ) → i < j → j ≤ length text → ¬ IsViable (take j text)
 
--- the text doesn't split, and its longest viable beginning has i bytes
+-- the text doesn't split, and its longest viable prefix has i bytes
 pub record IsBad (text : List ℕ) (i : ℕ) : Type 0 where
   pub splits_not : (e : Entries) → ¬ Splits text e
   pub at : IsLongestViable text i

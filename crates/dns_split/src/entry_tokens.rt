@@ -1,9 +1,9 @@
-//! The tokens of entries one by one, as a reader of records wants them.
+//! Splits entries into tokens, one by one, as parsers of records need them.
 //!
-//! A record says more than its tokens' texts: a quoted text is no word, a token that touches the
-//! one before it is one thing with it (`alpn="h2,h3"`, RFC 9460), an entry that begins with a blank
-//! takes the owner of the one before (RFC 1035 section 5.1), and what is wrong with a token is
-//! wrong at a place. So each token comes with these.
+//! A parser of records needs more than the tokens' texts. A quoted string isn't a word. A token
+//! that is adjacent to the one before it belongs to it (`alpn="h2,h3"`, RFC 9460). An entry that
+//! begins with a blank takes the owner of the one before (RFC 1035 section 5.1). An error in a
+//! token has an offset. So each token comes with these.
 ghost use Rattle.std.specs.Prelude.{◌≡◌, ◌≤◌, length, option_map};
 ghost use Rattle.std.specs.Iterator.{YieldsFirstBy};
 ghost use Rattle.dns_split.specs.Pieces.{IsWithin};
@@ -21,35 +21,35 @@ use std::marker::Model;
 /// A token of an entry.
 #[derive(Clone, Copy, PartialEq, Eq)]
 pub struct EntryToken<'t> {
-    /// The octets of a word, or those between the double quotes of a quoted text, with their
+    /// The octets of a word, or those between the double quotes of a quoted string, with their
     /// escapes.
     pub text: &'t [u8],
-    /// Whether it is a quoted text.
+    /// Whether it is a quoted string.
     pub is_quoted: bool,
-    /// Whether it begins where the token before it in its entry ended.
+    /// Whether it is adjacent: it begins where the token before it in its entry ended.
     pub is_glued: bool,
-    /// Where it begins among the octets: a quoted text with its double quote.
+    /// Offset of its first octet, which is the opening double quote of a quoted string.
     pub at: usize,
 }
 
-/// What comes next of an entry.
+/// The next part of an entry.
 #[derive(Clone, Copy)]
 pub enum EntryPart<'t> {
-    /// A token of it, and whether the entry begins with a blank.
+    /// A token, and whether its entry begins with a blank.
     Token {
         token: EntryToken<'t>,
         begins_blank: bool,
     },
-    /// Its end. An entry that has no tokens, as a blank line, has an end too.
+    /// The end of the entry. An entry without tokens, such as a blank line, has an end too.
     End(EndOfEntry),
 }
 
-/// Why the next entry was not given.
+/// The error if the next entry wasn't returned.
 #[derive(Clone, Copy, Debug, PartialEq, Eq)]
 pub enum NextEntryError {
-    /// The octets are not zone text.
+    /// The octets aren't of the grammar of zone files.
     BadText(Fault),
-    /// There was not enough memory.
+    /// An allocation failed.
     ShortBuf,
 }
 
@@ -79,7 +79,7 @@ impl From<AllocError> for NextEntryError {
     }
 }
 
-/// Whether the token before, if there was one, ended at a place.
+/// Returns whether the token before, if there is one, ended at an offset.
 fn ends_at(ended: Option<usize>, at: usize) -> bool
     ensures { result ≡ ends_at ended at }
 {
@@ -89,7 +89,7 @@ fn ends_at(ended: Option<usize>, at: usize) -> bool
     }
 }
 
-/// A token at a place, after one of its entry that ended at another, if there was one.
+/// Returns the token at an offset, where `ended` is the end of the token before it in its entry.
 fn token<'t>(text: &'t [u8], is_quoted: bool, at: usize, ended: Option<usize>) -> EntryToken<'t>
     ensures { token_seen result ≡ token_at text.now is_quoted at ended }
 {
@@ -101,7 +101,7 @@ fn token<'t>(text: &'t [u8], is_quoted: bool, at: usize, ended: Option<usize>) -
     }
 }
 
-/// What a piece is of an entry, unless it is a comment.
+/// Returns the part of an entry that a piece is, or `None` for a comment.
 fn part_of<'t>(
     octets: &'t [u8],
     given: Result<Piece, Fault>,
@@ -135,7 +135,7 @@ fn part_of<'t>(
     }
 }
 
-/// Where the last token of the entry that is open after a piece ended, if it had one.
+/// Returns the end of the last token of the entry that is open after a piece, if it has one.
 fn ended_after(given: Result<Piece, Fault>, ended: Option<usize>) -> Option<usize>
     ensures { result ≡ ended_after given ended }
 {
@@ -146,15 +146,15 @@ fn ended_after(given: Result<Piece, Fault>, ended: Option<usize>) -> Option<usiz
     }
 }
 
-/// The tokens of entries that are left.
+/// An iterator over the tokens of entries.
 ///
-/// An entry of any length is read in bounded memory by [`EntryTokens::next_token`]. Its tokens come
-/// together from [`EntryTokens::next_entry`].
+/// [`EntryTokens::next_token`] reads an entry of any length in bounded memory.
+/// [`EntryTokens::next_entry`] returns all tokens of an entry together.
 #[derive(Drop)]
 pub struct EntryTokens<'t> {
     octets: &'t [u8],
     standing: Standing,
-    /// Where the last token of the entry that is open ended, if it had one.
+    /// Offset after the last token of the open entry, if it has one.
     ended: Option<usize>,
 }
 
@@ -173,7 +173,8 @@ impl<'t> Model for EntryTokens<'t> {
 }
 
 impl<'t> EntryTokens<'t> {
-    /// The tokens of octets that need not be UTF-8: each octet counts as a character of its own.
+    /// Returns an iterator over the tokens of octets, which needn't be UTF-8: each octet counts as
+    /// one character.
     pub fn of_octets(octets: &'t [u8]) -> EntryTokens<'t>
         ensures { IsSeen octets.now result }
     {
@@ -184,9 +185,10 @@ impl<'t> EntryTokens<'t> {
         }
     }
 
-    /// The same from an entry's beginning on, with places among all octets.
+    /// Returns an iterator that begins at an entry, with offsets in all of `octets`.
     ///
-    /// `at` is where the end of another entry was given, unless that was the last part.
+    /// `at` is the offset of an entry's end that was returned before, unless that was the last
+    /// part.
     pub fn of_octets_starting_at(octets: &'t [u8], at: usize) -> EntryTokens<'t>
         requires { at ≤ length octets.now }
         ensures { IsSeenFrom octets.now at result }
@@ -198,10 +200,10 @@ impl<'t> EntryTokens<'t> {
         }
     }
 
-    /// Takes the next token, or the end of the entry that is open; or the fault, which is the last;
-    /// or nothing once all were taken.
+    /// Returns the next token, or the end of the open entry, or the error, which is the last item.
+    /// Returns `None` once all were returned.
     ///
-    /// A token that touches the fault might go on, and is not given.
+    /// A token that ends at the error's offset might be longer, and isn't returned.
     pub fn next_token(&mut self) -> Option<Result<EntryPart<'t>, Fault>>
         ensures takes { YieldsFirstBy answer_seen (λ left. left) self.old result self.new }
         ensures entries { IsInEntries self.old }
@@ -217,7 +219,7 @@ impl<'t> EntryTokens<'t> {
         }
     }
 
-    /// Another reader that stands where this one does.
+    /// Returns a copy of the iterator at the same position.
     fn again(&self) -> EntryTokens<'t>
         ensures same { result ≡ self.now }
         ensures entries { IsInEntries self.now }
@@ -229,11 +231,12 @@ impl<'t> EntryTokens<'t> {
         }
     }
 
-    /// Fills a list with the tokens of the next entry, or with those that are left of the one that
-    /// is open, and takes its end; or `None` once all entries were taken. What the list held goes.
+    /// Fills a list with the tokens of the next entry, or with the remaining ones of the open
+    /// entry, and returns its end. Returns `None` once all entries were returned. The previous
+    /// contents of the list are dropped.
     ///
-    /// Where a fault comes before the end, the list has the tokens before it, and nothing is left.
-    /// Where memory is refused, the list is empty and nothing is taken.
+    /// If an error comes before the end, the list has the tokens before it, and no more items
+    /// follow. If an allocation fails, the list is empty and the iterator is unchanged.
     pub fn next_entry<A: Allocator>(
         &mut self,
         tokens: &mut Vec<EntryToken<'t>, A>,

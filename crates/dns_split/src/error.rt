@@ -1,21 +1,21 @@
-//! Why a text was not split.
+//! The error of splitting a text.
 ghost use Rattle.std.specs.Prelude.{◌≡◌, Some};
 
 use std::alloc::AllocError;
 use std::error::Error;
 use std::fmt;
 
-/// Why a text was not split.
+/// The error of splitting a text.
 #[derive(Clone, Copy, Debug, PartialEq, Eq)]
 pub enum SplitError {
     /// The text is not of the grammar.
     ///
-    /// The number is the octets of its longest beginning that can still be completed: by the last
-    /// digits of an escape, a double quote, a line feed and closing parentheses, in this order
-    /// and each perhaps absent.
+    /// The number is the length in octets of the longest prefix that can still be completed: by the
+    /// last digits of an escape, a double quote, a line feed and closing parentheses, in this
+    /// order, each of them optional.
     BadText(usize),
 
-    /// There was not enough memory.
+    /// An allocation failed.
     ShortBuf,
 }
 

@@ -1,5 +1,5 @@
-//! Laws on splitting.
-//! Each function's contract is the law; calling one does nothing.
+//! Laws of splitting.
+//! Each function's contract is the law; calling it does nothing.
 ghost use Rattle.std.specs.Prelude.{◌≡◌, ◌<◌, ◌≤◌, ◌+◌, ◌++◌, ◌∷◌, ◌↔◌, ◌⊎◌, [], List, Bool};
 ghost use Rattle.std.specs.Prelude.{Result, Ok, Err, ℕ, drop, encode_utf8_all, length, map, take};
 ghost use Rattle.std.specs.List.{AllByRecursion};
@@ -16,12 +16,12 @@ ghost use Rattle.dns_split.specs.EntryTokens.{IsSeen, PartSeen, StandsAsSpelled,
 ghost use Rattle.dns_split.specs.declared.pieces.Piece.{Piece};
 ghost use Rattle.dns_split.specs.declared.pieces.Fault.{Fault};
 
-/// A text splits in one way at most.
+/// A text splits in at most one way.
 pub fn splits_one_way()
     ensures { (text : List ℕ) (e f : Entries) → Splits text e → Splits text f → e ≡ f }
 {}
 
-/// Whatever begins a text that splits is viable.
+/// Every prefix of a text that splits is viable.
 pub fn beginnings_are_viable()
     ensures { (x y : List ℕ) (e : Entries) → IsUtf8 x → Splits (x ++ y) e → IsViable x }
 {}
@@ -31,54 +31,55 @@ pub fn tokens_split_alone()
     ensures { (text : List ℕ) → (Splits text ((text ∷ []) ∷ []) ↔ IsToken text) }
 {}
 
-/// What a text splits into are tokens, in one entry or more.
+/// The parts that a text splits into are tokens, in at least one entry.
 pub fn entries_are_tokens()
     ensures tokens { (text : List ℕ) (found : Entries) → Splits text found
         → AllByRecursion (AllByRecursion IsToken) found }
     ensures some { (text : List ℕ) (found : Entries) → Splits text found → 0 < length found }
 {}
 
-/// Of what the cursor gives, before a fault too, each word is a word, each quoted text a quoted
-/// text and each comment a comment.
+/// Of the pieces that the iterator yields, also before an error, each word is a word, each quoted
+/// string a quoted string and each comment a comment.
 pub fn pieces_are_spelled()
     ensures { (text : List ℕ) (given : List (Result Piece Fault)) → Reads text given
         → AllByRecursion (IsSpelled text) given }
 {}
 
-/// A text has one list of pieces at most.
+/// A text has at most one list of pieces.
 pub fn pieces_come_one_way()
     ensures { (text : List ℕ) (found other : List Piece) → IsPieces text found
         → IsPieces text other → found ≡ other }
 {}
 
-/// A text has one fault at most, in one place and with one cause.
+/// A text has at most one error, at one offset and with one cause.
 pub fn faults_have_one_cause()
     ensures { (text : List ℕ) (f g : Fault) → IsFault text f → IsFault text g → f ≡ g }
 {}
 
-/// A bad text has one fault, and one list of pieces before it.
+/// A bad text has at most one error, and one list of pieces before it.
 pub fn faults_come_one_way()
     ensures { (text : List ℕ) (given other : List (Result Piece Fault)) (f : Faulty text given)
         (g : Faulty text other) → (f.found ≡ g.found) × (f.fault ≡ g.fault) }
 {}
 
-/// A text is read in one way: it has one list of pieces, or one fault after one list of them.
+/// Reading a text has at most one result: one list of pieces, or one error after one list of
+/// pieces.
 pub fn texts_are_read_one_way()
     ensures { (text : List ℕ) (given other : List (Result Piece Fault)) → Reads text given
         → Reads text other → given ≡ other }
 {}
 
-/// And so are octets.
+/// Reading octets has at most one result, too.
 pub fn octets_are_read_one_way()
     ensures { (octets : List ℕ) (given other : List (Result Piece Fault)) → IsGiven octets given
         → IsGiven octets other → given ≡ other }
 {}
 
-/// Octets up to the end of an entry that is not the last give the same whatever follows: then
-/// comes what that gives alone, further on.
+/// Octets up to the end of an entry that isn't the last yield the same pieces whatever follows. The
+/// pieces of what follows come next, with their offsets moved.
 ///
-/// So octets can be read in blocks: the entries of a block that have ended are given, and what
-/// is left of the block is read with the octets after it.
+/// So octets can be read in chunks: the entries of a chunk that have ended are returned, and the
+/// rest of the chunk is read with the octets after it.
 pub fn entries_stay()
     ensures { (octets rest : List ℕ) (found : List Piece) (at : ℕ) (blank : Bool)
         (left alone : List (Result Piece Fault)) → AreOctets octets → AreOctets rest
@@ -88,14 +89,14 @@ pub fn entries_stay()
         (map Ok found ++ Ok (end_at at blank) ∷ later at alone) }
 {}
 
-/// A fault before the end of octets stays whatever follows.
+/// An error before the end of octets stays the same whatever follows.
 pub fn faults_stay()
     ensures { (octets more : List ℕ) (found : List Piece) (fault : Fault) → AreOctets octets
         → AreOctets more → IsGiven octets (map Ok found ++ Err fault ∷ [])
         → fault.at < length octets → IsGiven (octets ++ more) (map Ok found ++ Err fault ∷ []) }
 {}
 
-/// The words and quotes of a text's pieces, cut where entries end, are its entries.
+/// The words and quoted strings of a text's pieces, cut at the ends of entries, are its entries.
 pub fn pieces_are_tokens()
     ensures { (text : List ℕ) (found : List Piece) → IsPieces text found
         → Splits text (tokens_by_entry text found) }
@@ -107,20 +108,21 @@ pub fn splits_have_pieces()
         × IsPieces text found × (tokens_by_entry text found ≡ e) }
 {}
 
-/// Texts that split join: with a line's end between them they split into the entries of both.
+/// Texts that split can be joined: with a line end between them they split into the entries of
+/// both.
 pub fn splits_join()
     ensures { (x y : List ℕ) (has_cr : Bool) (e f : Entries) → Splits x e → Splits y f
         → Splits (x ++ (lexeme_bytes (Line has_cr) ++ y)) (e ++ f) }
 {}
 
-/// Where a text that splits has a bad one after it, with a line's end between, the place is the
-/// bad text's.
+/// If a bad text follows a text that splits, with a line end between, the offset of its error is
+/// moved.
 pub fn bad_texts_join()
     ensures { (x y : List ℕ) (has_cr : Bool) (e : Entries) (at : ℕ) → Splits x e → IsBad y at
         → IsBad (x ++ (lexeme_bytes (Line has_cr) ++ y)) (length x + length (lexeme_bytes (Line has_cr)) + at) }
 {}
 
-/// And the fault is the bad text's, further on.
+/// The error is then that of the bad text, moved.
 pub fn faults_join()
     ensures { (x y : List ℕ) (has_cr : Bool) (e : Entries) (fault : Fault) → Splits x e
         → IsFault y fault
@@ -128,20 +130,21 @@ pub fn faults_join()
         (moved_fault (λ i. length x + length (lexeme_bytes (Line has_cr)) + i) fault) }
 {}
 
-/// And so is the parenthesis that is left open.
+/// The outermost open parenthesis is then that of the bad text, moved.
 pub fn openers_join()
     ensures { (x y : List ℕ) (has_cr : Bool) (e : Entries) (at : ℕ) → Splits x e → IsOpener y at
         → IsOpener (x ++ (lexeme_bytes (Line has_cr) ++ y)) (length x + length (lexeme_bytes (Line has_cr)) + at) }
 {}
 
-/// A text can be cut at the end of any of its entries but the last.
+/// A text can be cut at the end of every entry but the last.
 pub fn splits_are_cut()
     ensures { (text : List ℕ) (e f : Entries) → Splits text (e ++ f) → 0 < length e → 0 < length f
         → (x : List ℕ) × (y : List ℕ) × (has_cr : Bool)
         × (text ≡ x ++ (lexeme_bytes (Line has_cr) ++ y)) × Splits x e × Splits y f }
 {}
 
-/// Pieces of texts join alike: the first text's last end moves after the line's end.
+/// The pieces of texts join in the same way: the last end of the first text moves after the line
+/// end.
 pub fn pieces_join()
     ensures { (x y : List ℕ) (has_cr : Bool) (found follow : List Piece) → IsPieces x found
         → IsPieces y follow
@@ -151,7 +154,7 @@ pub fn pieces_join()
         ∷ map (moved_piece (λ i. length x + length (lexeme_bytes (Line has_cr)) + i)) follow) }
 {}
 
-/// After the end of an entry that is not the last, the pieces are those of the rest alone.
+/// After the end of an entry that isn't the last, the pieces are those of the rest alone, moved.
 pub fn pieces_go_on()
     ensures { (text : List ℕ) (found more : List Piece) (at : ℕ) (blank : Bool)
         → IsPieces text (found ++ end_at at blank ∷ more)
@@ -159,7 +162,8 @@ pub fn pieces_go_on()
         × (more ≡ map (moved_piece (λ i. at + i)) alone)) }
 {}
 
-/// The same of octets, each a character: what [`Pieces::of_octets_starting_at`] gives.
+/// The same holds of octets, each a character: these are the pieces of
+/// [`Pieces::of_octets_starting_at`].
 ///
 /// [`Pieces::of_octets_starting_at`]: crate::pieces::Pieces::of_octets_starting_at
 pub fn octet_pieces_go_on()
@@ -169,8 +173,8 @@ pub fn octet_pieces_go_on()
         × (more ≡ map (moved_piece (λ i. at + i)) alone)) }
 {}
 
-/// UTF-8 text and its octets, each a character, give the same: the same pieces before the same
-/// fault, with its cause. And what is left open was opened by the same parenthesis.
+/// UTF-8 text and its octets, each a character, yield the same: the same pieces before the same
+/// error, with its cause. The outermost open parenthesis is also the same.
 pub fn octets_agree(text: &str)
     ensures given { (given : List (Result Piece Fault))
         → (Reads text.now given ↔ IsGiven text.now given) }
@@ -183,14 +187,14 @@ pub fn octets_agree(text: &str)
         → IsOpener (encode_utf8_all text.now) (place_of text.now at) }
 {}
 
-/// One list is seen of octets.
+/// Octets have at most one list of tokens.
 pub fn tokens_are_seen_one_way()
     ensures { (octets : List ℕ) (seen other : List (Result PartSeen Fault)) → IsSeen octets seen
         → IsSeen octets other → seen ≡ other }
 {}
 
-/// The tokens that are seen of octets, as they are spelled and cut where entries end, are the
-/// octets' pieces so cut; and so those of the entries that a text splits into.
+/// The tokens of octets, as they are spelled and cut at the ends of entries, are the octets' pieces
+/// cut in the same way, and so the entries that a text splits into.
 pub fn seen_tokens_are_entries()
     ensures octets { (octets : List ℕ) (found : List Piece) (seen : List (Result PartSeen Fault))
         → IsGiven octets (map Ok found) → IsSeen octets seen → entries_seen seen ≡ tokens_by_entry octets found }
@@ -198,7 +202,7 @@ pub fn seen_tokens_are_entries()
         → AreOctets text → Splits text found → IsSeen text seen → entries_seen seen ≡ found }
 {}
 
-/// Each token that is seen of octets, before a fault too, stands at its place as it is spelled.
+/// Each token of octets, also before an error, is at its offset as it is spelled.
 pub fn seen_tokens_stand()
     ensures { (octets : List ℕ) (seen : List (Result PartSeen Fault)) → IsSeen octets seen
         → AllByRecursion (StandsAsSpelled octets) seen }

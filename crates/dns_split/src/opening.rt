@@ -1,4 +1,4 @@
-//! Where parentheses that are left open were opened.
+//! Finds the parenthesis that a text leaves open.
 ghost use Rattle.std.specs.Prelude.{◌≡◌, ◌<◌, ◌↔◌, IsSome, IfSome, encode_utf8_all, length};
 ghost use Rattle.dns_split.specs.Opening.{IsOpener, IsLeftOpen};
 ghost use Rattle.dns_split.specs.Pieces.{place_of};
@@ -6,17 +6,17 @@ ghost use Rattle.dns_split.specs.Run.{takes_feed};
 
 use crate::reader::{Mode, step};
 
-/// Whether a line may end in a mode.
+/// Returns whether a line may end in a mode.
 fn takes_feed(mode: Mode) -> bool
     ensures { result ≡ takes_feed mode }
 {
     matches!(mode, Mode::Outside | Mode::Comment | Mode::Return)
 }
 
-/// The place of the outermost parenthesis that is left open, where closing parentheses alone, on
-/// a line of their own, would complete the text.
+/// Returns the offset of the outermost open parenthesis, if closing parentheses alone, on a line of
+/// their own, would complete the text. Else returns `None`.
 ///
-/// It reads the whole text, so that [`crate::pieces::Pieces`] need not keep the place.
+/// It reads the whole text, so that [`crate::pieces::Pieces`] needn't store the offset.
 pub fn outermost_open(text: &str) -> Option<usize>
     ensures place { IfSome result (IsOpener text.now) }
     ensures left_open { IsSome result ↔ IsLeftOpen text.now }
@@ -24,7 +24,7 @@ pub fn outermost_open(text: &str) -> Option<usize>
     outermost_open_of_octets(text.as_bytes())
 }
 
-/// The same of octets that need not be UTF-8: each counts as a character of its own.
+/// Returns the same for octets that needn't be UTF-8: each counts as one character.
 pub fn outermost_open_of_octets(octets: &[u8]) -> Option<usize>
     ensures within { IfSome result (λ i. i < length octets.now) }
     ensures place { IfSome result (λ i. IsOpener (encode_utf8_all octets.now)

@@ -1,4 +1,4 @@
-//! The pieces of a zone text, one by one, with their places and without memory.
+//! Iterates over the pieces of a zone file, with their offsets and without allocating.
 ghost use Rattle.std.specs.Prelude.{◌≡◌, ◌+◌, ◌<◌, ◌^◌, ◌≤◌, IfNone, IfSome, IsTrue, length, drop};
 ghost use Rattle.std.specs.Prelude.{slice_index, encode_utf8_all, ◌↔◌};
 ghost use Rattle.std.specs.Str.{IsCharBoundary};
@@ -15,7 +15,7 @@ use crate::reader::{Act, Mode, Within, may_end, step};
 use crate::skip::{Class, Place, past_all, skip_class, token_end};
 use std::marker::Model;
 
-/// Octets of a text, from `start` to before `end`.
+/// A range of octets, from `start` to before `end`.
 #[derive(Clone, Copy, PartialEq, Eq)]
 pub struct Span {
     pub start: usize,
@@ -23,7 +23,8 @@ pub struct Span {
 }
 
 impl Span {
-    /// The part of a text that the span names. The pieces of [`Pieces::new`] have such spans.
+    /// Returns the part of a text that the span denotes. The pieces of [`Pieces::new`] have such
+    /// spans.
     pub fn of<'t>(self, text: &'t str) -> &'t str
         requires { IsPart text.now self.start self.end }
         ensures { result.now ≡ between text.now self.start self.end }
@@ -31,7 +32,8 @@ impl Span {
         &text[self.start..self.end]
     }
 
-    /// The same of octets. The pieces of [`Pieces::of_octets`] have such spans.
+    /// Returns the part of some octets that the span denotes. The pieces of [`Pieces::of_octets`]
+    /// have such spans.
     pub fn of_octets<'t>(self, octets: &'t [u8]) -> &'t [u8]
         requires ordered { self.start ≤ self.end }
         requires within { self.end ≤ length octets.now }
@@ -44,57 +46,57 @@ impl Span {
 /// The end of an entry.
 #[derive(Clone, Copy, PartialEq, Eq)]
 pub struct EndOfEntry {
-    /// Where the next entry begins, or the text's length.
+    /// Offset of the next entry, or the text's length.
     pub at: usize,
-    /// Whether the entry that ends began with a blank: a record so written takes the owner of the
-    /// one before.
+    /// Whether the ended entry began with a blank: the record of such an entry takes the owner of
+    /// the one before (RFC 1035 section 5.1).
     pub begins_blank: bool,
 }
 
-/// A piece of a zone text.
+/// A piece of a zone file.
 #[derive(Clone, Copy, PartialEq, Eq)]
 pub enum Piece {
     Word(Span),
-    /// A quoted text with its double quotes.
+    /// A quoted string with its double quotes.
     Quote(Span),
-    /// A comment with its semicolon, without the line's end.
+    /// A comment with its semicolon, without the line end.
     Comment(Span),
     End(EndOfEntry),
 }
 
-/// What keeps a text from going on.
+/// The cause of a syntax error.
 #[derive(Clone, Copy, Debug, PartialEq, Eq)]
 pub enum Wrong {
-    /// A closing parenthesis, and none is open.
+    /// A closing parenthesis without an open one.
     Closing,
     /// The text ends inside parentheses; see [`crate::opening::outermost_open`].
     OpenParenthesis,
-    /// A line or the text ends inside a quoted text, not inside an escape: where its double quote
-    /// stands.
+    /// A line or the text ends inside a quoted string, not inside an escape. The number is the
+    /// offset of its opening double quote.
     OpenQuote(usize),
-    /// A CR stands outside quoted texts and escapes, perhaps in a comment, and no LF follows:
-    /// another octet, or the end of the text. The fault is after the CR.
+    /// A CR outside quoted strings and escapes, possibly in a comment, isn't followed by LF, but by
+    /// another octet or the end of the text. The error's offset is after the CR.
     LoneReturn,
-    /// An escape, in a word or a quoted text, can't be completed. After its backslash stands an
-    /// octet that is not printable ASCII, or a digit above 2; or after one digit or two stands an
-    /// octet with which no number up to 255 can be made of three digits; or the text ends before
-    /// the escape does. The fault is at that octet, or at the text's end.
+    /// An escape in a word or a quoted string can't be completed: its backslash is followed by an
+    /// octet that isn't printable ASCII, or by a digit above 2; or its first one or two digits are
+    /// followed by an octet with which no number up to 255 can be made of three digits; or the text
+    /// ends inside the escape. The error's offset is that octet, or the text's end.
     BadEscape,
 }
 
-/// A text is not of the grammar.
+/// A syntax error of zone files: a text isn't of the grammar.
 #[derive(Clone, Copy, Debug, PartialEq, Eq)]
 pub struct Fault {
-    /// The octets of the longest beginning that can still be completed.
+    /// Length in octets of the longest prefix that can still be completed.
     pub at: usize,
     pub wrong: Wrong,
 }
 
 impl Fault {
-    /// Whether the text stops too early: it can still be completed, and the fault stands at its
-    /// end. Octets that follow may go on past such a fault, and past no other.
+    /// Returns whether the text ends too early: it can still be completed, and the error is at its
+    /// end. More octets may resolve such an error, and no other.
     ///
-    /// The fault is that of the octets as a text, or as octets of which each is a character.
+    /// The error has to be that of `octets` as a text, or as octets of which each is a character.
     pub fn needs_more(self, octets: &[u8]) -> bool
         ensures place { IsTrue result ↔ (length octets.now ≤ self.at) }
         ensures text { IsFault octets.now self → (IsTrue result ↔ IsViable octets.now) }
@@ -106,7 +108,7 @@ impl Fault {
     }
 }
 
-/// What is wrong before an octet that can't follow.
+/// Returns the cause of the error at an octet that can't follow.
 fn wrong_at(mode: Mode, start: usize) -> Wrong
     ensures { result ≡ wrong_at mode start }
 {
@@ -118,7 +120,7 @@ fn wrong_at(mode: Mode, start: usize) -> Wrong
     }
 }
 
-/// What is wrong where a text may not end.
+/// Returns the cause of the error where a text may not end.
 fn wrong_at_end(mode: Mode, start: usize) -> Wrong
     ensures { result ≡ wrong_at_end mode start }
 {
@@ -128,7 +130,7 @@ fn wrong_at_end(mode: Mode, start: usize) -> Wrong
     }
 }
 
-/// The comment or the word that is open.
+/// Returns the open comment or word, as a piece that ends at `at`.
 #[inline(always)]
 fn open_piece(mode: Mode, start: usize, at: usize) -> Option<Piece>
     ensures { result ≡ open_piece mode start at }
@@ -140,7 +142,7 @@ fn open_piece(mode: Mode, start: usize, at: usize) -> Option<Piece>
     }
 }
 
-/// Whether what is open goes on.
+/// Returns whether the open piece continues.
 #[inline(always)]
 fn goes_on(mode: Mode, next: Mode, act: Act) -> bool
     ensures { result ≡ goes_on mode next act }
@@ -153,7 +155,7 @@ fn goes_on(mode: Mode, next: Mode, act: Act) -> bool
     }
 }
 
-/// The piece that ends before the octet at `at`.
+/// Returns the piece that ends before the octet at `at`.
 #[inline(always)]
 fn closed(mode: Mode, next: Mode, act: Act, start: usize, at: usize) -> Option<Piece>
     ensures { result ≡ closed_piece mode next act start at }
@@ -165,7 +167,7 @@ fn closed(mode: Mode, next: Mode, act: Act, start: usize, at: usize) -> Option<P
     }
 }
 
-/// The piece that ends with an octet, which ends before `end`.
+/// Returns the piece that ends with an octet, where `end` is the offset after it.
 #[inline(always)]
 fn finished(act: Act, start: usize, end: usize, begins_blank: bool) -> Option<Piece>
     ensures { result ≡ finished act start end begins_blank }
@@ -180,7 +182,7 @@ fn finished(act: Act, start: usize, end: usize, begins_blank: bool) -> Option<Pi
     }
 }
 
-/// Where what is open begins after the octet at `at`.
+/// Returns the start of the open piece after the octet at `at`.
 #[inline(always)]
 fn start_after(mode: Mode, next: Mode, act: Act, start: usize, at: usize) -> usize
     requires { at + 1 < 2 ^ 64 }
@@ -195,7 +197,7 @@ fn start_after(mode: Mode, next: Mode, act: Act, start: usize, at: usize) -> usi
     }
 }
 
-/// Whether the octets from `at` on begin with a blank.
+/// Returns whether the octets from `at` on begin with a blank.
 #[inline(always)]
 pub(crate) fn first_blank(octets: &[u8], at: usize) -> bool
     ensures { result ≡ first_blank (drop at octets.now) }
@@ -206,7 +208,8 @@ pub(crate) fn first_blank(octets: &[u8], at: usize) -> bool
     }
 }
 
-/// Whether the entry that is open after an octet began with a blank; the octet ends before `end`.
+/// Returns whether the entry that is open after an octet began with a blank, where `end` is the
+/// offset after the octet.
 fn blank_after(act: Act, begins_blank: bool, octets: &[u8], end: usize) -> bool
     ensures { result ≡ blank_after act begins_blank (drop end octets.now) }
 {
@@ -216,7 +219,7 @@ fn blank_after(act: Act, begins_blank: bool, octets: &[u8], end: usize) -> bool
     }
 }
 
-/// A piece, and where the reader then stands with nothing open.
+/// A piece, and the position after it, where no piece is open.
 #[derive(Clone, Copy)]
 struct Given {
     piece: Piece,
@@ -224,7 +227,8 @@ struct Given {
     begins_blank: bool,
 }
 
-/// Where the reader stands after a word that ends before `end`, with nothing open, if it ends.
+/// Returns the position after a word that ends before `end`, where no piece is open, if the word
+/// ends there.
 #[inline(always)]
 fn after_word(octets: &[u8], depth: usize, end: usize) -> Option<usize>
     requires { end ≤ length octets.now }
@@ -241,7 +245,7 @@ fn after_word(octets: &[u8], depth: usize, end: usize) -> Option<usize>
     }
 }
 
-/// The word that begins at a place, if no fault follows it.
+/// Returns the word that begins at an offset, if no error follows it.
 #[inline(always)]
 fn word_here(octets: &[u8], place: Place, begins_blank: bool) -> Option<Given>
     requires { place.at ≤ length octets.now }
@@ -260,7 +264,7 @@ fn word_here(octets: &[u8], place: Place, begins_blank: bool) -> Option<Given>
     })
 }
 
-/// The quoted text whose double quote stands at a place, if it is closed.
+/// Returns the quoted string that begins at an offset, if it is closed.
 #[inline(always)]
 fn quote_here(octets: &[u8], place: Place, begins_blank: bool) -> Option<Given>
     requires within { place.at < length octets.now }
@@ -280,7 +284,7 @@ fn quote_here(octets: &[u8], place: Place, begins_blank: bool) -> Option<Given>
     })
 }
 
-/// Whether a comment that ends before `end` ends there, with its line or with the text.
+/// Returns whether a comment that ends before `end` ends there, with its line or with the text.
 #[inline(always)]
 fn ends_comment(octets: &[u8], depth: usize, end: usize) -> bool
     requires { end ≤ length octets.now }
@@ -292,7 +296,8 @@ fn ends_comment(octets: &[u8], depth: usize, end: usize) -> bool
     matches!(octets[end], b'\n' | b'\r')
 }
 
-/// The comment whose semicolon stands at a place, unless parentheses are left open after it.
+/// Returns the comment that begins at an offset, unless the text ends after it with open
+/// parentheses.
 #[inline(always)]
 fn comment_here(octets: &[u8], place: Place, begins_blank: bool) -> Option<Given>
     requires within { place.at < length octets.now }
@@ -311,7 +316,7 @@ fn comment_here(octets: &[u8], place: Place, begins_blank: bool) -> Option<Given
     })
 }
 
-/// The end of an entry, with the line that ends at a place.
+/// Returns the end of an entry, if its line ends at an offset.
 #[inline(always)]
 fn end_here(octets: &[u8], place: Place, begins_blank: bool) -> Option<Given>
     requires { place.at < length octets.now }
@@ -333,7 +338,8 @@ fn end_here(octets: &[u8], place: Place, begins_blank: bool) -> Option<Given>
     })
 }
 
-/// The piece that begins at a place, if no fault is in it; the end of the text is left out.
+/// Returns the piece that begins at an offset, if it contains no error. Never returns the end of
+/// the text.
 #[inline(always)]
 fn piece_here(octets: &[u8], place: Place, begins_blank: bool) -> Option<Given>
     requires { place.at ≤ length octets.now }
@@ -350,7 +356,7 @@ fn piece_here(octets: &[u8], place: Place, begins_blank: bool) -> Option<Given>
     }
 }
 
-/// A piece or a fault, and where the reader then stands with nothing open, unless that was last.
+/// A piece or an error, and the position after it, where no piece is open, unless it was the last.
 #[derive(Clone, Copy)]
 pub(crate) struct Stepped {
     pub(crate) given: Result<Piece, Fault>,
@@ -359,7 +365,7 @@ pub(crate) struct Stepped {
     pub(crate) is_done: bool,
 }
 
-/// What is given next, found by a step of the reader for each octet.
+/// Returns the next piece or error, found by a step of the state machine for each octet.
 #[inline(never)]
 fn by_steps(octets: &[u8], place: Place, begins_blank: bool) -> Stepped
     requires within { place.at ≤ length octets.now }
@@ -430,7 +436,7 @@ fn by_steps(octets: &[u8], place: Place, begins_blank: bool) -> Stepped
     }
 }
 
-/// What is given next, from where the reader stands with nothing open.
+/// Returns the next piece or error from a position where no piece is open.
 #[inline(always)]
 pub(crate) fn step_on(octets: &[u8], here: Place, begins_blank: bool) -> Stepped
     requires within { here.at ≤ length octets.now }
@@ -452,7 +458,7 @@ pub(crate) fn step_on(octets: &[u8], here: Place, begins_blank: bool) -> Stepped
     }
 }
 
-/// The pieces of a zone text that are left.
+/// An iterator over the pieces of a zone file.
 #[derive(Drop)]
 pub struct Pieces<'t> {
     octets: &'t [u8],
@@ -505,12 +511,12 @@ impl<'t> Iterator for Pieces<'t> {
 }
 
 impl<'t> Pieces<'t> {
-    /// The pieces of a zone text, in order: words, quoted texts, comments and ends of entries. The
-    /// last is an end.
+    /// Returns an iterator over the pieces of a zone file, in order: words, quoted strings,
+    /// comments and ends of entries. The last piece is an end.
     ///
-    /// A text that is not of the grammar has its fault last. Before it come the pieces that have
-    /// ended in every text of the grammar with the same octets before the fault, and no others: a
-    /// word that touches the fault might go on, and is not given.
+    /// If the text isn't of the grammar, its error is the last item. Before it come exactly the
+    /// pieces that have ended in every text of the grammar with the same octets before the error: a
+    /// word that ends at the error's offset might be longer, and isn't returned.
     pub fn new(text: &'t str) -> Pieces<'t>
         ensures reads { Reads text.now result }
         ensures fits { EachFits text.now result }
@@ -518,7 +524,8 @@ impl<'t> Pieces<'t> {
         Pieces::beginning(text.as_bytes(), 0)
     }
 
-    /// The pieces of octets that need not be UTF-8: each octet counts as a character of its own.
+    /// Returns an iterator over the pieces of octets that needn't be UTF-8: each octet counts as
+    /// one character.
     pub fn of_octets(octets: &'t [u8]) -> Pieces<'t>
         ensures reads { ReadsOctets octets.now result }
         ensures within { EachWithin (length octets.now) result }
@@ -526,9 +533,10 @@ impl<'t> Pieces<'t> {
         Pieces::beginning(octets, 0)
     }
 
-    /// The pieces of a text from an entry's beginning on, with their places in the whole text.
+    /// Returns an iterator that begins at an entry of a text, with offsets in the whole text.
     ///
-    /// `at` is where the end of another entry was given, unless that was the text's last piece.
+    /// `at` is the offset of an entry's end that was returned before, unless that was the text's
+    /// last piece.
     pub fn starting_at(text: &'t str, at: usize) -> Pieces<'t>
         requires { IsCharBoundary text.now at }
         ensures reads { ReadsFrom text.now at result }
@@ -537,7 +545,7 @@ impl<'t> Pieces<'t> {
         Pieces::beginning(text.as_bytes(), at)
     }
 
-    /// The same of octets that need not be UTF-8, from an entry's beginning on.
+    /// Returns an iterator that begins at an entry of octets, which needn't be UTF-8.
     pub fn of_octets_starting_at(octets: &'t [u8], at: usize) -> Pieces<'t>
         requires { at ≤ length octets.now }
         ensures reads { ReadsOctetsFrom octets.now at result }
@@ -546,16 +554,16 @@ impl<'t> Pieces<'t> {
         Pieces::beginning(octets, at)
     }
 
-    /// Whether the entry that comes next, or that is being given, begins with a blank.
+    /// Returns whether the next entry, or the open one, begins with a blank.
     pub fn begins_blank(&self) -> bool
         ensures { IfSome (next_blank self.now) (λ b. result ≡ b) }
     {
         self.begins_blank
     }
 
-    /// Passes over what is left of an entry, and returns where it ends: at the end of its line, if
-    /// a line feed ends it and words without escapes and blanks alone stand before that, outside
-    /// parentheses. Else it stays, and returns `None`.
+    /// Skips the rest of an entry, and returns the offset of its end. It does so if the entry ends
+    /// with a line feed, before which are only words without escapes and blanks, outside
+    /// parentheses. Else it returns `None` and is unchanged.
     #[inline(always)]
     pub fn pass_line(&mut self) -> Option<usize>
         ensures passes { PassesIf self.old result self.new }
@@ -574,7 +582,7 @@ impl<'t> Pieces<'t> {
         Some(end)
     }
 
-    /// At the beginning of an entry.
+    /// Returns an iterator that begins at an entry.
     fn beginning(octets: &'t [u8], at: usize) -> Pieces<'t>
         requires { at ≤ length octets.now }
         ensures { result

@@ -1,18 +1,18 @@
-//! Lines and columns.
+//! Converts offsets to lines and columns.
 ghost use Rattle.std.specs.Prelude.{◌≤◌, length, take};
 ghost use Rattle.std.specs.Str.{IsCharBoundary};
 ghost use Rattle.dns_split.specs.Position.{IsPosition, IsTextPosition};
 
-/// A place of a text as people and editors count it.
+/// A position in a text as people and editors count it.
 #[derive(Clone, Copy, Debug, PartialEq, Eq)]
 pub struct Position {
-    /// The line, from 1. Each LF ends one.
+    /// Line number from 1. Each LF ends a line.
     pub line: usize,
-    /// The character of the line, from 1.
+    /// Number of the character in its line, from 1.
     pub column: usize,
 }
 
-/// The position of a character; `at` may be the text's length. The time is linear in `at`.
+/// Returns the position of a character; `at` may be the text's length. The time is linear in `at`.
 pub fn line_and_column(text: &str, at: usize) -> Position
     requires { IsCharBoundary text.now at }
     ensures { IsTextPosition (take at text.now) result.line result.column }
@@ -31,7 +31,7 @@ pub fn line_and_column(text: &str, at: usize) -> Position
     Position { line, column }
 }
 
-/// The position of an octet, where each octet counts as a character of its own.
+/// Returns the position of an octet, where each octet counts as one character.
 pub fn line_and_column_of_octets(octets: &[u8], at: usize) -> Position
     requires { at ≤ length octets.now }
     ensures { IsPosition (take at octets.now) result.line result.column }

@@ -1,10 +1,11 @@
-//! The reader: one character after the other, with a depth and an escape's digits.
+//! The state machine of the grammar: it reads one character at a time, with the depth of
+//! parentheses and the digits of an escape.
 ghost use Rattle.std.specs.Prelude.{◌≡◌, ◌+◌, ◌-◌, ◌*◌, ◌<◌, ◌^◌, ◌↔◌, true, IsSome, IfSome};
 ghost use Rattle.dns_symbol.specs.Symbol.{is_digit};
 ghost use Rattle.dns_split.specs.Reader.{kind, home, move_to, step, outside_step, quoted_step};
 ghost use Rattle.dns_split.specs.Reader.{comment_step, return_step, line_end, may_end};
 
-/// What a character is to the grammar.
+/// The class of a character in the grammar.
 #[derive(Clone, Copy)]
 pub(crate) enum Kind {
     /// A space or a tab.
@@ -22,14 +23,14 @@ pub(crate) enum Kind {
     Plain,
 }
 
-/// The kind of token that an escape stands in.
+/// The kind of token that contains an escape.
 #[derive(Clone, Copy)]
 pub(crate) enum Within {
     InWord,
     InQuote,
 }
 
-/// Where the reader stands.
+/// The state of the machine.
 #[derive(Clone, Copy)]
 pub(crate) enum Mode {
     /// Between tokens, or in a word.
@@ -48,26 +49,26 @@ pub(crate) enum Mode {
     TwoDigits(Within, u8),
 }
 
-/// What a character does to the open token.
+/// The effect of a character on the open token.
 #[derive(Clone, Copy)]
 pub(crate) enum Act {
-    /// The token ends, if one is open.
+    /// Ends the token, if one is open.
     EndToken,
-    /// The token ends, and the entry with it.
+    /// Ends the token and the entry.
     EndEntry,
-    /// The character joins the token.
+    /// Adds the character to the token.
     Add,
-    /// The token ends, and the character begins another.
+    /// Ends the token, and begins another with the character.
     BeginToken,
-    /// The character joins the token, which ends.
+    /// Adds the character to the token, and ends it.
     FinishToken,
 }
 
-/// What one character leads to.
+/// The transition for one character.
 #[derive(Clone, Copy)]
 pub(crate) struct Move {
     pub(crate) mode: Mode,
-    /// How many parentheses are open.
+    /// Number of open parentheses.
     pub(crate) depth: usize,
     pub(crate) act: Act,
 }
@@ -96,7 +97,7 @@ fn move_to(mode: Mode, depth: usize, act: Act) -> Option<Move>
     Some(Move { mode, depth, act })
 }
 
-/// Where the symbols of a quoted text, or of a word, are read.
+/// Returns the mode in which the symbols of a quoted string or of a word are read.
 #[inline(always)]
 fn home(within: Within) -> Mode
     ensures { result ≡ home within }
@@ -107,7 +108,7 @@ fn home(within: Within) -> Mode
     }
 }
 
-/// A line end ends the entry outside parentheses alone.
+/// Returns the effect of a line end, which ends the entry only outside parentheses.
 #[inline(always)]
 fn line_end(depth: usize) -> Act
     ensures { result ≡ line_end depth }
@@ -171,7 +172,7 @@ fn return_step(depth: usize, kind: Kind) -> Option<Move>
     }
 }
 
-/// A number with one more decimal digit; `None` for another character.
+/// Returns a number extended by a decimal digit, or `None` for another character.
 fn extended(value: u8, c: char) -> Option<u32>
     ensures digit { IsSome result ↔ (is_digit c ≡ true) }
     ensures value { IfSome result (λ n. n ≡ 10 * value + (c - 48)) }
@@ -216,9 +217,9 @@ fn third_digit_step(within: Within, value: u8, depth: usize, c: char) -> Option<
     move_to(home(within), depth, Act::Add)
 }
 
-/// One character, or `None` where no text goes on so.
+/// Returns the transition for one character, or `None` if no text continues so.
 ///
-/// An escape's digits are refused as soon as no digits after them can make it an octet.
+/// A digit of an escape is rejected as soon as no following digits can make the escape an octet.
 #[inline(always)]
 pub(crate) fn step(mode: Mode, depth: usize, c: char) -> Option<Move>
     requires { depth + 1 < 2 ^ 64 }
@@ -235,7 +236,7 @@ pub(crate) fn step(mode: Mode, depth: usize, c: char) -> Option<Move>
     }
 }
 
-/// The text may end here.
+/// Returns whether the text may end here.
 pub(crate) fn may_end(mode: Mode, depth: usize) -> bool
     ensures { result ≡ may_end mode depth }
 {

@@ -1,4 +1,4 @@
-//! Runs of octets that give no piece, passed over without a step of the reader for each.
+//! Skips runs of octets that end no piece, without a step of the state machine for each.
 ghost use Rattle.std.specs.Prelude.{◌≡◌, ◌+◌, ◌<◌, ◌≤◌, true, IfSome, length};
 ghost use Rattle.dns_split.specs.Reader.{home};
 ghost use Rattle.dns_split.specs.Run.{SameRun, Skips, GoesOn, Passes};
@@ -8,36 +8,36 @@ use crate::reader::Within;
 use dns_symbol::escape::{EscapeRule, first_escape};
 use std::simd::prelude::*;
 
-/// The octets of one load.
+/// Number of octets of one load.
 const LANES: usize = 16;
 
-/// The blanks that are looked at one by one, since most runs of blanks are short.
+/// Number of blanks that are compared one by one, since most runs of blanks are short.
 const FEW: usize = 4;
 
-/// Octets that are passed over together: some of those that change nothing.
+/// A class of octets that are skipped together: some of those that change nothing.
 #[derive(Clone, Copy)]
 pub(crate) enum Class {
     /// In a word.
     Word,
-    /// In a quoted text.
+    /// In a quoted string.
     Quote,
     /// In a comment.
     Comment,
     /// Space and tab.
     Blank,
-    /// On a line, where it has words and blanks alone.
+    /// On a line with only words and blanks.
     Line,
 }
 
-/// A place of a text at which no token and no comment is open.
+/// A position in a text at which no token and no comment is open.
 #[derive(Clone, Copy)]
 pub(crate) struct Place {
-    /// How many parentheses are open.
+    /// Number of open parentheses.
     pub(crate) depth: usize,
     pub(crate) at: usize,
 }
 
-/// Whether an octet is of a class, by a few comparisons.
+/// Returns whether an octet is of a class, by a few comparisons.
 #[inline(always)]
 fn is_in(class: Class, octet: u8) -> bool
     ensures { result ≡ is_in class octet }
@@ -55,7 +55,7 @@ fn is_in(class: Class, octet: u8) -> bool
     }
 }
 
-/// The lowest lane whose bit is set, or how many lanes there are.
+/// Returns the lowest lane whose bit is set, or the number of lanes.
 #[inline(always)]
 fn first_set(mask: u64) -> usize
     ensures { result ≡ first_set mask }
@@ -67,7 +67,7 @@ fn first_set(mask: u64) -> usize
     }
 }
 
-/// A bit for each octet of a load, set where a run of octets of a class ends.
+/// Returns a bit for each octet of a load, set where a run of octets of a class ends.
 #[inline(always)]
 fn ends(class: Class, octets: u8x16) -> u64
     requires { length octets ≡ LANES }
@@ -104,7 +104,7 @@ fn ends(class: Class, octets: u8x16) -> u64
     }
 }
 
-/// How many of the octets of one load are of a class, from the first.
+/// Returns how many of the octets of one load are of a class, from the first.
 #[inline(always)]
 fn run_in(class: Class, octets: &[u8], at: usize) -> usize
     requires { at + LANES ≤ length octets.now }
@@ -113,7 +113,7 @@ fn run_in(class: Class, octets: &[u8], at: usize) -> usize
     first_set(ends(class, u8x16::from_slice(&octets[at..])))
 }
 
-/// The octets of a run that are looked at one by one before the first load.
+/// Returns the number of octets of a run that are compared one by one before the first load.
 #[inline(always)]
 fn few(class: Class) -> usize {
     match class {
@@ -122,7 +122,7 @@ fn few(class: Class) -> usize {
     }
 }
 
-/// The first place from `at` on whose octet is not of a class.
+/// Returns the offset of the first octet from `at` on that isn't of a class.
 #[inline(always)]
 pub(crate) fn skip_class(class: Class, octets: &[u8], at: usize) -> usize
     requires { at ≤ length octets.now }
@@ -152,7 +152,7 @@ pub(crate) fn skip_class(class: Class, octets: &[u8], at: usize) -> usize
     place
 }
 
-/// The end of the escape that begins here, if one does.
+/// Returns the offset after the escape that begins here, if one does.
 #[inline(always)]
 fn escape_end(octets: &[u8], at: usize) -> Option<usize>
     requires { at < length octets.now }
@@ -167,7 +167,8 @@ fn escape_end(octets: &[u8], at: usize) -> Option<usize>
     }
 }
 
-/// The place after an escape, or after an octet that a word or a quoted text may hold.
+/// Returns the offset after an escape, or after an octet that a word or a quoted string may
+/// contain.
 #[inline(always)]
 fn symbol_end(within: Within, octets: &[u8], at: usize) -> Option<usize>
     requires { at < length octets.now }
@@ -184,7 +185,7 @@ fn symbol_end(within: Within, octets: &[u8], at: usize) -> Option<usize>
     }
 }
 
-/// The class of octets that are passed over together in a word, or in a quoted text.
+/// Returns the class of octets that are skipped together in a word or in a quoted string.
 #[inline(always)]
 fn class_of(within: Within) -> Class
     ensures { result ≡ class_of within }
@@ -195,7 +196,8 @@ fn class_of(within: Within) -> Class
     }
 }
 
-/// The end of a word or of a quoted text that is open at `at`: before what can't join it.
+/// Returns the offset of the end of a word or quoted string that is open at `at`: before the first
+/// octet that can't be part of it.
 #[inline(always)]
 pub(crate) fn token_end(within: Within, octets: &[u8], at: usize) -> usize
     requires { at ≤ length octets.now }
@@ -218,7 +220,7 @@ pub(crate) fn token_end(within: Within, octets: &[u8], at: usize) -> usize
     place
 }
 
-/// The place after a blank, a parenthesis, or the end of a line in parentheses.
+/// Returns the position after a blank, a parenthesis, or a line end in parentheses.
 #[inline(always)]
 fn past_one(octets: &[u8], place: Place) -> Option<Place>
     requires within { place.at < length octets.now }
@@ -249,7 +251,7 @@ fn past_one(octets: &[u8], place: Place) -> Option<Place>
     }
 }
 
-/// Where the next piece begins, or what ends one.
+/// Returns the position at which the next piece begins, or an octet that ends one.
 #[inline(always)]
 pub(crate) fn past_all(octets: &[u8], place: Place) -> Place
     requires within { place.at ≤ length octets.now }

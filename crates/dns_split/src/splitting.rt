@@ -1,4 +1,4 @@
-//! Splitting a zone text into entries.
+//! Splits a zone file into entries.
 ghost use Rattle.std.specs.Prelude.{◌≡◌, ◌++◌, ◌∷◌, [], Some, OnOk, IfOk};
 ghost use Rattle.std.specs.List.{All, AllByRecursion};
 ghost use Rattle.dns_split.specs.Answer.{IsKeptOf, IsSplitOf, KeepsPiece, texts, entries_of};
@@ -11,7 +11,7 @@ use crate::pieces::{Piece, Pieces};
 use std::alloc::{AllocError, Allocator};
 use std::mem;
 
-/// Whole entries, and the tokens of another.
+/// Whole entries, and the tokens of the open one.
 #[derive(Drop)]
 struct Collected<A: Allocator> {
     found: Vec<Vec<String<A>, A>, A>,
@@ -19,7 +19,7 @@ struct Collected<A: Allocator> {
 }
 
 impl<A: Allocator + Copy> Collected<A> {
-    /// Keeps a token.
+    /// Stores a token.
     fn add_token(&mut self, alloc: A, token: &str) -> Result<(), AllocError>
         ensures found { OnOk result (self.new.found ≡ self.old.found) }
         ensures entry { OnOk result (texts self.new.entry.items
@@ -40,7 +40,7 @@ impl<A: Allocator + Copy> Collected<A> {
         Ok(())
     }
 
-    /// Keeps a piece.
+    /// Stores a piece.
     #[inline(always)]
     fn keep(&mut self, alloc: A, text: &str, piece: Piece) -> Result<(), AllocError>
         requires { IsPieceOf text.now piece }
@@ -55,7 +55,7 @@ impl<A: Allocator + Copy> Collected<A> {
         }
     }
 
-    /// Keeps the pieces of a text, up to a fault.
+    /// Stores the pieces of a text, up to an error.
     fn keep_all(&mut self, alloc: A, text: &str) -> Result<(), SplitError>
         requires found { self.old.found.items ≡ [] }
         requires entry { self.old.entry.items ≡ [] }
@@ -74,17 +74,17 @@ impl<A: Allocator + Copy> Collected<A> {
     }
 }
 
-/// Splits a zone text into entries, each a list of tokens (RFC 1035 section 5.1).
+/// Splits a zone file into entries, each a list of tokens (RFC 1035 section 5.1).
 ///
-/// Blanks are space and tab, a line ends in LF or CR LF, a semicolon opens a comment to the end
-/// of the line, parentheses nest and join lines, and a text between double quotes may hold
-/// blanks, semicolons and parentheses. A token is kept as it is spelled, with its escapes and
-/// double quotes. Each line end outside parentheses ends an entry, so there is one entry more
-/// than there are such line ends, and empty ones count. Two tokens may touch where at least one
-/// of them is quoted.
+/// Blanks are space and tab. A line ends in LF or CR LF. A semicolon begins a comment to the end of
+/// the line. Parentheses nest and join lines. A quoted string may contain blanks, semicolons and
+/// parentheses. A token is stored as it is spelled, with its escapes and double quotes. Each line
+/// end outside parentheses ends an entry, so there is one entry more than there are such line ends,
+/// and empty ones count. Two tokens may be adjacent if at least one of them is quoted.
 ///
-/// A text that is not of this grammar is refused with the place up to which it could still have
-/// become one. `ShortBuf` comes only where memory was refused. The time is linear in the octets.
+/// Fails with `BadText` if the text isn't of this grammar, with the offset up to which it could
+/// still have become one. Fails with `ShortBuf` only if an allocation fails. The time is linear in
+/// the octets.
 pub fn split<A: Allocator + Copy>(
     alloc: A,
     text: &str,

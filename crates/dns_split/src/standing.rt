@@ -1,7 +1,8 @@
-//! The pieces of octets one by one, where the caller keeps the place as plain numbers.
+//! Returns the pieces of octets one by one, from a position that the caller stores as plain
+//! numbers.
 //!
-//! Pieces borrow their octets for as long as they last; a [`Standing`] borrows nothing, so that it
-//! can be passed to another language, written down, and gone back to.
+//! `Pieces` borrows its octets for as long as it lives. A [`Standing`] borrows nothing, so that it
+//! can be passed to another language, stored, and used again.
 ghost use Rattle.std.specs.Prelude.{◌≡◌, ◌≤◌, ◌↔◌, ℕ, List, Result, IfSome, IsSome, length};
 ghost use Rattle.std.specs.Prelude.{true, false, None};
 ghost use Rattle.dns_split.specs.Pieces.{AreOctets, EachWithin, IsGiven, IsWithin, next_blank};
@@ -14,22 +15,22 @@ ghost use Rattle.dns_split.specs.declared.standing.Standing.{Standing};
 use crate::pieces::{Fault, Piece, first_blank, step_on};
 use crate::skip::Place;
 
-/// Where a reader stands among octets, with no piece begun.
+/// A position among octets at which no piece is open.
 #[derive(Clone, Copy, PartialEq, Eq)]
 pub struct Standing {
-    /// How many octets stand before it.
+    /// Offset in octets.
     pub at: usize,
-    /// How many parentheses are open.
+    /// Number of open parentheses.
     pub depth: usize,
-    /// Where the entry begins that is open.
+    /// Offset of the beginning of the open entry.
     pub began: usize,
-    /// Whether nothing is left.
+    /// Whether no piece remains.
     pub is_done: bool,
 }
 
 impl Standing {
-    /// At an entry's beginning: at 0, or where the end of another entry was given, unless that was
-    /// the last piece.
+    /// Returns the position at the beginning of an entry: at 0, or at the offset of an entry's end
+    /// that was returned before, unless that was the last piece.
     pub fn at_entry(at: usize) -> Standing
         ensures { result ≡ at_entry at }
     {
@@ -41,7 +42,7 @@ impl Standing {
         }
     }
 
-    /// Whether the entry that is open begins with a blank.
+    /// Returns whether the open entry begins with a blank.
     #[inline(always)]
     pub fn begins_blank(self, octets: &[u8]) -> bool
         ensures place { result ≡ blank_at octets.now self.began }
@@ -52,7 +53,7 @@ impl Standing {
     }
 }
 
-/// Where the entry began that is open after a piece.
+/// Returns the offset of the beginning of the entry that is open after a piece.
 #[inline(always)]
 fn began_after(given: Result<Piece, Fault>, began: usize) -> usize
     ensures { result ≡ began_after given began }
@@ -63,11 +64,12 @@ fn began_after(given: Result<Piece, Fault>, began: usize) -> usize
     }
 }
 
-/// Takes the next piece, or the fault, as [`crate::pieces::Pieces::of_octets`] gives them; or
-/// nothing once they were all taken, and the standing stays.
+/// Returns the next piece or the error, as [`crate::pieces::Pieces::of_octets`] yields them.
+/// Returns `None` once all were returned, and then doesn't change the position.
 ///
-/// A standing that no call left has a meaning too: what is left then is what the octets from there
-/// on give in an entry that begins as the octets at `began` do, with `depth` parentheses open.
+/// A position that no call returned has a meaning too: the remaining pieces are those of the octets
+/// from there on, in an entry that begins as the octets at `began` do, with `depth` open
+/// parentheses.
 pub fn next_of_octets(octets: &[u8], standing: &mut Standing) -> Option<Result<Piece, Fault>>
     requires within { standing.old.at ≤ length octets.now }
     requires deep { standing.old.depth ≤ standing.old.at }
@@ -97,8 +99,8 @@ pub fn next_of_octets(octets: &[u8], standing: &mut Standing) -> Option<Result<P
     Some(stepped.given)
 }
 
-/// Calls one after another from an entry's beginning, until nothing is left, give just what the
-/// octets give from there on alone; and from 0, what they give.
+/// Successive calls from the beginning of an entry, until no piece remains, return exactly the
+/// pieces of the octets from there on alone; and from 0, those of all octets.
 ///
 /// The contract is the law; calling it does nothing.
 pub fn calls_give_all()
@@ -111,13 +113,13 @@ pub fn calls_give_all()
         → found ≡ given }
 {}
 
-/// At an entry's beginning what is left is what the octets give from there on alone.
+/// At the beginning of an entry, the remaining pieces are those of the octets from there on alone.
 pub fn entries_are_left()
     ensures { (octets : List ℕ) (at : ℕ) (given : List (Result Piece Fault)) → AreOctets octets
         → (IsLeft octets (at_entry at) given ↔ IsGivenFrom octets at given) }
 {}
 
-/// One list is left, wherever a reader stands, and its places are within the octets.
+/// At every position at most one list of pieces remains, and its offsets are within the octets.
 pub fn one_list_is_left()
     ensures one { (octets : List ℕ) (standing : Standing) (given other : List (Result Piece Fault))
         → IsLeft octets standing given → IsLeft octets standing other → given ≡ other }

@@ -1,4 +1,4 @@
-//! The token test.
+//! Tests whether a text is a token.
 ghost use Rattle.std.specs.Prelude.{◌≡◌, IsTrue, ◌↔◌, None};
 ghost use Rattle.dns_split.specs.Pieces.{spans_all};
 ghost use Rattle.dns_split.specs.Token.{IsToken, IsWord, IsQuote};
@@ -10,8 +10,8 @@ use crate::pieces::{Fault, Piece, Pieces};
 use crate::reader::Within;
 use crate::skip::token_end;
 
-/// Whether the word or the quoted text that begins a text is found to end with it, where that
-/// takes no step of the reader.
+/// Returns whether the first word or quoted string of a text is found to end with it, without a
+/// step of the state machine.
 #[inline(always)]
 fn reaches_end(text: &str) -> bool
     ensures { IsTrue result → IsToken text.now }
@@ -28,7 +28,8 @@ fn reaches_end(text: &str) -> bool
     last + 1 == end && octets[last] == b'"'
 }
 
-/// Whether what a text of so many octets gives first is a word or a quoted text, and all of it.
+/// Returns whether the first piece of a text is a word or a quoted string, and ends at `length`,
+/// the text's length.
 fn spans_all(first: Option<Result<Piece, Fault>>, length: usize) -> bool
     ensures { result ≡ spans_all first length }
 {
@@ -38,7 +39,7 @@ fn spans_all(first: Option<Result<Piece, Fault>>, length: usize) -> bool
     }
 }
 
-/// Whether a text is a token, by the piece that it gives first.
+/// Returns whether a text is a token, by its first piece.
 #[inline(never)]
 fn is_first_piece(text: &str) -> bool
     ensures { IsTrue result ↔ IsToken text.now }
@@ -46,18 +47,19 @@ fn is_first_piece(text: &str) -> bool
     spans_all(Pieces::new(text).next(), text.len())
 }
 
-/// Whether a text is a token: a word, or a quoted text with its double quotes.
+/// Returns whether a text is a token: a word, or a quoted string with its double quotes.
 ///
-/// A word is one symbol or more: escapes, and plain characters other than the space, the tab,
-/// LF, CR, both parentheses, the semicolon and the double quote. A quoted text holds escapes and
-/// plain characters other than LF, CR and the double quote. No memory is taken.
+/// A word has at least one symbol: escapes, and plain characters other than the space, the tab, LF,
+/// CR, both parentheses, the semicolon and the double quote. A quoted string contains escapes and
+/// plain characters other than LF, CR and the double quote. The function doesn't allocate.
 pub fn is_token(text: &str) -> bool
     ensures { IsTrue result ↔ IsToken text.now }
 {
     reaches_end(text) || is_first_piece(text)
 }
 
-/// What a token holds: the text between the double quotes of a quoted text, and a word itself.
+/// Returns the content of a token: the text between the double quotes of a quoted string, or a word
+/// itself.
 ///
 /// So its symbols are those of the word, or those between the double quotes.
 pub fn content<'t>(token: &'t str) -> &'t str
