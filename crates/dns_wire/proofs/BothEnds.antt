@@ -1,4 +1,4 @@
--- Labels taken from both ends are each label once.
+-- Labels yielded from both ends are each label once.
 use Rattle.std.proofs.Common.{◌≡◌, ℕ, ◌⊎◌, ⊎_elim, List, [], ◌∷◌, ◌++◌, Some, None, sym, ap, ◌∙◌, append_assoc, append-nil}
 use Rattle.std.specs.List.{FoldsTo}
 use Rattle.dns_wire.specs.Label.{label_octets}
@@ -15,7 +15,7 @@ both_ends labels left (from_back (Some x) ∷ takes) p =
     p.1 ∙ ap (λ u. u ++ last) (both_ends p.0 left takes p.2) ∙ append_assoc (fronts takes) (left ++ backs takes) last
     ∙ ap (λ u. fronts takes ++ u) (append_assoc left (backs takes) last)
 
--- once an end gave none, none is left
+-- once an end yielded none, none remains
 pub ends_met : (labels left end : List (List ℕ)) (takes : List Take) → FoldsTo TakesLabel labels takes left
     → TakesLabel left (from_front None) end ⊎ TakesLabel left (from_back None) end → labels ≡ fronts takes ++ backs takes
 ends_met labels left end takes p none =

@@ -29,7 +29,7 @@ pub composed_err : {T E : Type 0} (r : Result T E) (a b : List (List ℕ)) (old 
     → OnErr r ((written : List ℕ) × (left : List ℕ) × (wire (a ++ b) ≡ written ++ left) × (new ≡ old ++ written))
 composed_err r a b old new w = on_err r _ (w.0, w.1 ++ wire b, left_of_both a b w.0 w.1 w.2, w.3)
 
--- where both fit, the second fits after the first
+-- if both fit, the second fits after the first
 pub second_fits : (a b : List (List ℕ)) (old now : List ℕ) (fits : ℕ) → now ≡ old ++ wire a → wire_length (a ++ b) ≤ fits - length old
     → wire_length b ≤ fits - length now
 second_fits a b old now fits e h =

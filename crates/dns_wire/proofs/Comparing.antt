@@ -15,7 +15,7 @@ length-lowered : (label : List ℕ) → length (lowered label) ≡ length label
 length-lowered [] = refl
 length-lowered (o ∷ os) = omega (arith, length-lowered os)
 
--- the length octet of a label is no letter, so lowering leaves it
+-- the length octet of a label isn't a letter, so lowering doesn't change it
 lowered_label_is : (label : List ℕ) → length label ≤ 63 → lowered (wire_label label) ≡ wire_label (lowered label)
 lowered_label_is label h =
     let low : length label < 65 = omega arith in
@@ -27,7 +27,7 @@ lowered_wire_is (l ∷ ls) h =
     map-append to_ascii_lowercase (wire_label l) (wire ls)
     ∙ (λ i. lowered_label_is l (All-head IsShort l ls h) i ++ lowered_wire_is ls (All-tail IsShort l ls h) i)
 
--- two tests that tell the same are the same
+-- two tests that imply each other are equal
 same_test : (b c : Bool) → (b ≡ true → c ≡ true) → (c ≡ true → b ≡ true) → b ≡ c
 same_test true true f g = refl
 same_test true false f g = sym (f refl)

@@ -1,4 +1,4 @@
--- Labels taken off the octets of a name, from either end.
+-- Labels removed from the octets of a name, at either end.
 use Rattle.std.proofs.Common.{◌≡◌, ℕ, ◌+◌, ◌<◌, ◌≤◌, List, [], ◌∷◌, ◌++◌, length, take, refl, sym, ap, ◌∙◌, arith, length-append, append-nil, eqb-true, drop, length-drop, drop-cons, add-one, suc}
 use Rattle.std.proofs.Common.{get_or, Option, Some, None}
 use Rattle.std.specs.Iterator.{YieldsFirstBy}
@@ -9,7 +9,7 @@ use Rattle.dns_wire.specs.Wire.{wire, wire_label}
 use Rattle.dns_wire.specs.Labelled.{Labelled, wire_same, label_same}
 use Rattle.dns_wire.proofs.Wires.{wire_append, wire_nil}
 
--- where a label begins the octets, the others follow it
+-- if a label begins the octets, the others follow it
 pub labels_first : (octets rest label : List ℕ) (p : Labelled octets) (q : Labelled rest)
     → octets ≡ wire_label label ++ rest → p.0 ≡ label ∷ q.0
 labels_first octets rest label p q h =
@@ -19,7 +19,7 @@ pub labelled_rest : (labels : List (List ℕ)) (label rest : List ℕ) → wire 
 labelled_rest [] label rest h = let z : ⊥ = cc in absurd z
 labelled_rest (l ∷ ls) label rest h = (ls, sym (label_same l label (wire ls) rest h).1)
 
--- the last label of a list is sought: the place of the first that is left
+-- the last label of a list is searched: the offset of the first that remains
 pub record Seeks (all left : List (List ℕ)) (place : ℕ) : Type 0 where
   pub front : List (List ℕ)
   pub spelled : all ≡ front ++ left
@@ -64,7 +64,7 @@ pub some_left : (labels : List (List ℕ)) (octets : List ℕ) → octets ≡ wi
 some_left [] octets is h e = let z : ⊥ = (let n : length octets ≡ 0 = ap length is in let t : false ≡ (0 == 0) = rw n at h in cc) in z
 some_left (l ∷ ls) octets is h e = cc
 
--- the list that is left after one more label, whatever the call answered
+-- the list that remains after one more label, whatever the call returned
 pub drop_next : {A : Type 0} (view : A → List ℕ) (all now next : List (List ℕ)) (i : ℕ) (r : Option A) → now ≡ drop i all → i < length all
     → YieldsFirstBy view (λ s. s) now r next → next ≡ drop (i + 1) all
 drop_next view all now next i None e lt h =

@@ -1,4 +1,4 @@
--- Octets are answered in one way, by their labels and the rest.
+-- Parsing octets has at most one result, by their labels and the rest.
 use Rattle.std.proofs.Common.{◌≡◌, ℕ, zero, suc, ◌<◌, ◌≤◌, ◌⊎◌, ⊎_elim, false, List, [], ◌∷◌, ◌++◌, length, refl, sym, ap, ◌∙◌, arith, Result, Ok, Err}
 use Rattle.std.specs.Prelude.{if◌then◌else◌}
 use Rattle.std.specs.Bool.{nat_lt}
@@ -16,7 +16,7 @@ use Rattle.dns_wire.proofs.Splitting.{splits_same, cut_none}
 pub not_below : (a b : ℕ) → b ≤ a → nat_lt a b ≡ false
 not_below a b h = grind (arith, nat_tests)
 
--- the refusal of octets that begin with no label, by their lead octet and those after it
+-- the error of octets that begin with no label, by their lead octet and those after it
 module _ {A : Type 0} (short pointer : A) (bad : LabelTypeError → A) where
   abbrev by_next : List ℕ → A
   by_next [] = short
@@ -99,7 +99,7 @@ relative_one labels (zero ∷ more) (Err CompressedName) a = let z : 0 ≡ a.1.0
 relative_one labels (suc n ∷ more) (Err CompressedName) a =
     refusal_pointer (Err ShortInput) (Err CompressedName) (λ e. Err (BadLabel e)) (suc n) more a.0 a.1
 
--- where the octets are few enough, their one way decides
+-- if the octets are few enough, their one way decides
 pub by_rest : {E : Type 0} (octets : List ℕ) (limit : ℕ) (long : E) (answers : List (List ℕ) → List ℕ → E → Type 0) (answer : List (List ℕ) → List ℕ → E)
     → ((labels : List (List ℕ)) (rest : List ℕ) (r : E) → SplitsIntoLabels octets labels rest → answers labels rest r → r ≡ answer labels rest)
     → let Makes : E → Type 0 = (λ r. ((limit < length octets) × (r ≡ long))

@@ -22,7 +22,7 @@ cut_none l rest short (cut_label lead more h a b) =
 cut_none l rest short (cut_pointer lead h a) =
     let n : length l ≡ lead = cc in omega arith
 
--- octets of labels are refused only where there is none
+-- the octets of labels are rejected only if there are no labels
 pub refused_none : (labels : List (List ℕ)) (octets : List ℕ) (e : SplitLabelError) → All IsShort labels → octets ≡ wire labels
     → RefusesLabel e octets → labels ≡ []
 refused_none [] octets e short is h = refl
@@ -37,7 +37,7 @@ refused_none (l ∷ ls) octets (Pointer place) short is h =
     let s : length l ≤ 63 = short 0 [] (omega arith) in
     absurd (omega (arith, h.4))
 
--- the labels that were passed, in front of the rest
+-- the labels before the rest
 pub record Passed (octets rest : List ℕ) : Type 0 where
   pub labels : List (List ℕ)
   pub plain : All IsPlain labels

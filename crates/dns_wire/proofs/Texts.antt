@@ -33,7 +33,7 @@ module _ (text : List ℕ → List ℕ) where
   undotted_joined ([] ∷ b ∷ c) h = refl
   undotted_joined ((x ∷ xs) ∷ b ∷ c) h = refl
 
--- the last label decides what is left without a root
+-- the last label decides what remains without a root
 pub without_root_push : (front : List (List ℕ)) (label : List ℕ) → without_root (front ++ label ∷ []) ≡ front ++ closed label
 without_root_push [] label = refl
 without_root_push (l ∷ []) label = refl
@@ -43,7 +43,7 @@ closed_some : (label : List ℕ) → (label ≡ [] → ⊥) → closed label ≡
 closed_some [] h = absurd (h refl)
 closed_some (x ∷ xs) h = refl
 
--- where the last label is no root, none is left out
+-- if the last label isn't the root, all labels are kept
 pub none_left_out : (labels : List (List ℕ)) → (EndsInRoot labels → ⊥) → without_root labels ≡ labels
 none_left_out [] h = refl
 none_left_out (l ∷ []) h = closed_some l (λ e. h ([], ap (λ x. x ∷ []) e))

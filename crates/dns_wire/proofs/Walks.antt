@@ -1,4 +1,4 @@
--- Labels put into a text one after another.
+-- Labels that are written into a text one after another.
 use Rattle.std.proofs.Common.{◌≡◌, ℕ, ◌+◌, ◌-◌, ◌*◌, ◌<◌, ◌≤◌, Bool, true, false, List, [], ◌∷◌, ◌++◌, length, take, refl, sym, ap, ◌∙◌, arith, append_assoc, append-nil, length-append}
 use Rattle.std.specs.Prelude.{IsTrue, ◌↔◌, encode_utf8_all, Result, Ok, Err, IsOk, OnOk}
 use Rattle.std.specs.Str.{IsAscii}
@@ -19,7 +19,7 @@ use Rattle.dns_wire.specs.declared.display.Form.TheVariants.{Label, Zone}
 use Rattle.dns_wire.proofs.Texts.{joined_push, without_root_push, none_left_out, dotted_joined, undotted_joined}
 use Rattle.dns_wire.proofs.Wires.{wire_length_append, nil_not, labelled_is}
 
--- the labels that were put, before those that are left: their characters, and whether the last is the root
+-- the labels that were written, before the others: their characters, and whether the last is the root
 pub record Walked (form : Form) (all rest : List (List ℕ)) (first root : Bool) (put : List ℕ) (end : ℕ) : Type 0 where
   pub front : List (List ℕ)
   pub spelled : all ≡ front ++ rest
@@ -77,7 +77,7 @@ walk_room form all rest next label first root put end room w left fits =
     let e : all ≡ w.front ++ (label ∷ next) = w.spelled ∙ ap (λ r. w.front ++ r) left in
     omega (arith, w.room, ap wire_length e, wire_length_append w.front (label ∷ next), wire_length_append (label ∷ []) next)
 
--- once none is left, all were put
+-- once none remains, all were written
 pub walk_ended : (form : Form) (all rest : List (List ℕ)) (first root : Bool) (put : List ℕ) (end : ℕ) → Walked form all rest first root put end → rest ≡ []
     → (put ≡ joined_by (form_text form) all) × (IsTrue root ↔ EndsInRoot all)
 walk_ended form all rest first root put end w none =
@@ -100,12 +100,12 @@ lone_of form (l ∷ front) labels is h =
     let e : joined_by (form_text form) (l ∷ front) ++ 46 ∷ [] ≡ [] = sym (rooted form (l ∷ front) (omega arith)) ∙ ap (joined_by (form_text form)) (sym is) ∙ h in
     absurd (omega (arith, ap length e, length-append (joined_by (form_text form) (l ∷ front)) (46 ∷ [])))
 
--- a name that ends in the root and whose labels are no characters is the root alone, which prints as a dot
+-- a name that ends in the root and whose labels have no characters is the root, and prints as a dot
 pub root_text : (form : Form) (dot : Bool) (labels : List (List ℕ)) → EndsInRoot labels → joined_by (form_text form) labels ≡ [] → 46 ∷ [] ≡ name_text form dot labels
 root_text form true labels e h = rw (lone_of form e.0 labels e.1 h) refl
 root_text form false labels e h = rw (lone_of form e.0 labels e.1 h) refl
 
--- no labels, or a root alone, are no characters
+-- no labels, or the root alone, have no characters
 joined_none : (form : Form) (labels : List (List ℕ)) → labels ≡ [] ∷ [] → joined_by (form_text form) labels ≡ []
 joined_none form labels e = rw e (nothing form)
 
@@ -113,7 +113,7 @@ joined_none form labels e = rw e (nothing form)
 pub dotted_whole : (form : Form) (labels : List (List ℕ)) → (labels ≡ [] ∷ [] → ⊥) → joined_by (form_text form) labels ≡ name_text form true labels
 dotted_whole form labels h = sym (dotted_joined (form_text form) labels h)
 
--- without it: the dot that stands last is left out
+-- without it: the dot at the end is dropped
 undotted_of : (form : Form) (front labels : List (List ℕ)) (put : List ℕ) → labels ≡ front ++ [] ∷ [] → put ≡ joined_by (form_text form) labels
     → (labels ≡ [] ∷ [] → ⊥) → take (length put - 1) put ≡ name_text form false labels
 undotted_of form [] labels put e is some = absurd (some e)
@@ -128,7 +128,7 @@ pub undotted_front : (form : Form) (labels : List (List ℕ)) (put : List ℕ) �
     → (labels ≡ [] ∷ [] → ⊥) → take (length put - 1) put ≡ name_text form false labels
 undotted_front form labels put e is some = undotted_of form e.0 labels put e.1 is some
 
--- where no root ends the labels, nothing is left out
+-- if no root ends the labels, nothing is dropped
 pub undotted_whole : (form : Form) (labels : List (List ℕ)) → (EndsInRoot labels → ⊥) → joined_by (form_text form) labels ≡ name_text form false labels
 undotted_whole form labels h =
     sym (undotted_joined (form_text form) labels (λ e. h ([], e)) ∙ ap (joined_by (form_text form)) (none_left_out labels h))
@@ -144,7 +144,7 @@ relative_text labels plain = dotted_joined label_text labels (lone labels plain)
         let none : l ≡ [] = cc in
         omega (arith, ap length none)
 
--- what is printed, where no root ends the labels
+-- what is printed, if no root ends the labels
 pub unrooted_text : (form : Form) (dot : Bool) (labels : List (List ℕ)) → (EndsInRoot labels → ⊥) → joined_by (form_text form) labels ≡ name_text form dot labels
 unrooted_text form true labels h = dotted_whole form labels (λ e. h ([], e))
 unrooted_text form false labels h = undotted_whole form labels h
@@ -183,7 +183,7 @@ pub at_ok : {T E P : Type 0} (r : Result T E) → OnOk r P → IsOk r → P
 at_ok (Ok x) p ok = p
 at_ok (Err e) p ok = absurd cc
 
--- the labels of a name whose wire form was put into an array
+-- the labels of a name whose wire format was put into an array
 pub composed : (labels : List (List ℕ)) (none octets slice : List ℕ) (r : Result (Unit {0}) ShortBuf) (p : Labelled slice)
     → OnOk r (octets ≡ none ++ wire labels) → (wire_length labels ≤ 255 - length none → IsOk r) → none ≡ [] → slice ≡ octets → IsName labels → p.0 ≡ labels
 composed labels none octets slice r p put fits empty same name =

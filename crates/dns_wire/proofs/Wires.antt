@@ -35,7 +35,7 @@ pub count_le : (labels : List (List ℕ)) → length labels ≤ wire_length labe
 count_le [] = omega arith
 count_le (l ∷ ls) = omega (arith, count_le ls, sum_by-cons (λ label. length label + 1) l ls)
 
--- after labels that are no root, the root stands where it stood
+-- after labels other than the root, the root is in the same place
 pub root_last-append : (a b : List (List ℕ)) → HasNoRoot a → ((front back : List (List ℕ)) → b ≡ front ++ [] ∷ back → back ≡ [])
     → (front back : List (List ℕ)) → a ++ b ≡ front ++ [] ∷ back → back ≡ []
 root_last-append [] b plain last front back h = last front back h
@@ -101,7 +101,7 @@ is_empty = (IsName-plain [] (λ k d h. absurd (omega arith)) (omega arith), (λ 
 pub is_root : IsName ([] ∷ []) × EndsInRoot ([] ∷ [])
 is_root = (IsName-absolute [] (λ k d h. absurd (omega arith)) (omega arith), ([], refl))
 
--- where so many octets aren't taken for certain
+-- if some octets aren't guaranteed to fit
 pub short_of : (fits len more : ℕ) → (more ≤ fits - len → IsTrue false) → fits < len + more
 short_of fits len more h = let g : more ≤ fits - len → ⊥ = (λ p. let e = h p in cc) in omega arith
 

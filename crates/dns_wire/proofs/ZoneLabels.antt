@@ -1,4 +1,4 @@
--- Labels as zone files have them.
+-- Labels as in zone files.
 use Rattle.std.proofs.Common.{ℕ, ◌≡◌, ◌<◌, Bool, true, false, List, [], ◌∷◌, ◌++◌, refl, arith, append_assoc}
 use Rattle.std.specs.Prelude.{All, if◌then◌else◌, ◌&&◌, nat_lt, nat_le}
 use Rattle.std.specs.Str.{IsAscii}

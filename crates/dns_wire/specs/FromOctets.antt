@@ -30,7 +30,7 @@ IsRest rest Root = rest ≡ 0 ∷ []
 IsRest rest RootAndMore = IsRootAndMore rest
 IsRest rest (Refused e) = RefusesLabel e rest × (rest ≢ [])
 
--- what making an absolute name answers where the octets are not too many, by their labels and the rest
+-- the result of making an absolute name of octets that aren't too many, by their labels and the rest
 abbrev pub AnswersLabels : List (List ℕ) → List ℕ → Result (List (List ℕ)) NameError → Type 0
 AnswersLabels labels rest (Ok name) = (rest ≡ 0 ∷ []) × (name ≡ labels ++ [] ∷ [])
 AnswersLabels labels rest (Err LongName) = ⊥
@@ -52,7 +52,7 @@ AnswersRelative labels rest (Err CompressedName) = (place : ℕ) × RefusesLabel
 AnswersRelative labels rest (Err TrailingData) = ⊥
 AnswersRelative labels rest (Err Relative) = ⊥
 
--- too many octets are a long name; otherwise the labels and the rest, in which octets split in one way, decide
+-- too many octets are a long name; else the labels and the rest decide, into which octets split in one way
 abbrev pub MakesName : List ℕ → Result (List (List ℕ)) NameError → Type 0
 MakesName octets result =
     ((max_name < length octets) × (result ≡ Err LongName))

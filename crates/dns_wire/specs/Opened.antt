@@ -1,4 +1,4 @@
--- The octets of a name that is being built tell its finished labels and the open one.
+-- The octets of a name in a builder determine its finished labels and the open one.
 use Rattle.std.specs.Prelude.{◌≡◌, ℕ, List, [], ◌∷◌, ◌++◌, length}
 use Rattle.std.specs.Coded.{Coded-set, coded_list, coded_ℕ, ×_prop}
 use Rattle.std.proofs.Common.{sym, ◌∙◌, ap, arith, length-append, append-nil}

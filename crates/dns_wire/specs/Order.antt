@@ -8,6 +8,6 @@ use Rattle.dns_wire.specs.Wire.{wire}
 abbrev pub lowered_wire : List (List ℕ) → List ℕ
 lowered_wire labels = wire (map lowered labels)
 
--- names of as many labels, each equal to the other's but for the case of letters
+-- names with the same number of labels, each equal without regard to the case of letters
 abbrev pub same_name : List (List ℕ) → List (List ℕ) → Bool
 same_name a b = pointwise (pointwise nat_eq) (map lowered a) (map lowered b)

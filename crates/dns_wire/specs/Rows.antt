@@ -1,4 +1,4 @@
--- Worked rows of the definitions.
+-- Computed examples of the definitions.
 use Rattle.std.specs.Prelude.{◌≡◌, [], ◌∷◌, codes, refl}
 use Rattle.dns_wire.specs.Wire.{wire, wire_length}
 use Rattle.dns_wire.specs.Printed.{label_text, dotted_text, undotted_text}

@@ -1,9 +1,9 @@
--- What the display types of names show.
+-- The names of the display types.
 use Rattle.dns_wire.specs.declared.display.DisplayWithDot.{DisplayWithDot}
 use Rattle.dns_wire.specs.declared.display.DisplayWithoutDot.{DisplayWithoutDot}
 use Rattle.dns_wire.specs.declared.display.ZoneName.{ZoneName}
 
--- the name that each of them shows
+-- the name of each of them
 abbrev pub dotted_name : {N : Type 0} → DisplayWithDot N → N
 dotted_name d = d.name.now
 

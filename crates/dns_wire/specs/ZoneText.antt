@@ -1,4 +1,4 @@
--- Names in zone files (RFC 1035 section 5.1), with the escapes that BIND prints: no octet is printed as what a zone file gives a meaning of its own.
+-- Names in zone files (RFC 1035 section 5.1), with the escapes that BIND prints: no octet is printed as one with a meaning in zone files.
 use Rattle.std.specs.Prelude.{ℕ, Bool, ◌==◌, ◌||◌, ◌&&◌, nat_lt, nat_le, if◌then◌else◌, List, encode_utf8_all}
 use Rattle.std.specs.List.{flat_map}
 use Rattle.dns_symbol.specs.Characters.{space, double_quote, open_parenthesis, close_parenthesis, dot, semicolon, backslash, tilde}
@@ -27,6 +27,6 @@ zone_symbol o = if is_zone_escape o then SimpleEscape o else (if nat_lt space o 
 abbrev pub zone_label : List ℕ → List ℕ
 zone_label = flat_map (λ o. spell (zone_symbol o))
 
--- the bytes of a name: its labels joined by dots, with a dot at the end where it ends in the root; the root alone is one dot, no labels are no text
+-- the bytes of a name: its labels joined by dots, with a dot at the end if it ends in the root; the root alone is one dot, no labels are no text
 abbrev pub zone_text : List (List ℕ) → List ℕ
 zone_text labels = encode_utf8_all (dotted_by zone_label labels)

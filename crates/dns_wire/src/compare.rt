@@ -1,6 +1,6 @@
-//! Comparisons of labels and names.
+//! Comparison of labels and names.
 //!
-//! Letters from A to Z count as their lower case (RFC 4343).
+//! The letters A to Z are compared as their lower case (RFC 4343).
 ghost use Rattle.std.specs.List.{flat_map};
 ghost use Rattle.std.specs.Hash as fed;
 ghost use Rattle.dns_octets.specs.Lowered.{lowered, same_lowered, lowered_order};
@@ -71,7 +71,7 @@ impl Ord for Label<'_> {
     }
 }
 
-/// The length octet and the octets of the lowered label are hashed.
+/// Hashes the length octet and the octets of the label in lower case.
 impl Hash for Label<'_> {
     ghost use Rattle.std.specs.Cmp.Lexicographic.{same_text};
     ghost use Rattle.std.proofs.Common.{ap, sym};
@@ -110,7 +110,7 @@ impl<Octets: AsOctets> Eq for Name<Octets> {
     ghost laws = { on_equiv (map lowered) (lists_equiv nat_list_eq_equiv) };
 }
 
-/// The labels are hashed one after another.
+/// Hashes the labels one after another.
 impl<Octets: AsOctets> Hash for Name<Octets> {
     ghost use Rattle.dns_wire.specs.Order.{lowered_wire};
     ghost use Rattle.std.specs.Prelude.{map};
@@ -149,7 +149,7 @@ impl<Octets: AsOctets> Eq for RelativeName<Octets> {
     ghost laws = { on_equiv (map lowered) (lists_equiv nat_list_eq_equiv) };
 }
 
-/// The labels are hashed one after another.
+/// Hashes the labels one after another.
 impl<Octets: AsOctets> Hash for RelativeName<Octets> {
     ghost use Rattle.dns_wire.specs.Order.{lowered_wire};
     ghost use Rattle.std.specs.Prelude.{map};

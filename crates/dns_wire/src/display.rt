@@ -1,9 +1,10 @@
-//! The text of labels and names (RFC 1035 section 5.1), in one of two forms ([`Form`]).
+//! The presentation format of labels and names (RFC 1035 section 5.1), in one of two forms
+//! ([`Form`]).
 //!
 //! [`Form::Label`] is the form of `domain`, in which labels and names print by themselves. It
 //! escapes the space, the dot and the backslash by a backslash, and octets outside 0x20 to 0x7E by
-//! their decimal value. The double quote, the semicolon and parentheses are plain, which end a
-//! token of a zone file: there [`ZoneName`] prints a name, in [`Form::Zone`].
+//! their decimal value. It doesn't escape the double quote, the semicolon and parentheses, which
+//! end a token of a zone file. For zone files, [`ZoneName`] prints a name in [`Form::Zone`].
 ghost use Rattle.std.specs.Prelude.{◌≡◌, ◌≤◌, ◌<◌, ◌+◌, ◌*◌, ◌↔◌, ◌++◌, Bool, List, ℕ, length, take, IsTrue, encode_utf8_all};
 ghost use Rattle.std.specs.Fmt.{WritesOnOk};
 ghost use Rattle.std.specs.Str.{IsAscii};
@@ -43,7 +44,7 @@ pub enum Form {
     Zone,
 }
 
-// Puts the characters of a label into a text at a place, and returns the place after them.
+// Writes a label into a text at an offset, and returns the offset after it.
 fn put_label(label: &[u8], form: Form, text: &mut [u8], at: usize) -> usize
     requires room { at + 4 * length label.now ≤ length text.old }
     ensures text { take result text.new ≡ take at text.old ++ form_text form label.now }
@@ -56,7 +57,8 @@ fn put_label(label: &[u8], form: Form, text: &mut [u8], at: usize) -> usize
     }
 }
 
-// Puts a dot, but before the first label, and the characters of a label into a text at a place.
+// Writes a label into a text at an offset, after a dot unless it is the first, and returns the
+// offset after it.
 fn put_next(label: &[u8], form: Form, first: bool, text: &mut [u8], at: usize) -> usize
     requires room { at + 4 * length label.now + 1 ≤ length text.old }
     ensures text { take result text.new ≡ take at text.old ++ next_text form first label.now }
@@ -71,8 +73,8 @@ fn put_next(label: &[u8], form: Form, first: bool, text: &mut [u8], at: usize) -
     put_label(label, form, text, at + 1)
 }
 
-// Puts the characters of labels joined by dots at the start of a text, in one walk over them.
-// Answers how many they are, and whether the last label is the root.
+// Writes labels joined by dots at the beginning of a text, in one walk over them. Returns the
+// length written, and whether the last label is the root.
 fn put_labels(labels: NameIter<'_>, form: Form, text: &mut [u8]) -> (usize, bool)
     requires room { 4 * wire_length labels ≤ length text.old }
     ensures text { take result.0 text.new ≡ joined_by (form_text form) labels.entry }
@@ -92,8 +94,8 @@ fn put_labels(labels: NameIter<'_>, form: Form, text: &mut [u8]) -> (usize, bool
     (end, root)
 }
 
-/// The text of labels joined by dots, which is put into `text`; `dot` tells whether a dot stands
-/// before a root at their end. The root alone is one dot.
+/// Writes labels joined by dots into `text` and returns what was written. If they end in the root,
+/// a dot ends the text only if `dot` is true. The root alone is one dot.
 pub fn labels_in<'t>(labels: NameIter<'_>, form: Form, dot: bool, text: &'t mut [u8]) -> &'t str
     requires room { 4 * wire_length labels ≤ length text.old }
     ensures { result.now ≡ encode_utf8_all (name_text form dot labels.entry) }
@@ -111,8 +113,8 @@ pub fn labels_in<'t>(labels: NameIter<'_>, form: Form, dot: bool, text: &'t mut 
     ascii_text(&text[..end - 1])
 }
 
-// Prints a name's labels joined by dots; `dot` tells whether one stands before a root at their end.
-// The root alone is one dot.
+// Prints a name's labels joined by dots. If they end in the root, a dot ends the text only if `dot`
+// is true. The root alone is one dot.
 fn write_name<N: ToLabelIter, W: fmt::Write>(
     name: &N,
     form: Form,
@@ -147,8 +149,8 @@ impl fmt::Display for Label<'_> {
     }
 }
 
-/// A name's labels joined by dots, with a dot at the end where the name is absolute. The root alone
-/// is one dot.
+/// A name that prints as its labels joined by dots, with a dot at the end if the name is absolute.
+/// The root alone is one dot.
 #[derive(Drop)]
 pub struct DisplayWithDot<'a, N: ToLabelIter> {
     name: &'a N,
@@ -157,7 +159,7 @@ pub struct DisplayWithDot<'a, N: ToLabelIter> {
 impl<'a, N: ToLabelIter> DisplayWithDot<'a, N> {
     ghost use Rattle.dns_wire.specs.Shown.{dotted_name};
 
-    /// Shows this name.
+    /// Returns the name for printing.
     pub fn new(name: &'a N) -> Self
         ensures { dotted_name result ≡ name.now }
     {
@@ -177,13 +179,13 @@ impl<N: ToLabelIter> fmt::Display for DisplayWithDot<'_, N> {
     }
 }
 
-/// A name in a zone file (RFC 1035 section 5.1): its labels joined by dots, with a dot at the end
-/// if it is absolute. The root alone is one dot.
+/// A name that prints as in a zone file (RFC 1035 section 5.1): its labels joined by dots, with a
+/// dot at the end if it is absolute. The root alone is one dot.
 ///
 /// A backslash precedes `"`, `$`, `(`, `)`, `.`, `;`, `@` and the backslash. Other octets from 0x21
-/// to 0x7E are plain, and the rest are `\DDD`, as BIND prints them. So a name of one label or more is
-/// one word, which reads as that name. A relative name of no labels prints nothing, the only text
-/// that reads as it: `@` would read as a label of that one character, or as the origin.
+/// to 0x7E are plain, and the rest are `\DDD`, as BIND prints them. So a name of one label or more
+/// is one word, which parses as that name. A relative name without labels prints nothing, the only
+/// text that parses as it: `@` would parse as a label of that one character, or as the origin.
 #[derive(Drop)]
 pub struct ZoneName<'a, N: ToLabelIter> {
     name: &'a N,
@@ -192,7 +194,7 @@ pub struct ZoneName<'a, N: ToLabelIter> {
 impl<'a, N: ToLabelIter> ZoneName<'a, N> {
     ghost use Rattle.dns_wire.specs.Shown.{zone_name};
 
-    /// Shows this name.
+    /// Returns the name for printing.
     pub fn new(name: &'a N) -> Self
         ensures { zone_name result ≡ name.now }
     {
@@ -212,7 +214,8 @@ impl<N: ToLabelIter> fmt::Display for ZoneName<'_, N> {
     }
 }
 
-/// A name's labels joined by dots, without a dot at the end. The root alone is one dot.
+/// A name that prints as its labels joined by dots, without a dot at the end. The root alone is one
+/// dot.
 #[derive(Drop)]
 pub struct DisplayWithoutDot<'a, N: ToLabelIter> {
     name: &'a N,
@@ -221,7 +224,7 @@ pub struct DisplayWithoutDot<'a, N: ToLabelIter> {
 impl<'a, N: ToLabelIter> DisplayWithoutDot<'a, N> {
     ghost use Rattle.dns_wire.specs.Shown.{undotted_name};
 
-    /// Shows this name.
+    /// Returns the name for printing.
     pub fn new(name: &'a N) -> Self
         ensures { undotted_name result ≡ name.now }
     {
@@ -241,7 +244,7 @@ impl<N: ToLabelIter> fmt::Display for DisplayWithoutDot<'_, N> {
     }
 }
 
-/// The labels joined by dots, without a dot at the end; the root alone is one dot.
+/// Prints the labels joined by dots, without a dot at the end. The root alone is one dot.
 impl<Octets: AsOctets> fmt::Display for Name<Octets> {
     ghost use Rattle.std.specs.Prelude.{Some, encode_utf8_all};
     ghost use Rattle.dns_wire.specs.Printed.{undotted_text};
@@ -254,7 +257,7 @@ impl<Octets: AsOctets> fmt::Display for Name<Octets> {
     }
 }
 
-/// The labels joined by dots.
+/// Prints the labels joined by dots.
 impl<Octets: AsOctets> fmt::Display for RelativeName<Octets> {
     ghost use Rattle.std.specs.Prelude.{Some, encode_utf8_all};
     ghost use Rattle.dns_wire.specs.Printed.{joined_text};

@@ -1,24 +1,24 @@
-//! Why octets are no label or no name.
+//! Errors of parsing labels and names in wire format, and of building names.
 use dns_octets::ShortBuf;
 use thiserror::Error;
 
-/// More than 63 octets are no label.
+/// The octets of a label are more than 63.
 #[derive(Clone, Copy, Debug, PartialEq, Eq, Error)]
 #[error("long label")]
 pub struct LongLabelError;
 
-/// A lead octet of no known type: one of 0x40 to 0xBF.
+/// The lead octet is of no known label type: it is from 0x40 to 0xBF.
 #[derive(Clone, Copy, Debug, PartialEq, Eq, Error)]
 #[error("bad label type")]
 pub struct LabelTypeError(pub u8);
 
-/// Why no label was split off.
+/// The error if no label could be split off.
 #[derive(Clone, Copy, Debug, PartialEq, Eq, Error)]
 pub enum SplitLabelError {
-    /// A pointer to another name, by its place (RFC 1035 section 4.1.4).
+    /// A compression pointer to another name, given by its offset (RFC 1035 section 4.1.4).
     #[error("compression pointer")]
     Pointer(u16),
-    /// The lead octet is of no known type.
+    /// The lead octet is of no known label type.
     #[error("{0}")]
     BadType(LabelTypeError),
     /// The octets end before the label or the pointer does.
@@ -26,19 +26,19 @@ pub enum SplitLabelError {
     ShortInput,
 }
 
-/// Why octets are no name.
+/// The error if octets aren't a name.
 #[derive(Clone, Copy, Debug, PartialEq, Eq, Error)]
 pub enum NameError {
-    /// A label has a lead octet of no known type.
+    /// A label has a lead octet of no known label type.
     #[error("{0}")]
     BadLabel(LabelTypeError),
-    /// A pointer to another name stands in place of a label.
+    /// A compression pointer is in the place of a label.
     #[error("compressed domain name")]
     CompressedName,
-    /// There are more octets than a name of this kind has.
+    /// The octets exceed the maximum length of a name of this kind.
     #[error("long domain name")]
     LongName,
-    /// Octets stand after the root.
+    /// Octets follow the root.
     #[error("trailing data")]
     TrailingData,
     /// There are no octets, or they end within a label.
@@ -47,21 +47,21 @@ pub enum NameError {
     /// The octets end without the root.
     #[error("relative name")]
     Relative,
-    /// A root stands among the labels of a relative name.
+    /// A relative name contains the root label.
     #[error("absolute name")]
     Absolute,
 }
 
-/// Why an octet or a label was not added.
+/// The error if an octet or a label couldn't be added.
 #[derive(Clone, Copy, Debug, PartialEq, Eq, Error)]
 pub enum PushError {
-    /// The label would have more than 63 octets.
+    /// The label would exceed 63 octets.
     #[error("long label")]
     LongLabel,
-    /// The name without the root would have more than 254 octets.
+    /// The name without the root would exceed 254 octets.
     #[error("long domain name")]
     LongName,
-    /// There was no room for the octets, or no memory.
+    /// The buffer is too small, or an allocation failed.
     #[error("buffer size exceeded")]
     ShortBuf,
 }

@@ -1,4 +1,4 @@
-//! Copying labels into a name over other octets.
+//! Copies the labels of a name into a name over octets of another type.
 ghost use Rattle.std.specs.Prelude.{◌≡◌, ℕ, ◌≤◌, IsOk, IfOk};
 ghost use Rattle.dns_octets.specs.Room.{Room};
 ghost use Rattle.dns_wire.specs.Wire.{wire_length};
@@ -9,13 +9,14 @@ use dns_octets::{AsOctets, EmptyBuilder, FromBuilder, OctetsBuilder, ShortBuf};
 
 /// Labels that can be copied into a name of another type.
 pub trait FlattenInto<T: ToLabelIter>: ToLabelIter + Sized {
-    /// What is allocated from, or `()` where nothing is.
+    /// The allocator, or `()` if the type doesn't allocate.
     type Alloc;
 
-    // How many octets surely fit into the new name, and how many it has at most.
+    // The guaranteed and the maximum capacity of the new name, in octets.
     ghost room: { Room };
 
-    /// A name with the same labels, or lack of room for its octets.
+    /// Returns a name with the same labels. Fails with [`ShortBuf`] if its octets don't fit or an
+    /// allocation fails.
     fn try_flatten_into(self, alloc: Self::Alloc) -> Result<T, ShortBuf>
         ensures value { IfOk result (λ t. T.labels t ≡ Self.labels self) }
         ensures succeeds { wire_length (Self.labels self) ≤ room.fits → IsOk result }

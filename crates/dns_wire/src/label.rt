@@ -4,10 +4,10 @@ ghost use Rattle.dns_wire.specs.Limits.{max_label};
 
 use crate::error::{LabelTypeError, LongLabelError, SplitLabelError};
 
-/// The most octets of a label, without its length octet (RFC 1035 section 2.3.4).
+/// Maximum length of a label in octets, without its length octet (RFC 1035 section 2.3.4).
 pub const MAX_LABEL: usize = 63;
 
-/// A label: at most 63 octets. The label of none is the root.
+/// A label of at most 63 octets. The label of length 0 is the root.
 #[derive(Clone, Copy)]
 pub struct Label<'a> {
     octets: &'a [u8],
@@ -20,7 +20,7 @@ impl<'a> Label<'a> {
     ghost use Rattle.dns_wire.specs.Label.{label_octets};
     ghost use Rattle.dns_wire.specs.Split.{RefusesLabel};
 
-    /// The label of these octets, or [`LongLabelError`] above 63.
+    /// Returns the label of the octets. Fails with [`LongLabelError`] if there are more than 63.
     pub fn from_slice(octets: &'a [u8]) -> Result<Self, LongLabelError>
         ensures ok { IsOk result ↔ (length octets.now ≤ max_label) }
         ensures value { IfOk result (λ l. label_octets l ≡ octets.now) }
@@ -31,11 +31,13 @@ impl<'a> Label<'a> {
         Ok(Label { octets })
     }
 
-    /// The label that begins the octets in wire form, and the octets after it.
+    /// Parses the label at the beginning of the octets, in wire format, and returns it with the
+    /// octets after it.
     ///
-    /// A lead octet of 0 to 0x3F is the label's length. One of 0x40 to 0xBF is
-    /// [`SplitLabelError::BadType`], a greater one a [`SplitLabelError::Pointer`] by its low six
-    /// bits and the next octet. Too few octets are [`SplitLabelError::ShortInput`].
+    /// A lead octet from 0 to 0x3F is the label's length. Fails with [`SplitLabelError::BadType`]
+    /// if the lead octet is from 0x40 to 0xBF. Fails with [`SplitLabelError::Pointer`] if it is
+    /// greater; the pointer is its low six bits and the next octet. Fails with
+    /// [`SplitLabelError::ShortInput`] if there are too few octets.
     pub fn split_from(octets: &'a [u8]) -> Result<(Label<'a>, &'a [u8]), SplitLabelError>
         ensures { MatchResult result (λ p. octets.now ≡ wire_label (label_octets p.0) ++ p.1.now) (λ e. RefusesLabel e octets.now) }
     {
@@ -60,7 +62,7 @@ impl<'a> Label<'a> {
         }
     }
 
-    /// The octets of the label, without its length octet.
+    /// Returns the octets of the label, without its length octet.
     pub fn as_slice(&self) -> &'a [u8]
         ensures value { result.now ≡ label_octets self.now }
         ensures short { length result.now ≤ max_label }
@@ -68,7 +70,7 @@ impl<'a> Label<'a> {
         self.octets
     }
 
-    /// How many octets the label has.
+    /// Returns the length of the label in octets, without its length octet.
     pub fn len(&self) -> usize
         ensures value { result ≡ length (label_octets self.now) }
         ensures short { result ≤ max_label }
@@ -76,14 +78,14 @@ impl<'a> Label<'a> {
         self.octets.len()
     }
 
-    /// Whether this is the root, the label of no octets.
+    /// Returns whether this is the root, the label of length 0.
     pub fn is_root(&self) -> bool
         ensures { IsTrue result ↔ (label_octets self.now ≡ []) }
     {
         self.octets.is_empty()
     }
 
-    /// How many octets the wire form has: the length octet and the label's.
+    /// Returns the length of the wire format in octets: the length octet and the label's octets.
     pub fn compose_len(&self) -> u16
         ensures { result ≡ length (label_octets self.now) + 1 }
     {

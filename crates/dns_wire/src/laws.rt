@@ -1,4 +1,4 @@
-//! Laws of labels and names in wire form.
+//! Laws of labels and names in wire format.
 ghost use Rattle.std.specs.Prelude.{ℕ, ◌≡◌, ◌⊎◌, List, ◌++◌, Result, None};
 ghost use Rattle.std.specs.List.{FoldsTo};
 ghost use Rattle.dns_wire.specs.FromOctets.{SplitsIntoLabels, MakesName, MakesRelative};
@@ -7,9 +7,9 @@ ghost use Rattle.dns_wire.specs.declared.error.NameError.{NameError};
 
 use crate::split::rest_of;
 
-/// Calls of `next` and `next_back`, in any order, give each label once: the labels before them are
-/// those taken from the front, those that are left, and those taken from the back. Once either end
-/// gives none, all labels were given.
+/// Calls of `next` and `next_back`, in any order, yield each label once. The labels before the
+/// calls are those yielded from the front, the remaining ones, and those yielded from the back.
+/// Once either end yields none, all labels were yielded.
 ///
 /// The calls are those of [`NameIter`](crate::NameIter) and of the iterators over chains of names,
 /// whose steps are `TakesFirst` and `TakesLast`.
@@ -20,8 +20,8 @@ pub fn labels_from_both_ends()
         → TakesLabel left (from_front None) end ⊎ TakesLabel left (from_back None) end → labels ≡ fronts takes ++ backs takes }
 {}
 
-/// Octets are in one way those of some labels other than the root, and a rest with which none of
-/// these begins.
+/// Octets split in exactly one way into labels other than the root, and a rest that begins with no
+/// such label.
 pub fn octets_split_one_way(octets: &[u8])
     ensures some { (labels : List (List ℕ)) × (rest : List ℕ) × SplitsIntoLabels octets.now labels rest }
     ensures one { (labels others : List (List ℕ)) (rest more : List ℕ)
@@ -30,7 +30,8 @@ pub fn octets_split_one_way(octets: &[u8])
     let _rest = rest_of(octets);
 }
 
-/// Octets have one answer: one absolute name or one refusal, and so for a relative name.
+/// Parsing octets has at most one result, an absolute name or an error; so has parsing a relative
+/// name.
 pub fn octets_have_one_answer()
     ensures absolute { (octets : List ℕ) (left right : Result (List (List ℕ)) NameError)
         → MakesName octets left → MakesName octets right → left ≡ right }

@@ -1,18 +1,18 @@
-//! Labels and domain names in wire form (RFC 1035 sections 2.3.4 and 3.1).
+//! Labels and domain names in wire format (RFC 1035 sections 2.3.4 and 3.1).
 //!
-//! A [`Label`] has 0 to 63 octets; the label of none is the root. A name is a list of labels, and
-//! its octets are each label's length octet and octets, one after another. A [`Name`] ends in the
-//! root and has at most 255 octets, a [`RelativeName`] has no root and at most 254. Both are made
-//! from octets, or by a [`NameBuilder`] octet by octet.
+//! A [`Label`] has 0 to 63 octets; the label of length 0 is the root. A name is a list of labels,
+//! and its octets are each label's length octet and octets, one after another. A [`Name`] ends in
+//! the root and has at most 255 octets. A [`RelativeName`] has no root and at most 254 octets. Both
+//! are made from octets, or by a [`NameBuilder`] octet by octet.
 //!
-//! [`ToLabelIter`] is what all kinds of names have in common: a count of labels, the label at a
-//! place, and the octets. [`ToName`] adds that the last label is the root, [`ToRelativeName`] that
-//! none is. [`FlattenInto`] copies the labels into a name over octets of another type.
+//! [`ToLabelIter`] is what all kinds of names have in common: the number of labels, the label at an
+//! index, and the octets. [`ToName`] adds that the last label is the root, [`ToRelativeName`] that
+//! no label is the root. [`FlattenInto`] copies the labels into a name over octets of another type.
 //!
-//! Names are equal, and hash equally, where their labels are the same but for the case of ASCII
-//! letters (RFC 4343).
+//! Names are equal, and have equal hashes, if their labels are the same without regard to the case
+//! of ASCII letters (RFC 4343).
 //!
-//! What `dns_octets` has is named here again, so one `use` serves for both.
+//! This crate re-exports the items of `dns_octets`.
 #![tactic(auto)]
 
 mod compare;

@@ -11,10 +11,11 @@ use dns_octets::{AsOctets, EmptyBuilder, FreezeBuilder, FromBuilder, OctetsBuild
 use std::alloc::AllocError;
 use std::marker::Model;
 
-/// The most octets of a name in wire form (RFC 1035 section 2.3.4).
+/// Maximum length of a name in wire format, in octets (RFC 1035 section 2.3.4).
 pub const MAX_NAME: usize = 255;
 
-/// A name that ends in the root label, of at most 255 octets in wire form (RFC 1035 section 2.3.4).
+/// A name that ends in the root label, of at most 255 octets in wire format (RFC 1035 section
+/// 2.3.4).
 #[derive(Drop)]
 pub struct Name<Octets: AsOctets> {
     pub(crate) octets: Octets,
@@ -35,7 +36,7 @@ impl<Octets: AsOctets> Model for Name<Octets> {
 impl Name<&[u8]> {
     ghost use Rattle.std.specs.Prelude.{◌≡◌, [], ◌∷◌};
 
-    /// The root alone, over fixed octets. It takes no memory.
+    /// Returns the root, over static octets, without allocating.
     pub fn root_ref() -> Name<&'static [u8]>
         ensures { result ≡ [] ∷ [] }
     {
@@ -48,12 +49,12 @@ impl<Octets: AsOctets> Name<Octets> {
     ghost use Rattle.dns_wire.specs.FromOctets.{MakesName};
     ghost use Rattle.dns_wire.specs.Wire.{wire, wire_length, IsName, EndsInRoot};
 
-    /// The name of these octets.
+    /// Parses a name in wire format, from all of the octets.
     ///
-    /// More than 255 octets are [`NameError::LongName`]. Then labels are split off from the front,
-    /// as [`Label::split_from`] does. An end without the root is [`NameError::Relative`], no octets
-    /// at all are [`NameError::ShortInput`], and octets after the root
-    /// [`NameError::TrailingData`].
+    /// Fails with [`NameError::LongName`] if there are more than 255 octets. Then splits off labels
+    /// one by one, and fails as [`Label::split_from`] does. Fails with [`NameError::Relative`] if
+    /// the octets end without the root, with [`NameError::ShortInput`] if there are no octets, and
+    /// with [`NameError::TrailingData`] if octets follow the root.
     pub fn from_octets(octets: Octets) -> Result<Self, NameError>
     where
         Octets: Drop,
@@ -79,7 +80,8 @@ impl<Octets: AsOctets> Name<Octets> {
         }
     }
 
-    /// The root alone, or lack of room for its one octet.
+    /// Returns the root. Fails with [`ShortBuf`] if its one octet doesn't fit or an allocation
+    /// fails.
     pub fn root(alloc: <Octets::Builder as EmptyBuilder>::Alloc) -> Result<Self, ShortBuf>
     where
         Octets: FromBuilder,
@@ -95,7 +97,8 @@ impl<Octets: AsOctets> Name<Octets> {
         })
     }
 
-    /// The name with the labels of another, or lack of room for its octets.
+    /// Returns a name with the labels of another. Fails with [`ShortBuf`] if its octets don't fit
+    /// or an allocation fails.
     pub fn from_labels<N: ToName>(
         alloc: <Octets::Builder as EmptyBuilder>::Alloc,
         name: &N,
@@ -115,14 +118,14 @@ impl<Octets: AsOctets> Name<Octets> {
         })
     }
 
-    /// The octets, in the type that holds them.
+    /// Returns the octets in the type that holds them.
     pub fn as_octets(&self) -> &Octets
         ensures { Octets.octets result.now ≡ wire self.now }
     {
         &self.octets
     }
 
-    /// The wire octets.
+    /// Returns the octets of the wire format.
     #[tactic(auto, using(crate::proofs::Wires::length_wire))]
     pub fn as_slice(&self) -> &[u8]
         ensures value { result.now ≡ wire self.now }
@@ -133,7 +136,7 @@ impl<Octets: AsOctets> Name<Octets> {
         self.octets.as_slice()
     }
 
-    /// How many octets the wire form has, from 1 to 255.
+    /// Returns the length of the wire format in octets, from 1 to 255.
     pub fn len(&self) -> usize
         ensures value { result ≡ wire_length self.now }
         ensures few { result ≤ max_name }
@@ -142,7 +145,7 @@ impl<Octets: AsOctets> Name<Octets> {
         octets.len()
     }
 
-    /// The labels in order, the root last.
+    /// Returns an iterator over the labels in order, the root last.
     pub fn iter_labels(&self) -> NameIter<'_>
         ensures value { result ≡ self.now }
         ensures is_name { IsName self.now }
@@ -153,7 +156,7 @@ impl<Octets: AsOctets> Name<Octets> {
         }
     }
 
-    /// A clone of the name, refused only where cloning its octets is.
+    /// Clones the name. Fails only if the clone of its octets fails.
     pub fn clone(&self) -> Result<Self, AllocError>
     where
         Octets: Clone,

@@ -1,4 +1,4 @@
-//! Building names.
+//! A builder of names.
 ghost use Rattle.std.specs.Prelude.{ℕ, ◌≡◌, ◌<◌, ◌≤◌, ◌+◌, ◌-◌, [], ◌∷◌, ◌++◌, length, slice_set, OnOk, OnErr, IsOk};
 ghost use Rattle.dns_wire.specs.Wire.{wire_label};
 ghost use Rattle.dns_wire.specs.Building.{AnswersGrowth, needed_for_octet, grown};
@@ -13,7 +13,7 @@ use arrayvec::ArrayVec;
 use dns_octets::{AsOctets, AsOctetsMut, EmptyBuilder, FreezeBuilder, OctetsBuilder, ShortBuf};
 use std::marker::Model;
 
-// Adds an octet to the label of `count` octets that ends the octets.
+// Adds an octet to the last label of the octets, which has `count` octets.
 fn lengthen<B: OctetsBuilder + AsOctetsMut>(
     inner: &mut B,
     count: usize,
@@ -33,8 +33,8 @@ fn lengthen<B: OctetsBuilder + AsOctetsMut>(
     Ok(())
 }
 
-// Adds an octet to the label of `count` octets that ends the octets, or a label of it where `count`
-// is 0.
+// Adds an octet to the last label of the octets, which has `count` octets; if `count` is 0, appends
+// a label of that one octet.
 fn grow<B: OctetsBuilder + AsOctetsMut>(
     inner: &mut B,
     count: usize,
@@ -64,7 +64,7 @@ fn grow<B: OctetsBuilder + AsOctetsMut>(
     lengthen(inner, count, octet).map_err(|_| PushError::ShortBuf)
 }
 
-// The label's length octet and its octets.
+// Returns the wire format of a label: its length octet and its octets.
 fn wire_label(label: &[u8]) -> ArrayVec<u8, 64>
     requires { length label.now ≤ max_label }
     ensures { result.items ≡ wire_label label.now }
@@ -94,7 +94,7 @@ fn append_whole<B: OctetsBuilder>(inner: &mut B, label: &[u8]) -> Result<(), Pus
         .map_err(|_| PushError::ShortBuf)
 }
 
-/// A name that is being built: finished labels, and perhaps an open one.
+/// A builder of a name: finished labels, and possibly an open one.
 #[derive(Drop)]
 pub struct NameBuilder<B: OctetsBuilder> {
     inner: B,
@@ -120,7 +120,7 @@ impl<B: OctetsBuilder> NameBuilder<B> {
     ghost use Rattle.dns_wire.specs.Building.{AnswersGrowth, AnswersRoot, all_labels, with_octet, with_label, no_labels, ended};
     ghost use Rattle.dns_wire.specs.Wire.{wire_length};
 
-    /// A name of no labels. It takes no memory.
+    /// Returns a builder without labels, without allocating.
     pub fn new(alloc: B::Alloc) -> Self
     where
         B: EmptyBuilder,
@@ -132,25 +132,25 @@ impl<B: OctetsBuilder> NameBuilder<B> {
         }
     }
 
-    /// Whether a label is open.
+    /// Returns whether a label is open.
     pub fn in_label(&self) -> bool
         ensures { IsTrue result ↔ (self.now.current ≢ []) }
     {
         self.current > 0
     }
 
-    /// Whether there is no label at all.
+    /// Returns whether there is no label, finished or open.
     pub fn is_empty(&self) -> bool
         ensures { IsTrue result ↔ (all_labels self.now ≡ []) }
     {
         self.inner.as_slice().is_empty()
     }
 
-    /// Adds an octet to the open label, which is opened first where none is.
+    /// Adds an octet to the open label, or opens a label if there isn't one.
     ///
-    /// It is refused by [`PushError::LongName`] where the name would have more than 254 octets,
-    /// then by [`PushError::LongLabel`] where the label would have more than 63, then by
-    /// [`PushError::ShortBuf`]. A refusal changes nothing.
+    /// Fails with [`PushError::LongName`] if the name would exceed 254 octets, else with
+    /// [`PushError::LongLabel`] if the label would exceed 63, else with [`PushError::ShortBuf`] if
+    /// the buffer lacks capacity or an allocation fails. An error changes nothing.
     pub fn push(&mut self, octet: u8) -> Result<(), PushError>
     where
         B: AsOctetsMut,
@@ -163,15 +163,15 @@ impl<B: OctetsBuilder> NameBuilder<B> {
         Ok(())
     }
 
-    /// Closes the open label. Without one it does nothing.
+    /// Closes the open label. Does nothing if there isn't one.
     pub fn end_label(&mut self)
         ensures { self.new ≡ ended self.old }
     {
         self.current = 0;
     }
 
-    /// Closes the open label and appends a whole one, of at least one octet. The refusals are those
-    /// of [`push`](Self::push), in the same order, and change nothing.
+    /// Closes the open label and appends a whole label, of at least one octet. Fails as
+    /// [`push`](Self::push) does, with the checks in the same order. An error changes nothing.
     pub fn append_label(&mut self, label: &[u8]) -> Result<(), PushError>
         requires { 0 < length label.now }
         ensures answers { AnswersGrowth (wire_length (all_labels (with_label self.old label.now))) (length label.now) B.room result }
@@ -183,7 +183,7 @@ impl<B: OctetsBuilder> NameBuilder<B> {
         Ok(())
     }
 
-    /// The relative name, with the open label closed.
+    /// Closes the open label and returns the relative name.
     pub fn finish(self) -> RelativeName<B::Octets>
     where
         B: FreezeBuilder,
@@ -194,8 +194,8 @@ impl<B: OctetsBuilder> NameBuilder<B> {
         }
     }
 
-    /// The absolute name: the open label is closed and the root appended, or the error is
-    /// [`PushError::ShortBuf`].
+    /// Closes the open label, appends the root and returns the absolute name. Fails with
+    /// [`PushError::ShortBuf`] if the root doesn't fit or an allocation fails.
     pub fn into_name(self) -> Result<Name<B::Octets>, PushError>
     where
         B: FreezeBuilder + Drop,
@@ -211,7 +211,7 @@ impl<B: OctetsBuilder> NameBuilder<B> {
     }
 }
 
-/// The wire octets of the labels so far, as if the open one were closed.
+/// The octets of the labels so far, as if the open one were closed.
 impl<B: OctetsBuilder> AsOctets for NameBuilder<B> {
     ghost use Rattle.dns_wire.specs.Wire.{wire};
     ghost use Rattle.dns_wire.specs.Building.{all_labels};

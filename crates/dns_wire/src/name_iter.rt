@@ -1,4 +1,4 @@
-//! The labels of a name, one after another.
+//! An iterator over the labels of a name.
 ghost use Rattle.std.specs.Prelude.{◌≡◌, ◌<◌, List, [], ℕ, length, slice_index_or};
 ghost use Rattle.dns_wire.specs.Label.{label_octets};
 ghost use Rattle.dns_wire.specs.Labelled.{Labelled, Labelled-prop};
@@ -8,8 +8,8 @@ use crate::label::Label;
 use std::alloc::AllocError;
 use std::marker::Model;
 
-/// The labels of a name that are left, from both ends: calls from either end give each label once
-/// ([`labels_from_both_ends`](crate::laws::labels_from_both_ends)).
+/// An iterator over the labels of a name, from both ends. Calls from either end yield each label
+/// once ([`labels_from_both_ends`](crate::laws::labels_from_both_ends)).
 #[derive(Drop)]
 pub struct NameIter<'a> {
     pub(crate) octets: &'a [u8],
@@ -31,7 +31,7 @@ impl<'a> NameIter<'a> {
     ghost use Rattle.std.specs.Prelude.{◌≡◌};
     ghost use Rattle.dns_wire.specs.Wire.{wire};
 
-    /// The wire octets of the labels that are left.
+    /// Returns the octets of the remaining labels, in wire format.
     pub fn as_slice(&self) -> &'a [u8]
         ensures { result.now ≡ wire self.now }
     {
@@ -94,7 +94,7 @@ impl<'a> DoubleEndedIterator for NameIter<'a> {
     }
 }
 
-// The label at a place.
+// Returns the label at an index.
 pub(crate) fn label_at<'a>(labels: NameIter<'a>, place: usize) -> Label<'a>
     requires { place < length labels }
     ensures { label_octets result ≡ slice_index_or labels.entry place [] }

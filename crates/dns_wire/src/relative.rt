@@ -14,10 +14,11 @@ use dns_octets::{
 use std::alloc::AllocError;
 use std::marker::Model;
 
-/// The most octets of a relative name in wire form, which leaves one for the root.
+/// Maximum length of a relative name in wire format, in octets: one less than a name, for the root.
 pub const MAX_RELATIVE: usize = 254;
 
-/// A name without the root label, of at most 254 octets in wire form: there is room for the root.
+/// A name without the root label, of at most 254 octets in wire format, so that the root can be
+/// added.
 #[derive(Drop)]
 pub struct RelativeName<Octets: AsOctets> {
     pub(crate) octets: Octets,
@@ -39,7 +40,7 @@ impl<Octets: AsOctets> Model for RelativeName<Octets> {
 impl RelativeName<&[u8]> {
     ghost use Rattle.std.specs.Prelude.{◌≡◌, []};
 
-    /// The name of no labels, over fixed octets.
+    /// Returns the name without labels, over static octets.
     pub fn empty_ref() -> RelativeName<&'static [u8]>
         ensures { result ≡ [] }
     {
@@ -53,10 +54,11 @@ impl<Octets: AsOctets> RelativeName<Octets> {
     ghost use Rattle.dns_wire.specs.FromOctets.{MakesRelative};
     ghost use Rattle.dns_wire.specs.Wire.{wire, wire_length, IsName, HasNoRoot};
 
-    /// The name of these octets; no octets are the empty name.
+    /// Parses a relative name in wire format, from all of the octets. No octets are the empty name.
     ///
-    /// More than 254 octets are [`NameError::LongName`]. Then labels are split off from the front,
-    /// as [`Label::split_from`] does, and a root label is [`NameError::Absolute`].
+    /// Fails with [`NameError::LongName`] if there are more than 254 octets. Then splits off labels
+    /// one by one, and fails as [`Label::split_from`] does, or with [`NameError::Absolute`] if a
+    /// label is the root.
     pub fn from_octets(octets: Octets) -> Result<Self, NameError>
     where
         Octets: Drop,
@@ -75,7 +77,7 @@ impl<Octets: AsOctets> RelativeName<Octets> {
         }
     }
 
-    /// The name of no labels. It takes no memory.
+    /// Returns the name without labels, without allocating.
     pub fn empty(alloc: <Octets::Builder as EmptyBuilder>::Alloc) -> Self
     where
         Octets: FromBuilder,
@@ -87,14 +89,14 @@ impl<Octets: AsOctets> RelativeName<Octets> {
         }
     }
 
-    /// The octets, in the type that holds them.
+    /// Returns the octets in the type that holds them.
     pub fn as_octets(&self) -> &Octets
         ensures { Octets.octets result.now ≡ wire self.now }
     {
         &self.octets
     }
 
-    /// The wire octets.
+    /// Returns the octets of the wire format.
     #[tactic(auto, using(crate::proofs::Wires::length_wire))]
     pub fn as_slice(&self) -> &[u8]
         ensures value { result.now ≡ wire self.now }
@@ -106,7 +108,7 @@ impl<Octets: AsOctets> RelativeName<Octets> {
         self.octets.as_slice()
     }
 
-    /// How many octets the wire form has, from 0 to 254.
+    /// Returns the length of the wire format in octets, from 0 to 254.
     pub fn len(&self) -> usize
         ensures value { result ≡ wire_length self.now }
         ensures few { result ≤ max_relative }
@@ -115,7 +117,7 @@ impl<Octets: AsOctets> RelativeName<Octets> {
         octets.len()
     }
 
-    /// The labels in order.
+    /// Returns an iterator over the labels in order.
     pub fn iter_labels(&self) -> NameIter<'_>
         ensures value { result ≡ self.now }
         ensures is_name { IsName self.now }
@@ -127,7 +129,8 @@ impl<Octets: AsOctets> RelativeName<Octets> {
         }
     }
 
-    /// The name with the root after its labels, or [`PushError::ShortBuf`] without room for it.
+    /// Appends the root and returns the absolute name. Fails with [`PushError::ShortBuf`] if the
+    /// root doesn't fit or an allocation fails.
     pub fn into_absolute(self) -> Result<Name<Octets>, PushError>
     where
         Octets: IntoBuilder,
@@ -143,7 +146,7 @@ impl<Octets: AsOctets> RelativeName<Octets> {
         }
     }
 
-    /// A clone of the name, refused only where cloning its octets is.
+    /// Clones the name. Fails only if the clone of its octets fails.
     pub fn clone(&self) -> Result<Self, AllocError>
     where
         Octets: Clone,

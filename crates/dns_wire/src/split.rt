@@ -1,24 +1,24 @@
-//! What follows the labels that begin octets.
+//! Splits octets into labels, and classifies what follows the labels.
 
 ghost use Rattle.dns_wire.specs.FromOctets.{HasRest};
 
 use crate::error::SplitLabelError;
 use crate::label::Label;
 
-/// What follows the labels that begin octets.
+/// What follows the labels at the beginning of octets.
 #[derive(Clone, Copy)]
 pub enum Rest {
     /// Nothing.
     End,
-    /// The root, and nothing after it.
+    /// The root, without octets after it.
     Root,
-    /// The root, and octets after it.
+    /// The root, with octets after it.
     RootAndMore,
-    /// Octets that begin with no whole label.
+    /// Octets that begin with no whole label, by the error.
     Refused(SplitLabelError),
 }
 
-/// What follows the labels other than the root that begin the octets.
+/// Returns what follows the labels other than the root at the beginning of the octets.
 pub fn rest_of(octets: &[u8]) -> Rest
     ensures { HasRest octets.now result }
 {

@@ -1,4 +1,4 @@
-//! Names seen as their labels.
+//! Traits of types that have the labels of a name.
 ghost use Rattle.std.specs.Prelude.{◌≡◌, ℕ, ◌-◌, ◌<◌, ◌≤◌, List, [], ◌++◌, length, slice_index_or, OnOk, OnErr, IsOk};
 ghost use Rattle.dns_wire.specs.Label.{label_octets};
 ghost use Rattle.dns_wire.specs.Wire.{wire, wire_length, IsName, EndsInRoot, HasNoRoot};
@@ -7,33 +7,33 @@ ghost use Rattle.dns_wire.specs.Limits.{max_name};
 use crate::label::Label;
 use dns_octets::{OctetsBuilder, ShortBuf};
 
-/// A list of labels of at most 63 octets each. The root stands only last, and the wire form has at
-/// most 255 octets.
+/// A list of labels of at most 63 octets each. Only the last label may be the root, and the wire
+/// format has at most 255 octets.
 pub trait ToLabelIter {
     // The labels.
     ghost labels: { Self → List (List ℕ) };
 
-    // What is known of every value.
+    // What holds of every value.
     ghost holds: { Self → Type 0 };
 
-    /// How many labels there are.
+    /// Returns the number of labels.
     fn label_count(&self) -> usize
         ensures value { result ≡ length (labels self.now) }
         ensures few { result ≤ max_name }
         ensures holds { holds self.now };
 
-    /// The label at a place, from 0, below the count.
+    /// Returns the label at an index from 0, which must be less than the number of labels.
     fn label_at(&self, place: usize) -> Label<'_>
         requires { place < length (labels self.now) }
         ensures { label_octets result ≡ slice_index_or (labels self.now) place [] };
 
-    /// How many octets the wire form has: each label's length plus one.
+    /// Returns the length of the wire format in octets: the sum of each label's length plus one.
     fn compose_len(&self) -> u16
         ensures value { result ≡ wire_length (labels self.now) }
         ensures holds { holds self.now };
 
-    /// Appends the wire form. Where it is refused, a beginning of it may stand after the target's
-    /// old octets.
+    /// Appends the name in wire format. Fails with [`ShortBuf`] if the target lacks capacity or an
+    /// allocation fails; then a prefix of the wire format, possibly empty, has been appended.
     fn compose<B: OctetsBuilder>(&self, target: &mut B) -> Result<(), ShortBuf>
         ensures ok { OnOk result (B.octets target.new ≡ B.octets target.old ++ wire (labels self.now)) }
         ensures err { OnErr result ((written : List ℕ) × (left : List ℕ) × (wire (labels self.now) ≡ written ++ left)
@@ -44,12 +44,12 @@ pub trait ToLabelIter {
     ghost is_name: { (x : Self) → holds x → IsName (labels x) };
 }
 
-/// Labels of which the last is the root.
+/// Labels the last of which is the root.
 pub trait ToName: ToLabelIter {
     ghost ends_in_root: { (x : Self) → Self.holds x → EndsInRoot (Self.labels x) };
 }
 
-/// Labels of which none is the root.
+/// Labels none of which is the root.
 pub trait ToRelativeName: ToLabelIter {
     ghost has_no_root: { (x : Self) → Self.holds x → HasNoRoot (Self.labels x) };
 }

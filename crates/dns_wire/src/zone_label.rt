@@ -1,8 +1,8 @@
-//! Labels in zone files (RFC 1035 section 5.1).
+//! Prints labels as in zone files (RFC 1035 section 5.1).
 //!
-//! A backslash precedes `"`, `$`, `(`, `)`, `.`, `;`, `@` and the backslash. The others from 0x21 to
-//! 0x7E are plain, and each other octet is a backslash and its three decimal digits. BIND prints the
-//! same.
+//! A backslash precedes `"`, `$`, `(`, `)`, `.`, `;`, `@` and the backslash. The other octets from
+//! 0x21 to 0x7E are plain, and each remaining octet is a backslash and its three decimal digits.
+//! BIND prints labels in the same way.
 ghost use Rattle.std.specs.Prelude.{◌≡◌, ◌≤◌, ◌<◌, ◌+◌, ◌*◌, [], ◌∷◌, ◌++◌, length, take, IsTrue};
 ghost use Rattle.std.specs.Fmt.{WritesOnOk};
 ghost use Rattle.std.specs.Str.{IsAscii};
@@ -12,13 +12,13 @@ ghost use Rattle.dns_wire.specs.ZoneText.{zone_label, zone_symbol};
 use dns_symbol::form::{ascii_text, put_decimal};
 use std::fmt;
 
-/// Octets that are turned into text at a time.
+/// Number of octets that are formatted at a time.
 const BLOCK: usize = 64;
 
-/// The most characters of a block: four of each octet.
+/// Maximum number of characters of a block: four for each octet.
 const TEXT: usize = 256;
 
-/// Puts the characters of an octet into a text at an offset, and returns the offset after them.
+/// Writes an octet into a text at an offset, and returns the offset after it.
 #[inline(always)]
 fn put_zone_octet(octet: u8, text: &mut [u8], at: usize) -> usize
     requires room { at + 4 ≤ length text.old }
@@ -39,8 +39,7 @@ fn put_zone_octet(octet: u8, text: &mut [u8], at: usize) -> usize
     }
 }
 
-/// Puts the characters of octets of a label into a text at an offset, and returns the offset after
-/// them.
+/// Writes octets of a label into a text at an offset, and returns the offset after them.
 pub(crate) fn put_zone_octets(octets: &[u8], text: &mut [u8], at: usize) -> usize
     requires room { at + 4 * length octets.now ≤ length text.old }
     ensures text { take result text.new ≡ take at text.old ++ zone_label octets.now }
@@ -54,7 +53,7 @@ pub(crate) fn put_zone_octets(octets: &[u8], text: &mut [u8], at: usize) -> usiz
     end
 }
 
-/// Whether an octet is plain.
+/// Returns whether an octet is printed as itself.
 #[inline(always)]
 fn is_plain(octet: u8) -> bool
     ensures { IsTrue result → spell (zone_symbol octet) ≡ octet ∷ [] }
@@ -66,7 +65,7 @@ fn is_plain(octet: u8) -> bool
     }
 }
 
-/// Whether each octet of a label is plain.
+/// Returns whether every octet of a label is printed as itself.
 fn are_plain(label: &[u8]) -> bool
     ensures text { IsTrue result → zone_label label.now ≡ label.now }
     ensures ascii { IsAscii (zone_label label.now) }
@@ -91,7 +90,7 @@ fn write_escaped<W: fmt::Write>(label: &[u8], f: &mut fmt::Formatter<W>) -> fmt:
     Ok(())
 }
 
-/// Prints a label as zone files have it. The only error is the formatter's.
+/// Prints a label as in zone files. Fails only if the formatter's writer fails.
 pub fn write_zone_label<W: fmt::Write>(label: &[u8], f: &mut fmt::Formatter<W>) -> fmt::Result
     ensures { WritesOnOk W.write_str_gives f.old result (zone_label label.now) f.new }
 {
