@@ -1,4 +1,4 @@
--- Octets that are a name's are refused by no maker of it.
+-- Octets that are a name's are rejected by no constructor of it.
 use Rattle.std.proofs.Common.{◌≡◌, ℕ, ◌<◌, ◌≤◌, List, [], ◌∷◌, length, arith, sym, ◌∙◌, Err}
 use Rattle.std.proofs.Common.{⊎_elim}
 use Rattle.dns_wire.specs.FromOctets.{HasRest, MakesName, MakesRelative, AnswersLabels, AnswersRelative}

@@ -1,4 +1,4 @@
--- Worked rows: texts of names, and texts that are refused.
+-- Computed examples: texts of names, and texts that are rejected.
 use Rattle.std.proofs.Common.{[], ◌∷◌, ◌<◌, length, arith, refl, inl, inr, Err}
 use Rattle.std.specs.Prelude.{codes}
 use Rattle.std.specs.Char.{encode_utf8}

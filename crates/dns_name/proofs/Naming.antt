@@ -1,4 +1,4 @@
--- A name's text that has been read in part.
+-- The text of a name that has been parsed in part.
 use Rattle.std.proofs.Common.{◌≡◌, ℕ, ◌<◌, ◌≤◌, true, false, List, [], ◌∷◌, ◌++◌, length, map, refl, sym, ap, ◌∙◌, arith, append_assoc, append-nil, length-append, Ok}
 use Rattle.std.specs.Prelude.{not}
 use Rattle.std.specs.List.{flat_map, AllZip}
@@ -106,7 +106,7 @@ named_dot text labels current h some = record {
         ∙ ap (λ t. dotted h.names.spellings ++ t) (sym (append-nil (h.names.last ++ Char 46 ∷ [])))
         ∙ sym (flat_map-append (λ spelling. spelling ++ Char 46 ∷ []) h.names.spellings (h.names.last ∷ [])) ∙ sym (append-nil (dotted (h.names.spellings ++ h.names.last ∷ [])))
 
--- what stood at the end goes on
+-- the name at the end extended by what follows
 pub named_on : (text : List ℕ) (labels : List (List ℕ)) (current rest more : List ℕ) → HasNamed text labels current rest → HasNamed (text ++ more) labels current (rest ++ more)
 named_on text labels current rest more h = record {
   symbols = h.symbols;
@@ -115,7 +115,7 @@ named_on text labels current rest more h = record {
   names = h.names;
 }
 
--- where nothing was named, nothing was read
+-- if nothing was named, nothing was read
 no_zip : (ps : List (List Symbol)) → AllZip SpellsLabel ps [] → ps ≡ []
 no_zip [] h = refl
 no_zip (p ∷ ps) h = absurd h

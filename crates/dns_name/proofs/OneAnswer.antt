@@ -1,4 +1,4 @@
--- A text has one answer where it is known how many octets fit.
+-- Parsing a text has one result if the capacity is known exactly.
 use Rattle.std.proofs.Common.{◌≡◌, ℕ, ◌+◌, ◌<◌, ◌≤◌, Bool, true, false, List, [], ◌∷◌, ◌++◌, length, refl, sym, ap, subst, ◌∙◌, arith, append_assoc, append-nil, length-append, Some, Result, Ok}
 use Rattle.std.proofs.Common.{Err, ⊎_elim}
 use Rattle.std.specs.Prelude.{◌==◌, if◌then◌else◌}
@@ -29,7 +29,7 @@ use Rattle.dns_name.proofs.Runs.{State, Steps, Runs, Short, size_of, steps_same,
 use Rattle.dns_name.proofs.OneName.{zip_short}
 use Rattle.dns_name.proofs.WholeName.{named_empty}
 
--- what stands next in a text: nothing, what is no symbol, or a symbol and what follows it
+-- what comes next in a text: nothing, no symbol, or a symbol and what follows it
 data Next : Type 0 where
   at_end : Next
   at_error : SymbolCharsError → Next
@@ -56,7 +56,7 @@ next_same rest (at_symbol x more) (at_symbol y after) p q =
 abbrev Within : ℕ → State → Type 0
 Within size s = (size_of s ≤ 254) × (size_of s ≤ size) × Short s
 
--- no symbol that stands next leads on within them
+-- no symbol that comes next leads on within them
 abbrev IsStuck : ℕ → State → Next → Type 0
 IsStuck size s at_end = Unit {0}
 IsStuck size s (at_error e) = Unit {0}
@@ -65,7 +65,7 @@ IsStuck size s (at_symbol x after) = (t : State) → Steps s x t → Within size
 runs_within : (size : ℕ) (xs : List Symbol) (s t : State) → Runs s xs t → Within size t → Within size s
 runs_within size xs s t p h = let g = runs_grow xs s t p in (omega (arith, g, h.0), omega (arith, g, h.1), runs_short xs s t p h.2)
 
--- where a reader stands that was stuck
+-- the state of a stuck parser
 record Stop (size : ℕ) (text : List ℕ) (s : State) (rest : List ℕ) (next : Next) : Type 0 where
   symbols : List Symbol
   readable : list_all is_readable symbols ≡ true
@@ -162,7 +162,7 @@ module _ (O : Type 0) (size : ℕ) where
   abbrev Answer : Type 0
   Answer = Result (UncertainName O) FromStrError
 
-  -- the one answer of a reader that is stuck, by its state and what stands next
+  -- the one result of a stuck parser, by its state and what comes next
   abbrev end_answer : List (List ℕ) → List ℕ → Answer
   end_answer labels (c ∷ cs) = Ok (Relative (labels ++ (c ∷ cs) ∷ []))
   end_answer [] [] = Ok (Relative [])
@@ -215,7 +215,7 @@ module _ (O : Type 0) (size : ℕ) where
   empty_label (l ∷ ls) after h = refl
 
   module _ (text : List ℕ) where
-    -- the reader's place that an answer speaks of
+    -- the state of the parser for a result
     abbrev Stopped : Answer → Type 0
     Stopped r = (s : State) × (rest : List ℕ) × (next : Next) × Stop size text s rest next × (r ≡ answer s next)
 

@@ -1,4 +1,4 @@
--- A text reads as one name, and a text that is a name's is refused by nothing but lack of room.
+-- A text parses as one name, and a text that is a name's fails only with `ShortBuf`.
 use Rattle.std.proofs.Common.{◌≡◌, ℕ, ◌+◌, ◌<◌, ◌≤◌, ◌⊎◌, true, List, [], ◌∷◌, ◌++◌, length, refl, sym, ap, subst, ◌∙◌, arith, append_assoc, append-nil, length-append, Some, Result, Ok, Err, inl}
 use Rattle.std.proofs.Common.{inr, ⊎_elim}
 use Rattle.std.specs.Prelude.{All}
@@ -20,7 +20,7 @@ use Rattle.dns_name.specs.declared.name.error.FromStrError.TheVariants.{Symbol a
 use Rattle.dns_name.proofs.Naming.{dot_bytes}
 use Rattle.dns_name.proofs.Runs.{State, Steps, Runs, Short, size_of, runs_part, runs_same, runs_grow, runs_short, names_run}
 
--- symbols at the front of a text are the first of its symbols
+-- symbols at the beginning of a text are the first of its symbols
 front_symbols : (xs ys : List Symbol) (rest : List ℕ) → list_all is_readable xs ≡ true → list_all is_readable ys ≡ true → flat_map bytes xs ++ rest ≡ flat_map bytes ys
     → (others : List Symbol) × (ys ≡ xs ++ others) × (rest ≡ flat_map bytes others) × (list_all is_readable others ≡ true)
 front_symbols [] ys rest p q h = (ys, refl, h, q)
@@ -51,7 +51,7 @@ module _ (text : List ℕ) (labels : List (List ℕ)) (current : List ℕ) (whol
   short : Short end
   short = (zip_short whole.names.spellings labels whole.names.finished, whole.names.opened.short)
 
-  -- what stands after a front of it
+  -- what follows a prefix of it
   pub goes_on : (front : List (List ℕ)) (last rest : List ℕ) → HasNamed text front last rest
       → (others : List Symbol) × (rest ≡ flat_map bytes others) × (list_all is_readable others ≡ true) × Runs (front, last) others end
   goes_on front last rest h =
@@ -78,7 +78,7 @@ same_result : (a b : ℕ) (r : Result ℕ BadSymbol) → r ≡ Ok a → r ≡ Ok
 same_result a b r p q = let e = sym p ∙ q in cc
 
 module _ (text : List ℕ) (labels : List (List ℕ)) (current : List ℕ) (whole : HasNamed text labels current []) where
-  -- the octet of a symbol that stands next
+  -- the octet of the next symbol
   next_octet : (front : List (List ℕ)) (last : List ℕ) (octet : ℕ) → HasNamedNext text front last octet
       → (wire_length (front ++ closed (last ++ octet ∷ [])) ≤ wire_length (labels ++ closed current)) × (length last < 63)
   next_octet front last octet h =
@@ -93,7 +93,7 @@ module _ (text : List ℕ) (labels : List (List ℕ)) (current : List ℕ) (whol
       (size, omega (arith, few, length-append last (octet ∷ []))))
       n.1
 
-  -- no refusal but lack of room
+  -- no error but `ShortBuf`
   pub refused_whole : (O : Type 0) (room : Room) (e : FromStrError) → (text ≡ 46 ∷ [] → ⊥) → ReadsName {O = O} room text (Err e)
       → (e ≡ ShortBuf) × ((room.fits < wire_length (labels ++ closed current)) ⊎ ((current ≡ []) × (labels ≡ [] → ⊥) × (room.fits < wire_length labels + 1)))
   refused_whole O room (NoSymbol e) root r =

@@ -24,7 +24,7 @@ use Rattle.dns_name.specs.declared.name.UncertainName.{UncertainName}
 use Rattle.dns_name.specs.declared.name.UncertainName.TheVariants.{Absolute, Relative}
 use Rattle.dns_name.proofs.Naming.{dot_bytes, named_none}
 
--- how octets are printed in labels: each by a readable symbol that stands for it, and is no plain dot and no escaped bracket
+-- how octets are printed in labels: each by a readable symbol with that value, neither a plain dot nor an escaped bracket
 pub record IsLabelForm (symbol : ℕ → Symbol) : Type 0 where
   pub stands : (o : ℕ) → octet_of (symbol o) ≡ Ok o
   pub readable : (o : ℕ) → o < 256 → is_readable (symbol o) ≡ true
@@ -101,7 +101,7 @@ pub All-end : (P : List ℕ → Type 0) (a : List (List ℕ)) (x : List ℕ) →
 All-end P [] x h = All-head P x [] h
 All-end P (y ∷ a) x h = All-end P a x (All-tail P y (a ++ x ∷ []) h)
 
--- the root stands only last, so no label before it is one
+-- the root may only be last, so every label before it has octets
 pub before_root : (front : List (List ℕ)) → ((a b : List (List ℕ)) → front ++ [] ∷ [] ≡ a ++ [] ∷ b → b ≡ []) → All (λ label. 0 < length label) front
 before_root [] h = λ k d lt. absurd (omega arith)
 before_root ([] ∷ xs) h = absurd (some xs (h [] (xs ++ [] ∷ []) refl))

@@ -1,4 +1,4 @@
--- Characters that were taken from a source, and the name that they are a text of.
+-- Characters that were consumed from a source, and the name that they are a text of.
 use Rattle.std.proofs.Common.{◌≡◌, ℕ, ◌+◌, ◌<◌, ◌≤◌, true, false, List, [], ◌∷◌, ◌++◌, length, refl, sym, ap, subst, ◌∙◌, arith, append_assoc, append-nil, length-append, Option, Some, None}
 use Rattle.std.proofs.Common.{Result, Ok, Err, inl, inr, ⊎_elim}
 use Rattle.std.specs.Prelude.{encode_utf8_all, IsTrue, is_some}
@@ -31,7 +31,7 @@ module _ {S : Type 0} (steps : S → Option ℕ → S → Type 0) where
   joined [] ys s t u p q = subst (λ v. Yields steps v ys u) (sym p) q
   joined (x ∷ xs) ys s t u p q = (p.0, p.1, joined xs ys p.0 t u p.2 q)
 
-  -- what was taken on the way from s to t, and its name
+  -- what was consumed from s to t, and its name
   pub record Taken (room : Room) (s t : S) (b : Naming) : Type 0 where
     pub taken : List ℕ
     pub given : Yields steps s taken t
@@ -61,7 +61,7 @@ module _ {S : Type 0} (steps : S → Option ℕ → S → Type 0) where
       within = subst (λ l. wire_length l ≤ room.capacity) (sym (append-nil (all_labels b))) h.within;
     }
 
-    -- what stands before a symbol that is refused
+    -- what precedes a symbol that is rejected
     before : (x : Symbol) (more : List ℕ) → is_readable x ≡ true → is_dot x ≡ false
         → HasNamedBefore (encode_utf8_all ((h.taken ++ spell x) ++ more)) b.labels b.current x
     before x more readable no_dot = record {
@@ -101,7 +101,7 @@ module _ {S : Type 0} (steps : S → Option ℕ → S → Type 0) where
           by EmptyLabel f r = absurd r
           by (NoSymbol c) f r = absurd r
 
-      -- where no symbol follows
+      -- if no symbol follows
       pub refused_text : (e : SymbolCharsError) → ReadsSymbol steps t (Err e) u → ReadsChars {O = O} steps s room (Err (NoSymbol e))
       refused_text ShortInput r =
           let cut = r.0 in (
@@ -138,7 +138,7 @@ module _ {S : Type 0} (steps : S → Option ℕ → S → Type 0) where
             ),
           )
 
-      -- a dot where no label is open, and characters before or after it
+      -- a dot without an open label, and characters before or after it
       dot_more : (more : List ℕ) → encode_utf8_all ((h.taken ++ 46 ∷ []) ++ more) ≡ encode_utf8_all h.taken ++ (46 ∷ encode_utf8_all more)
       dot_more more =
           encodes-append (h.taken ++ 46 ∷ []) more ∙ ap (λ l. l ++ encode_utf8_all more) encoded_dot
@@ -246,7 +246,7 @@ module _ {S : Type 0} (steps : S → Option ℕ → S → Type 0) where
           by (Err EmptyLabel) none some m = absurd m
           by (Err (NoSymbol e)) none some m = absurd m
 
--- before anything was taken
+-- before anything was consumed
 pub taken_none : {S : Type 0} (steps : S → Option ℕ → S → Type 0) (room : Room) (s : S) (b : Naming) → b ≡ no_labels → Taken steps room s s b
 taken_none steps room s b is = subst (λ n. Taken steps room s s n) (sym is) (record { taken = []; given = refl; named = named_none; within = omega arith })
 
@@ -277,7 +277,7 @@ open_some (x ∷ xs) h = omega arith
 pub some_labels : (b : Naming) → (all_labels b ≡ [] → IsTrue false) → b.current ≡ [] → b.labels ≡ [] → ⊥
 some_labels b h none nothing = let e : false ≡ true = h (no_current b none nothing) in cc
 
--- a call that gave nothing, or something
+-- a call that returned nothing, or something
 pub none_given : {S : Type 0} (steps : S → Option ℕ → S → Type 0) (s t : S) (r : Option ℕ) → steps s r t → false ≡ is_some r → steps s None t
 none_given steps s t None h e = h
 none_given steps s t (Some x) h e = absurd cc

@@ -1,4 +1,4 @@
--- A text that is a name's reads as it, where its octets surely fit.
+-- A text that is a name's parses as it, if its octets fit the guaranteed capacity.
 use Rattle.std.proofs.Common.{◌≡◌, ℕ, ◌<◌, ◌≤◌, ◌⊎◌, inl, inr, true, List, [], ◌∷◌, ◌++◌, length, refl, sym, ap, subst, ◌∙◌, arith, append_assoc, append-nil, length-append, Result, Ok, Err, ⊎_elim}
 use Rattle.std.specs.List.{flat_map, list_all}
 use Rattle.std.proofs.lemmas.Bool.{and_parts}
@@ -20,7 +20,7 @@ use Rattle.dns_name.proofs.Naming.{dot_bytes}
 use Rattle.dns_name.proofs.Runs.{State, Runs, names_run}
 use Rattle.dns_name.proofs.OneName.{goes_on, refused_whole}
 
--- before the dot of the root stands nothing
+-- nothing precedes the dot of the root
 root_front : (labels : List (List ℕ)) (current rest : List ℕ) → HasNamed (46 ∷ []) labels current rest → (labels ≡ []) × (rest ≡ 46 ∷ [])
 root_front labels current rest h = by h.symbols h.readable h.spelled (names_run h.symbols labels current h.names)
   where

@@ -16,10 +16,10 @@ module _ {L R : Type 0} {l : Ghosts L} {r : Ghosts R} where
   abbrev pub IsChainOf : L → R → Chain L R l r → Type 0
   IsChainOf left right c = (left_of c ≡ left) × (right_of c ≡ right)
 
--- two names are no longer together than a name may be
+-- two names together don't exceed the maximum length of a name
 abbrev pub FitTogether : List (List ℕ) → List (List ℕ) → Type 0
 FitTogether left right = wire_length left + wire_length right ≤ max_name
 
--- no value is refused
+-- every value is accepted
 abbrev pub NeverFails : {A : Type 0} → (A → Type 0) → Type 0
 NeverFails {A} is_infallible = (v : A) → is_infallible v

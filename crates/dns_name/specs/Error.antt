@@ -1,4 +1,4 @@
--- The texts of errors, and what becomes of those of the layer below.
+-- The texts of errors, and their conversion from the errors of the layer below.
 use Rattle.std.specs.Prelude.{ℕ, List, codes}
 use Rattle.dns_symbol.specs.Symbol.{chars_error_text}
 use Rattle.dns_wire.specs.declared.error.SplitLabelError.{SplitLabelError}

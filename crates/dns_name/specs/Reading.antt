@@ -1,4 +1,4 @@
--- Reading a name from its text (RFC 1035 section 5.1).
+-- Parsing a name from its text (RFC 1035 section 5.1).
 use Rattle.std.specs.Prelude.{◌≡◌, ◌≢◌, ◌⊎◌, ℕ, ◌+◌, ◌<◌, ◌≤◌, Bool, true, false, ◌==◌, not, List, [], ◌∷◌, ◌++◌, length, map, All, Option, Some, Result, Ok, Err, encode_utf8_all}
 use Rattle.std.specs.List.{flat_map, list_all, AllZip}
 use Rattle.std.specs.Iterator.{Yields, Drains}
@@ -24,11 +24,11 @@ is_dot (Char c) = c == dot
 is_dot (SimpleEscape o) = false
 is_dot (DecimalEscape o) = false
 
--- an escaped opening bracket, which makes a label binary where it comes first (RFC 2673)
+-- an escaped opening bracket, which makes a label binary if it comes first (RFC 2673)
 abbrev pub bracket : Symbol
 bracket = SimpleEscape 91
 
--- the symbols of a label: none is a plain dot, the first is no bracket, and their octets are at most 63
+-- the symbols of a label: no plain dot, no bracket at the beginning, and at most 63 octets
 pub record SpellsLabel (spelling : List Symbol) (label : List ℕ) : Type 0 where
   pub octets_are : map octet_of spelling ≡ map Ok label
   pub no_dot : list_all (λ x. not (is_dot x)) spelling ≡ true
@@ -50,21 +50,21 @@ pub record Names (symbols : List Symbol) (labels : List (List ℕ)) (current : L
   pub some : All (λ label. 0 < length label) labels
   pub fits : wire_length (labels ++ closed current) ≤ max_relative
 
--- the text begins with symbols that name these labels and the open one, and leaves the rest
+-- the text begins with symbols that name these labels and the open one, and continues with the rest
 pub record HasNamed (text : List ℕ) (labels : List (List ℕ)) (current rest : List ℕ) : Type 0 where
   pub symbols : List Symbol
   pub readable : list_all is_readable symbols ≡ true
   pub spelled : text ≡ flat_map bytes symbols ++ rest
   pub names : Names symbols labels current
 
--- the same, where the next symbol is x, which is no plain dot
+-- the same, where the next symbol is x, other than a plain dot
 pub record HasNamedBefore (text : List ℕ) (labels : List (List ℕ)) (current : List ℕ) (x : Symbol) : Type 0 where
   pub rest : List ℕ
   pub named : HasNamed text labels current (bytes x ++ rest)
   pub readable : is_readable x ≡ true
   pub no_dot : is_dot x ≡ false
 
--- the same, where the symbol gives the open label one more octet
+-- the same, if the symbol extends the open label by an octet
 abbrev pub HasNamedNext : List ℕ → List (List ℕ) → List ℕ → ℕ → Type 0
 HasNamedNext text labels current octet =
     (x : Symbol) × HasNamedBefore text labels current x × (current ≡ [] → x ≢ bracket) × (octet_of x ≡ Ok octet)
@@ -78,7 +78,7 @@ module _ {O : Type 0} where
       ((text ≡ dot ∷ []) × (name ≡ [] ∷ []))
       ⊎ ((labels : List (List ℕ)) × HasNamed text labels [] [] × (labels ≢ []) × (name ≡ labels ++ [] ∷ []))
 
-  -- what reading a text answers, in a builder with that room: its name, or the refusal of the earliest symbol, with the
+  -- the result of parsing a text with a builder of that room: its name, or the error of the earliest symbol, with the
   -- labels before it
   abbrev pub ReadsName : Room → List ℕ → Result (UncertainName O) FromStrError → Type 0
   ReadsName room text (Ok name) = ReadsAs text name × (wire_length (labels_of name) ≤ room.capacity)
@@ -105,13 +105,13 @@ module _ {O : Type 0} where
       ⊎ (((text ≡ dot ∷ []) × (room.fits < 1))
       ⊎ ((labels : List (List ℕ)) × HasNamed text labels [] [] × (labels ≢ []) × (wire_length labels ≤ room.capacity) × (room.fits < wire_length labels + 1)))
 
-  -- what reading the characters of a source answers: they were taken up to the end, and their text has this answer; or some were taken,
+  -- the result of parsing the characters of a source: they were consumed up to the end, and their text has this result; or some were,
   -- and every text that begins with them has it
   abbrev pub ReadsChars : {S : Type 0} → (S → Option ℕ → S → Type 0) → S → Room → Result (UncertainName O) FromStrError → Type 0
   ReadsChars {S} steps s room result = (taken : List ℕ) ×
       ((Drains steps s taken × ReadsName room (encode_utf8_all taken) result)
       ⊎ ((t : S) × Yields steps s taken t × ((more : List ℕ) → ReadsName room (encode_utf8_all (taken ++ more)) result)))
 
-  -- a text that reads as a name is read as that name, where it surely fits
+  -- a text that is a name is parsed as that name, if it fits the guaranteed capacity
   abbrev pub ReadsWhatFits : Room → List ℕ → Result (UncertainName O) FromStrError → Type 0
   ReadsWhatFits room text r = (name : UncertainName O) → ReadsAs text name → wire_length (labels_of name) ≤ room.fits → r ≡ Ok name

@@ -13,11 +13,11 @@ use Rattle.dns_name.specs.declared.name.error.FromStrError.{FromStrError}
 use Rattle.dns_name.specs.declared.name.error.FromStrError.TheVariants.{Symbol as NoSymbol, BadOctet, BinaryLabel, EmptyLabel, LongLabel, LongName, ShortBuf}
 use Rattle.dns_wire.specs.Limits.{max_label, max_relative}
 
--- the symbol stands for the octet, and may stand next
+-- the symbol has that octet, and may come next
 abbrev pub GivesOctet : Naming → Symbol → ℕ → Type 0
 GivesOctet b x octet = (octet_of x ≡ Ok octet) × (b.current ≡ [] → x ≢ bracket)
 
--- what taking a symbol other than a plain dot answers, and what the builder then holds
+-- the result of a symbol other than a plain dot, and the state of the builder after it
 abbrev pub TakesSymbol : Room → Naming → Symbol → Result (Unit {0}) FromStrError → Naming → Type 0
 TakesSymbol room b x (Ok _) new =
     (octet : ℕ) × GivesOctet b x octet × (new ≡ with_octet b octet) × (wire_length (all_labels (with_octet b octet)) ≤ max_relative)
@@ -34,7 +34,7 @@ TakesSymbol room b x (Err EmptyLabel) new = ⊥
 TakesSymbol room b x (Err (NoSymbol e)) new = ⊥
 
 module _ {O : Type 0} where
-  -- what putting the root after the labels answers
+  -- the result of appending the root after the labels
   abbrev pub MakesAbsolute : Room → Naming → Result (UncertainName O) FromStrError → Type 0
   MakesAbsolute room b (Ok (Absolute name)) = (name ≡ all_labels b ++ [] ∷ []) × (wire_length (all_labels b) + 1 ≤ room.capacity)
   MakesAbsolute room b (Ok (Relative name)) = ⊥
@@ -46,7 +46,7 @@ module _ {O : Type 0} where
   MakesAbsolute room b (Err EmptyLabel) = ⊥
   MakesAbsolute room b (Err (NoSymbol e)) = ⊥
 
-  -- what the end of the text answers: a name with an open label, or without any, is relative
+  -- the result of the end of the text: a name with an open label, or without any, is relative
   abbrev pub Finishes : Room → Naming → Result (UncertainName O) FromStrError → Type 0
   Finishes room b result =
       ((name : List (List ℕ)) × (result ≡ Ok (Relative name)) × (name ≡ all_labels b) × (b.current ≡ [] → b.labels ≡ []))

@@ -46,7 +46,7 @@ module _ {O : Type 0} where
   is_name_of (Absolute name) h = h.0
   is_name_of (Relative name) h = h.0
 
-  -- the labels of a chain on it: its own, and where it is relative those of the name after it
+  -- the labels of a chain on it: its own, and if it is relative those of the name after it
   abbrev pub labels_after : UncertainName O → List (List ℕ) → List (List ℕ)
   labels_after (Absolute name) right = name
   labels_after (Relative name) right = name ++ right
@@ -89,7 +89,7 @@ module _ {O : Type 0} where
   same_uncertain_hash (Relative a) (Absolute b) h = absurd (true≢false (sym h))
   same_uncertain_hash (Relative a) (Relative b) h = ap (λ x. flat_map fed.u8 (wire x)) ((pointwise_decides bytes_decides (map lowered a) (map lowered b)).0 h)
 
-  -- what making a name from octets answers where they are few enough, by their count, the labels and the rest
+  -- the result of making a name from octets if they are few enough, by their number, the labels and the rest
   abbrev pub AnswersUncertain : ℕ → List (List ℕ) → List ℕ → Result (UncertainName O) UncertainDnameError → Type 0
   AnswersUncertain count labels rest (Ok (Absolute name)) = (rest ≡ 0 ∷ []) × (name ≡ labels ++ [] ∷ [])
   AnswersUncertain count labels rest (Ok (Relative name)) = (count ≤ max_relative) × (rest ≡ []) × (labels ≢ []) × (name ≡ labels)

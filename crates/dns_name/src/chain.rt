@@ -1,4 +1,4 @@
-//! Names one after another.
+//! Chains of names: a relative name followed by another name.
 ghost use Rattle.std.specs.Prelude.{◌≤◌, ◌++◌};
 ghost use Rattle.dns_wire.specs.Wire.{wire_length};
 ghost use Rattle.dns_wire.specs.Limits.{max_name};
@@ -20,7 +20,7 @@ pub use error::LongChainError;
 pub use iter::{ChainIter, UncertainChainIter};
 pub use uncertain::UncertainChain;
 
-/// A relative name and another name after it, of at most 255 octets together.
+/// A relative name followed by another name, of at most 255 octets together.
 #[derive(Drop)]
 pub struct Chain<L: ToRelativeName, R: ToLabelIter> {
     left: L,
@@ -33,8 +33,8 @@ impl<L: ToRelativeName, R: ToLabelIter> Chain<L, R> {
     ghost use Rattle.dns_wire.specs.Shown.{dotted_name};
     ghost use Rattle.dns_name.specs.Chain.{FitTogether, IsChainOf, NeverFails, left_of, right_of};
 
-    /// The left name with the right one after it, or [`LongChainError`] where both together have
-    /// more than 255 octets.
+    /// Returns the left name followed by the right one. Fails with [`LongChainError`] if both
+    /// together exceed 255 octets.
     #[tactic(auto, using(dns_wire::proofs::Wires::wire_length_append))]
     pub fn new(left: L, right: R) -> Result<Self, LongChainError>
     where
@@ -49,8 +49,8 @@ impl<L: ToRelativeName, R: ToLabelIter> Chain<L, R> {
         Ok(Chain { left, right })
     }
 
-    /// This chain with another name after it, or [`LongChainError`] where all together have more
-    /// than 255 octets.
+    /// Returns this chain followed by another name. Fails with [`LongChainError`] if all together
+    /// exceed 255 octets.
     pub fn chain<T: ToLabelIter + Drop>(self, other: T) -> Result<Chain<Self, T>, LongChainError>
     where
         L: Drop,
@@ -62,28 +62,28 @@ impl<L: ToRelativeName, R: ToLabelIter> Chain<L, R> {
         Chain::new(self, other)
     }
 
-    /// The left name and the right one.
+    /// Returns the left name and the right one.
     pub fn unwrap(self) -> (L, R)
         ensures { (result.0 ≡ left_of self) × (result.1 ≡ right_of self) }
     {
         (self.left, self.right)
     }
 
-    /// The labels of the left name and then those of the right one.
+    /// Returns an iterator over the labels of the left name and then those of the right one.
     pub fn iter_labels(&self) -> ChainIter<'_, L, R>
         ensures { result ≡ L.labels (left_of self.now) ++ R.labels (right_of self.now) }
     {
         ChainIter::new(self)
     }
 
-    /// Shows the labels with a dot at the end where the right name is absolute.
+    /// Returns the chain for printing, with a dot at the end if the right name is absolute.
     pub fn fmt_with_dot(&self) -> DisplayWithDot<'_, Self>
         ensures { dotted_name result ≡ self.now }
     {
         DisplayWithDot::new(self)
     }
 
-    /// A clone of the chain, refused only where cloning one of its names is.
+    /// Clones the chain. Fails only if the clone of one of its names fails.
     pub fn clone(&self) -> Result<Self, AllocError>
     where
         L: Clone,
@@ -103,7 +103,8 @@ impl<L: ToRelativeName, R: ToLabelIter> Chain<L, R> {
 impl<L: ToRelativeName, R: ToName> Chain<L, R> {
     ghost use Rattle.dns_scan.specs.Tokens.{ScansToken};
 
-    /// Scans a chain with a scanner whose names are such chains.
+    /// Parses a chain from the next token of a scanner whose names are such chains. Fails as the
+    /// scanner's `scan_name` does.
     pub fn scan<S: Scanner<Name = Self>>(scanner: &mut S) -> Result<Self, S::Error>
         requires { S.can_scan scanner.old }
         ensures ready { S.can_scan scanner.new }
@@ -178,7 +179,7 @@ where
     }
 }
 
-/// The labels joined by dots, without a dot at the end; a lone root is one dot.
+/// Prints the labels joined by dots, without a dot at the end. The root alone is one dot.
 impl<L: ToRelativeName, R: ToLabelIter> fmt::Display for Chain<L, R> {
     ghost use Rattle.std.specs.Prelude.{Some, encode_utf8_all, ◌++◌};
     ghost use Rattle.dns_wire.specs.Printed.{undotted_text};

@@ -1,4 +1,4 @@
-//! Laws of names and their text.
+//! Laws of names and their presentation format.
 ghost use Rattle.std.specs.Prelude.{ℕ, ◌≡◌, ◌↔◌, ◌⊎◌, true, map, Result, Ok, Err, encode_utf8_all};
 ghost use Rattle.std.specs.Hash as fed;
 ghost use Rattle.std.specs.List.{flat_map};
@@ -17,7 +17,8 @@ ghost use Rattle.dns_name.specs.declared.name.error.UncertainDnameError.{Uncerta
 use crate::name::UncertainName;
 use dns_octets::AsOctets;
 
-/// The printed text of a name reads as it: the same labels, and absolute exactly if it is.
+/// The printed text of a name parses as the same name: with the same labels, and absolute exactly
+/// if it is.
 pub fn printed_name_reads_back<Octets: AsOctets>(name: &UncertainName<Octets>)
     ensures { ReadsAs (encode_utf8_all (dotted_text (labels_of name.now))) name.now }
 {
@@ -25,8 +26,8 @@ pub fn printed_name_reads_back<Octets: AsOctets>(name: &UncertainName<Octets>)
     let _octets = AsOctets::as_slice(name);
 }
 
-/// The zone text of a name reads as it, whatever octets its labels have. An empty relative name has
-/// no text, which is what reads as it.
+/// The zone file text of a name parses as the same name, whatever octets its labels have. An empty
+/// relative name prints as the empty text, which parses as it.
 pub fn zone_text_reads_back<Octets: AsOctets>(name: &UncertainName<Octets>)
     ensures { ReadsAs (zone_text (labels_of name.now)) name.now }
 {
@@ -34,7 +35,7 @@ pub fn zone_text_reads_back<Octets: AsOctets>(name: &UncertainName<Octets>)
     let _octets = AsOctets::as_slice(name);
 }
 
-/// A text reads as one name alone.
+/// A text parses as at most one name.
 pub fn texts_have_one_name<Octets: AsOctets>(text: &str, name: &UncertainName<Octets>)
     ensures { (other : UncertainName Octets)
         → ReadsAs text.now name.now → ReadsAs text.now other → other ≡ name.now }
@@ -43,8 +44,7 @@ pub fn texts_have_one_name<Octets: AsOctets>(text: &str, name: &UncertainName<Oc
     let _name = name;
 }
 
-/// Whatever room there is, a text that reads as a name is read as that name or refused for lack of
-/// room alone.
+/// For any capacity, a text that parses as a name is parsed as that name, or fails with `ShortBuf`.
 pub fn names_are_read<Octets: AsOctets>(text: &str, name: &UncertainName<Octets>)
     ensures { (room : Room) (answer : Result (UncertainName Octets) FromStrError)
         → ReadsName room text.now answer → ReadsAs text.now name.now → (answer ≡ Ok name.now) ⊎ (answer ≡ Err ShortBuf) }
@@ -53,7 +53,7 @@ pub fn names_are_read<Octets: AsOctets>(text: &str, name: &UncertainName<Octets>
     let _name = name;
 }
 
-/// Where it is known how many octets fit, a text has one answer: one name, or one refusal.
+/// If the capacity is known exactly, parsing a text has at most one result: a name or an error.
 pub fn texts_have_one_answer<Octets: AsOctets>(text: &str)
     ensures { (size : ℕ) (left right : Result (UncertainName Octets) FromStrError)
         → ReadsName (exactly size) text.now left → ReadsName (exactly size) text.now right → left ≡ right }
@@ -61,7 +61,7 @@ pub fn texts_have_one_answer<Octets: AsOctets>(text: &str)
     let _text = text;
 }
 
-/// Octets have one answer: one name of one kind, or one refusal.
+/// Parsing octets has at most one result: a name of one kind, or an error.
 pub fn octets_have_one_answer<Octets: AsOctets>(octets: &[u8])
     ensures { (left right : Result (UncertainName Octets) UncertainDnameError)
         → MakesUncertain octets.now left → MakesUncertain octets.now right → left ≡ right }
@@ -69,8 +69,8 @@ pub fn octets_have_one_answer<Octets: AsOctets>(octets: &[u8])
     let _octets = octets;
 }
 
-/// Names are equal exactly if they are of one kind and their labels agree in lower case, and equal
-/// names hash equally.
+/// Names are equal exactly if they are of the same kind and their labels agree in lower case. Equal
+/// names have equal hashes.
 pub fn equal_names<Octets: AsOctets>(left: &UncertainName<Octets>, right: &UncertainName<Octets>)
     ensures equal { (same_uncertain left.now right.now ≡ true)
         ↔ ((is_absolute left.now ≡ is_absolute right.now) × (map lowered (labels_of left.now) ≡ map lowered (labels_of right.now))) }

@@ -30,14 +30,14 @@ impl UncertainName<&[u8]> {
     ghost use Rattle.std.specs.Prelude.{◌≡◌, [], ◌∷◌};
     ghost use Rattle.dns_name.specs.declared.name.UncertainName.TheVariants.{Absolute, Relative};
 
-    /// The root over fixed octets. It takes no memory.
+    /// Returns the root, over static octets, without allocating.
     pub fn root_ref() -> UncertainName<&'static [u8]>
         ensures { result ≡ Absolute ([] ∷ []) }
     {
         UncertainName::Absolute(Name::root_ref())
     }
 
-    /// The relative name of no labels, over fixed octets.
+    /// Returns the relative name without labels, over static octets.
     pub fn empty_ref() -> UncertainName<&'static [u8]>
         ensures { result ≡ Relative [] }
     {
@@ -49,14 +49,15 @@ impl<A: Allocator + Copy> UncertainName<Vec<u8, A>> {
     ghost use Rattle.std.specs.Prelude.{◌≡◌, [], ◌∷◌, IfOk};
     ghost use Rattle.dns_name.specs.declared.name.UncertainName.TheVariants.{Absolute, Relative};
 
-    /// The root over a vector, or lack of memory for its one octet.
+    /// Returns the root over a vector. Fails with [`ShortBuf`] if the allocation of its one octet
+    /// fails.
     pub fn root_vec(alloc: A) -> Result<Self, ShortBuf>
         ensures { IfOk result (λ n. n ≡ Absolute ([] ∷ [])) }
     {
         UncertainName::root(alloc)
     }
 
-    /// The relative name of no labels over a vector. It takes no memory.
+    /// Returns the relative name without labels over a vector, without allocating.
     pub fn empty_vec(alloc: A) -> Self
         ensures { result ≡ Relative [] }
     {
@@ -72,21 +73,22 @@ impl<Octets: AsOctets> UncertainName<Octets> {
     ghost use Rattle.dns_name.specs.Conversions.{AnswersAbsolute};
     ghost use Rattle.dns_name.specs.declared.name.UncertainName.TheVariants.{Absolute, Relative};
 
-    /// This absolute name.
+    /// Returns the absolute name as an uncertain name.
     pub fn absolute(name: Name<Octets>) -> Self
         ensures { result ≡ Absolute name }
     {
         UncertainName::Absolute(name)
     }
 
-    /// This relative name.
+    /// Returns the relative name as an uncertain name.
     pub fn relative(name: RelativeName<Octets>) -> Self
         ensures { result ≡ Relative name }
     {
         UncertainName::Relative(name)
     }
 
-    /// The root, or lack of room for its one octet.
+    /// Returns the root. Fails with [`ShortBuf`] if its one octet doesn't fit or an allocation
+    /// fails.
     pub fn root(alloc: <Octets::Builder as EmptyBuilder>::Alloc) -> Result<Self, ShortBuf>
     where
         Octets: FromBuilder,
@@ -98,7 +100,7 @@ impl<Octets: AsOctets> UncertainName<Octets> {
         Ok(UncertainName::Absolute(Name::root(alloc)?))
     }
 
-    /// The relative name of no labels. It takes no memory.
+    /// Returns the relative name without labels, without allocating.
     pub fn empty(alloc: <Octets::Builder as EmptyBuilder>::Alloc) -> Self
     where
         Octets: FromBuilder,
@@ -108,13 +110,13 @@ impl<Octets: AsOctets> UncertainName<Octets> {
         UncertainName::Relative(RelativeName::empty(alloc))
     }
 
-    /// The name of these octets.
+    /// Parses a name in wire format, from all of the octets.
     ///
-    /// More than 255 octets are [`UncertainDnameError::LongName`]. Then labels are split off from
-    /// the front, as [`Label::split_from`] does. Octets that end in the root are an absolute name,
-    /// and those that end before it are a relative one, of at most 254 octets. No octets at all are
-    /// [`UncertainDnameError::ShortInput`], and octets after the root
-    /// [`UncertainDnameError::TrailingData`].
+    /// Fails with [`UncertainDnameError::LongName`] if there are more than 255 octets. Then splits
+    /// off labels one by one, and fails as [`Label::split_from`] does. Octets that end in the root
+    /// are an absolute name, and those that end without it are a relative one, of at most 254
+    /// octets. Fails with [`UncertainDnameError::ShortInput`] if there are no octets, and with
+    /// [`UncertainDnameError::TrailingData`] if octets follow the root.
     pub fn from_octets(octets: Octets) -> Result<Self, UncertainDnameError>
     where
         Octets: Drop,
@@ -145,21 +147,21 @@ impl<Octets: AsOctets> UncertainName<Octets> {
         }
     }
 
-    /// Whether the name ends in the root.
+    /// Returns whether the name ends in the root.
     pub fn is_absolute(&self) -> bool
         ensures { result ≡ is_absolute self.now }
     {
         matches!(self, UncertainName::Absolute(_))
     }
 
-    /// Whether the name is without the root.
+    /// Returns whether the name is without the root.
     pub fn is_relative(&self) -> bool
         ensures { IsTrue result ↔ (is_absolute self.now ≡ false) }
     {
         matches!(self, UncertainName::Relative(_))
     }
 
-    /// The absolute name, if it is one.
+    /// Returns the absolute name, or `None` if the name is relative.
     pub fn as_absolute(&self) -> Option<&Name<Octets>>
         ensures some { IsSome result ↔ (is_absolute self.now ≡ true) }
         ensures value { IfSome result (λ n. self.now ≡ Absolute n.now) }
@@ -170,7 +172,7 @@ impl<Octets: AsOctets> UncertainName<Octets> {
         }
     }
 
-    /// The relative name, if it is one.
+    /// Returns the relative name, or `None` if the name is absolute.
     pub fn as_relative(&self) -> Option<&RelativeName<Octets>>
         ensures some { IsSome result ↔ (is_absolute self.now ≡ false) }
         ensures value { IfSome result (λ n. self.now ≡ Relative n.now) }
@@ -181,7 +183,7 @@ impl<Octets: AsOctets> UncertainName<Octets> {
         }
     }
 
-    /// The absolute name, or a relative one back.
+    /// Returns the absolute name. A relative name is returned unchanged, as the error.
     pub fn try_into_absolute(self) -> Result<Name<Octets>, Self>
         ensures ok { IsOk result ↔ (is_absolute self ≡ true) }
         ensures value { MatchResult result (λ n. self ≡ Absolute n) (λ n. n ≡ self) }
@@ -192,7 +194,7 @@ impl<Octets: AsOctets> UncertainName<Octets> {
         }
     }
 
-    /// The relative name, or an absolute one back.
+    /// Returns the relative name. An absolute name is returned unchanged, as the error.
     pub fn try_into_relative(self) -> Result<RelativeName<Octets>, Self>
         ensures ok { IsOk result ↔ (is_absolute self ≡ false) }
         ensures value { MatchResult result (λ n. self ≡ Relative n) (λ n. n ≡ self) }
@@ -203,8 +205,8 @@ impl<Octets: AsOctets> UncertainName<Octets> {
         }
     }
 
-    /// The absolute name, or the relative one with the root after its labels. It is refused only by
-    /// [`PushError::ShortBuf`], where there is no room for the root.
+    /// Returns the absolute name, or the relative one with the root appended. Fails only with
+    /// [`PushError::ShortBuf`], if the root doesn't fit or an allocation fails.
     pub fn into_absolute(self) -> Result<Name<Octets>, PushError>
     where
         Octets: IntoBuilder,
@@ -217,7 +219,7 @@ impl<Octets: AsOctets> UncertainName<Octets> {
         }
     }
 
-    /// The octets, in the type that holds them.
+    /// Returns the octets in the type that holds them.
     pub fn as_octets(&self) -> &Octets
         ensures { Octets.octets result.now ≡ wire (labels_of self.now) }
     {
@@ -227,7 +229,7 @@ impl<Octets: AsOctets> UncertainName<Octets> {
         }
     }
 
-    /// The wire octets.
+    /// Returns the octets of the wire format.
     pub fn as_slice(&self) -> &[u8]
         ensures value { result.now ≡ wire (labels_of self.now) }
         ensures holds { IsUncertain self.now }
@@ -238,7 +240,7 @@ impl<Octets: AsOctets> UncertainName<Octets> {
         }
     }
 
-    /// The labels in order.
+    /// Returns an iterator over the labels in order.
     pub fn iter_labels(&self) -> NameIter<'_>
         ensures value { result ≡ labels_of self.now }
         ensures holds { IsUncertain self.now }
@@ -249,7 +251,7 @@ impl<Octets: AsOctets> UncertainName<Octets> {
         }
     }
 
-    /// A clone of the name, refused only where cloning its octets is.
+    /// Clones the name. Fails only if the clone of its octets fails.
     pub fn clone(&self) -> Result<Self, AllocError>
     where
         Octets: Clone,
@@ -263,9 +265,9 @@ impl<Octets: AsOctets> UncertainName<Octets> {
         }
     }
 
-    /// The chain of this name and another one. On a relative name it is [`LongChainError`] where
-    /// both together have more than 255 octets. An absolute name is the whole chain, whatever
-    /// follows it.
+    /// Returns the chain of this name and another one. Fails with [`LongChainError`] if this name
+    /// is relative and both together exceed 255 octets. If this name is absolute, it is the whole
+    /// chain, whatever follows it.
     pub fn chain<S: ToLabelIter + Drop>(
         self,
         suffix: S,

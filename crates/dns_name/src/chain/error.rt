@@ -1,10 +1,10 @@
-//! Why names are no chain.
+//! The error of making a chain of names.
 ghost use Rattle.std.specs.Prelude.{Some, codes};
 
 use std::error::Error;
 use std::fmt;
 
-/// Both names together have more than 255 octets.
+/// The names together exceed 255 octets.
 #[derive(Clone, Copy, Debug, PartialEq, Eq)]
 pub struct LongChainError;
 

@@ -1,11 +1,11 @@
-//! The labels of chains, from both ends.
+//! Iterators over the labels of chains, from both ends.
 use crate::chain::{Chain, UncertainChain};
 use dns_wire::{Label, ToLabelIter};
 use std::alloc::AllocError;
 use std::marker::Model;
 
-/// The labels of a name that are left, from both ends: calls from either end give each label once
-/// ([`labels_from_both_ends`](dns_wire::laws::labels_from_both_ends)).
+/// An iterator over the labels of a name, from both ends. Calls from either end yield each label
+/// once ([`labels_from_both_ends`](dns_wire::laws::labels_from_both_ends)).
 #[derive(Debug, Drop)]
 pub struct LabelIter<'a, N: ToLabelIter> {
     name: &'a N,
@@ -13,10 +13,10 @@ pub struct LabelIter<'a, N: ToLabelIter> {
     back: usize,
 }
 
-/// The labels of a chain that are left, from both ends.
+/// An iterator over the labels of a chain, from both ends.
 pub type ChainIter<'a, L, R> = LabelIter<'a, Chain<L, R>>;
 
-/// The labels of an uncertain chain that are left, from both ends.
+/// An iterator over the labels of an uncertain chain, from both ends.
 pub type UncertainChainIter<'a, Octets, R> = LabelIter<'a, UncertainChain<Octets, R>>;
 
 impl<'a, N: ToLabelIter> Model for LabelIter<'a, N> {
@@ -32,7 +32,7 @@ impl<'a, N: ToLabelIter> Model for LabelIter<'a, N> {
 impl<'a, N: ToLabelIter> LabelIter<'a, N> {
     ghost use Rattle.std.specs.Prelude.{◌≡◌};
 
-    /// All labels of a name.
+    /// Returns an iterator over all labels of a name.
     pub fn new(name: &'a N) -> Self
         ensures { result ≡ N.labels name.now }
     {

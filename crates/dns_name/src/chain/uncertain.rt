@@ -1,4 +1,4 @@
-//! Chains on uncertain names.
+//! Chains that begin with an uncertain name.
 ghost use Rattle.std.specs.Prelude.{◌≤◌};
 ghost use Rattle.dns_wire.specs.Wire.{wire_length};
 ghost use Rattle.dns_name.specs.Uncertain.{labels_after};
@@ -12,7 +12,7 @@ use dns_wire::{DisplayWithoutDot, Label, MAX_NAME, ToLabelIter, ToName};
 use std::alloc::AllocError;
 use std::fmt;
 
-/// An uncertain name, and another name after it where it is relative.
+/// An uncertain name, followed by another name if it is relative.
 #[derive(Drop)]
 pub struct UncertainChain<Octets: AsOctets, R: ToLabelIter> {
     left: UncertainName<Octets>,
@@ -25,8 +25,9 @@ impl<Octets: AsOctets, R: ToLabelIter> UncertainChain<Octets, R> {
     ghost use Rattle.dns_name.specs.UncertainChain.{HasNames, first_in_chain, second_in_chain};
     ghost use Rattle.dns_name.specs.Chain.{NeverFails};
 
-    /// The left name with the right one after it. On a relative name it is [`LongChainError`] where
-    /// both together have more than 255 octets. On an absolute one no length is checked.
+    /// Returns the left name followed by the right one. Fails with [`LongChainError`] if the left
+    /// name is relative and both together exceed 255 octets. If it is absolute, no length is
+    /// checked.
     #[tactic(auto, using(dns_wire::proofs::Wires::wire_length_append))]
     pub fn new(left: UncertainName<Octets>, right: R) -> Result<Self, LongChainError>
     where
@@ -42,14 +43,14 @@ impl<Octets: AsOctets, R: ToLabelIter> UncertainChain<Octets, R> {
         Ok(UncertainChain { left, right })
     }
 
-    /// The left name and the right one.
+    /// Returns the left name and the right one.
     pub fn unwrap(self) -> (UncertainName<Octets>, R)
         ensures { (result.0 ≡ first_in_chain self) × (result.1 ≡ second_in_chain self) }
     {
         (self.left, self.right)
     }
 
-    /// A clone of the chain, refused only where cloning one of its names is.
+    /// Clones the chain. Fails only if the clone of one of its names fails.
     pub fn clone(&self) -> Result<Self, AllocError>
     where
         Octets: Clone,
@@ -74,7 +75,8 @@ impl<Octets: AsOctets, R: ToName> UncertainChain<Octets, R> {
     ghost use Rattle.dns_name.specs.UncertainChain.{first_in_chain, second_in_chain};
     ghost use Rattle.dns_wire.specs.Shown.{dotted_name};
 
-    /// Scans a chain with a scanner whose names are such chains.
+    /// Parses a chain from the next token of a scanner whose names are such chains. Fails as the
+    /// scanner's `scan_name` does.
     pub fn scan<S: Scanner<Name = Self>>(scanner: &mut S) -> Result<Self, S::Error>
         requires { S.can_scan scanner.old }
         ensures ready { S.can_scan scanner.new }
@@ -84,14 +86,15 @@ impl<Octets: AsOctets, R: ToName> UncertainChain<Octets, R> {
         scanner.scan_name()
     }
 
-    /// The labels of the left name and then, where that is relative, those of the right one.
+    /// Returns an iterator over the labels of the left name and then, if that is relative, those of
+    /// the right one.
     pub fn iter_labels(&self) -> UncertainChainIter<'_, Octets, R>
         ensures { result ≡ labels_after (first_in_chain self.now) (R.labels (second_in_chain self.now)) }
     {
         UncertainChainIter::new(self)
     }
 
-    /// Shows the labels with the dot of the root at the end.
+    /// Returns the chain for printing, with the dot of the root at the end.
     pub fn fmt_with_dot(&self) -> DisplayWithDot<'_, Self>
         ensures { dotted_name result ≡ self.now }
     {
@@ -152,7 +155,7 @@ impl<Octets: AsOctets, R: ToName> ToName for UncertainChain<Octets, R> {
     ghost ends_in_root = { λ c h. after_ends (first_in_chain c) (R.labels (second_in_chain c)) h.0 (R.ends_in_root (second_in_chain c) h.1) };
 }
 
-/// The labels joined by dots, without a dot at the end; a lone root is one dot.
+/// Prints the labels joined by dots, without a dot at the end. The root alone is one dot.
 impl<Octets: AsOctets, R: ToName> fmt::Display for UncertainChain<Octets, R> {
     ghost use Rattle.std.specs.Prelude.{Some, encode_utf8_all};
     ghost use Rattle.dns_wire.specs.Printed.{undotted_text};

@@ -1,10 +1,11 @@
-//! The text of uncertain names.
+//! Prints uncertain names.
 use crate::name::UncertainName;
 use dns_octets::AsOctets;
 use dns_wire::DisplayWithDot;
 use std::fmt;
 
-/// The labels joined by dots, with a dot at the end of an absolute name. The root is one dot.
+/// Prints the labels joined by dots, with a dot at the end of an absolute name. The root is one
+/// dot.
 impl<Octets: AsOctets> fmt::Display for UncertainName<Octets> {
     ghost use Rattle.std.specs.Prelude.{Some, encode_utf8_all};
     ghost use Rattle.dns_wire.specs.Printed.{dotted_text};

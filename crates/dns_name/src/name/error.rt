@@ -1,20 +1,20 @@
-//! Why there is no name.
+//! Errors of parsing names in wire format and in presentation format.
 use dns_octets::ShortBuf;
 use dns_symbol::symbol::SymbolCharsError;
 use dns_wire::{LabelTypeError, PushError, SplitLabelError};
 use std::error::Error;
 use std::fmt;
 
-/// Why octets are no name.
+/// The error if octets aren't a name.
 #[derive(Clone, Copy, Debug, PartialEq, Eq)]
 pub enum UncertainDnameError {
-    /// A label has a lead octet of no known type.
+    /// A label has a lead octet of no known label type.
     BadLabel(LabelTypeError),
-    /// A pointer to another name stands in place of a label.
+    /// A compression pointer is in the place of a label.
     CompressedName,
-    /// There are more than 255 octets, or 255 and no root.
+    /// There are more than 255 octets, or 255 without the root.
     LongName,
-    /// Octets stand after the root.
+    /// Octets follow the root.
     TrailingData,
     /// There are no octets, or they end within a label.
     ShortInput,
@@ -65,10 +65,10 @@ impl From<SplitLabelError> for UncertainDnameError {
     }
 }
 
-/// Why no name was read from a text.
+/// The error if no name could be parsed from a text.
 #[derive(Clone, Copy, Debug, PartialEq, Eq)]
 pub enum FromStrError {
-    /// What stands in the text is no symbol.
+    /// The text doesn't continue with a symbol.
     Symbol(SymbolCharsError),
     /// A symbol has no octet.
     BadOctet,
@@ -76,11 +76,11 @@ pub enum FromStrError {
     BinaryLabel,
     /// A label has no octets.
     EmptyLabel,
-    /// A label has more than 63 octets.
+    /// A label exceeds 63 octets.
     LongLabel,
-    /// The labels without the root have more than 254 octets.
+    /// The labels without the root exceed 254 octets.
     LongName,
-    /// There was no room for the octets, or no memory.
+    /// The buffer is too small, or an allocation failed.
     ShortBuf,
 }
 

@@ -1,4 +1,4 @@
-//! Reading names from text.
+//! Parses names in presentation format.
 ghost use Rattle.std.specs.Prelude.{◌≡◌};
 ghost use Rattle.dns_name.specs.Reading.{is_dot};
 ghost use Rattle.dns_name.specs.ReadingSteps.{TakesSymbol, MakesAbsolute, Finishes};
@@ -14,7 +14,7 @@ fn is_dot(symbol: Symbol) -> bool
     matches!(symbol, Symbol::Char('.'))
 }
 
-// Takes a symbol other than a plain dot.
+// Adds the octet of a symbol other than a plain dot.
 fn push_symbol<B: OctetsBuilder + AsOctetsMut>(
     builder: &mut NameBuilder<B>,
     symbol: Symbol,
@@ -33,7 +33,7 @@ fn push_symbol<B: OctetsBuilder + AsOctetsMut>(
     }
 }
 
-// The name with the root after its labels.
+// Returns the name with the root appended.
 fn absolute<B: OctetsBuilder + FreezeBuilder + Drop>(
     builder: NameBuilder<B>,
 ) -> Result<UncertainName<B::Octets>, FromStrError>
@@ -45,7 +45,7 @@ fn absolute<B: OctetsBuilder + FreezeBuilder + Drop>(
     }
 }
 
-// The name at the end of the text.
+// Returns the name at the end of the text.
 fn finish<B: OctetsBuilder + FreezeBuilder + Drop>(
     builder: NameBuilder<B>,
 ) -> Result<UncertainName<B::Octets>, FromStrError>
@@ -63,19 +63,20 @@ impl<Octets: AsOctets> UncertainName<Octets> {
     ghost use Rattle.dns_name.specs.declared.name.UncertainName.{UncertainName};
     ghost use Rattle.dns_name.specs.Reading.{ReadsName, ReadsChars, ReadsWhatFits};
 
-    /// Reads a name from the characters of its text, which must end.
+    /// Parses a name in presentation format from characters, which must end.
     ///
-    /// The labels are the symbols between plain dots (RFC 1035 section 5.1). No text is the empty
-    /// relative name and one dot the root. Another name is absolute where its text ends in a plain
-    /// dot.
+    /// The labels are the symbols between plain dots (RFC 1035 section 5.1). The empty text is the
+    /// empty relative name, and one dot is the root. Any other name is absolute if its text ends in
+    /// a plain dot.
     ///
-    /// Symbols are read in order, and the first refusal is returned. What is no symbol is
-    /// [`FromStrError::Symbol`]. A plain dot after no octet of a label is
-    /// [`FromStrError::EmptyLabel`], also as the first of several characters. An escaped opening
-    /// bracket that begins a label is [`FromStrError::BinaryLabel`]. A symbol without an octet is
-    /// [`FromStrError::BadOctet`]. More than 254 octets before the root are
-    /// [`FromStrError::LongName`], more than 63 in a label [`FromStrError::LongLabel`]. Want of
-    /// room comes last.
+    /// Symbols are parsed in order, and the first error is returned. The error is
+    /// [`FromStrError::Symbol`] if the text doesn't continue with a symbol. It is
+    /// [`FromStrError::EmptyLabel`] if a plain dot ends an empty label, also if it is the first of
+    /// several characters. It is [`FromStrError::BinaryLabel`] if a label begins with an escaped
+    /// opening bracket. It is [`FromStrError::BadOctet`] if a symbol has no octet. It is
+    /// [`FromStrError::LongName`] if more than 254 octets precede the root, and
+    /// [`FromStrError::LongLabel`] if a label exceeds 63 octets. [`FromStrError::ShortBuf`] is
+    /// checked last, if the octets don't fit or an allocation fails.
     pub fn from_chars<C: Iterator<Item = char> + Drop>(
         alloc: <Octets::Builder as EmptyBuilder>::Alloc,
         chars: C,
@@ -109,7 +110,7 @@ impl<Octets: AsOctets> UncertainName<Octets> {
         finish(builder)
     }
 
-    /// Reads a name from its text, as [`from_chars`](Self::from_chars) does.
+    /// Parses a name in presentation format, as [`from_chars`](Self::from_chars) does.
     pub fn from_str(
         alloc: <Octets::Builder as EmptyBuilder>::Alloc,
         text: &str,

@@ -1,4 +1,4 @@
-//! Uncertain names as labels and as octets, and their comparison.
+//! The labels and octets of uncertain names, and their comparison.
 use crate::name::UncertainName;
 use dns_octets::{AsOctets, OctetsBuilder, ShortBuf};
 use dns_wire::{Label, Name, NameIter, RelativeName, ToLabelIter};
@@ -93,7 +93,8 @@ impl<'a, Octets: AsOctets> IntoIterator for &'a UncertainName<Octets> {
     }
 }
 
-/// Names are equal that are of one kind and whose labels are the same but for the case of letters.
+/// Names are equal if they are of the same kind and have the same labels without regard to the case
+/// of letters.
 impl<Octets: AsOctets> PartialEq for UncertainName<Octets> {
     ghost use Rattle.dns_name.specs.Uncertain.{same_uncertain, same_uncertain_equiv};
     ghost use Rattle.std.specs.Cmp.{partial_equiv_from_equiv};
@@ -117,7 +118,7 @@ impl<Octets: AsOctets> Eq for UncertainName<Octets> {
     ghost laws = { same_uncertain_equiv };
 }
 
-/// The labels are hashed one after another, in lower case.
+/// Hashes the labels one after another, in lower case.
 impl<Octets: AsOctets> Hash for UncertainName<Octets> {
     ghost use Rattle.std.specs.List.{flat_map};
     ghost use Rattle.std.specs.Hash as fed;

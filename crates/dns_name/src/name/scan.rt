@@ -1,4 +1,4 @@
-//! Scanning names.
+//! Parses uncertain names from a scanner.
 use crate::name::UncertainName;
 use dns_octets::AsOctets;
 use dns_scan::Scanner;
@@ -8,7 +8,7 @@ impl<Octets: AsOctets> UncertainName<Octets> {
     ghost use Rattle.dns_scan.specs.Tokens.{ScansToken};
     ghost use Rattle.dns_name.specs.Scanned.{ReadsUncertain};
 
-    /// Scans an absolute name: what the scanner's `scan_name` gives.
+    /// Parses an absolute name from the next token, as the scanner's `scan_name` does.
     pub fn scan<S: Scanner<Name = Name<Octets>>>(scanner: &mut S) -> Result<Self, S::Error>
         requires { S.can_scan scanner.old }
         ensures ready { S.can_scan scanner.new }
