@@ -1,4 +1,4 @@
--- From the calls at the symbols of a token to the answer.
+-- From the calls at the symbols of a token to the result.
 use Rattle.std.proofs.Common.{ℕ, ◌≡◌, ◌<◌, ◌≤◌, ◌+◌, List, [], ◌∷◌, ◌++◌}
 use Rattle.std.proofs.Common.{length, map, refl, sym, ap, subst, ◌∙◌, arith, append_assoc, append-nil, zero-add, length-append, ◌⊎◌, inl, inr, ⊎_elim, Option, Some, None, Result, Ok, Err}
 use Rattle.std.specs.Prelude.{IsOkAnd, IsErr, MatchResult}
@@ -23,7 +23,7 @@ module _ {E : Type 0} (cause : E → Cause) (given : Symbol → Result (List ℕ
     ends : error ≡ None
     fits : length c ≤ room.capacity
 
-  -- the first fault from b on
+  -- the first error from b on
   record Stopped (symbols : List Symbol) (error : Option SymbolCharsError) (b : List ℕ) (why : Cause) : Type 0 where
     front : List Symbol
     rest : List Symbol
@@ -33,7 +33,7 @@ module _ {E : Type 0} (cause : E → Cause) (given : Symbol → Result (List ℕ
     fits : length b + length (concat parts) ≤ room.capacity
     fault : IsSymbolFault given room (length b + length (concat parts)) rest error why
 
-  -- a step that went well, and one that refused
+  -- a step that succeeded, and one that failed
   stepped : (b c : List ℕ) (q : Result (List ℕ) (List ℕ)) → length b ≤ room.capacity → AppendsSymbol cause room q b (Ok tt) c → (o : List ℕ) × (q ≡ Ok o) × (c ≡ b ++ o) × (length c ≤ room.capacity)
   stepped b c (Ok o) small h = ⊎_elim (λ a. (o, refl, a.1, small_after o a.1 a.2)) (λ a. absurd a.0) h
     where
@@ -120,7 +120,7 @@ module _ {E : Type 0} (cause : E → Cause) (given : Symbol → Result (List ℕ
       → (symbols : List Symbol) × (error : Option SymbolCharsError) × SymbolsOf t symbols error × AnswersGiven given room cause octets symbols error r
   builds_read octets t r h = (h.asks.symbols, h.asks.error, h.asks.read, builds_answer octets t r h h.asks.symbols h.asks.error h.asks.read)
 
--- where memory is found, a builder with less room for certain answers as one with all of it
+-- unless an allocation fails, a builder of smaller guaranteed capacity has the result of a full one
 module _ (given : Symbol → Result (List ℕ) (List ℕ)) (room : Room) (size : ℕ) (small : room.capacity ≤ size) (symbols : List Symbol) (error : Option SymbolCharsError) where
   pub all_given_in : (octets : List ℕ) → AllGiven given room symbols error octets → AllGiven given (exactly size) symbols error octets
   all_given_in octets h = record { parts = h.parts; gives = h.gives; joined = h.joined; ends = h.ends; fits = omega (arith, small, h.fits) }

@@ -1,4 +1,4 @@
--- What an entry call does to a scanner, as calls for the tokens before which the scanner stands.
+-- The effect of an entry call on a scanner, as calls for the tokens that remain.
 use Rattle.std.proofs.Common.{List, [], ◌∷◌, ◌++◌, ◌≡◌, refl, sym, ap, subst, inl, inr, ⊎_elim, Option, Some, None, Result, Ok, Err}
 use Rattle.std.specs.Prelude.{IsErr, IsOk, MatchResult}
 use Rattle.dns_scan.specs.Entries.{TakesEach, ScansEntry}
@@ -29,7 +29,7 @@ err_not_ok (Ok u) e o = cc
 err_not_ok (Err x) e o = cc
 
 module _ {F E : Type 0} (call : F → Token → Result (Unit {0}) E → F → Type 0) where
-  -- what is left are the last tokens, and none where all went well
+  -- the last tokens remain, and none without an error
   pub left_of : (tokens : List Token) (f : F) (r : Result (Unit {0}) E) (rest : List Token) (g : F) → CallsTokens call tokens f r rest g
       → (front : List Token) × (tokens ≡ front ++ rest) × (IsOk r → rest ≡ [])
   left_of [] f r rest g h = ([], sym h.1, λ _. h.1)
@@ -47,7 +47,7 @@ module _ {F E : Type 0} (call : F → Token → Result (Unit {0}) E → F → Ty
       let left = left_of tokens f a turn.0 g turn.1 in
       (left.0, turn.0, left.1, (λ is. left.2 (ok is)), turn.2)
 
--- where a refusal before is the answer, an answer that is Ok came after none
+-- if an error before is the result, a result that is Ok came without one
 pub ok_before : {A B E : Type 0} (P : A → Type 0) (a : Result A E) (r : Result B E) → MatchResult a P (λ e. r ≡ Err e) → IsOk r → IsOk a
 ok_before P (Ok x) r h is = refl
 ok_before P (Err e) (Ok b) h is = cc

@@ -81,7 +81,7 @@ module _ {F E : Type 0} (cause : E → Cause) (step : F → Symbol → Result (U
       (λ k. absurd (not_err {E = E} (Ok tt) refl k.0))
       a
 
-  -- a refusal is one of the longer list too
+  -- an error is one of the longer list too
   calls_stop : (xs ys : List Symbol) (e : Option SymbolCharsError) (f g : F) (r : Result (Unit {0}) E) → IsErr r
       → CallsEach step xs (EndsAfterSymbols cause None) f r g → CallsEach step (xs ++ ys) (EndsAfterSymbols cause e) f r g
   calls_stop [] ys e f g r is a = absurd (not_err r a.1 is)
@@ -91,7 +91,7 @@ module _ {F E : Type 0} (cause : E → Cause) (step : F → Symbol → Result (U
       (λ k. inr k)
       a
 
-  -- where all went well, nothing stands after the symbols
+  -- without an error, nothing follows the symbols
   calls_end : (xs : List Symbol) (e : Option SymbolCharsError) (f g : F) → CallsEach step xs (EndsAfterSymbols cause e) f (Ok tt) g → e ≡ None
   calls_end [] None f g a = refl
   calls_end [] (Some x) f g a = absurd a.1
@@ -148,7 +148,7 @@ module _ {F E : Type 0} (cause : E → Cause) (step : F → Symbol → Result (U
       broken : HasBadEscape t → (m : F) → CallsEachSymbol cause step t f (Ok tt) m → ⊥
       broken b m a = not_bad t (one_end t f m a) b
 
-  -- where all went well, every token is symbols
+  -- without an error, every token is symbols
   pub all_symbols : (tokens : List Token) (f : F) (rest : List Token) (g : F)
       → CallsTokens (λ p t q s. CallsEachSymbol cause step t p q s) tokens f (Ok tt) rest g → AllByRecursion IsSymbols tokens
   all_symbols [] f rest g h = tt

@@ -1,4 +1,4 @@
--- The marker call, where it is known before which tokens a scanner stands.
+-- The marker call, if the remaining tokens of a scanner are known.
 use Rattle.std.proofs.Common.{◌≡◌, List, ◌∷◌, refl, sym, ◌∙◌, Option, Some, Result, Ok, Err, Bool, true, false}
 use Rattle.std.specs.Prelude.{◌≢◌, ◌↔◌, IsTrue, IsOkAnd}
 use Rattle.dns_scan.specs.Stands.{HasTokens, first_of, stands_takes}

@@ -81,7 +81,7 @@ module _ (limit : ℕ) where
     small = small;
   }
 
-  -- what goes on cs a number goes on by a digit that fits
+  -- a number is extended to a longer one by a digit that fits
   goes_on : (front rest : List Symbol) (next : Symbol) (v w : ℕ) → IsNumber limit front v → IsNumber limit (front ++ next ∷ rest) w → (d : ℕ) × (plain_digit_of next ≡ Some d) × (v * 10 + d ≤ limit)
   goes_on front rest next v w n m =
       let parts = parted front rest next m.digits m.plain in
@@ -105,7 +105,7 @@ module _ (limit : ℕ) where
           times zero m h = omega arith
           times (suc n) m h = let below = times n m h in let step : suc n * m ≡ m + n * m = ap (λ l. l * m) (omega arith) ∙ add-mul 1 n m ∙ omega arith in omega (arith, below, step)
 
-  -- so a number that can't go on is the longest
+  -- so a number that can't be extended is the longest
   no_number : (front rest : List Symbol) (next : Symbol) (v : ℕ) → IsNumber limit front v → ((d : ℕ) → plain_digit_of next ≡ Some d → limit < v * 10 + d)
       → (longer others : List Symbol) (w : ℕ) → front ++ next ∷ rest ≡ longer ++ others → IsNumber limit longer w → length longer ≤ length front
   no_number front rest next v n stops longer others w whole m =
@@ -115,7 +115,7 @@ module _ (limit : ℕ) where
       (λ ge. ge)
       (cases_lt (length front) (length longer))
     where
-      -- a longer beginning has the shorter one in front
+      -- a longer prefix begins with the shorter one
       cut_at : (front back longer others : List Symbol) → front ++ back ≡ longer ++ others → length front < length longer
           → (y : Symbol) × ((more : List Symbol) × (longer ≡ front ++ y ∷ more) × (back ≡ (y ∷ more) ++ others))
       cut_at [] back [] others e lt = absurd (omega arith)
@@ -135,7 +135,7 @@ module _ (limit : ℕ) where
           omega (arith, great, on.2)
 
   module _ {E : Type 0} (cause : E → Cause) where
-    -- the value that the calls left, or the refusal
+    -- the value after the calls, or the error
     abbrev pub left : Result (Unit {0}) E → ℕ → Result ℕ E
     left (Ok u) w = Ok w
     left (Err e) w = Err e

@@ -1,4 +1,4 @@
--- A token is read as a number in one way.
+-- Parsing a token as a number has at most one result.
 use Rattle.std.proofs.Common.{ℕ, ◌≡◌, List, [], ◌∷◌, ◌++◌, length, length-append, refl, sym, ap, subst, ◌∙◌, arith, append-nil, ⊎_elim, Option, Some, Result, Ok, Err}
 use Rattle.dns_symbol.specs.declared.symbol.Symbol.{Symbol}
 use Rattle.dns_symbol.specs.declared.error.SymbolCharsError.{SymbolCharsError}
@@ -28,7 +28,7 @@ module _ (limit : ℕ) where
       let count = ap length stop.whole ∙ length-append stop.front (stop.next ∷ stop.rest) in
       absurd (omega (arith, long, count))
 
-  -- lists cut at the same place
+  -- lists cut at the same index
   same_cut : (front back rest others : List Symbol) (x y : Symbol) → front ++ x ∷ rest ≡ back ++ y ∷ others → length front ≡ length back → (front ≡ back) × (x ≡ y)
   same_cut [] [] rest others x y e n = (refl, cc)
   same_cut [] (b ∷ bs) rest others x y e n = absurd (omega (arith, n))

@@ -1,4 +1,4 @@
--- Where the room is known, the symbols of a token are answered in one way.
+-- If the capacity is known exactly, converting the symbols of a token has one result.
 use Rattle.std.proofs.Common.{ℕ, ◌≡◌, ◌<◌, ◌≤◌, ◌+◌, List, [], ◌∷◌, ◌++◌, length, length-append, map, refl, sym, ap, subst, ◌∙◌, arith, append-nil, false, Option, Some, None, Result, Ok, Err, nat_lt}
 use Rattle.std.specs.Prelude.{if◌then◌else◌, MatchResult}
 use Rattle.std.specs.List.{concat}
@@ -15,7 +15,7 @@ use Rattle.dns_scan.specs.Steps.{octet_given}
 use Rattle.dns_scan.specs.Tokens.{Token}
 
 module _ (given : Symbol → Result (List ℕ) (List ℕ)) (size : ℕ) where
-  -- the first fault, as a function of the symbols
+  -- the first error, as a function of the symbols
   abbrev fault_by : Result (List ℕ) (List ℕ) → ℕ → (ℕ → Option Cause) → Option Cause
   fault_by (Ok o) count more = if nat_lt size (count + length o) then Some short_buf else more (count + length o)
   fault_by (Err text) count more = Some (custom_text text)
@@ -25,7 +25,7 @@ module _ (given : Symbol → Result (List ℕ) (List ℕ)) (size : ℕ) where
   fault_of count [] (Some e) = Some (custom_text (chars_error_text e))
   fault_of count (x ∷ xs) error = fault_by (given x) count (λ n. fault_of n xs error)
 
-  -- symbols that give octets with room for them, in front of others
+  -- symbols whose octets fit, before others
   passed : (front rest : List Symbol) (error : Option SymbolCharsError) (parts : List (List ℕ)) (count : ℕ) → map given front ≡ map Ok parts → count + length (concat parts) ≤ size
       → fault_of count (front ++ rest) error ≡ fault_of (count + length (concat parts)) rest error
   passed [] rest error [] count e fits = ap (λ n. fault_of n rest error) (omega arith)

@@ -1,4 +1,4 @@
--- Tokens are character strings in one way, and are answered as such.
+-- Parsing tokens as character strings has one result.
 use Rattle.std.proofs.Common.{ℕ, ◌≡◌, ◌<◌, ◌≤◌, ◌+◌, List, [], ◌∷◌, ◌++◌, length, map, refl, sym, ap, subst, ◌∙◌, arith, length-append, inl, inr, ⊎_elim, None, Result, Ok, Err, min}
 use Rattle.std.specs.Prelude.{All, MatchResult}
 use Rattle.std.specs.List.{concat, AllZip}
@@ -38,7 +38,7 @@ given_ones (x ∷ xs) (o ∷ os) e =
     λ i. bad_or (λ n. n ∷ []) (first i) ∷ given_ones xs os others i
 
 module _ (given : Symbol → Result (List ℕ) (List ℕ)) (room : Room) where
-  -- what the symbols after others give
+  -- the octets of the symbols after others
   passed : (front rest : List Symbol) (before parts : List (List ℕ)) → map given front ≡ map Ok before → map given (front ++ rest) ≡ map Ok parts
       → (after : List (List ℕ)) × (map given rest ≡ map Ok after) × (length (concat parts) ≡ length (concat before) + length (concat after))
   passed [] rest [] parts e f = (parts, f, omega arith)
@@ -61,7 +61,7 @@ module _ (given : Symbol → Result (List ℕ) (List ℕ)) (room : Room) where
       let fault = subst (λ q. MatchResult q (λ o. (room.fits < count + length o) × (why ≡ short_buf)) (λ text. why ≡ custom_text text)) first h in
       (fault.1, omega (arith, fault.0, length-append o (concat after)))
 
-  -- where all symbols give octets, only room can be wanting
+  -- if all symbols have octets, only capacity can be lacking
   fault_given : (symbols : List Symbol) (parts : List (List ℕ)) (why : Cause) → map given symbols ≡ map Ok parts → FirstFault given room symbols None why
       → (why ≡ short_buf) × (room.fits < length (concat parts))
   fault_given symbols parts why e h =
@@ -106,7 +106,7 @@ printed_read (t ∷ ts) (s ∷ ss) z b = (
     quoted = record { symbols = map (symbol_of is_quoted_escape) s; read = printed_symbols is_quoted_escape quoted_form s bytes; octets_are = printed_octets is_quoted_escape s }
 
 module _ (room : Room) where
-  -- a character string is refused for lack of room alone
+  -- a character string fails only with `ShortBuf`
   pub string_fault : (t : Token) (o : List ℕ) (count : ℕ) (why : Cause) → HasOctets t o → Short o → IsStringFault room count t why → (why ≡ short_buf) × (room.fits < count + length (wire_of o))
   string_fault t o count why has short (inl h) =
       let same = symbols_same t h.0 has.symbols h.1 None h.2 has.read in
@@ -135,7 +135,7 @@ module _ (room : Room) where
       let more = cut_at xs t rest ss z.1 (All-tail Short s ss short) in
       (s ∷ more.0, more.1, (z.0, more.2), more.3, more.4, omega (arith, more.5, length-append (wire_of s) (wires ss), length-append (wire_of s) (wires more.0)))
 
-  -- tokens that are character strings are answered by their wire forms, or for lack of room
+  -- tokens that are character strings are parsed as their wire formats, or fail with "short buffer"
   pub strings_whole : {O E : Type 0} (cause : E → Cause) (value : O → List ℕ) (tokens : List Token) (strings : List (List ℕ)) (r : Result O E) (rest : List Token)
       → AllZip HasOctets tokens strings → All Short strings → AnswersStrings room cause value tokens r rest → GivesWhere cause value room (wires strings) r
   strings_whole cause value tokens strings (Ok x) rest read short h = inl (h.0.joined ∙ ap wires (strings_same tokens h.0.strings strings h.0.read read))
@@ -149,7 +149,7 @@ module _ (room : Room) where
       → AllZip IsPrinted tokens strings → All (All (λ o. o < 256)) strings → All Short strings → AnswersStrings room cause value tokens r rest → GivesWhere cause value room (wires strings) r
   strings_printed cause value tokens strings r rest printed bytes short h = strings_whole cause value tokens strings r rest (printed_read tokens strings printed bytes) short h
 
--- where the room is known, tokens are answered in one way
+-- if the capacity is known exactly, parsing tokens has one result
 module _ (size : ℕ) where
   one_fault : (count : ℕ) (t : Token) (a b : Cause) → IsStringFault (exactly size) count t a → IsStringFault (exactly size) count t b → a ≡ b
   one_fault count t a b (inl h) (inl k) = let same = one_reading (min size 255) t (Err a) (Err b) h k in cc
@@ -157,7 +157,7 @@ module _ (size : ℕ) where
   one_fault count t a b (inr h) (inl k) = let same = one_reading (min size 255) t (Ok h.0) (Err b) h.1 k in cc
   one_fault count t a b (inr h) (inr k) = h.2 ∙ sym k.2
 
-  -- a first refusal has no other before it
+  -- no other error precedes a first error
   first_of_two : (front back : List Token) (t u : Token) (rest others : List Token) (before between : List (List ℕ)) (count : ℕ) (a b : Cause) → front ++ t ∷ rest ≡ back ++ u ∷ others
       → AllZip HasOctets front before → AllZip HasOctets back between → All Short before → All Short between → count + length (wires before) ≤ size → count + length (wires between) ≤ size
       → IsStringFault (exactly size) (count + length (wires before)) t a → IsStringFault (exactly size) (count + length (wires between)) u b → (a ≡ b) × (rest ≡ others)

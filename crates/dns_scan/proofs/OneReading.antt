@@ -1,4 +1,4 @@
--- What tokens are read as is a function of the tokens.
+-- Parsed values are functions of the tokens.
 use Rattle.std.proofs.Common.{ℕ, ◌≡◌, List, [], ◌∷◌, sym, ap, subst, ◌∙◌, inl, inr, Option, Some, None, Result, Ok, Err}
 use Rattle.std.specs.Prelude.{MatchOption}
 use Rattle.dns_octets.specs.Room.{exactly}

@@ -1,4 +1,4 @@
--- From what a call does to a scanner to what it reads of the tokens before it.
+-- From the effect of a call on a scanner to the result of the tokens that remained before it.
 use Rattle.std.proofs.Common.{ℕ, suc, ◌≡◌, ◌<◌, ◌+◌, List, [], ◌∷◌, length, drop, get_or, drop-cons, arith, ◌∙◌, refl, sym, ap, subst, inl, inr, Option, Some, None, Result, Ok, Err}
 use Rattle.std.specs.Prelude.{IsErrAnd, MatchOption}
 use Rattle.dns_octets.specs.Room.{Room}
@@ -45,7 +45,7 @@ module _ {S E : Type 0} (next : S → Option Token → S → Type 0) (cause : E 
       → (rest : List Token) × ReadsFirstToken (NumberReads limit) tokens (by_cause cause r) rest × HasTokens next new rest
   number_first limit = reads_first next cause (ScannedNumber cause limit) (NumberReads limit) (number_shows limit)
 
-  -- where the refusal is handed on
+  -- if the error is passed on
   pub number_refused : (limit : ℕ) (old : S) (e : E) (r : Result ℕ E) (new : S) → IsErrAnd r (λ y. y ≡ e) → ScansToken next cause (ScannedNumber cause limit) old (Err e) new
       → (tokens : List Token) → HasTokens next old tokens → (rest : List Token) × ReadsFirstToken (NumberReads limit) tokens (by_cause cause r) rest × HasTokens next new rest
   number_refused limit old e (Ok v) new same scans = absurd same
@@ -81,6 +81,6 @@ module _ {K V : Type 0} (reads : K → List Token → Result V Cause → List To
   pub turn_end : (all : List K) → all ≡ [] → (tokens : List Token) → ReadsInTurn reads all tokens [] None tokens
   turn_end all is tokens = subst (λ ks. ReadsInTurn reads ks tokens [] None tokens) (sym is) (refl, refl, refl)
 
--- the next of a list from a place on
+-- the next of a list from an index on
 pub next_at : {K : Type 0} (l : List K) (j : ℕ) (d : K) → j < length l → drop j l ≡ get_or l j d ∷ drop (j + 1) l
 next_at l j d less = let same : suc j ≡ j + 1 = omega arith in drop-cons l j d less ∙ ap (λ n. get_or l j d ∷ drop n l) same

@@ -36,7 +36,7 @@ module _ {E : Type 0} (cause : E → Cause) (room : Room) where
     joined : c ≡ b ++ wires strings
     fits : length c ≤ room.capacity
 
-  -- the first that was refused, from b on
+  -- the first that was rejected, from b on
   record Stopped (tokens : List Token) (b : List ℕ) (why : Cause) (rest : List Token) : Type 0 where
     front : List Token
     token : Token

@@ -1,4 +1,4 @@
--- From readings of character strings in turn to the tokens that they were read of.
+-- From character strings that are parsed in order to their tokens.
 use Rattle.std.proofs.Common.{ℕ, ◌≡◌, ◌≤◌, List, [], ◌∷◌, ◌++◌, length, map, refl, sym, ap, subst, ◌∙◌, arith, append_assoc, append-nil, ◌⊎◌, inl, inr, ⊎_elim, Option, Result, Ok, Err}
 use Rattle.std.specs.Prelude.{◌≢◌, All, IfOk, IsOkAnd, MatchResult}
 use Rattle.std.specs.List.{AllZip, concat}
@@ -18,7 +18,7 @@ use Rattle.dns_scan.specs.Tokens.{Token}
 use Rattle.dns_scan.proofs.OneEntry.{strings_same, string_fault, cut_at}
 use Rattle.dns_scan.proofs.StringRuns.{Short}
 
--- the octets of symbols, from what each gives
+-- the octets of symbols, from those of each
 octets_of : (symbols : List Symbol) (parts : List (List ℕ)) → map octet_given symbols ≡ map Ok parts → map octet_of symbols ≡ map Ok (concat parts)
 octets_of [] [] e = refl
 octets_of [] (p ∷ ps) e = cc
@@ -61,7 +61,7 @@ module _ (room : Room) where
       let more = front_of ts vs rest (subst (λ (m : List Token). ReadsSome Reads m vs rest) h.2.1 h.3) in
       record { front = t ∷ more.front; whole = ap (λ l. t ∷ l) more.whole; read = (one.0, more.read); short = All-cons Short v vs one.1 more.short }
 
-  -- the first of what is left was refused
+  -- the first of what remains was rejected
   first_refused : (middle rest : List Token) (why : Cause) → middle ≢ [] → Reads middle (Err why) rest → (t : Token) × (middle ≡ t ∷ rest) × OctetsRead (within 255 room) t (Err why)
   first_refused [] rest why some h = absurd (some refl)
   first_refused (t ∷ ts) rest why some h = (t, ap (λ l. t ∷ l) (sym h.1), h.0)
@@ -71,7 +71,7 @@ module _ (room : Room) where
       let front = front_of tokens values [] h.0 in
       (subst (λ (l : List Token). AllZip HasOctets l values) (sym (append-nil front.front) ∙ sym front.whole) front.read, front.short)
 
-  -- where all tokens are character strings, memory alone can lack
+  -- if all tokens are character strings, only memory can be lacking
   rest_refused : (tokens rest : List Token) (strings : List (List ℕ)) (why : Cause) → AllZip HasOctets tokens strings → All Short strings → ReadsRest Reads tokens (Err why) rest → why ≡ short_buf
   rest_refused tokens rest strings why read short h =
       let front = front_of tokens h.0 h.1 h.2 in
@@ -84,7 +84,7 @@ module _ (room : Room) where
       (λ k. k.1)
       h.3
 
-  -- the last tokens are left
+  -- the last tokens remain
   rest_leaves : (tokens rest : List Token) (why : Cause) → ReadsRest Reads tokens (Err why) rest → (front : List Token) × (tokens ≡ front ++ rest)
   rest_leaves tokens rest why h =
       let front = front_of tokens h.0 h.1 h.2 in

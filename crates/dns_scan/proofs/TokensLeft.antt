@@ -1,4 +1,4 @@
--- Readings in turn, where tokens are left.
+-- Values in order, while tokens remain.
 use Rattle.std.proofs.Common.{◌≡◌, List, [], ◌∷◌, ◌++◌, true, false, refl, ap, subst, ◌∙◌, ⊎_elim, Option, Result, Ok, Err, Vec}
 use Rattle.std.specs.Prelude.{◌≢◌, is_some, IsOkAnd, MatchOption, MatchResult}
 use Rattle.dns_symbol.specs.Cause.{Cause}
@@ -6,7 +6,7 @@ use Rattle.dns_scan.specs.Reads.{ReadsRest, ReadsSome}
 use Rattle.dns_scan.specs.Stands.{HasTokens, stands_takes, stands_same, first_of}
 use Rattle.dns_scan.specs.Tokens.{Token, Peeks}
 
--- a look ahead finds the first token, and takes none
+-- a look ahead finds the first token, and consumes none
 pub peeked : {S : Type 0} (next : S → Option Token → S → Type 0) (u v : S) (o : Option Token) (ts : List Token) → HasTokens next u ts → Peeks next u v o → (o ≡ first_of ts) × HasTokens next v ts
 peeked next u v o ts stands p = let at = stands_same next u v ts stands p.same in ((stands_takes next v ts o p.shown.0 at p.shown.1).0, at)
 
@@ -18,7 +18,7 @@ pub some_left : (ts : List Token) (o : Option Token) → o ≡ first_of ts → t
 some_left [] o is h = λ e. let z : true ≡ false = h ∙ ap is_some is in cc
 some_left (t ∷ ts) o is h = λ e. cc
 
--- so tokens are left where it finds one, and none where it does not
+-- so tokens remain if it finds one, and none if it doesn't
 pub peeked_some : {S : Type 0} (next : S → Option Token → S → Type 0) (u v : S) (o : Option Token) (ts : List Token) → HasTokens next u ts → Peeks next u v o → true ≡ is_some o
     → (ts ≢ []) × HasTokens next v ts
 peeked_some next u v o ts stands p some = let left = peeked next u v o ts stands p in (some_left ts o left.0 some, left.1)
@@ -27,7 +27,7 @@ pub peeked_none : {S : Type 0} (next : S → Option Token → S → Type 0) (u v
     → (ts ≡ []) × HasTokens next v ts
 peeked_none next u v o ts stands p none = let left = peeked next u v o ts stands p in (none_left ts o left.0 none, left.1)
 
--- what holds by whether a token is left
+-- what holds by whether a token remains
 pub when_some : (P : Type 0) (Q : Token → Type 0) (ts : List Token) (o : Option Token) → o ≡ first_of ts → true ≡ is_some o → ((t : Token) → Q t) → MatchOption (first_of ts) P Q
 when_some P Q [] o is h q = absurd (some_left [] o is h refl)
 when_some P Q (t ∷ ts) o is h q = q t
@@ -56,7 +56,7 @@ module _ {V : Type 0} (reads : List Token → Result V Cause → List Token → 
   pub none_refused : (why : Cause) (rest : List Token) → ReadsRest reads [] (Err why) rest → ⊥
   none_refused why rest h = let none = some_of_none h.0 h.1 h.2 in ⊎_elim (λ k. k.0 none.1) (λ k. k.0 none.0) h.3
 
-  -- so no token left is an empty list, which asks for no memory
+  -- so without tokens the list is empty, and allocates nothing
   pub rest_of_none : {A E : Type 0} (cause : E → Cause) (r : Result (Vec V A) E) (rest : List Token)
       → MatchResult r (λ v. ReadsRest reads [] (Ok v.items) rest) (λ e. ReadsRest reads [] (Err (cause e)) rest) → IsOkAnd r (λ v. v.items ≡ [])
   rest_of_none cause (Ok v) rest h = (some_of_none v.items [] h.0).0

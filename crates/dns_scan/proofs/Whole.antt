@@ -1,4 +1,4 @@
--- What the octets of a token are in whole.
+-- The octets of a whole token.
 use Rattle.std.proofs.Common.{ℕ, ◌≡◌, ◌<◌, ◌≤◌, ◌+◌, ◌-◌, List, [], ◌∷◌, ◌++◌}
 use Rattle.std.proofs.Common.{length, map, refl, sym, ap, subst, ◌∙◌, arith, append_assoc, append-nil, length-append, ◌⊎◌, inl, inr, ⊎_elim, Option, Some, None, Result, Ok, Err, Bool}
 use Rattle.std.specs.Prelude.{IsOkAnd, IfOk, IsErr, MatchOption, MatchResult, All, encode_utf8_all}
@@ -24,7 +24,7 @@ not_err (Ok v) e h = cc
 not_err (Err x) e h = cc
 
 module _ {E : Type 0} (cause : E → Cause) (room : Room) where
-  -- octets of symbols that all have one: all were appended, or some found no room
+  -- octets of symbols that all have one: all were appended, or some didn't fit
   run_whole : (symbols : List Symbol) (os : List ℕ) (b c : List ℕ) (u : Result (Unit {0}) E) → map octet_of symbols ≡ map Ok os
       → CallsEach (GivesStep cause room octet_given) symbols (EndsAfterSymbols cause None) b u c
       → ((u ≡ Ok tt) × (c ≡ b ++ os)) ⊎ (IsCause cause u short_buf × (room.fits < length b + length os))
@@ -108,7 +108,7 @@ module _ {E : Type 0} (cause : E → Cause) (room : Room) where
         by (Ok v) (Err y) is g k = cc
         by (Err e) r is g k = cc
 
--- what a token call answers of the token that the scanner stands before
+-- the result of a token call for the next token of the scanner
 pub of_first : {S V E : Type 0} (next : S → Option Token → S → Type 0) (cause : E → Cause) (answers : Token → Result V E → Type 0)
     (old : S) (r : Result V E) (new : S) (t : Token) (ts : List Token) → HasTokens next old (t ∷ ts) → ScansToken next cause answers old r new → answers t r × HasTokens next new ts
 of_first next cause answers old r new t ts stands scans =
@@ -116,7 +116,7 @@ of_first next cause answers old r new t ts stands scans =
     let answered : answers t r = subst (λ o. MatchOption o (IsCause cause r end_of_entry) (λ t. answers t r)) took.0 scans.answer in
     (answered, took.1)
 
--- a call for the octets of one token, which the scanner stands before
+-- a call for the octets of one token, the next of the scanner
 module _ {S O E : Type 0} (next : S → Option Token → S → Type 0) (cause : E → Cause) (room : Room) (octets : O → List ℕ)
     (old : S) (r : Result O E) (new : S) (scans : ScansToken next cause (Builds cause (GivesStep cause room octet_given) octets) old r new) where
   pub scans_whole : (t : Token) (ts : List Token) (os : List ℕ) → HasTokens next old (t ∷ ts) → HasOctets t os → GivesWhere cause octets room os r
@@ -134,7 +134,7 @@ module _ {S O E : Type 0} (next : S → Option Token → S → Type 0) (cause : 
   pub scans_rest : (t : Token) (ts : List Token) → HasTokens next old (t ∷ ts) → HasTokens next new ts
   scans_rest t ts stands = (of_first next cause _ old r new t ts stands scans).1
 
--- as many symbols as octets
+-- the symbols are equal in number to the octets
 pub same_count : (symbols : List Symbol) (os : List ℕ) → map octet_of symbols ≡ map Ok os → length symbols ≡ length os
 same_count [] [] e = refl
 same_count [] (o ∷ os) e = cc

@@ -1,4 +1,4 @@
--- What a call over the symbols of a token does.
+-- The effect of a call over the symbols of a token.
 use Rattle.std.specs.Prelude.{ℕ, List, [], ◌∷◌, ◌≡◌, Option, Some, None, Result, Ok, Err, IsErr, IsOkAnd, MatchOption, MatchResult, ◌⊎◌}
 use Rattle.dns_symbol.specs.declared.symbol.Symbol.{Symbol}
 use Rattle.dns_symbol.specs.declared.error.SymbolCharsError.{SymbolCharsError}
@@ -11,17 +11,17 @@ use Rattle.dns_charstr.specs.Limits.{max_string}
 use Rattle.dns_scan.specs.Steps.{GivesStep, octet_given, text_given}
 
 module _ {F X E : Type 0} (step : F → X → Result (Unit {0}) E → F → Type 0) where
-  -- f was asked for each of xs in turn, until it refused, and r is that refusal; without one r ends as Last says
+  -- f was called for each of xs in order, until it failed with r; without an error r ends as Last states
   abbrev pub CallsEach : List X → (Result (Unit {0}) E → Type 0) → F → Result (Unit {0}) E → F → Type 0
   CallsEach [] Last f r g = (g ≡ f) × Last r
   CallsEach (x ∷ xs) Last f r g = ((m : F) × step f x (Ok tt) m × CallsEach xs Last m r g) ⊎ (IsErr r × step f x r g)
 
--- how a text ends once all its symbols were taken: well, or refused by its error
+-- the end of a text after all its symbols: without an error, or with its error
 abbrev pub EndsAfterSymbols : {E : Type 0} → (E → Cause) → Option SymbolCharsError → Result (Unit {0}) E → Type 0
 EndsAfterSymbols cause None r = r ≡ Ok tt
 EndsAfterSymbols cause (Some e) r = IsCause cause r (custom_text (chars_error_text e))
 
--- f was asked for the symbols of a token in turn: its first refusal, else the text's error, else Ok
+-- f was called for the symbols of a token in order: its first error, else the text's error, else Ok
 pub record CallsEachSymbol {F E : Type 0} (cause : E → Cause) (step : F → Symbol → Result (Unit {0}) E → F → Type 0)
     (token : Token) (f : F) (r : Result (Unit {0}) E) (g : F) : Type 0 where
   pub symbols : List Symbol
@@ -29,14 +29,14 @@ pub record CallsEachSymbol {F E : Type 0} (cause : E → Cause) (step : F → Sy
   pub read : SymbolsOf token symbols error
   pub asked : CallsEach step symbols (EndsAfterSymbols cause error) f r g
 
--- a call that handed over the symbols of one token: the token that was taken, and the calls; or the refusal where none was left, and no call
+-- a call that passed on the symbols of one token: the consumed token, and the calls; or the error if none was left, without a call
 pub record ScansSymbols {S F E : Type 0} (next : S → Option Token → S → Type 0) (cause : E → Cause) (step : F → Symbol → Result (Unit {0}) E → F → Type 0)
     (old : S) (f : F) (r : Result (Unit {0}) E) (new : S) (g : F) : Type 0 where
   pub token : Option Token
   pub taken : next old token new
   pub answer : MatchOption token (IsCause cause r end_of_entry × (g ≡ f)) (λ t. CallsEachSymbol cause step t f r g)
 
--- the octets that were put together of a token's symbols, where all were taken; else the refusal
+-- the octets that were built of a token's symbols, if all were accepted; else the error
 pub record Builds {O E : Type 0} (cause : E → Cause) (step : List ℕ → Symbol → Result (Unit {0}) E → List ℕ → Type 0) (octets : O → List ℕ)
     (token : Token) (r : Result O E) : Type 0 where
   pub answer : Result (Unit {0}) E

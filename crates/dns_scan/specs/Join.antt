@@ -12,13 +12,13 @@ use Rattle.dns_scan.specs.Entries.{Converts, ConvertInEntry}
 use Rattle.dns_scan.specs.Stands.{HasTokens, OfTokens, first_of}
 use Rattle.dns_scan.specs.Tokens.{Token, marker}
 
--- each token in turn by a call, until one is refused: then the tokens after that one are left, and else none
+-- each token in order by a call, until one is rejected: then the tokens after that one remain, and else none
 module _ {F E : Type 0} (call : F → Token → Result (Unit {0}) E → F → Type 0) where
   abbrev pub CallsTokens : List Token → F → Result (Unit {0}) E → List Token → F → Type 0
   CallsTokens [] f r rest g = (r ≡ Ok tt) × (rest ≡ []) × (g ≡ f)
   CallsTokens (t ∷ ts) f r rest g = ((h : F) × call f t (Ok tt) h × CallsTokens ts h r rest g) ⊎ (IsErr r × call f t r g × (rest ≡ ts))
 
--- what is handed over of a token of these symbols
+-- what is passed on of a token of these symbols
 abbrev pub handed_over : List Symbol → List EntrySymbol
 handed_over symbols = map Of symbols ++ EndOfToken ∷ []
 
@@ -51,16 +51,16 @@ HaveJoin tokens = (text : List ℕ) × IsJoin tokens text
 abbrev pub FindsMarker : {E : Type 0} → List Token → Result Bool E → Type 0
 FindsMarker tokens r = IsOkAnd r (λ found. IsTrue found ↔ (first_of tokens ≡ Some marker))
 
--- what a call over an entry leaves of its tokens: the last ones, and none where all went well
+-- the tokens that remain after a call over an entry: the last ones, and none without an error
 abbrev pub LeavesOf : {S V E : Type 0} → (S → Option Token → S → Type 0) → List Token → Result V E → S → Type 0
 LeavesOf next tokens r new = (front : List Token) × (rest : List Token) × (tokens ≡ front ++ rest) × (IsOk r → rest ≡ []) × HasTokens next new rest
 
--- a converter's run over all tokens, and the tokens that are left
+-- a converter's run over all tokens, and the remaining tokens
 abbrev pub ConvertsTokens : {C O E : Type 0} → (E → Cause) → Room → (C → EntrySymbol → Result (List ℕ) E → C → Type 0) → (C → Result (List ℕ) E → C → Type 0) → (O → List ℕ)
     → List Token → C → Result O E → List Token → Type 0
 ConvertsTokens cause room takes tail octets tokens convert r rest =
     Converts cause room tail octets (λ p a q. CallsTokens (ConvertInEntry cause room takes) tokens p a rest q) convert r
 
--- the same, of the tokens before which the scanner stood
+-- the same, of the tokens that remained in the scanner
 abbrev pub LeavesLast : {S V E : Type 0} → (S → Option Token → S → Type 0) → S → Result V E → S → Type 0
 LeavesLast next old r new = OfTokens next old (λ tokens. LeavesOf next tokens r new)

@@ -1,4 +1,4 @@
--- Tokens that are read as values of kinds that a list gives.
+-- Tokens that are parsed as values of a list of kinds.
 use Rattle.std.specs.Prelude.{List, ◌≡◌, Result, Ok, Err}
 use Rattle.dns_scan.specs.declared.kind.Kind.{Kind}
 use Rattle.dns_scan.specs.declared.kind.Kind.TheVariants.{U8, U16, U32, U64, U128, Ttl, Other}

@@ -12,7 +12,7 @@ use Rattle.dns_scan.specs.Tokens.{ScansToken, Token}
 abbrev pub greatest : ℕ → ℕ
 greatest bits = 2 ^ bits - 1
 
--- the value of a plain digit; an escape is none
+-- the value of a plain digit; an escape has none
 abbrev pub plain_digit_of : Symbol → Option ℕ
 plain_digit_of (Char c) = if is_digit c then Some (c - 48) else None
 plain_digit_of (SimpleEscape o) = None
@@ -36,11 +36,11 @@ overflow = custom_text (codes "decimal number overflow")
 abbrev pub no_digit : Cause
 no_digit = custom_text (codes "expected decimal number")
 
--- why a symbol after a number of that value makes it none: tens of it are too many, or the symbol is no digit, or their sum is too great
+-- why a symbol can't extend a number of that value: ten times it exceeds the limit, the symbol isn't a digit, or the sum exceeds it
 abbrev pub refusal_at : ℕ → ℕ → Symbol → Cause
 refusal_at limit v x = if nat_lt limit (v * 10) then overflow else (if is_some (plain_digit_of x) then overflow else no_digit)
 
--- the symbols are no number: the longest beginning that is one, and the refusal at the symbol after it
+-- the symbols aren't a number: the longest prefix that is one, and the error of the symbol after it
 pub record NoNumber (limit : ℕ) (symbols : List Symbol) (why : Cause) : Type 0 where
   pub front : List Symbol
   pub next : Symbol
@@ -51,25 +51,25 @@ pub record NoNumber (limit : ℕ) (symbols : List Symbol) (why : Cause) : Type 0
   pub longest : (longer others : List Symbol) (v : ℕ) → symbols ≡ longer ++ others → IsNumber limit longer v → length longer ≤ length front
   pub refusal : why ≡ refusal_at limit value next
 
--- what a token's symbols and the error after them are read as: a number, or the refusal of a symbol, or else that error
+-- the result of a token's symbols and the error after them: a number, or the error of a symbol, or else that error
 abbrev pub ReadsNumber : ℕ → List Symbol → Option SymbolCharsError → Result ℕ Cause → Type 0
 ReadsNumber limit symbols error (Ok v) = IsNumber limit symbols v × (error ≡ None)
 ReadsNumber limit symbols error (Err why) =
     NoNumber limit symbols why ⊎ ((v : ℕ) × (e : SymbolCharsError) × IsNumber limit symbols v × (error ≡ Some e) × (why ≡ custom_text (chars_error_text e)))
 
--- an answer, by the call that made its error
+-- a result, by the call that made its error
 abbrev pub by_cause : {V E : Type 0} → (E → Cause) → Result V E → Result V Cause
 by_cause cause (Ok v) = Ok v
 by_cause cause (Err e) = Err (cause e)
 
--- what a token is read as
+-- the result of parsing a token
 pub record ScannedNumber {E : Type 0} (cause : E → Cause) (limit : ℕ) (token : Token) (r : Result ℕ E) : Type 0 where
   pub symbols : List Symbol
   pub error : Option SymbolCharsError
   pub read : SymbolsOf token symbols error
   pub reads : ReadsNumber limit symbols error (by_cause cause r)
 
--- a digit more, as the private `add_digit` adds it, which alone cites this: ten times the value and the digit; or the refusal, and the value as it was
+-- another digit, as the private `add_digit` adds it, which alone cites this: ten times the value and the digit; or the error, and the old value
 abbrev pub AddsDigit : {E : Type 0} → (E → Cause) → ℕ → ℕ → Symbol → Result (Unit {0}) E → ℕ → Type 0
 AddsDigit cause limit v x r w =
     MatchResult r (λ _. (d : ℕ) × (plain_digit_of x ≡ Some d) × (w ≡ v * 10 + d) × (w ≤ limit))
@@ -79,6 +79,6 @@ AddsDigit cause limit v x r w =
 abbrev pub OnlyNumber : ℕ → Token → Result ℕ Cause → Type 0
 OnlyNumber limit token r = (symbols : List Symbol) (error : Option SymbolCharsError) → SymbolsOf token symbols error → IfOk r (λ v. IsNumber limit symbols v × (error ≡ None))
 
--- a call that takes a token as a number
+-- a call that parses a token as a number
 abbrev pub ScansNumber : {S E : Type 0} → (S → Option Token → S → Type 0) → (E → Cause) → ℕ → S → Result ℕ E → S → Type 0
 ScansNumber next cause limit = ScansToken next cause (ScannedNumber cause limit)

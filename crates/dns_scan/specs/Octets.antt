@@ -1,4 +1,4 @@
--- Tokens of octets, and what is answered of them.
+-- Tokens of octets, and the results of parsing them.
 use Rattle.std.specs.Prelude.{ℕ, List, ◌≡◌, ◌<◌, ◌≤◌, ◌⊎◌, All, Option, None, Ok, Result, IfOk, IsOkAnd, encode_utf8_all, length, map}
 use Rattle.dns_octets.specs.Room.{Room}
 use Rattle.dns_symbol.specs.declared.symbol.Symbol.{Symbol as PlainSymbol}
@@ -25,19 +25,19 @@ quoted_token octets = encode_utf8_all (text_of is_quoted_escape octets)
 abbrev pub IsPrinted : Token → List ℕ → Type 0
 IsPrinted token octets = (token ≡ unquoted_token octets) ⊎ (token ≡ quoted_token octets)
 
--- the answer is these octets, or "short buffer" where they are more than surely fit
+-- the result is these octets, or "short buffer" if they exceed the guaranteed capacity
 abbrev pub GivesWhere : {O E : Type 0} → (E → Cause) → (O → List ℕ) → Room → List ℕ → Result O E → Type 0
 GivesWhere cause value room octets r = IsOkAnd r (λ x. value x ≡ octets) ⊎ (IsCause cause r short_buf × (room.fits < length octets))
 
--- r is what a token is scanned as that stands for a character string: its octets, where there is room
+-- r is the result of parsing a token that is a character string: its octets, if they fit
 pub record StringBack {E : Type 0} (cause : E → Cause) (room : Room) (token : Token) (r : Result (List ℕ) E) : Type 0 where
   -- of any token that has octets
   pub whole : (octets : List ℕ) → HasOctets token octets → GivesWhere cause (λ s. s) room octets r
   -- of a printed text
   pub printed : (octets : List ℕ) → All (λ o. o < 256) octets → IsPrinted token octets → GivesWhere cause (λ s. s) room octets r
-  -- and else its first fault
+  -- and else its first error
   pub answer : (symbols : List PlainSymbol) (error : Option SymbolCharsError) → SymbolsOf token symbols error
       → AnswersGiven octet_given room cause (λ s. s) symbols error r
-  -- no other token is scanned
+  -- no other token is accepted
   pub only : (symbols : List PlainSymbol) (error : Option SymbolCharsError) → SymbolsOf token symbols error
       → IfOk r (λ s. (error ≡ None) × (map octet_of symbols ≡ map Ok s) × (length symbols ≤ max_string))

@@ -1,8 +1,8 @@
--- The tokens before which a scanner stands.
+-- The tokens that remain in a scanner.
 use Rattle.std.specs.Prelude.{ℕ, zero, suc, List, [], ◌∷◌, ◌≡◌, Option, Some, None, ⊤}
 use Rattle.dns_scan.specs.Tokens.{Token, TakesNothing}
 
--- the first of a list, and what is left after it is taken
+-- the first of a list, and the list after it is removed
 abbrev pub first_of : List Token → Option Token
 first_of [] = None
 first_of (t ∷ ts) = Some t
@@ -12,16 +12,16 @@ others_of [] = []
 others_of (t ∷ ts) = ts
 
 module _ {S : Type 0} (next : S → Option Token → S → Type 0) where
-  -- the next n calls that ask for a token take those of the list in turn, and none after its end
+  -- the next n calls that request a token consume those of the list in order, then none
   abbrev pub GivesTokens : ℕ → S → List Token → Type 0
   GivesTokens zero s ts = ⊤
   GivesTokens (suc n) s ts = (o : Option Token) (u : S) → next s o u → (o ≡ first_of ts) × GivesTokens n u (others_of ts)
 
-  -- the tokens before which s stands
+  -- the tokens that remain in s
   pub record HasTokens (s : S) (ts : List Token) : Type 0 where
     pub calls : (n : ℕ) → GivesTokens n s ts
 
-  -- a call that asks for a token takes the first one, and stands before the others
+  -- a call that requests a token consumes the first one, and the others remain
   pub stands_takes : (s : S) (ts : List Token) (o : Option Token) (u : S) → HasTokens s ts → next s o u → (o ≡ first_of ts) × HasTokens u (others_of ts)
   stands_takes s ts o u h k = ((h.calls 1 o u k).0, record { calls = λ n. (h.calls (suc n) o u k).1 })
 
@@ -29,26 +29,26 @@ module _ {S : Type 0} (next : S → Option Token → S → Type 0) where
   same_for zero s u ts h k = tt
   same_for (suc n) s u ts h k = λ o v q. k o v (h o v q)
 
-  -- one that takes none stands before the same tokens
+  -- after a call that consumes none, the same tokens remain
   pub stands_same : (s u : S) (ts : List Token) → HasTokens s ts → TakesNothing next s u → HasTokens u ts
   stands_same s u ts h k = record { calls = λ n. same_for n s u ts k (h.calls n) }
 
-  -- P holds of the tokens that s has left
+  -- P holds of the tokens that remain in s
   abbrev pub OfTokens : S → (List Token → Type 0) → Type 0
   OfTokens s P = (tokens : List Token) → HasTokens s tokens → P tokens
 
-  -- P holds of the first token that s has left
+  -- P holds of the first token that remains in s
   abbrev pub OfFirst : S → (Token → Type 0) → Type 0
   OfFirst s P = (token : Token) (others : List Token) → HasTokens s (token ∷ others) → P token
 
-  -- where old has that token and others left, new has the others
+  -- if that token and others remain in old, the others remain in new
   abbrev pub TakesToken : Token → S → S → Type 0
   TakesToken token old new = (others : List Token) → HasTokens old (token ∷ others) → HasTokens new others
 
-  -- where old stands before one token and others, that token is taken as P says, and new stands before the others
+  -- if one token and others remain in old, that token is consumed as P states, and the others remain in new
   abbrev pub TakesOne : S → S → (Token → Type 0) → Type 0
   TakesOne old new P = (token : Token) (others : List Token) → HasTokens old (token ∷ others) → P token × HasTokens new others
 
-  -- the same, where the token and the answer are as P says
+  -- the same, where the token and the result are as P states
   abbrev pub TakesAs : {R : Type 0} → (Token → R → Type 0) → S → R → S → Type 0
   TakesAs P old r new = TakesOne old new (λ token. P token r)

@@ -18,6 +18,6 @@ str_text EndOfEntry = codes "unexpected end of entry"
 str_text ShortBuf = codes "short buffer"
 str_text TrailingTokens = codes "trailing data"
 
--- the error that stands for lack of room
+-- the error of a buffer that is too small, or of a failed allocation
 abbrev pub of_short_buf : StrError
 of_short_buf = ShortBuf

@@ -1,4 +1,4 @@
-//! An error of a scanner that is a text.
+//! A scanner's error that is a text.
 ghost use Rattle.std.specs.Prelude.{◌≡◌, Some};
 ghost use Rattle.dns_scan.specs.StrError.{str_cause, str_text, of_short_buf};
 
@@ -10,21 +10,21 @@ use std::fmt;
 /// An error that is a text.
 #[derive(Debug, Drop)]
 pub enum StrError {
-    /// A text of the caller's.
+    /// A text of the caller.
     Custom(&'static str),
 
-    /// No token was left where one was asked for.
+    /// A token was requested and none is left.
     EndOfEntry,
 
-    /// There was no room for the octets, or no memory.
+    /// The buffer is too small, or an allocation failed.
     ShortBuf,
 
-    /// Tokens were left where none was expected.
+    /// Tokens are left where the entry should end.
     TrailingTokens,
 }
 
 impl StrError {
-    /// The text.
+    /// Returns the text.
     pub fn as_str(&self) -> &'static str
         ensures { result.now ≡ str_text self.now }
     {

@@ -1,4 +1,4 @@
-//! Values of kinds that are known only when the program runs.
+//! Values whose kinds are known only at run time.
 ghost use Rattle.std.specs.Prelude.{List};
 ghost use Rattle.dns_scan.specs.Kinds.{KindReads};
 ghost use Rattle.dns_scan.specs.Numbers.{by_cause};
@@ -9,7 +9,7 @@ use crate::scan::Scan;
 use crate::scanner::Scanner;
 use dns_octets::Ttl;
 
-/// What a token is scanned as.
+/// The kind of value that a token is parsed as.
 #[derive(Clone, Copy, Debug)]
 pub enum Kind {
     /// A number of at most 8 bits.
@@ -27,14 +27,14 @@ pub enum Kind {
     /// A number of at most 128 bits.
     U128,
 
-    /// A time to live, in seconds.
+    /// A TTL, in seconds.
     Ttl,
 
-    /// A value of a type that the caller names, as a character string.
+    /// A value of a type that the caller chooses, such as a character string.
     Other,
 }
 
-/// A value that was scanned.
+/// A value that was parsed.
 #[derive(Debug, Drop)]
 pub enum Scanned<T> {
     /// A number of at most 8 bits.
@@ -52,15 +52,15 @@ pub enum Scanned<T> {
     /// A number of at most 128 bits.
     U128(u128),
 
-    /// A time to live, in seconds.
+    /// A TTL, in seconds.
     Ttl(Ttl),
 
-    /// A value of the type that the caller names.
+    /// A value of the type that the caller chooses.
     Other(T),
 }
 
 impl Kind {
-    /// Takes a token as a value of this kind.
+    /// Parses the next token as a value of this kind. Fails as the `scan` of its type does.
     pub fn scan<S: Scanner, T: Scan<S>>(self, scanner: &mut S) -> Result<Scanned<T>, S::Error>
         requires { S.can_scan scanner.old }
         ensures ready { S.can_scan scanner.new }

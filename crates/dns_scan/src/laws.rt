@@ -1,4 +1,4 @@
-//! Laws on what any scanner gives.
+//! Laws that hold of every scanner.
 ghost use Rattle.std.specs.Prelude.{◌≡◌, ◌≢◌, ℕ, ◌<◌, ◌≤◌, ◌^◌, List, ◌∷◌, Some, None, Ok, Option, Result, IfOk, MatchResult, All, IsUtf8};
 ghost use Rattle.std.specs.Fmt.{decimal};
 ghost use Rattle.std.specs.List.{AllZip, FoldsTo, concat, flat_map};
@@ -26,12 +26,12 @@ use dns_charstr::charstr::CharStr;
 use dns_symbol::ConvertSymbols;
 use dns_symbol::symbol::EntrySymbol;
 
-/// A token whose symbols all have an octet is scanned as the character string of these octets,
-/// where there is room. So the unquoted text of a character string, and the text between its
-/// double quotes, are scanned back to its octets.
+/// A token whose symbols all have octets is parsed as the character string of these octets, if they
+/// fit. So the unquoted form of a character string, and the text between the double quotes of its
+/// quoted form, parse as its octets.
 ///
-/// Any other token is refused, by its first fault: one with a bad escape, with a symbol
-/// without octet, or with more than 255 symbols.
+/// Any other token is rejected with its first error: a bad escape, a symbol without octet, or more
+/// than 255 symbols.
 pub fn character_strings_are_scanned_back<S: Scanner>(
     scanner: &mut S,
 ) -> Result<CharStr<S::Octets>, S::Error>
@@ -44,9 +44,9 @@ pub fn character_strings_are_scanned_back<S: Scanner>(
     scanner.scan_charstr()
 }
 
-/// Over a builder whose room is known, as an array's, symbols have one result, whatever
-/// each gives. So is a token that is read as octets, and so are the tokens of an entry that are put
-/// together as character strings, with the tokens that are left.
+/// If the capacity of the builder is known exactly, as of an array, converting symbols has at most
+/// one result, whatever octets each has. So has parsing a token as octets, and parsing the tokens
+/// of an entry as character strings, together with the remaining tokens.
 pub fn octets_are_answered_in_one_way()
     ensures symbols { (given : PlainSymbol → Result (List ℕ) (List ℕ)) (size : ℕ)
         → GivenInOneWay given (exactly size) }
@@ -55,8 +55,8 @@ pub fn octets_are_answered_in_one_way()
         → ReadsInOneWay (AnswersStrings (exactly size) {O = List ℕ} (λ why. why) (λ s. s)) }
 {}
 
-/// A token is read as a number in one way, and the decimal text of a number as that number. A
-/// token that is read as a number is plain digits of that value.
+/// Parsing a token as a number has at most one result, and the decimal text of a number parses as
+/// that number. A token that parses as a number consists of plain digits of that value.
 pub fn printed_numbers_read_back()
     ensures back { (limit v : ℕ) (others : List Token) → v ≤ limit → v < 2 ^ 128
         → AreReadAs (ReadsFirstToken (NumberReads limit)) (decimal v ∷ others) v others }
@@ -65,8 +65,8 @@ pub fn printed_numbers_read_back()
         → NumberReads limit token r → OnlyNumber limit token r }
 {}
 
-/// `count` scans of one type hand over the values that the tokens are read as, up to the first
-/// refusal, which is returned. The type may be a pair of types, and those pairs too.
+/// `count` calls of `scan` of one type pass to the closure the values that the tokens parse as, up
+/// to the first error, which is returned. The type may be a pair of types, also nested.
 pub fn scans_in_turn<S: Scanner, T: Scan<S>, F: FnMut(T)>(
     scanner: &mut S,
     count: usize,
@@ -87,8 +87,9 @@ pub fn scans_in_turn<S: Scanner, T: Scan<S>, F: FnMut(T)>(
     Ok(())
 }
 
-/// Scans of a list of kinds hand over the values that the tokens are read as, up to the first
-/// refusal, which is returned. `T` is the type of kind `Other`, as that of character strings.
+/// Calls of `scan` for a list of kinds pass to the closure the values that the tokens parse as, up
+/// to the first error, which is returned. `T` is the type of kind `Other`, such as that of
+/// character strings.
 pub fn kinds_in_turn<S: Scanner, T: Scan<S>, F: FnMut(Scanned<T>)>(
     scanner: &mut S,
     kinds: &[Kind],
@@ -110,10 +111,10 @@ pub fn kinds_in_turn<S: Scanner, T: Scan<S>, F: FnMut(Scanned<T>)>(
     Ok(())
 }
 
-/// What tokens are read as is a function of the tokens, and so are the tokens that are left: for a
-/// number, over a builder whose room is known for a character string, and for a name where the
-/// scanner reads each token as one name or refuses it in one way. Where it is so for scans of two
-/// types, it is for so many of one, for a list of kinds with one, and for pairs of both.
+/// The parsed value and the remaining tokens are functions of the tokens: for a number; for a
+/// character string, if the builder's capacity is known exactly; and for a name, if parsing a token
+/// as a name has at most one result. If that holds for two types, it holds for repeated values of
+/// one type, for a list of kinds with one of them, and for pairs of both.
 pub fn scans_have_one_answer<S: Scanner, A: Scan<S> + Drop, B: Scan<S>>()
     ensures number { (limit : ℕ) → ReadsInOneWay (ReadsFirstToken (NumberReads limit)) }
     ensures string { (size : ℕ) → ReadsInOneWay (ReadsFirstToken (OctetsRead (exactly size))) }
@@ -127,8 +128,8 @@ pub fn scans_have_one_answer<S: Scanner, A: Scan<S> + Drop, B: Scan<S>>()
         → ReadsInOneWay (ReadsBoth A.scan_reads B.scan_reads) }
 {}
 
-/// The marker of unknown data, `\#`, is found exactly where it is the first token, and only then
-/// taken. Any other token is left, and so is white space before it.
+/// The marker of unknown RDATA, `\#` (RFC 3597), is found exactly if it is the first token, and
+/// only then consumed. Any other token stays, and so does white space before it.
 pub fn markers_are_found<S: Scanner>(scanner: &mut S) -> Result<bool, S::Error>
     requires { S.can_scan scanner.old }
     ensures ready { S.can_scan scanner.new }
@@ -140,9 +141,9 @@ pub fn markers_are_found<S: Scanner>(scanner: &mut S) -> Result<bool, S::Error>
     scanner.scan_opt_unknown_marker()
 }
 
-/// The symbols of all tokens, and the end of each token after them, are handed over in turn, up to
-/// the first refusal, which is returned. A bad escape is a refusal in its place. Then the tokens
-/// after the refused one are left, and else none.
+/// The symbols of all tokens, and the end of each token after them, are passed to the closure in
+/// order, up to the first error, which is returned. A bad escape is an error in its place. After an
+/// error the tokens after the rejected one are left, and else none.
 pub fn entries_are_handed_over<S: Scanner, F>(scanner: &mut S, op: &mut F) -> Result<(), S::Error>
 where
     F: FnMut(EntrySymbol) -> Result<(), S::Error>,
@@ -160,12 +161,12 @@ where
     scanner.scan_entry_symbols(op)
 }
 
-/// The tokens of an entry are converted in turn, up to the first refusal, which is returned; the
-/// tail is asked for once all are taken. Then the tokens after the refused one are left, and none
-/// where none or only the tail was refused.
+/// The tokens of an entry are converted in order, up to the first error, which is returned. The
+/// tail is converted after all tokens. After a rejected token, the tokens after it are left. If no
+/// token was rejected, none are left, even if the tail was rejected.
 ///
-/// So an entry is converted as one token that is all its tokens joined, up to and with the first
-/// that has a bad escape.
+/// So an entry is converted as one token, the concatenation of all its tokens up to and including
+/// the first with a bad escape.
 pub fn entries_convert_as_their_join<S: Scanner, C: ConvertSymbols<EntrySymbol, S::Error>>(
     scanner: &mut S,
     convert: C,
@@ -186,19 +187,20 @@ pub fn entries_convert_as_their_join<S: Scanner, C: ConvertSymbols<EntrySymbol, 
     scanner.convert_entry(convert)
 }
 
-/// Texts have a join, and one only. Where each is symbols throughout, it is all of them joined.
+/// Every list of texts has exactly one join. If all texts consist of symbols, it is their
+/// concatenation.
 pub fn texts_have_one_join()
     ensures some { (tokens : List Token) → All IsUtf8 tokens → HaveJoin tokens }
     ensures one { (tokens : List Token) → HasOneAnswer (IsJoin tokens) }
     ensures whole { (tokens : List Token) → AreSymbols tokens → IsJoin tokens (concat tokens) }
 {}
 
-/// Tokens that are character strings of at most 255 octets are scanned as their wire forms, one
-/// after the other, where there is room. So are the printed texts of character strings, unquoted or
-/// between the double quotes.
+/// Tokens that are character strings of at most 255 octets are parsed as their wire formats, one
+/// after the other, if they fit. So are the printed forms of character strings, unquoted or between
+/// the double quotes.
 ///
-/// Any other tokens are refused, by the first that is no character string or whose wire form finds
-/// no room. Then the tokens after that one are left, and else none.
+/// Any other tokens are rejected, by the first that isn't a character string or whose wire format
+/// doesn't fit. Then the tokens after that one are left, and else none.
 pub fn string_entries_are_scanned_back<S: Scanner>(scanner: &mut S) -> Result<S::Octets, S::Error>
     requires { S.can_scan scanner.old }
     ensures ready { S.can_scan scanner.new }

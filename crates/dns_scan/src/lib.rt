@@ -1,4 +1,4 @@
-//! Scanning: typed values out of the tokens of an entry.
+//! Scanning: parses typed values from the tokens of an entry.
 #![tactic(auto)]
 
 pub mod error;

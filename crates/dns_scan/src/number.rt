@@ -1,4 +1,4 @@
-//! Decimal numbers.
+//! Parses decimal numbers.
 ghost use Rattle.std.specs.Prelude.{◌≡◌, ◌≤◌, ◌<◌, IfSome, IfOk};
 ghost use Rattle.dns_scan.specs.Numbers.{plain_digit_of, AddsDigit, ScansNumber};
 
@@ -6,7 +6,7 @@ use crate::scanner::Scanner;
 use dns_symbol::ScannerError;
 use dns_symbol::symbol::Symbol;
 
-// The value of a plain digit.
+// Returns the value of a plain digit, or `None` for any other symbol.
 fn plain_digit(symbol: Symbol) -> Option<u8>
     ensures value { result ≡ plain_digit_of symbol }
     ensures small { IfSome result (λ d. d < 10) }
@@ -17,7 +17,7 @@ fn plain_digit(symbol: Symbol) -> Option<u8>
     }
 }
 
-// A symbol more of a number of at most `limit`.
+// Extends a number of at most `limit` by the digit of a symbol.
 fn add_digit<E: ScannerError>(limit: u128, value: &mut u128, symbol: Symbol) -> Result<(), E>
     ensures { AddsDigit E.cause limit value.old symbol result value.new }
 {
@@ -37,7 +37,7 @@ fn add_digit<E: ScannerError>(limit: u128, value: &mut u128, symbol: Symbol) -> 
     }
 }
 
-/// Takes a token as a decimal number of at most `limit`. The empty token is 0.
+/// Parses the next token as a decimal number of at most `limit`. The empty token is 0.
 pub fn scan_number<S: Scanner>(scanner: &mut S, limit: u128) -> Result<u128, S::Error>
     requires { S.can_scan scanner.old }
     ensures ready { S.can_scan scanner.new }

@@ -1,4 +1,4 @@
-//! What is left of an entry.
+//! Parses the remaining tokens of an entry.
 ghost use Rattle.std.specs.Prelude.{◌≡◌, ◌⊎◌, ℕ, List, [], All, IfOk, IsOkAnd, MatchResult, Ok, Err};
 ghost use Rattle.std.specs.List.{AllZip};
 ghost use Rattle.dns_charstr.specs.Reading.{HasOctets};
@@ -18,7 +18,7 @@ use dns_symbol::{ConvertSymbols, ScannerError};
 use std::alloc::Allocator;
 use std::marker::PhantomData;
 
-/// Refuses tokens that are left, as "trailing data". It takes none.
+/// Fails with "trailing data" if tokens remain. It consumes none.
 pub fn expect_end<S: Scanner>(scanner: &mut S) -> Result<(), S::Error>
     requires { S.can_scan scanner.old }
     ensures ready { S.can_scan scanner.new }
@@ -33,11 +33,11 @@ pub fn expect_end<S: Scanner>(scanner: &mut S) -> Result<(), S::Error>
     Ok(())
 }
 
-/// Takes all tokens that are left, as values of one type, in a list from `alloc`. No token left is
-/// an empty list.
+/// Parses all remaining tokens as values of one type, into a list from `alloc`. The list is empty
+/// if no token remains.
 ///
-/// The first refusal of a value is returned; so is "short buffer" where the list finds no
-/// memory, which it asks for once there is a value. Then the tokens after that value are left.
+/// Returns the first error of a value. Fails with "short buffer" if the list can't allocate, which
+/// it does only once there is a value. The tokens after the value of the error are then left.
 pub fn scan_rest<A: Allocator, S: Scanner, T: Scan<S> + Drop>(
     alloc: A,
     scanner: &mut S,
@@ -59,11 +59,11 @@ pub fn scan_rest<A: Allocator, S: Scanner, T: Scan<S> + Drop>(
             Err(_) => return Err(S::Error::short_buf()),
         }
     }
-    // No list holds so many values, so this never is.
+    // No list holds that number of values, so this is never reached.
     Err(S::Error::short_buf())
 }
 
-/// The octets of all tokens that are left, through a converter of the type `C`.
+/// The octets of all remaining tokens, through a converter of the type `C`.
 #[derive(Drop)]
 pub struct RestOf<C, O> {
     /// The octets.
@@ -71,7 +71,7 @@ pub struct RestOf<C, O> {
     converter: PhantomData<C>,
 }
 
-/// All tokens that are left through one converter, as [`Scanner::convert_entry`] takes them.
+/// Parses all remaining tokens through one converter, as [`Scanner::convert_entry`] does.
 impl<S: Scanner, C: ConvertSymbols<EntrySymbol, S::Error> + Default> Scan<S>
     for RestOf<C, S::Octets> {
     ghost scan_reads = { λ tokens r rest. (convert : C) × C.is_default convert × MatchResult r
@@ -86,11 +86,11 @@ impl<S: Scanner, C: ConvertSymbols<EntrySymbol, S::Error> + Default> Scan<S>
     }
 }
 
-/// Takes all tokens that are left as character strings, in a list from `alloc`. No token left is
-/// an empty list.
+/// Parses all remaining tokens as character strings, into a list from `alloc`. The list is empty if
+/// no token remains.
 ///
-/// Tokens that are character strings of at most 255 octets are read as these, unless memory lacks.
-/// Any other tokens are refused.
+/// Tokens that are character strings of at most 255 octets are parsed as these, unless an
+/// allocation fails. Any other tokens are rejected.
 pub fn strings_rest<A: Allocator, S: Scanner>(
     alloc: A,
     scanner: &mut S,

@@ -1,4 +1,4 @@
-//! Values that can be scanned.
+//! The trait of values that can be parsed from a scanner.
 ghost use Rattle.std.specs.Prelude.{◌≡◌, List, Result, Ok, min};
 ghost use Rattle.dns_octets.specs.Room.{within};
 ghost use Rattle.dns_symbol.specs.Cause.{Cause};
@@ -14,12 +14,13 @@ use dns_charstr::charstr::CharStr;
 use dns_octets::{AsOctets, Ttl};
 use dns_wire::Name;
 
-/// A value that can be scanned.
+/// A value that can be parsed from a scanner.
 pub trait Scan<S: Scanner>: Sized {
-    // The tokens before, the value or the refusal, and the tokens after.
+    // The tokens before, the value or the error, and the tokens after.
     ghost scan_reads: { List Token → Result Self Cause → List Token → Type 0 };
 
-    /// Takes the value's tokens, and gives it or refuses them.
+    /// Parses the value from its tokens, which are consumed. Fails with the scanner's error if they
+    /// aren't such a value.
     fn scan(scanner: &mut S) -> Result<Self, S::Error>
         requires { S.can_scan scanner.old }
         ensures ready { S.can_scan scanner.new }
@@ -27,7 +28,7 @@ pub trait Scan<S: Scanner>: Sized {
             → (rest : List Token) × scan_reads tokens (by_cause S.Error.cause result) rest × HasTokens S.next_token scanner.new rest };
 }
 
-/// A decimal number. The empty token is 0.
+/// Parses a decimal number. The empty token is 0.
 impl<S: Scanner> Scan<S> for u8 {
     ghost scan_reads = { ReadsFirstToken (NumberReads (greatest 8)) };
 
@@ -36,7 +37,7 @@ impl<S: Scanner> Scan<S> for u8 {
     }
 }
 
-/// A decimal number. The empty token is 0.
+/// Parses a decimal number. The empty token is 0.
 impl<S: Scanner> Scan<S> for u16 {
     ghost scan_reads = { ReadsFirstToken (NumberReads (greatest 16)) };
 
@@ -45,7 +46,7 @@ impl<S: Scanner> Scan<S> for u16 {
     }
 }
 
-/// A decimal number. The empty token is 0.
+/// Parses a decimal number. The empty token is 0.
 impl<S: Scanner> Scan<S> for u32 {
     ghost scan_reads = { ReadsFirstToken (NumberReads (greatest 32)) };
 
@@ -54,7 +55,7 @@ impl<S: Scanner> Scan<S> for u32 {
     }
 }
 
-/// A decimal number. The empty token is 0.
+/// Parses a decimal number. The empty token is 0.
 impl<S: Scanner> Scan<S> for u64 {
     ghost scan_reads = { ReadsFirstToken (NumberReads (greatest 64)) };
 
@@ -63,7 +64,7 @@ impl<S: Scanner> Scan<S> for u64 {
     }
 }
 
-/// A decimal number. The empty token is 0.
+/// Parses a decimal number. The empty token is 0.
 impl<S: Scanner> Scan<S> for u128 {
     ghost scan_reads = { ReadsFirstToken (NumberReads (greatest 128)) };
 
@@ -72,7 +73,7 @@ impl<S: Scanner> Scan<S> for u128 {
     }
 }
 
-/// Seconds, as a decimal number.
+/// Parses a TTL in seconds, as a decimal number.
 impl<S: Scanner> Scan<S> for Ttl {
     ghost scan_reads = { ReadsFirstToken (NumberReads (greatest 32)) };
 
@@ -81,7 +82,7 @@ impl<S: Scanner> Scan<S> for Ttl {
     }
 }
 
-/// A character string, as [`Scanner::scan_charstr`] takes it.
+/// Parses a character string, as [`Scanner::scan_charstr`] does.
 impl<S: Scanner> Scan<S> for CharStr<S::Octets> {
     ghost scan_reads = { ReadsFirstToken (OctetsRead (within max_string S.OctetsBuilder.room)) };
 
@@ -90,7 +91,7 @@ impl<S: Scanner> Scan<S> for CharStr<S::Octets> {
     }
 }
 
-/// A name, as [`Scanner::scan_name`] takes it.
+/// Parses a name, as [`Scanner::scan_name`] does.
 impl<O: AsOctets, S: Scanner<Name = Name<O>>> Scan<S> for Name<O> {
     ghost scan_reads = { ReadsFirstToken (NameReads S.Error.cause S.reads_name) };
 
@@ -99,7 +100,7 @@ impl<O: AsOctets, S: Scanner<Name = Name<O>>> Scan<S> for Name<O> {
     }
 }
 
-/// No value, of no tokens.
+/// Parses no value, from no tokens.
 impl<S: Scanner> Scan<S> for () {
     ghost scan_reads = { λ tokens r rest. (r ≡ Ok tt) × (rest ≡ tokens) };
 
@@ -108,7 +109,7 @@ impl<S: Scanner> Scan<S> for () {
     }
 }
 
-/// One value and then another. So nested pairs are lists of values of any types.
+/// Parses one value and then another. So nested pairs are lists of values of any types.
 impl<S: Scanner, A: Scan<S> + Drop, B: Scan<S>> Scan<S> for (A, B) {
     ghost scan_reads = { ReadsBoth A.scan_reads B.scan_reads };
 

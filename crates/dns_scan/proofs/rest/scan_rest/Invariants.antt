@@ -4,7 +4,7 @@ use Rattle.dns_scan.specs.Stands.{HasTokens}
 use Rattle.dns_scan.specs.Tokens.{Token}
 use Rattle.dns_scan.proofs.rest.scan_rest.Given as goal
 
--- one value a turn, read of the tokens before those that are left
+-- one value a turn, parsed from the tokens before those that remain
 abbrev pub invariant-loop-turn : goal.invariant-loop-turn
 invariant-loop-turn g l = record {
   ready : g.S.Scanner.can_scan l.scanner;
