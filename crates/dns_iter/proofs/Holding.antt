@@ -1,4 +1,4 @@
--- A source of what tokens hold gives the contents of these tokens.
+-- A source of the contents of tokens yields the contents of these tokens.
 use Rattle.std.proofs.Common.{◌≡◌, ◌≤◌, ℕ, zero, suc, List, [], ◌∷◌, length, refl, sym, ◌∙◌, ap, subst, inl, inr, ⊎_elim, Some, None, Vec, String}
 use Rattle.std.specs.Prelude.{option_map, slice_get}
 use Rattle.std.proofs.lemmas.Option.{slice_get-map, slice_get_past}
@@ -16,7 +16,7 @@ use Rattle.dns_split.proofs.Content.{word_first, quote_first, between_quotes, wo
 use Rattle.dns_scan.specs.Join.{IsSymbols}
 use Rattle.dns_iter.specs.Contents.{HasContent, HaveContents, HoldsAt, HoldsOnly, content_next}
 
--- what is given of a token's text
+-- what is yielded of a token's text
 pub content_given : (spelled token given : List ℕ) → spelled ≡ token → ((w : IsWord spelled) → given ≡ spelled) → ((q : IsQuote spelled) → given ≡ flat_map bytes q.symbols)
     → (content : List ℕ) → HasContent token content → given ≡ content
 content_given spelled token given is word quote content h =

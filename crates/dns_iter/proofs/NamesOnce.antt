@@ -1,4 +1,4 @@
--- Where the room is known, a token is read as a name in one way.
+-- If the capacity is known exactly, parsing a token as a name has one result.
 use Rattle.std.proofs.Common.{ℕ, ◌≡◌, List, sym, ap, subst, ◌∙◌, arith, ⊎_elim, Result, Ok, Err}
 use Rattle.dns_octets.specs.Room.{exactly}
 use Rattle.dns_symbol.specs.Cause.{Cause, IsCause}

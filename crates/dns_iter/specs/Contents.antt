@@ -1,4 +1,4 @@
--- What the tokens of an entry hold.
+-- The contents of the tokens of an entry.
 use Rattle.std.specs.Prelude.{ℕ, List, [], ◌∷◌, ◌≡◌, ◌⊎◌, Option, Some, MatchOption, slice_get}
 use Rattle.std.specs.Borrow.{Bor}
 use Rattle.std.specs.List.{AllZip, flat_map}
@@ -8,33 +8,33 @@ use Rattle.dns_scan.specs.Tokens.{Token}
 use Rattle.dns_split.specs.Splitting.{Entries}
 use Rattle.dns_split.specs.Token.{IsWord, IsQuote}
 
--- a word holds itself, and a quoted text what stands between its double quotes
+-- the content of a word is the word, that of a quoted string is between its double quotes
 abbrev pub HasContent : Token → List ℕ → Type 0
 HasContent token content = (IsWord token × (content ≡ token)) ⊎ ((q : IsQuote token) × (content ≡ flat_map bytes q.symbols))
 
--- what each token of an entry holds
+-- the content of each token of an entry
 abbrev pub HaveContents : List Token → List (List ℕ) → Type 0
 HaveContents = AllZip HasContent
 
--- they hold texts
+-- they have contents
 abbrev pub HoldTexts : List Token → Type 0
 HoldTexts tokens = (contents : List (List ℕ)) × HaveContents tokens contents
 
--- what they hold is symbols throughout
+-- their contents are symbols throughout
 abbrev pub HoldSymbols : List Token → Type 0
 HoldSymbols tokens = (contents : List (List ℕ)) → HaveContents tokens contents → AreSymbols contents
 
--- the entry of that number, counted from 0, has tokens that hold these texts
+-- the entry with that index, from 0, has tokens with these contents
 abbrev pub HoldsAt : Entries → ℕ → List Token → Type 0
 HoldsAt entries place contents = (tokens : List Token) × (slice_get entries place ≡ Some tokens) × HaveContents tokens contents
 
--- it holds these texts and no others, and each is symbols throughout
+-- it has these contents and no others, and each is symbols throughout
 pub record HoldsOnly (entries : Entries) (place : ℕ) (contents : List Token) : Type 0 where
   pub holds : HoldsAt entries place contents
   pub only : (other : List Token) → HoldsAt entries place other → other ≡ contents
   pub symbols : AreSymbols contents
 
--- a call at the texts of tokens gave what the first of them holds and left the others, or there was none
+-- a call at the texts of tokens returned the content of the first and kept the others, or there was none
 abbrev pub content_next : {S : Type 0} → (S → List Token) → S → Option (Bor (List ℕ)) → S → Type 0
 content_next texts s given t =
     MatchOption given (texts s ≡ [])

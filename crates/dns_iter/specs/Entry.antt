@@ -9,19 +9,19 @@ use Rattle.dns_iter.specs.TokenNext.{token_next}
 use Rattle.dns_iter.specs.declared.entry.Contents.{Contents}
 use Rattle.dns_iter.specs.declared.scanner.IterScanner.{IterScanner}
 
--- the next token is what the first of the entry's tokens holds, by its text
+-- the next token is the content of the first of the entry's tokens, by its text
 abbrev pub entry_next : {T O E B A : Type 0} → (T → List ℕ) → IterScanner (Contents T) O E (Bor Token) B A → Option Token → IterScanner (Contents T) O E (Bor Token) B A → Type 0
 entry_next text = token_next (content_next (λ s. map text s.tokens.now))
 
--- both are what one text splits into
+-- both are the entries of one text
 abbrev pub AreOfOneText : Entries → Entries → Type 0
 AreOfOneText given found = (text : List ℕ) × Splits text given × Splits text found
 
 module _ {S : Type 0} (next : S → Option Token → S → Type 0) where
-  -- there is a scanner, and what the tokens of that entry hold is what it has left
+  -- there is a scanner, in which the contents of the tokens of that entry remain
   abbrev pub StandsAt : Entries → ℕ → Option S → Type 0
   StandsAt entries place scanner = (contents : List Token) → HoldsAt entries place contents → IsSomeAnd scanner (λ s. HasTokens next s contents)
 
-  -- a scanner has left the one list of texts that they hold
+  -- the one list of texts that are their contents remains in a scanner
   abbrev pub StandsAtOnly : Entries → ℕ → S → Type 0
   StandsAtOnly entries place s = (contents : List Token) × HoldsOnly entries place contents × HasTokens next s contents

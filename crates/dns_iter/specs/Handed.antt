@@ -1,4 +1,4 @@
--- What the symbols of a token are handed over as.
+-- What is passed on for the symbols of a token.
 use Rattle.std.specs.Prelude.{Result}
 use Rattle.dns_symbol.specs.declared.symbol.Symbol.{Symbol}
 

@@ -1,7 +1,7 @@
-//! Scanners over the entries of zone text.
+//! Scanners over the entries of zone files.
 //!
-//! [`dns_split::splitting::split`] gives each entry as a list of strings. Whoever reads by the
-//! cursor [`dns_split::pieces::Pieces`] collects a list of slices instead, and copies no text:
+//! [`dns_split::splitting::split`] returns each entry as a list of strings. A caller that uses the
+//! iterator [`dns_split::pieces::Pieces`] collects a list of slices instead, and copies no text:
 //!
 //! ```text
 //! for piece in Pieces::new(text) {
@@ -34,15 +34,15 @@ use dns_scan::{Scanner, ScannerError, StrError};
 use dns_split::token::content;
 use std::alloc::Allocator;
 
-/// A token of zone text as it is spelled, with its double quotes.
+/// A token of a zone file as it is spelled, with its double quotes.
 ///
-/// [`dns_split::splitting::split`] gives strings, and the places that
-/// [`dns_split::pieces::Pieces`] gives are slices of the text.
+/// [`dns_split::splitting::split`] returns strings, and the spans of [`dns_split::pieces::Pieces`]
+/// are slices of the text.
 pub trait TokenText {
     // The text's bytes.
     ghost text: { Self → List ℕ };
 
-    /// The text.
+    /// Returns the text.
     fn text(&self) -> &str
         ensures { result.now ≡ text self.now };
 }
@@ -65,15 +65,15 @@ impl<'t> TokenText for &'t str {
     }
 }
 
-/// What the tokens of an entry hold, one after the other: a word itself, and of a quoted text what
-/// stands between its double quotes.
+/// An iterator over the contents of the tokens of an entry: a word itself, and the text between the
+/// double quotes of a quoted string.
 #[derive(Drop)]
 pub struct Contents<'a, T> {
     tokens: &'a [T],
 }
 
 impl<'a, T: TokenText> Contents<'a, T> {
-    /// What these tokens hold.
+    /// Returns an iterator over the contents of these tokens.
     pub fn new(tokens: &'a [T]) -> Self
         ensures { result.tokens.now ≡ tokens.now }
     {
@@ -103,14 +103,14 @@ impl<'a, T: TokenText> Iterator for Contents<'a, T> {
     }
 }
 
-/// A scanner over an entry of zone text: it reads a word as it stands, and of a quoted text what
-/// stands between its double quotes.
+/// A scanner over an entry of a zone file: it parses a word as it is, and the text between the
+/// double quotes of a quoted string.
 pub type EntryScanner<'a, T, Octets, E = StrError> = IterScanner<Contents<'a, T>, Octets, E>;
 
-/// A scanner over the tokens of an entry, each as it is spelled.
+/// Returns a scanner over the tokens of an entry, each as it is spelled.
 ///
-/// `spaced` says whether the entry began with a blank: [`Scanner::has_space`] returns it until the
-/// first token is taken. Octets are allocated from `alloc`.
+/// `spaced` is whether the entry began with a blank: [`Scanner::has_space`] returns it until the
+/// first token is consumed. Octets are allocated from `alloc`.
 pub fn entry_scanner<'a, T: TokenText, Octets: ScanOctets, E: ScannerError>(
     alloc: <Octets::Builder as EmptyBuilder>::Alloc,
     tokens: &'a [T],
@@ -124,12 +124,12 @@ pub fn entry_scanner<'a, T: TokenText, Octets: ScanOctets, E: ScannerError>(
     IterScanner::spaced(alloc, Contents::new(tokens), spaced)
 }
 
-/// A scanner over the entry of that number, counted from 0, of those that
-/// [`dns_split::splitting::split`] gave; none if there are not so many.
+/// Returns a scanner over an entry, given by its index from 0, of those that
+/// [`dns_split::splitting::split`] returned. Returns `None` if there are too few entries.
 ///
-/// Of entries that a text splits into, it stands before what the tokens of that entry hold: one
-/// list of texts, each of them symbols throughout. `split` does not tell whether an entry began
-/// with a blank, so [`Scanner::has_space`] is false.
+/// If the entries are those that a text splits into, the scanner has the contents of that entry's
+/// tokens: one list of texts, each of which consists of symbols. `split` doesn't return whether an
+/// entry began with a blank, so [`Scanner::has_space`] is false.
 pub fn entry_at<'a, A: Allocator, Octets: ScanOctets, E: ScannerError>(
     alloc: <Octets::Builder as EmptyBuilder>::Alloc,
     entries: &'a [Vec<String<A>, A>],
@@ -149,8 +149,8 @@ pub fn entry_at<'a, A: Allocator, Octets: ScanOctets, E: ScannerError>(
     Some(entry_scanner(alloc, tokens, false))
 }
 
-/// Each token holds one text, and that is symbols throughout, so that no scan refuses a bad escape
-/// of it.
+/// Every token has exactly one content, which consists of symbols, so that no scan of it fails with
+/// a bad escape.
 pub fn tokens_hold_one_text()
     ensures some { (tokens : List Token) → AllByRecursion IsToken tokens → HoldTexts tokens }
     ensures one { (tokens : List Token) → HasOneAnswer (HaveContents tokens) }

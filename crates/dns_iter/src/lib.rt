@@ -1,4 +1,4 @@
-//! Scanning over an iterator of tokens, and the program.
+//! A scanner over an iterator of tokens, and one over an entry of a zone file.
 #![tactic(auto)]
 
 pub mod entry;

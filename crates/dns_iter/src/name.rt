@@ -1,4 +1,4 @@
-//! Names out of tokens.
+//! Parses names from tokens.
 ghost use Rattle.std.specs.Prelude.{◌≡◌, ◌+◌, ◌<◌, ◌≤◌, [], ◌∷◌, ◌++◌, IfSome, IfNone};
 ghost use Rattle.dns_wire.specs.Wire.{wire_length};
 ghost use Rattle.dns_iter.specs.Name.{ReadsToken};
@@ -9,7 +9,7 @@ use dns_octets::{AsOctetsMut, EmptyBuilder, FreezeBuilder, FromBuilder};
 use dns_scan::ScannerError;
 use dns_wire::{Name, RelativeName};
 
-// The name with the root after its labels, if there is room for its octets.
+// Returns the name with the root appended, if its octets fit.
 fn with_root<Octets: FromBuilder>(
     alloc: <Octets::Builder as EmptyBuilder>::Alloc,
     name: &RelativeName<Octets>,
@@ -28,8 +28,7 @@ where
     }
 }
 
-/// The absolute name that a token is the text of. A name of at least a label that is relative gets
-/// the root.
+/// Parses the absolute name of a token. A relative name with at least one label gets the root.
 pub(crate) fn token_name<Octets: FromBuilder + Drop, E: ScannerError>(
     token: &str,
     alloc: <Octets::Builder as EmptyBuilder>::Alloc,

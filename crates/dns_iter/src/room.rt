@@ -1,4 +1,4 @@
-//! Laws on octets of a fixed capacity, whose room is known.
+//! Laws of octets of a fixed capacity.
 ghost use Rattle.std.specs.Prelude.{◌≡◌, ◌≤◌, List, ℕ, ◌∷◌, IsOkAnd, Result, length};
 ghost use Rattle.std.specs.List.{AllZip, flat_map};
 ghost use Rattle.dns_charstr.specs.Reading.{HasOctets};
@@ -29,7 +29,7 @@ pub fn fitting_strings_are_answered<'a, T: TokenText, E: ScannerError, const N: 
     character_strings_are_scanned_back(scanner)
 }
 
-/// Character strings whose wire forms fit are returned.
+/// Character strings whose wire formats fit are returned.
 pub fn fitting_entries_are_answered<'a, T: TokenText, E: ScannerError, const N: usize>(
     scanner: &mut EntryScanner<'a, T, ArrayVec<u8, N>, E>,
 ) -> Result<ArrayVec<u8, N>, E>
@@ -43,8 +43,8 @@ pub fn fitting_entries_are_answered<'a, T: TokenText, E: ScannerError, const N: 
     string_entries_are_scanned_back(scanner)
 }
 
-/// A token is read as one name or refused in one way, and so are the tokens of an entry: what is
-/// given is a function of the tokens, and so are the tokens that are left.
+/// Parsing a token as a name has at most one result, and so has parsing the tokens of an entry: the
+/// value and the remaining tokens are functions of the tokens.
 pub fn names_have_one_answer<'a, T: TokenText + 'a, E: ScannerError, const N: usize>()
     ensures token { NamesInOneWay E.cause
         (⟦<EntryScanner<'a, T, ArrayVec<u8, N>, E> as Scanner>⟧.reads_name) }

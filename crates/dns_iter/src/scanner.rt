@@ -20,8 +20,8 @@ use dns_symbol::symbol::{EntrySymbol, Symbol};
 use dns_wire::Name;
 use std::marker::PhantomData;
 
-/// Octets that a scan can make: their builder begins empty, can be cut short, and is let go where a
-/// scan refuses. It stands for these bounds, and each type that meets them has it.
+/// Octets that a scan can build: their builder can be made empty, truncated, and dropped if the
+/// scan fails. The trait abbreviates these bounds, and every type that meets them implements it.
 pub trait ScanOctets: FromBuilder<
     Builder: EmptyBuilder + AsOctetsMut + Truncate + FreezeBuilder<Octets = Self> + Drop,
 >
@@ -40,9 +40,9 @@ enum Ahead<X> {
     End,
 }
 
-/// A scanner over an iterator of tokens, which must end.
+/// A scanner over an iterator of tokens, which must be finite.
 ///
-/// Once the iterator has ended it is asked no more.
+/// Once the iterator has ended, it isn't called again.
 #[derive(Drop)]
 pub struct IterScanner<Iter: Iterator, Octets: FromBuilder, E = StrError>
 where
@@ -60,7 +60,7 @@ impl<'a, Iter: Iterator<Item = &'a str>, Octets: ScanOctets, E: ScannerError> It
     Octets,
     E,
 > {
-    /// A scanner of the iterator's tokens. Octets are allocated from `alloc`.
+    /// Returns a scanner over the iterator's tokens. Octets are allocated from `alloc`.
     pub fn new(alloc: <Octets::Builder as EmptyBuilder>::Alloc, iter: Iter) -> Self
         requires can { Iter.can_next iter }
         requires ends { IsFinite (Iter.remaining iter) }
@@ -71,8 +71,8 @@ impl<'a, Iter: Iterator<Item = &'a str>, Octets: ScanOctets, E: ScannerError> It
         IterScanner::spaced(alloc, iter, false)
     }
 
-    /// A scanner of the iterator's tokens, which says whether white space stands before the first.
-    /// None stands before the others.
+    /// Returns a scanner over the iterator's tokens, where `spaced` is whether white space precedes
+    /// the first. None precedes the others.
     pub fn spaced(alloc: <Octets::Builder as EmptyBuilder>::Alloc, iter: Iter, spaced: bool) -> Self
         requires can { Iter.can_next iter }
         requires ends { IsFinite (Iter.remaining iter) }
@@ -89,7 +89,7 @@ impl<'a, Iter: Iterator<Item = &'a str>, Octets: ScanOctets, E: ScannerError> It
         }
     }
 
-    /// Whether no token is left. It takes none.
+    /// Returns whether no token is left. It consumes none.
     pub fn is_exhausted(&mut self) -> bool
         requires { ⟦<Self as Scanner>⟧.can_scan self.old }
         ensures ready { ⟦<Self as Scanner>⟧.can_scan self.new }
@@ -100,7 +100,7 @@ impl<'a, Iter: Iterator<Item = &'a str>, Octets: ScanOctets, E: ScannerError> It
         self.peek().is_none()
     }
 
-    // The next token, which is not taken.
+    // Returns the next token, without consuming it.
     fn peek(&mut self) -> Option<&'a str>
         requires { IsReady Iter.can_next Iter.remaining self.old.iter self.old.ahead }
         ensures ready { IsReady Iter.can_next Iter.remaining self.new.iter self.new.ahead }
@@ -120,7 +120,7 @@ impl<'a, Iter: Iterator<Item = &'a str>, Octets: FromBuilder, E> IterScanner<Ite
 where
     Octets::Builder: EmptyBuilder,
 {
-    // Looks one token ahead.
+    // Calls the iterator for the next token, if it isn't stored already.
     fn fill(&mut self)
         requires { IsReady Iter.can_next Iter.remaining self.old.iter self.old.ahead }
         ensures ready { IsReady Iter.can_next Iter.remaining self.new.iter self.new.ahead }
@@ -136,7 +136,7 @@ where
         }
     }
 
-    // Takes the next token.
+    // Consumes the next token and returns it.
     fn take(&mut self) -> Option<&'a str>
         requires { IsReady Iter.can_next Iter.remaining self.old.iter self.old.ahead }
         ensures ready { IsReady Iter.can_next Iter.remaining self.new.iter self.new.ahead }
@@ -164,7 +164,7 @@ impl<'a, Iter: Iterator<Item = &'a str>, Octets: FromBuilder, E: ScannerError> I
 where
     Octets::Builder: EmptyBuilder,
 {
-    // Takes the next token. Refused where none is left.
+    // Consumes the next token and returns it. Fails if none is left.
     fn take_one(&mut self) -> Result<&'a str, E>
         requires { IsReady Iter.can_next Iter.remaining self.old.iter self.old.ahead }
         ensures ready { IsReady Iter.can_next Iter.remaining self.new.iter self.new.ahead }
@@ -178,7 +178,7 @@ where
         }
     }
 
-    // Hands over each token that is left.
+    // Passes each remaining token to `take`.
     fn each_token<T: TakeToken<E, B>, B>(&mut self, take: &mut T, built: &mut B) -> Result<(), E>
         requires ready { IsReady Iter.can_next Iter.remaining self.old.iter self.old.ahead }
         requires can { T.can_take take.old }

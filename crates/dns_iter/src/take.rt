@@ -1,4 +1,4 @@
-//! What the symbols of a token are handed to.
+//! Traits of the consumers of symbols and tokens.
 ghost use Rattle.std.specs.Prelude.{◌≡◌, ◌≤◌, ◌-◌, ◌++◌, IsOk, OnErr, OnOk, Result, length, ⊤};
 ghost use Rattle.dns_scan.specs.Entries.{AsksToken, ConvertInEntry, ConvertStep, ConvertTail, StringStep};
 ghost use Rattle.dns_scan.specs.Steps.{GivesStep, octet_given, text_given, Grows};
@@ -10,14 +10,15 @@ use dns_octets::{EmptyBuilder, OctetsBuilder, ShortBuf};
 use dns_scan::{ConvertSymbols, ScannerError};
 use dns_symbol::symbol::{EntrySymbol, Symbol};
 
-/// What the symbols of a token are handed to, one by one, beside what is built of them.
+/// A consumer of the symbols of a token, with a separate value that is built of them.
 ///
-/// The two are apart, so that the compiler keeps the one in registers while the other grows.
+/// The two are separate, so that the compiler keeps the consumer in registers while the value
+/// grows.
 pub(crate) trait TakeSymbol<Sym, E, B> {
     // Whether it may be called.
     ghost can_take: { Self → Type 0 };
 
-    // The states before, the symbol, the answer, and the states after.
+    // The states before, the symbol, the result, and the states after.
     ghost step: { Self × B → Sym → Result (Unit {0}) E → Self × B → Type 0 };
 
     fn take_symbol(&mut self, built: &mut B, symbol: Sym) -> Result<(), E>
@@ -26,12 +27,12 @@ pub(crate) trait TakeSymbol<Sym, E, B> {
         ensures takes { step (self.old, built.old) symbol result (self.new, built.new) };
 }
 
-/// What the tokens of an entry are handed to, one by one, beside what is built of them.
+/// A consumer of the tokens of an entry, with a separate value that is built of them.
 pub(crate) trait TakeToken<E, B> {
     // Whether it may be called.
     ghost can_take: { Self → Type 0 };
 
-    // The states before, the token, the answer, and the states after.
+    // The states before, the token, the result, and the states after.
     ghost step: { Self × B → Token → Result (Unit {0}) E → Self × B → Type 0 };
 
     fn take_token(&mut self, built: &mut B, token: &str) -> Result<(), E>
@@ -40,7 +41,7 @@ pub(crate) trait TakeToken<E, B> {
         ensures takes { step (self.old, built.old) token.now result (self.new, built.new) };
 }
 
-/// A call builds nothing.
+/// A closure builds nothing.
 impl<F, Sym, E> TakeSymbol<Sym, E, ()> for F
 where
     F: FnMut(Sym) -> Result<(), E>,
@@ -55,7 +56,7 @@ where
     }
 }
 
-/// A call builds nothing.
+/// A closure builds nothing.
 impl<F, E: ScannerError> TakeToken<E, ()> for F
 where
     F: FnMut(EntrySymbol) -> Result<(), E>,
@@ -70,7 +71,7 @@ where
     }
 }
 
-/// A symbol's octet goes into the builder.
+/// Appends a symbol's octet to the builder.
 #[derive(Drop)]
 pub(crate) struct AsOctet;
 
@@ -90,7 +91,7 @@ impl<B: OctetsBuilder, E: ScannerError> TakeSymbol<Symbol, E, B> for AsOctet {
     }
 }
 
-/// A symbol's character goes into the builder, as UTF-8.
+/// Appends a symbol's character to the builder, in UTF-8.
 #[derive(Drop)]
 pub(crate) struct AsText;
 
@@ -114,8 +115,8 @@ impl<B: OctetsBuilder, E: ScannerError> TakeSymbol<Symbol, E, B> for AsText {
     }
 }
 
-// Appends octets. Where they are those of a whole group of an encoding, their number is a constant,
-// so that they are stored and not copied by a call.
+// Appends octets. If they are those of a whole group of an encoding, their number is a constant, so
+// that they are stored inline and not copied by a call.
 #[inline(always)]
 fn append_few<B: OctetsBuilder>(builder: &mut B, octets: &[u8]) -> Result<(), ShortBuf>
     ensures ok { OnOk result (B.octets builder.new ≡ B.octets builder.old ++ octets.now) }
@@ -131,7 +132,7 @@ fn append_few<B: OctetsBuilder>(builder: &mut B, octets: &[u8]) -> Result<(), Sh
     }
 }
 
-// Appends the octets that a converter made, if it made any.
+// Appends the octets that a converter produced, if there are any.
 #[inline(always)]
 fn append<B: OctetsBuilder, E: ScannerError>(builder: &mut B, octets: &[u8]) -> Result<(), E>
     ensures { Grows E.cause B.room octets.now (B.octets builder.old) result (B.octets builder.new) }
@@ -145,14 +146,14 @@ fn append<B: OctetsBuilder, E: ScannerError>(builder: &mut B, octets: &[u8]) -> 
     }
 }
 
-/// A symbol goes through the converter into the builder.
+/// Converts a symbol with the converter, and appends its octets to the builder.
 #[derive(Drop)]
 pub(crate) struct Through<C> {
     pub convert: C,
 }
 
 impl<C> Through<C> {
-    /// The converter's tail goes into the builder.
+    /// Converts the converter's tail, and appends its octets to the builder.
     pub(crate) fn take_tail<Sym, B: OctetsBuilder, E: ScannerError>(
         &mut self,
         built: &mut B,
@@ -180,7 +181,7 @@ impl<Sym, C: ConvertSymbols<Sym, E>, B: OctetsBuilder, E: ScannerError> TakeSymb
     }
 }
 
-/// The symbols of a token go through the converter into the builder.
+/// Converts the symbols of a token with the converter, and appends their octets to the builder.
 impl<C: ConvertSymbols<EntrySymbol, E>, B: OctetsBuilder, E: ScannerError> TakeToken<E, B>
     for Through<C> {
     ghost can_take = { λ _. ⊤ };
@@ -192,8 +193,8 @@ impl<C: ConvertSymbols<EntrySymbol, E>, B: OctetsBuilder, E: ScannerError> TakeT
     }
 }
 
-/// A token's octets go into the builder as a character string: their count, and then they. The
-/// string is put together in a builder of its own, from the same allocator.
+/// Appends a token's octets to the builder as a character string in wire format. The string is
+/// built in a separate builder, from the same allocator.
 #[derive(Drop)]
 pub(crate) struct AsString<B: EmptyBuilder> {
     pub alloc: B::Alloc,

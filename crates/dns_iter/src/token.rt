@@ -1,4 +1,4 @@
-//! The symbols of a token.
+//! Converts the symbols of a token to values.
 ghost use Rattle.std.specs.Prelude.{◌≡◌};
 ghost use Rattle.dns_octets.specs.Room.{within};
 ghost use Rattle.dns_symbol.specs.declared.error.SymbolCharsError.{SymbolCharsError};
@@ -15,7 +15,7 @@ use dns_octets::{EmptyBuilder, FreezeBuilder, Str};
 use dns_scan::{ConvertSymbols, ScannerError};
 use dns_symbol::symbol::{Symbol, SymbolOctetsError};
 
-// The text of an error within a token.
+// Returns the text of an error within a token.
 fn escape_text(error: SymbolOctetsError) -> &'static str
     ensures { (e : SymbolCharsError) → error ≡ as_octets_error e → result.now ≡ chars_error_text e }
 {
@@ -25,8 +25,8 @@ fn escape_text(error: SymbolOctetsError) -> &'static str
     }
 }
 
-/// Hands over each symbol of a token. In line, since out of line a token of a number costs a third
-/// more.
+/// Passes each symbol of a token to `take`. It is inlined, since otherwise parsing a number takes a
+/// third more time.
 #[inline(always)]
 pub(crate) fn each_symbol<Sym: From<Symbol>, T: TakeSymbol<Sym, E, B>, B, E: ScannerError>(
     token: &str,
@@ -52,7 +52,7 @@ pub(crate) fn each_symbol<Sym: From<Symbol>, T: TakeSymbol<Sym, E, B>, B, E: Sca
     }
 }
 
-/// The octets of a token's symbols.
+/// Returns the octets of a token's symbols.
 pub(crate) fn token_octets<B: EmptyBuilder + FreezeBuilder + Drop, E: ScannerError>(
     token: &str,
     alloc: B::Alloc,
@@ -64,7 +64,7 @@ pub(crate) fn token_octets<B: EmptyBuilder + FreezeBuilder + Drop, E: ScannerErr
     Ok(built.freeze())
 }
 
-/// The octets of a token's symbols, at most 255.
+/// Returns the octets of a token's symbols as a character string, at most 255.
 pub(crate) fn token_charstr<B: EmptyBuilder + FreezeBuilder + Drop, E: ScannerError>(
     token: &str,
     alloc: B::Alloc,
@@ -76,7 +76,7 @@ pub(crate) fn token_charstr<B: EmptyBuilder + FreezeBuilder + Drop, E: ScannerEr
     Ok(built.finish())
 }
 
-/// The UTF-8 of a token's characters.
+/// Returns the characters of a token's symbols, in UTF-8.
 pub(crate) fn token_text<B: EmptyBuilder + FreezeBuilder + Drop, E: ScannerError>(
     token: &str,
     alloc: B::Alloc,
@@ -89,12 +89,12 @@ where
     each_symbol::<Symbol, _, _, E>(token, &mut AsText, &mut built)?;
     match Str::from_utf8(built.freeze()) {
         Ok(text) => Ok(text),
-        // Characters in UTF-8 are UTF-8, so this never is.
+        // Characters in UTF-8 are UTF-8, so this is never reached.
         Err(_) => Err(E::custom("bad symbol")),
     }
 }
 
-/// What `op` returns of a token's text, if that is ASCII.
+/// Returns the result of `op` for a token's text. Fails if that isn't ASCII.
 pub(crate) fn token_ascii<
     B: EmptyBuilder + Drop,
     E: ScannerError,
@@ -114,12 +114,12 @@ pub(crate) fn token_ascii<
             }
             op(text)
         }
-        // Characters in UTF-8 are UTF-8, so this never is.
+        // Characters in UTF-8 are UTF-8, so this is never reached.
         Err(_) => Err(E::custom("non-ASCII characters")),
     }
 }
 
-/// A token's symbols through a converter, and its tail.
+/// Returns the octets that a converter produces for a token's symbols and its tail.
 pub(crate) fn token_converted<
     C: ConvertSymbols<Symbol, E>,
     B: EmptyBuilder + FreezeBuilder + Drop,
