@@ -11,7 +11,7 @@ use Rattle.dns_zone.specs.declared.zonefile_fmt.multiline.MultiLineWriter.{Multi
 use Rattle.dns_zone.specs.declared.zonefile_fmt.blocks.Blocks.{Blocks}
 use Rattle.dns_zone.specs.declared.zonefile_fmt.sink.Line.{Line}
 
--- what stands before a word
+-- the text before a word
 abbrev pub gap : Bool → List ℕ
 gap first = cond first [] (space ∷ [])
 

@@ -4,7 +4,7 @@ use Rattle.dns_zone.specs.Layout.{Step, token, begin, end, comment, newline}
 use Rattle.dns_zone.specs.Nesting.{is_nested, both_true, both_parts, some_test, none_test, from_some_test, from_none_test}
 use Rattle.dns_zone.specs.Writers.{opened}
 
--- what nests after n open begins: the step may stand there, and the rest nests after it
+-- a list nests after n open blocks if its first step is allowed there, and the rest nests after it
 pub nested_more : (n : ℕ) (x : Step) (xs : List Step) → (x ≡ end → 0 < n) → (x ≡ newline → n ≡ 0) → is_nested (opened x n) xs ≡ true → is_nested n (x ∷ xs) ≡ true
 nested_more n (token bs) xs p q r = r
 nested_more n (comment bs) xs p q r = r

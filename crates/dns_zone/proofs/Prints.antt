@@ -29,7 +29,7 @@ module _ {W : Type 0} (took : W → List ℕ → W → Type 0) where
   pub writes_on_plain : (f : Formatter W) (bs : List ℕ) (g : Formatter W) → IsPlainFormatter f → WritesInCalls FormatterTook f bs g → HasWritten took f bs g
   writes_on_plain f bs g plain p = has_written_of_eq took f _ bs g p.whole (calls_on_plain f p.parts g plain p.calls)
 
--- what a writer over a lent sink printed, said of the sink: s is what the writer began with, and t what it gave back
+-- what a writer over a borrowed sink printed, stated of the sink: s is its value at first, and t at the end
 module _ {W : Type 0} (took : W → List ℕ → W → Type 0) where
   pub lent_run : (s r t u : MutBor W) (v : W) (bs : List ℕ) → s ≡ r → u ≡ t → (u.ghost_name ≡ r.ghost_name → v ≡ u.now)
       → WritesInCalls (LentTook took) s bs t → WritesInCalls took r.now bs v

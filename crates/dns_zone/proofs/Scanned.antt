@@ -26,7 +26,7 @@ opened_le end n i h = omega arith
 opened_le (comment bs) n i h = omega arith
 opened_le newline n i h = omega arith
 
--- the rest of the items from a place on
+-- the rest of the items from an index on
 pub rest_more : {A : Type 0} (items : List (Item A)) (i : ℕ) (x : Item A) → i < length items → x ≡ get_or items i x
     → item_steps (drop i items) ≡ item_step x ∷ item_steps (drop (i + 1) items)
 rest_more {A} items i x h e = ap item_steps (drop_more items i x h) ∙ ap (λ (y : Item A). item_step y ∷ item_steps (drop (i + 1) items)) (sym e)
@@ -36,11 +36,11 @@ pub front_more : {A : Type 0} (items : List (Item A)) (i : ℕ) (x : Item A) →
 front_more {A} items i x h e =
     ap item_steps (take_more items i x h) ∙ (map-append item_step (take i items) (get_or items i x ∷ []) ∙ ap (λ (y : Item A). item_steps (take i items) ++ item_step y ∷ []) (sym e))
 
--- well-formed from a place on, where `blocks` blocks are open
+-- well-formed from an index on, with `blocks` open blocks
 abbrev pub RestFormed : (blocks : ℕ) → List Step → Type 0
 RestFormed blocks rest = (is_nested blocks rest ≡ true) × AllByRecursion IsProper rest
 
--- a proper step that may stand where it does has no fault
+-- a proper step that is allowed in its place has no error
 pub no_fault : (past : List Step) (x : Step) → IsProper x → (x ≡ end → 0 < depth past) → (x ≡ newline → depth past ≡ 0) → IsFine past x
 no_fault past (token bs) p h k e q = q.1 p
 no_fault past (comment bs) p h k e q = q.1 p
@@ -72,7 +72,7 @@ pub scanned_fault : (xs : List Step) (blocks place : ℕ) (x : Step) (rest : Lis
     → ((past : List Step) → length past ≡ place → depth past ≡ blocks → IsDocumentFault past x e) → IsFirstFault [] xs e
 scanned_fault xs blocks place x rest e s p = s.fault e (inl (p s.past s.places s.opens))
 
--- steps with a fault are not well-formed
+-- steps with an error are not well-formed
 pub fault_refuses : (past xs : List Step) (e : DocumentError) → IsFirstFault past xs e → ¬ RestFormed (depth past) xs
 fault_refuses past [] e p q = let k = from_none_test (depth past) q.0 in absurd (omega (arith, p.1, k))
 fault_refuses past (x ∷ xs) e (inl p) q = no_fault past x q.1.0 (nested_end _ x xs q.0) (nested_newline _ x xs q.0) e p

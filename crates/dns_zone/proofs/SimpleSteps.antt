@@ -7,7 +7,7 @@ use Rattle.dns_zone.specs.Layout.{token}
 use Rattle.dns_zone.specs.Simple.{SimpleStep}
 use Rattle.dns_zone.specs.declared.zonefile_fmt.simple.SimpleWriter.{SimpleWriter}
 
--- t is s after the space that stands before a token
+-- t is s after the space before a token
 pub record SpaceWritten {W : Type 0} (took : W → List ℕ → W → Type 0) (s t : SimpleWriter W) : Type 0 where
   pub blocks : t.blocks ≡ s.blocks
   pub wrote : WritesInCalls took s.writer (cond s.first [] (space ∷ [])) t.writer

@@ -7,7 +7,7 @@ use Rattle.dns_zone.specs.Layout.{token, tabbed_gap}
 use Rattle.dns_zone.specs.Tabbed.{TabbedStep}
 use Rattle.dns_zone.specs.declared.zonefile_fmt.tabbed.TabbedWriter.{TabbedWriter}
 
--- what stands before a token, by what the writer holds
+-- the text before a token, by the state of the writer
 abbrev pub held_gap : {W : Type 0} → TabbedWriter W → List ℕ
 held_gap s = cond s.first [] (cond (s.blocks.count == 0 || s.first_block) (tab ∷ []) (space ∷ []))
 

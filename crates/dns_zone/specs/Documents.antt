@@ -1,4 +1,4 @@
--- Documents: the steps of a list of items, and which lists are well-formed.
+-- Documents: the steps of a list of items, and the lists that are well-formed.
 use Rattle.std.specs.Prelude.{◌≡◌, ◌<◌, ℕ, true, ◌⊎◌, List, [], ◌∷◌, ◌++◌, length, map, codes, encode_utf8_all, ⊤}
 use Rattle.std.specs.List.{list_all, AllByRecursion}
 use Rattle.std.specs.Fmt.{decimal}
@@ -30,7 +30,7 @@ pub record IsCommentText (text : List ℕ) : Type 0 where
   pub plain : list_all is_note_char characters ≡ true
   pub spelled : encode_utf8_all characters ≡ text
 
--- a token is a word or a quoted text, and a comment has no LF and no CR; other steps are proper as they stand
+-- a token is a word or a quoted string, and a comment has no LF and no CR; other steps are always proper
 abbrev pub IsProper : Step → Type 0
 IsProper (token text) = IsToken text
 IsProper (comment text) = IsCommentText text
@@ -38,11 +38,11 @@ IsProper begin = ⊤
 IsProper end = ⊤
 IsProper newline = ⊤
 
--- blocks nest and close, line ends stand outside them, and each token and comment is one
+-- blocks nest and close, line ends are outside them, and each token and comment is valid
 abbrev pub IsWellFormed : List Step → Type 0
 IsWellFormed xs = IsNested xs × AllByRecursion IsProper xs
 
--- what is wrong with a step, after the steps of `past`; its place is how many they are
+-- the error of a step after the steps of `past`; its index is their number
 abbrev pub IsDocumentFault : List Step → Step → DocumentError → Type 0
 IsDocumentFault past (token text) e = (e ≡ BadToken (length past)) × ¬ IsToken text
 IsDocumentFault past (comment text) e = (e ≡ BadComment (length past)) × ¬ IsCommentText text
@@ -54,12 +54,12 @@ IsDocumentFault past newline e = (e ≡ LineInBlock (length past)) × (0 < depth
 abbrev pub IsFine : List Step → Step → Type 0
 IsFine past x = (e : DocumentError) → ¬ IsDocumentFault past x e
 
--- the first fault after the steps of `past`: the next step's, or, where it has none, the first one after it; a block left open comes last
+-- the first error after the steps of `past`: the next step's, or else the first one after it; an open block comes last
 abbrev pub IsFirstFault : List Step → List Step → DocumentError → Type 0
 IsFirstFault past [] e = (e ≡ OpenBlock) × (0 < depth past)
 IsFirstFault past (x ∷ xs) e = IsDocumentFault past x e ⊎ (IsFine past x × IsFirstFault (x ∷ past) xs e)
 
--- the first fault of a list of steps
+-- the first error of a list of steps
 abbrev pub IsFaultIn : List Step → DocumentError → Type 0
 IsFaultIn xs e = IsFirstFault [] xs e
 
@@ -67,11 +67,11 @@ IsFaultIn xs e = IsFirstFault [] xs e
 abbrev pub HasNoFault : List Step → Type 0
 HasNoFault xs = (e : DocumentError) → ¬ IsFaultIn xs e
 
--- a step's fault after any `place` steps that leave `blocks` blocks open
+-- a step's error after any `place` steps with `blocks` open blocks
 abbrev pub IsFaultAt : ℕ → ℕ → Step → DocumentError → Type 0
 IsFaultAt place blocks x e = (past : List Step) → length past ≡ place → depth past ≡ blocks → IsDocumentFault past x e
 
--- what an error prints
+-- the text of an error
 abbrev pub fault_text : DocumentError → List ℕ
 fault_text (BadToken i) = codes "bad token at " ++ decimal i
 fault_text (BadComment i) = codes "bad comment at " ++ decimal i

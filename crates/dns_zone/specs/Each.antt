@@ -1,4 +1,4 @@
--- Values in a row, a token each: which they are, and that their document is well-formed.
+-- Values in a row, a token each: their document, and that it is well-formed.
 use Rattle.std.specs.Prelude.{ℕ, List, [], ◌∷◌}
 use Rattle.std.proofs.Common.{◌≡◌, false, refl}
 use Rattle.std.specs.List.{All, AllByRecursion}
@@ -30,6 +30,6 @@ module _ {T : Type 0} (text : T → List ℕ) where
   each_proper holds is [] h = tt
   each_proper holds is (x ∷ xs) h = (is x (All-head holds x xs h), each_proper holds is xs (All-tail holds x xs h))
 
-  -- where each text is a token, they are a document
+  -- if each text is a token, they are a document
   pub each_formed : (holds : T → Type 0) → ((x : T) → holds x → IsToken (text x)) → (xs : List T) → All holds xs → IsWellFormed (one_each text xs)
   each_formed holds is xs h = (each_nested xs, each_proper holds is xs h)

@@ -19,16 +19,16 @@ abbrev pub is_begin : Step → Bool
 is_begin begin = true
 is_begin _ = false
 
--- tokens, and block marks where they are printed
+-- tokens, and block marks if they are printed
 abbrev pub is_word : Step → Bool
 is_word (token bs) = true
 is_word begin = true
 is_word end = true
 is_word _ = false
 
--- In what follows `past` holds the steps before a place, the last one first.
+-- In what follows `past` is the list of steps before one, the last one first.
 
--- how many blocks are open: the begins less the ends
+-- the number of open blocks: the begins less the ends
 abbrev pub depth : List Step → ℕ
 depth [] = 0
 depth (begin ∷ past) = depth past + 1
@@ -45,7 +45,7 @@ abbrev pub text_of_steps : (List Step → Step → List ℕ) → List Step → L
 text_of_steps piece past [] = []
 text_of_steps piece past (x ∷ xs) = piece past x ++ text_of_steps piece (x ∷ past) xs
 
--- the text of a document, where `piece` says what a step prints after others
+-- the text of a document, where `piece` is what a step prints after others
 abbrev pub layout : (List Step → Step → List ℕ) → List Step → List ℕ
 layout piece xs = text_of_steps piece [] xs
 
@@ -56,7 +56,7 @@ abbrev pub ends_line : List Step → Step → Bool
 ends_line past newline = true
 ends_line past _ = false
 
--- no token stands on the line yet
+-- no token is on the line yet
 abbrev pub is_line_start : List Step → Bool
 is_line_start past = not (list_any is_token (since ends_line past))
 
@@ -73,11 +73,11 @@ abbrev pub opens_outermost : List Step → Step → Bool
 opens_outermost past begin = depth past == 0
 opens_outermost past _ = false
 
--- no token stands in the outermost open block yet
+-- no token is in the outermost open block yet
 abbrev pub is_block_start : List Step → Bool
 is_block_start past = not (list_any is_token (since opens_outermost past))
 
--- what stands before a token: nothing before a line's first, a tab outside blocks and before a block's first, else a space
+-- the text before a token: none before a line's first, a tab outside blocks and before a block's first, else a space
 abbrev pub tabbed_gap : List Step → List ℕ
 tabbed_gap past = if is_line_start past then [] else (if depth past == 0 || is_block_start past then tab ∷ [] else space ∷ [])
 
@@ -94,7 +94,7 @@ abbrev pub ends_block : List Step → Step → Bool
 ends_block past end = true
 ends_block past _ = false
 
--- a comment is shown here: a begin stands after the last end
+-- a comment is shown here: a block has begun since the last end
 abbrev pub is_shown : List Step → Bool
 is_shown past = list_any is_begin (since ends_block past)
 
@@ -104,7 +104,7 @@ ends_row past newline = true
 ends_row past (comment bs) = is_shown past
 ends_row past _ = false
 
--- no word stands on the row yet
+-- no word is on the row yet
 abbrev pub is_row_start : List Step → Bool
 is_row_start past = not (list_any is_word (since ends_row past))
 
@@ -134,11 +134,11 @@ abbrev mutual
   indent (begin ∷ past) = lead past + length (row (begin ∷ past)) + 1
   indent (_ ∷ past) = indent past
 
--- the bytes that stand on the row, with its spaces
+-- the number of bytes on the row, with its spaces
 abbrev pub line_width : List Step → ℕ
 line_width past = lead past + length (row past)
 
--- what stands before a comment's text
+-- the text between a token and a comment's text
 abbrev pub comment_mark : List ℕ
 comment_mark = tab ∷ semicolon ∷ space ∷ []
 

@@ -1,10 +1,10 @@
--- Steps whose blocks nest: what every value states of its document, and lemmas to show it.
+-- Steps whose blocks nest: what every value states of its document, and lemmas to prove it.
 use Rattle.std.proofs.Common.{◌≡◌, ℕ, ◌+◌, ◌-◌, ◌<◌, ◌==◌, ◌&&◌, nat_lt, Bool, true, false, List, [], ◌∷◌, ◌++◌, refl, subst, sym, arith}
 use Rattle.std.proofs.lemmas.Bool.Decides.{nat_tests}
 use Rattle.std.specs.List.{flat_map}
 use Rattle.dns_zone.specs.Layout.{Step, token, begin, end, comment, newline}
 
--- after n begins that are open, each end has its begin, each begin its end, and line ends stand outside blocks
+-- after n open blocks, each block that ends has begun, each that begins ends, and line ends are outside blocks
 abbrev pub is_nested : ℕ → List Step → Bool
 is_nested n [] = n == 0
 is_nested n (begin ∷ xs) = is_nested (n + 1) xs
@@ -13,7 +13,7 @@ is_nested n (newline ∷ xs) = n == 0 && is_nested n xs
 is_nested n (token bs ∷ xs) = is_nested n xs
 is_nested n (comment bs ∷ xs) = is_nested n xs
 
--- blocks nest and close, and line ends stand outside them
+-- blocks nest and close, and line ends are outside them
 abbrev pub IsNested : List Step → Type 0
 IsNested xs = is_nested 0 xs ≡ true
 
@@ -34,7 +34,7 @@ Fits xs blocks = has_line xs ≡ true → blocks ≡ 0
 abbrev pub lines_of : {T : Type 0} → (T → List Step) → List T → List Step
 lines_of document xs = flat_map (λ x. document x ++ newline ∷ []) xs
 
--- a document in a block of its own
+-- a document in a separate block
 abbrev pub in_block : List Step → List Step
 in_block xs = begin ∷ (xs ++ end ∷ [])
 

@@ -15,6 +15,6 @@ piece_of Multiline = multiline_piece
 abbrev pub printed : DisplayKind → List Step → List ℕ
 printed kind xs = layout (piece_of kind) xs
 
--- the text of a document in a layout, by calls of the sink, where the answer is `Ok`
+-- the text of a document in a layout, by calls of the sink, if the result is `Ok`
 abbrev pub PrintsOnOk : {W E : Type 0} → DisplayKind → (W → List ℕ → W → Type 0) → W → Result (Unit {0}) E → List Step → W → Type 0
 PrintsOnOk kind took w r xs v = OnOk r (WritesInCalls took w (printed kind xs) v)

@@ -1,4 +1,4 @@
--- Worked examples of the three layouts, and of lists that are documents or aren't.
+-- Computed examples of the three layouts, and of lists that are documents or aren't.
 use Rattle.std.specs.Prelude.{◌≡◌, ◌<◌, ℕ, ◌-◌, Bool, true, false, List, [], ◌∷◌, ◌++◌, replicate, codes, refl}
 use lib.Utf8.{encode}
 use Rattle.std.proofs.Common.{inl, inr, arith, length-append}
@@ -71,7 +71,7 @@ two_bytes : layout multiline_piece (token (0xC3 ∷ 0xA9 ∷ []) ∷ begin ∷ c
     ≡ 0xC3 ∷ 0xA9 ∷ codes " (\t; c\n     x )"
 two_bytes = refl
 
--- on a row with words, of as many bytes as are counted at most: no token fits
+-- on a row with words, whose bytes are the greatest count: no token fits
 line_is_full : (past : List Step) → is_row_start past ≡ false → line_width past ≡ greatest_usize → MultilinePasses greatest_usize past (token (codes "a"))
 line_is_full past some wide = rw some (omega (arith, wide, length-append (row past) (space ∷ codes "a")))
 
@@ -82,13 +82,13 @@ two_are_left past some wide = (
   inr (rw some (omega (arith, wide, length-append (row past) (space ∷ open_parenthesis ∷ [])))),
 )
 
--- three bytes less: a begin fits, where one more block can be counted
+-- three bytes less: a begin fits, if one more block can be counted
 three_are_left : (past : List Step) → is_row_start past ≡ false → line_width past ≡ greatest_usize - 3 → depth past < greatest_usize → ¬ MultilinePasses greatest_usize past begin
 three_are_left past some wide few (inl h) = absurd (omega (arith, few, h))
 three_are_left past some wide few (inr h) =
     let k = rw some at h in absurd (omega (arith, wide, k, length-append (row past) (space ∷ open_parenthesis ∷ [])))
 
--- as many open blocks as are counted at most: no writer begins one more
+-- if the open blocks are the greatest count, no writer begins another
 blocks_are_full : (past : List Step) → depth past ≡ greatest_usize → BlocksPass greatest_usize past begin × MultilinePasses greatest_usize past begin
 blocks_are_full past full = (omega (arith, full), inl (omega (arith, full)))
 

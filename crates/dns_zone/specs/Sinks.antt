@@ -6,7 +6,7 @@ use Rattle.dns_zone.specs.declared.zonefile_fmt.sink.Line.{Line}
 abbrev pub greatest_usize : ℕ
 greatest_usize = 2 ^ 64 - 1
 
--- a count of n: n itself, or none where n is above `most`
+-- a count of n: n itself, or none if n exceeds `most`
 abbrev pub CountsTo : ℕ → Option ℕ → ℕ → Type 0
 CountsTo most (Some count) n = count ≡ n
 CountsTo most None n = most < n

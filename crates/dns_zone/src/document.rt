@@ -1,4 +1,4 @@
-//! Lists of tokens, block marks, comments and line ends, and which of them are documents.
+//! Documents: lists of tokens, block marks, comments and line ends.
 ghost use Rattle.std.specs.Prelude.{◌≡◌, ◌<◌, Some, IsTrue, IfNone, IfSome, IfOk, IfErr, IsOk, OnOk, ◌↔◌};
 ghost use Rattle.dns_zone.specs.Layout.{token, begin, end, comment, newline};
 ghost use Rattle.dns_zone.specs.Documents.{item_step, item_steps, IsCommentText, IsProper, IsFaultAt, IsFaultIn, IsWellFormed};
@@ -11,12 +11,12 @@ pub use dns_split::splitting::{SplitError, split};
 use dns_split::token::is_token;
 use std::alloc::{Allocator, Global};
 
-/// What a document is made of.
+/// An item of a document.
 #[derive(Debug, PartialEq, Eq, Drop)]
 pub enum Item<A: Allocator = Global> {
-    /// A word, or a text between double quotes with the quotes (RFC 1035, section 5.1).
+    /// A word, or a quoted string with its double quotes (RFC 1035 section 5.1).
     Token(String<A>),
-    /// The begin of a block.
+    /// The beginning of a block.
     Begin,
     /// The end of a block.
     End,
@@ -26,14 +26,15 @@ pub enum Item<A: Allocator = Global> {
     Newline,
 }
 
-/// Whether a text can be a comment: it has no LF and no CR.
+/// Returns whether a text can be a comment: it has no LF and no CR.
 fn is_comment(text: &str) -> bool
     ensures { IsTrue result ↔ IsCommentText text.now }
 {
     text.chars().all(|c| !(c == '\n' || c == '\r'))
 }
 
-/// What is wrong with the item at a place, where `blocks` blocks are open before it.
+/// Returns the error of the item at an index, where `blocks` is the number of open blocks before
+/// it.
 fn fault<A: Allocator>(item: &Item<A>, place: usize, blocks: usize) -> Option<DocumentError>
     ensures proper { IfNone result (IsProper (item_step item.now)) }
     ensures end { IfNone result (item_step item.now ≡ end → 0 < blocks) }
@@ -64,7 +65,7 @@ fn write_item<F: FormatWriter, A: Allocator>(p: &mut F, item: &Item<A>) -> Resul
     }
 }
 
-/// The open blocks after an item, from those before it.
+/// Returns the number of open blocks after an item, from that before it.
 fn blocks_after<A: Allocator>(item: &Item<A>, blocks: usize) -> usize
     requires begin { blocks < usize.MAX }
     requires end { item_step item.now ≡ end → 0 < blocks }
@@ -77,7 +78,7 @@ fn blocks_after<A: Allocator>(item: &Item<A>, blocks: usize) -> usize
     }
 }
 
-/// What is wrong first with a list of items.
+/// Returns the first error of a list of items.
 pub(crate) fn first_fault<A: Allocator>(items: &[Item<A>]) -> Option<DocumentError>
     ensures fine { IfNone result (IsWellFormed (item_steps items.now)) }
     ensures fault { IfSome result (λ e. IsFaultIn (item_steps items.now) e) }
@@ -96,8 +97,8 @@ pub(crate) fn first_fault<A: Allocator>(items: &[Item<A>]) -> Option<DocumentErr
     }
 }
 
-/// A well-formed list of items: tokens and comments that are such, blocks that nest and close, and
-/// line ends outside them.
+/// A well-formed list of items: tokens and comments are valid, blocks nest and close, and line ends
+/// are outside blocks.
 #[derive(Debug, Drop)]
 pub struct Document<A: Allocator = Global> {
     pub(crate) items: Vec<Item<A>, A>,
@@ -107,8 +108,8 @@ pub struct Document<A: Allocator = Global> {
 impl<A: Allocator> Document<A> {
     ghost use Rattle.dns_zone.specs.DocumentSteps.{document_steps};
 
-    /// Takes exactly the well-formed lists, and no memory. Another list comes back with its first
-    /// fault.
+    /// Returns the document of a list of items, without allocating. Fails if the list isn't
+    /// well-formed; the error has the first error, and the list.
     pub fn from_items(
         items: Vec<Item<A>, A>,
     ) -> std::result::Result<Document<A>, (DocumentError, Vec<Item<A>, A>)>

@@ -1,21 +1,21 @@
-//! Why a list of items is no document, and that nothing more can be printed.
+//! Errors of making a document, and of printing.
 ghost use Rattle.std.specs.Prelude.{Some};
 ghost use Rattle.dns_zone.specs.Documents.{fault_text};
 
 use std::fmt;
 
-/// Why a list of items is no document: its first fault, by the item's place, which counts from 0.
+/// The first error of a list of items that isn't a document, with the item's index from 0.
 #[derive(Clone, Copy, Debug, PartialEq, Eq)]
 pub enum DocumentError {
-    /// A token is neither a word nor a quoted text.
+    /// A token is neither a word nor a quoted string.
     BadToken(usize),
     /// A comment has an LF or a CR.
     BadComment(usize),
-    /// No block is open at an end.
+    /// A block ends and none is open.
     EndWithoutBegin(usize),
     /// A block is open at a line end.
     LineInBlock(usize),
-    /// A block is open after the last item, and nothing else is wrong.
+    /// A block is open after the last item, and there is no other error.
     OpenBlock,
 }
 
@@ -35,7 +35,7 @@ impl fmt::Display for DocumentError {
 
 impl std::error::Error for DocumentError {}
 
-/// Nothing more can be printed: the sink refused, or a count of the writer would pass the greatest
+/// The error of printing: the sink failed, or a count of the writer would exceed the greatest
 /// `usize`.
 #[derive(Clone, Copy, Debug)]
 pub struct Error;

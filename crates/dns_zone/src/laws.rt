@@ -1,5 +1,5 @@
-//! Laws on documents and their layouts.
-//! Each function's contract is the law; calling one does nothing of use.
+//! Laws of documents and their layouts.
+//! Each function's contract is the law; calling it has no useful effect.
 ghost use Rattle.std.specs.Prelude.{◌≡◌, ◌≤◌, ◌↔◌, List};
 ghost use Rattle.dns_zone.specs.Layout.{Step, line_width};
 ghost use Rattle.dns_zone.specs.Documents.{item_steps, HasNoFault, IsFaultIn, IsWellFormed};
@@ -17,14 +17,14 @@ pub fn documents_are_well_formed(document: &Document)
     document.known();
 }
 
-/// A list of items is well-formed exactly if it has no first fault.
+/// A list of items is well-formed exactly if it has no first error.
 pub fn well_formed_without_fault(items: &[Item])
     ensures { IsWellFormed (item_steps items.now) ↔ HasNoFault (item_steps items.now) }
 {
     let _fault = first_fault(items);
 }
 
-/// A list has one first fault at most.
+/// A list has at most one first error.
 pub fn first_faults_are_unique()
     ensures { (xs : List Step) (e f : DocumentError) → IsFaultIn xs e → IsFaultIn xs f → e ≡ f }
 {}

@@ -1,37 +1,38 @@
-//! Zone text (RFC 1035, section 5.1): documents, and three layouts to print them in.
+//! Zone files (RFC 1035 section 5.1): documents, and three layouts to print them in.
 //!
-//! A *document* is a list of steps: tokens, begins and ends of blocks, comments and line ends.
-//! A value says which document it is by [`zonefile_fmt::ZonefileFmt`], and
-//! [`zonefile_fmt::ZonefileFmt::display_zonefile`] gives it as a `Display` in a layout, whose text
-//! is exactly the document's text in that layout.
+//! A *document* is a list of steps: tokens, beginnings and ends of blocks, comments and line ends.
+//! A value defines its document by [`zonefile_fmt::ZonefileFmt`], and
+//! [`zonefile_fmt::ZonefileFmt::display_zonefile`] returns the value as a `Display` in a layout,
+//! whose text is exactly the document's text in that layout.
 //!
-//! In the order in which a reader meets them:
+//! The parts, in the order in which a reader meets them:
 //!
-//! - [`zonefile_fmt::ZonefileFmt`]: a value that prints as zone text, with its document.
+//! - [`zonefile_fmt::ZonefileFmt`]: a value that prints as text of a zone file, with its document.
 //! - [`zonefile_fmt::DisplayKind`] and [`zonefile_fmt::ZoneFileDisplay`]: the layouts, and a value
 //!   to be printed in one.
-//! - [`zonefile_fmt::FormatWriter`]: what prints steps one by one; [`zonefile_fmt::SimpleWriter`],
-//!   [`zonefile_fmt::TabbedWriter`] and [`zonefile_fmt::MultiLineWriter`] print them over any sink,
-//!   one for each layout.
-//! - [`zonefile_fmt::Sink`]: what the writers print on. Every `fmt::Write` is one.
-//! - [`zonefile_fmt::Formatter`]: what a value prints itself with. Every `FormatWriter` is one.
+//! - [`zonefile_fmt::FormatWriter`]: a writer that prints steps one by one;
+//!   [`zonefile_fmt::SimpleWriter`], [`zonefile_fmt::TabbedWriter`] and
+//!   [`zonefile_fmt::MultiLineWriter`] print them to any sink, one for each layout.
+//! - [`zonefile_fmt::Sink`]: what the writers print to. Every `fmt::Write` is a sink.
+//! - [`zonefile_fmt::Formatter`]: methods with which a value prints itself. Every `FormatWriter`
+//!   has them.
 //! - [`document::Item`] and [`document::Document`]: a document as a list of items, made of exactly
-//!   the well-formed lists: each token is a word or a quoted text, no comment has a line end,
-//!   blocks nest and close, and line ends stand outside them.
-//! - [`tokens::ZoneToken`]: a value that is one token; [`tokens::write_each`] and [`tokens::Each`]
-//!   print such values in a row.
+//!   the well-formed lists: each token is a word or a quoted string, no comment has a line end,
+//!   blocks nest and close, and line ends are outside blocks.
+//! - [`tokens::ZoneToken`]: a value that prints as one token; [`tokens::write_each`] and
+//!   [`tokens::Each`] print such values in a row.
 //! - [`tokens::ZoneTokens`]: a value whose document is always well-formed; [`tokens::Lines`] prints
-//!   values with a line end after each. `specs/Forming.antt` has lemmas to show it
+//!   values with a line end after each. `specs/Forming.antt` has lemmas to prove it
 //!   (`formed_append`, `formed_lines`).
 //!
-//! What a document is, and its text in each layout, is defined in `specs/Layout.antt`, step by step
-//! and by the steps before alone; `specs/Rows.antt` has worked texts. The laws on well-formed
-//! documents are in [`laws`].
+//! `specs/Layout.antt` defines documents, and their text in each layout, step by step from the
+//! steps before; `specs/Rows.antt` has computed examples. The laws of well-formed documents are in
+//! [`laws`].
 //!
 //! # A record with a block and comments
 //!
-//! A type states its document, and that its blocks nest, which `refl` shows where the steps are
-//! written out. Its `fmt` then takes these steps; the check finds the proof by itself.
+//! A type states its document, and that its blocks nest, which `refl` proves if the steps are
+//! written out. Its `fmt` then prints these steps; the check finds the proof by itself.
 //!
 //! ```text
 //! ghost use Rattle.std.specs.Prelude.{◌≡◌, [], ◌∷◌, ◌++◌, codes, false, refl};
@@ -62,8 +63,8 @@
 //! }
 //! ```
 //!
-//! Data that is put into a block has no line end. A trait of the author's says so, and
-//! `nested_in_block` does the rest:
+//! A value that is put into a block has no line end. The author's trait states that, and
+//! `nested_in_block` proves the rest:
 //!
 //! ```text
 //! trait RecordData: ZonefileFmt {
@@ -106,7 +107,7 @@
 //!
 //! For values that print in a loop, `specs/Nesting.antt` has lemmas on documents one after another
 //! (`nested_append`, `nested_lines`, `nested_in_block`, `no_line_append`), and `proofs/Runs.antt`
-//! those on what a writer was given (`runs_none`, `runs_step`, `runs_append`, `runs_block`,
+//! has lemmas on the steps of a writer (`runs_none`, `runs_step`, `runs_append`, `runs_block`,
 //! `runs_then_step`).
 #![tactic(auto)]
 

@@ -12,13 +12,12 @@ ghost use Rattle.dns_zone.specs.Writers.{StepsOnOk};
 
 use crate::zonefile_fmt::{FormatWriter, Formatter, Result, ZonefileFmt};
 
-/// A value that prints as one token: a word, or a text between double quotes (RFC 1035, section
-/// 5.1).
+/// A value that prints as one token: a word, or a quoted string (RFC 1035 section 5.1).
 pub trait ZoneToken {
     // The token's text.
     ghost text: { Self → List ℕ };
 
-    // What is known of every value.
+    // What holds of every value.
     ghost holds: { Self → Type 0 };
 
     /// Prints the token.
@@ -26,20 +25,20 @@ pub trait ZoneToken {
         ensures blocks { OnOk result (F.blocks p.new ≡ F.blocks p.old) }
         ensures gives { OnOk result (F.step_gives p.old (token (text self.now)) p.new) };
 
-    /// States what is known of the value. Nothing comes of it when it runs.
+    /// States what holds of the value. It does nothing at run time.
     fn known(&self)
         ensures { holds self.now };
 
     ghost is_token: { (x : Self) → holds x → IsToken (text x) };
 }
 
-/// A value whose document is well-formed: each token and comment is one, blocks nest and close, and
-/// line ends stand outside them. So each layout of it splits into its entries.
+/// A value whose document is well-formed: each token and comment is valid, blocks nest and close,
+/// and line ends are outside blocks. So each layout of it splits into its entries.
 pub trait ZoneTokens: ZonefileFmt {
-    // What is known of every value.
+    // What holds of every value.
     ghost holds: { Self → Type 0 };
 
-    /// States what is known of the value. Nothing comes of it when it runs.
+    /// States what holds of the value. It does nothing at run time.
     fn known(&self)
         ensures { holds self.now };
 
@@ -56,7 +55,7 @@ impl<T: ZoneTokens> ZoneTokens for &T {
     ghost formed = { λ r h. T.formed r.now h };
 }
 
-/// Prints values one after another: the document is a token for each, in order.
+/// Prints values one after another: the document has a token for each, in order.
 pub fn write_each<T: ZoneToken, F: FormatWriter>(p: &mut F, items: &[T]) -> Result
     ensures { StepsOnOk F.blocks F.step_gives p.old result (one_each T.text items.now) p.new }
 {
@@ -66,7 +65,7 @@ pub fn write_each<T: ZoneToken, F: FormatWriter>(p: &mut F, items: &[T]) -> Resu
     Ok(())
 }
 
-// States what is known of each value.
+// States what holds of each value.
 fn known_each<T: ZoneToken>(values: &[T])
     ensures { All T.holds values.now }
 {
@@ -75,14 +74,14 @@ fn known_each<T: ZoneToken>(values: &[T])
     }
 }
 
-/// Values in a row. The document is a token for each, in order.
+/// Values in a row. The document has a token for each, in order.
 #[derive(Drop)]
 pub struct Each<'a, T> {
     items: &'a [T],
 }
 
 impl<'a, T> Each<'a, T> {
-    /// These values in a row.
+    /// Returns the values in a row, for printing.
     pub fn new(items: &'a [T]) -> Self
         ensures { each_values result ≡ items.now }
     {
@@ -110,7 +109,7 @@ impl<T: ZoneToken> ZoneTokens for Each<'_, T> {
     ghost formed = { λ x h. each_formed T.text T.holds T.is_token (each_values x) h };
 }
 
-// States what is known of each value.
+// States what holds of each value.
 fn known_lines<T: ZoneTokens>(values: &[T])
     ensures { All T.holds values.now }
 {
@@ -131,14 +130,14 @@ fn write_lines<T: ZonefileFmt, F: FormatWriter>(p: &mut F, values: &[T]) -> Resu
     Ok(())
 }
 
-/// Values one after another, with a line end after each, as the records of a zone.
+/// Values one after another, with a line end after each, such as the records of a zone.
 #[derive(Drop)]
 pub struct Lines<'a, T> {
     values: &'a [T],
 }
 
 impl<'a, T> Lines<'a, T> {
-    /// These values, a line end after each.
+    /// Returns the values, for printing with a line end after each.
     pub fn new(values: &'a [T]) -> Self
         ensures { lines_values result ≡ values.now }
     {

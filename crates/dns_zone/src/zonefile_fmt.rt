@@ -1,4 +1,4 @@
-//! Printing of values as zone text: traits, writers and displays.
+//! Prints values as text of zone files: traits, writers and displays.
 ghost use Rattle.std.specs.Prelude.{◌≡◌, ◌<◌, ℕ, List, OnOk, OnErr};
 ghost use Rattle.dns_zone.specs.Layout.{Step, token, begin, end, comment, newline};
 ghost use Rattle.dns_zone.specs.Displayed.{displayed_value, displayed_kind};
@@ -20,7 +20,7 @@ use std::fmt;
 use std::fmt::Display;
 pub use tabbed::TabbedWriter;
 
-// What stands between words, at a line's end, around a block and before a comment.
+// The texts between words, at a line's end, around a block and before a comment.
 const SPACE: &str = " ";
 
 const TAB: &str = "\t";
@@ -35,40 +35,40 @@ const COMMENT_MARK: &str = "\t; ";
 
 pub type Result = std::result::Result<(), Error>;
 
-/// A layout.
+/// A layout of zone files.
 #[derive(Drop)]
 pub enum DisplayKind {
-    /// Each entry on one line, its tokens apart by a space; no comments.
+    /// Each entry on one line, its tokens separated by a space; no comments.
     Simple,
-    /// Each entry on one line, its tokens apart by a tab outside blocks and by a space in them; no
-    /// comments.
+    /// Each entry on one line, its tokens separated by a tab outside blocks and by a space in them;
+    /// no comments.
     Tabbed,
-    /// Blocks in parentheses, with a line end after each comment in them (RFC 1035, section 5.1).
+    /// Blocks in parentheses, with a line end after each comment in them (RFC 1035 section 5.1).
     Multiline,
 }
 
-/// A value to be printed in a layout, by [`ZonefileFmt::display_zonefile`].
+/// A value to be printed in a layout, made by [`ZonefileFmt::display_zonefile`].
 #[derive(Drop)]
 pub struct ZoneFileDisplay<'a, T> {
     value: &'a T,
     kind: DisplayKind,
 }
 
-/// A value that prints as zone text.
+/// A value that prints as text of a zone file.
 ///
-/// It states its document: the list of steps that its `fmt` takes, one for each token, block mark,
-/// comment and line end. Its blocks nest, and line ends stand outside them.
+/// It states its document: the list of steps that its `fmt` prints, one for each token, block mark,
+/// comment and line end. Its blocks nest, and line ends are outside them.
 pub trait ZonefileFmt {
     /// The steps that the value prints.
     ghost document: { Self → List Step };
 
-    /// Prints the value's document on a writer. On a writer with an open block the document has no
-    /// line end.
+    /// Prints the value's document on a writer. If a block of the writer is open, the document has
+    /// no line end. Fails if the writer does.
     fn fmt<F: FormatWriter>(&self, p: &mut F) -> Result
         requires { Fits (document self.now) (F.blocks p.old) }
         ensures { StepsOnOk F.blocks F.step_gives p.old result (document self.now) p.new };
 
-    /// The value as a `Display`, whose text is its document in the given layout.
+    /// Returns the value as a `Display`, whose text is its document in the given layout.
     fn display_zonefile(&self, kind: DisplayKind) -> ZoneFileDisplay<'_, Self>
     where
         Self: Sized,
@@ -78,7 +78,8 @@ pub trait ZonefileFmt {
         ZoneFileDisplay { value: self, kind }
     }
 
-    /// Each end has its begin, each begin its end, and line ends stand outside blocks.
+    /// Each block that ends has begun, each block that begins ends, and line ends are outside
+    /// blocks.
     ghost nested: { (x : Self) → IsNested (document x) };
 }
 
@@ -92,21 +93,21 @@ impl<T: ZonefileFmt> ZonefileFmt for &T {
     }
 }
 
-/// What prints the steps of documents, one by one.
+/// A writer that prints the steps of documents, one by one.
 ///
-/// A token or a comment is a step where its `Display` states its text. After an [`Error`] nothing
-/// is promised of the writer.
+/// A token or a comment is a step if its `Display` states its text. After an [`Error`] the writer
+/// is unspecified.
 pub trait FormatWriter: Sized {
     /// The number of open blocks.
     ghost blocks: { Self → ℕ };
 
-    /// The writer before a step that went well, the step, and the writer after it.
+    /// The writer before a step that succeeded, the step, and the writer after it.
     ghost step_gives: { Self → Step → Self → Type 0 };
 
     /// The writer before a step that failed, and the step.
     ghost step_fails: { Self → Step → Type 0 };
 
-    /// Prints a token: a word, or a text between double quotes.
+    /// Prints a token: a word, or a quoted string.
     fn fmt_token<T: Display + Drop>(&mut self, text: T) -> Result
         ensures blocks { OnOk result (blocks self.new ≡ blocks self.old) }
         ensures gives { TextOnOk step_gives token self.old result (T.output text) self.new }
@@ -117,32 +118,32 @@ pub trait FormatWriter: Sized {
         ensures gives { OnOk result (WritesStep blocks step_gives self.old begin self.new) }
         ensures fails { OnErr result (step_fails self.old begin) };
 
-    /// Closes the block that was opened last. A block is open.
+    /// Closes the block that was opened last. A block must be open.
     fn end_block(&mut self) -> Result
         requires { 0 < blocks self.old }
         ensures gives { OnOk result (WritesStep blocks step_gives self.old end self.new) }
         ensures fails { OnErr result (step_fails self.old end) };
 
-    /// Prints a comment, where the layout shows it.
+    /// Prints a comment, if the layout shows it.
     fn fmt_comment<T: Display + Drop>(&mut self, text: T) -> Result
         ensures blocks { OnOk result (blocks self.new ≡ blocks self.old) }
         ensures gives { TextOnOk step_gives comment self.old result (T.output text) self.new }
         ensures fails { TextOnErr step_fails comment self.old result (T.output text) };
 
-    /// Ends the line. No block is open.
+    /// Ends the line. No block may be open.
     fn newline(&mut self) -> Result
         requires { blocks self.old ≡ 0 }
         ensures gives { OnOk result (WritesStep blocks step_gives self.old newline self.new) }
         ensures fails { OnErr result (step_fails self.old newline) };
 
-    /// The number of open blocks.
+    /// Returns the number of open blocks.
     fn open_blocks(&self) -> usize
         ensures { result ≡ blocks self.now };
 }
 
-/// What values print themselves with; every [`FormatWriter`] is one.
+/// Methods with which values print themselves; every [`FormatWriter`] has them.
 pub trait Formatter: FormatWriter {
-    /// Prints a value's document in a block of its own. The document has no line end.
+    /// Prints a value's document in a separate block. The document has no line end.
     fn block<T: ZonefileFmt + Drop>(&mut self, item: T) -> Result
         requires { Fits (T.document item) 1 }
         ensures { StepsOnOk Self.blocks Self.step_gives self.old result (in_block (T.document item))
@@ -162,7 +163,7 @@ pub trait Formatter: FormatWriter {
         self.fmt_token(text)
     }
 
-    /// Prints a value's document. On a writer with an open block it has no line end.
+    /// Prints a value's document. If a block of the writer is open, the document has no line end.
     fn write_show<T: ZonefileFmt + Drop>(&mut self, item: T) -> Result
         requires { Fits (T.document item) (Self.blocks self.old) }
         ensures { StepsOnOk Self.blocks Self.step_gives self.old result (T.document item) self.new }

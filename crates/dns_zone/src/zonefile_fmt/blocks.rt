@@ -1,24 +1,25 @@
-//! The open blocks of a writer.
+//! The number of open blocks of a writer.
 ghost use Rattle.std.specs.Prelude.{◌≡◌, ◌<◌, ◌+◌, ◌-◌, ◌↔◌, IsOk, IfOk};
 
 use crate::zonefile_fmt::Error;
 use std::result::Result;
 
-/// How many blocks are open.
+/// The number of open blocks.
 #[derive(Clone, Copy)]
 pub(super) struct Blocks {
     count: usize,
 }
 
 impl Blocks {
-    /// No open block.
+    /// Returns the count without open blocks.
     pub(super) fn none() -> Blocks
         ensures { result.count ≡ 0 }
     {
         Blocks { count: 0 }
     }
 
-    /// With one more open block. Refused where they are the greatest `usize`.
+    /// Returns the count after another block was opened. Fails if it would exceed the greatest
+    /// `usize`.
     pub(super) fn begin(self) -> Result<Blocks, Error>
         ensures more { IfOk result (λ b. b.count ≡ self.count + 1) }
         ensures counted { IsOk result ↔ (self.count < usize.MAX) }
@@ -29,7 +30,7 @@ impl Blocks {
         }
     }
 
-    /// With the last one closed.
+    /// Returns the count after the last block was closed.
     pub(super) fn end(self) -> Blocks
         requires { 0 < self.count }
         ensures { result.count ≡ self.count - 1 }
@@ -39,7 +40,7 @@ impl Blocks {
         }
     }
 
-    /// The number of open blocks.
+    /// Returns the number of open blocks.
     pub(super) fn open(self) -> usize
         ensures { result ≡ self.count }
     {

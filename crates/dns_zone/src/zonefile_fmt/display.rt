@@ -1,4 +1,4 @@
-//! Values as texts in a layout.
+//! Prints values as text in a layout.
 ghost use Rattle.std.specs.Prelude.{Some};
 ghost use Rattle.dns_zone.specs.Layout.{layout};
 ghost use Rattle.dns_zone.specs.Displayed.{displayed_value, displayed_kind};
@@ -31,8 +31,7 @@ fn print_simple<T: ZonefileFmt, W: fmt::Write>(value: &T, sink: &mut W) -> fmt::
 {
     let mut writer = SimpleWriter::new(sink);
     let result = print_in(value, &mut writer);
-    // No effect at run time: the proof reads what the sink holds from the reference that comes
-    // back.
+    // No effect at run time: the proof reads what the sink holds from the returned reference.
     writer.into_inner();
     result
 }

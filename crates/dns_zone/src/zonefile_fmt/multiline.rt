@@ -1,4 +1,4 @@
-//! The multiline layout.
+//! The writer of the multiline layout.
 ghost use Rattle.std.specs.Prelude.{◌≡◌, ◌<◌, ◌⊎◌, length, List, [], false, IsOk, OnOk, OnErr, replicate};
 ghost use Rattle.std.specs.Fmt.{WritesInCalls};
 ghost use Rattle.dns_symbol.specs.Characters.{space};
@@ -16,27 +16,27 @@ use crate::zonefile_fmt::{
 use std::fmt;
 use std::fmt::{Display, Write};
 
-/// Prints block marks as the words `(` and `)`, with a space before each word but the first of a
-/// line.
+/// A writer that prints block marks as the words `(` and `)`, with a space before each word except
+/// the first of a line.
 ///
-/// A comment is shown only where the last block mark before it is a begin: a tab, `; `, its text, a
-/// line end, and as many spaces as bytes stand on the line up to and with that `(`, and one more.
+/// A comment is shown only if the last block mark before it is a beginning. It is shown as a tab,
+/// `; `, its text, a line end, and spaces up to the column after that `(` and a space.
 ///
-/// Text that is written to the writer itself, by its `fmt::Write`, is counted on the line and is no
-/// step of a document.
+/// Text that is written to the writer itself, by its `fmt::Write`, is counted on the line and isn't
+/// a step of a document.
 #[derive(Drop)]
 pub struct MultiLineWriter<W> {
-    /// The line has no word yet.
+    /// Whether the line has no word yet.
     first: bool,
-    /// The open blocks.
+    /// The number of open blocks.
     blocks: Blocks,
-    /// Where the last block mark is a begin, the spaces that stand after a comment.
+    /// Number of spaces after a comment, if the last block mark is a beginning.
     block_indent: Option<usize>,
     line: Line<W>,
 }
 
 impl<W> MultiLineWriter<W> {
-    /// A writer that has printed nothing yet, over a sink.
+    /// Returns a writer over a sink, which has printed nothing yet.
     pub fn new(writer: W) -> MultiLineWriter<W>
         ensures stands { MultilineStands result [] }
         ensures sink { multiline_sink result ≡ writer }
@@ -52,14 +52,14 @@ impl<W> MultiLineWriter<W> {
         }
     }
 
-    /// The bytes after the last line end or shown comment, with its indent.
+    /// Returns the number of bytes after the last line end or shown comment, with its indent.
     pub(crate) fn line_width(&self) -> usize
         ensures { (past : List Step) → MultilineStands self.now past → result ≡ line_width past }
     {
         self.line.column.unwrap_or(0)
     }
 
-    /// The sink.
+    /// Returns the sink.
     pub(crate) fn into_inner(self) -> W
         ensures { result ≡ multiline_sink self }
     {
@@ -67,7 +67,7 @@ impl<W> MultiLineWriter<W> {
     }
 }
 
-/// Refused only where the sink refuses, or a count would pass the greatest `usize`.
+/// Fails only if the sink fails, or a count would exceed the greatest `usize`.
 impl<W: Sink> Write for MultiLineWriter<W> {
     ghost write_str_gives = { WritesLine W.write_str_gives };
 
@@ -83,10 +83,10 @@ impl<W: Sink> Write for MultiLineWriter<W> {
     }
 }
 
-// Spaces, that indents are cut from.
+// The spaces of which indents are slices.
 const SPACES: &str = "                                                                ";
 
-// Writes that many spaces, a slice of them at a time.
+// Writes a number of spaces, a slice of them at a time.
 fn write_spaces<W: Sink>(writer: &mut W, count: usize) -> fmt::Result
     ensures ok { OnOk result (WritesInCalls W.write_str_gives writer.old (replicate count space) writer.new) }
     ensures err { OnErr result W.refused }
@@ -146,7 +146,7 @@ impl<W: Sink> FormatWriter for MultiLineWriter<W> {
         ensures fails { TextOnErr (MultilineFails W.refused greatest_usize) comment self.old result
             (T.output text) }
 
-        // A comment that isn't shown touches no sink.
+        // A comment that isn't shown writes nothing to the sink.
         ensures hidden { TakesHidden self.old result }
     {
         if let Some(indent) = self.block_indent {

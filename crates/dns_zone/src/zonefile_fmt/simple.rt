@@ -1,4 +1,4 @@
-//! The simple layout.
+//! The writer of the simple layout.
 ghost use Rattle.std.specs.Prelude.{◌≡◌, ◌<◌, ◌↔◌, [], IsOk, OnOk, OnErr};
 ghost use Rattle.dns_zone.specs.Layout.{begin, end, comment};
 ghost use Rattle.dns_zone.specs.Sinks.{greatest_usize};
@@ -9,19 +9,19 @@ use crate::zonefile_fmt::blocks::Blocks;
 use crate::zonefile_fmt::{FormatWriter, LINE_FEED, Result, SPACE, Sink};
 use std::fmt::Display;
 
-/// Prints each entry on one line, its tokens apart by a space. Block marks and comments print
-/// nothing.
+/// A writer that prints each entry on one line, its tokens separated by a space. Block marks and
+/// comments print nothing.
 #[derive(Drop)]
 pub struct SimpleWriter<W> {
-    /// The line has no token yet.
+    /// Whether the line has no token yet.
     first: bool,
-    /// The open blocks.
+    /// The number of open blocks.
     blocks: Blocks,
     writer: W,
 }
 
 impl<W> SimpleWriter<W> {
-    /// A writer that has printed nothing yet, over a sink.
+    /// Returns a writer over a sink, which has printed nothing yet.
     pub fn new(writer: W) -> SimpleWriter<W>
         ensures stands { SimpleStands result [] }
         ensures sink { simple_sink result ≡ writer }
@@ -33,7 +33,7 @@ impl<W> SimpleWriter<W> {
         }
     }
 
-    /// The sink.
+    /// Returns the sink.
     pub(crate) fn into_inner(self) -> W
         ensures { result ≡ simple_sink self }
     {

@@ -1,4 +1,4 @@
-//! The tabbed layout.
+//! The writer of the tabbed layout.
 ghost use Rattle.std.specs.Prelude.{◌≡◌, ◌<◌, ◌↔◌, [], ◌∷◌, if◌then◌else◌, IsOk, OnOk, OnErr};
 ghost use Rattle.dns_symbol.specs.Characters.{tab, space};
 ghost use Rattle.dns_zone.specs.Layout.{begin, end, comment};
@@ -10,22 +10,22 @@ use crate::zonefile_fmt::blocks::Blocks;
 use crate::zonefile_fmt::{FormatWriter, LINE_FEED, Result, SPACE, Sink, TAB};
 use std::fmt::Display;
 
-/// Prints each entry on one line. Before each token but a line's first stands a tab outside blocks,
-/// a tab before the first token since the outermost open block opened, and a space otherwise.
-/// Block marks and comments print nothing.
+/// A writer that prints each entry on one line. Each token but a line's first is preceded by a tab
+/// outside blocks, by a tab if it is the first since the outermost open block began, and else by a
+/// space. Block marks and comments print nothing.
 #[derive(Drop)]
 pub struct TabbedWriter<W> {
-    /// The line has no token yet.
+    /// Whether the line has no token yet.
     first: bool,
-    /// The outermost open block has no token yet.
+    /// Whether the outermost open block has no token yet.
     first_block: bool,
-    /// The open blocks.
+    /// The number of open blocks.
     blocks: Blocks,
     writer: W,
 }
 
 impl<W> TabbedWriter<W> {
-    /// A writer that has printed nothing yet, over a sink.
+    /// Returns a writer over a sink, which has printed nothing yet.
     pub fn new(writer: W) -> TabbedWriter<W>
         ensures stands { TabbedStands result [] }
         ensures sink { tabbed_sink result ≡ writer }
@@ -38,7 +38,7 @@ impl<W> TabbedWriter<W> {
         }
     }
 
-    /// The sink.
+    /// Returns the sink.
     pub(crate) fn into_inner(self) -> W
         ensures { result ≡ tabbed_sink self }
     {
@@ -46,7 +46,7 @@ impl<W> TabbedWriter<W> {
     }
 }
 
-/// What stands between two tokens.
+/// Returns the text between two tokens.
 fn gap(is_wide: bool) -> &'static str
     ensures { result.now ≡ (if is_wide then tab ∷ [] else space ∷ []) }
 {
