@@ -28,7 +28,7 @@ module _ {E : Type 0} (cause : E → Cause) (room : Room) where
   added (Ok o) (Err text) b c small is h = absurd is
   added (Err e) answer b c small is h = let z = h.0 in cc
 
-  -- a refusal, or no room
+  -- an error, or too little capacity
   not_added : (made : Result (List ℕ) E) (answer : Result (List ℕ) (List ℕ)) (b c : List ℕ) (e : E) → IsAnswer cause made answer → Adds cause room made b (Err e) c
       → ((text : List ℕ) × (answer ≡ Err text) × (cause e ≡ custom_text text)) ⊎ ((o : List ℕ) × (answer ≡ Ok o) × (cause e ≡ short_buf) × (room.fits < length b + length o))
   not_added (Ok o) (Ok p) b c e is h = ⊎_elim (λ k. let z = k.0 in cc) (λ k. inr (o, ap (λ l. Ok l) (sym is), k.0, omega (arith, k.2))) h
@@ -105,7 +105,7 @@ module _ {E : Type 0} (cause : E → Cause) (room : Room) where
             later : List ℕ
             later = made_of codec (codec.step (view p.0) x).1 xs error
 
-    -- what a run with its tail answers is what the token converts to, or more was made than surely fits
+    -- the result of a run with its tail is what the token converts to, or exceeds what is guaranteed
     pub converted_answer : {O : Type 0} (octets : O → List ℕ) (t : Token) (convert : C) (r : Result O E) → view convert ≡ codec.start
         → Converts cause room tail octets (λ p a q. ConvertToken cause room takes p t a q) convert r → AnswersConverted codec cause octets room t r
     converted_answer {O} octets t convert r new h = (
@@ -159,7 +159,7 @@ module _ {E : Type 0} (cause : E → Cause) (room : Room) where
             (λ k. inr (ap cause same ∙ k.0, k.1))
             ran
 
-    -- the same, where it doesn't matter how much was made
+    -- the same, if it doesn't matter how much was produced
     pub converts_to : (t : Token) (convert : C) (r : Result (List ℕ) E) → view convert ≡ codec.start
         → Converts cause room tail (λ s. s) (λ p a q. ConvertToken cause room takes p t a q) convert r
         → MatchResult r (λ o. ConvertsTo codec t (Ok o)) (λ e. ConvertsTo codec t (Err (cause e)) ⊎ (cause e ≡ short_buf))

@@ -29,18 +29,18 @@ printable_stable (hex_octets os) h = some_stable os h
 printable_stable (base64_octets os) h = some_stable os h
 printable_stable (text_octets os) h = tt
 
--- the fields up to a place, and the one there
+-- the fields up to an index, and the one there
 pub contents_more : {A : Type 0} (fields : List (Field A)) (i : ℕ) (x : Field A) → i < length fields → x ≡ get_or fields i x
     → contents_of (take (i + 1) fields) ≡ contents_of (take i fields) ++ content_of x ∷ []
 contents_more {A} fields i x h e =
     ap contents_of (take_more fields i x h) ∙ (map-append content_of (take i fields) (get_or fields i x ∷ []) ∙ ap (λ (y : Field A). contents_of (take i fields) ++ content_of y ∷ []) (sym e))
 
--- a place that can't be a token refuses the list
+-- a field that can't be a token rejects the list
 pub empty_refuses : (fields : List Content) (i : ℕ) → IsFirstEmpty fields i → ¬ IsLine fields
 empty_refuses fields i first line =
     first.empty (all_parts IsPrintable first.front (first.next ∷ first.rest) (subst IsLine first.whole line)).0
 
--- such a place is one
+-- such an index is one
 one_place : (front back : List Content) (x y : Content) (rest others : List Content) → front ++ x ∷ rest ≡ back ++ y ∷ others → IsLine front → IsLine back → ¬ IsPrintable x → ¬ IsPrintable y
     → length front ≡ length back
 one_place [] [] x y rest others e p q m n = refl
@@ -79,7 +79,7 @@ first_found fields i x h e line none = record {
   empty = none;
 }
 
--- the writer stands in the line's block, after the tokens of some fields
+-- the writer is in the line's block, after the tokens of some fields
 pub record InLine {F : Type 0} (blocks : F → ℕ) (gives : F → Step → F → Type 0) (w : F) (fields : List Content) (v : F) : Type 0 where
   pub inside : 0 < blocks v
   pub runs : WritesSteps blocks gives w (map field_step fields) v

@@ -1,4 +1,4 @@
--- The token of a field is one, so a line is a well-formed document.
+-- The token of a field is a token of documents, so a line is a well-formed document.
 use Rattle.std.proofs.Common.{◌≡◌, ℕ, zero, suc, ◌<◌, ◌-◌, ◌%◌, ◌^◌, Bool, true, List, [], ◌∷◌, ◌++◌, length, map, All, refl, sym, ap, ◌∙◌, arith, replicate, inl, inr}
 use Rattle.std.specs.Prelude.{encode_utf8_all, slice_index, nat_lt, ◌&&◌}
 use Rattle.std.specs.List.{AllByRecursion, list_all, flat_map}
@@ -26,7 +26,7 @@ use Rattle.dns_zone.specs.Documents.{IsProper, IsWellFormed}
 use Rattle.dns_entry.specs.Field.{Content, number, hex_octets, base64_octets, text_octets, IsContent, IsPrintable, field_text}
 use Rattle.dns_entry.specs.Line.{AreContents, IsLine, field_step, line_document, line_nests}
 
--- an ASCII character that stands for itself in a word
+-- an ASCII character that may be plain in a word
 abbrev pub is_word_char : ℕ → Bool
 is_word_char c = nat_lt c 128 && is_word_symbol (Char c)
 

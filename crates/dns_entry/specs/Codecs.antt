@@ -1,4 +1,4 @@
--- What the converters make of a token.
+-- The results of the converters for a token.
 use Rattle.std.specs.Prelude.{ℕ, List, [], ◌∷◌, ◌++◌, ◌≡◌, ◌<◌, ◌≤◌, ◌⊎◌, length, Bool, false, Option, Some, None, Result, Ok, Err, MatchResult}
 use Rattle.dns_octets.specs.Room.{Room}
 use Rattle.dns_symbol.specs.declared.symbol.Symbol.{Symbol}
@@ -11,49 +11,49 @@ use Rattle.dns_codec.specs.Converting.{made, convert, convert_tail}
 use Rattle.dns_symbol.specs.Cause.{Cause, custom_text, short_buf}
 use Rattle.dns_scan.specs.Tokens.{Token}
 
--- a converter by what it holds: the octets of a symbol or the refusal's text, and what it holds then; and those of the tail
+-- a converter by its state: the octets of a symbol or the error's text, and the state after it; and those of the tail
 pub record Codec : Type 1 where
   pub Held : Type 0
   pub start : Held
   pub step : Held → Symbol → Result (List ℕ) (List ℕ) × Held
   pub tail : Held → Result (List ℕ) (List ℕ)
 
--- go on from octets that were made, or answer the refusal
+-- continue with the octets that were produced, or return the error
 abbrev pub then_made : Result (List ℕ) (List ℕ) → (List ℕ → Result (List ℕ) Cause) → Result (List ℕ) Cause
 then_made (Ok octets) go = go octets
 then_made (Err text) go = Err (custom_text text)
 
--- octets and those made after them, or none at a refusal
+-- octets and those produced after them, or none for an error
 abbrev pub then_more : Result (List ℕ) (List ℕ) → List ℕ → List ℕ
 then_more (Ok octets) more = octets ++ more
 then_more (Err text) more = []
 
 module _ (codec : Codec) where
-  -- what comes after the symbols: the token's error, or else the tail's octets or refusal
+  -- what follows the symbols: the token's error, or else the tail's octets or error
   abbrev pub finished_symbols : codec.Held → List ℕ → Option SymbolCharsError → Result (List ℕ) Cause
   finished_symbols held built None = then_made (codec.tail held) (λ octets. Ok (built ++ octets))
   finished_symbols held built (Some e) = Err (custom_text (chars_error_text e))
 
-  -- the octets made of symbols, from what is held and built, or the first refusal
+  -- the octets of symbols, from a state and the octets before, or the first error
   abbrev pub converted_symbols : codec.Held → List ℕ → List Symbol → Option SymbolCharsError → Result (List ℕ) Cause
   converted_symbols held built [] error = finished_symbols held built error
   converted_symbols held built (x ∷ xs) error = then_made (codec.step held x).0 (λ octets. converted_symbols (codec.step held x).1 (built ++ octets) xs error)
 
-  -- what a new converter makes of a token
+  -- the result of a new converter for a token
   abbrev pub ConvertsTo : Token → Result (List ℕ) Cause → Type 0
   ConvertsTo token r = (symbols : List Symbol) × (error : Option SymbolCharsError) × SymbolsOf token symbols error × (converted_symbols codec.start [] symbols error ≡ r)
 
-  -- the octets that are made of symbols, and of the tail where nothing else follows, up to the first refusal
+  -- the octets of symbols, and of the tail if nothing else follows, up to the first error
   abbrev pub made_of : codec.Held → List Symbol → Option SymbolCharsError → List ℕ
   made_of held [] None = made (codec.tail held)
   made_of held [] (Some e) = []
   made_of held (x ∷ xs) error = then_more (codec.step held x).0 (made_of (codec.step held x).1 xs error)
 
-  -- the octets that a new converter makes of a token up to the first refusal
+  -- the octets that a new converter produces for a token up to the first error
   abbrev pub MadeOf : Token → List ℕ → Type 0
   MadeOf token octets = (symbols : List Symbol) × (error : Option SymbolCharsError) × SymbolsOf token symbols error × (octets ≡ made_of codec.start symbols error)
 
-  -- the answer is what the token converts to, where what is made of it is within the room's capacity; or "short buffer", where that is more than surely fits
+  -- the result is what the token converts to, if its octets are within the capacity; or "short buffer", if they exceed the guaranteed one
   abbrev pub AnswersConverted : {O E : Type 0} → (E → Cause) → (O → List ℕ) → Room → Token → Result O E → Type 0
   AnswersConverted cause value room token r = (built : List ℕ) × MadeOf token built × MatchResult r
       (λ x. ConvertsTo token (Ok (value x)) × (length built ≤ room.capacity))
@@ -63,7 +63,7 @@ module _ (codec : Codec) where
   abbrev pub OctetsPrint : Token → List ℕ → Type 0
   OctetsPrint token text = (octets : List ℕ) × ConvertsTo token (Ok octets) × (text ≡ encoded base16 octets)
 
-  -- the token is none
+  -- the token isn't converted
   abbrev pub OctetsRefused : Token → Cause → Type 0
   OctetsRefused token why = ConvertsTo token (Err why)
 

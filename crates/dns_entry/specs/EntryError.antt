@@ -1,4 +1,4 @@
--- What refusals of entry lines print.
+-- The texts of errors of entry lines.
 use Rattle.std.specs.Prelude.{ℕ, List, ◌++◌, codes}
 use Rattle.std.specs.Fmt.{decimal}
 use Rattle.dns_entry.specs.declared.error.EntryError.{EntryError}
@@ -6,7 +6,7 @@ use Rattle.dns_entry.specs.declared.error.EntryError.TheVariants.{EmptyEncoding}
 use Rattle.dns_entry.specs.Field.{Content}
 use Rattle.dns_entry.specs.Line.{IsFirstEmpty}
 
--- the place that an error names
+-- the index in an error
 abbrev pub error_place : EntryError → ℕ
 error_place (EmptyEncoding i) = i
 

@@ -8,7 +8,7 @@ use Rattle.dns_entry.specs.declared.entry.Field.{Field}
 use Rattle.dns_entry.specs.declared.entry.Field.TheVariants.{Number, Hex, Base64, Text}
 use Rattle.dns_charstr.specs.Limits.{max_string}
 
--- what a field holds: a number, or octets and how they are printed
+-- the value of a field: a number, or octets and how they are printed
 pub data Content : Type 0 where
   number : ℕ → Content
   hex_octets : List ℕ → Content
@@ -24,7 +24,7 @@ content_of (Text string) = text_octets string
 abbrev pub contents_of : {A : Type 0} → List (Field A) → List Content
 contents_of fields = map content_of fields
 
--- what a field can hold: a number of 32 bits, octets, or a character string's octets
+-- the possible values of a field: a number of 32 bits, octets, or a character string's octets
 abbrev pub IsContent : Content → Type 0
 IsContent (number n) = n < 2 ^ 32
 IsContent (hex_octets os) = All (λ o. o < 256) os
@@ -38,7 +38,7 @@ IsPrintable (hex_octets os) = 0 < length os
 IsPrintable (base64_octets os) = 0 < length os
 IsPrintable (text_octets os) = ⊤
 
--- the token: in decimal, in the encoding, or the unquoted text; no octets of a text are a quoted text of none
+-- the token: in decimal, in the encoding, or the unquoted text; the empty text is two double quotes
 abbrev pub field_text : Content → List ℕ
 field_text (number n) = decimal n
 field_text (hex_octets os) = encoded base16 os

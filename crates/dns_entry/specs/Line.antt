@@ -1,4 +1,4 @@
--- Entry lines: which fields are one, and the document that they are.
+-- Entry lines: the lists of fields that are lines, and their documents.
 use Rattle.std.specs.Prelude.{◌≡◌, ℕ, true, List, [], ◌∷◌, ◌++◌, length, map, refl}
 use Rattle.std.specs.List.{AllByRecursion}
 use Rattle.dns_zone.specs.Layout.{Step, token, begin, end}
@@ -9,11 +9,11 @@ use Rattle.dns_entry.specs.Field.{Content, IsContent, IsPrintable, field_text}
 abbrev pub IsLine : List Content → Type 0
 IsLine fields = AllByRecursion IsPrintable fields
 
--- what any list of fields holds
+-- what holds of any list of fields
 abbrev pub AreContents : List Content → Type 0
 AreContents fields = AllByRecursion IsContent fields
 
--- the place of the first field that can't be a token
+-- the index of the first field that can't be a token
 pub record IsFirstEmpty (fields : List Content) (place : ℕ) : Type 0 where
   pub front : List Content
   pub next : Content
@@ -27,7 +27,7 @@ pub record IsFirstEmpty (fields : List Content) (place : ℕ) : Type 0 where
 abbrev pub field_step : Content → Step
 field_step field = token (field_text field)
 
--- a block with a token a field
+-- a block with a token for each field
 abbrev pub line_document : List Content → List Step
 line_document fields = begin ∷ (map field_step fields ++ end ∷ [])
 

@@ -1,4 +1,4 @@
-//! Lines of typed fields.
+//! Entry lines: lists of typed fields.
 ghost use Rattle.std.specs.Prelude.{◌≡◌, ◌↔◌, IfNone, IfSome, IfOk, IfErr, IsOk, IsTrue, OnOk, List, Some};
 ghost use Rattle.dns_zone.specs.Layout.{token};
 ghost use Rattle.dns_entry.specs.Field.{Content, content_of, contents_of, IsPrintable};
@@ -12,7 +12,7 @@ use dns_zone::zonefile_fmt::{self, FormatWriter, Formatter, ZonefileFmt};
 use std::alloc::{Allocator, Global};
 use std::marker::Model;
 
-/// What the token of a line's field is scanned as.
+/// The kind of value that the token of a field is parsed as.
 #[derive(Clone, Copy)]
 pub enum FieldKind {
     /// A number of at most 32 bits.
@@ -33,16 +33,16 @@ pub enum FieldKind {
 pub enum Field<A: Allocator = Global> {
     /// A number, in decimal.
     Number(u32),
-    /// Octets in base 16 (RFC 4648, section 8).
+    /// Octets in base 16 (RFC 4648 section 8).
     Hex(Vec<u8, A>),
-    /// Octets in base 64 (RFC 4648, section 4).
+    /// Octets in base 64 (RFC 4648 section 4).
     Base64(Vec<u8, A>),
-    /// A character string in its unquoted form; `""` if it has no octets.
+    /// A character string, printed in its unquoted form, or as `""` if it is empty.
     Text(CharStr<Vec<u8, A>>),
 }
 
 impl<A: Allocator> Field<A> {
-    // Whether the field has no text that is a token.
+    // Returns whether the field's text isn't a token.
     fn is_empty_encoding(&self) -> bool
         ensures { IsTrue result ↔ ¬ IsPrintable (content_of self.now) }
     {
@@ -54,7 +54,7 @@ impl<A: Allocator> Field<A> {
     }
 }
 
-// The place of the first field whose text is no token.
+// Returns the index of the first field whose text isn't a token.
 fn first_empty<A: Allocator>(fields: &[Field<A>]) -> Option<usize>
     ensures none { IfNone result (IsLine (contents_of fields.now)) }
     ensures some { IfSome result (λ i. IsFirstEmpty (contents_of fields.now) i) }
@@ -67,7 +67,7 @@ fn first_empty<A: Allocator>(fields: &[Field<A>]) -> Option<usize>
     None
 }
 
-// Prints a field's token.
+// Prints a field as a token.
 fn write_field<F: FormatWriter, A: Allocator>(p: &mut F, field: &Field<A>) -> zonefile_fmt::Result
     ensures blocks { OnOk result (F.blocks p.new ≡ F.blocks p.old) }
     ensures gives { OnOk result (F.step_gives p.old (field_step (content_of field.now)) p.new) }
@@ -81,7 +81,7 @@ fn write_field<F: FormatWriter, A: Allocator>(p: &mut F, field: &Field<A>) -> zo
     }
 }
 
-/// Fields that print as one entry: each has a text that is a token.
+/// Fields that print as one entry: the text of each is a token.
 #[derive(Debug, Drop)]
 pub struct EntryLine<A: Allocator = Global> {
     pub(crate) fields: Vec<Field<A>, A>,
@@ -96,8 +96,8 @@ impl<A: Allocator> Model for EntryLine<A> {
 }
 
 impl<A: Allocator> EntryLine<A> {
-    /// Takes every list of fields without an encoding of no octets, and no memory. Another list
-    /// comes back with the first such place.
+    /// Returns the line of a list of fields, without allocating. Fails if an encoding in the list
+    /// has no octets; the error has the index of the first such field, and the list.
     pub fn new(fields: Vec<Field<A>, A>) -> Result<EntryLine<A>, (EntryError, Vec<Field<A>, A>)>
         ensures ok { IfOk result (λ line. line ≡ contents_of fields.items) }
         ensures accepts { IsOk result ↔ IsLine (contents_of fields.items) }

@@ -1,14 +1,14 @@
-//! Why fields are no line.
+//! The error of making an entry line.
 ghost use Rattle.std.specs.Prelude.{Some};
 ghost use Rattle.dns_entry.specs.EntryError.{entry_error_text};
 
 use std::error::Error;
 use std::fmt;
 
-/// Why fields are no line: by the field's place, which counts from 0.
+/// The error if fields aren't a line, with the field's index from 0.
 #[derive(Clone, Copy, Debug, PartialEq, Eq)]
 pub enum EntryError {
-    /// An encoding has no octets, so its text is no token. This is the first such field.
+    /// The first field whose encoding has no octets, so that its text isn't a token.
     EmptyEncoding(usize),
 }
 

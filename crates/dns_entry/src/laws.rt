@@ -1,5 +1,5 @@
-//! Laws on entry lines.
-//! Each function's contract is the law; calling one does nothing of use.
+//! Laws of entry lines.
+//! Each function's contract is the law; calling it has no useful effect.
 ghost use Rattle.std.specs.Prelude.{ℕ, List};
 ghost use Rattle.dns_split.specs.Token.{IsToken};
 ghost use Rattle.dns_zone.specs.Documents.{IsWellFormed};
@@ -11,7 +11,7 @@ use crate::entry::{EntryLine, Field};
 use dns_octets::AsOctets;
 use std::alloc::Allocator;
 
-/// A field holds a number of 32 bits, octets, or at most 255 of them.
+/// A field contains a number of 32 bits, or octets, or at most 255 octets.
 pub fn fields_hold_values<A: Allocator>(field: &Field<A>)
     ensures { IsContent (content_of field.now) }
 {
@@ -28,7 +28,7 @@ pub fn fields_hold_values<A: Allocator>(field: &Field<A>)
     }
 }
 
-/// Every line is one: its fields hold values, and each can be a token.
+/// Every line satisfies its definition: its fields contain values, and the text of each is a token.
 pub fn lines_are_lines<A: Allocator>(line: &EntryLine<A>)
     ensures holds { AreContents line.now }
     ensures printable { IsLine line.now }
@@ -38,7 +38,7 @@ pub fn lines_are_lines<A: Allocator>(line: &EntryLine<A>)
     }
 }
 
-/// A list has one first field that can't be a token at most, and a line has none.
+/// A list has at most one first field whose text isn't a token, and a line has none.
 pub fn first_empties_are_unique()
     ensures one { (fields : List Content) → HasOneAnswer (IsFirstEmpty fields) }
     ensures none { (fields : List Content) (i : ℕ) → IsFirstEmpty fields i → IsLine fields → ⊥ }

@@ -1,4 +1,4 @@
-//! Entry lines: a list of typed fields that prints as one entry of zone text.
+//! Entry lines: lists of typed fields that print as one entry of a zone file.
 #![tactic(auto)]
 
 pub mod entry;
