@@ -20,7 +20,7 @@ use Rattle.zone_format.proofs.Respelling.{end_if, lead_in, next, sq}
 use Rattle.zone_format.proofs.Same.{marks_once, marks_written}
 use Rattle.zone_format.proofs.Squeezing.{sq_is_squeezed}
 
--- what stands above where blank lines are left out
+-- the state above if blank lines are dropped
 abbrev base : Above → Above
 base Nothing = Nothing
 base Line = Line
@@ -34,7 +34,7 @@ Suits Gap m n = n ≡ 0
 abbrev feed_unless : Bool → List ℕ
 feed_unless b = if b then [] else 10 ∷ []
 
--- a line's end where a line begins
+-- a line end at the beginning of a line
 fed_begin : (a : Above) (d n : ℕ) (l : Bool) (ms : List Mark) → written_from (begin_stand a d n l) (Feed ∷ ms) ≡ written_from (begin_stand (blank_below a) d 0 false) ms
 fed_begin a d n l ms =
     subst (λ b. feed_unless b ++ written_from (stand (if b then blank_below a else Line) d 0 0 (start d) 0) ms ≡ written_from (begin_stand (blank_below a) d 0 false) ms) (sym (begin_start (d == 0) l)) refl
@@ -74,7 +74,7 @@ last_start a d m n l s = ap feed_unless (begin_start (d == 0) false) ∙ sym (ap
 last_within : Within []
 last_within b a d noted note t e l h = subst (λ c. feed_unless c ++ feed_unless (is_start (start d)) ≡ feed_unless c) (sym h) (ap (λ r. 10 ∷ feed_unless r) (begin_start (d == 0) false))
 
--- on a line a blank at an entry's beginning has no place
+-- on a line a blank at an entry's beginning isn't possible
 same_turn : (t : Turn) → is_start t ≡ false → led_turn t ≡ t
 same_turn Edge h = cc
 same_turn Led h = cc
@@ -122,7 +122,7 @@ form_has_marks octets ms h =
     let same : rewritten plan ms ≡ form ms = sym (planned ms) ∙ written_is_form ms in
     subst (λ l. HasMarks l (squeezed ms)) same (subst (HasMarks (rewritten plan ms)) (sq_is_squeezed ms) (marks_written octets plan ms h))
 
--- and is not refused
+-- and isn't rejected
 fine_in : (a : Above) (w l : Bool) (ms : List Mark) → list_all mark_has_no_nul (lead_in a w l ++ ms) ≡ list_all mark_has_no_nul ms
 fine_in a true l ms = refl
 fine_in Nothing false true ms = refl
@@ -174,6 +174,6 @@ form_again octets f h = record {
   out = h.out ∙ sym (form_of_squeezed h.marks);
 }
 
--- where the marks are the same, the forms are
+-- if the marks are the same, the forms are
 pub same_form : (octets other : List ℕ) (ms : List Mark) (f g : List ℕ) → HasMarks octets ms → HasMarks other ms → Formats octets [] f → Formats other [] g → f ≡ g
 same_form octets other ms f g a b h k = h.out ∙ ap form (marks_once octets h.marks ms h.read a) ∙ sym (ap form (marks_once other k.marks ms k.read b)) ∙ sym k.out

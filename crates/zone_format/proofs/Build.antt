@@ -1,4 +1,4 @@
--- Lexemes with blanks and line ends written anew.
+-- Lexemes whose blanks and line ends are written again.
 use Rattle.std.proofs.Common.{◌≡◌, ℕ, zero, suc, ◌+◌, ◌-◌, Bool, true, false, ◌&&◌, List, [], ◌∷◌, ◌++◌, drop, refl, ap, ◌∙◌, arith}
 use Rattle.std.specs.Prelude.{replicate}
 use Rattle.std.specs.List.{flat_map}
@@ -175,12 +175,12 @@ may_word s ss (Open ∷ ls) n = refl
 may_word s ss (Close ∷ ls) n = refl
 may_word s ss (Note a ∷ ls) n = refl
 
--- a blank stands before what is not glued
+-- a blank precedes what isn't adjacent
 some_first : (n : ℕ) (ls : List Lexeme) → no_word (blanks (some n) ++ ls) ≡ true
 some_first zero ls = refl
 some_first (suc n) ls = refl
 
--- before something that is no word
+-- before something other than a word
 plain_first : (n : ℕ) (ls : List Lexeme) → no_word ls ≡ true → no_word (blanks n ++ ls) ≡ true
 plain_first zero ls h = h
 plain_first (suc n) ls h = refl

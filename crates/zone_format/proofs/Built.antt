@@ -25,7 +25,7 @@ some_marks : (k : Bool) (n d : ℕ) (ls : List Lexeme) → marks_of k d (blanks 
 some_marks k zero d ls = refl
 some_marks k (suc n) d ls = plain_marks n d ls
 
--- inside parentheses, where a line begins
+-- inside parentheses, at the beginning of a line
 inner_marks : (a : Above) (n d : ℕ) (ls : List Lexeme) → marks_of false (suc d) (spaces a false n ++ ls) ≡ gap Feed a ++ marks_of false (suc d) ls
 inner_marks Nothing n d ls = plain_marks n (suc d) ls
 inner_marks AtLine n d ls = plain_marks n (suc d) ls

@@ -1,4 +1,4 @@
--- The pieces that the cursor gives follow one another.
+-- The pieces of the iterator follow one another.
 use Rattle.std.proofs.Common.{ℕ, zero, suc, ◌≤◌, Bool, List, [], ◌∷◌, ◌++◌, length, take, sym, subst, arith, inl, inr}
 use Rattle.std.specs.Prelude.{⊤, map, Result, Ok, Err, encode_utf8_all}
 use Rattle.std.proofs.lemmas.Bool.{cases_lt}

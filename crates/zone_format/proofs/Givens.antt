@@ -1,4 +1,4 @@
--- What the cursor gives of octets: pieces, or a fault after some.
+-- The items of the iterator over octets: pieces, or an error after some.
 use Rattle.std.proofs.Common.{◌≡◌, ℕ, ◌≤◌, List, [], ◌∷◌, ◌++◌, length, refl, sym, ap, ◌∙◌, subst, inl, inr}
 use Rattle.std.specs.Prelude.{Option, Some, None, option_map, map, Result, Ok, Err, encode_utf8_all}
 use Rattle.dns_split.specs.declared.pieces.Piece.{Piece}
@@ -45,7 +45,7 @@ pub pieces_of_oks : (found : List Piece) → pieces_in (map Ok found) ≡ found
 pieces_of_oks [] = refl
 pieces_of_oks (p ∷ found) = ap (λ l. p ∷ l) (pieces_of_oks found)
 
--- a text without a fault has what is given as its pieces
+-- a text without an error has the items as its pieces
 reads_whole : (text : List ℕ) (given : List (Result Piece Fault)) → Reads text given → first_fault given ≡ None → IsPieces text (pieces_in given)
 reads_whole text given (inl w) h = subst (IsPieces text) (sym (ap pieces_in w.is ∙ pieces_of_oks w.found)) w.placed
 reads_whole text given (inr f) h = let no : None ≡ Some f.fault = sym h ∙ ap first_fault f.is ∙ first_of_bad f.found f.fault in cc

@@ -1,4 +1,4 @@
--- What is left to write after marks that were written.
+-- The rest to write after marks that were written.
 use Rattle.std.proofs.Common.{◌≡◌, ℕ, ◌+◌, ◌-◌, Bool, true, false, ◌&&◌, List, [], ◌∷◌, ◌++◌, refl, sym, ap, ◌∙◌, append_assoc}
 use Rattle.std.specs.Prelude.{if◌then◌else◌}
 use Rattle.zone_format.specs.declared.stand.Stand.{Stand}
@@ -35,7 +35,7 @@ pub lead_accepts : (b : Bool) (s u : Stand) → u ≡ (if b then led s else s) �
 lead_accepts true s u e = λ ms. ap (λ v. accepts_from v ms) e
 lead_accepts false s u e = λ ms. ap (λ v. accepts_from v ms) e
 
--- where writing stands after marks and then others
+-- the state of writing after marks followed by others
 pub stands_append : (s : Stand) (ms ns : List Mark) → stands_after s (ms ++ ns) ≡ stands_after (stands_after s ms) ns
 stands_append s [] ns = refl
 stands_append s (Token g t ∷ ms) ns = stands_append (pushed_token s g t) ms ns

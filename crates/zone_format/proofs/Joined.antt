@@ -55,7 +55,7 @@ whole_joined ls more r h =
     ap (λ c. lead c ++ marks_of false 0 (ls ++ Line r ∷ more)) (blank_joined ls more r) ∙ ap (λ l. lead b ++ l) (marks_joined ls more r false 0 h)
     ∙ sym (append_assoc (lead b) (marks_of false 0 (ls ++ Line r ∷ [])) (whole more))
 
--- marks that end with a line's end outside parentheses, where so many are open before
+-- marks that end with a line end outside parentheses, from a depth of parentheses
 abbrev rests : ℕ → Bool → List Mark → Bool
 rests d f [] = f && (d == 0)
 rests d f (TokenMark g t ∷ ms) = rests d false ms

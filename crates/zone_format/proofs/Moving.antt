@@ -1,4 +1,4 @@
--- Marks that were written up to a place.
+-- Marks that were written up to an offset.
 use Rattle.std.proofs.Common.{◌≡◌, ℕ, suc, ◌+◌, ◌-◌, ◌<◌, ◌≤◌, Bool, true, false, ◌&&◌, ◌==◌, List, [], ◌∷◌, ◌++◌, length, take, drop, get_or, refl, sym, ap, ◌∙◌, subst, arith, append-nil}
 use Rattle.std.specs.Prelude.{if◌then◌else◌}
 use Rattle.std.specs.List.{flat_map}
@@ -56,7 +56,7 @@ pub gap_blank : (gap old mid : List ℕ) (s t : Stand) (i : ℕ) → i < length 
 gap_blank gap old mid s t i h b a =
     gap_turn gap old mid mid s t t i h a (subst (λ ms. Moves ms mid t 1 mid t) (sym (blank_mark (get_or gap i 0) b)) (stays mid t a.fits))
 
--- what stands between two pieces, and then something
+-- the octets between two pieces, followed by something
 pub advanced : (octets : List ℕ) (ms : List Mark) (old mid new : List ℕ) (p : Progress) (s to : ℕ) (tied : Bool) (t u : Stand) → Moves (gap_marks octets p.at s) old p.stand (length (between octets p.at s)) mid t
     → Goes ms mid t new u → Accepts ms t u → u ≡ stands_after t ms → LineFits new u → u.depth ≡ t.depth → Reaches octets p → p.at ≤ s → s ≤ to → to ≤ length octets
     → Advances octets (gap_marks octets p.at s ++ ms) old p to tied new (record { stand = u; at = to; is_token = tied })

@@ -1,4 +1,4 @@
--- Where what is left open was opened.
+-- The offset of the unclosed opener.
 use Rattle.std.proofs.Common.{◌≡◌, ℕ, ◌≤◌, List, length, take, drop, subst, arith, length-take-le}
 use Rattle.std.specs.Prelude.{encode_utf8_all}
 use Rattle.dns_split.specs.Pieces.{IsFault, IsWrong, moved_fault, moved_wrong, place_of}
@@ -7,13 +7,13 @@ use Rattle.dns_split.specs.declared.pieces.Wrong.{Wrong}
 use Rattle.dns_split.specs.declared.pieces.Wrong.TheVariants.{OpenQuote}
 use Rattle.dns_split.proofs.OctetsOnce.{wrong_within}
 
--- the octets before the fault, and what is wrong there
+-- the octets before the error, and what is wrong there
 wrong_is : (octets : List ℕ) (f : Fault) (w : Wrong) → IsFault (encode_utf8_all octets) (moved_fault (place_of octets) f) → f.wrong ≡ w
     → IsWrong (take (place_of octets f.at) (encode_utf8_all octets)) (drop (place_of octets f.at) (encode_utf8_all octets)) (moved_wrong (place_of octets) w)
 wrong_is octets f w h e =
     subst (λ x. IsWrong (take (place_of octets f.at) (encode_utf8_all octets)) (drop (place_of octets f.at) (encode_utf8_all octets)) (moved_wrong (place_of octets) x)) e h.wrong
 
--- a quoted text begins among the octets
+-- a quoted string begins among the octets
 pub quote_within : (octets : List ℕ) (f : Fault) (i : ℕ) → IsFault (encode_utf8_all octets) (moved_fault (place_of octets) f) → f.wrong ≡ OpenQuote i → i ≤ length octets
 quote_within octets f i h e =
     let at : ℕ = place_of octets f.at in

@@ -49,7 +49,7 @@ some_same (suc n) h = refl
 eighth : (n : ℕ) → n ≤ next_eighth n
 eighth n = omega arith
 
--- a blank is left
+-- a blank remains
 first_far : (r : Role) (e n : ℕ) → e + 2 ≤ first_column r e n
 first_far Ttl e n = omega (arith, eighth ((e + n + 2) - 31))
 first_far Class e n = omega (arith, eighth ((e + 2) - 32))
@@ -98,7 +98,7 @@ token_count : (t : Turn) (e : ℕ) (g : Bool) (x : List ℕ) (deep led : Bool) �
 token_count t e true x deep led h = no_blanks e
 token_count t e false x deep led h = some_blanks (parted_column t e x) e (parted_far t e x h)
 
--- and those where a line begins
+-- and those at the beginning of a line
 value_under : (b : Bool) (above column : ℕ) → 2 ≤ column → (b ≡ true → 2 ≤ above) → 2 ≤ (if b then above else column)
 value_under true above column h k = k refl
 value_under false above column h k = h

@@ -33,7 +33,7 @@ column_same l c n h k e =
 pub one_on : (before xs : List ℕ) (i : ℕ) → i < length xs → before ++ take (i + 1) xs ≡ before ++ take i xs ++ get_or xs i 0 ∷ []
 one_on before xs i h = ap (λ l. before ++ l) (take_more xs i 0 h) ∙ sym (append_assoc before (take i xs) (get_or xs i 0 ∷ []))
 
--- the octets before a place are those before an earlier one and those between
+-- the octets before an offset are those before an earlier one and those between
 pub taken : (xs : List ℕ) (i j : ℕ) → i ≤ j → j ≤ length xs → take j xs ≡ take i xs ++ take (j - i) (drop i xs)
 taken xs i j h k =
     let short : length (take i xs) ≡ i = length-take-le i xs (omega arith) in
@@ -49,14 +49,14 @@ feeds_on xs i room =
 pub load_short : (xs : List ℕ) (i : ℕ) → feeds (take 16 (drop i xs)) ≤ 16
 load_short xs i = omega (arith, count_by-le-length (λ c. c == 10) (take 16 (drop i xs)), length-take 16 (drop i xs))
 
--- the octets before a place, and those from it on
+-- the octets before an offset, and those from it on
 parted : (xs : List ℕ) (s : ℕ) → s ≤ length xs → take s xs ++ take (length xs - s) (drop s xs) ≡ xs
 parted xs s within = sym (taken xs s (length xs) within (omega arith)) ∙ take_all (length xs) xs (omega arith)
 
 pub feeds_parted : (xs : List ℕ) (s : ℕ) → s ≤ length xs → feeds (take s xs) + feeds (take (length xs - s) (drop s xs)) ≡ feeds xs
 feeds_parted xs s within = sym (sum_by-append (λ x. cond (x == 10) 1 0) (take s xs) (take (length xs - s) (drop s xs))) ∙ ap feeds (parted xs s within)
 
--- after a line's end a column is 1, whatever stood before
+-- after a line end the column is 1, whatever precedes it
 pub line_begins : (before xs : List ℕ) (s : ℕ) → 0 < s → s ≤ length xs → get_or xs (s - 1) 0 ≡ 10 → 1 ≡ column_of (before ++ take s xs)
 line_begins before xs s some within fed =
     let back : s ≡ s - 1 + 1 = omega (arith, some) in

@@ -30,7 +30,7 @@ onward : (before : List ℕ) (l : Lexeme) (ls : List Lexeme) (text : List ℕ) (
     → ((before ++ lexeme_bytes l) ++ flat_map lexeme_bytes ls ≡ text) × (at + length (lexeme_bytes l) ≡ length (before ++ lexeme_bytes l))
 onward before l ls text at e k = (append_assoc before (lexeme_bytes l) (flat_map lexeme_bytes ls) ∙ e, omega (arith, k, length-append before (lexeme_bytes l)))
 
--- a text of lexemes begins with a blank where they do
+-- a text of lexemes begins with a blank if they do
 no_char : (x c : ℕ) → c ≡ x → is_word_symbol (Char x) ≡ false → is_word_symbol (Char c) ≡ true → ⊥
 no_char x c e f h = let w : false ≡ true = sym f ∙ ap (λ y. is_word_symbol (Char y)) (sym e) ∙ h in cc
 
@@ -96,14 +96,14 @@ close_marks : flat_map gap_mark (lexeme_bytes Close) ≡ CloseMark ∷ []
 unfolding encode
 close_marks = refl
 
--- what stands before a place, and then more
+-- the marks before an offset, followed by more
 pass : (text : List ℕ) (from at at' : ℕ) (gm : List Mark) (ms rest : List Mark) → gap_marks text from at' ≡ gap_marks text from at ++ gm → gap_marks text from at' ++ ms ≡ rest → gap_marks text from at ++ (gm ++ ms) ≡ rest
 pass text from at at' gm ms rest g h = sym (append_assoc (gap_marks text from at) gm ms) ∙ ap (λ x. x ++ ms) (sym g) ∙ h
 
 after_piece : (text : List ℕ) (at : ℕ) (ms rest : List Mark) → gap_marks text at at ++ ms ≡ rest → ms ≡ rest
 after_piece text at ms rest h = ap (λ g. g ++ ms) (sym (no_gap text at)) ∙ h
 
--- what stands further on is not glued
+-- what begins later isn't adjacent
 apart : (tied : Bool) (from at n : ℕ) → from ≤ at → 1 ≤ n → false ≡ (tied && (at + n == from))
 apart false from at n h k = refl
 apart true from at n h k = sym (ne_eqb (at + n) from (λ e. omega (arith, e, h, k)))

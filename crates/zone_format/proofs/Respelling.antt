@@ -15,8 +15,8 @@ abbrev pub some : ℕ → ℕ
 some zero = 1
 some (suc n) = suc n
 
--- the blanks before something, where a plan wants so many: none before what is glued; on a line one at least;
--- where a line begins an entry, some if it began with one and else none; inside parentheses any number
+-- the blanks before something, of a plan's number: none before what is adjacent; on a line at least one;
+-- if a line begins an entry, some if it began with one and else none; inside parentheses any number
 abbrev pub count : (glued within deep led : Bool) → ℕ → ℕ
 count true within deep led n = 0
 count false true deep led n = some n
@@ -51,7 +51,7 @@ respelt plan a w d led (Close ∷ ms) = space a w (count false w (deep d) led (f
 respelt plan a w d led (Feed ∷ ms) = end_if 10 w ++ respelt plan (next w a) false d false ms
 respelt plan a w d led (Lead ∷ ms) = respelt plan a w d true ms
 
--- what stands before something on its line
+-- the marks before something on its line
 abbrev pub lead_in : Above → Bool → Bool → List Mark
 lead_in a true led = []
 lead_in a false led = gap Feed a ++ lead led

@@ -1,4 +1,4 @@
--- From the text of which each octet is a character to the octets.
+-- From the text in which each octet is a character to the octets.
 use Rattle.std.proofs.Common.{◌≡◌, ℕ, zero, suc, ◌+◌, ◌-◌, ◌≤◌, Bool, true, false, ◌&&◌, ◌==◌, List, [], ◌∷◌, ◌++◌, length, take, drop, refl, sym, ap, ◌∙◌, subst, arith, inl, inr, eq-eqb, append-nil, length-append}
 use Rattle.std.specs.Prelude.{if◌then◌else◌, map, replicate, Option, Some, None, option_map, Result, Ok, encode_utf8, encode_utf8_all}
 use Rattle.std.specs.List.{flat_map, list_all}

@@ -1,4 +1,4 @@
--- How tokens and comments are spelled, an octet after another.
+-- The spelling of tokens and comments, an octet after another.
 use Rattle.std.proofs.Common.{◌≡◌, ℕ, zero, suc, ◌+◌, ◌<◌, ◌≤◌, ◌==◌, Bool, true, false, ◌&&◌, ◌||◌, List, [], ◌∷◌, length, drop, get_or, refl, sym, ap, ◌∙◌, arith, drop-cons}
 use Rattle.dns_split.specs.Run.{is_blank}
 use Rattle.zone_format.specs.Columns.{has_second, spells}
@@ -13,7 +13,7 @@ other_length (l ∷ ls) (c ∷ cs) h = ap (λ b. (c == l || c + 32 == l) && b) (
     none true = refl
     none false = refl
 
--- from a place on
+-- from an offset on
 pub spells_at : (ls cs : List ℕ) (i : ℕ) → i < length ls → i < length cs
     → spells (drop i ls) (drop i cs) ≡ ((get_or cs i 0 == get_or ls i 0 || get_or cs i 0 + 32 == get_or ls i 0) && spells (drop (i + 1) ls) (drop (i + 1) cs))
 spells_at ls cs i a b = ap (λ l. spells l (drop i cs)) (drop-cons ls i 0 a) ∙ ap (spells (get_or ls i 0 ∷ drop (suc i) ls)) (drop-cons cs i 0 b) ∙ next

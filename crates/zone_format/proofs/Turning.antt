@@ -1,4 +1,4 @@
--- What stays true from piece to piece.
+-- The invariant from piece to piece.
 use Rattle.std.proofs.Common.{◌≡◌, ℕ, ◌-◌, ◌<◌, ◌≤◌, ◌==◌, Bool, true, false, ◌&&◌, List, [], ◌∷◌, ◌++◌, length, drop, get_or, refl, sym, ap, ◌∙◌, subst, arith, inr, append_assoc}
 use Rattle.std.specs.Prelude.{if◌then◌else◌, Result, Ok}
 use Rattle.std.proofs.lemmas.List.{get_or-take, get_or-drop, length-take}
@@ -33,7 +33,7 @@ pub record Stays (octets : List ℕ) (all : List (Result Piece Fault)) (old : Li
   pub out : new ++ written_from p.stand (marks octets p.is_token p.at (pieces_in rest)) ≡ old ++ written_from from.stand (marks octets from.is_token from.at (pieces_in all))
   pub accepted : accepts_from p.stand (marks octets p.is_token p.at (pieces_in rest)) ≡ accepts_from from.stand (marks octets from.is_token from.at (pieces_in all))
 
--- marks were written, and those of the pieces that are left stand after them
+-- marks were written, and those of the remaining pieces follow them
 written_after : (octets : List ℕ) (ms : List Mark) (old : List ℕ) (p : Progress) (to : ℕ) (tied : Bool) (new : List ℕ) (q : Progress) (ps : List Piece) → Advances octets ms old p to tied new q
     → new ++ written_from q.stand (marks octets q.is_token q.at ps) ≡ old ++ written_from p.stand (ms ++ marks octets tied to ps)
 written_after octets ms old p to tied new q ps a =
@@ -132,7 +132,7 @@ led_reaches false octets m = record { within = omega arith; depth = omega arith 
 pub first_reaches : (octets : List ℕ) (b c : Bool) (s t : Stand) (m : Seam) → t ≡ resting m → s ≡ (if b then led t else t) → b ≡ c → Reaches octets (record { stand = s; at = 0; is_token = false })
 first_reaches octets b c s t m e f g = subst (λ (x : Stand). Reaches octets (record { stand = x; at = 0; is_token = false })) (sym (first_is b c s t (resting m) e f g)) (led_reaches c octets m)
 
--- what goes on from there goes on after the blank that an entry begins with
+-- what continues from there continues after the blank that an entry begins with
 module _ {A : Type 0} (goes : Stand → List Mark → A) (led_on : (s : Stand) (ms : List Mark) → goes (led s) ms ≡ goes s (Lead ∷ ms)) where
   led_goes : (c : Bool) (z : Stand) (ms : List Mark) → goes (if c then led z else z) ms ≡ goes z (lead c ++ ms)
   led_goes true z ms = led_on z ms

@@ -1,4 +1,4 @@
--- Zone text that comes in blocks of whole entries.
+-- Zone files that are formatted in blocks of whole entries.
 use Rattle.std.specs.Prelude.{◌≡◌, ◌⊎◌, ℕ, true, Bool, List, [], ◌++◌, encode_utf8_all}
 use Rattle.std.specs.List.{list_all}
 use Rattle.dns_split.specs.Lexeme.{Line, lexeme_bytes}
@@ -14,7 +14,7 @@ use Rattle.zone_format.specs.Marks.{Mark, HasMarks}
 use Rattle.zone_format.specs.Refusal.{has_form, mark_has_no_nul}
 use Rattle.zone_format.specs.Writing.{accepts_from, last_line_end, stands_after, written_from}
 
--- octets are zone text and then a line's end
+-- octets are of the grammar, followed by a line end
 pub record EndsInLine (octets : List ℕ) : Type 0 where
   pub front : List ℕ
   pub found : Entries
@@ -29,11 +29,11 @@ AreEntries octets = (octets ≡ []) ⊎ EndsInLine octets
 abbrev pub first_seam : Seam
 first_seam = record { above = Nothing; noted = 0 }
 
--- a line begins below a seam, outside parentheses
+-- a line begins after a seam, outside parentheses
 abbrev pub below_seam : Seam → Before
 below_seam s = record { depth = 0; noted = s.noted }
 
--- what follows has a form: like a text of its own where nothing stands above, and else without NUL outside comments
+-- what follows has a form: like a separate text if there is nothing above, and else without NUL outside comments
 abbrev pub may_follow : Above → List Mark → Bool
 may_follow Nothing ms = has_form ms
 may_follow _ ms = list_all mark_has_no_nul ms
@@ -54,7 +54,7 @@ FormatsEntries octets s old new t = AreEntries octets → (more : List ℕ) × (
 abbrev pub FormatsLast : List ℕ → Seam → List ℕ → List ℕ → Type 0
 FormatsLast octets s old new = (more : List ℕ) × (new ≡ old ++ more) × ((all out : List ℕ) → FormedTo all out s → Formats (all ++ octets) [] (out ++ more))
 
--- where writing stands below a seam
+-- the state of writing after a seam
 abbrev pub resting : Seam → Stand
 resting s = record { above = s.above; depth = 0; noted = s.noted; note = 0; turn = Edge; end = 0 }
 

@@ -1,4 +1,4 @@
--- The form of zone text: each line by itself.
+-- The form of a zone file: each line separately.
 use Rattle.std.specs.Prelude.{ℕ, ◌+◌, ◌-◌, Bool, true, false, if◌then◌else◌, ◌==◌, List, [], ◌∷◌, ◌++◌, replicate}
 use Rattle.dns_symbol.specs.Characters.{line_feed, space as blank, open_parenthesis, close_parenthesis}
 use Rattle.zone_format.specs.declared.columns.Turn.{Turn}
@@ -8,30 +8,30 @@ use Rattle.zone_format.specs.declared.stand.Above.TheVariants.{Nothing, Line, Ga
 use Rattle.zone_format.specs.Columns.{width_of, token_column, after_token, parenthesis_column, note_column}
 use Rattle.zone_format.specs.Marks.{Mark, Token, Note, Open, Close, Feed, Lead}
 
--- what stands before a line: how many parentheses are open, and the column of the comment of the line directly above, or 0
+-- the state before a line: the number of open parentheses, and the column of the comment of the line directly above, or 0
 pub record Before : Type 0 where
   pub depth : ℕ
   pub noted : ℕ
 
--- something that is spelled so stands at a column
+-- an item, as it is spelled, at a column
 pub record Placed : Type 0 where
   pub column : ℕ
   pub spelled : List ℕ
   pub is_note : Bool
 
--- how many characters stand on a line up to its end
+-- the number of characters of a line up to the item's end
 abbrev pub end_of : Placed → ℕ
 end_of p = (p.column - 1) + width_of p.spelled
 
 abbrev pub placed : ℕ → List ℕ → Bool → Placed
 placed c t n = record { column = c; spelled = t; is_note = n }
 
--- behind a blank that the entry begins with
+-- after a blank that the entry begins with
 abbrev pub led_turn : Turn → Turn
 led_turn Edge = Led
 led_turn t = t
 
--- each thing of a line at its column, behind so many characters, under a comment at a column
+-- each item of a line at its column, after e characters, below a comment at a column
 abbrev pub places : ℕ → Turn → ℕ → List Mark → List Placed
 places noted turn e [] = []
 places noted turn e (Token glued t ∷ ms) = placed (token_column turn e glued t) t false ∷ places noted (after_token turn e glued t) ((token_column turn e glued t - 1) + width_of t) ms
@@ -41,7 +41,7 @@ places noted turn e (Close ∷ ms) = placed (parenthesis_column turn e) (close_p
 places noted turn e (Feed ∷ ms) = places noted turn e ms
 places noted turn e (Lead ∷ ms) = places noted (led_turn turn) e ms
 
--- a line begins an entry, or goes on with one inside parentheses
+-- a line begins an entry, or continues one inside parentheses
 abbrev pub start : ℕ → Turn
 start depth = if depth == 0 then Edge else Inside
 
@@ -59,18 +59,18 @@ abbrev pub noted_in : ℕ → List Placed → ℕ
 noted_in c [] = c
 noted_in c (p ∷ ps) = noted_in (if p.is_note then p.column else c) ps
 
--- how many parentheses are open after a line
+-- the number of open parentheses after a line
 abbrev pub depth_after : ℕ → List Mark → ℕ
 depth_after d [] = d
 depth_after d (Open ∷ ms) = depth_after (d + 1) ms
 depth_after d (Close ∷ ms) = depth_after (d - 1) ms
 depth_after d (_ ∷ ms) = depth_after d ms
 
--- what stands before the line below
+-- the state before the line below
 abbrev pub below : Before → List Mark → Before
 below b line = record { depth = depth_after b.depth line; noted = noted_in 0 (places b.noted (start b.depth) 0 line) }
 
--- a line of blanks alone
+-- a line of only blanks
 abbrev pub is_blank_line : List Mark → Bool
 is_blank_line [] = true
 is_blank_line (Lead ∷ ms) = is_blank_line ms
@@ -95,7 +95,7 @@ abbrev pub gap : {A : Type 0} → A → Above → List A
 gap x Gap = x ∷ []
 gap x _ = []
 
--- the forms of lines, each with a line feed, and one blank line where there were some between two
+-- the forms of lines, each with a line feed, and one blank line if there were any between two
 abbrev pub forms : Above → Before → List (List Mark) → List ℕ
 forms above b [] = []
 forms above b (l ∷ ls) = if is_blank_line l then forms (blank_below above) (below b l) ls else gap line_feed above ++ (line_form b l ++ (line_feed ∷ forms Line (below b l) ls))

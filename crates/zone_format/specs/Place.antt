@@ -5,11 +5,11 @@ use Rattle.dns_symbol.specs.Characters.{line_feed}
 use Rattle.dns_split.specs.declared.position.Position.{Position}
 use Rattle.zone_format.specs.declared.place.Place.{Place}
 
--- every octet but those that go on with a character of UTF-8
+-- every octet except those that continue a character of UTF-8
 abbrev pub begins_character : ℕ → Bool
 begins_character c = nat_lt c 128 || nat_le 192 c
 
--- how many lines end
+-- the number of line feeds
 abbrev pub feeds : List ℕ → ℕ
 feeds octets = count_by (λ c. c == line_feed) octets
 
@@ -17,15 +17,15 @@ feeds octets = count_by (λ c. c == line_feed) octets
 abbrev pub last_line : List ℕ → List ℕ
 last_line octets = take_while (λ c. not (c == line_feed)) (reverse octets)
 
--- its characters, and the next one
+-- the number of its characters, plus one
 abbrev pub column_of : List ℕ → ℕ
 column_of octets = count_by begins_character (last_line octets) + 1
 
--- where octets end that stand after so many lines; both are counted from 1
+-- the position after octets that follow a number of lines; line and column are counted from 1
 abbrev pub IsAt : ℕ → List ℕ → Position → Type 0
 IsAt lines_before octets p = (p.line ≡ lines_before + feeds octets + 1) × (p.column ≡ column_of octets)
 
--- a place among octets that stand after so many lines has its position
+-- an offset among octets that follow a number of lines has its position
 pub record Stands (octets : List ℕ) (lines_before : ℕ) (p : Place) : Type 0 where
   pub within : p.at ≤ length octets
   pub is : IsAt lines_before (take p.at octets) p.position

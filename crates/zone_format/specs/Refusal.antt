@@ -1,4 +1,4 @@
--- Which zone texts have no form, and why.
+-- The zone files that have no form, and why.
 use Rattle.std.specs.Prelude.{⊤, ◌≡◌, ◌≤◌, ℕ, ◌+◌, ◌<◌, ◌⊎◌, Bool, true, false, ◌==◌, nat_eq, ◌&&◌, ◌||◌, not, List, [], ◌∷◌, length, slice_index, Result, Ok, encode_utf8_all}
 use Rattle.std.specs.List.{list_all, starts_with}
 use Rattle.dns_split.specs.Pieces.{IsFault, IsGiven, between, moved_fault, place_of}
@@ -27,11 +27,11 @@ abbrev pub mark_has_no_nul : Mark → Bool
 mark_has_no_nul (Token glued t) = has_no_nul t
 mark_has_no_nul _ = true
 
--- marks have a form: no NUL stands outside comments, and no byte order mark at the beginning
+-- marks have a form: there is no NUL outside comments, and no byte order mark at the beginning
 abbrev pub has_form : List Mark → Bool
 has_form ms = list_all mark_has_no_nul ms && not (begins_marked false ms)
 
--- a word or a quoted text stands from a place to before another
+-- a word or a quoted string begins at an offset and ends before another
 abbrev pub HasToken : ℕ → ℕ → List (Result Piece Fault) → Type 0
 HasToken s e [] = ⊥
 HasToken s e (Ok (WordAt p) ∷ given) = ((p.start ≡ s) × (p.end ≡ e)) ⊎ HasToken s e given
@@ -41,14 +41,14 @@ HasToken s e (_ ∷ given) = HasToken s e given
 abbrev pub IsTokenBetween : List ℕ → ℕ → ℕ → Type 0
 IsTokenBetween octets s e = (given : List (Result Piece Fault)) × IsGiven octets given × HasToken s e given
 
--- they are no zone text, and this is their fault; or a token has NUL at a place, or begins with a byte order mark
+-- they aren't of the grammar, by their error; or a token has a NUL at an offset, or begins with a byte order mark
 abbrev pub IsWithoutForm : List ℕ → Refusal → Type 0
 IsWithoutForm octets (Wrong f) = (f.at ≤ length octets) × IsFault (encode_utf8_all octets) (moved_fault (place_of octets) f)
 IsWithoutForm octets (Nul at) = (s : ℕ) × (e : ℕ) × IsTokenBetween octets s e × (s ≤ at) × (at < e) × (e ≤ length octets) × (slice_index octets at ≡ 0)
 IsWithoutForm octets (OrderMark at) = (e : ℕ) × IsTokenBetween octets at e × (at ≤ e) × (e ≤ length octets) × (begins_order_mark (between octets at e) ≡ true)
 IsWithoutForm octets OutOfMemory = ⊤
 
--- a token that begins at a place has NUL, or begins with a byte order mark
+-- a token that begins at an offset has NUL, or begins with a byte order mark
 abbrev pub IsUnfit : List ℕ → ℕ → Refusal → Type 0
 IsUnfit t start (Wrong f) = ⊥
 IsUnfit t start (Nul at) = (i : ℕ) × (at ≡ start + i) × (i < length t) × (slice_index t i ≡ 0)

@@ -1,4 +1,4 @@
--- Worked lines and their forms.
+-- Example lines and their forms.
 use Rattle.std.specs.Prelude.{◌≡◌, ℕ, true, false, [], ◌∷◌, codes, refl}
 use Rattle.zone_format.specs.Form.{Before, form, line_form}
 use Rattle.zone_format.specs.Marks.{Token, Note, Close, Feed, Lead}

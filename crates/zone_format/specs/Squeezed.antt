@@ -10,13 +10,13 @@ abbrev pub begins_led : List Mark → Bool
 begins_led (Lead ∷ ms) = true
 begins_led _ = false
 
--- what stands on a line
+-- the items of a line
 abbrev pub things : List Mark → List Mark
 things [] = []
 things (Lead ∷ ms) = things ms
 things (m ∷ ms) = m ∷ things ms
 
--- lines as they are, but one blank line where there were some between two
+-- lines as they are, but one blank line if there were any between two
 abbrev pub squeezed_lines : Above → List (List Mark) → List Mark
 squeezed_lines above [] = []
 squeezed_lines above (l ∷ ls) = if is_blank_line l then squeezed_lines (blank_below above) ls else gap Feed above ++ ((lead (begins_led l) ++ things l) ++ (Feed ∷ squeezed_lines Line ls))

@@ -47,7 +47,7 @@ pushed_note s t = pushed s s.depth (note_column s.noted s.turn s.end t) Rest ((n
 abbrev pub pushed_parenthesis : Stand → ℕ → Stand
 pushed_parenthesis s depth = pushed s depth s.note Rest (parenthesis_column s.turn s.end)
 
--- what stands before something at a column: a blank line above, and spaces
+-- the octets before an item at a column: a blank line above, and spaces
 abbrev pub blanks_before : Stand → ℕ → List ℕ
 blanks_before s column = (if is_start s.turn then gap line_feed s.above else []) ++ replicate (column - (s.end + 1)) blank
 
@@ -70,7 +70,7 @@ written_from s (Close ∷ ms) = parenthesis_before s ++ (close_parenthesis ∷ w
 written_from s (Feed ∷ ms) = last_line_end s ++ written_from (fed s) ms
 written_from s (Lead ∷ ms) = written_from (led s) ms
 
--- where writing stands after marks
+-- the state of writing after marks
 abbrev pub stands_after : Stand → List Mark → Stand
 stands_after s [] = s
 stands_after s (Token glued t ∷ ms) = stands_after (pushed_token s glued t) ms
@@ -85,7 +85,7 @@ abbrev pub is_edge : Above → Turn → Bool
 is_edge Nothing Edge = true
 is_edge _ _ = false
 
--- a token may be written: it has no NUL, and does not begin the text with a byte order mark
+-- a token may be written: it has no NUL, and doesn't begin the text with a byte order mark
 abbrev pub accepts : Stand → List ℕ → Bool
 accepts s t = has_no_nul t && not (is_edge s.above s.turn && begins_order_mark t)
 
@@ -104,7 +104,7 @@ pub record LineFits (octets : List ℕ) (s : Stand) : Type 0 where
   pub moved : moved_in s.turn ≤ s.end
   pub few : s.end ≤ length octets
 
--- marks were written: what is left to write of others is the same
+-- marks were written: the rest to write of others is the same
 abbrev pub Goes : List Mark → List ℕ → Stand → List ℕ → Stand → Type 0
 Goes ms old s new t = (more : List Mark) → new ++ written_from t more ≡ old ++ written_from s (ms ++ more)
 
@@ -112,7 +112,7 @@ Goes ms old s new t = (more : List Mark) → new ++ written_from t more ≡ old 
 abbrev pub Accepts : List Mark → Stand → Stand → Type 0
 Accepts ms s t = (more : List Mark) → accepts_from t more ≡ accepts_from s (ms ++ more)
 
--- marks were written, and writing stands after them, with no more parentheses open than so many octets may open
+-- marks were written, and the state is that after them; no more parentheses are open than the octets may open
 pub record Moves (ms : List Mark) (old : List ℕ) (s : Stand) (most : ℕ) (new : List ℕ) (t : Stand) : Type 0 where
   pub goes : Goes ms old s new t
   pub accepts : Accepts ms s t
@@ -120,7 +120,7 @@ pub record Moves (ms : List Mark) (old : List ℕ) (s : Stand) (most : ℕ) (new
   pub fits : LineFits new t
   pub depth : t.depth ≤ s.depth + most
 
--- a token, a comment or a parenthesis was appended, and writing stands after it
+-- a token, a comment or a parenthesis was appended, and the state is that after it
 pub record PushesToken (old : List ℕ) (s : Stand) (glued : Bool) (t new : List ℕ) (after : Stand) : Type 0 where
   pub stand : after ≡ pushed_token s glued t
   pub out : new ≡ old ++ (token_before s glued t ++ t)
@@ -136,12 +136,12 @@ pub record PushesParenthesis (old : List ℕ) (s : Stand) (octet depth : ℕ) (n
   pub out : new ≡ old ++ (parenthesis_before s ++ octet ∷ [])
   pub fits : LineFits new after
 
--- how far octets are written
+-- the progress of writing
 pub record Reaches (octets : List ℕ) (p : Progress) : Type 0 where
   pub within : p.at ≤ length octets
   pub depth : p.stand.depth ≤ p.at
 
--- marks were written, up to a place
+-- marks were written, up to an offset
 pub record Advances (octets : List ℕ) (ms : List Mark) (old : List ℕ) (p : Progress) (to : ℕ) (tied : Bool) (new : List ℕ) (q : Progress) : Type 0 where
   pub goes : Goes ms old p.stand new q.stand
   pub accepts : Accepts ms p.stand q.stand

@@ -1,7 +1,7 @@
-//! Zone text that is formatted block by block.
+//! Formats a zone file block by block.
 //!
-//! Each block but the last is of whole entries. Its form depends on what stands above it by little,
-//! a [`Seam`], and the forms of the blocks in a row are the form of the whole text.
+//! Each block but the last consists of whole entries. Its form depends on the text above it only by
+//! a [`Seam`], and the forms of the blocks in a row are the form of the whole file.
 ghost use Rattle.std.specs.Prelude.{◌<◌, ◌^◌, IfErr, IfOk, length};
 ghost use Rattle.zone_format.specs.Blocks.{FormatsEntries, FormatsLast};
 ghost use Rattle.zone_format.specs.Refusal.{IsWithoutForm};
@@ -12,11 +12,11 @@ pub use crate::stand::Seam;
 use crate::writing::push_end;
 use std::alloc::Allocator;
 
-/// Appends the form of whole entries, and returns where the next block meets them.
+/// Appends the form of whole entries, and returns the seam for the next block.
 ///
-/// The octets are empty, or zone text that ends with the end of an entry. A place in an error is
-/// counted from the block's beginning. After an error `out` has more octets, of which nothing is
-/// said.
+/// The octets must be empty, or be text of a zone file that ends with the end of an entry. Fails as
+/// [`format`](crate::format::format) does, with offsets in octets from the block's beginning. After
+/// an error `out` has more octets, which are unspecified.
 pub fn format_entries<A: Allocator>(
     seam: Seam,
     octets: &[u8],
@@ -30,10 +30,10 @@ pub fn format_entries<A: Allocator>(
     Ok(stand.seam())
 }
 
-/// Appends the form of the last block, which may end without a line's end.
+/// Appends the form of the last block, which may end without a line end.
 ///
-/// A place in an error is counted from the block's beginning. After an error `out` has more
-/// octets, of which nothing is said.
+/// Fails as [`format`](crate::format::format) does, with offsets in octets from the block's
+/// beginning. After an error `out` has more octets, which are unspecified.
 pub fn format_last<A: Allocator>(
     seam: Seam,
     octets: &[u8],

@@ -1,4 +1,4 @@
-//! The columns at which the things of a line stand, counted in characters from 1.
+//! The columns of the items of a line, counted in characters from 1.
 ghost use Rattle.std.specs.Prelude.{◌≡◌, ◌==◌, ◌&&◌, ◌||◌, ◌+◌, ◌-◌, ◌<◌, ◌≤◌, ◌^◌, false, length};
 ghost use Rattle.std.specs.List.{list_all};
 ghost use Rattle.dns_symbol.specs.Symbol.{is_digit};
@@ -12,7 +12,7 @@ ghost use Rattle.zone_format.specs.Columns.{token_column, under, width_of};
 
 use crate::place::begins_character;
 
-/// What a token is that stands before the data of its entry.
+/// The role of a token in the header of its entry.
 #[derive(Clone, Copy)]
 pub(crate) enum Role {
     Ttl,
@@ -20,30 +20,30 @@ pub(crate) enum Role {
     RecordType,
 }
 
-/// What may come next on a line.
+/// The next item of a line, by what precedes it.
 #[derive(Clone, Copy)]
 pub(crate) enum Turn {
-    /// The first thing, in the first column.
+    /// The first item, in the first column.
     Edge,
-    /// The first thing, behind the blank that the entry begins with.
+    /// The first item, after the blank that the entry begins with.
     Led,
-    /// The first thing, inside parentheses.
+    /// The first item, inside parentheses.
     Inside,
-    /// What comes behind the owner.
+    /// The item after the owner.
     Owned,
-    /// A time to live, a class or the type, where the columns are moved to the right.
+    /// A TTL, a class or the type, with the columns moved to the right.
     Head {
         moved: usize,
         has_ttl: bool,
         has_class: bool,
     },
-    /// The data behind the type.
+    /// The RDATA, after the type.
     Typed(usize),
-    /// Whatever comes, one blank behind what is before it.
+    /// Any other item, one blank after the one before it.
     Rest,
 }
 
-/// How many characters octets are.
+/// Returns the number of characters of octets.
 #[inline(always)]
 pub(crate) fn width(octets: &[u8]) -> usize
     ensures width { result ≡ width_of octets.now }
@@ -58,7 +58,7 @@ pub(crate) fn width(octets: &[u8]) -> usize
     count
 }
 
-/// The least multiple of 8 from a number on.
+/// Returns the least multiple of 8 that is at least `number`.
 fn next_eighth(number: usize) -> usize
     requires { number + 7 < 2 ^ 64 }
     ensures { result ≡ next_eighth number }
@@ -66,14 +66,14 @@ fn next_eighth(number: usize) -> usize
     (number + 7) / 8 * 8
 }
 
-/// Whether an octet is a letter, small or capital.
+/// Returns whether an octet is a letter, in lower or upper case.
 fn is_letter(octet: u8, small: u8) -> bool
     ensures { result ≡ (octet == small || octet + 32 == small) }
 {
     octet == small || u16::from(octet) + 32 == u16::from(small)
 }
 
-/// Whether a token has these letters, small or capital.
+/// Returns whether a token has these letters, in lower or upper case.
 fn spells(letters: &[u8], token: &[u8]) -> bool
     ensures { result ≡ spells letters.now token.now }
 {
@@ -91,35 +91,35 @@ fn spells(letters: &[u8], token: &[u8]) -> bool
     true
 }
 
-/// Whether an octet is a digit.
+/// Returns whether an octet is a digit.
 fn is_digit(octet: u8) -> bool
     ensures { result ≡ is_digit octet }
 {
     octet.is_ascii_digit()
 }
 
-/// Whether octets are digits.
+/// Returns whether all octets are digits.
 fn are_digits(octets: &[u8]) -> bool
     ensures { result ≡ list_all is_digit octets.now }
 {
     octets.iter().all(|octet| is_digit(*octet))
 }
 
-/// Whether a token is CLASS and some digits (RFC 3597 section 5).
+/// Returns whether a token is CLASS followed by digits (RFC 3597 section 5).
 fn is_numbered_class(token: &[u8]) -> bool
     ensures { result ≡ is_numbered_class token.now }
 {
     token.len() > 5 && spells(b"class", &token[..5]) && are_digits(&token[5..])
 }
 
-/// Whether a token is a class.
+/// Returns whether a token is a class.
 fn is_class(token: &[u8]) -> bool
     ensures { result ≡ is_class token.now }
 {
     spells(b"in", token) || spells(b"ch", token) || spells(b"hs", token) || is_numbered_class(token)
 }
 
-/// Whether a token begins with a digit.
+/// Returns whether a token begins with a digit.
 fn begins_digit(token: &[u8]) -> bool
     ensures { result ≡ begins_digit token.now }
 {
@@ -129,7 +129,7 @@ fn begins_digit(token: &[u8]) -> bool
     }
 }
 
-/// Whether a token begins with a dollar sign, as a directive does.
+/// Returns whether a token begins with a dollar sign, as a directive does.
 fn begins_dollar(token: &[u8]) -> bool
     ensures { result ≡ begins_dollar token.now }
 {
@@ -139,7 +139,8 @@ fn begins_dollar(token: &[u8]) -> bool
     }
 }
 
-/// What a token is where a time to live and a class have stood already, or not.
+/// Returns the role of a token in a header, where `has_ttl` and `has_class` are whether a TTL and a
+/// class precede it.
 fn role_of(has_ttl: bool, has_class: bool, token: &[u8]) -> Role
     ensures { result ≡ role_of has_ttl has_class token.now }
 {
@@ -153,7 +154,8 @@ fn role_of(has_ttl: bool, has_class: bool, token: &[u8]) -> Role
 }
 
 impl Role {
-    /// How far the columns move right for the first token behind `end` characters, of `width`.
+    /// Returns by how much the columns move right for the first token, of `width` characters, after
+    /// `end` characters.
     fn moved_by(self, end: usize, width: usize) -> usize
         requires { end + width + 9 < 2 ^ 64 }
         ensures moved { result ≡ moved_by self end width }
@@ -165,7 +167,7 @@ impl Role {
         }
     }
 
-    /// The column of that token.
+    /// Returns the column of that token.
     fn first_column(self, end: usize, width: usize) -> usize
         requires { end + width + 64 < 2 ^ 64 }
         ensures column { result ≡ first_column self end width }
@@ -179,7 +181,7 @@ impl Role {
         }
     }
 
-    /// The column of a later token.
+    /// Returns the column of a later token.
     fn later_column(self, moved: usize, end: usize) -> usize
         requires room { end + 64 < 2 ^ 64 }
         requires moved { moved ≤ end }
@@ -193,7 +195,7 @@ impl Role {
         }
     }
 
-    /// What may come after a token.
+    /// Returns what may follow a token.
     fn head_after(self, moved: usize, has_ttl: bool, has_class: bool) -> Turn
         ensures { result ≡ head_after self moved has_ttl has_class }
     {
@@ -213,7 +215,8 @@ impl Role {
     }
 }
 
-/// The column of the first token behind the owner, or behind the blank that an entry begins with.
+/// Returns the column of the first token after the owner, or after the blank that an entry begins
+/// with.
 fn head_column(end: usize, token: &[u8], width: usize) -> usize
     requires room { end + width + 64 < 2 ^ 64 }
     ensures column { result ≡ first_column (role_of false false token.now) end width }
@@ -222,7 +225,7 @@ fn head_column(end: usize, token: &[u8], width: usize) -> usize
     role_of(false, false, token).first_column(end, width)
 }
 
-/// What may come behind that token. If it is glued to the owner, it moves no columns.
+/// Returns what may follow that token. If the token is adjacent to the owner, it moves no columns.
 fn after_first(end: usize, is_glued: bool, token: &[u8], width: usize) -> Turn
     requires { end + width + 64 < 2 ^ 64 }
     ensures { let role = role_of false false token.now in
@@ -238,7 +241,7 @@ fn after_first(end: usize, is_glued: bool, token: &[u8], width: usize) -> Turn
 }
 
 impl Turn {
-    /// The column of a token that is parted from what is before it.
+    /// Returns the column of a token that isn't adjacent to the item before it.
     #[inline(always)]
     fn parted_column(self, end: usize, token: &[u8], width: usize) -> usize
         requires room { end + width + 64 < 2 ^ 64 }
@@ -261,7 +264,7 @@ impl Turn {
         }
     }
 
-    /// The column of a token behind `end` characters.
+    /// Returns the column of a token after `end` characters.
     #[inline(always)]
     pub(crate) fn token_column(
         self,
@@ -283,7 +286,7 @@ impl Turn {
         }
     }
 
-    /// What may come after a token.
+    /// Returns what may follow a token.
     #[inline(always)]
     pub(crate) fn after_token(self, end: usize, is_glued: bool, token: &[u8], width: usize) -> Turn
         requires room { end + width + 64 < 2 ^ 64 }
@@ -306,7 +309,7 @@ impl Turn {
         }
     }
 
-    /// The column of a parenthesis.
+    /// Returns the column of a parenthesis.
     pub(crate) fn parenthesis_column(self, end: usize) -> usize
         requires { end + 64 < 2 ^ 64 }
         ensures column { result ≡ parenthesis_column self end }
@@ -319,7 +322,8 @@ impl Turn {
         }
     }
 
-    /// The column of a comment, where one stands at the column `noted` of the line directly above.
+    /// Returns the column of a comment, where `noted` is the column of the comment of the line
+    /// directly above, or 0.
     pub(crate) fn note_column(self, noted: usize, end: usize, comment: &[u8]) -> usize
         requires { end + 64 < 2 ^ 64 }
         ensures column { result ≡ note_column noted self end comment.now }
@@ -334,7 +338,7 @@ impl Turn {
     }
 }
 
-/// Whether an octet is a blank.
+/// Returns whether an octet is a blank.
 #[inline(always)]
 pub(crate) fn is_blank(octet: u8) -> bool
     ensures { result ≡ is_blank octet }
@@ -342,14 +346,14 @@ pub(crate) fn is_blank(octet: u8) -> bool
     octet == b' ' || octet == b'\t'
 }
 
-/// Whether an octet is a semicolon behind a blank.
+/// Returns whether an octet is a semicolon after a blank.
 fn is_second(before: u8, octet: u8) -> bool
     ensures { result ≡ (is_blank before && (octet == 59)) }
 {
     is_blank(before) && octet == b';'
 }
 
-/// Whether a comment has another semicolon behind a blank.
+/// Returns whether a comment has another semicolon after a blank.
 fn has_second(comment: &[u8]) -> bool
     ensures { result ≡ has_second comment.now }
 {
@@ -363,8 +367,8 @@ fn has_second(comment: &[u8]) -> bool
     false
 }
 
-/// The column of a comment line: that of the comment directly above, unless there is none, or the
-/// line is a value that is commented out.
+/// Returns the column of a comment line: that of the comment directly above, unless there is none,
+/// or the line is a value that is commented out.
 fn under(noted: usize, comment: &[u8], column: usize) -> usize
     requires { column < 64 }
     ensures column { result ≡ under noted comment.now column }

@@ -1,4 +1,4 @@
-//! Zone text in its canonical form.
+//! Formats zone files in their canonical form.
 ghost use Rattle.std.specs.Prelude.{◌≡◌, ◌==◌, ◌&&◌, ◌+◌, ◌<◌, ◌≤◌, ◌^◌, IfErr, IfOk, IfSome, IsNone};
 ghost use Rattle.std.specs.Prelude.{if◌then◌else◌, length, slice_index, true};
 ghost use Rattle.dns_split.specs.Pieces.{between};
@@ -18,7 +18,7 @@ use crate::writing::{push_gap, push_note, push_token};
 use dns_split::pieces::{Piece, Pieces, Span};
 use std::alloc::{AllocError, Allocator};
 
-/// A comment without the blanks at its end.
+/// Returns a comment without the blanks at its end.
 fn shortened(comment: &[u8]) -> &[u8]
     ensures { result.now ≡ shortened comment.now }
 {
@@ -29,7 +29,7 @@ fn shortened(comment: &[u8]) -> &[u8]
     &comment[..end]
 }
 
-/// Whether octets begin with a blank from a place on.
+/// Returns whether the octet at an offset is a blank.
 #[inline(always)]
 fn blank_at(octets: &[u8], at: usize) -> bool
     ensures { result ≡ blank_at octets.now at }
@@ -40,7 +40,7 @@ fn blank_at(octets: &[u8], at: usize) -> bool
     }
 }
 
-/// Where NUL stands among octets.
+/// Returns the offset of a NUL among octets, or `None` if there is none.
 #[inline(always)]
 fn find_nul(octets: &[u8]) -> Option<usize>
     ensures some { IfSome result (λ i. (i < length octets.now) × (slice_index octets.now i ≡ 0)) }
@@ -56,7 +56,7 @@ fn find_nul(octets: &[u8]) -> Option<usize>
     None
 }
 
-/// Whether octets begin with the byte order mark of UTF-8, or with one of UTF-16.
+/// Returns whether octets begin with the byte order mark of UTF-8, or with one of UTF-16.
 fn begins_order_mark(octets: &[u8]) -> bool
     ensures { result ≡ begins_order_mark octets.now }
 {
@@ -66,7 +66,7 @@ fn begins_order_mark(octets: &[u8]) -> bool
 }
 
 impl Stand {
-    /// After a blank at an entry's beginning, if there is one.
+    /// Returns the state after a blank at an entry's beginning, if there is one.
     #[inline(always)]
     fn led_if(self, is_blank: bool) -> Stand
         ensures { result ≡ (if is_blank then led self else self) }
@@ -74,7 +74,7 @@ impl Stand {
         if is_blank { self.led() } else { self }
     }
 
-    /// Whether what comes next is the first thing of a text, in the first column.
+    /// Returns whether the next item is the first of a text, in the first column.
     #[inline(always)]
     fn is_edge(self) -> bool
         ensures { result ≡ is_edge self.above self.turn }
@@ -86,7 +86,7 @@ impl Stand {
     }
 }
 
-/// Whether a token may be written, which begins at a place.
+/// Checks that a token which begins at an offset may be written.
 #[inline(always)]
 fn accept(token: &[u8], stand: Stand, start: usize) -> Result<(), Refusal>
     requires { start + length token.now < 2 ^ 64 }
@@ -102,8 +102,8 @@ fn accept(token: &[u8], stand: Stand, start: usize) -> Result<(), Refusal>
     Ok(())
 }
 
-/// How far octets are written: where writing stands, how many were read, and whether they end with
-/// a token.
+/// The progress of writing: the state of the line, the number of octets read, and whether they end
+/// with a token.
 #[derive(Clone, Copy)]
 pub(crate) struct Progress {
     pub(crate) stand: Stand,
@@ -112,7 +112,7 @@ pub(crate) struct Progress {
 }
 
 impl Progress {
-    /// Whether a token that begins there is glued to one that ends there.
+    /// Returns whether a token that begins at `start` is adjacent to one that ended there.
     #[inline(always)]
     fn glues(self, start: usize) -> bool
         ensures { result ≡ (self.is_token && (start == self.at)) }
@@ -121,7 +121,7 @@ impl Progress {
     }
 }
 
-/// Appends a token after what stands before it.
+/// Appends a token, after the octets before it.
 #[inline(always)]
 fn write_token<A: Allocator>(
     octets: &[u8],
@@ -149,7 +149,7 @@ fn write_token<A: Allocator>(
     })
 }
 
-/// Appends a comment after what stands before it.
+/// Appends a comment, after the octets before it.
 fn write_note<A: Allocator>(
     octets: &[u8],
     progress: Progress,
@@ -171,7 +171,7 @@ fn write_note<A: Allocator>(
     })
 }
 
-/// Appends what stands before the end of an entry.
+/// Appends the octets before the end of an entry.
 #[inline(always)]
 fn write_end<A: Allocator>(
     octets: &[u8],
@@ -193,7 +193,7 @@ fn write_end<A: Allocator>(
     })
 }
 
-/// Appends what the marks of octets make, and returns where writing then stands.
+/// Appends the form of the marks of octets, and returns the state of the line after them.
 pub(crate) fn write_all<A: Allocator>(
     octets: &[u8],
     seam: Seam,
@@ -220,10 +220,12 @@ pub(crate) fn write_all<A: Allocator>(
     Ok(progress.stand)
 }
 
-/// Appends the form of octets.
+/// Appends the form of a zone file.
 ///
-/// Where a text is refused for several reasons, the one that stands first in it is returned. After
-/// an error `out` has more octets, of which nothing is said.
+/// Fails with [`Refusal::Wrong`] if the octets aren't of the grammar of zone files, with
+/// [`Refusal::Nul`] if they have a NUL outside comments, with [`Refusal::OrderMark`] if they begin
+/// with a byte order mark, and with [`Refusal::OutOfMemory`] if an allocation fails. The first
+/// error in the text is returned. After an error `out` has more octets, which are unspecified.
 pub fn format<A: Allocator>(octets: &[u8], out: &mut Vec<u8, A>) -> Result<(), Refusal>
     requires { length octets.now < 2 ^ 62 }
     ensures well { IfOk result (λ _. Formats octets.now out.old.items out.new.items) }

@@ -1,4 +1,4 @@
-//! Laws of forms. Each function's contract is the law; calling one does nothing.
+//! Laws of forms. Each function's contract is the law; calling it does nothing.
 ghost use Rattle.std.specs.Prelude.{◌≡◌, ◌∷◌, ◌++◌, ℕ, List, [], false};
 ghost use Rattle.zone_format.specs.Form.{below, Before, form, forms, gap, is_blank_line, line_form};
 ghost use Rattle.zone_format.specs.declared.stand.Above.{Above};
@@ -6,28 +6,28 @@ ghost use Rattle.zone_format.specs.Formats.{Formats};
 ghost use Rattle.zone_format.specs.Marks.{HasMarks, Mark};
 ghost use Rattle.zone_format.specs.Squeezed.{squeezed};
 
-/// The form of a text has the text's marks, but for blank lines: the same tokens as they are
-/// spelled, glued or parted as they were, the same comments but for blanks at their end, the same
-/// parentheses, ends of lines and blanks at the beginning of entries, all in the same order.
+/// The form of a text has the text's marks, except blank lines: the same tokens as they are
+/// spelled, adjacent or separated as they were, the same comments except for blanks at their end,
+/// the same parentheses, line ends and blanks at the beginning of entries, all in the same order.
 pub fn forms_keep_the_marks()
     ensures { (octets : List ℕ) (ms : List Mark) → HasMarks octets ms
         → HasMarks (form ms) (squeezed ms) }
 {}
 
-/// The form of a form is itself.
+/// Formatting is idempotent.
 pub fn forms_stay()
     ensures { (octets f : List ℕ) → Formats octets [] f → Formats f [] f }
 {}
 
-/// Texts that have the same marks, whatever blanks stand between them, have the same form.
+/// Texts with the same marks, whatever blanks separate them, have the same form.
 pub fn same_marks_have_one_form()
     ensures { (octets other : List ℕ) (ms : List Mark) (f g : List ℕ) → HasMarks octets ms
         → HasMarks other ms → Formats octets [] f → Formats other [] g → f ≡ g }
 {}
 
-/// The form of lines is the form of the first and then that of the others: a line's form depends
-/// on that line alone, on how many parentheses are open before it, and on the column of the
-/// comment of the line directly above.
+/// The form of lines is the form of the first line followed by that of the others. A line's form
+/// depends on that line alone, on the number of open parentheses before it, and on the column of
+/// the comment of the line directly above.
 pub fn lines_stand_by_themselves()
     ensures { (above : Above) (b : Before) (l : List Mark) (ls : List (List Mark))
         → is_blank_line l ≡ false

@@ -1,12 +1,12 @@
-//! Zone text (RFC 1035 section 5.1) in its canonical form, with its comments.
+//! Formats zone files (RFC 1035 section 5.1) in a canonical form, which keeps comments.
 //!
-//! - [`format::format`] appends the form of a text: each line by itself, its things at fixed
-//!   columns.
-//! - [`blocks::format_entries`] and [`blocks::format_last`] do so block by block.
+//! - [`format::format`] appends the form of a text: each line is formatted separately, its items at
+//!   fixed columns.
+//! - [`blocks::format_entries`] and [`blocks::format_last`] format block by block.
 //! - [`place::advance`] counts lines and columns.
-//! - [`refusal::Refusal`] tells why a text has none.
-//! - [`laws`] has what holds of forms: they keep what the text says, and the form of a form is
-//!   itself.
+//! - [`refusal::Refusal`] is the error if a text has no form.
+//! - [`laws`] has facts about forms: they keep the meaning of the text, and formatting is
+//!   idempotent.
 #![tactic(auto)]
 
 pub mod blocks;

@@ -1,4 +1,4 @@
-//! Places among octets: their lines and columns, and faults further on.
+//! Offsets of octets, with their lines and columns, and errors with moved offsets.
 ghost use Rattle.std.specs.Prelude.{◌≡◌, ◌+◌, ◌-◌, ◌<◌, ◌≤◌, ◌^◌, ℕ, [], length, take, drop, slice_index};
 ghost use Rattle.dns_split.specs.Pieces.{moved_fault};
 ghost use Rattle.dns_split.specs.declared.pieces.Wrong.TheVariants.{OpenQuote};
@@ -8,18 +8,18 @@ use dns_split::pieces::{Fault, Wrong};
 use dns_split::position::Position;
 use std::simd::prelude::*;
 
-/// Whether an octet begins a character: each does but those from 0x80 to 0xBF, which go on with a
-/// character of UTF-8.
+/// Returns whether an octet begins a character. All octets do except those from 0x80 to 0xBF, which
+/// continue a character of UTF-8.
 pub fn begins_character(octet: u8) -> bool
     ensures { result ≡ begins_character octet }
 {
     octet < 0x80 || octet >= 0xC0
 }
 
-/// The octets of one load.
+/// Number of octets of one load.
 const LANES: usize = 16;
 
-/// How many of the octets of one load are line feeds.
+/// Returns how many of the octets of one load are line feeds.
 #[inline(always)]
 fn feeds_in(octets: &[u8], at: usize) -> usize
     requires { at + LANES ≤ length octets.now }
@@ -29,7 +29,7 @@ fn feeds_in(octets: &[u8], at: usize) -> usize
     load.simd_eq(u8x16::splat(b'\n')).to_bitmask().count_ones() as usize
 }
 
-/// How many lines end in a few octets.
+/// Returns the number of line feeds in a few octets.
 fn count_few_feeds(octets: &[u8]) -> usize
     ensures { result ≡ feeds octets.now }
 {
@@ -42,7 +42,7 @@ fn count_few_feeds(octets: &[u8]) -> usize
     lines
 }
 
-/// How many lines end in octets.
+/// Returns the number of line feeds in octets.
 fn count_feeds(octets: &[u8]) -> usize
     ensures { result ≡ feeds octets.now }
 {
@@ -55,7 +55,7 @@ fn count_feeds(octets: &[u8]) -> usize
     lines + count_few_feeds(&octets[place..])
 }
 
-/// Where the last line of octets begins, which has no line's end.
+/// Returns the offset of the last line of octets, which has no line end.
 fn last_line(octets: &[u8]) -> usize
     ensures within { result ≤ length octets.now }
     ensures fed { 0 < result → slice_index octets.now (result - 1) ≡ 10 }
@@ -67,7 +67,7 @@ fn last_line(octets: &[u8]) -> usize
     start
 }
 
-/// The position after octets that follow a position, found by a look at each.
+/// Returns the position after octets that follow a position, by comparing each octet.
 fn advance_by_one(from: Position, octets: &[u8]) -> Position
     requires lines { from.line + length octets.now < 2 ^ 64 }
     requires columns { from.column + length octets.now + 1 < 2 ^ 64 }
@@ -88,7 +88,7 @@ fn advance_by_one(from: Position, octets: &[u8]) -> Position
     Position { line, column }
 }
 
-/// The position after octets that follow a position.
+/// Returns the position after octets that follow a position.
 pub fn advance(from: Position, octets: &[u8]) -> Position
     requires lines { from.line + length octets.now < 2 ^ 64 }
     requires columns { from.column + length octets.now + 1 < 2 ^ 64 }
@@ -107,7 +107,8 @@ pub fn advance(from: Position, octets: &[u8]) -> Position
     advance_by_one(Position { line, column: 1 }, &octets[start..])
 }
 
-/// Where a line begins, after so many lines.
+/// Returns the position of the beginning of a line, where `lines_before` is the number of lines
+/// before it.
 pub fn line_start(lines_before: usize) -> Position
     requires { lines_before + 2 < 2 ^ 64 }
     ensures at { IsAt lines_before [] result }
@@ -120,7 +121,8 @@ pub fn line_start(lines_before: usize) -> Position
     }
 }
 
-/// The position after octets that begin a line, where `lines_before` lines stand before them.
+/// Returns the position after octets that begin a line, where `lines_before` is the number of lines
+/// before them.
 pub fn position_after(lines_before: usize, before: &[u8]) -> Position
     requires { lines_before + length before.now + 2 < 2 ^ 64 }
     ensures { IsAt lines_before before.now result }
@@ -128,14 +130,14 @@ pub fn position_after(lines_before: usize, before: &[u8]) -> Position
     advance(line_start(lines_before), before)
 }
 
-/// A place among octets, and its position.
+/// An offset among octets, and its position.
 #[derive(Clone, Copy)]
 pub struct Place {
     pub at: usize,
     pub position: Position,
 }
 
-/// A place further on in octets that stand after `lines_before` lines.
+/// Returns a later offset, with its position, among octets that follow `lines_before` lines.
 pub fn move_to(octets: &[u8], lines_before: usize, from: Place, to: usize) -> Place
     requires room { lines_before + length octets.now + 2 < 2 ^ 64 }
     requires stands { Stands octets.now lines_before from }
@@ -150,7 +152,7 @@ pub fn move_to(octets: &[u8], lines_before: usize, from: Place, to: usize) -> Pl
     }
 }
 
-/// A fault so much further on.
+/// Returns an error with its offsets increased by `by`.
 pub fn moved(fault: Fault, by: usize) -> Fault
     requires at { by + fault.at < 2 ^ 64 }
     requires quote { (i : ℕ) → fault.wrong ≡ OpenQuote i → by + i < 2 ^ 64 }

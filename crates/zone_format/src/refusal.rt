@@ -1,19 +1,19 @@
-//! Why a text has no form.
+//! The error if a text has no form.
 ghost use Rattle.std.specs.Prelude.{◌≡◌};
 
 use dns_split::pieces::Fault;
 use std::alloc::AllocError;
 
-/// Why a text was not formatted. Places are counted in octets from 0.
+/// The error if a text couldn't be formatted. Offsets are in octets from 0.
 #[derive(Clone, Copy)]
 pub enum Refusal {
-    /// It is not zone text.
+    /// The text isn't of the grammar of zone files.
     Wrong(Fault),
-    /// NUL stands at this place, outside of comments.
+    /// A NUL outside of comments, at this offset.
     Nul(usize),
-    /// At this place the text begins with a byte order mark of UTF-8 or UTF-16.
+    /// A byte order mark of UTF-8 or UTF-16 at this offset, at which the text begins.
     OrderMark(usize),
-    /// There was not enough memory.
+    /// An allocation failed.
     OutOfMemory,
 }
 

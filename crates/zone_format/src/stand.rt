@@ -1,4 +1,4 @@
-//! Where writing stands: on a line, and below others.
+//! The state of writing: the current line, and the lines above it.
 ghost use Rattle.std.specs.Prelude.{◌≡◌, ◌+◌, ◌-◌, ◌<◌, ◌≤◌, ◌^◌};
 ghost use Rattle.zone_format.specs.Blocks.{first_seam, resting, seam_of};
 ghost use Rattle.zone_format.specs.Columns.{after_token, token_column, width_of};
@@ -7,19 +7,19 @@ ghost use Rattle.zone_format.specs.Writing.{fed, is_start, led, pushed, pushed_t
 
 use crate::columns::Turn;
 
-/// What stands above a line.
+/// The lines above a line.
 #[derive(Clone, Copy)]
 pub(crate) enum Above {
-    /// Blank lines alone, or nothing.
+    /// Only blank lines, or none.
     Nothing,
-    /// A line that is not blank.
+    /// The line directly above isn't blank.
     Line,
-    /// A blank line, and further up one that is not blank.
+    /// The line directly above is blank, and a line further up isn't.
     Gap,
 }
 
 impl Above {
-    /// What stands above the line below a blank one.
+    /// Returns the state for the line below a blank one.
     #[inline(always)]
     fn blank_below(self) -> Above
         ensures { result ≡ blank_below self }
@@ -31,16 +31,17 @@ impl Above {
     }
 }
 
-/// Where two blocks of entries meet: as much of the first as the form of the second depends on.
+/// The boundary between two blocks of entries: the state after the first on which the form of the
+/// second depends.
 #[derive(Clone, Copy)]
 pub struct Seam {
     pub(crate) above: Above,
-    /// The column of the comment of the line directly above, or 0.
+    /// Column of the comment of the line directly above, or 0.
     pub(crate) noted: usize,
 }
 
 impl Seam {
-    /// Before the first block.
+    /// Returns the seam before the first block.
     pub fn first() -> Seam
         ensures { result ≡ first_seam }
     {
@@ -50,7 +51,7 @@ impl Seam {
         }
     }
 
-    /// At the beginning of the second block.
+    /// Returns the state at the beginning of the second block.
     pub(crate) fn stand(self) -> Stand
         ensures { result ≡ resting self }
     {
@@ -65,23 +66,23 @@ impl Seam {
     }
 }
 
-/// Where writing stands.
+/// The state of writing.
 #[derive(Clone, Copy)]
 pub(crate) struct Stand {
     pub(crate) above: Above,
-    /// How many parentheses are open.
+    /// Number of open parentheses.
     pub(crate) depth: usize,
-    /// The column of the comment of the line directly above, or 0.
+    /// Column of the comment of the line directly above, or 0.
     pub(crate) noted: usize,
-    /// The column of the comment of this line, or 0.
+    /// Column of the comment of this line, or 0.
     pub(crate) note: usize,
     pub(crate) turn: Turn,
-    /// How many characters the line has.
+    /// Number of characters of the line so far.
     pub(crate) end: usize,
 }
 
 impl Turn {
-    /// Whether a line is empty.
+    /// Returns whether the line is empty.
     #[inline(always)]
     pub(crate) fn is_start(self) -> bool
         ensures { result ≡ is_start self }
@@ -93,7 +94,7 @@ impl Turn {
     }
 }
 
-/// How a line begins where so many parentheses are open.
+/// Returns how a line begins, by the number of open parentheses.
 #[inline(always)]
 fn start(depth: usize) -> Turn
     ensures { result ≡ start depth }
@@ -102,7 +103,7 @@ fn start(depth: usize) -> Turn
 }
 
 impl Stand {
-    /// What the form of the lines below depends on, where a line begins.
+    /// Returns the state on which the form of the lines below depends, at the beginning of a line.
     pub(crate) fn seam(self) -> Seam
         ensures { result ≡ seam_of self }
     {
@@ -112,7 +113,7 @@ impl Stand {
         }
     }
 
-    /// After a line's end.
+    /// Returns the state after a line end.
     #[inline(always)]
     pub(crate) fn fed(self) -> Stand
         ensures { result ≡ fed self }
@@ -132,7 +133,7 @@ impl Stand {
         }
     }
 
-    /// After a blank that an entry begins with.
+    /// Returns the state after a blank that an entry begins with.
     #[inline(always)]
     pub(crate) fn led(self) -> Stand
         ensures { result ≡ led self }
@@ -146,7 +147,7 @@ impl Stand {
         }
     }
 
-    /// After a token at a column.
+    /// Returns the state after a token at a column.
     #[inline(always)]
     pub(crate) fn after_token(
         self,
@@ -168,7 +169,7 @@ impl Stand {
         }
     }
 
-    /// After a comment of some characters at a column.
+    /// Returns the state after a comment of `width` characters at a column.
     pub(crate) fn after_note(self, width: usize, column: usize) -> Stand
         requires { column + width < 2 ^ 64 }
         ensures { result ≡ pushed self self.depth column Turn.Rest ((column - 1) + width) }
@@ -181,7 +182,8 @@ impl Stand {
         }
     }
 
-    /// After a parenthesis at a column, where then so many are open.
+    /// Returns the state after a parenthesis at a column, with the number of open parentheses after
+    /// it.
     pub(crate) fn after_parenthesis(self, depth: usize, column: usize) -> Stand
         ensures { result ≡ pushed self depth self.note Turn.Rest column }
     {

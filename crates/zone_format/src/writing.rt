@@ -1,4 +1,4 @@
-//! Marks written one after another, straight to the output.
+//! Appends the form of marks to the output, one by one.
 ghost use Rattle.std.specs.Prelude.{◌≡◌, ◌+◌, ◌-◌, ◌++◌, ◌<◌, ◌≤◌, ◌^◌, IfOk, OnOk, length, replicate};
 ghost use Rattle.std.specs.List.{flat_map};
 ghost use Rattle.zone_format.specs.Marks.{gap_mark};
@@ -9,7 +9,7 @@ use crate::columns::{is_blank, width};
 use crate::stand::{Above, Stand};
 use std::alloc::{AllocError, Allocator};
 
-/// Appends that many spaces.
+/// Appends a number of spaces.
 #[inline(always)]
 fn push_spaces<A: Allocator>(out: &mut Vec<u8, A>, count: usize) -> Result<(), AllocError>
     requires { count < 2 ^ 16 }
@@ -20,7 +20,7 @@ fn push_spaces<A: Allocator>(out: &mut Vec<u8, A>, count: usize) -> Result<(), A
     Ok(())
 }
 
-/// Appends what stands before something at a column.
+/// Appends the octets before an item at a column.
 #[inline(always)]
 fn push_before<A: Allocator>(
     out: &mut Vec<u8, A>,
@@ -71,7 +71,7 @@ pub(crate) fn push_note<A: Allocator>(
     Ok(stand.after_note(width(comment), column))
 }
 
-/// Appends a parenthesis, after which so many are open.
+/// Appends a parenthesis, with the number of open parentheses after it.
 fn push_parenthesis<A: Allocator>(
     out: &mut Vec<u8, A>,
     stand: Stand,
@@ -87,7 +87,7 @@ fn push_parenthesis<A: Allocator>(
     Ok(stand.after_parenthesis(depth, column))
 }
 
-/// Appends the end of a line that is not empty.
+/// Appends the end of a line that isn't empty.
 #[inline(always)]
 pub(crate) fn push_end<A: Allocator>(out: &mut Vec<u8, A>, stand: Stand) -> Result<(), AllocError>
     ensures { OnOk result (out.new.items ≡ out.old.items ++ last_line_end stand) }
@@ -99,7 +99,7 @@ pub(crate) fn push_end<A: Allocator>(out: &mut Vec<u8, A>, stand: Stand) -> Resu
     }
 }
 
-/// Appends what an octet between two pieces makes: a parenthesis, a line's end or nothing.
+/// Appends the form of an octet between two pieces: a parenthesis, a line end or nothing.
 fn push_gap_octet<A: Allocator>(
     out: &mut Vec<u8, A>,
     stand: Stand,
@@ -120,7 +120,7 @@ fn push_gap_octet<A: Allocator>(
     }
 }
 
-/// Appends what the octets between two pieces make.
+/// Appends the form of the octets between two pieces.
 #[inline(always)]
 pub(crate) fn push_gap<A: Allocator>(
     out: &mut Vec<u8, A>,
