@@ -1,4 +1,4 @@
--- What the converters make of the texts of octets.
+-- The results of the converters for the texts of octets.
 use Rattle.std.proofs.Common.{inl, inr, ℕ, ◌≡◌, ◌<◌, ◌+◌, ◌==◌, List, [], ◌∷◌, ◌++◌}
 use Rattle.std.proofs.Common.{length, map, refl, sym, ap, subst, ◌∙◌, arith, append-nil, append_assoc, Option, Some, None, Result, Ok, Err, Bool, true, false}
 use Rattle.std.specs.Prelude.{nat_lt, not, ◌&&◌}
@@ -25,11 +25,11 @@ use Rattle.dns_scan.specs.Tokens.{Token}
 use Rattle.dns_entry.proofs.Words.{ascii_bytes, encoded_all}
 use Rattle.dns_entry.specs.Codecs.{Codec, then_made, converted_symbols, ConvertsTo, codec_of}
 
--- the symbols of characters that stand for themselves
+-- the symbols of plain characters
 abbrev pub plain_symbols : List ℕ → List Symbol
 plain_symbols = map (λ c. Char c)
 
--- octets after those built, or a refusal's text
+-- octets after those built, or an error's text
 abbrev pub onto : List ℕ → Result (List ℕ) (List ℕ) → Result (List ℕ) Cause
 onto built (Ok octets) = Ok (built ++ octets)
 onto built (Err text) = Err (custom_text text)
@@ -48,14 +48,14 @@ pub base_run : (b : Base) (xs : List Symbol) (g : Group) (s : Bool) (built : Lis
 base_run b [] g s built = ended built _
 base_run b (x ∷ xs) g s built = joined built _ _ _ (λ o. base_run b xs (convert b g s x).group (convert b g s x).failed (built ++ o))
 
--- where the run agrees with decoding, a text of the grammar gives its octets
+-- if the run agrees with decoding, a text of the grammar has its octets
 pub by_agreement : (b : Base) (text octets : List ℕ) (refusal : Option DecodeError) (c : Result (List ℕ) (List ℕ))
     → ((xs ys : List ℕ) → Decodes b text xs → Decodes b text ys → xs ≡ ys) → Decodes b text octets → refusal ≡ None → Agrees b text refusal c → onto [] c ≡ Ok octets
 by_agreement b text octets refusal (Ok ys) once d none agrees = ap (λ l. Ok l) (once ys octets agrees.1 d)
 by_agreement b text octets None (Err reason) once d none agrees = cc
 by_agreement b text octets (Some e) (Err reason) once d none agrees = cc
 
--- and only such a text gives octets
+-- and only such a text has octets
 pub from_agreement : (b : Base) (text octets : List ℕ) (refusal : Option DecodeError) (c : Result (List ℕ) (List ℕ)) → Agrees b text refusal c → onto [] c ≡ Ok octets → Decodes b text octets
 from_agreement b text octets refusal (Ok ys) agrees is = let same : ys ≡ octets = cc in subst (Decodes b text) same agrees.1
 from_agreement b text octets refusal (Err reason) agrees is = cc
@@ -88,13 +88,13 @@ plain_low c h = grind (arith, nat_tests)
 pub plain_read : (text : List ℕ) → list_all is_plain text ≡ true → SymbolsOf text (plain_symbols text) None
 plain_read text all = record { rest = []; readable = plain_readable text all; spelled = ascii_bytes is_plain plain_low text all ∙ sym (append-nil _); ends = refl }
 
--- what a plain text converts to is what its characters give
+-- a plain text converts to what its characters do
 pub converts_plain : (codec : Codec) (text : Token) (r : Result (List ℕ) Cause) → list_all is_plain text ≡ true → ConvertsTo codec text r → converted_symbols codec codec.start [] (plain_symbols text) None ≡ r
 converts_plain codec text r all h =
     let same = symbols_same text h.0 (plain_symbols text) h.1 None h.2 (plain_read text all) in
     (λ i. converted_symbols codec codec.start [] (sym same.0 i) (sym same.1 i)) ∙ h.3
 
--- a text of the grammar gives its octets, and only such a text does
+-- a text of the grammar has its octets, and only such a text does
 module _ (b : Base) (known : IsEncoding b) where
   pub base_text : (text octets : List ℕ) → Decodes b text octets → converted_symbols (codec_of b) (fresh, false) [] (plain_symbols text) None ≡ Ok octets
   base_text text octets d =

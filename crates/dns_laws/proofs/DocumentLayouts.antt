@@ -36,7 +36,7 @@ pub record Laid (d : ℕ) (text : List ℕ) (e : Entries) : Type 0 where
   pub nested : nests d ls ≡ true
   pub cut : entries d ls ≡ e
 
--- no word first, where a word stands before
+-- the first item isn't a word, where a word precedes it
 pub record LaidApart (close : Bool) (d : ℕ) (text : List ℕ) (e : Entries) : Type 0 where
   pub laid : Laid d text e
   pub apart : close ≡ true → no_word laid.ls ≡ true
@@ -111,13 +111,13 @@ with_closing d text e l = record { ls = Close ∷ l.ls; spelled = ap (λ x. clos
 pub laid_splits : (text : List ℕ) (e : Entries) → Laid 0 text e → Splits text e
 laid_splits text e l = record { lexemes = l.ls; spelled = l.spelled; valid = l.valid; nested = l.nested; cut = l.cut }
 
--- the layouts without parentheses, where sep says whether a tab stands before a token
+-- the layouts without parentheses, where sep is whether a tab precedes a token
 abbrev pub flat : (List Step → Bool) → List Step → Step → List ℕ
 flat sep past (token t) = (if is_line_start past then [] else (if sep past then tab ∷ [] else space ∷ [])) ++ t
 flat sep past newline = line_feed ∷ []
 flat sep past _ = []
 
--- no token stands directly behind another
+-- no token is adjacent to another
 abbrev pub stands_apart : Bool → List Lexeme → Bool
 stands_apart behind [] = true
 stands_apart behind (Word s ss ∷ ls) = not behind && stands_apart true ls
@@ -143,7 +143,7 @@ apart_anywhere (Open ∷ ls) h = h
 apart_anywhere (Close ∷ ls) h = h
 apart_anywhere (Note _ ∷ ls) h = h
 
--- laid, no word comes first unless a line begins here, and no blank where one begins outside parentheses; and tokens stand apart
+-- laid, no word comes first unless a line begins here, and no blank if one begins outside parentheses; tokens aren't adjacent
 abbrev pub LaidFrom : Bool → ℕ → List ℕ → Entries → Type 0
 LaidFrom start d text e = (l : Laid d text e) × (start ≡ false → no_word l.ls ≡ true) × (is_tight (start && is_outside d) d l.ls ≡ true) × (stands_apart (not start) l.ls ≡ true)
 
@@ -199,7 +199,7 @@ simple_flat past begin = refl
 simple_flat past end = refl
 simple_flat past (comment t) = refl
 
--- a tab stands before this token
+-- a tab precedes this token
 abbrev is_tab : List Step → Bool
 is_tab past = depth past == 0 || is_block_start past
 
@@ -285,7 +285,7 @@ maybe_note true start n (suc d) t text e i inside r = (
   blanks_apart (suc d) n text e r.0 ∙ r.3,
 )
 
--- after a comment a row starts where the comment is shown, or where one had no word yet
+-- after a comment a row starts if the comment is shown, or if one had no word yet
 start_after_comment : (past : List Step) (t : List ℕ) → is_row_start (comment t ∷ past) ≡ (is_shown past || is_row_start past)
 start_after_comment past t = by (is_shown past) (since ends_row past)
   where
@@ -353,7 +353,7 @@ text_tight kind steps text is w = subst BeginsNoBlank (sym is) (printed_tight ki
 pub never_bad : (kind : DisplayKind) (steps : List Step) (text : List ℕ) (i : ℕ) → text ≡ printed kind steps → IsWellFormed steps → IsBad text i → ⊥
 never_bad kind steps text i is w bad = bad.splits_not (document_entries steps) ((text_only kind steps text is (document_entries steps) w).1 refl)
 
--- what splitting it can refuse
+-- the possible errors of splitting it
 pub refusal : (A : Type 0) (kind : DisplayKind) (steps : List Step) (text : List ℕ) → text ≡ printed kind steps → IsWellFormed steps → (e : SplitError)
     → IsSplitOf {A = A} (Err e) text → IsDocumentRefusal steps (Split e)
 refusal A kind steps text is w ShortBuf h = tt

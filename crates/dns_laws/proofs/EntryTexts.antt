@@ -1,4 +1,4 @@
--- The texts of encodings that are all tokens left of an entry.
+-- The texts of encodings that are all remaining tokens of an entry.
 use Rattle.std.proofs.Common.{ℕ, ◌≡◌, true, List, [], ◌∷◌, sym, ap, subst, ◌∙◌, Some, None, Result, Ok, Err}
 use Rattle.std.specs.Prelude.{IfOk}
 use Rattle.std.specs.List.{list_all, concat, AllByRecursion}

@@ -1,4 +1,4 @@
--- The grammar says one thing of symbols, and that is what the converters make of them.
+-- The grammar has one result for symbols, and that is the result of the converters.
 use Rattle.std.proofs.Common.{ℕ, ◌≡◌, ◌<◌, ◌≤◌, List, [], ◌∷◌, ◌++◌, length, map}
 use Rattle.std.proofs.Common.{refl, sym, ap, subst, ◌∙◌, arith, append-nil, length-append, ◌⊎◌, inl, inr, Option, Some, None, Result, Ok, Err, false}
 use Rattle.std.specs.Prelude.{IsErr, IsOk, MatchResult}
@@ -19,7 +19,7 @@ use Rattle.dns_entry.specs.Codecs.{converted_symbols, AnswersConverted, Converts
 use Rattle.dns_laws.specs.Encodings.{AnswersEncoding, HasGroups, IsRefusedAfter, NoEncoding, ReadsEncoding}
 use Rattle.dns_laws.proofs.GrammarReads.{reads_all}
 
--- lists cut after as many
+-- lists cut at equal lengths
 same_cut : {A : Type 0} (one other rest others : List A) → one ++ rest ≡ other ++ others → length one ≡ length other → (one ≡ other) × (rest ≡ others)
 same_cut [] [] rest others e n = (refl, e)
 same_cut [] (y ∷ ys) rest others e n = absurd (omega (arith, n))

@@ -1,4 +1,4 @@
--- What a converter makes of symbols is what the grammar says of them.
+-- The result of a converter for symbols is that of the grammar.
 use Rattle.std.proofs.Common.{ℕ, ◌≡◌, ◌<◌, ◌≤◌, Bool, true, false, List, [], ◌∷◌, ◌++◌, length, map}
 use Rattle.std.proofs.Common.{refl, sym, ap, subst, ◌∙◌, arith, append_assoc, append-nil, length-append, inl, inr, Option, Some, None, Result, Ok, Err}
 use Rattle.std.specs.Prelude.{IsErr, IsOk}
@@ -36,7 +36,7 @@ chars_more (f ∷ fs) (t ∷ ts) x c are is =
     let others : map char_of fs ≡ map Ok ts = cc in
     λ i. first i ∷ chars_more fs ts x c others is i
 
--- of symbols that go on, the characters go on
+-- if symbols continue, so do their characters
 chars_on : (front : List Symbol) (text : List ℕ) (x : Symbol) (more : List Symbol) (all : List ℕ) → map char_of front ≡ map Ok text → map char_of (front ++ x ∷ more) ≡ map Ok all
     → (c : ℕ) × (later : List ℕ) × (char_of x ≡ Ok c) × (all ≡ text ++ c ∷ later)
 chars_on [] [] x more [] are is = cc
@@ -51,7 +51,7 @@ chars_on (f ∷ fs) (t ∷ ts) x more (a ∷ later) are is =
     let rest = chars_on fs ts x more later others tails in
     (rest.0, rest.1, rest.2, λ i. same i ∷ rest.3 i)
 
--- a longer beginning goes on by the next symbol
+-- a longer prefix is extended by the next symbol
 longer_on : (front xs longer others : List Symbol) (x : Symbol) → front ++ x ∷ xs ≡ longer ++ others → length front < length longer → (more : List Symbol) × (longer ≡ front ++ x ∷ more)
 longer_on [] xs [] others x e less = absurd (omega (arith, less))
 longer_on [] xs (l ∷ ls) others x e less = let first : l ≡ x = cc in (ls, λ i. first i ∷ ls)
@@ -62,7 +62,7 @@ longer_on (f ∷ fs) xs (l ∷ ls) others x e less =
     let rest = longer_on fs xs ls others x tails (omega (arith, less)) in
     (rest.0, λ i. first i ∷ rest.1 i)
 
--- ---- refusals of a converter
+-- ---- errors of a converter
 
 illegal_by : (b : Base) (g : Group) (s : CharacterStep) (e : DecodeError) → (g.padding ≡ Complete → ⊥) → (convert_by b g s (Some e)).answer ≡ Err b.illegal
 illegal_by b g s (IllegalChar c) open_one = refl
@@ -97,7 +97,7 @@ module _ (b : Base) (known : IsEncoding b) where
   step_is : (ps : List ℕ) (p : Padding) (x : Symbol) (o : Option ℕ) → char_in x ≡ o → (codec_of b).step (held ps p) x ≡ stepped_by ps p o
   step_is ps p x o is = ap (stepped_by ps p) is
 
-  -- what is said of symbols after those that were taken
+  -- the result of symbols after those that were consumed
   abbrev Read : List Symbol → List Symbol → Option SymbolCharsError → List ℕ → List ℕ → Padding → Type 0
   Read front xs error os ps p = ReadsEncoding b (front ++ xs) error (os ++ made_of (codec_of b) (held ps p) xs error) (converted_symbols (codec_of b) (held ps p) os xs error)
 
@@ -106,7 +106,7 @@ module _ (b : Base) (known : IsEncoding b) where
   ReadStep front x xs error os s =
       ReadsEncoding b (front ++ x ∷ xs) error (os ++ then_more s.0 (made_of (codec_of b) s.1 xs error)) (then_made s.0 (λ octets. converted_symbols (codec_of b) s.1 (os ++ octets) xs error))
 
-  -- what was taken, and what follows it
+  -- what was consumed, and what follows it
   module _ (front : List Symbol) (text os ps : List ℕ) (p : Padding) (at : IsRead b text os ps p) (chars : map char_of front ≡ map Ok text) (error : Option SymbolCharsError) where
     ends_here : (why : Cause) → IsRefusedAfter b text [] error why → NoEncoding b (front ++ []) error (os ++ []) why
     ends_here why refusal = record {
@@ -149,14 +149,14 @@ module _ (b : Base) (known : IsEncoding b) where
     ends_text : may_end_in b ps p ≡ true → error ≡ None → ReadsEncoding b (front ++ []) None (os ++ whole b.width ps) (Ok (os ++ whole b.width ps))
     ends_text ends none = (refl, refl, (text, ap (map char_of) (append-nil front) ∙ chars, (ended b known text os ps p at).decodes ends))
 
-    -- at a symbol that a step refuses
+    -- at a symbol that a step rejects
     refused_step : (x : Symbol) (xs : List Symbol) (answer : Result (List ℕ) (List ℕ)) (after : Group × Bool) (reason : List ℕ) → answer ≡ Err reason
         → ((c : ℕ) → char_of x ≡ Ok c → (rest octets : List ℕ) → Decodes b (text ++ c ∷ rest) octets → ⊥) → IsRefusedAfter b text (x ∷ xs) error (custom_text reason)
         → ReadStep front x xs error os (answer, after)
     refused_step x xs answer after reason is block refusal =
         subst (λ (a : Result (List ℕ) (List ℕ)). ReadStep front x xs error os (a, after)) (sym is) (stops_here x xs (custom_text reason) block refusal)
 
-    -- a character that is refused, by the padding before it
+    -- a character that is rejected, by the padding before it
     refused_char : (x : Symbol) (xs : List Symbol) (c : ℕ) (e : DecodeError) → char_of x ≡ Ok c → (step_from b ps p c (value b c)).error ≡ Some e → ReadStep front x xs error os (stepped_by ps p (Some c))
     refused_char x xs c e is refused = by p refl
       where

@@ -1,4 +1,4 @@
--- What the grammar says of the characters that a converter took.
+-- What the grammar states of the characters that a converter consumed.
 use Rattle.std.proofs.Common.{ℕ, zero, suc, ◌≡◌, ◌<◌, ◌+◌, ◌-◌, ◌%◌, true, false, List, [], ◌∷◌, ◌++◌, length, replicate}
 use Rattle.std.proofs.Common.{refl, sym, ap, subst, ◌∙◌, arith, append_assoc, append-nil, length-append, inl, inr, Option, Some, None}
 use Rattle.std.proofs.lemmas.List.{length-replicate}
@@ -103,7 +103,7 @@ replicate_last zero c = refl
 replicate_last (suc n) c = ap (λ l. c ∷ l) (replicate_last n c)
 
 module _ (b : Base) (known : IsEncoding b) where
-  -- ---- what was taken begins a text
+  -- ---- what was consumed begins a text
 
   absent_begins : (text os ps : List ℕ) → IsRead b text os ps Absent → BeginsEncoding b text
   absent_begins text os ps at =
@@ -161,7 +161,7 @@ module _ (b : Base) (known : IsEncoding b) where
         value = complete_decodes b at.counts.0 text os ps at;
       }
 
-  -- ---- a refused character begins none
+  -- ---- a rejected character begins none
 
   some_cause : (x y : Option DecodeError) (e : DecodeError) → y ≡ Some e → (f : DecodeError) × (or_else x y ≡ Some f)
   some_cause None y e is = (e, is)
@@ -180,7 +180,7 @@ module _ (b : Base) (known : IsEncoding b) where
       let bad : None ≡ Some why.0 = sym none ∙ refused in
       cc bad
 
-  -- and characters that may not end are no text
+  -- and characters that may not end aren't a text
   pub unended : (text os ps : List ℕ) (p : Padding) → IsRead b text os ps p → may_end_in b ps p ≡ false → (octets : List ℕ) → Decodes b text octets → ⊥
   unended text os ps p at more octets d =
       let limit = length os + length octets in

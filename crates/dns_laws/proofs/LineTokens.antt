@@ -1,4 +1,4 @@
--- The entries of a line, and its tokens scanned back.
+-- The entries of a line, and that its tokens parse as its fields.
 use Rattle.std.proofs.Common.{◌≡◌, ℕ, ◌<◌, ◌≤◌, ◌^◌, true, List, [], ◌∷◌, ◌++◌, length, map, All, refl, sym, ap, subst, ◌∙◌, arith, inl, inr, None, Result, Ok, Err}
 use Rattle.std.specs.List.{flat_map, list_all}
 use Rattle.std.specs.Fmt.{decimal}
@@ -53,7 +53,7 @@ line_only kind fields text are line is e =
     subst (λ f. (Splits text e → e ≡ f) × (e ≡ f → Splits text e)) (entries_are fields)
     (text_only kind (line_document fields) text is e (line_formed fields are line))
 
--- what splitting a text that splits into a line's entries can refuse
+-- the possible errors of splitting a text that splits into a line's entries
 pub split_refusal : (fields : List Content) (text : List ℕ) → SplitsOnlyInto text (line_entries fields) → (e : SplitError) → IsSplitOf {A = Global} (Err e) text → IsLineRefusal fields (Split e)
 split_refusal fields text only ShortBuf h = tt
 split_refusal fields text only (BadText i) bad = absurd (bad.splits_not (line_entries fields) ((only (line_entries fields)).1 refl))
@@ -74,7 +74,7 @@ word_unquoted text rest word e = by word.symbols word.some word.valid word.spell
         let same = bytes_same s (Char 34) (flat_map bytes ss) rest readable refl front in
         quote_no_word (subst (λ x. is_word_symbol x ≡ true) same.0 first)
 
--- the unquoted text of some octets is a word
+-- the unquoted form of some octets is a word
 pub unquoted_word : (os : List ℕ) → 0 < length os → All (λ o. o < 256) os → IsWord (unquoted_token os)
 unquoted_word [] some all = absurd (omega (arith, some))
 unquoted_word (o ∷ os) some all = text_word o os all

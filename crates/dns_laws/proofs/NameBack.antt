@@ -1,4 +1,4 @@
--- A text that reads as a name is scanned as it.
+-- A text that is a name is parsed as it.
 use Rattle.std.proofs.Common.{◌≡◌, ℕ, ◌<◌, ◌≤◌, Bool, true, false, List, [], ◌∷◌, ◌++◌, ⊎_elim, subst, refl, arith, inl, inr, Result, Ok, Err}
 use Rattle.std.specs.Prelude.{nat_lt}
 use Rattle.std.proofs.lemmas.Bool.Decides.{nat_tests}
@@ -21,11 +21,11 @@ module _ (O : Type 0) {E : Type 0} (cause : E → Cause) (room : Room) (token : 
   abbrev size : ℕ
   size = wire_length (labels_of n)
 
-  -- the same room, in which it surely fits
+  -- the same capacity, which is guaranteed to be sufficient
   abbrev enough : Room
   enough = record room { fits = size }
 
-  -- what is read where there is room for all of it
+  -- the result of parsing if all of it fits
   ample : (read : Result (UncertainName O) FromStrError) → ReadsName enough token read → read ≡ Ok n
   ample read h = whole_reads token enough n read h is (omega arith)
 
@@ -42,7 +42,7 @@ module _ (O : Type 0) {E : Type 0} (cause : E → Cause) (room : Room) (token : 
       by true e = let less : room.fits < size = grind (arith, nat_tests) in less
       by false e = absurd (tight h (let fits : size ≤ room.fits = grind (arith, nat_tests) in fits))
 
-  -- any answer, from that of the name and that of a lack of room
+  -- any result, from that of the name and the error for lack of capacity
   answered : (r : Result (List (List ℕ)) E) (P : Type 0) → (AnswersName cause room (Ok n) r → P) → (room.fits < size → IsCause cause r invalid_name → P) → ReadsToken O cause room token r → P
   answered r P good lacks (read, h, a) = by read h a
     where

@@ -1,4 +1,4 @@
--- Tokens that scanners read as texts of an encoding, and those that spell octets of record data in digits.
+-- Tokens that scanners parse as texts of an encoding, and those that spell octets of RDATA in digits.
 use Rattle.std.proofs.Common.{ℕ, zero, suc, ◌≡◌, ◌-◌, ◌*◌, ◌/◌, ◌%◌, ◌<◌, ◌==◌, Bool, true, false, List, [], ◌∷◌, ◌++◌, length, map, replicate, refl, sym, ap, subst, ◌∙◌, arith, append-nil, inl, inr, Some, None, Result, Ok, Err}
 use Rattle.std.specs.Prelude.{not, if◌then◌else◌}
 use Rattle.std.specs.List.{flat_map, list_all, list_any, concat, AllByRecursion}
@@ -27,7 +27,7 @@ use Rattle.dns_laws.proofs.Converted.{plain_symbols, is_plain, plain_read}
 use Rattle.dns_laws.proofs.EntryTexts.{plain_parts}
 use Rattle.dns_laws.proofs.Spelled.{plain_chars}
 
--- ---- the characters of an encoding stand for themselves
+-- ---- the characters of an encoding are plain
 
 no_backslash : (b : Base) → IsEncoding b → value b 92 ≡ None
 unfolding value

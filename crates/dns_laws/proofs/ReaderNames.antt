@@ -1,4 +1,4 @@
--- Texts of names that scanners read, and those that spell names of record data.
+-- Texts of names that scanners parse, and those that spell names of RDATA.
 use Rattle.std.proofs.Common.{ℕ, ◌≡◌, ◌≢◌, ◌<◌, ◌≤◌, true, List, [], ◌∷◌, ◌++◌, length, map, refl, sym, ap, subst, ◌∙◌, arith, append_assoc, append-nil, length-append, inl, inr, Option, Some, None}
 use Rattle.std.specs.Prelude.{All, not}
 use Rattle.std.specs.List.{flat_map, list_all, AllZip}
@@ -69,7 +69,7 @@ part_length part label h = ap length h.alike.stand ∙ length-map part octet_for
 label_spelled : (part : List Symbol) (label : List ℕ) → PartAlike part label → IsNoBinary part → length label ≤ 63 → SpellsLabel part label
 label_spelled part label h none short = record { octets_are = h.alike.given; no_dot = h.no_dot; no_binary = none; short = short }
 
--- ---- labels with a dot behind each
+-- ---- labels with a dot after each
 
 abbrev AreAlike : List (List Symbol) → List (List ℕ) → Type 0
 AreAlike parts labels = AllZip PartAlike parts labels
@@ -307,7 +307,7 @@ absolute_read O text name p none (absolute parts some k is) n =
       same,
     )
 
--- ---- relative names, which stand before the origin's labels
+-- ---- relative names, which precede the origin's labels
 
 -- of one label or more, with the octets of both, which fit
 abbrev pub ReadsBefore : (O : Type 0) → List (List ℕ) → List ℕ → List ℕ → Type 0

@@ -1,4 +1,4 @@
--- Tokens that scanners read as numbers, and those that spell numbers of record data.
+-- Tokens that scanners parse as numbers, and those that spell numbers of RDATA.
 use Rattle.std.proofs.Common.{ℕ, ◌≡◌, ◌≢◌, ◌+◌, ◌-◌, ◌*◌, ◌^◌, ◌<◌, ◌≤◌, Bool, true, false, List, [], ◌∷◌, ◌++◌, length, map, refl, sym, ap, subst, ◌∙◌, arith, append-nil, Some, None, Ok}
 use Rattle.std.specs.Prelude.{if◌then◌else◌}
 use Rattle.std.specs.List.{flat_map, list_all}
@@ -125,7 +125,7 @@ nothing_read limit = record {
   reads = (record { digits = []; plain = refl; value = refl; small = omega arith }, refl);
 }
 
--- ---- as fields of so many bits
+-- ---- as fields of a number of bits
 
 module _ (bits : ℕ) (wire : ℕ → List ℕ) (token : Token) (octets : List ℕ) where
   pub field_spelled : token ≢ [] → ReadsWire bits wire token octets → SpellsAs (λ n. n < 2 ^ bits) (SpellsBelow (2 ^ bits)) wire token octets

@@ -1,4 +1,4 @@
--- Worked rows: tokens that one reader takes, and the other refuses or reads otherwise.
+-- Computed examples: tokens that one parser accepts, and the other rejects or parses differently.
 use Rattle.std.proofs.Common.{ℕ, ◌≡◌, ◌^◌, ◌<◌, true, false, List, [], ◌∷◌, length, arith, refl, ap, sym, ◌∙◌, inl, inr, Some, None, Ok, Err, get_or}
 use Rattle.std.specs.Prelude.{codes}
 use Rattle.std.specs.Char.{encode_utf8}
@@ -85,7 +85,7 @@ module _ (O : Type 0) where
     λ e. cc,
   )
 
-  -- no text is the empty relative name, and no name in record data
+  -- the empty text is the empty relative name, and isn't a name in RDATA
   nothing_named : ReadsAs {O = O} [] (Relative [])
   nothing_named = ([], [], named_none, refl, λ _. refl)
 

@@ -1,4 +1,4 @@
--- Symbols that scanners read as octets, and those that spell octets of record data.
+-- Symbols that scanners parse as octets, and those that spell octets of RDATA.
 use Rattle.std.proofs.Common.{ℕ, ◌≡◌, ◌+◌, ◌/◌, ◌%◌, ◌<◌, Bool, true, false, List, [], ◌∷◌, ◌++◌, map, refl, sym, ap, subst, ◌∙◌, arith, append-nil, Ok, Err}
 use Rattle.std.specs.Prelude.{if◌then◌else◌}
 use Rattle.std.specs.List.{flat_map, list_all}
@@ -27,7 +27,7 @@ pub record Alike (x : Symbol) (o : ℕ) : Type 0 where
   pub same : bytes x ≡ spell x
   pub shown : Printable (spell x)
 
--- the digits of an octet behind a backslash
+-- the digits of an octet after a backslash
 digits_shown : (c : ℕ) → c < 256 → Printable (spell (DecimalEscape c))
 digits_shown c low =
     let a : c / 100 < 3 = omega arith in

@@ -1,4 +1,4 @@
--- The tokens that convert to octets are the texts of the encoding, and answers of converters are one.
+-- The tokens that convert to octets are the texts of the encoding, and converters have one result.
 use Rattle.std.proofs.Common.{ℕ, ◌≡◌, ◌<◌, List, [], ◌∷◌, ◌++◌}
 use Rattle.std.proofs.Common.{length, map, refl, sym, ap, subst, ◌∙◌, arith, append_assoc, ◌⊎◌, inl, inr, ⊎_elim, Option, Some, None, Result, Ok, Err, Bool, true, false}
 use Rattle.std.specs.Prelude.{IfOk}
@@ -30,7 +30,7 @@ went_on (Err text) go octets e = cc
 no_octets : (why : Cause) (octets : List ℕ) → Err why ≡ Ok octets → ⊥
 no_octets why octets e = cc
 
--- a symbol's character, as the converters ask for it
+-- a symbol's character, as the converters request it
 pub char_there : (x : Symbol) (c : ℕ) → char_of x ≡ Ok c → char_in x ≡ Some c
 char_there x c e = rw (e, char_in) refl
 
@@ -54,7 +54,7 @@ module _ (codec : Codec) where
       let same = symbols_same token h.0 k.0 h.1 k.1 h.2 k.2 in
       h.3 ∙ (λ i. made_of codec codec.start (same.0 i) (same.1 i)) ∙ sym k.3
 
-  -- where no symbol is refused, all that is made is the answer
+  -- if no symbol is rejected, all octets are the result
   all_made : (held : codec.Held) (built : List ℕ) (xs : List Symbol) (error : Option SymbolCharsError) (octets : List ℕ) → converted_symbols codec held built xs error ≡ Ok octets
       → octets ≡ built ++ made_of codec held xs error
   all_made held built [] None octets e =
@@ -72,7 +72,7 @@ module _ (codec : Codec) where
   octets_made token built octets h k =
       made_once token built octets k (h.0, h.1, h.2, all_made codec.start [] h.0 h.1 octets h.3)
 
-  -- where the room is known, answers are one
+  -- if the capacity is known exactly, there is one result
   pub answers_once : (size : ℕ) (token : Token) (q r : Result (List ℕ) Cause) → AnswersConverted codec (λ why. why) (λ octets. octets) (exactly size) token q
       → AnswersConverted codec (λ why. why) (λ octets. octets) (exactly size) token r → q ≡ r
   answers_once size token (Ok a) (Ok b) h k = converts_once token (Ok a) (Ok b) h.2.0 k.2.0
@@ -95,7 +95,7 @@ module _ (codec : Codec) where
       k.2)
       h.2
 
-  -- a token that converts to octets gives them, room aside
+  -- a token that converts to octets is parsed as them, if they fit
   pub gives_octets : {O E : Type 0} (cause : E → Cause) (value : O → List ℕ) (room : Room) (token : Token) (octets : List ℕ) (r : Result O E) → ConvertsTo codec token (Ok octets)
       → AnswersConverted codec cause value room token r → GivesWhere cause value room octets r
   gives_octets cause value room token octets (Ok x) h k =
@@ -122,7 +122,7 @@ module _ (codec : Codec) where
         (λ i. then_made (one i).0 (λ o. converted_symbols codec (one i).1 (built ++ o) xs None))
         ∙ ap (λ go. then_made (codec.step held (Char c)).0 go) (λ i o. by_chars (codec.step held (Char c)).1 (built ++ o) xs cs others i)
 
-    -- symbols that convert to octets have characters, and nothing stands after them
+    -- symbols that convert to octets have characters, and nothing follows them
     have_chars : (held : codec.Held) (built : List ℕ) (xs : List Symbol) (error : Option SymbolCharsError) (octets : List ℕ) → converted_symbols codec held built xs error ≡ Ok octets
         → (error ≡ None) × ((text : List ℕ) × (map char_of xs ≡ map Ok text))
     have_chars held built [] None octets e = (refl, ([], refl))
@@ -152,7 +152,7 @@ module _ (codec : Codec) where
       pub converts : (token : Token) (octets : List ℕ) → IsEncodingOf b token octets → ConvertsTo codec token (Ok octets)
       converts token octets h = (h.symbols, None, h.read, by_chars codec.start [] h.symbols h.text h.chars ∙ texts h.text octets h.decodes)
 
-      -- what a scanner gives of a text of the encoding, and of any token
+      -- the result of a scanner for a text of the encoding, and for any token
       pub gives_value : {O E : Type 0} (cause : E → Cause) (value : O → List ℕ) (room : Room) (token : Token) (octets : List ℕ) (r : Result O E) → IsEncodingOf b token octets
           → AnswersConverted codec cause value room token r → GivesWhere cause value room octets r
       gives_value cause value room token octets r h k = gives_octets cause value room token octets r (converts token octets h) k
@@ -180,7 +180,7 @@ plain_encoding b octets plain d = record {
 pub base_encoding : (b : Base) → IsEncoding b → (octets : List ℕ) → AllByRecursion (λ o. o < 256) octets → IsEncodingOf b (encoded b octets) octets
 base_encoding b known octets all = plain_encoding b octets (plain_alphabet b known) (decodes b known octets all)
 
--- the converters look at a symbol's character alone, and refuse a symbol that has none
+-- the converters read a symbol's character alone, and reject a symbol without one
 refuses : (a : Result (List ℕ) (List ℕ)) (text o : List ℕ) → a ≡ Err text → a ≡ Ok o → ⊥
 refuses a text o e is = cc
 

@@ -1,4 +1,4 @@
--- What is scanned of the text of an encoding.
+-- The result of parsing the text of an encoding.
 use Rattle.std.specs.Prelude.{ℕ, List, [], ◌∷◌, ◌++◌, ◌≡◌, ◌<◌, ◌≤◌, ◌⊎◌, ◌%◌, length, map, Option, Some, None, Result, Ok, Err, IfOk, IsErr, IsOk, MatchResult}
 use Rattle.std.specs.List.{AllByRecursion, concat}
 use Rattle.dns_octets.specs.Room.{Room}
@@ -35,15 +35,15 @@ pub record HasGroups (b : Base) (text octets : List ℕ) : Type 0 where
   pub few : length others < b.group
   pub value : Decodes b groups octets
 
--- why what follows these characters is refused: a symbol, an escape that is none, or the end
+-- why what follows these characters is rejected: a symbol, an invalid escape, or the end
 abbrev pub IsRefusedAfter : Base → List ℕ → List Symbol → Option SymbolCharsError → Cause → Type 0
 IsRefusedAfter b text (x ∷ xs) error why =
     (IsPaddedText b text × IsOk (char_of x) × (why ≡ custom_text b.trailing)) ⊎ ((IsPaddedText b text → IsErr (char_of x)) × (why ≡ custom_text b.illegal))
 IsRefusedAfter b text [] (Some e) why = why ≡ custom_text (chars_error_text e)
 IsRefusedAfter b text [] None why = ((octets : List ℕ) → Decodes b text octets → ⊥) × (why ≡ custom_text b.incomplete)
 
--- symbols, and the error after them, are no text of the encoding: their longest beginning that
--- begins one, the octets of its whole groups, and why what follows is refused
+-- symbols, and the error after them, aren't a text of the encoding: their longest prefix that
+-- begins one, the octets of its whole groups, and why what follows is rejected
 pub record NoEncoding (b : Base) (symbols : List Symbol) (error : Option SymbolCharsError) (made : List ℕ) (why : Cause) : Type 0 where
   pub front : List Symbol
   pub rest : List Symbol
@@ -55,14 +55,14 @@ pub record NoEncoding (b : Base) (symbols : List Symbol) (error : Option SymbolC
   pub groups : HasGroups b text made
   pub refusal : IsRefusedAfter b text rest error why
 
--- what symbols and the error after them are read as: the octets of a text of the encoding; or why
--- they are none, and the octets made before
+-- the result of symbols and the error after them: the octets of a text of the encoding; or the
+-- error, and the octets before it
 abbrev pub ReadsEncoding : Base → List Symbol → Option SymbolCharsError → (made : List ℕ) → Result (List ℕ) Cause → Type 0
 ReadsEncoding b symbols error made (Ok octets) = (made ≡ octets) × (error ≡ None) × ((text : List ℕ) × (map char_of symbols ≡ map Ok text) × Decodes b text octets)
 ReadsEncoding b symbols error made (Err why) = NoEncoding b symbols error made why
 
--- r is what a token is read as, where the octets made are within the room's capacity; or "short
--- buffer", where they are more than surely fit
+-- r is the result of parsing a token, if the octets are within the maximum capacity; or "short
+-- buffer", if they exceed the guaranteed capacity
 pub record AnswersEncoding {O E : Type 0} (b : Base) (cause : E → Cause) (value : O → List ℕ) (room : Room) (token : Token) (r : Result O E) : Type 0 where
   pub symbols : List Symbol
   pub error : Option SymbolCharsError
@@ -73,25 +73,24 @@ pub record AnswersEncoding {O E : Type 0} (b : Base) (cause : E → Cause) (valu
   pub answer : MatchResult r (λ x. (found ≡ Ok (value x)) × (length made ≤ room.capacity))
       (λ e. ((found ≡ Err (cause e)) × (length made ≤ room.capacity)) ⊎ ((cause e ≡ short_buf) × (room.fits < length made)))
 
--- r is what one token is scanned as that stands for octets in an encoding: these octets, where
--- there is room
+-- r is the result of parsing a token that is a text of an encoding: its octets, if they fit
 pub record EncodingBack {O E : Type 0} (b : Base) (cause : E → Cause) (value : O → List ℕ) (room : Room) (token : Token) (r : Result O E) : Type 0 where
   -- of any text of the encoding
   pub whole : (octets : List ℕ) → IsEncodingOf b token octets → GivesWhere cause value room octets r
   -- of the text that octets are printed as
   pub back : (octets : List ℕ) → AllByRecursion (λ o. o < 256) octets → token ≡ encoded b octets → GivesWhere cause value room octets r
-  -- and else a refusal, with its cause
+  -- and else an error, with its cause
   pub answer : AnswersEncoding b cause value room token r
-  -- no other token is scanned
+  -- no other token is accepted
   pub only : IfOk r (λ o. IsEncodingOf b token (value o))
 
--- r is what all tokens that are left are scanned as, whose join stands for octets in an encoding
+-- r is the result of parsing all remaining tokens, whose join is a text of an encoding
 pub record EntryBack {O E : Type 0} (b : Base) (cause : E → Cause) (value : O → List ℕ) (room : Room) (tokens : List Token) (r : Result O E) : Type 0 where
-  -- of any text of the encoding, cut into tokens anyhow
+  -- of any text of the encoding, cut into tokens anywhere
   pub whole : (octets : List ℕ) → AllByRecursion IsSymbols tokens → IsEncodingOf b (concat tokens) octets → GivesWhere cause value room octets r
   -- of the text that octets are printed as
   pub back : (octets : List ℕ) → AllByRecursion (λ o. o < 256) octets → concat tokens ≡ encoded b octets → GivesWhere cause value room octets r
-  -- and else the refusal of the join as one token
+  -- and else the error of the join as one token
   pub answer : (text : List ℕ) → IsJoin tokens text → AnswersEncoding b cause value room text r
-  -- no other tokens are scanned
+  -- no other tokens are accepted
   pub only : IfOk r (λ o. IsEncodingOf b (concat tokens) (value o))

@@ -39,6 +39,6 @@ MeansOnly text steps = SplitsOnlyInto text (document_entries steps)
 abbrev pub item_entries : {A : Type 0} → List (Item A) → Entries
 item_entries items = document_entries (item_steps items)
 
--- a text is taken as a document, whose one step is the token of that text
+-- a text is accepted as a document, whose one step is the token of that text
 abbrev pub IsTakenAlone : {A E : Type 0} → List ℕ → Result (Document A) E → Type 0
 IsTakenAlone text taken = IsOk taken × IfOk taken (λ document. document_steps document ≡ token text ∷ [])

@@ -1,4 +1,4 @@
--- The tokens of an entry line, and what they are scanned as.
+-- The tokens of an entry line, and the values that they parse as.
 use Rattle.std.specs.Prelude.{⊤, ◌≡◌, ◌<◌, ◌⊎◌, ℕ, List, [], ◌∷◌, ◌++◌, length, map, Result, Ok}
 use Rattle.dns_octets.specs.Room.{Room}
 use Rattle.dns_symbol.specs.Characters.{double_quote}
@@ -19,39 +19,39 @@ use Rattle.dns_laws.specs.declared.lines.Scanned.TheVariants.{Number as NumberSc
 use Rattle.dns_entry.specs.declared.entry.Field.{Field}
 use Rattle.dns_zone.specs.Layout.{Step}
 
--- the entries of a line: one, with a token a field
+-- the entries of a line: one, with a token for each field
 abbrev pub line_entries : List Content → Entries
 line_entries fields = map field_text fields ∷ []
 
--- why fields were not printed as a line and split: the first that is no token, or lack of memory
+-- why fields weren't printed as a line and split: the first that isn't a token, or out of memory
 abbrev pub IsLineRefusal : List Content → Refusal → Type 0
 IsLineRefusal fields (Line error) = IsEntryFault fields error
 IsLineRefusal fields (Split (BadText place)) = ⊥
 IsLineRefusal fields (Split ShortBuf) = ⊤
 
--- what of a token is scanned: a word as it is, and of a quoted text what stands between its quotes
+-- the parsed text of a token: a word itself, or the text between double quotes of a quoted string
 abbrev pub IsScannedOf : (token scanned : Token) → Type 0
 IsScannedOf token scanned = (IsWord token × (scanned ≡ token)) ⊎ (token ≡ double_quote ∷ (scanned ++ double_quote ∷ []))
 
--- what a field's token is scanned as
+-- the value that a field's token parses as
 abbrev pub kind_of : Content → FieldKind
 kind_of (number n) = Number
 kind_of (hex_octets os) = Hex
 kind_of (base64_octets os) = Base64
 kind_of (text_octets os) = Text
 
--- the answer has these octets, or is "short buffer" where they are more than surely fit
+-- the result has these octets, or is "short buffer" if they exceed the guaranteed capacity
 abbrev pub GivesOctets : {O E : Type 0} → (E → Cause) → (O → List ℕ) → Room → List ℕ → Result (Scanned O) E → Type 0
 GivesOctets {O} cause octets room os r = ((o : O) × (r ≡ Ok (Octets o)) × (octets o ≡ os)) ⊎ (IsCause cause r short_buf × (room.fits < length os))
 
--- the answer is what the field holds, where its octets find room
+-- the result is the field's value, if its octets fit
 abbrev pub GivesField : {O E : Type 0} → (E → Cause) → (O → List ℕ) → Room → Content → Result (Scanned O) E → Type 0
 GivesField cause octets room (number n) r = r ≡ Ok (NumberScanned n)
 GivesField cause octets room (hex_octets os) r = GivesOctets cause octets room os r
 GivesField cause octets room (base64_octets os) r = GivesOctets cause octets room os r
 GivesField cause octets room (text_octets os) r = (r ≡ Ok (TextScanned os)) ⊎ (IsCause cause r short_buf × (room.fits < length os))
 
--- r is what the token of a field of that kind is scanned as: what the field holds, where its octets find room
+-- r is the result of parsing the token of a field of that kind: the field's value, if its octets fit
 abbrev pub KindBack : {O E : Type 0} → FieldKind → (E → Cause) → (O → List ℕ) → Room → Token → Result (Scanned O) E → Type 0
 KindBack kind cause octets room token r =
     (field : Content) → IsContent field → IsPrintable field → kind_of field ≡ kind → IsScannedOf (field_text field) token → GivesField cause octets room field r

@@ -1,4 +1,4 @@
--- What a number's scan reads of a token is its number.
+-- A token that is a number parses as that number.
 use Rattle.std.proofs.Common.{ℕ, ◌≡◌, ◌<◌, ◌≤◌, ◌^◌, List, ◌∷◌, subst, arith, None, Result, Ok, Err}
 use Rattle.std.specs.Prelude.{IfErr, IfOk, IsOkAnd}
 use Rattle.std.specs.Fmt.{decimal}
@@ -18,7 +18,7 @@ module _ (limit : ℕ) (token : Token) where
       let is = decimal_read limit v (omega (arith, low, small)) small in
       rw at (record { symbols = is.0; read = is.1; number = is.2 })
 
-  -- plain digits are read as their value alone
+  -- plain digits are parsed as their value alone
   has_number : (v : ℕ) (r : Result ℕ Cause) → HasNumber limit token v → NumberReads limit token r → r ≡ Ok v
   has_number v r has reads = numbers_once limit token r (Ok v) reads (record { symbols = has.symbols; error = None; read = has.read; reads = (has.number, λ i. None) })
 
@@ -26,7 +26,7 @@ module _ (limit : ℕ) (token : Token) where
   value_of_ok v (Ok n) e = cc
   value_of_ok v (Err why) e = cc
 
-  -- what a token is read as
+  -- the result of parsing a token
   number_read : limit < 10 ^ 64 → (r : Result ℕ Cause) → NumberReads limit token r → NumberBack limit (λ n. n) (λ why. why) token r
   number_read low r reads = record {
     printed = λ v small at. value_of_ok v r (has_number v r (printed_number v low small at) reads);
@@ -43,7 +43,7 @@ module _ (limit : ℕ) (token : Token) where
       by_refused (Ok v) h = tt
       by_refused (Err why) h = h
 
--- of a type of so many bits
+-- of a type of a number of bits
 pub read_of : (bits : ℕ) (low : greatest bits < 10 ^ 64) (token : Token) (others rest : List Token) (r : Result ℕ Cause) → ReadsFirstToken (NumberReads (greatest bits)) (token ∷ others) r rest
     → NumberBack (greatest bits) (λ n. n) (λ why. why) token r × (rest ≡ others)
 read_of bits low token others rest r reads = (number_read (greatest bits) token low r reads.0, reads.1)

@@ -1,4 +1,4 @@
--- What is scanned of a number's text.
+-- The result of parsing the text of a number.
 use Rattle.std.specs.Prelude.{ℕ, List, ◌≡◌, ◌≤◌, None, Result, Err, IfErr, IfOk, IsOkAnd}
 use Rattle.std.specs.Fmt.{decimal}
 use Rattle.dns_symbol.specs.Cause.{Cause}
@@ -14,13 +14,13 @@ pub record HasNumber (limit : ℕ) (token : Token) (v : ℕ) : Type 0 where
   pub read : SymbolsOf token symbols None
   pub number : IsNumber limit symbols v
 
--- r is what one token is scanned as that stands for a number within the limit: just this number
+-- r is the result of parsing a token that is a number within the limit: just this number
 pub record NumberBack {N E : Type 0} (limit : ℕ) (number : N → ℕ) (cause : E → Cause) (token : Token) (r : Result N E) : Type 0 where
   -- of the text that a number is printed as
   pub printed : (v : ℕ) → v ≤ limit → token ≡ decimal v → IsOkAnd r (λ n. number n ≡ v)
   -- of any plain digits, also with zeros before them
   pub whole : (v : ℕ) → HasNumber limit token v → IsOkAnd r (λ n. number n ≡ v)
-  -- no other token is scanned
+  -- no other token is accepted
   pub only : IfOk r (λ n. HasNumber limit token (number n))
-  -- but refused, as the token is read
+  -- but rejected, as the token is parsed
   pub refused : IfErr r (λ e. NumberReads limit token (Err (cause e)))

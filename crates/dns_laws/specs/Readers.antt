@@ -1,4 +1,4 @@
--- Tokens that scanners and fields of record data read alike.
+-- Tokens that scanners and fields of RDATA read alike.
 use Rattle.std.specs.Prelude.{ℕ, ◌≡◌, ◌==◌, not, true, List, [], ◌∷◌, ◌++◌, All, Ok, ◌≢◌, ◌≤◌, ◌↔◌, Option, false}
 use Rattle.std.specs.List.{list_all}
 use Rattle.dns_symbol.specs.Characters.{backslash}
@@ -19,7 +19,7 @@ use Rattle.dns_fields.specs.declared.field.Field.{Field}
 abbrev pub IsPrintableText : List ℕ → Type 0
 IsPrintableText text = list_all is_printable text ≡ true
 
--- no backslash stands in a text
+-- a text has no backslash
 abbrev pub HasNoBackslash : List ℕ → Type 0
 HasNoBackslash text = list_all (λ c. not (c == backslash)) text ≡ true
 
@@ -31,7 +31,7 @@ IsNoBinary part = (more : List Symbol) → part ≡ bracket ∷ more → ⊥
 abbrev pub HasNoBinary : List ℕ → Type 0
 HasNoBinary text = (parts : List (List Symbol)) (last : List Symbol) → SpellsParts text parts last → All IsNoBinary (parts ++ last ∷ [])
 
--- scanners read a token as a number of so many bits, and these are its octets on the wire
+-- scanners parse a token as a number of these bits, and these are its octets in wire format
 abbrev pub ReadsWire : ℕ → (ℕ → List ℕ) → Token → List ℕ → Type 0
 ReadsWire bits wire token octets = (n : ℕ) × NumberReads (greatest bits) token (Ok n) × (octets ≡ wire n)
 
@@ -40,7 +40,7 @@ abbrev pub IsReadAlike : ℕ → (ℕ → List ℕ) → Field → Type 0
 IsReadAlike bits wire field =
     (origin : Option (List (List ℕ))) (token : Token) (octets : List ℕ) → token ≢ [] → ReadsWire bits wire token octets ↔ (field_form origin field).spells false token octets
 
--- scanners read a text as a relative name of one label or more, and this is the wire form of the name with the labels of the origin
+-- scanners parse a text as a relative name with a label, and this is the wire format of the name with the origin's labels
 abbrev pub ReadsRelative : Type 0 → List (List ℕ) → List ℕ → List ℕ → Type 0
 ReadsRelative O origin text form =
     (name : List (List ℕ)) × ReadsAs {O = O} text (Relative name) × (name ≢ []) × (wire_length (name ++ origin) ≤ max_name) × (form ≡ wire (name ++ origin))

@@ -1,4 +1,4 @@
--- Entries of worked documents.
+-- Entries of example documents.
 use Rattle.std.specs.Prelude.{◌≡◌, [], ◌∷◌, codes, refl}
 use Rattle.dns_zone.specs.Layout.{token, begin, end, comment, newline}
 use Rattle.dns_zone.specs.Rows.{ds_steps, ds_data, nested}

@@ -1,4 +1,4 @@
-//! Laws on encodings: what tokens convert to, and that a text is scanned back.
+//! Laws of encodings: the octets of tokens, and that printed octets parse as the same octets.
 ghost use Rattle.std.specs.Prelude.{◌↔◌, ℕ, ◌<◌, List, Ok, Result};
 ghost use Rattle.dns_octets.specs.Room.{Room, exactly};
 ghost use Rattle.dns_codec.specs.Base.{Base, IsEncoding, base16, base32hex, base64, encoded};
@@ -15,12 +15,12 @@ use dns_codec::base::{Base16, Base32Hex, Base64, Encoding};
 use dns_codec::converter::Converter;
 use dns_scan::Scanner;
 
-/// The text of octets in an encoding is scanned back to these octets, where there is room. So is
-/// each token that is a text of the encoding; a simple escape counts as its character. In base 16
-/// and base32hex letters may be in either case.
+/// The text of octets in an encoding is parsed as these octets, if they fit. So is every token that
+/// is a text of the encoding; a simple escape counts as its character. In base 16 and base32hex
+/// letters may be in either case.
 ///
-/// Any other token is refused: one with a bad escape, with a symbol without character,
-/// or whose characters are no text of the encoding.
+/// Any other token is rejected: one with a bad escape, with a symbol without character, or whose
+/// characters aren't a text of the encoding.
 pub fn encoding_is_scanned_back<K: Encoding, S: Scanner>(
     scanner: &mut S,
 ) -> Result<S::Octets, S::Error>
@@ -33,12 +33,12 @@ pub fn encoding_is_scanned_back<K: Encoding, S: Scanner>(
     scanner.convert_token(Converter::<K>::new())
 }
 
-/// The text of octets in base 16 is scanned back to these octets, where there is room. So is each
-/// token that is a text of the encoding; its letters may be in either case, and a simple escape
-/// counts as its character.
+/// The text of octets in base 16 is parsed as these octets, if they fit. So is every token that is
+/// a text of the encoding; its letters may be in either case, and a simple escape counts as its
+/// character.
 ///
-/// Any other token is refused: one with a bad escape, with a symbol without character,
-/// or whose characters are no text of the encoding.
+/// Any other token is rejected: one with a bad escape, with a symbol without character, or whose
+/// characters aren't a text of the encoding.
 pub fn hex_is_scanned_back<S: Scanner>(scanner: &mut S) -> Result<S::Octets, S::Error>
     requires { S.can_scan scanner.old }
     ensures ready { S.can_scan scanner.new }
@@ -49,8 +49,8 @@ pub fn hex_is_scanned_back<S: Scanner>(scanner: &mut S) -> Result<S::Octets, S::
     encoding_is_scanned_back::<Base16, S>(scanner)
 }
 
-/// The text of octets in base32hex is scanned back to these octets, where there is room. So is each
-/// token that is a text of the encoding, and any other token is refused, as in base 16.
+/// The text of octets in base32hex is parsed as these octets, if they fit. So is every token that
+/// is a text of the encoding. Any other token is rejected, as in base 16.
 pub fn base32hex_is_scanned_back<S: Scanner>(scanner: &mut S) -> Result<S::Octets, S::Error>
     requires { S.can_scan scanner.old }
     ensures ready { S.can_scan scanner.new }
@@ -61,9 +61,9 @@ pub fn base32hex_is_scanned_back<S: Scanner>(scanner: &mut S) -> Result<S::Octet
     encoding_is_scanned_back::<Base32Hex, S>(scanner)
 }
 
-/// The text of octets in base 64 is scanned back to these octets, where there is room. So is each
-/// token that is a text of the encoding, and any other token is refused, as in base 16. Letter case
-/// matters here.
+/// The text of octets in base 64 is parsed as these octets, if they fit. So is every token that is
+/// a text of the encoding. Any other token is rejected, as in base 16. The case of letters matters
+/// here.
 pub fn base64_is_scanned_back<S: Scanner>(scanner: &mut S) -> Result<S::Octets, S::Error>
     requires { S.can_scan scanner.old }
     ensures ready { S.can_scan scanner.new }
@@ -87,20 +87,21 @@ pub fn only_encodings_convert()
         → ConvertsTo (codec_of b) token (Ok octets) ↔ IsEncodingOf b token octets }
 {}
 
-/// A token converts to one thing.
+/// Converting a token has at most one result.
 pub fn tokens_convert_to_one_thing()
     ensures { (b : Base) (token : Token) → HasOneAnswer (ConvertsTo (codec_of b) token) }
 {}
 
-/// What is returned of a token by the grammar alone is just what is returned by what the converters
-/// make of its symbols, one after the other.
+/// The result of a token by the grammar alone equals the result of converting its symbols one after
+/// the other.
 pub fn converters_answer_by_the_grammar()
     ensures { (b : Base) → IsEncoding b → (room : Room) (token : Token) (r : Result (List ℕ) Cause)
         → AnswersEncoding b (λ why. why) (λ s. s) room token r
         ↔ AnswersConverted (codec_of b) (λ why. why) (λ s. s) room token r }
 {}
 
-/// Over a builder whose room is known, as an array's, a token has one result.
+/// If the capacity of the builder is known exactly, as of an array, converting a token has at most
+/// one result.
 pub fn encodings_are_answered_in_one_way()
     ensures { (b : Base) (size : ℕ) (token : Token) → HasOneAnswer {A = Result (List ℕ) Cause}
         (AnswersConverted (codec_of b) (λ why. why) (λ s. s) (exactly size) token) }

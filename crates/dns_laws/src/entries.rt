@@ -1,4 +1,4 @@
-//! Laws on encodings whose text is all tokens that are left of an entry.
+//! Laws of encodings whose text is all remaining tokens of an entry.
 ghost use Rattle.std.specs.Prelude.{List};
 ghost use Rattle.dns_codec.specs.Base.{base16, base32hex, base64};
 ghost use Rattle.dns_scan.specs.Join.{LeavesOf};
@@ -11,9 +11,9 @@ use dns_codec::converter::Converter;
 use dns_scan::Scanner;
 use dns_scan::laws::entries_convert_as_their_join;
 
-/// The text of octets in an encoding, cut into tokens anyhow, is scanned back to these octets,
-/// where there is room. So are all tokens whose join is a text of the encoding; others are refused
-/// as their join is as one token.
+/// The text of octets in an encoding, cut into tokens anywhere, is parsed as these octets, if they
+/// fit. So are all tokens whose join is a text of the encoding. Other tokens are rejected as their
+/// join would be as one token.
 pub fn entry_is_scanned_back<K: Encoding, S: Scanner>(
     scanner: &mut S,
 ) -> Result<S::Octets, S::Error>
@@ -25,9 +25,9 @@ pub fn entry_is_scanned_back<K: Encoding, S: Scanner>(
     entries_convert_as_their_join(scanner, Converter::<K>::new())
 }
 
-/// The text of octets in base 16, cut into tokens anyhow, is scanned back to these octets, where
-/// there is room. So are all tokens whose join is a text of the encoding; others are refused as
-/// their join is as one token.
+/// The text of octets in base 16, cut into tokens anywhere, is parsed as these octets, if they fit.
+/// So are all tokens whose join is a text of the encoding. Other tokens are rejected as their join
+/// would be as one token.
 pub fn hex_entry_is_scanned_back<S: Scanner>(scanner: &mut S) -> Result<S::Octets, S::Error>
     requires { S.can_scan scanner.old }
     ensures ready { S.can_scan scanner.new }
@@ -37,7 +37,8 @@ pub fn hex_entry_is_scanned_back<S: Scanner>(scanner: &mut S) -> Result<S::Octet
     entry_is_scanned_back::<Base16, S>(scanner)
 }
 
-/// The text of octets in base32hex, cut into tokens anyhow, is scanned back, as in base 16.
+/// The text of octets in base32hex, cut into tokens anywhere, is parsed as these octets, as in base
+/// 16.
 pub fn base32hex_entry_is_scanned_back<S: Scanner>(scanner: &mut S) -> Result<S::Octets, S::Error>
     requires { S.can_scan scanner.old }
     ensures ready { S.can_scan scanner.new }
@@ -47,7 +48,8 @@ pub fn base32hex_entry_is_scanned_back<S: Scanner>(scanner: &mut S) -> Result<S:
     entry_is_scanned_back::<Base32Hex, S>(scanner)
 }
 
-/// The text of octets in base 64, cut into tokens anyhow, is scanned back, as in base 16.
+/// The text of octets in base 64, cut into tokens anywhere, is parsed as these octets, as in base
+/// 16.
 pub fn base64_entry_is_scanned_back<S: Scanner>(scanner: &mut S) -> Result<S::Octets, S::Error>
     requires { S.can_scan scanner.old }
     ensures ready { S.can_scan scanner.new }

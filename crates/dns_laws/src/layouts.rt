@@ -1,4 +1,4 @@
-//! Laws on layouts and splitting.
+//! Laws of layouts and splitting.
 ghost use Rattle.std.specs.Prelude.{◌≡◌, ◌≢◌, ◌↔◌, ◌<◌, List, [], ℕ, All, IfOk, IfErr, IsOk, Some, string_bytes};
 ghost use Rattle.dns_split.specs.Answer.{entries_of};
 ghost use Rattle.dns_split.specs.Splitting.{BeginsNoBlank, Entries, Splits};
@@ -20,20 +20,20 @@ use std::alloc::{AllocError, Allocator};
 use std::error::Error;
 use std::fmt;
 
-/// Each layout of a well-formed document splits into its entries, and into nothing else.
+/// Each layout of a well-formed document splits into the document's entries, and into no others.
 pub fn layouts_split()
     ensures { (kind : DisplayKind) (steps : List Step) → IsWellFormed steps
         → MeansOnly (printed kind steps) steps }
 {}
 
-/// No layout of a well-formed document begins a line with a blank, but inside parentheses.
+/// No layout of a well-formed document begins a line with a blank, except inside parentheses.
 pub fn layouts_begin_no_blank()
     ensures { (kind : DisplayKind) (steps : List Step) → IsWellFormed steps
         → BeginsNoBlank (printed kind steps) }
 {}
 
-/// The entries of a text are a well-formed document, whose simple layout splits into them again;
-/// it has the same bytes exactly for the same entries.
+/// The entries of a text are a well-formed document, whose simple layout splits into the same
+/// entries. Two texts have the same entries exactly if these layouts have the same bytes.
 pub fn normal_form()
     ensures formed { (text : List ℕ) (e : Entries) → Splits text e → IsWellFormed (document_of e) }
     ensures alike { (text : List ℕ) (e : Entries) → Splits text e → Splits (normal_text e) e }
@@ -42,7 +42,7 @@ pub fn normal_form()
 {}
 
 /// The text of every value that states a well-formed document splits into that document's entries,
-/// and into nothing else; no line of it begins with a blank, but inside parentheses.
+/// and into no others. No line of it begins with a blank, except inside parentheses.
 pub fn values_split<A: Allocator, T: ZonefileFmt>(
     alloc: A,
     value: &T,
@@ -58,7 +58,7 @@ pub fn values_split<A: Allocator, T: ZonefileFmt>(
 }
 
 /// The text of every value whose document is always well-formed splits into that document's
-/// entries, and into nothing else; no line of it begins with a blank, but inside parentheses.
+/// entries, and into no others. No line of it begins with a blank, except inside parentheses.
 pub fn zone_tokens_split<A: Allocator, T: ZoneTokens>(
     alloc: A,
     value: &T,
@@ -72,18 +72,19 @@ pub fn zone_tokens_split<A: Allocator, T: ZoneTokens>(
     values_split(alloc, value, kind)
 }
 
-/// The zone text of a name of one label or more is one word, whatever octets its labels have.
+/// The zone file text of a name with at least one label is one word, whatever octets its labels
+/// have.
 pub fn zone_names_are_words()
     ensures { (name : List (List ℕ)) → name ≢ [] → All (λ o. o < 256) (wire name)
         → IsWord (zone_text name) }
 {}
 
-/// Why a list of items was not printed and split.
+/// The error if a list of items couldn't be printed and split.
 #[derive(Clone, Copy, Debug, PartialEq, Eq)]
 pub enum Refusal {
-    /// The list is not well-formed; this is its first fault.
+    /// The list isn't well-formed, by its first error.
     Document(DocumentError),
-    /// Memory was refused. No other refusal of `split` comes.
+    /// An allocation failed. `split` has no other error here.
     Split(SplitError),
 }
 
@@ -116,7 +117,7 @@ impl From<AllocError> for Refusal {
 /// Makes a document of a list of items, prints it, and splits the text.
 ///
 /// The text has exactly the bytes of the layout and splits, in one way only, into the document's
-/// entries and tokens. No line of it begins with a blank, but inside parentheses.
+/// entries and tokens. No line of it begins with a blank, except inside parentheses.
 pub fn items_split<A: Allocator + Copy>(
     alloc: A,
     items: Vec<Item<A>, A>,

@@ -1,14 +1,14 @@
-//! Laws that join crates, the headline first.
+//! Laws that relate several crates, the headline first.
 //!
-//! - [`headline`]: each layout of a document splits into its entries alone, and what was printed of
-//!   a number, an encoding or a character string is scanned back.
-//! - [`lines`]: entry lines; all of this holds of them without a premise of form.
+//! - [`headline`]: each layout of a document splits into its entries alone, and a printed number,
+//!   encoding or character string parses as the same value.
+//! - [`lines`]: entry lines, of which all of this holds without a premise on their form.
 //! - [`layouts`]: each of the three layouts splits into its document's entries and tokens, and into
-//!   nothing else.
-//! - [`encodings`]: what tokens convert to, and [`entries`], what all tokens of an entry do.
-//! - [`names`]: the texts of absolute names.
-//! - [`numbers`]: a printed number is scanned back.
-//! - [`readers`]: what scanners and fields of record data read alike.
+//!   no others.
+//! - [`encodings`]: the octets of a token, and [`entries`], those of all tokens of an entry.
+//! - [`names`]: the presentation format of absolute names.
+//! - [`numbers`]: a printed number parses as the same number.
+//! - [`readers`]: tokens that scanners and fields of RDATA parse as the same value.
 //! - [`strings`]: character strings as tokens of a document.
 #![tactic(auto)]
 
@@ -21,7 +21,7 @@ pub mod numbers;
 pub mod readers;
 pub mod strings;
 
-/// The headline: what is printed means one thing, and is read back as that.
+/// The headline: what is printed has one meaning, and parses as that.
 pub mod headline {
     pub use crate::encodings::{
         base32hex_is_scanned_back, base64_is_scanned_back, hex_is_scanned_back,

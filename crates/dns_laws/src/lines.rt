@@ -1,5 +1,5 @@
-//! Laws on entry lines: each layout is one entry with a token a field, and each token is scanned
-//! back.
+//! Laws of entry lines: each layout is one entry with a token for each field, and each token parses
+//! as its field.
 ghost use Rattle.std.specs.Prelude.{◌≡◌, List, IfErr, IfOk, IsOk, string_bytes};
 ghost use Rattle.dns_scan.specs.Stands.{TakesAs};
 ghost use Rattle.dns_split.specs.Answer.{entries_of};
@@ -43,12 +43,12 @@ pub fn lines_split<A: Allocator, B: Allocator>(
     values_split(alloc, line, kind)
 }
 
-/// Why fields were not printed as a line and split.
+/// The error if fields couldn't be printed as a line and split.
 #[derive(Clone, Copy, Debug, PartialEq, Eq)]
 pub enum Refusal {
-    /// The fields are no line; this says where.
+    /// The fields aren't a line; the error has the index of the field.
     Line(EntryError),
-    /// Memory was refused. No other refusal of `split` comes.
+    /// An allocation failed. `split` has no other error here.
     Split(SplitError),
 }
 
@@ -82,19 +82,19 @@ pub fn fields_split<A: Allocator + Copy>(
     }
 }
 
-/// What was scanned of a field's token.
+/// The value that a field's token was parsed as.
 #[derive(Drop)]
 pub enum Scanned<Octets: AsOctets> {
     /// A number.
     Number(u32),
-    /// Octets out of an encoding.
+    /// Octets from an encoding.
     Octets(Octets),
     /// A character string.
     Text(CharStr<Octets>),
 }
 
-/// The token of a field, of a quoted one what stands between its quotes, is scanned back by the
-/// field's kind, where there is room for its octets.
+/// The token of a field, or the text between the double quotes of a quoted one, is parsed as the
+/// field's value by the field's kind, if its octets fit.
 pub fn fields_are_scanned_back<S: Scanner>(
     scanner: &mut S,
     kind: FieldKind,

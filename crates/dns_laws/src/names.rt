@@ -1,4 +1,4 @@
-//! Laws on the texts of names.
+//! Laws of the presentation format of names.
 ghost use Rattle.std.specs.Prelude.{◌≡◌, ◌≤◌, Ok};
 ghost use Rattle.dns_scan.specs.Stands.{TakesOne};
 ghost use Rattle.dns_wire.specs.Wire.{wire_length};
@@ -9,9 +9,9 @@ use dns_iter::{IterScanner, ScanOctets};
 use dns_scan::{Scanner, ScannerError};
 use dns_wire::Name;
 
-/// A text that reads as an absolute name is scanned as that name, where there is room. So are the
-/// text of the name with its final dot, and its zone text. A text that reads as a relative name of
-/// one label or more is scanned as that name with the root after it, and so is its zone text.
+/// A text that is an absolute name is parsed as that name, if it fits. So are the text of the name
+/// with its final dot, and its zone file text. A text that is a relative name with at least one
+/// label is parsed as that name with the root appended, and so is its zone file text.
 pub fn names_are_scanned_back<
     'a,
     Iter: Iterator<Item = &'a str>,
@@ -26,8 +26,9 @@ pub fn names_are_scanned_back<
     scanner.scan_name()
 }
 
-/// Where the octets of a name surely fit, as those of each name fit an array of 255, the name is
-/// returned: of a text that reads as it, of its zone text, and of both without the root.
+/// If the octets of a name fit the guaranteed capacity, as those of every name fit an array of 255,
+/// the name is returned: for a text that is that name, for its zone file text, and for both without
+/// the root.
 pub fn fitting_names_are_answered<
     'a,
     Iter: Iterator<Item = &'a str>,

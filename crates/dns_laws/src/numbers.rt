@@ -1,4 +1,4 @@
-//! Laws on numbers: a printed one is scanned back.
+//! Laws of numbers: a printed number parses as the same number.
 ghost use Rattle.std.specs.Prelude.{◌≡◌, ℕ, List, ◌∷◌, Result};
 ghost use Rattle.std.proofs.Common.{lit<};
 ghost use Rattle.dns_symbol.specs.Cause.{Cause};
@@ -11,15 +11,15 @@ ghost use Rattle.dns_laws.specs.NumberLaws.{read_of};
 use dns_octets::Ttl;
 use dns_scan::{Scan, Scanner};
 
-/// A type of numbers that are scanned: `u8` to `u128`, and [`Ttl`] as its seconds.
+/// A type of numbers that can be parsed: `u8` to `u128`, and [`Ttl`] in seconds.
 pub trait Number<S: Scanner>: Scan<S> {
     // The greatest number.
     ghost limit: { ℕ };
 
-    // The number that a value is.
+    // The number of a value.
     ghost number: { Self → ℕ };
 
-    // Whatever a token is read as is its number, or a refusal of it, and the others are left.
+    // A token is parsed as its number or rejected, and the other tokens are left.
     ghost reads_number: { (token : Token) (others rest : List Token) (r : Result Self Cause) → Self.scan_reads (token ∷ others) r rest
         → NumberBack limit number (λ why. why) token r × (rest ≡ others) };
 }
@@ -72,12 +72,12 @@ impl<S: Scanner> Number<S> for Ttl {
     ghost reads_number = { read_of 32 (lit< tt) };
 }
 
-/// The decimal text of a number that the type holds is scanned back to exactly this number; no
-/// room or memory is wanted. So is each token of plain digits of its value, zeros before them too;
-/// the empty token is 0.
+/// The decimal text of a number of the type is parsed as exactly this number, without allocating.
+/// So is every token of plain digits with that value, also with leading zeros; the empty token is
+/// 0.
 ///
-/// Any other token is refused, by its first fault: a symbol that is no plain digit, a value above
-/// the greatest, or a bad escape.
+/// Any other token is rejected, with its first error: a symbol that isn't a plain digit, a value
+/// above the greatest, or a bad escape.
 pub fn number_is_scanned_back<N: Number<S>, S: Scanner>(scanner: &mut S) -> Result<N, S::Error>
     requires { S.can_scan scanner.old }
     ensures ready { S.can_scan scanner.new }

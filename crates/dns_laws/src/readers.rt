@@ -1,8 +1,8 @@
-//! Laws that join the two readers of zone text: scanners, which read tokens of characters, and
-//! fields of record data, which are read of tokens of octets.
+//! Laws that relate the two parsers of zone files: scanners, which parse tokens of characters, and
+//! fields of RDATA, which parse tokens of octets.
 //!
-//! A token that both take has one value, but for `@`, which is a label for scanners and the origin
-//! in record data. Each law says which tokens these are.
+//! A token that both accept has one value, except `@`, which is a label for scanners and the origin
+//! in RDATA. Each law states which tokens these are.
 ghost use Rattle.std.specs.Prelude.{◌≡◌, ◌≢◌, ◌↔◌, ◌≤◌, ℕ, Bool, false, List, [], ◌∷◌, length, Option, Some, None, Ok};
 ghost use Rattle.std.specs.Int.{to_be_bytes, w16, w32};
 ghost use Rattle.std.specs.List.{concat};
@@ -27,10 +27,10 @@ ghost use Rattle.dns_laws.specs.Readers.{HasNoBackslash, HasNoBinary, IsPrintabl
 
 use dns_octets::AsOctets;
 
-/// A scanner reads a token as octets exactly if the token is printable ASCII and spells these
-/// octets in record data. Other octets, as a tab, stand for themselves there, and scanners refuse
-/// them. Of at most 255 octets the token spells a character string (RFC 1035 section 3.3), in quotes
-/// or not.
+/// A scanner parses a token as octets exactly if the token is printable ASCII and spells these
+/// octets in RDATA. Other octets, such as a tab, denote themselves in RDATA, and scanners reject
+/// them. If the octets are at most 255, the token spells a character string (RFC 1035 section 3.3),
+/// quoted or not.
 pub fn strings_are_read_alike()
     ensures octets { (text octets : List ℕ)
         → HasOctets text octets ↔ (IsPrintableText text × SpellsOctetList text octets) }
@@ -39,11 +39,11 @@ pub fn strings_are_read_alike()
         → (field_form origin StringField).spells quoted text (wire_of octets) }
 {}
 
-/// A scanner reads a token as an absolute name exactly if the token is printable ASCII, begins no
-/// label with an escaped bracket, and spells that name in record data without an origin (RFC 1035
-/// section 5.1). Before any origin it spells the same name. A relative name of one label or more
-/// spells its labels and then the origin's, where these are at most 255 octets together; `@` alone,
-/// which is a label for scanners, spells the origin.
+/// A scanner parses a token as an absolute name exactly if the token is printable ASCII, begins no
+/// label with an escaped bracket, and spells that name in RDATA without an origin (RFC 1035 section
+/// 5.1). With any origin it spells the same name. A relative name with at least one label spells
+/// its labels followed by the origin's, if these are at most 255 octets together. `@` alone, which
+/// is a label for scanners, spells the origin.
 pub fn names_are_read_alike<Octets: AsOctets>()
     ensures absolute { (text : List ℕ) (name : List (List ℕ))
         → ReadsAs {O = Octets} text (Absolute name)
@@ -58,8 +58,8 @@ pub fn names_are_read_alike<Octets: AsOctets>()
         × (field_form (Some others) NameField).spells false text form) }
 {}
 
-/// A scanner reads a token that isn't empty as a number exactly if it spells that number in record
-/// data, and the number is within the limit. So do fields of 8, 16 and 32 bits.
+/// A scanner parses a token that isn't empty as a number exactly if it spells that number in RDATA,
+/// and the number is within the limit. The same holds of fields of 8, 16 and 32 bits.
 pub fn numbers_are_read_alike()
     ensures number { (limit n : ℕ) (token : Token) → token ≢ []
         → NumberReads limit token (Ok n) ↔ (SpellsNumber token n × (n ≤ limit)) }
@@ -68,10 +68,10 @@ pub fn numbers_are_read_alike()
     ensures thirty_two { IsReadAlike 32 (to_be_bytes w32) Number32 }
 {}
 
-/// Tokens that spell octets in digits of record data, cut anywhere, are scanned as these octets. A
-/// text that both take has the same octets. What a scanner takes without escapes spells octets in
-/// record data too in base 16, and else where the digits are whole groups, so that none has bits to
-/// spare.
+/// Tokens that spell octets in digits of RDATA, cut anywhere, are parsed by scanners as these
+/// octets. A text that both accept has the same octets. A text without escapes that a scanner
+/// accepts spells octets in RDATA too in base 16, and in the others if the digits are whole groups,
+/// so that no bits remain.
 pub fn digits_are_read_alike()
     ensures read { (b : Base) → IsEncoding b → (tokens : List Token) (octets : List ℕ)
         → SpellsDigits b (concat tokens) octets

@@ -1,4 +1,4 @@
-//! Laws on character strings in zone text.
+//! Laws of character strings in zone files.
 ghost use Rattle.std.specs.Prelude.{◌<◌, length, IfOk};
 ghost use Rattle.dns_zone.specs.Layout.{token};
 ghost use Rattle.dns_scan.specs.Octets.{unquoted_token};
@@ -9,7 +9,7 @@ use dns_octets::AsOctets;
 use dns_zone::document::{Document, DocumentError, Item};
 use std::alloc::{AllocError, Allocator};
 
-/// The unquoted text of a character string that isn't empty is taken as a token of a document.
+/// The unquoted form of a character string that isn't empty is accepted as a token of a document.
 pub fn unquoted_text_is_a_token<A: Allocator + Copy, Octs: AsOctets>(
     alloc: A,
     string: &CharStr<Octs>,

@@ -6,7 +6,7 @@ use Rattle.dns_scan.specs.Tokens.{Token}
 use Rattle.dns_laws.specs.Numbers.{NumberBack}
 use Rattle.dns_laws.proofs.numbers.number_is_scanned_back.Goals as goal
 
--- what a token is read as is what a scanner gives
+-- what a token is parsed as is what a scanner returns
 number_scanned : (limit : ℕ) (token : Token) {N E : Type 0} (number : N → ℕ) (cause : E → Cause) (r : Result N E) → NumberBack limit number (λ why. why) token (by_cause cause r) → NumberBack limit number cause token r
 number_scanned limit token number cause (Ok n) h = record { printed = h.printed; whole = h.whole; only = h.only; refused = h.refused }
 number_scanned limit token number cause (Err e) h = record { printed = h.printed; whole = h.whole; only = h.only; refused = h.refused }
