@@ -1,4 +1,4 @@
--- What was read of a list of tokens, as what a scanner answered.
+-- The result of a list of tokens, as the result of a scanner.
 use Rattle.std.proofs.Common.{ℕ, ◌≡◌, ◌<◌, List, [], ◌∷◌, ◌++◌, length, refl, append-nil, arith, ◌⊎◌, inl, inr, ⊎_elim, subst, ap, ◌∙◌, Option, Result, Ok, Err}
 use Rattle.std.specs.Prelude.{IsOkAnd}
 use Rattle.dns_octets.specs.Room.{Room}
@@ -15,7 +15,7 @@ use Rattle.dns_scan.specs.Octets.{GivesWhere}
 use Rattle.dns_record.specs.Values.{Value, hex, base64_octets, IsText, AreTexts, MayLack, SomeMayLack}
 
 module _ {S T E : Type 0} (next : S → Option Token → S → Type 0) (cause : E → Cause) (room : Room) (values : T → List Value) (wanted : List Value) (others rest : List Token) (new : S) where
-  -- where these are some of all fields
+  -- if these are some of all fields
   pub scanned_back : (all : List Value) → (SomeMayLack room wanted → SomeMayLack room all) → (r : Result T E) → FieldBack room values wanted others (by_cause cause r) rest → HasTokens next new rest
       → ReadsBack next cause room values wanted all others r new
   scanned_back all among (Ok x) (inl h) stands = inl (h.0, subst (HasTokens next new) h.1 stands)
@@ -23,7 +23,7 @@ module _ {S T E : Type 0} (next : S → Option Token → S → Type 0) (cause : 
   scanned_back all among (Err e) (inl h) stands = absurd h.0
   scanned_back all among (Err e) (inr h) stands = inr (h.0, among h.1)
 
--- ---- octets that are all that is left
+-- ---- octets that are all remaining tokens
 
 one_text : (v : Value) (text : Token) → ((t : Token) → IsText v t → t ≡ text) → (tokens : List Token) → AreTexts (v ∷ []) tokens [] → tokens ≡ text ∷ []
 one_text v text only [] texts = absurd texts
@@ -47,19 +47,19 @@ module _ {S O E : Type 0} (next : S → Option Token → S → Type 0) (cause : 
       by (Ok s) is e = ap (λ l. make l ∷ []) (e ∙ is)
       by (Err x) is e = e
 
-  -- where such a field may lack room for its octets
+  -- if such a field may lack capacity for its octets
   pub no_rest : {T : Type 0} (values : T → List Value) (wanted : List Value) (e : E) → (room.fits < length octets → MayLack room (make octets)) → GivesWhere cause value room octets (Err e)
       → ReadsBack {T = T} next cause room values wanted (past ++ make octets ∷ []) [] (Err e) new
   no_rest values wanted e may gives = ⊎_elim (λ is. absurd is) (λ lack. inr (inl lack.0, may_after room past (make octets ∷ []) (inl (may lack.1)))) gives
 
 -- ---- fields, and then the last of them
 
--- what went well lacked nothing
+-- what succeeded lacked nothing
 pub went : {A M : Type 0} → A ⊎ ((⊥ ⊎ ⊥) × M) → A
 went (inl a) = a
 went (inr n) = ⊎_elim (λ e. absurd e) (λ e. absurd e) n.0
 
--- and what was refused lacks the same, whatever was to be left
+-- and what failed lacks the same, whatever was to remain
 pub lacked : {A B L : Type 0} → (⊥ × A) ⊎ L → (⊥ × B) ⊎ L
 lacked (inl n) = absurd n.0
 lacked (inr l) = inr l

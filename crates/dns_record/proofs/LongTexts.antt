@@ -1,4 +1,4 @@
--- A text of any length, as it is scanned from a token: the scanner's octets, and the list that they are.
+-- A text of any length, as it is parsed from a token: the scanner's octets, and the list that they are.
 use Rattle.std.proofs.Common.{ℕ, ◌≡◌, ◌∙◌, List, refl, ap, Option, Some, None, Result, Ok, Err}
 use Rattle.std.specs.Prelude.{IsOkAnd, MatchOption, MatchResult}
 use Rattle.dns_octets.specs.Room.{Room}

@@ -1,4 +1,4 @@
--- No text of a value is the marker of generic data.
+-- No text of a value is the marker of unknown RDATA.
 use Rattle.std.proofs.Common.{ℕ, ◌≡◌, ◌<◌, ◌^◌, Bool, true, false, List, [], ◌∷◌, ◌++◌, map, refl, sym, ap, subst, ◌∙◌, arith, inl, inr, Option, Some, None, Ok}
 use Rattle.std.specs.Prelude.{All, if◌then◌else◌}
 use Rattle.std.specs.List.{AllZip}
@@ -32,7 +32,7 @@ marker_read : SymbolsOf marker sign None
 unfolding sign lib.Utf8.encode
 marker_read = record { rest = []; readable = refl; spelled = refl; ends = refl }
 
--- so a text of other symbols is no marker
+-- so a text of other symbols isn't the marker
 other_symbols : (text : Token) (symbols : List Symbol) → SymbolsOf text symbols None → text ≡ marker → symbols ≡ SimpleEscape 35 ∷ []
 unfolding sign
 other_symbols text symbols read is = (symbols_same text symbols sign None None read (subst (λ (t : Token). SymbolsOf t sign None) (sym is) marker_read)).0
@@ -99,7 +99,7 @@ no_value (string octets) t is text at = no_string t octets is.0 text at
 no_value (listed octets) t is text at = no_string t octets is.0 text at
 no_value (long_text octets) t is text at = no_string t octets is text at
 
--- a call that asks for the marker takes it where it comes first, and else nothing
+-- a call for the marker consumes it if it comes first, and else nothing
 module _ {S : Type 0} (next : S → Option Token → S → Type 0) (old new : S) (tokens : List Token) (stands : HasTokens next old tokens) where
   pub marked : (b : Bool) → b ≡ true → MarkerCall {E = Cause} next old (Ok b) new → (first_of tokens ≡ Some marker) × HasTokens next new (others_of tokens)
   marked true e call = let took = stands_takes next old tokens (Some marker) new stands call in (sym took.0, took.1)
@@ -109,7 +109,7 @@ module _ {S : Type 0} (next : S → Option Token → S → Type 0) (old new : S)
   unmarked true e call = cc
   unmarked false e call = let left = peeked next old new call.0 tokens stands call.1 in (λ first. call.2 (left.0 ∙ first), left.1)
 
--- the first text of some values is none
+-- the first text of some values isn't the marker
 pub no_marker : (values : List Value) (tokens : List Token) → AreFields values → AreTexts values tokens [] → first_of tokens ≡ Some marker → ⊥
 no_marker [] tokens is texts e = absurd (omega (arith, is.1))
 no_marker (v ∷ vs) [] is texts e = absurd texts

@@ -1,4 +1,4 @@
--- The text of a record's data is one entry.
+-- The text of a record's RDATA is one entry.
 use Rattle.std.proofs.Common.{ℕ, ◌≡◌, List, [], ◌∷◌, ap, sym, subst, ◌∙◌, Vec, String}
 use Rattle.dns_split.specs.Answer.{texts, entries_of}
 use Rattle.dns_split.specs.Splitting.{Entries, Splits, SplitsOnlyInto}
@@ -9,7 +9,7 @@ use Rattle.dns_record.specs.Parts.{Part, IsLaidOut, steps_of, values_of}
 use Rattle.dns_record.specs.Values.{AreValues}
 use Rattle.dns_record.proofs.Parts.{parts_entry, parts_formed, tokens_of}
 
--- what such a text splits into
+-- the entries that such a text splits into
 pub record_entry : (ps : List Part) (document : List Step) (text : List ℕ) (found : Entries) → document ≡ steps_of ps → AreValues (values_of ps) → IsLaidOut ps
     → (IsWellFormed document → SplitsOnlyInto text (document_entries document)) → Splits text found → found ≡ tokens_of ps ∷ []
 record_entry ps document text found is valid laid only splits =

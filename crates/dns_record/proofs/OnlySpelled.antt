@@ -1,4 +1,4 @@
--- What a call took is what its value's fields are spelled as.
+-- The tokens that a call consumed spell the fields of its value.
 use Rattle.std.proofs.Common.{ℕ, ◌≡◌, ◌<◌, ◌≤◌, List, [], ◌∷◌, length, refl, sym, ap, subst, arith, append-nil, ◌⊎◌, ⊎_elim, Option, Result, Ok, Err, Vec}
 use Rattle.std.specs.Prelude.{All, IsOkAnd}
 use Rattle.std.specs.List.{AllZip}
@@ -39,7 +39,7 @@ module _ {S E : Type 0} (next : S → Option Token → S → Type 0) (cause : E 
   scanned_only values reads only rest (Ok x) h stands = (rest, only x tokens rest h, stands)
   scanned_only values reads only rest (Err e) h stands = tt
 
-  -- of what is made of octets where there is one, and else refused
+  -- of the value of octets if there is one, and else rejected
   made_same : {V : Type 0} (xs : List V) (s : List V) → (0 < length xs → IsOkAnd {E = E} (Ok s) (λ l. l ≡ xs)) → (length xs ≡ 0 → IsCause cause (Ok s) end_of_entry) → s ≡ xs
   made_same [] s made none = absurd (none refl)
   made_same (x ∷ xs) s made none = made (omega arith)

@@ -45,7 +45,7 @@ quote_symbols : (s : List ℕ) → All (λ o. o < 256) s → list_all is_quote_s
 quote_symbols [] h = refl
 quote_symbols (o ∷ os) h = rw (quote_symbol o (All-head (λ b. b < 256) o os h), quote_symbols os (All-tail (λ b. b < 256) o os h)) refl
 
--- the quoted text of some octets
+-- the quoted form of some octets
 string_quote : (s : List ℕ) → All (λ o. o < 256) s → IsQuote (encode_utf8_all (quoted_text s))
 string_quote s h = record {
   symbols = map (symbol_of is_quoted_escape) s;

@@ -1,4 +1,4 @@
--- Character strings that are all that is left.
+-- Character strings that are all remaining tokens.
 use Rattle.std.proofs.Common.{ℕ, ◌≡◌, ◌<◌, ◌≤◌, false, List, [], ◌∷◌, ◌++◌, length, refl, sym, ap, ◌∙◌, arith, subst, ⊎_elim, inl, inr, Vec, Option, Result, Ok, Err}
 use Rattle.std.specs.Prelude.{is_some, All, IsOkAnd, ◌⊎◌}
 use Rattle.std.specs.List.{AllZip}
@@ -23,7 +23,7 @@ pub known_values : (xs : List (List ℕ)) → All IsString xs → AreValues (str
 known_values [] h = tt
 known_values (x ∷ xs) h = (All-head IsString x xs h, known_values xs (All-tail IsString x xs h))
 
--- as many values as strings
+-- the values are equal in number to the strings
 pub some_strings : (xs : List (List ℕ)) → 0 < length (strings_of xs) → 0 < length xs
 some_strings [] h = h
 some_strings (x ∷ xs) h = omega arith
@@ -32,11 +32,11 @@ pub some_values : (xs : List (List ℕ)) → 0 < length xs → 0 < length (strin
 some_values [] h = h
 some_values (x ∷ xs) h = omega arith
 
--- where nothing was seen, nothing is left
+-- if nothing was seen, nothing remains
 pub none_stands : {S : Type 0} (next : S → Option Token → S → Type 0) (u v : S) (o : Option Token) (ts : List Token) → Peeks next u v o → false ≡ is_some o → HasTokens next v ts → ts ≡ []
 none_stands next u v o ts p none stands = none_left ts o (stands_takes next v ts o p.shown.0 stands p.shown.1).0 none
 
--- ---- all that is left
+-- ---- all that remains
 
 short_each : (xs : List (List ℕ)) → AreValues (strings_of xs) → All (λ s. length s ≤ 255) xs
 short_each [] is = All-nil (λ s. length s ≤ 255)

@@ -1,4 +1,4 @@
--- What is read of the texts of fields is their values.
+-- The texts of fields parse as their values.
 use Rattle.std.proofs.Common.{ℕ, ◌+◌, ◌≡◌, ◌<◌, ◌≤◌, ◌^◌, Bool, List, [], ◌∷◌, ◌++◌, length, length-append, map}
 use Rattle.std.proofs.Common.{refl, sym, ap, subst, ◌∙◌, arith, zero-add, inl, inr, ⊎_elim, None, Result, Ok, Err}
 use Rattle.std.specs.Prelude.{All, MatchResult, encode_utf8_all}
@@ -63,7 +63,7 @@ number32_back room v (t ∷ ts) others rest r is texts reads = number_back room 
 
 -- ---- character strings
 
--- each symbol gives its octet
+-- each symbol has its octet
 gives_each : (symbols : List Symbol) (octets : List ℕ) → map octet_of symbols ≡ map Ok octets → map octet_given symbols ≡ map Ok (map (λ o. o ∷ []) octets)
 gives_each [] [] e = refl
 gives_each [] (o ∷ os) e = cc
@@ -77,7 +77,7 @@ joined_each : (octets : List ℕ) → octets ≡ concat (map (λ o. o ∷ []) oc
 joined_each [] = refl
 joined_each (o ∷ os) = ap (λ l. o ∷ l) (joined_each os)
 
--- a fault at a symbol that gives its octet: there was no room for it
+-- an error at a symbol that has its octet: it didn't fit
 fault_short : (room : Room) (front rest : List Symbol) (octets : List ℕ) (parts : List (List ℕ)) (count : ℕ) (why : Cause)
     → map octet_of (front ++ rest) ≡ map Ok octets → map octet_given front ≡ map Ok parts
     → IsSymbolFault octet_given room (count + length (concat parts)) rest None why → room.fits < count + length octets
@@ -103,9 +103,9 @@ fault_short room (x ∷ xs) rest (o ∷ os) (p ∷ ps) count why is gives fault 
     let sum = length-append p (concat ps) in
     omega (arith, fault_short room xs rest os ps (count + 1) why others more (subst (λ n. IsSymbolFault octet_given room n rest None why) (omega arith) fault))
 
--- octets that are written as a character string, of a value that lacks room only where they do
+-- octets that are written as a character string, of a value that may not fit only if they may not
 module _ (make : List ℕ → Value) (room : Room) (octets : List ℕ) (lacks : room.fits < length octets → MayLack room (make octets)) where
-  -- room for all that may be held
+  -- the capacity for all octets
   abbrev size : ℕ
   size = room.capacity + length octets
 
@@ -227,7 +227,7 @@ module _ (room : Room) {A B : Type 0} (a_values : A → List Value) (b_values : 
 -- ---- names
 
 module _ (O : Type 0) {E : Type 0} (cause : E → Cause) (room : Room) where
-  -- what an iterator's scanner reads of a token
+  -- the result of an iterator's scanner for a token
   abbrev Reads : Token → Result (List (List ℕ)) E → Type 0
   Reads = ReadsToken O cause room
 

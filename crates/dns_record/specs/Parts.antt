@@ -1,4 +1,4 @@
--- The parts of a record's text: fields, and how the multiline layout sets them.
+-- The parts of a record's text: fields, and their arrangement in the multiline layout.
 use Rattle.std.specs.Prelude.{ℕ, ◌≡◌, ◌&&◌, Bool, true, List, [], ◌∷◌, map, encode_utf8_all}
 use Rattle.std.specs.Fmt.{decimal}
 use Rattle.std.specs.List.{list_all}
@@ -11,7 +11,7 @@ use Rattle.dns_zone.specs.Nesting.{is_nested}
 use Rattle.dns_wire.specs.ZoneText.{zone_text}
 use Rattle.dns_record.specs.Values.{Value, number8, number16, number32, name, hex, base64_octets, string, listed, long_text}
 
--- a field, a character string that needs no double quotes, a note on what stands before it, or a parenthesis of a block
+-- a field, a character string that needs no double quotes, a note on what precedes it, or a parenthesis of a block
 pub data Part : Type 0 where
   field : Value → Part
   unquoted : List ℕ → Part
@@ -19,7 +19,7 @@ pub data Part : Type 0 where
   opens : Part
   closes : Part
 
--- the token of a value: a character string stands between double quotes
+-- the token of a value: a character string is between double quotes
 abbrev pub value_token : Value → List ℕ
 value_token (number8 n) = decimal n
 value_token (number16 n) = decimal n

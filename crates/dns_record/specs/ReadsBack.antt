@@ -1,4 +1,4 @@
--- What is scanned of a record's text.
+-- The result of parsing the text of a record.
 use Rattle.std.specs.List.{concat}
 use Rattle.std.specs.Prelude.{List, [], ◌≡◌, ◌++◌, ◌⊎◌, Option, Result, IsOkAnd, codes}
 use Rattle.dns_octets.specs.Room.{Room}
@@ -9,44 +9,44 @@ use Rattle.dns_iter.specs.Name.{invalid_name}
 use Rattle.dns_record.specs.Spellings.{TakesOnlySpellings}
 use Rattle.dns_record.specs.Values.{Value, AreFields, AreTexts, AreValues, SomeMayLack}
 
--- the refusal of generic data (RFC 3597)
+-- the error of unknown RDATA (RFC 3597)
 abbrev pub generic_data : Cause
 generic_data = custom_text (codes "generic record data is not supported")
 
--- lack of room or memory, which a name calls "invalid domain name"
+-- the error for lack of capacity or memory, which for a name is "invalid domain name"
 abbrev pub Lacks : {T E : Type 0} → (E → Cause) → Result T E → Type 0
 Lacks cause r = IsCause cause r short_buf ⊎ IsCause cause r invalid_name
 
--- what is scanned of the texts of the wanted values, where others follow them and these tokens are left: a value of the same fields; or lack of room or memory, where one of these fields may lack it
+-- the result of parsing the texts of the wanted values, if others follow them and these tokens remain: a value of the same fields; or that error, if one of these fields may lack capacity
 abbrev pub ReadsBack : {S T E : Type 0} → (S → Option Token → S → Type 0) → (E → Cause) → Room → (T → List Value) → (wanted all : List Value) → List Token → Result T E → S → Type 0
 ReadsBack next cause room values wanted all others r new = (IsOkAnd r (λ y. values y ≡ wanted) × HasTokens next new others) ⊎ (Lacks cause r × SomeMayLack room all)
 
--- the same, of what is read of a list of tokens
+-- the same, of the result for a list of tokens
 abbrev pub FieldBack : {T : Type 0} → Room → (T → List Value) → List Value → List Token → Result T Cause → List Token → Type 0
 FieldBack room values wanted others r rest = (IsOkAnd r (λ y. values y ≡ wanted) × (rest ≡ others)) ⊎ (Lacks (λ why. why) r × SomeMayLack room wanted)
 
--- a call that takes the texts of a value's fields, and no other tokens, and leaves the tokens after them, where other fields of the record were before
+-- a call that parses the texts of a value's fields, and no other tokens; the tokens after them remain, where other fields of the record were before
 pub record TakesFields {S T E : Type 0} (next : S → Option Token → S → Type 0) (cause : E → Cause) (room : Room) (values : T → List Value) (old : S) (r : Result T E) (new : S) : Type 0 where
   pub back : (x : T) (past : List Value) (tokens others : List Token) → AreValues (values x) → AreTexts (values x) tokens others → HasTokens next old tokens
       → ReadsBack next cause room values (values x) (past ++ values x) others r new
-  -- the same, where the texts of more fields follow, which are left
+  -- the same, if the texts of more fields follow, which remain
   pub before : (x : T) (past more : List Value) (tokens others : List Token) → AreValues (values x ++ more) → AreTexts (values x ++ more) tokens others → HasTokens next old tokens
       → (middle : List Token) × AreValues more × AreTexts more middle others
       × ReadsBack next cause room values (values x) (past ++ (values x ++ more)) middle r new
-  -- whatever is taken spells the fields of the value
+  -- whatever is parsed spells the fields of the value
   pub only : TakesOnlySpellings next values old r new
 
--- a call that takes all tokens that are left as the texts of a value's fields, where other fields of the record were before
+-- a call that parses all remaining tokens as the texts of a value's fields, where other fields of the record were before
 abbrev pub ReadsLast : {S T E : Type 0} → (List Value → Type 0) → (S → Option Token → S → Type 0) → (E → Cause) → Room → (T → List Value) → S → Result T E → S → Type 0
 ReadsLast {T = T} are next cause room values old r new = (x : T) (past : List Value) (tokens : List Token) → are (values x) → AreTexts (values x) tokens [] → HasTokens next old tokens
     → ReadsBack next cause room values (values x) (past ++ values x) [] r new
 
--- a call that takes the texts of all fields of a record
+-- a call that parses the texts of all fields of a record
 abbrev pub TakesRecord : {S T E : Type 0} → (S → Option Token → S → Type 0) → (E → Cause) → Room → (T → List Value) → S → Result T E → S → Type 0
 TakesRecord {T = T} next cause room values old r new =
     (x : T) (tokens : List Token) → AreFields (values x) → AreTexts (values x) tokens [] → HasTokens next old tokens → ReadsBack next cause room values (values x) (values x) [] r new
 
--- tokens that are no octets are refused as an entry that ended early
+-- tokens without octets are rejected as an entry that ended early
 abbrev pub WantsSome : {S T E : Type 0} → (S → Option Token → S → Type 0) → (E → Cause) → S → Result T E → Type 0
 WantsSome next cause old r = OfTokens next old (λ tokens. concat tokens ≡ [] → IsCause cause r end_of_entry)
 

@@ -1,4 +1,4 @@
--- Worked examples of the definitions, computed.
+-- Computed examples of the definitions.
 use Rattle.std.specs.Prelude.{ℕ, ◌≡◌, List, [], ◌∷◌, length, map, Some, None, codes, refl}
 use Rattle.std.proofs.Common.{ap, arith, lit≤, replicate}
 use Rattle.std.specs.Char.{encode_utf8}
@@ -25,7 +25,7 @@ ten = (
 nothing : IsDecimalOf 8 0 []
 nothing = ([], record { rest = []; readable = refl; spelled = refl; ends = refl }, record { digits = []; plain = refl; value = refl; small = lit≤ tt })
 
--- a letter is no number
+-- a letter isn't a number
 letter : SymbolsOf (codes "x") (Char 120 ∷ []) None
 unfolding encode_utf8
 letter = record { rest = []; readable = refl; spelled = refl; ends = refl }
@@ -37,7 +37,7 @@ no_digits symbols (d ∷ ds) is plain = let e : map plain_digit_of symbols ≡ N
 no_number : IsDecimalOf 16 0 (codes "x") → ⊥
 no_number is = no_digits is.0 is.2.digits (symbols_same (codes "x") is.0 (Char 120 ∷ []) None None is.1 letter).0 is.2.plain
 
--- an escape stands for its octet
+-- an escape denotes its octet
 escaped : IsStringOf (codes "foop") (codes "foo\\112")
 unfolding encode_utf8
 escaped = (
@@ -45,7 +45,7 @@ escaped = (
   lit≤ tt,
 )
 
--- 256 octets are a text of any length, and no character string
+-- 256 octets are a text of any length, and aren't a character string
 a_text : IsSpellingOf (long_text (replicate 256 97)) (replicate 256 97 ∷ [])
 unfolding encode_utf8
 a_text = (
@@ -68,6 +68,6 @@ in_two = record {
   decodes = record { chars = codes "CaFE"; digits = 12 ∷ 10 ∷ 15 ∷ 14 ∷ []; valued = (refl, (refl, (refl, (refl, tt)))); count = refl; spelled = refl; value_is = refl };
 }
 
--- each field takes its tokens, and the others are left
+-- each field consumes its tokens, and the others remain
 in_turn : AreSpellingsOf (number16 10 ∷ string (codes "foop") ∷ []) (codes "10" ∷ codes "foo\\112" ∷ codes "a" ∷ []) (codes "a" ∷ [])
 in_turn = (codes "10" ∷ [], codes "foo\\112" ∷ codes "a" ∷ [], refl, (codes "10", refl, ten), (codes "foo\\112" ∷ [], codes "a" ∷ [], refl, (codes "foo\\112", refl, escaped), refl))

@@ -17,7 +17,7 @@ strings_of xs = values_of (string_parts xs)
 abbrev pub string_steps : List (List ℕ) → List Step
 string_steps = map string_step
 
--- what a character string can hold
+-- the possible values of a character string
 abbrev pub IsString : List ℕ → Type 0
 IsString s = All (λ o. o < 256) s × (length s ≤ 255)
 

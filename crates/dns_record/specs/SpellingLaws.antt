@@ -1,4 +1,4 @@
--- What is read of tokens is what they spell.
+-- Tokens parse as the values that they spell.
 use Rattle.std.proofs.Common.{ℕ, ◌≡◌, List, [], ◌∷◌, ◌++◌, map, refl, sym, ap, subst, ◌∙◌, arith, inl, inr, Option, Result, Ok, Err}
 use Rattle.std.specs.List.{concat}
 use Rattle.dns_octets.specs.Room.{Room, within}

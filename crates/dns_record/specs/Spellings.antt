@@ -1,4 +1,4 @@
--- The tokens that are read as the values of a record's fields.
+-- The tokens that parse as the values of a record's fields.
 use Rattle.std.specs.Prelude.{ℕ, List, [], ◌∷◌, ◌++◌, ◌≡◌, ◌≢◌, ◌⊎◌, ◌≤◌, length, Option, None, Result, IfOk}
 use Rattle.std.specs.List.{concat}
 use Rattle.dns_symbol.specs.declared.symbol.Symbol.{Symbol}
@@ -14,11 +14,11 @@ use Rattle.dns_name.specs.declared.name.UncertainName.TheVariants.{Absolute, Rel
 use Rattle.dns_codec.specs.Grammar.{IsEncodingOf}
 use Rattle.dns_record.specs.Values.{Value, number8, number16, number32, name, hex, base64_octets, string, listed, long_text}
 
--- the token is plain digits of that number, which has at most so many bits; no digit is 0
+-- the token is plain digits of that number, which has at most these bits; no digit is 0
 abbrev pub IsDecimalOf : ℕ → ℕ → Token → Type 0
 IsDecimalOf bits n token = (symbols : List Symbol) × SymbolsOf token symbols None × IsNumber (greatest bits) symbols n
 
--- the token is a name of these labels, with the final dot; or without it, where the root comes after the name's own labels
+-- the token is a name of these labels, with the final dot; or without it, if the root comes after the name's own labels
 abbrev pub IsNameOf : List (List ℕ) → Token → Type 0
 IsNameOf labels token =
     ReadsAs {O = ℕ} token (Absolute labels)
@@ -28,7 +28,7 @@ IsNameOf labels token =
 abbrev pub IsStringOf : List ℕ → Token → Type 0
 IsStringOf octets token = HasOctets token octets × (length octets ≤ max_string)
 
--- there is one token, of which this holds
+-- there is one token, which satisfies a predicate
 abbrev pub IsOneToken : (Token → Type 0) → List Token → Type 0
 IsOneToken P tokens = (t : Token) × (tokens ≡ t ∷ []) × P t
 
@@ -49,7 +49,7 @@ abbrev pub AreSpellingsOf : List Value → List Token → List Token → Type 0
 AreSpellingsOf [] tokens others = tokens ≡ others
 AreSpellingsOf (v ∷ vs) tokens others = (own : List Token) × (more : List Token) × (tokens ≡ own ++ more) × IsSpellingOf v own × AreSpellingsOf vs more others
 
--- a call that went well took spellings of its value's fields, and the tokens after them are left
+-- a call that succeeded consumed spellings of its value's fields, and the tokens after them remain
 abbrev pub TakesSpellings : {S T E : Type 0} → (S → Option Token → S → Type 0) → (T → List Value) → List Token → Result T E → S → Type 0
 TakesSpellings next values tokens r new = IfOk r (λ y. (others : List Token) × AreSpellingsOf (values y) tokens others × HasTokens next new others)
 

@@ -1,4 +1,4 @@
--- The values of a record's fields, and the texts that are scanned as them.
+-- The values of a record's fields, and the texts that parse as them.
 use Rattle.std.specs.Prelude.{ℕ, ◌≡◌, ◌⊎◌, ◌<◌, ◌≤◌, ◌^◌, List, [], ◌∷◌, length, All}
 use Rattle.std.specs.Fmt.{decimal}
 use Rattle.std.specs.List.{AllByRecursion}
@@ -21,7 +21,7 @@ pub data Value : Type 0 where
   listed : List ℕ → Value
   long_text : List ℕ → Value
 
--- what such a field can hold: an encoding of no octets would have no text
+-- the possible values of such a field: an encoding of no octets would have no text
 abbrev pub IsValue : Value → Type 0
 IsValue (number8 n) = n < 2 ^ 8
 IsValue (number16 n) = n < 2 ^ 16
@@ -40,7 +40,7 @@ AreValues = AllByRecursion IsValue
 abbrev pub AreFields : List Value → Type 0
 AreFields values = AreValues values × (0 < length values)
 
--- the text is that of the value, as it is scanned
+-- the text is that of the value, as it is parsed
 abbrev pub IsText : Value → Token → Type 0
 IsText (number8 n) text = text ≡ decimal n
 IsText (number16 n) text = text ≡ decimal n
@@ -58,7 +58,7 @@ AreTexts [] texts others = texts ≡ others
 AreTexts (v ∷ vs) [] others = ⊥
 AreTexts (v ∷ vs) (t ∷ ts) others = IsText v t × AreTexts vs ts others
 
--- such a field may lack room or memory, in a builder with that room: it has more octets, or it stands in a list
+-- such a field may fail with "short buffer": it exceeds the guaranteed capacity, or it is in a list
 abbrev pub MayLack : Room → Value → Type 0
 MayLack room (number8 n) = ⊥
 MayLack room (number16 n) = ⊥

@@ -1,4 +1,4 @@
-//! The fields of records: each is scanned back from the text that it prints.
+//! The fields of records: each parses from the text that it prints.
 ghost use Rattle.std.specs.Prelude.{◌≡◌, ◌<◌, List, [], ◌∷◌, ◌++◌, All, OnOk, Ok, Result};
 ghost use Rattle.dns_symbol.specs.Cause.{Cause};
 ghost use Rattle.dns_scan.specs.Reads.{ReadsFirstToken, OctetsRead};
@@ -96,7 +96,7 @@ impl<Octets: AsOctets> Model for LongText<Octets> {
 }
 
 impl<Octets: AsOctets> LongText<Octets> {
-    /// Returns the text of these octets.
+    /// Returns the octets as a text.
     pub fn new(octets: Octets) -> Self
         ensures { result ≡ Octets.octets octets }
     {
@@ -120,7 +120,7 @@ impl<Octets: AsOctets> FieldValue for LongText<Octets> {
     }
 }
 
-/// A token of any number of octets, as [`Scanner::scan_octets`] takes it.
+/// Parses a token of any number of octets, as [`Scanner::scan_octets`] does.
 impl<S: Scanner> Scan<S> for LongText<S::Octets> {
     ghost scan_reads = { ReadsFirstToken (OctetsRead S.OctetsBuilder.room) };
 
@@ -141,13 +141,13 @@ impl<A: FieldValue, B: FieldValue> FieldValue for (A, B) {
     }
 }
 
-/// A value that is scanned from the texts that it prints.
+/// A value that parses from the texts that it prints.
 pub trait Field<S: Scanner>: FieldValue + Scan<S> {
-    // Whatever is read of the texts of its fields is the value, or there is no room for a field.
+    // The texts of its fields parse as the value, or a field doesn't fit.
     ghost back: { (x : Self) (tokens others rest : List Token) (r : Result Self Cause) → AreValues (Self.values x) → AreTexts (Self.values x) tokens others
         → Self.scan_reads tokens r rest → FieldBack S.OctetsBuilder.room Self.values (Self.values x) others r rest };
 
-    // Whatever tokens are read as a value spell its fields.
+    // Tokens that parse as a value spell its fields.
     ghost only: { (x : Self) (tokens rest : List Token) → Self.scan_reads tokens (Ok x) rest → AreSpellingsOf (Self.values x) tokens rest };
 }
 
@@ -201,9 +201,9 @@ impl<'a, Iter: Iterator<Item = &'a str>, Octets: ScanOctets, E: ScannerError> Fi
     ghost only = { name_only Octets E.cause Octets.Builder.room };
 }
 
-/// Takes the texts of fields: they are scanned back to the same values, and the tokens after them
-/// are left. Where other fields follow, their texts are. Room or memory lacks only where a field of
-/// the record has more octets than surely fit. Tokens that spell no such fields are refused.
+/// Parses the texts of fields: they parse as the same values, and the tokens after them remain.
+/// Parsing their texts fails for lack of capacity or memory only if a field of the record exceeds
+/// the guaranteed capacity. Tokens that don't spell such fields are rejected.
 pub fn scan_fields<S: Scanner, T: Field<S>>(scanner: &mut S) -> Result<T, S::Error>
     requires { S.can_scan scanner.old }
     ensures ready { S.can_scan scanner.new }
@@ -213,7 +213,7 @@ pub fn scan_fields<S: Scanner, T: Field<S>>(scanner: &mut S) -> Result<T, S::Err
     T::scan(scanner)
 }
 
-/// Takes the texts of three values in a row, as [`scan_fields`] does those of one.
+/// Parses the texts of three values in a row, as [`scan_fields`] does those of one.
 pub fn scan_three<S: Scanner, A, B, C>(scanner: &mut S) -> Result<(A, B, C), S::Error>
 where
     A: Field<S> + Drop,
@@ -230,7 +230,7 @@ where
     Ok((a, b, c))
 }
 
-/// Takes the texts of five values in a row, as [`scan_fields`] does those of one.
+/// Parses the texts of five values in a row, as [`scan_fields`] does those of one.
 pub fn scan_five<S: Scanner, A, B, C, D, E>(scanner: &mut S) -> Result<(A, B, C, D, E), S::Error>
 where
     A: Field<S> + Drop,
@@ -262,7 +262,7 @@ pub fn write_quoted<F: FormatWriter, Octets: AsOctets>(
     p.write_token(string.display_quoted())
 }
 
-/// Prints a character string as one token: without double quotes, where it has octets.
+/// Prints a character string as one token: without double quotes, unless it is empty.
 pub fn write_unquoted<F: FormatWriter, Octets: AsOctets>(
     p: &mut F,
     string: &CharStr<Octets>,

@@ -1,5 +1,4 @@
-//! What an author of record types stands on: data that prints as the tokens of one entry, and is
-//! scanned back from them.
+//! The base of record types: RDATA that prints as the tokens of one entry, and parses from them.
 #![tactic(auto)]
 
 pub mod fields;

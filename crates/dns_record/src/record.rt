@@ -1,4 +1,4 @@
-//! Record data: values that print as the tokens of one entry, and are scanned back from them.
+//! RDATA: values that print as the tokens of one entry, and parse from them.
 ghost use Rattle.std.specs.Prelude.{◌≡◌, ◌≢◌, ◌⊎◌, List, [], ◌∷◌, IfOk, IfSome, IsOk, IsOkAnd, MatchResult};
 ghost use Rattle.dns_symbol.specs.Cause.{IsCause};
 ghost use Rattle.dns_scan.specs.Stands.{HasTokens, first_of, others_of, OfTokens};
@@ -18,10 +18,10 @@ use dns_split::splitting::split;
 use dns_zone::zonefile_fmt::{DisplayKind, ZonefileFmt};
 use std::alloc::Allocator;
 
-/// The data of a record over these octets, and over memory from `A` where it holds a list.
+/// The RDATA of a record over these octets, with memory from `A` for its lists.
 ///
-/// It states the parts of its text, prints them as one entry, and is scanned from what the tokens
-/// of an entry hold.
+/// It states the parts of its text, prints them as one entry, and is parsed from the contents of
+/// the tokens of an entry.
 pub trait RecordData<Octets: ScanOctets, A: Allocator + Copy>: ZonefileFmt {
     // The parts of the text.
     ghost parts: { Self → List Part };
@@ -31,8 +31,8 @@ pub trait RecordData<Octets: ScanOctets, A: Allocator + Copy>: ZonefileFmt {
     fn known(&self)
         ensures { AreFields (values_of (parts self.now)) };
 
-    /// Takes the tokens of the data, and refuses tokens that spell no such data. That they begin
-    /// with no marker of generic data was asked before, by [`scan_record`].
+    /// Parses the tokens of the RDATA, and rejects tokens that don't spell such RDATA.
+    /// [`scan_record`] has checked that they don't begin with the marker of unknown RDATA.
     fn scan_data<'a, T: TokenText, E: ScannerError>(
         alloc: A,
         scanner: &mut EntryScanner<'a, T, Octets, E>,
@@ -51,8 +51,8 @@ pub trait RecordData<Octets: ScanOctets, A: Allocator + Copy>: ZonefileFmt {
     ghost laid_out: { (x : Self) → IsLaidOut (parts x) };
 }
 
-/// Refuses the marker of generic data, `\#` (RFC 3597 section 5), as "generic record data is not
-/// supported" where it is the first token. Where it isn't, no token is taken.
+/// Rejects the marker of unknown RDATA, `\#` (RFC 3597 section 5), with "generic record data is not
+/// supported" if it is the first token. Otherwise consumes no token.
 pub fn expect_no_marker<S: Scanner>(scanner: &mut S) -> Result<(), S::Error>
     requires { S.can_scan scanner.old }
     ensures ready { S.can_scan scanner.new }
@@ -68,13 +68,13 @@ pub fn expect_no_marker<S: Scanner>(scanner: &mut S) -> Result<(), S::Error>
     Ok(())
 }
 
-/// Takes the data and the end of the entry: a token that is left is refused. So a value is returned
-/// only where all tokens are a spelling of its fields.
+/// Parses the RDATA and the end of the entry: a remaining token is rejected. So a value is returned
+/// only if all tokens are a spelling of its fields.
 ///
-/// Data that begin with `\#` are refused as "generic record data is not supported", whatever the
-/// type: no value is read of RFC 3597's generic form, nor is the form taken for the type's own. The
-/// scanner has what tokens hold, so a quoted text that holds `\#` counts as well. No value prints
-/// such a text: a backslash is printed as two.
+/// RDATA that begins with `\#` is rejected with "generic record data is not supported", for every
+/// type: no value is parsed from RFC 3597's generic form, nor is that form parsed as the type's
+/// own. The scanner has the contents of tokens, so a quoted string with the content `\#` is
+/// rejected as well. No value prints such a text: a backslash is printed as two.
 pub fn scan_record<'a, R, T: TokenText, Octets: ScanOctets, A: Allocator + Copy, E: ScannerError>(
     alloc: A,
     scanner: &mut EntryScanner<'a, T, Octets, E>,
@@ -103,8 +103,8 @@ where
     Ok(data)
 }
 
-/// The text that a value prints in a layout splits into one entry, and scanning that entry gives a
-/// value of the same fields, where memory and room suffice.
+/// The text that a value prints in a layout splits into one entry, and parsing that entry returns a
+/// value of the same fields, if memory and capacity are sufficient.
 pub fn record_reads_back<R, Octets: ScanOctets, A: Allocator + Copy, E: ScannerError>(
     alloc: A,
     octets_alloc: <Octets::Builder as EmptyBuilder>::Alloc,
@@ -121,9 +121,10 @@ where
     }
 }
 
-/// The same, or none where the text or the list of its tokens finds no memory. So room or memory
-/// lacks only where a field has more octets than surely fit, or stands in a list: a record of
-/// numbers, names and character strings over 255 octets of capacity is always read.
+/// Does the same, and returns `None` if the text or the list of its tokens can't be allocated. So
+/// parsing fails for lack of capacity or memory only if a field exceeds the guaranteed capacity or
+/// is in a list: a record of numbers, names and character strings over octets of capacity 255 is
+/// always parsed.
 pub fn record_reads_back_in_room<R, Octets: ScanOctets, A: Allocator + Copy, E: ScannerError>(
     alloc: A,
     octets_alloc: <Octets::Builder as EmptyBuilder>::Alloc,

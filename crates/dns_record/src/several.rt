@@ -1,4 +1,4 @@
-//! Fields that are all that is left of an entry.
+//! Fields that are all remaining tokens of an entry.
 ghost use Rattle.std.specs.Prelude.{◌≡◌, ◌↔◌, ◌<◌, List, ℕ, [], length, All, IfOk, IfErr, IsOk, IsOkAnd};
 ghost use Rattle.dns_symbol.specs.Cause.{IsCause, end_of_entry};
 ghost use Rattle.dns_scan.specs.Stands.{HasTokens};
@@ -17,7 +17,7 @@ use dns_zone::zonefile_fmt::{self, FormatWriter, ZonefileFmt};
 use std::alloc::Allocator;
 use std::marker::Model;
 
-/// Octets that an encoding has a text of: one at least.
+/// Octets whose encoding isn't empty: at least one.
 #[derive(Drop)]
 pub struct SomeOctets<Octets: AsOctets> {
     octets: Octets,
@@ -34,7 +34,7 @@ impl<Octets: AsOctets> Model for SomeOctets<Octets> {
 }
 
 impl<Octets: AsOctets> SomeOctets<Octets> {
-    /// Takes octets of which there is one at least. No octets come back.
+    /// Returns the octets as such a field. No octets are returned as the error.
     pub fn new(octets: Octets) -> Result<Self, Octets>
         ensures accepts { IsOk result ↔ (0 < length (Octets.octets octets)) }
         ensures ok { IfOk result (λ s. s ≡ Octets.octets octets) }
@@ -46,7 +46,7 @@ impl<Octets: AsOctets> SomeOctets<Octets> {
         Ok(SomeOctets { octets })
     }
 
-    /// The octets.
+    /// Returns the octets.
     pub fn as_slice(&self) -> &[u8]
         ensures value { result.now ≡ self.now }
         ensures bytes { All (λ o. o < 256) self.now }
@@ -56,9 +56,9 @@ impl<Octets: AsOctets> SomeOctets<Octets> {
     }
 }
 
-/// Takes all tokens that are left as octets in base 16 (RFC 4648 section 8).
+/// Parses all remaining tokens as octets in base 16 (RFC 4648 section 8).
 ///
-/// Without an octet the entry is refused as one that ended early.
+/// If there are no octets, the entry is rejected as one that ended early.
 pub fn hex_rest<S: Scanner>(scanner: &mut S) -> Result<SomeOctets<S::Octets>, S::Error>
 where
     S::Octets: Drop,
@@ -73,9 +73,9 @@ where
     some_octets(octets)
 }
 
-/// Takes all tokens that are left as octets in base 64 (RFC 4648 section 4).
+/// Parses all remaining tokens as octets in base 64 (RFC 4648 section 4).
 ///
-/// Without an octet the entry is refused as one that ended early.
+/// If there are no octets, the entry is rejected as one that ended early.
 pub fn base64_rest<S: Scanner>(scanner: &mut S) -> Result<SomeOctets<S::Octets>, S::Error>
 where
     S::Octets: Drop,
@@ -90,7 +90,7 @@ where
     some_octets(octets)
 }
 
-// The octets, of which there has to be one.
+// Returns the octets as such a field, and rejects no octets.
 fn some_octets<Octets: AsOctets + Drop, E: ScannerError>(
     octets: Octets,
 ) -> Result<SomeOctets<Octets>, E>
@@ -103,7 +103,7 @@ fn some_octets<Octets: AsOctets + Drop, E: ScannerError>(
     }
 }
 
-/// Character strings, one at least.
+/// At least one character string.
 #[derive(Drop)]
 pub struct Strings<Octets: AsOctets, A: Allocator> {
     strings: Vec<CharStr<Octets>, A>,
@@ -120,7 +120,7 @@ impl<Octets: AsOctets, A: Allocator> Model for Strings<Octets, A> {
 }
 
 impl<Octets: AsOctets, A: Allocator> Strings<Octets, A> {
-    /// Takes strings of which there is one at least. An empty list comes back.
+    /// Returns the strings as such a field. An empty list is returned as the error.
     pub fn new(strings: Vec<CharStr<Octets>, A>) -> Result<Self, Vec<CharStr<Octets>, A>>
         ensures accepts { IsOk result ↔ (0 < length strings.items) }
         ensures ok { IfOk result (λ s. s ≡ strings.items) }
@@ -132,7 +132,7 @@ impl<Octets: AsOctets, A: Allocator> Strings<Octets, A> {
         Ok(Strings { strings })
     }
 
-    /// The strings.
+    /// Returns the strings.
     pub fn as_slice(&self) -> &[CharStr<Octets>]
         ensures value { result.now ≡ self.now }
         ensures some { 0 < length self.now }
@@ -149,7 +149,7 @@ impl<Octets: AsOctets, A: Allocator> Strings<Octets, A> {
     }
 }
 
-// States what is known of each string.
+// States what holds of each string.
 fn known_each<Octets: AsOctets>(strings: &[CharStr<Octets>])
     ensures { All IsString strings.now }
 {
@@ -184,9 +184,9 @@ impl<Octets: AsOctets, A: Allocator> ZonefileFmt for Strings<Octets, A> {
     }
 }
 
-/// Takes all tokens that are left as character strings, one at least.
+/// Parses all remaining tokens as character strings, at least one.
 ///
-/// Without a string the entry is refused as one that ended early.
+/// If there is no string, the entry is rejected as one that ended early.
 pub fn strings_rest<S: Scanner, A: Allocator>(
     alloc: A,
     scanner: &mut S,
@@ -203,7 +203,7 @@ where
     some_strings(dns_scan::strings_rest(alloc, scanner)?)
 }
 
-// The strings, of which there has to be one.
+// Returns the strings as such a field, and rejects an empty list.
 fn some_strings<Octets: AsOctets + Drop, A: Allocator, E: ScannerError>(
     strings: Vec<CharStr<Octets>, A>,
 ) -> Result<Strings<Octets, A>, E>
