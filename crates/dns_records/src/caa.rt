@@ -12,7 +12,7 @@ use dns_text::wire::AsOctets;
 use dns_text::zonefile_fmt::{self, FormatWriter, Formatter, ZonefileFmt};
 use std::alloc::Allocator;
 
-/// Which certification authority may issue certificates for the owner.
+/// The certification authorities that may issue certificates for the owner.
 #[derive(Drop)]
 pub struct Caa<Octets: AsOctets> {
     pub flags: u8,

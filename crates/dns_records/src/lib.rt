@@ -1,4 +1,4 @@
-//! Record types over the author's kit: each prints as one entry, and is scanned back from it.
+//! Example record types: each prints as one entry, and parses from it.
 #![tactic(auto)]
 
 pub mod caa;
