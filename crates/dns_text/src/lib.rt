@@ -1,18 +1,21 @@
-//! The text layer of DNS, under the names by which it is used.
+//! DNS presentation format: the other crates' modules under one name.
 //!
-//! - [`symbol`]: the units of the text form, plain characters and escapes (RFC 1035 section 5.1).
-//! - [`charstr`]: character strings, and their text.
+//! - [`symbol`]: the units of presentation format, plain characters and escapes (RFC 1035 section
+//!   5.1).
+//! - [`charstr`]: character strings, and their presentation format.
 //! - [`base16`], [`base32`], [`base64`]: the encodings of RFC 4648 sections 8, 7 and 4.
-//! - [`scan`]: typed values out of the tokens of an entry.
-//! - [`name`] and [`chain`]: names that are absolute or relative, and one after another.
-//! - [`wire`]: names and labels in wire form, octets and their builders.
-//! - [`zonefile_fmt`] and [`document`]: zone text in three layouts, and `split`, which reads it.
-//! - [`cursor`]: zone text piece by piece or token by token, without memory, with places.
-//! - [`tokens`]: values that print as tokens of one entry, whatever they hold.
+//! - [`scan`]: typed values parsed from the tokens of an entry.
+//! - [`name`] and [`chain`]: names that are absolute or relative, and chains of names.
+//! - [`wire`]: names and labels in wire format, octets and their builders.
+//! - [`zonefile_fmt`] and [`document`]: zone files in three layouts, and `split`, which parses
+//!   them.
+//! - [`cursor`]: zone files piece by piece or token by token, without allocating, with offsets.
+//! - [`tokens`]: values that always print as tokens of one entry.
 //! - [`entry`]: lines of typed fields that print as one entry.
-//! - [`record`]: record data between zone text and values, for those who write record types.
-//! - [`program`]: the command `dnstext` over its words.
-//! - [`laws`]: what holds of several of these together.
+//! - [`record`]: conversion between RDATA in presentation format and values, for authors of record
+//!   types.
+//! - [`program`]: the command `dnstext` over its arguments.
+//! - [`laws`]: facts that relate several of these.
 #![tactic(auto)]
 
 pub use dns_charstr::charstr;
@@ -22,14 +25,14 @@ pub use dns_name::{chain, name};
 pub use dns_zone::{document, tokens, zonefile_fmt};
 pub use dnstext_lib::program;
 
-/// The units of the text form.
+/// The units of presentation format.
 pub mod symbol {
     pub use dns_symbol::{
         BadSymbol, EntrySymbol, Symbol, SymbolCharsError, SymbolOctetsError, Symbols,
     };
 }
 
-/// Names and labels in wire form, octets and their builders.
+/// Names and labels in wire format, octets and their builders.
 pub mod wire {
     pub use dns_octets::{
         AsOctets, AsOctetsMut, CanonicalOrd, Compose, EmptyBuilder, FreezeBuilder, FromBuilder,
@@ -42,7 +45,7 @@ pub mod wire {
     };
 }
 
-/// Zone text piece by piece or token by token, without memory, and where things stand in it.
+/// Zone files piece by piece or token by token, without allocating, and the positions in them.
 pub mod cursor {
     pub use dns_split::entry_tokens::{EntryPart, EntryToken, EntryTokens, NextEntryError};
     pub use dns_split::opening::{outermost_open, outermost_open_of_octets};
@@ -52,7 +55,7 @@ pub mod cursor {
     pub use dns_split::token::{content, is_token};
 }
 
-/// Record data between zone text and values.
+/// Conversion between RDATA in presentation format and values.
 pub mod record {
     pub use dns_record::fields::{
         Field, FieldValue, LongText, scan_fields, scan_five, scan_three, write_long_text,
@@ -64,7 +67,7 @@ pub mod record {
     pub use dns_record::several::{SomeOctets, Strings, base64_rest, hex_rest, strings_rest};
 }
 
-/// Typed values out of the tokens of an entry.
+/// Typed values parsed from the tokens of an entry.
 pub mod scan {
     pub use dns_iter::entry::{EntryScanner, TokenText, entry_at, entry_scanner};
     pub use dns_iter::{IterScanner, ScanOctets, StrError};
@@ -73,7 +76,7 @@ pub mod scan {
     };
 }
 
-/// What holds of several of these together: each function's contract is a law.
+/// Facts that relate several of these: each function's contract is a law.
 pub mod laws {
     pub use dns_laws::{encodings, entries, headline, layouts, lines, names, numbers, strings};
 }
