@@ -1,4 +1,4 @@
--- From what a converter answers to the line that is printed of it.
+-- From the result of a converter to the line that is printed of it.
 use Rattle.std.proofs.Common.{◌≡◌, List, ℕ, refl, ◌⊎◌, Result}
 use Rattle.std.proofs.Common.{Ok, Err}
 use Rattle.std.specs.Prelude.{MatchResult}

@@ -1,4 +1,4 @@
--- Fields out of words and tokens.
+-- Fields from arguments and tokens.
 use Rattle.std.proofs.Common.{◌≡◌, ℕ, ◌+◌, ◌<◌, ◌≤◌, List, [], ◌∷◌, ◌++◌, map, drop, arith, refl, sym, ap, subst, ◌∙◌, append_assoc, append-nil, ◌⊎◌, inl, inr, Option, Some, None, Ok, Err}
 use Rattle.std.proofs.lemmas.List.{map-append}
 use Rattle.dns_octets.specs.Room.{Room, within}
@@ -44,7 +44,7 @@ text_held cause room t s h =
 
 -- ---- tokens
 
--- the fields of the tokens that are left, after those that were made, are all
+-- the fields of the tokens that remain, after those that were made, are all
 abbrev pub FieldsLeft : List FieldWord → ℕ → List Content → Type 0
 FieldsLeft words i made = (more : List Content) (refusal : Option Cause) → FieldsRun (map asked_of (drop i words)) more refusal → FieldsRun (map asked_of words) (made ++ more) refusal
 

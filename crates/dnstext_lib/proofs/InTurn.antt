@@ -1,4 +1,4 @@
--- Words that are read in turn, each as one thing.
+-- Arguments that are parsed in order, each as one item.
 use Rattle.std.proofs.Common.{◌≡◌, ℕ, Result, Ok, Err, ◌+◌, List, [], ◌∷◌, ◌++◌, map, drop, refl, sym, ap, ◌∙◌, append_assoc, append-nil}
 use Rattle.std.specs.Prelude.{◌≢◌, IsErr, MatchResult}
 use Rattle.std.proofs.lemmas.List.{map-append}
@@ -6,7 +6,7 @@ use Rattle.std.specs.Borrow.{Bor}
 use Rattle.dnstext_lib.specs.Program.{bytes_of_words}
 use Rattle.dnstext_lib.specs.Print.{BeginsBy}
 
--- what a refusal says, whatever it is
+-- the text of an error, whatever it is
 pub when_err : {T E : Type 0} (P : T → Type 0) (Q : E → Type 0) (r : Result T E) → IsErr r → ((e : E) → Q e) → MatchResult r P Q
 when_err P Q (Ok v) h k = cc
 when_err P Q (Err e) h k = k e
@@ -40,7 +40,7 @@ module _ {Y X : Type 0} (of : Y → X) (word : X → List ℕ) where
   pub read_all : (words : List (Bor (List ℕ))) (i : ℕ) (found : List Y) → drop i words ≡ [] → ReadInTurn words i found → bytes_of_words words ≡ map word (map of found)
   read_all words i found at r = r ∙ ap (λ l. map word (map of found) ++ bytes_of_words l) at ∙ append-nil (map word (map of found))
 
-  -- a word after others, all of which are words for something, is one too
+  -- an argument after others, if all request something, requests something too
   word_after : (front rest : List (List ℕ)) (w : List ℕ) (all : List X) → front ++ w ∷ rest ≡ map word all → (x : X) × (w ≡ word x)
   word_after [] rest w [] e = cc
   word_after [] rest w (x ∷ xs) e = (x, cc)
@@ -53,7 +53,7 @@ module _ {Y X : Type 0} (of : Y → X) (word : X → List ℕ) where
       let other = word_after (map word (map of found)) (bytes_of_words (drop (i + 1) words)) w.now all (sym (read_next words i found w at r) ∙ e) in
       none other.0 other.1
 
-  -- the first word is one for something, where the next one is
+  -- the first argument requests something, if the next one does
   begins_by : (words : List (List ℕ)) (found : List Y) (x : X) (rest : List (List ℕ)) → words ≡ map word (map of found) ++ word x ∷ rest → BeginsBy word words
   begins_by words [] x rest e = (x, rest, e)
   begins_by words (y ∷ ys) x rest e = (of y, map word (map of ys) ++ word x ∷ rest, e)

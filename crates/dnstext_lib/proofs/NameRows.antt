@@ -1,4 +1,4 @@
--- Worked rows: tokens as names.
+-- Computed examples: tokens as names.
 use Rattle.std.proofs.Common.{ℕ, [], ◌∷◌, arith, refl, inl, inr, Ok}
 use Rattle.std.specs.Prelude.{Vec, codes}
 use Rattle.std.specs.Char.{encode_utf8}

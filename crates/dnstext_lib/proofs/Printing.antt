@@ -1,4 +1,4 @@
--- What the program prints of tokens.
+-- The output of the program for tokens.
 use Rattle.std.proofs.Common.{ℕ, zero, suc, ◌+◌, ◌≡◌, ◌<◌, ◌≤◌, ◌∙◌, List, [], ◌∷◌, ◌++◌, length, drop, add-one, arith, refl, sym, subst, ap, inl, inr, ⊎_elim, None, Result, Ok, Err}
 use Rattle.std.specs.Prelude.{Vec, MatchResult, encode_utf8_all}
 use Rattle.dns_codec.specs.Base.{base16, encoded}
@@ -97,7 +97,7 @@ module _ {E : Type 0} (cause : E → Cause) where
   name_prints reads so t (Absolute name) h = (name, so t (Ok name) h, refl)
   name_prints reads so t (Relative name) h = absurd h
 
-  -- a refusal is the same with its cause in its place
+  -- an error is the same with its cause in its place
   same_cause : {V : Type 0} (r : Result V E) (why : Cause) → IsCause cause r why → IsCause (λ c. c) (by_cause cause r) why
   same_cause (Ok v) why h = absurd h
   same_cause (Err e) why h = h
@@ -131,7 +131,7 @@ module _ {E : Type 0} (cause : E → Cause) where
       ((line.0 ++ 10 ∷ []) ++ more.0, inl (line.0, more.0, line.1, refl, more.1), writes_in_calls_append took o _ m _ p line.2 more.2)
   lines_more took kind t ts o m p (Err WriteFailed) line more = (line.0, line.1)
 
-  -- no lines, and a token that is refused at once
+  -- no lines, and a token that is rejected at once
   pub lines_none : {O : Type 0} (took : O → List ℕ → O → Type 0) (kind : ScanKind) (o : O) → LinesWritten cause took kind [] o (Ok tt) o
   lines_none took kind o = ([], (refl, refl), writes_in_calls_nil took o)
 
@@ -140,7 +140,7 @@ module _ {E : Type 0} (cause : E → Cause) where
   lines_stop took kind t ts o p (Refused e) h = ([], inr (cause e, h.0, refl, refl), subst (λ x. WritesInCalls took o [] x) (sym h.1) (writes_in_calls_nil took o))
   lines_stop took kind t ts o p WriteFailed h = h
 
--- the element at a place, and those after it
+-- the element at an index, and those after it
 pub drop_at : {A : Type 0} (xs : List A) (i : ℕ) → i < length xs → (x : A) × (drop i xs ≡ x ∷ drop (i + 1) xs)
 drop_at [] i h = absurd (omega arith)
 drop_at (x ∷ xs) zero h = (x, refl)
@@ -152,7 +152,7 @@ drop_all [] (suc i) h = refl
 drop_all (x ∷ xs) zero h = absurd (omega arith)
 drop_all (x ∷ xs) (suc i) h = drop_all xs i (omega arith)
 
--- a line of what a token prints as, where the line is written or the sink refused
+-- a line of what a token prints as, if the line is written or the sink failed
 pub line_by : {E O : Type 0} (cause : E → Cause) (took : O → List ℕ → O → Type 0) (prints : Token → List ℕ → Type 0) (refused : Token → Cause → Type 0) (token : Token) (text : List ℕ) (o p : O)
     (r : Result (Unit {0}) (Stop E)) → prints token text → MatchResult r (λ _. WritesInCalls took o (text ++ line_feed ∷ []) p) (λ stop. stop ≡ WriteFailed) → LineBy cause took prints refused token o r p
 line_by cause took prints refused token text o p (Ok u) has line = (text, has, line)

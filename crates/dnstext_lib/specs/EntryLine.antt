@@ -1,4 +1,4 @@
--- What the program's `line` asks for, writes and answers.
+-- The arguments, the output and the status of the program's `line`.
 use Rattle.std.specs.Prelude.{ℕ, List, [], ◌∷◌, ◌++◌, ◌≡◌, ◌≢◌, ◌⊎◌, Option, Some, None, Ok, codes, map, Result, MatchResult}
 use Rattle.std.specs.Fmt.{WritesInCalls}
 use Rattle.dns_octets.specs.Room.{exactly}
@@ -36,55 +36,55 @@ Asked = FieldKind × Token
 abbrev pub asked_of : FieldWord → Asked
 asked_of word = (word.kind, word.text.now)
 
--- what the word of a field begins with
+-- the prefix of the argument of a field
 abbrev pub mark : FieldKind → List ℕ
 mark Number = codes "n:"
 mark Hex = codes "x:"
 mark Base64 = codes "b:"
 mark Text = codes "s:"
 
--- the word for a field
+-- the argument for a field
 abbrev pub field_word : Asked → List ℕ
 field_word asked = mark asked.0 ++ asked.1
 
--- the words `FIELD..`
+-- the arguments `FIELD..`
 abbrev pub AsksFields : List (List ℕ) → List Asked → Type 0
 AsksFields words asked = words ≡ map field_word asked
 
--- some word asks for no field
+-- some argument isn't a field
 abbrev pub AsksNoFields : List (List ℕ) → Type 0
 AsksNoFields words = (asked : List Asked) → AsksFields words asked → ⊥
 
--- the words `line KIND FIELD..`
+-- the arguments `line KIND FIELD..`
 abbrev pub IsLineCommand : List (List ℕ) → DisplayKind → List (List ℕ) → Type 0
 IsLineCommand words kind fields = words ≡ codes "line" ∷ layout_name kind ∷ fields
 
--- the token is what a field of that kind holds
+-- the token is a value of a field of that kind
 abbrev pub FieldHolds : FieldKind → Token → Content → Type 0
 FieldHolds Number token c = (symbols : List Symbol) × SymbolsOf token symbols None × ((v : ℕ) × IsNumber (greatest 32) symbols v × (c ≡ number v))
 FieldHolds Hex token c = (octets : List ℕ) × ConvertsTo hex_codec token (Ok octets) × (c ≡ hex_octets octets)
 FieldHolds Base64 token c = (octets : List ℕ) × ConvertsTo base64_codec token (Ok octets) × (c ≡ base64_octets octets)
 FieldHolds Text token c = (symbols : List Symbol) × SymbolsOf token symbols None × ((octets : List ℕ) × AllGiven octet_given (exactly 255) symbols None octets × (c ≡ text_octets octets))
 
--- the token is no such thing, or no memory was found for it, and that is the refusal
+-- the token isn't of the kind, or its allocation failed, and that is the error
 abbrev pub NoField : FieldKind → Token → Cause → Type 0
 NoField Number = IsRefused U32
 NoField Hex = IsRefused HexScan
 NoField Base64 = IsRefused Base64Scan
 NoField Text = IsRefused Charstr
 
--- the field that a token was made, or why it was made none
+-- the field that was made of a token, or its error
 abbrev pub MakesField : {A : Type 0} → FieldKind → Token → Result (Field A) StrError → Type 0
 MakesField kind token r = MatchResult r (λ field. FieldHolds kind token (content_of field)) (λ e. NoField kind token (str_cause e))
 
--- the fields of tokens up to the first refusal, and that refusal
+-- the fields of tokens up to the first error, and that error
 abbrev pub FieldsRun : List Asked → List Content → Option Cause → Type 0
 FieldsRun [] fields refusal = (fields ≡ []) × (refusal ≡ None)
 FieldsRun (asked ∷ more) fields refusal =
     ((c : Content) × (others : List Content) × FieldHolds asked.0 asked.1 c × (fields ≡ c ∷ others) × FieldsRun more others refusal)
     ⊎ ((why : Cause) × NoField asked.0 asked.1 why × (fields ≡ []) × (refusal ≡ Some why))
 
--- why fields weren't made: a token was refused, or no memory was found for the list
+-- why fields weren't made: a token was rejected, or the list couldn't be allocated
 abbrev pub FieldsUnmade : List Asked → Unmade → Type 0
 FieldsUnmade asked (Refused e) = (fields : List Content) × FieldsRun asked fields (Some (str_cause e))
 FieldsUnmade asked OutOfMemory = asked ≢ []
@@ -94,7 +94,7 @@ abbrev pub LinePrinted : {O : Type 0} → (O → List ℕ → O → Type 0) → 
 LinePrinted took kind asked o p =
     (fields : List Content) × FieldsRun asked fields None × IsLine fields × WritesInCalls took o (printed kind (line_document fields) ++ line_feed ∷ []) p
 
--- the words `FIELD..` were refused for that reason: a token is no field, or the fields are no line, and nothing was printed; or their text found no room; or no memory was found for the fields
+-- the error of `FIELD..`: a token isn't a field, or the fields aren't a line, and nothing was printed; or their text didn't fit; or out of memory
 abbrev pub LineRefused : {O : Type 0} → List (List ℕ) → O → O → List ℕ → Type 0
 LineRefused words o p reason =
     ((asked : List Asked) × (fields : List Content) × (why : Cause) × AsksFields words asked × FieldsRun asked fields (Some why) × (p ≡ o) × (reason ≡ cause_text why))

@@ -1,4 +1,4 @@
--- What the program writes and answers.
+-- The output and the status of the program.
 use Rattle.std.specs.Prelude.{ℕ, List, [], ◌∷◌, ◌++◌, ◌≡◌, ◌⊎◌, Option, Some, None, Result, Ok, Err, IfSome, MatchOption, MatchResult, codes, map, encode_utf8_all}
 use Rattle.std.specs.Borrow.{Bor}
 use Rattle.std.specs.Fmt.{WritesInCalls, decimal}
@@ -22,11 +22,11 @@ use Rattle.dnstext_lib.specs.declared.program.ScanKind.TheVariants.{U8, U16, U32
 use Rattle.dnstext_lib.specs.declared.program.Stop.{Stop}
 use Rattle.dnstext_lib.specs.declared.program.Stop.TheVariants.{Refused, WriteFailed}
 
--- the bytes of the program's words
+-- the bytes of the program's arguments
 abbrev pub bytes_of_words : List (Bor (List ℕ)) → List (List ℕ)
 bytes_of_words words = map (λ w. w.now) words
 
--- the word for a kind
+-- the argument for a kind
 abbrev pub kind_name : ScanKind → List ℕ
 kind_name U8 = codes "u8"
 kind_name U16 = codes "u16"
@@ -40,15 +40,15 @@ kind_name Base32hex = codes "base32hex"
 kind_name Base64 = codes "base64"
 kind_name Name = codes "name"
 
--- what a word names, if it is the name of anything
+-- what an argument names, if it is the name of anything
 abbrev pub IsNamedBy : {X Y : Type 0} → (X → List ℕ) → (Y → X) → List ℕ → Option Y → Type 0
 IsNamedBy {X} name of word found = MatchOption found ((x : X) → word ≡ name x → ⊥) (λ y. word ≡ name (of y))
 
--- the words `scan KIND TOKEN..`
+-- the arguments `scan KIND TOKEN..`
 abbrev pub IsScanCommand : List (List ℕ) → ScanKind → List Token → Type 0
 IsScanCommand words kind tokens = words ≡ codes "scan" ∷ kind_name kind ∷ tokens
 
--- the text of a refusal
+-- the text of an error
 abbrev pub cause_text : Cause → List ℕ
 cause_text (custom_text text) = text
 cause_text end_of_entry = codes "unexpected end of entry"
@@ -59,7 +59,7 @@ cause_text trailing_tokens = codes "trailing data"
 abbrev pub NumberPrints : ℕ → Token → List ℕ → Type 0
 NumberPrints limit token text = (symbols : List Symbol) × SymbolsOf token symbols None × ((v : ℕ) × IsNumber limit symbols v × (text ≡ decimal v))
 
--- the token is no such number
+-- the token isn't such a number
 abbrev pub NumberRefused : ℕ → Token → Cause → Type 0
 NumberRefused limit token why = (symbols : List Symbol) × (error : Option SymbolCharsError) × SymbolsOf token symbols error × ReadsNumber limit symbols error (Err why)
 
@@ -67,7 +67,7 @@ NumberRefused limit token why = (symbols : List Symbol) × (error : Option Symbo
 abbrev pub StringPrints : Token → List ℕ → Type 0
 StringPrints token text = (symbols : List Symbol) × SymbolsOf token symbols None × ((octets : List ℕ) × AllGiven octet_given (exactly 255) symbols None octets × (text ≡ unquoted_token octets))
 
--- the token is no character string
+-- the token isn't a character string
 abbrev pub StringRefused : Token → Cause → Type 0
 StringRefused token why = (symbols : List Symbol) × (error : Option SymbolCharsError) × SymbolsOf token symbols error × FirstFault octet_given (exactly 255) symbols error why
 
@@ -75,7 +75,7 @@ StringRefused token why = (symbols : List Symbol) × (error : Option SymbolChars
 abbrev pub NamePrints : Token → List ℕ → Type 0
 NamePrints token text = (name : List (List ℕ)) × NameRead token (Ok name) × (text ≡ encode_utf8_all (dotted_text name))
 
--- the token is no name, or no memory was found for it
+-- the token isn't a name, or its allocation failed
 abbrev pub NameRefused : Token → Cause → Type 0
 NameRefused token why = NameRead token (Err why)
 
@@ -93,11 +93,11 @@ PrintsAs Base32hex = OctetsPrint base32hex_codec
 PrintsAs Base64 = OctetsPrint base64_codec
 PrintsAs Name = NamePrints
 
--- the token is refused, or no memory was found for its value
+-- the token is rejected, or its value couldn't be allocated
 abbrev pub Stops : (Token → Cause → Type 0) → Token → Cause → Type 0
 Stops refused token why = refused token why ⊎ (why ≡ short_buf)
 
--- the token is no value of the kind, or no memory was found for it, and that is the refusal
+-- the token isn't a value of the kind, or its allocation failed, and that is the error
 abbrev pub IsRefused : ScanKind → Token → Cause → Type 0
 IsRefused U8 = NumberRefused (greatest 8)
 IsRefused U16 = NumberRefused (greatest 16)
@@ -111,18 +111,18 @@ IsRefused Base32hex = Stops (OctetsRefused base32hex_codec)
 IsRefused Base64 = Stops (OctetsRefused base64_codec)
 IsRefused Name = NameRefused
 
--- the lines of tokens up to the first refusal, and that refusal
+-- the lines of tokens up to the first error, and that error
 abbrev pub ScanRun : ScanKind → List Token → List ℕ → Option Cause → Type 0
 ScanRun kind [] printed refusal = (printed ≡ []) × (refusal ≡ None)
 ScanRun kind (t ∷ ts) printed refusal =
     ((text : List ℕ) × (more : List ℕ) × PrintsAs kind t text × (printed ≡ (text ++ line_feed ∷ []) ++ more) × ScanRun kind ts more refusal)
     ⊎ ((why : Cause) × IsRefused kind t why × (printed ≡ []) × (refusal ≡ Some why))
 
--- the line on standard error for a refusal
+-- the line on standard error for an error
 abbrev pub refusal_line : List ℕ → List ℕ
 refusal_line text = codes "refused: " ++ (text ++ codes "\n")
 
--- and the one for words that ask for nothing known
+-- and the one for arguments that aren't a known command
 abbrev pub usage_line : List ℕ
 usage_line = codes "usage: dnstext scan|print|line KIND WORD..\n"
 
@@ -130,25 +130,25 @@ usage_line = codes "usage: dnstext scan|print|line KIND WORD..\n"
 abbrev pub WritesRefusal : {E : Type 0} → (E → List ℕ → E → Type 0) → E → List ℕ → E → Type 0
 WritesRefusal took e reason f = WritesInCalls took e (refusal_line reason) f
 
--- what was refused for some reason, and that reason is on standard error
+-- an error with some reason, which is on standard error
 abbrev pub ShowsReason : {E : Type 0} → (List ℕ → Type 0) → (E → List ℕ → E → Type 0) → E → E → Type 0
 ShowsReason refused took e f = (reason : List ℕ) × refused reason × WritesRefusal took e reason f
 
--- the same, where standard error refused its line
+-- the same, if standard error failed
 abbrev pub HasReason : (List ℕ → Type 0) → Type 0
 HasReason refused = (reason : List ℕ) × refused reason
 
--- what printing a value did: its text was written, where that is stated, and a line end; or the sink refused
+-- the effect of printing a value: its text, if stated, and a line end were written; or the sink failed
 abbrev pub ValueLine : {E O : Type 0} → (O → List ℕ → O → Type 0) → Option (List ℕ) → O → Result (Unit {0}) (Stop E) → O → Type 0
 ValueLine took text o r p = MatchResult r (λ _. IfSome text (λ bs. WritesInCalls took o (bs ++ line_feed ∷ []) p)) (λ stop. stop ≡ WriteFailed)
 
--- what printing one token did: its line was written, or it was refused and nothing was, or it is a value and the sink refused
+-- the effect of printing a token: its line was written, or it was rejected and nothing was, or the sink failed for its value
 abbrev pub LineBy : {E O : Type 0} → (E → Cause) → (O → List ℕ → O → Type 0) → (Token → List ℕ → Type 0) → (Token → Cause → Type 0) → Token → O → Result (Unit {0}) (Stop E) → O → Type 0
 LineBy cause took prints refused token o (Ok u) p = (text : List ℕ) × prints token text × WritesInCalls took o (text ++ line_feed ∷ []) p
 LineBy cause took prints refused token o (Err (Refused e)) p = refused token (cause e) × (p ≡ o)
 LineBy cause took prints refused token o (Err WriteFailed) p = (text : List ℕ) × prints token text
 
--- what printing the octets of a token did, which a run of a converter gave
+-- the effect of printing the octets of a token, which a run of a converter returned
 abbrev pub OctetsLine : {E O : Type 0} → (O → List ℕ → O → Type 0) → (Result (List ℕ) E → Type 0) → O → Result (Unit {0}) (Stop E) → O → Type 0
 OctetsLine took run o (Ok u) p = (octets : List ℕ) × run (Ok octets) × WritesInCalls took o (encoded base16 octets ++ line_feed ∷ []) p
 OctetsLine took run o (Err (Refused e)) p = run (Err e) × (p ≡ o)
@@ -163,7 +163,7 @@ abbrev pub BeginsWell : ScanKind → List Token → Type 0
 BeginsWell kind [] = ⊥
 BeginsWell kind (t ∷ ts) = (text : List ℕ) × PrintsAs kind t text
 
--- what printing a list of tokens did
+-- the effect of printing a list of tokens
 abbrev pub LinesWritten : {E O : Type 0} → (E → Cause) → (O → List ℕ → O → Type 0) → ScanKind → List Token → O → Result (Unit {0}) (Stop E) → O → Type 0
 LinesWritten cause took kind tokens o (Ok u) p = (printed : List ℕ) × ScanRun kind tokens printed None × WritesInCalls took o printed p
 LinesWritten cause took kind tokens o (Err (Refused e)) p = (printed : List ℕ) × ScanRun kind tokens printed (Some (cause e)) × WritesInCalls took o printed p
@@ -173,7 +173,7 @@ LinesWritten cause took kind tokens o (Err WriteFailed) p = BeginsWell kind toke
 abbrev pub ScanPrinted : {O : Type 0} → (O → List ℕ → O → Type 0) → ScanKind → List Token → O → O → Type 0
 ScanPrinted took kind tokens o p = (printed : List ℕ) × ScanRun kind tokens printed None × WritesInCalls took o printed p
 
--- a token was refused for that reason, after the lines of those before it were written; or the first is a value, and a line found no room
+-- a token was rejected for that reason, after the lines of those before it were written; or the first is a value, and a write failed
 abbrev pub ScanRefused : {O : Type 0} → (O → List ℕ → O → Type 0) → ScanKind → List Token → O → O → List ℕ → Type 0
 ScanRefused took kind tokens o p reason =
     ((printed : List ℕ) × (why : Cause) × ScanRun kind tokens printed (Some why) × WritesInCalls took o printed p × (reason ≡ cause_text why))

@@ -1,4 +1,4 @@
--- Worked examples of the definitions, computed.
+-- Computed examples of the definitions.
 use Rattle.std.specs.Char.{encode_utf8}
 use Rattle.std.specs.Prelude.{false, ◌≡◌, [], ◌∷◌, Some, None, Err, codes, refl}
 use Rattle.dns_symbol.specs.declared.symbol.Symbol.TheVariants.{Char, SimpleEscape, DecimalEscape}
@@ -26,12 +26,12 @@ no_character : converted_symbols hex_codec (fresh, false) [] (Char 67 ∷ Char 6
 unfolding bits joined digits_from_bits whole value
 no_character = refl
 
--- what was made before the refusal
+-- what was produced before the error
 before_refusal : made_of hex_codec (fresh, false) (Char 67 ∷ Char 65 ∷ Char 70 ∷ Char 71 ∷ Char 70 ∷ Char 70 ∷ []) None ≡ 202 ∷ []
 unfolding bits joined digits_from_bits whole value
 before_refusal = refl
 
--- the last group's octets, by the tail; and none where an error follows the symbols
+-- the last group's octets, by the tail; and none if an error follows the symbols
 by_tail : made_of base32hex_codec (fresh, false) (Char 67 ∷ Char 79 ∷ []) None ≡ codes "f"
 unfolding bits joined digits_from_bits whole value
 by_tail = refl

@@ -1,5 +1,5 @@
-//! The command `dnstext` over its words: it scans values, prints documents, and prints lines of
-//! fields.
+//! The command `dnstext` over its arguments: it parses values, prints documents, and prints lines
+//! of fields.
 #![tactic(auto)]
 
 mod line;

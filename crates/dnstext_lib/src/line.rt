@@ -1,4 +1,4 @@
-//! The program's `line`: an entry line out of words.
+//! The command `line`: an entry line from arguments.
 ghost use Rattle.std.specs.Prelude.{◌≡◌, ◌⊎◌, ◌≤◌, List, Err, IfOk, MatchResult, map, None};
 ghost use Rattle.std.specs.Fmt.{WritesInCalls};
 ghost use Rattle.dns_entry.specs.Field.{contents_of};
@@ -17,21 +17,21 @@ use std::alloc::Allocator;
 use std::fmt::{Display, Write};
 use std::{fmt, iter};
 
-/// A field that a word asks for: its kind, and the text of its token.
+/// A field that an argument requests: its kind, and the text of its token.
 #[derive(Clone, Copy)]
 pub(crate) struct FieldWord<'a> {
     kind: FieldKind,
     text: &'a str,
 }
 
-/// Why fields weren't made.
+/// The error of making fields.
 #[derive(Drop)]
 pub(crate) enum Unmade {
     Refused(StrError),
     NoMemory,
 }
 
-/// The field that a word asks for, if there is one.
+/// Returns the field that an argument requests, if there is one.
 fn read_field(word: &str) -> Option<FieldWord<'_>>
     ensures { IsNamedBy field_word asked_of word.now result }
 {
@@ -62,7 +62,7 @@ fn read_field(word: &str) -> Option<FieldWord<'_>>
     }
 }
 
-/// The fields that words ask for.
+/// Returns the fields that arguments request.
 fn read_fields<'a, A: Allocator>(
     alloc: A,
     words: &[&'a str],
@@ -84,7 +84,7 @@ fn read_fields<'a, A: Allocator>(
     Ok(found)
 }
 
-/// The field of a text.
+/// Returns the field of a text.
 fn make_field<A: Allocator + Copy>(
     alloc: A,
     kind: FieldKind,
@@ -107,7 +107,7 @@ fn make_field<A: Allocator + Copy>(
     }
 }
 
-/// The fields of texts, up to the first that is refused.
+/// Returns the fields of texts, up to the first that is rejected.
 fn make_fields<A: Allocator + Copy>(
     alloc: A,
     words: &[FieldWord<'_>],
@@ -130,12 +130,12 @@ fn make_fields<A: Allocator + Copy>(
     Ok(fields)
 }
 
-/// Prints the line that the words ask for in a layout, with a line end, and returns the status.
+/// Prints the line that the arguments request in a layout, with a line end, and returns the exit
+/// status.
 ///
-/// All words are read as fields before the first is scanned. Status 0 says that all went well, and
-/// 1 that a field or the line was refused, that no memory was found, or that `out` refused; the
-/// reason then stands on `err`. Status 2 is for a word that is no field, and 3 says that `err`
-/// refused.
+/// All arguments are parsed as fields before the text of the first is parsed. Status 0 is success.
+/// Status 1 is a rejected field or line, a failed allocation, or a failure of `out`; the error is
+/// then on `err`. Status 2 is an argument that isn't a field. Status 3 is a failure of `err`.
 pub(crate) fn run_line<A: Allocator + Copy, O: fmt::Write, E: fmt::Write>(
     alloc: A,
     kind: DisplayKind,

@@ -1,4 +1,4 @@
-//! The program's `print`: a document out of words.
+//! The command `print`: a document from arguments.
 ghost use Rattle.std.specs.Prelude.{◌≡◌, ◌⊎◌, ◌≤◌, List, Err, IfOk, MatchResult};
 ghost use Rattle.std.specs.Fmt.{WritesInCalls};
 ghost use Rattle.dns_zone.specs.Layout.{Step};
@@ -13,7 +13,7 @@ use std::alloc::{AllocError, Allocator};
 use std::fmt;
 use std::fmt::{Display, Write};
 
-/// Why words are no items or fields.
+/// The error of parsing arguments as items or fields.
 #[derive(Clone, Copy)]
 pub(crate) enum Unread {
     UnknownItem,
@@ -30,7 +30,7 @@ impl From<AllocError> for Unread {
     }
 }
 
-/// The layout of that name.
+/// Returns the layout with that name.
 pub(crate) fn layout_kind(word: &str) -> Option<DisplayKind>
     ensures { IsNamedBy layout_name (λ kind. kind) word.now result }
 {
@@ -42,7 +42,7 @@ pub(crate) fn layout_kind(word: &str) -> Option<DisplayKind>
     }
 }
 
-/// The item that a word asks for, if there is one.
+/// Returns the item that an argument requests, if there is one.
 fn read_item<A: Allocator + Copy>(alloc: A, word: &str) -> Result<Option<Item<A>>, AllocError>
     ensures { MatchResult result
         (λ found. IsNamedBy item_word item_step word.now found)
@@ -65,7 +65,7 @@ fn read_item<A: Allocator + Copy>(alloc: A, word: &str) -> Result<Option<Item<A>
     Ok(Some(item))
 }
 
-/// The items that words ask for.
+/// Returns the items that arguments request.
 fn read_items<A: Allocator + Copy>(alloc: A, words: &[&str]) -> Result<Vec<Item<A>, A>, Unread>
     ensures items { IfOk result
         (λ items. AsksItems (bytes_of_words words.now) (item_steps items.items)) }
@@ -84,12 +84,12 @@ fn read_items<A: Allocator + Copy>(alloc: A, words: &[&str]) -> Result<Vec<Item<
     Ok(items)
 }
 
-/// Prints the document that the words ask for in a layout, with a line end, and returns the exit
-/// status.
+/// Prints the document that the arguments request in a layout, with a line end, and returns the
+/// exit status.
 ///
-/// Status 0 says that all went well, and 1 that the items are no document, that no memory was
-/// found, or that `out` refused; the reason then stands on `err`. Status 2 is for a word that is no
-/// item, and 3 says that `err` refused.
+/// Status 0 is success. Status 1 is a list of items that isn't a document, a failed allocation, or
+/// a failure of `out`; the error is then on `err`. Status 2 is an argument that isn't an item.
+/// Status 3 is a failure of `err`.
 pub(crate) fn run_print<A: Allocator + Copy, O: fmt::Write, E: fmt::Write>(
     alloc: A,
     kind: DisplayKind,

@@ -1,4 +1,4 @@
-//! The program `dnstext`, over its words.
+//! The program `dnstext`, over its arguments.
 ghost use Rattle.std.specs.Prelude.{◌≡◌, ◌⊎◌, Ok, Err, Option, IfSome, ◌≤◌};
 ghost use Rattle.std.specs.Fmt.{WritesInCalls};
 ghost use Rattle.dns_scan.specs.Entries.{ConvertsOneToken};
@@ -23,10 +23,10 @@ use std::alloc::Allocator;
 use std::fmt;
 use std::fmt::{Display, Write};
 
-/// The line for words that ask for nothing known.
+/// The line for arguments that aren't a known command.
 pub const USAGE: &str = "usage: dnstext scan|print|line KIND WORD..\n";
 
-/// What tokens are scanned as.
+/// The kind of values that tokens are parsed as.
 #[derive(Clone, Copy)]
 pub enum ScanKind {
     /// Numbers of at most 8 bits.
@@ -44,7 +44,7 @@ pub enum ScanKind {
     /// Numbers of at most 128 bits.
     U128,
 
-    /// Times to live, in seconds.
+    /// TTLs, in seconds.
     Ttl,
 
     /// Character strings, printed in their unquoted form.
@@ -63,14 +63,14 @@ pub enum ScanKind {
     Name,
 }
 
-/// Why no more is printed.
+/// The reason why no more is printed.
 #[derive(Drop)]
 pub(crate) enum Stop<E> {
     Refused(E),
     WriteFailed,
 }
 
-// The kind of that name.
+// Returns the kind with that name.
 fn scan_kind(word: &str) -> Option<ScanKind>
     ensures { IsNamedBy kind_name (λ kind. kind) word.now result }
 {
@@ -90,7 +90,7 @@ fn scan_kind(word: &str) -> Option<ScanKind>
     }
 }
 
-// Prints a value on a line of its own.
+// Prints a value on a separate line.
 fn print_line<T: Display, E, O: fmt::Write>(value: &T, out: &mut O) -> Result<(), Stop<E>>
     ensures { ValueLine O.write_str_gives (T.output value.now) out.old result out.new }
 {
@@ -100,7 +100,7 @@ fn print_line<T: Display, E, O: fmt::Write>(value: &T, out: &mut O) -> Result<()
     }
 }
 
-// Prints the next token as a number of at most `limit`.
+// Parses the next token as a number of at most `limit`, and prints it.
 fn print_number<S: Scanner, O: fmt::Write>(
     scanner: &mut S,
     limit: u128,
@@ -119,7 +119,7 @@ fn print_number<S: Scanner, O: fmt::Write>(
     print_line(&value, out)
 }
 
-// Prints the next token as a character string.
+// Parses the next token as a character string, and prints it.
 fn print_charstr<S: Scanner, O: fmt::Write>(
     scanner: &mut S,
     out: &mut O,
@@ -139,7 +139,7 @@ where
     print_line(&string.display_unquoted(), out)
 }
 
-// Prints the next token's octets, as the converter makes them, in hex.
+// Converts the next token to octets, and prints them in hex.
 fn print_octets<S: Scanner, C: ConvertSymbols<Symbol, S::Error>, O: fmt::Write>(
     scanner: &mut S,
     convert: C,
@@ -161,7 +161,7 @@ where
     print_line(&base16::encode_display(octets.as_slice()), out)
 }
 
-// Prints the next token as a name.
+// Parses the next token as a name, and prints it.
 fn print_name<A: Allocator, S: Scanner<Name = Name<Vec<u8, A>>>, O: fmt::Write>(
     scanner: &mut S,
     out: &mut O,
@@ -180,7 +180,7 @@ fn print_name<A: Allocator, S: Scanner<Name = Name<Vec<u8, A>>>, O: fmt::Write>(
     print_line(&name, out)
 }
 
-// Prints the next token as a value of the kind.
+// Parses the next token as a value of the kind, and prints it.
 fn print_value<A: Allocator, S: Scanner<Name = Name<Vec<u8, A>>>, O: fmt::Write>(
     scanner: &mut S,
     kind: ScanKind,
@@ -209,7 +209,7 @@ where
     }
 }
 
-// Prints as many tokens as there are words.
+// Parses and prints one token for each argument.
 fn print_values<A: Allocator, S: Scanner<Name = Name<Vec<u8, A>>>, O: fmt::Write>(
     scanner: &mut S,
     kind: ScanKind,
@@ -230,7 +230,7 @@ where
     Ok(())
 }
 
-// The line of a refusal for that reason, and the status.
+// Writes the line of an error, and returns the exit status.
 pub(crate) fn refuse<E: fmt::Write, T: Display + Drop>(err: &mut E, reason: T) -> u8
     ensures status { (result ≡ 1) ⊎ (result ≡ 3) }
     ensures wrote { result ≡ 1 → IfSome (T.output reason)
@@ -242,7 +242,7 @@ pub(crate) fn refuse<E: fmt::Write, T: Display + Drop>(err: &mut E, reason: T) -
     }
 }
 
-// The usage line, and the status.
+// Writes the usage line, and returns the exit status.
 pub(crate) fn refuse_usage<E: fmt::Write>(err: &mut E) -> u8
     ensures status { (result ≡ 2) ⊎ (result ≡ 3) }
     ensures wrote { result ≡ 2 → WritesInCalls E.write_str_gives err.old usage_line err.new }
@@ -253,7 +253,7 @@ pub(crate) fn refuse_usage<E: fmt::Write>(err: &mut E) -> u8
     }
 }
 
-// Scans the tokens and prints their values.
+// Parses the tokens and prints their values.
 fn run_scan<A: Allocator + Copy, O: fmt::Write, E: fmt::Write>(
     alloc: A,
     kind: ScanKind,
@@ -279,14 +279,13 @@ fn run_scan<A: Allocator + Copy, O: fmt::Write, E: fmt::Write>(
     }
 }
 
-/// Runs the program on the words after its name, and returns its exit status.
+/// Runs the program on its arguments, without its name, and returns the exit status.
 ///
-/// `scan KIND TOKEN..` prints each token's value on a line of its own, `print KIND ITEM..` a
-/// document, and `line KIND FIELD..` an entry line. Status 0 says that all went well, and 1 that a
-/// token, the document or the line was refused, that no memory was found, or that `out` refused;
-/// the reason then stands on `err`, and the lines before it stay printed. Status 2 is for words
-/// that ask for nothing known: nothing is printed, and `err` has the usage. Status 3 says that
-/// `err` refused what it would have got; `out` is then as at status 1 or 2.
+/// `scan KIND TOKEN..` prints each token's value on a separate line, `print KIND ITEM..` a
+/// document, and `line KIND FIELD..` an entry line. Status 0 is success. Status 1 is a rejected
+/// token, document or line, a failed allocation, or a failure of `out`; the error is then on `err`,
+/// and the lines before it stay printed. Status 2 is an unknown command: nothing is printed, and
+/// `err` has the usage. Status 3 is a failure of `err`; `out` is then as at status 1 or 2.
 pub fn run<A: Allocator + Copy, O: fmt::Write, E: fmt::Write>(
     alloc: A,
     words: &[&str],

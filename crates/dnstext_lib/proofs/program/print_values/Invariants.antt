@@ -3,7 +3,7 @@ use Rattle.dns_scan.specs.Stands.{HasTokens}
 use Rattle.dnstext_lib.specs.Program.{LinesWritten, bytes_of_words}
 use Rattle.dnstext_lib.proofs.program.print_values.Given as goal
 
--- the lines of the tokens that are left, after those that are written, are all
+-- the lines of the tokens that remain, after those that are written, are all
 abbrev pub invariant-loop-token : goal.invariant-loop-token
 invariant-loop-token g l = record {
   ready : g.S.Scanner.can_scan l.scanner;
