@@ -1,4 +1,4 @@
--- What a run wrote to a sink, seen by what the stream below it holds.
+-- What a run wrote to a sink, by the contents of the stream below it.
 use Rattle.std.proofs.Common.{◌≡◌, ◌≤◌, ◌<◌, ◌⊎◌, inl, inr, ⊎_elim, ℕ, zero, suc, List, [], ◌∷◌, ◌++◌, Option, Some, None, refl, sym, ap, subst, ◌∙◌, arith, append-nil}
 use Rattle.std.specs.List.{FoldsTo}
 use Rattle.std.specs.Fmt.{WritesInCalls}
@@ -72,7 +72,7 @@ module _ {S N : Type 0} (took : S → List ℕ → S → Type 0) (name : S → N
   refused_held words s t p reason kept (inr (inr (kind, fields, asks, inr (inr (inr r))))) =
       (held t, inr (inr (kind, fields, asks, inr (inr (inr (r.0, ap held r.1, r.2))))), kept (ap name r.1))
 
--- the same of a sink over a lent stream: e is the sink after its end, and v what the stream then is
+-- the same of a sink over a borrowed stream: e is the sink at its end, and v the stream then
 module _ {O : Type 0} (contents : O → Option (List ℕ)) where
   abbrev pub Took : TextSink O → List ℕ → TextSink O → Type 0
   Took s bytes t = (t.writer.ghost_name ≡ s.writer.ghost_name) × Appends (contents s.writer.now) (contents t.writer.now) bytes

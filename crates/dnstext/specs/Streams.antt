@@ -1,4 +1,4 @@
--- What a run of the program leaves on its streams.
+-- The contents of the streams after a run of the program.
 use Rattle.std.specs.Prelude.{◌≡◌, ◌⊎◌, ℕ, List, [], Option, codes}
 use Rattle.std.specs.Io.KnownBytes.{Appends, Keeps}
 use Rattle.dnstext_lib.specs.Program.{refusal_line}
@@ -8,31 +8,31 @@ use Rattle.dnstext_lib.specs.Run.{IsUnknownCommand, RunPrinted, RunRefused}
 abbrev pub StreamGrows : Option (List ℕ) → List ℕ → Option (List ℕ) → Type 0
 StreamGrows o bytes p = Appends o p bytes
 
--- what the words ask for was printed on a stream, which kept it
+-- what the arguments request was printed on a stream, which kept it
 abbrev pub Printed : List (List ℕ) → Option (List ℕ) → Option (List ℕ) → Type 0
 Printed words o p = (q : Option (List ℕ)) × RunPrinted StreamGrows words o q × Keeps q p
 
--- it was refused for that reason, and the stream kept what was printed before
+-- it failed for that reason, and the stream kept what was printed before
 abbrev pub Refused : List (List ℕ) → Option (List ℕ) → Option (List ℕ) → List ℕ → Type 0
 Refused words o p reason = (q : Option (List ℕ)) × RunRefused StreamGrows words o q reason × Keeps q p
 
--- it was printed, which has no line on standard error, or refused, which has this line
+-- it was printed, which has no line on standard error, or failed, which has this line
 abbrev pub Ran : List (List ℕ) → Option (List ℕ) → Option (List ℕ) → List ℕ → Type 0
 Ran words o p line =
     (Printed words o p × (line ≡ []))
     ⊎ ((reason : List ℕ) × Refused words o p reason × (line ≡ refusal_line reason))
 
--- the reason that standard error has at status 1: that of the refusal; or, where the output refused at its end, `write failed` alone, whatever the run's own line was
+-- the reason on standard error at status 1: that of the error; or, if the output failed at its end, `write failed` alone, whatever the run's own line was
 abbrev pub Told : List (List ℕ) → Option (List ℕ) → Option (List ℕ) → List ℕ → Type 0
 Told words o p reason =
     Refused words o p reason
     ⊎ (((line : List ℕ) × Ran words o p line) × (reason ≡ codes "write failed"))
 
--- it was refused for a reason, and its line is on standard error
+-- it failed for a reason, and its line is on standard error
 abbrev pub TellsOn : List (List ℕ) → Option (List ℕ) → Option (List ℕ) → Option (List ℕ) → Option (List ℕ) → Type 0
 TellsOn words o p e f = (reason : List ℕ) × Told words o p reason × StreamGrows e (refusal_line reason) f
 
--- the words ask for nothing known, and nothing was printed
+-- the arguments aren't a known command, and nothing was printed
 abbrev pub PrintsNothing : List (List ℕ) → Option (List ℕ) → Option (List ℕ) → Type 0
 PrintsNothing words o p = IsUnknownCommand words × Keeps o p
 

@@ -7,8 +7,8 @@ use std::io::{BufWriter, ErrorKind};
 use std::process::ExitCode;
 use std::{env, io};
 
-/// Runs the program on its arguments, and returns the exit status. The only error is lack of
-/// memory.
+/// Runs the program on its arguments, and returns the exit status. Fails only if an allocation
+/// fails.
 fn run_arguments(rt: &HostRuntime) -> io::Result<u8> {
     let alloc = rt.alloc();
     let all = match env::args(rt) {

@@ -1,4 +1,4 @@
-//! The program over streams of bytes.
+//! Runs the program over streams of bytes.
 ghost use Rattle.std.specs.Prelude.{◌≡◌, ◌⊎◌, ◌≤◌};
 ghost use Rattle.std.specs.Io.KnownBytes.{Appends, Keeps};
 ghost use Rattle.dnstext_lib.specs.Program.{refusal_line, usage_line, bytes_of_words};
@@ -11,7 +11,7 @@ use std::alloc::Allocator;
 use std::fmt;
 use std::io::Write;
 
-/// Room for what is written to standard error: the line of a refusal, or the usage.
+/// Maximum length of what is written to standard error: the line of an error, or the usage.
 const LINE_LENGTH: usize = 128;
 
 /// A sink of text over a writer of bytes.
@@ -19,7 +19,7 @@ const LINE_LENGTH: usize = 128;
 struct TextSink<'a, W> {
     writer: &'a mut W,
 
-    /// The writer refused a text.
+    /// Whether the writer failed for a text.
     has_refused: bool,
 }
 
@@ -39,8 +39,7 @@ impl<W: Write> fmt::Write for TextSink<'_, W> {
 }
 
 impl<W: Write> TextSink<'_, W> {
-    /// Lets the writer hand on what it still holds. Whether it refuses that, and refused nothing
-    /// before.
+    /// Flushes the writer. Returns whether that fails, or a write failed before.
     fn refuses_the_end(&mut self) -> bool
         ensures loan { self.new.writer.ghost_name ≡ self.old.writer.ghost_name }
         ensures kept { Keeps (W.contents self.old.writer.now) (W.contents self.new.writer.now) }
@@ -49,7 +48,7 @@ impl<W: Write> TextSink<'_, W> {
     }
 }
 
-/// Writes the line of a refusal, and returns the exit status.
+/// Writes the line of an error, and returns the exit status.
 pub fn refuse<E: Write>(err: &mut E, reason: &str) -> u8
     ensures status { (result ≡ 1) ⊎ (result ≡ 3) }
     ensures wrote { result ≡ 1
@@ -72,11 +71,11 @@ pub fn refuse_usage<E: Write>(err: &mut E) -> u8
     }
 }
 
-/// Runs the program on the words after its name, and returns its exit status.
+/// Runs the program on its arguments, without its name, and returns the exit status.
 ///
-/// What is printed goes to `out` as it is made, and `out` is flushed before anything is written to
-/// `err`. Where `out` refuses, also at its end, the status is 1 and the one line on `err` is
-/// `refused: write failed`, whatever else was refused. Where `err` refuses, the status is 3.
+/// Output is written to `out` as it is produced, and `out` is flushed before anything is written to
+/// `err`. If `out` fails, also when it is flushed, the status is 1 and the only line on `err` is
+/// `refused: write failed`, whatever other error there was. If `err` fails, the status is 3.
 pub fn run<A: Allocator + Copy, O: Write, E: Write>(
     alloc: A,
     words: &[&str],
