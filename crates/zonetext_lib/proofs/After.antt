@@ -1,4 +1,4 @@
--- Faults and openers of octets that follow the end of an entry.
+-- Errors and openers of octets that follow the end of an entry.
 use Rattle.std.proofs.Common.{◌≡◌, ℕ, ◌+◌, ◌<◌, ◌≤◌, Bool, false, List, [], ◌∷◌, ◌++◌, length, take, drop, refl, sym, ap, ◌∙◌, subst, arith, inl, inr}
 use Rattle.std.proofs.Common.{append-nil, append_assoc, length-append, length-drop, take_all}
 use Rattle.std.specs.Prelude.{Option, map, Ok, IsSomeAnd, encode_utf8_all}
@@ -28,7 +28,7 @@ use Rattle.zonetext_lib.specs.declared.check.Found.{Found}
 use Rattle.zonetext_lib.proofs.Cuts.{fault_after}
 use Rattle.zone_format.proofs.Givens.{whole_of, pieces_after, pieces_in}
 
--- where the entry before the last ends
+-- the end of the entry before the last
 abbrev last_but_one : ℕ → ℕ → List Piece → ℕ
 last_but_one a b [] = a
 last_but_one a b (WordAt p ∷ ps) = last_but_one a b ps
@@ -150,7 +150,7 @@ entry_line octets found blank given =
     subst (λ k. IsPieces (encode_utf8_all octets) (map (moved_piece g) found ++ end_at k blank ∷ end_at (g n) false ∷ [])) all (subst (IsPieces (encode_utf8_all octets)) pieces whole) in
     ends_line (encode_utf8_all octets) (map (moved_piece g) found) (g n) blank false here
 
--- the parenthesis that is left open after it
+-- the outermost parenthesis that is open after it
 opener_on : (before octets : List ℕ) (i : ℕ) → EndsEntry before → IsOpener (encode_utf8_all octets) (place_of octets i)
     → IsOpener (encode_utf8_all (before ++ octets)) (place_of (before ++ octets) (length before + i))
 opener_on before octets i (inl none) o =
@@ -169,7 +169,7 @@ opener_on before octets i (inr e) o =
     subst (IsOpener (encode_utf8_all (before ++ octets))) at
     (subst (λ k. IsOpener k (length x + length l + place_of octets i)) all (opener_joined x text line.has_cr line.found (place_of octets i) line.splits o))
 
--- a parenthesis is left open at the end alone
+-- a parenthesis is open only at the end
 open_last : (octets : List ℕ) (f : Fault) → IsOctetFault octets f → f.wrong ≡ OpenParenthesis → length octets ≤ f.at
 open_last octets f h e =
     let text : List ℕ = encode_utf8_all octets in

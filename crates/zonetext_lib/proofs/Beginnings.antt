@@ -1,4 +1,4 @@
--- Octets that can still become zone text.
+-- Octets that can still become a zone file.
 use Rattle.std.proofs.Common.{◌≡◌, ℕ, ◌+◌, ◌≤◌, false, List, [], ◌++◌, length, refl, sym, ap, ◌∙◌, subst, arith, append-nil, length-append}
 use Rattle.std.specs.Prelude.{Option, Some, None, option_map, map, Result, Ok, encode_utf8_all}
 use Rattle.dns_split.specs.declared.pieces.Piece.{Piece}
@@ -31,7 +31,7 @@ zone_viable octets z = split_viable _ _ (pieces_split _ _ z.1)
 pub given_viable : (octets : List ℕ) (found : List Piece) → IsGiven octets (map Ok found) → IsViable (encode_utf8_all octets)
 given_viable octets found g = zone_viable octets (pieces_in (map Ok found), whole_of octets (map Ok found) g.0 (first_of_oks found))
 
--- more octets may mend a fault at the end, and no other
+-- more octets may resolve an error at the end, and no other
 pub fault_viable : (octets : List ℕ) (f : Fault) → IsOctetFault octets f → length octets ≤ f.at → IsViable (encode_utf8_all octets)
 fault_viable octets f bad h = (viable_octets_at_end octets f.at bad.is.bad).0 h
 
@@ -50,6 +50,6 @@ viable_on before octets b o ended v = go _ (run_given octets o) _ refl
         let at = viable_fault octets f (fault_of octets given f g.0 g.1 e) v in
         fault_viable (before ++ octets) _ bad (omega (arith, length-append before octets, at))
 
--- where what is held can, all can
+-- if what is stored can, all can
 pub held_viable : (all : List ℕ) (h : Held) → Holds all h → AreOctets h.octets → IsViable (encode_utf8_all h.octets) → IsViable (encode_utf8_all all)
 held_viable all h x o v = subst (λ l. IsViable (encode_utf8_all l)) (sym x.is) (viable_on x.before h.octets x.octets o x.ended v)

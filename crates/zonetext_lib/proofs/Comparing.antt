@@ -1,4 +1,4 @@
--- Two texts in step.
+-- Two texts that are compared piece by piece.
 use Rattle.std.proofs.Common.{◌≡◌, ℕ, true, false, List, [], ◌∷◌, ◌++◌, length, take, arith, refl, sym, ap, ◌∙◌, subst, append_assoc, append-nil}
 use Rattle.std.specs.Prelude.{Option, Some, None, map, Result, Ok, Err, encode_utf8_all}
 use Rattle.dns_split.specs.declared.pieces.Piece.{Piece}
@@ -19,7 +19,7 @@ use Rattle.zonetext_lib.proofs.Once.{entries_once}
 use Rattle.zonetext_lib.proofs.Parts.{ended_append, says_append}
 use Rattle.zonetext_lib.proofs.Passing.{within_after}
 
--- zone text has the entries of its pieces
+-- octets of the grammar have the entries of their pieces
 pub zone_tokens : (octets : List ℕ) (given : List (Result Piece Fault)) → ReadsOctets octets given → first_fault given ≡ None → HasTokenEntries octets (says octets None (pieces_in given))
 zone_tokens octets given r none = (parts octets (pieces_in given), (pieces_in given, whole_of octets given r none, refl), refl)
 
@@ -61,14 +61,14 @@ no_common first second p q d = λ es h k.
     let rest = append_cancel_left d.common (says first a (pieces_in d.in_first.rest)) (says second b (pieces_in d.in_second.rest)) (sym one ∙ two) in
     d.apart (sym (next_is first a d.in_first.rest d.one d.in_first.at d.in_first.next) ∙ ap first_part rest ∙ next_is second b d.in_second.rest d.other d.in_second.at d.in_second.next)
 
--- of a text these pieces were taken, after which the entry's last token ended here
+-- of a text these pieces were consumed, after which the entry's last token ended here
 pub record Taken (octets : List ℕ) (all left : List (Result Piece Fault)) (ended : Option ℕ) (common : List ComparedPart) : Type 0 where
   pub taken : List Piece
   pub is : all ≡ map Ok taken ++ left
   pub ends : ended_after_pieces None taken ≡ ended
   pub says_is : says octets None taken ≡ common
 
--- the pieces that were taken of both are the same parts
+-- the pieces that were consumed of both are the same parts
 pub record InStep (first second : List ℕ) (all_ours all_theirs ours theirs : List (Result Piece Fault)) (ended that_ended : Option ℕ) : Type 0 where
   pub common : List ComparedPart
   pub in_first : Taken first all_ours ours ended common
@@ -185,7 +185,7 @@ both_on first second all_ours all_theirs ours theirs new new2 ended that_ended n
 pub none_in_step : (first second : List ℕ) (ours theirs : List (Result Piece Fault)) → InStep first second ours theirs ours theirs None None
 none_in_step first second ours theirs = record { common = []; in_first = none_taken first ours; in_second = none_taken second theirs }
 
--- pieces were passed over that are no parts
+-- pieces that aren't parts were skipped
 pub record PassedOver (ended : Option ℕ) (old now : List (Result Piece Fault)) : Type 0 where
   pub passed : List Piece
   pub is : old ≡ map Ok passed ++ now

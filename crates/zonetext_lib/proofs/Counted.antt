@@ -1,4 +1,4 @@
--- How many entries with tokens have ended.
+-- The number of entries with tokens that have ended.
 use Rattle.std.proofs.Common.{◌≡◌, ℕ, ◌+◌, ◌<◌, ◌≤◌, Bool, true, false, not, List, [], ◌∷◌, ◌++◌, length, take, refl, sym, ap, ◌∙◌, arith, append-nil, append_assoc, length-append}
 use Rattle.std.specs.Prelude.{Option, Some, None, map, Result, Ok, Err}
 use Rattle.std.specs.Option.{is_some}
@@ -20,7 +20,7 @@ use Rattle.zonetext_lib.proofs.Parts.{ended_append, says_append}
 use Rattle.zonetext_lib.proofs.Passing.{oks_length}
 use Rattle.zonetext_lib.proofs.Same.{EndsHere, tokens_to, up_to}
 
--- these were given, and so many entries with tokens ended; once there are two, the last piece is such an end, and before it there were fewer
+-- these were returned, and `count` entries with tokens ended; if it is two, the last piece is such an end, and before it the count was less
 pub record Counted (octets : List ℕ) (given left : List (Result Piece Fault)) (count : ℕ) (some : Bool) : Type 0 where
   pub found : List Piece
   pub is : given ≡ map Ok found ++ left
@@ -69,7 +69,7 @@ sum_is octets found p = ap ends (says_append octets None found (p ∷ [])) ∙ e
 front_ends : (octets : List ℕ) (xs ys : List Piece) → ends (says octets None xs) ≤ ends (says octets None (xs ++ ys))
 front_ends octets xs ys = omega (arith, ap ends (says_append octets None xs ys), ends_append (says octets None xs) (says octets (ended_after_pieces None xs) ys))
 
--- what is in front of some pieces is in front of all but the last
+-- a prefix of some pieces is a prefix of all but the last
 all_but_last : (found xs ys : List Piece) (p : Piece) → found ++ p ∷ [] ≡ xs ++ ys → 0 < length ys → (zs : List Piece) × (found ≡ xs ++ zs)
 all_but_last found [] ys p e h = (found, refl)
 all_but_last [] (x ∷ xs) ys p e h = absurd (omega (arith, ap length e, length-append xs ys, h))
@@ -116,7 +116,7 @@ end_two octets given left count some o g more two x =
 tokens_once : (octets : List ℕ) (es fs : List ComparedPart) → HasTokenEntries octets es → HasTokenEntries octets fs → es ≡ fs
 tokens_once octets es fs a b = sym a.2 ∙ ap (with_tokens false) (entries_once octets a.0 b.0 a.1 b.1) ∙ b.2
 
--- where two ended, the pieces before are known
+-- if two ended, the pieces before are known
 record TwoEnd (octets : List ℕ) (given : List (Result Piece Fault)) : Type 0 where
   pub front : List Piece
   pub more : List (Result Piece Fault)
@@ -142,20 +142,20 @@ two_end octets given o g t =
       two = omega (arith, t.4, ap ends (tokens_once (take at octets) t.1 (says octets None front) t.3 (tokens_to octets front at here u)));
     }
 
--- what all were given in front of, and something after
+-- what precedes all that were returned, and something after
 oks_front : (found front : List Piece) (more : List (Result Piece Fault)) → map Ok found ++ [] ≡ map Ok front ++ more → 0 < length more → (ys : List Piece) × (found ≡ front ++ ys) × (0 < length ys)
 oks_front found front more e h =
     let ys : List Piece = pieces_in more in
     let is : found ≡ front ++ ys = sym (pieces_of_oks found) ∙ ap pieces_in (sym (append-nil (map Ok found)) ∙ e) ∙ pieces_after front more in
     (ys, is, omega (arith, h, ap length is, length-append front ys, ap length e, length-append (map {B = Result Piece Fault} Ok found) [], length-append (map Ok front) more, oks_length found, oks_length front))
 
--- what was given before a fault
+-- what was yielded before an error
 before_fault : (found front : List Piece) (f : Fault) (rest more : List (Result Piece Fault)) → map Ok found ++ Err f ∷ rest ≡ map Ok front ++ more → (ys : List Piece) × (found ≡ front ++ ys)
 before_fault found [] f rest more e = (found, refl)
 before_fault [] (x ∷ front) f rest more e = cc
 before_fault (y ∷ found) (x ∷ front) f rest more e = let r = before_fault found front f rest more (ap rest_of e) in (r.0, ap (λ l. y ∷ l) r.1 ∙ ap (λ z. z ∷ front ++ r.0) (ok_once y x (ap (head_of (Ok y)) e)))
 
--- all were given, and no two ended that something follows
+-- all were yielded, and no two ended that something follows
 pub not_twice : (octets : List ℕ) (given left : List (Result Piece Fault)) (count : ℕ) (some : Bool) → AreOctets octets → IsGiven octets given → left ≡ [] → Counted octets given left count some
     → EndTwice octets → ⊥
 not_twice octets given left count some o g none x t =
@@ -163,7 +163,7 @@ not_twice octets given left count some o g none x t =
     let ys = oks_front x.found e.front e.more (ap (λ l. map Ok x.found ++ l) (sym none) ∙ sym x.is ∙ e.is) e.some in
     omega (arith, e.two, x.few e.front ys.0 ys.1 ys.2)
 
--- nor before a fault
+-- nor before an error
 pub not_twice_before : (octets : List ℕ) (given left rest : List (Result Piece Fault)) (f : Fault) (count : ℕ) (some : Bool) → AreOctets octets → IsGiven octets given → left ≡ Err f ∷ rest → count < 2
     → Counted octets given left count some → EndTwice octets → ⊥
 not_twice_before octets given left rest f count some o g bad few x t =

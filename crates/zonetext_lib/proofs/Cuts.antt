@@ -26,7 +26,7 @@ take_octets n xs h = front_octets (take n xs) (drop n xs) (subst AreOctets (sym 
 pub none_given : IsGiven [] (Ok (end_at 0 false) ∷ [])
 none_given = run_given [] refl
 
--- the octets up to a cut are zone text, and the last entry has none
+-- the octets up to a cut are of the grammar, and the last entry has none
 pub cut_given : (octets : List ℕ) (found : List Piece) (at : ℕ) (blank : Bool) (more : List (Result Piece Fault)) → AreOctets octets
     → IsGiven octets (map Ok found ++ Ok (end_at at blank) ∷ more) → 0 < length more → IsGiven (take at octets) (map Ok found ++ Ok (end_at at blank) ∷ Ok (end_at at false) ∷ [])
 cut_given octets found at blank more o g some =
@@ -99,14 +99,14 @@ pub first_on : (before octets : List ℕ) (alone : List (Result Piece Fault)) (r
     → first_fault (map Ok r.front ++ later (length before) alone) ≡ option_map (moved_fault (λ i. length before + i)) (first_fault alone)
 first_on before octets alone r = fault_after r.front (later (length before) alone) ∙ moved_first (λ i. length before + i) alone
 
--- zone text that follows
+-- octets of the grammar that follow
 pub zone_on : (before octets : List ℕ) (found : List Piece) → AreOctets before → AreOctets octets → EndsEntry before → IsGiven octets (map Ok found) → IsZone (before ++ octets)
 zone_on before octets found b o e g =
     let r = read_on before octets (map Ok found) b o e g in
     let none = first_on before octets (map Ok found) r ∙ ap (option_map (moved_fault (λ i. length before + i))) (first_of_oks found) in
     (pieces_in (map Ok r.front ++ later (length before) (map Ok found)), whole_of (before ++ octets) _ r.is.0 none)
 
--- a fault that follows
+-- an error that follows
 pub fault_on : (before octets : List ℕ) (found : List Piece) (f : Fault) → AreOctets before → AreOctets octets → EndsEntry before → IsGiven octets (map Ok found ++ Err f ∷ [])
     → IsOctetFault (before ++ octets) (moved_fault (λ i. length before + i) f)
 fault_on before octets found f b o e g =
@@ -119,6 +119,6 @@ pub fault_stays_on : (before octets more : List ℕ) (found : List Piece) (f : F
     → IsGiven octets (map Ok found ++ Err f ∷ []) → f.at < length octets → IsOctetFault (before ++ (octets ++ more)) (moved_fault (λ i. length before + i) f)
 fault_stays_on before octets more found f b o m e g less = fault_on before (octets ++ more) found f b (both_octets octets more o m) e (faults_stay octets more found f o m g less)
 
--- the fault of octets alone
+-- the error of octets alone
 pub fault_alone : (octets : List ℕ) (found : List Piece) (f : Fault) → IsGiven octets (map Ok found ++ Err f ∷ []) → IsOctetFault octets f
 fault_alone octets found f g = fault_of octets _ f g.0 g.1 (fault_after found (Err f ∷ []))

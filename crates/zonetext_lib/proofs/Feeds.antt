@@ -35,7 +35,7 @@ char_last c d e = elim (cases_lt c 128) [
       absurd (omega (arith, big, ap (last_of d) f.2, e))
 ]
 
--- the last byte of a text is LF only where its last character is
+-- the last byte of a text is LF only if its last character is
 all_last : (cs : List ℕ) (d e : ℕ) → (d ≡ 10 → e ≡ 10) → last_of d (encode_utf8_all cs) ≡ 10 → last_of e cs ≡ 10
 all_last [] d e h k = h k
 all_last (c ∷ cs) d e h k = all_last cs (last_of d (encode_utf8 c)) c (char_last c d) (sym (last_append d (encode_utf8 c) (encode_utf8_all cs)) ∙ k)

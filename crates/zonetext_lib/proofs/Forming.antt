@@ -1,4 +1,4 @@
--- The form of octets that come in blocks, and why others have none.
+-- The form of octets that arrive in chunks, and why others have none.
 use Rattle.std.proofs.Common.{◌≡◌, ℕ, ◌+◌, ◌-◌, ◌<◌, ◌≤◌, ◌^◌, false, List, [], ◌∷◌, ◌++◌, length, take, drop, refl, sym, ap, ◌∙◌, subst, arith, inl, inr, append-nil, append_assoc, length-append, length-drop}
 use Rattle.std.specs.Prelude.{map, Result, Ok, Err}
 use Rattle.std.proofs.lemmas.List.{drop-append-le, get_or-append-add, get_or_append_left, take-append-drop, take-append-le}
@@ -44,7 +44,7 @@ ended_entries octets (inr e) = let l = entry_line octets e.0 e.1 e.2 in inr (rec
 settled_entries : (octets : List ℕ) (at : ℕ) → AreOctets octets → Settled octets (Ok at) → AreEntries (take at octets)
 settled_entries octets at o s = ended_entries (take at octets) (ended_at [] octets at refl o (inl refl) s)
 
--- a block is held, and its entries are formatted and let go
+-- a block is stored, and its entries are formatted and dropped
 pub formed_more : (all block written : List ℕ) (old new : Held) (s : Seam) → FormedSoFar all written (forming old s) → new.octets ≡ old.octets ++ block → new.place ≡ old.place → FormedSoFar (all ++ block) written (forming new s)
 unfolding added
 formed_more all block written old new s x is place = record { held = added all block old new x.held is place; formed = x.formed }
@@ -59,7 +59,7 @@ formed_on all written from to old new s t cut x o settled f r =
       record { held = let_go all old new cut x.held o settled r.octets r.at r.position; formed = e.2 x.held.before written x.formed },
     )
 
--- tokens of octets that stand between others
+-- tokens of octets between others
 has_front : (s e at : ℕ) (front : List Piece) (rest : List (Result Piece Fault)) → HasToken s e (map Ok front ++ Ok (end_at at false) ∷ []) → HasToken s e (map Ok front ++ rest)
 has_front s e at [] rest h = absurd h
 has_front s e at (WordAt p ∷ front) rest (inl h) = inl h
@@ -109,7 +109,7 @@ between_first : (x z : List ℕ) (s e : ℕ) → s ≤ e → e ≤ length x → 
 between_first x z s e h k =
     ap (take (e - s)) (drop-append-le s x z (omega (arith, h, k))) ∙ take-append-le (e - s) (drop s x) z (omega (arith, length-drop s x, h, k))
 
--- octets between others, with what is refused of them alone, where their tokens stay
+-- octets between others, with the error of them alone, if their tokens stay
 module _ (before x z : List ℕ) (stays : (s e : ℕ) → IsTokenBetween x s e → IsTokenBetween (before ++ (x ++ z)) (length before + s) (length before + e)) where
   abbrev all : List ℕ
   all = before ++ (x ++ z)
@@ -183,7 +183,7 @@ settled_mark all more h cut at p o s r k x m =
     subst (λ l. HasMark l p) (whole_settled all more h x cut)
     (mark_there x.before (take cut h.octets) (drop cut h.octets ++ more) (stays_settled x.before h.octets more cut x.octets o m x.ended s) at p r (k x.before x.position))
 
--- before a fault that stays
+-- before an error that stays
 stays_bad : (before octets more : List ℕ) (f : Fault) → AreOctets before → AreOctets octets → AreOctets more → EndsEntry before → Settled octets (Err f) → (s e : ℕ) → IsTokenBetween octets s e
     → IsTokenBetween (before ++ (octets ++ more)) (length before + s) (length before + e)
 stays_bad before octets more f b o m ends bad s e t = token_after before (octets ++ more) s e b (both_octets octets more o m) ends (token_bad octets more f s e o m bad t)
@@ -210,7 +210,7 @@ last_nul all h at p o r k x = subst (λ l. HasNul l p) (last_is all h x) (nul_th
 pub last_mark : (all : List ℕ) (h : Held) (at : ℕ) (p : Position) → AreOctets h.octets → IsWithoutForm h.octets (OrderMarkAt at) → StandsAt h h.octets at p → Holds all h → HasMark all p
 last_mark all h at p o r k x = subst (λ l. HasMark l p) (last_is all h x) (mark_there x.before h.octets [] (stays_last x.before h.octets x.octets o x.ended) at p r (k x.before x.position))
 
--- what is settled has no fault
+-- what is settled has no error
 cut_not_bad : (octets : List ℕ) (at : ℕ) (f : Fault) → AreOctets octets → Settled octets (Ok at) → IsOctetFault (take at octets) f → ⊥
 cut_not_bad octets at f o s bad = let w = cut_whole octets at o s in whole_not_bad (take at octets) f w bad
 
@@ -235,7 +235,7 @@ nothing_formed h s x e = record {
 pub nothing_held : (h : Held) → Holds [] h → length h.octets < 2 ^ 62
 nothing_held h x = let none : length h.octets ≡ 0 = sym (ap length (none_before x.before h.octets x.is).1) in omega (arith, none)
 
--- a block that was not taken, or is given back
+-- a block that was not added, or was removed again
 pub not_taken : (old new : Held) (s : Seam) (block from to : List ℕ) (h : Halt) → TakesBlock old new block (Err h) → AddsForm {U = Unit} (forming old s) (forming new s) block from to (Err (as_no_form h))
 not_taken old new s block from to (WrongHalt f) k = absurd k
 not_taken old new s block from to OutOfMemoryHalt k = ap (λ (h : Held). forming h s) k

@@ -1,4 +1,4 @@
--- The fault of what the cursor gave.
+-- The error of the iterator's items.
 use Rattle.std.proofs.Common.{◌≡◌, ℕ, List, length}
 use Rattle.std.specs.Prelude.{Some, Result}
 use Rattle.dns_split.specs.declared.pieces.Piece.{Piece}

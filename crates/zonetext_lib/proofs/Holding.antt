@@ -1,4 +1,4 @@
--- What is held of all octets.
+-- The stored part of all octets.
 use Rattle.std.proofs.Common.{◌≡◌, ℕ, ◌+◌, ◌≤◌, List, [], ◌++◌, length, take, drop, sym, ap, ◌∙◌, subst, arith, inl, inr, append-nil, append_assoc, length-append, length-take-le}
 use Rattle.std.specs.Prelude.{Some, None, Ok, Err}
 use Rattle.std.proofs.lemmas.List.{take-append-drop}
@@ -17,7 +17,7 @@ use Rattle.zonetext_lib.proofs.Cuts.{take_octets, ended_on, zone_on, fault_on, f
 abbrev pub held_at : List ℕ → Place → ℕ → Held
 held_at octets place left = record { octets = octets; place = place; left = left }
 
--- a fault of what is held, with its positions
+-- an error of what is held, with its positions
 pub record Located (h : Held) (f : Fault) (r : Found) : Type 0 where
   pub fault : r.fault ≡ moved_fault (λ i. h.place.at + i) f
   pub position : (before : List ℕ) → IsAt 0 before h.place.position → IsAt 0 (before ++ take f.at h.octets) r.position
@@ -63,7 +63,7 @@ ended_at before octets cut b o e s = elim s.1 [
   | inr c ↦ ended_on before octets cut b o e s.0 c
 ]
 
--- octets are let go
+-- octets are dropped
 unfoldable pub let_go : (all : List ℕ) (old new : Held) (cut : ℕ) → Holds all old → AreOctets old.octets → Settled old.octets (Ok cut)
     → new.octets ≡ drop cut old.octets → new.place.at ≡ old.place.at + cut
     → ((before : List ℕ) → IsAt 0 before old.place.position → IsAt 0 (before ++ take cut old.octets) new.place.position) → Holds all new

@@ -34,7 +34,7 @@ parts_of g d b (Word s ss ∷ ls) = Token g (lexeme_bytes (Word s ss)) ∷ parts
 parts_of g d b (Quote ss ∷ ls) = Token g (lexeme_bytes (Quote ss)) ∷ parts_of true d b ls
 parts_of g d b (_ ∷ ls) = parts_of false d b ls
 
--- a place directly after the last token, or not
+-- an offset directly after the last token, or not
 abbrev StandsAt : Option ℕ → ℕ → Bool → Type 0
 StandsAt None at g = g ≡ false
 StandsAt (Some e) at g = (e ≤ at) × ((e == at) ≡ g)
@@ -98,7 +98,7 @@ cuts (Note cs ∷ ls) text before g ended d at b e k n s = apart (Note cs) ls (c
 cuts (Word y ss ∷ ls) text before g ended d at b e k n s = token_past (Word y ss) ls (cuts ls) text before g ended d at b e k n s
 cuts (Quote ss ∷ ls) text before g ended d at b e k n s = token_past (Quote ss) ls (cuts ls) text before g ended d at b e k n s
 
--- a word or a quoted text
+-- a word or a quoted string
 abbrev is_token : Lexeme → Bool
 is_token (Word s ss) = true
 is_token (Quote ss) = true

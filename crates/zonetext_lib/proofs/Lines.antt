@@ -1,4 +1,4 @@
--- What is left to lay out.
+-- The rest to lay out.
 use Rattle.std.proofs.Common.{◌≡◌, ℕ, length, subst, Bool, true, false, ◌||◌, ◌&&◌, not, List, [], ◌∷◌, ◌++◌, refl, sym, ap, ◌∙◌, append_assoc}
 use Rattle.std.specs.Prelude.{if◌then◌else◌}
 use Rattle.std.specs.Prelude.{map, Option, Result, Ok, Err, Some, None, IfSome, encode_utf8_all}
@@ -43,7 +43,7 @@ end_left gap feed inside b out es =
     append_assoc (out ++ feed_if feed) (gap_if gap (not inside && b)) r ∙ append_assoc out (feed_if feed) (gap_if gap (not inside && b) ++ r)
     ∙ ap (λ f. out ++ (f ++ (gap_if gap (not inside && b) ++ r))) (sym (owed_some feed (Ends b) es))
 
--- the last that is given is an entry's end, or a fault
+-- the last item is an entry's end, or an error
 moved_closes : (f : ℕ → ℕ) (t : Bool) (given : List (Result Piece Fault)) → closes t (map (moved f) given) ≡ closes t given
 moved_closes f t [] = refl
 moved_closes f t (Ok (WordAt p) ∷ given) = moved_closes f false given
@@ -55,7 +55,7 @@ moved_closes f t (Err e ∷ given) = refl
 pub octets_close : (octets : List ℕ) (given : List (Result Piece Fault)) → ReadsOctets octets given → closes true given ≡ true
 octets_close octets given r = sym (moved_closes (place_of octets) true given) ∙ given_close (encode_utf8_all octets) (map (moved (place_of octets)) given) r
 
--- inside an entry of zone text it is known whether it began with a blank
+-- inside an entry it is known whether it began with a blank
 pub blank_known : (octets : List ℕ) (ended : Option ℕ) (given : List (Result Piece Fault)) (b : Bool) → closes false given ≡ true → first_fault given ≡ None
     → IfSome (next_blank given) (λ x. b ≡ x) → b ≡ leads (parts_after octets ended (pieces_in given))
 blank_known octets ended [] b c n h = cc
@@ -69,7 +69,7 @@ pub left_none : (gap : Gap) (feed inside : Bool) → left gap feed inside [] ≡
 left_none gap true inside = refl
 left_none gap false inside = refl
 
--- a token's turn: what is left to lay out after it
+-- a token's turn: the rest to lay out after it
 pub token_turn : (gap : Gap) (octets whole out token pushed : List ℕ) (feed g lead apart : Bool) (ended next : Option ℕ) (p : Piece) (given pieces rest : List (Result Piece Fault))
     → pieces ≡ Ok p ∷ rest → ((ps : List Piece) → parts_after octets ended (p ∷ ps) ≡ Token g token ∷ parts_after octets next ps) → closes (not (is_some ended)) (Ok p ∷ rest) ≡ closes false rest
     → first_fault pieces ≡ first_fault given → EachWithin (length octets) pieces → closes (not (is_some ended)) pieces ≡ true

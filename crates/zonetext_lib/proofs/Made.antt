@@ -1,4 +1,4 @@
--- What is made of octets that follow the end of an entry, and of octets with a fault that stays.
+-- The output for octets that follow the end of an entry, and for octets with an error that stays.
 use Rattle.std.proofs.Common.{◌≡◌, ℕ, zero, suc, ◌+◌, ◌<◌, Bool, true, false, List, [], ◌∷◌, ◌++◌, length, take, drop, refl, sym, ap, ◌∙◌, subst, arith, inl, inr}
 use Rattle.std.proofs.Common.{append-nil, append_assoc, length-append, take_all}
 use Rattle.std.specs.Prelude.{◌⊎◌, Option, Some, None, option_map, map, Result, Ok, Err, encode_utf8_all}
@@ -29,7 +29,7 @@ use Rattle.zonetext_lib.proofs.Following.{lines_joined, parts_back, parts_front,
 use Rattle.zonetext_lib.proofs.Parts.{parts_append, parts_ended, rows_append}
 use Rattle.zonetext_lib.proofs.Once.{entries_once}
 
--- zone text has no fault
+-- octets of the grammar have no error
 pub zone_not_bad : (octets : List ℕ) (es : List ComparedPart) (f : Fault) → HasEntries octets es → IsOctetFault octets f → ⊥
 zone_not_bad octets es f h bad =
     let text = encode_utf8_all octets in
@@ -184,7 +184,7 @@ makes_follow (Rows form) before x written more b o e w m = rows_follow before x 
 makes_follow (Lines gap) before x written more b o e w (inl h) = lines_zone before x written more gap h.0 b o e w h.1 h.2
 makes_follow (Lines gap) before x written more b o e w (inr h) = lines_bad before x written more gap h.0 h.1 b o e w h.2
 
--- what was made before a fault that stays
+-- the output before an error that stays
 lines_stay : (octets rest written : List ℕ) (gap : Gap) (found : List Piece) (f : Fault) → AreOctets octets → AreOctets rest → IsGiven octets (map Ok found ++ Err f ∷ []) → f.at < length octets
     → HasLines octets gap written → HasLines (octets ++ rest) gap written
 lines_stay octets rest written gap found f o r g less (inl h) =
@@ -231,7 +231,7 @@ pub none_made : (output : Output) → WritesOutput output [] 0 []
 none_made (Rows form) = (Ok (end_at 0 false) ∷ [], none_given, refl)
 none_made (Lines gap) = inl (parts [] (end_at 0 false ∷ []), given_zone [] (end_at 0 false ∷ []) none_given, refl)
 
--- entries before a fault are zone text
+-- entries before an error are of the grammar
 ended_given : (octets : List ℕ) (at : ℕ) (f : FaultAfter octets at) → AreOctets octets → IsGiven (take at octets) (map Ok f.ended ++ Ok (end_at at false) ∷ [])
 ended_given octets at f o = go f.ends
   where
@@ -272,7 +272,7 @@ pub none_before : (output : Output) (before octets : List ℕ) → [] ≡ before
 none_before output [] octets e = none_made output
 none_before output (x ∷ before) octets e = cc
 
--- octets up to a cut have no fault
+-- octets up to a cut have no error
 pub cut_whole : (octets : List ℕ) (at : ℕ) → AreOctets octets → Settled octets (Ok at) → (found : List Piece) × IsGiven (take at octets) (map Ok found)
 cut_whole octets at o s = go s.1
   where

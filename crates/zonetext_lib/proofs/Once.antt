@@ -14,12 +14,12 @@ use Rattle.dns_split.proofs.PieceSplit.{pieces_one_way}
 use Rattle.zone_format.proofs.Same.{head_of, moved_between, place_sum, rest_of}
 use Rattle.zonetext_lib.specs.Entries.{ComparedPart, Token, Ends, begins_glued, parts, parts_after, HasEntries}
 
--- the same part of the text of which each octet is a character
+-- the same part of the text in which each octet is a character
 abbrev pub encoded : ComparedPart → ComparedPart
 encoded (Token g t) = Token g (encode_utf8_all t)
 encoded (Ends b) = Ends b
 
--- no other place is that of an octet
+-- no other offset is that of an octet
 place_once : (octets : List ℕ) (e s : ℕ) → s < length octets → place_of octets e ≡ place_of octets s → e ≡ s
 place_once octets e s h k = elim (cases_lt e s) [
   | inl less ↦ absurd (omega (arith, k, mono octets e s less (omega arith)))
@@ -42,7 +42,7 @@ glued_moved : (octets : List ℕ) (ended : Option ℕ) (s : ℕ) → s < length 
 glued_moved octets None s h = refl
 glued_moved octets (Some e) s h = same_test octets e s h
 
--- each token begins before a place
+-- each token begins before an offset
 abbrev pub StartWithin : ℕ → List Piece → Type 0
 StartWithin n [] = ⊤
 StartWithin n (WordAt p ∷ ps) = (p.start < n) × StartWithin n ps

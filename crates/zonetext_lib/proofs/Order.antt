@@ -1,4 +1,4 @@
--- The tokens that the cursor gives stand in order.
+-- The tokens that `Pieces` yields are in order.
 use Rattle.std.proofs.Common.{◌≡◌, ℕ, zero, suc, ◌≤◌, Bool, List, [], ◌∷◌, ◌++◌, length, take, refl, sym, subst, arith, inl, inr}
 use Rattle.std.specs.Prelude.{⊤, map, Result, Ok, Err, encode_utf8_all}
 use Rattle.dns_split.specs.declared.pieces.Piece.{Piece}
@@ -9,7 +9,7 @@ use Rattle.dns_split.specs.Pieces.{pieces, begins_blank, IsPieces, Reads, ReadsO
 use Rattle.dns_split.proofs.PieceSplit.{split_pieces}
 use Rattle.zone_format.proofs.Follow.{back}
 
--- each token begins where the one before it began, or later, and nothing follows a fault
+-- each token begins where the one before it began, or later, and nothing follows an error
 abbrev pub InOrder : ℕ → List (Result Piece Fault) → Type 0
 InOrder n [] = ⊤
 InOrder n (Ok (WordAt p) ∷ given) = (n ≤ p.start) × InOrder p.start given

@@ -1,4 +1,4 @@
--- Pieces that the cursor gave, and what is left of them.
+-- Pieces that the iterator yielded, and what remains of them.
 use Rattle.std.proofs.Common.{◌≡◌, ℕ, suc, ◌+◌, ◌<◌, ◌≤◌, Bool, false, List, [], ◌∷◌, ◌++◌, length, refl, sym, ap, ◌∙◌, subst, arith, inl, inr, append-nil, append_assoc, length-append}
 use Rattle.std.specs.Prelude.{◌⊎◌, ◌↔◌, IsTrue, map, Result, Ok, Err}
 use Rattle.std.proofs.lemmas.Bool.{cases_lt}
@@ -11,7 +11,7 @@ use Rattle.zonetext_lib.specs.Blocks.{EndsEntryAt}
 use Rattle.zonetext_lib.specs.Writing.{EndsAt, FaultAfter, has_end}
 use Rattle.zonetext_lib.proofs.Order.{InOrder, in_order}
 
--- these were given, and those are left
+-- these were yielded, and those remain
 pub record Passed (given left : List (Result Piece Fault)) : Type 0 where
   pub found : List Piece
   pub is : given ≡ map Ok found ++ left
@@ -32,7 +32,7 @@ none_after n (QuoteAt p ∷ found) f rest o = none_after p.start found f rest o.
 none_after n (CommentAt p ∷ found) f rest o = none_after n found f rest o
 none_after n (EndAt p ∷ found) f rest o = none_after n found f rest o
 
--- a fault comes last
+-- an error comes last
 pub fault_passed : (octets : List ℕ) (given left now : List (Result Piece Fault)) (f : Fault) → IsGiven octets given → now ≡ Err f ∷ left → (x : Passed given now)
     → IsGiven octets (map Ok x.found ++ Err f ∷ [])
 fault_passed octets given left now f g e x =
@@ -43,7 +43,7 @@ fault_passed octets given left now f g e x =
 pub all_passed : (octets : List ℕ) (given now : List (Result Piece Fault)) → IsGiven octets given → now ≡ [] → (x : Passed given now) → IsGiven octets (map Ok x.found)
 all_passed octets given now g e x = subst (IsGiven octets) (x.is ∙ ap (λ l. map Ok x.found ++ l) e ∙ append-nil (map Ok x.found)) g
 
--- an entry's end was given, before this many more
+-- an entry's end was yielded, before this many more
 pub record Ended (given left : List (Result Piece Fault)) (at : ℕ) : Type 0 where
   pub found : List Piece
   pub blank : Bool
@@ -70,7 +70,7 @@ pub oks_length : (xs : List Piece) → length (map {B = Result Piece Fault} Ok x
 oks_length [] = refl
 oks_length (x ∷ xs) = ap suc (oks_length xs)
 
--- it is a cut where something follows
+-- it is a cut if something follows
 pub ended_cut : (octets : List ℕ) (given left : List (Result Piece Fault)) (at : ℕ) → IsGiven octets given → (x : Ended given left at) → 0 < length x.more + length left
     → (at ≤ length octets) × EndsEntryAt octets at
 ended_cut octets given left at g x some =
@@ -79,7 +79,7 @@ ended_cut octets given left at g x some =
       (x.found, x.blank, map Ok x.more ++ left, here, omega (arith, some, length-append (map Ok x.more) left, oks_length x.more)),
     )
 
--- an entry's end was given, and more after it
+-- an entry's end was yielded, and more after it
 abbrev pub EndedBefore : List (Result Piece Fault) → List (Result Piece Fault) → ℕ → Type 0
 EndedBefore given left at = (x : Ended given left at) × (0 < length x.more)
 
@@ -89,7 +89,7 @@ end_then_more given left now p at e x =
     let n : 0 < length (x.more ++ p ∷ []) = omega (arith, length-append x.more (p ∷ [])) in
     (ended_before given left now p at e x, n)
 
--- the last entry's end, and the one before it, where there are any
+-- the last entry's end, and the one before it, if there are any
 abbrev pub LastEnd : List (Result Piece Fault) → List (Result Piece Fault) → ℕ → Type 0
 LastEnd given left at = (at ≡ 0) ⊎ Ended given left at
 
@@ -139,7 +139,7 @@ before_end at n b h e = elim (cases_lt at n) [
   | inr most ↦ let t : IsTrue false = subst IsTrue e (h.1 most) in cc
 ]
 
--- what was given, up to the last entry's end and after it
+-- what was yielded, up to the last entry's end and after it
 pub record Parted (given left : List (Result Piece Fault)) (at : ℕ) : Type 0 where
   pub ended : List Piece
   pub last : List Piece

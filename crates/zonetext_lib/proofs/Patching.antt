@@ -5,11 +5,11 @@ use Rattle.dns_split.specs.Pieces.{between}
 use Rattle.dns_split.specs.declared.pieces.Span.{Span}
 use Rattle.zonetext_lib.specs.Patches.{AreBehind, comment_goes_on, is_space, kept_len, kept_with, taken_out}
 
--- what is left of a list begins with the element that is next
+-- the rest of a list begins with the element that is next
 rest_of : {X : Type 0} (xs : List X) (i : ℕ) (x d : X) → i < length xs → x ≡ get_or xs i d → drop i xs ≡ x ∷ drop (i + 1) xs
 rest_of xs i x d lt is = drop_more xs i d lt ∙ ap (λ y. y ∷ drop (i + 1) xs) (sym is)
 
--- so many octets stay where so many stayed up to a place, and some more do behind it
+-- the number of kept octets, if `kept` are up to an offset, and some more after it
 abbrev pub kept_behind : ℕ → ℕ → ℕ → ℕ
 kept_behind kept at zero = kept
 kept_behind kept at (suc more) = at + suc more
@@ -29,7 +29,7 @@ kept_next gap i octet is_comment kept at lt is =
     ∙ stays kept at (kept_len (comment_goes_on is_comment octet) (drop (i + 1) gap)) (is_comment || not (is_space octet))
 
 module _ (octets : List ℕ) (tokens : List Span) (i : ℕ) (t d : Span) (at : ℕ) (lt : i < length tokens) (is : t ≡ get_or tokens i d) where
-  -- a token more was taken out
+  -- one more token was removed
   pub taken_next : (old made : List Span) (n : ℕ) → made ≡ old ++ record { start = at + n; end = t.end } ∷ [] → n ≡ kept_len false (between octets at t.start)
       → made ++ taken_out octets t.end (drop (i + 1) tokens) ≡ old ++ taken_out octets at (drop i tokens)
   taken_next old made n e kept =

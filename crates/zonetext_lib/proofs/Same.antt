@@ -1,4 +1,4 @@
--- Entries with tokens that are the same in two texts, up to a place in each.
+-- Entries with tokens that are the same in two texts, up to an offset in each.
 use Rattle.std.proofs.Common.{◌≡◌, ℕ, ◌<◌, Bool, false, List, [], ◌∷◌, ◌++◌, length, take, drop, true, refl, sym, ap, ◌∙◌, subst, arith, inl, inr, append-nil, append_assoc, length-append, ◌+◌}
 use Rattle.std.specs.Prelude.{◌⊎◌, Option, Some, None, map, Result, Ok, IfSome}
 use Rattle.std.proofs.lemmas.List.{map-append, take-append-drop}
@@ -73,7 +73,7 @@ tokens_to octets front at e u =
     says_append octets None front end ∙ ap (λ o. says octets None front ++ says octets o end) (here_none front at e) ∙ append-nil (says octets None front) in
     (parts octets front ++ Ends false ∷ [], u.entries, ap (with_tokens false) (sym (parts_append octets None front end)) ∙ none)
 
--- of what was given an entry ended here, before which the parts are these; what follows is of one entry, unless none has begun
+-- an entry ended here, before which the parts are these; what follows is of one entry, unless none has begun
 pub record Begun (octets : List ℕ) (all left : List (Result Piece Fault)) (ended : Option ℕ) (at : ℕ) (es : List ComparedPart) : Type 0 where
   pub front : List Piece
   pub more : List Piece
@@ -91,7 +91,7 @@ none_begun octets all = record { front = []; more = []; is = refl; ends = inl (r
 pub none_last : (first second : List ℕ) (ours theirs : List (Result Piece Fault)) → Last first second ours theirs ours theirs None None 0 0
 none_last first second ours theirs = ([], none_begun first ours, none_begun second theirs)
 
--- a token was taken
+-- a token was consumed
 token_begun : (octets : List ℕ) (all old new : List (Result Piece Fault)) (ended next : Option ℕ) (at : ℕ) (es : List ComparedPart) (p : Piece) → SkipsToPart ended old (Some (Ok p)) new → (next ≡ None → ⊥)
     → Begun octets all old ended at es → Begun octets all new next at es
 token_begun octets all old new ended next at es p s some x =
@@ -107,7 +107,7 @@ token_begun octets all old new ended next at es p s some x =
       none = λ n. absurd (some n);
     }
 
--- an end was taken
+-- an end was consumed
 end_begun : (octets : List ℕ) (all old new : List (Result Piece Fault)) (ended next : Option ℕ) (common : List ComparedPart) (e : ComparedPart) (p : Piece) (end : EndOfEntry) → p ≡ EndAt end
     → Taken octets all old ended common → SkipsToPart ended old (Some (Ok p)) new → part octets ended p ≡ e → Begun octets all new next end.at (common ++ e ∷ [])
 end_begun octets all old new ended next common e p end is x s same =
@@ -123,7 +123,7 @@ end_begun octets all old new ended next common e p end is x s same =
       none = λ n. refl;
     }
 
--- the same part is no end, or an end in both
+-- of the same part, neither piece is an end, or both are
 token_is : (octets : List ℕ) (ended next : Option ℕ) (p : Piece) → ((end : EndOfEntry) → p ≡ EndAt end → ⊥) → says octets ended (p ∷ []) ≡ part octets ended p ∷ [] → next ≡ ended_by ended p → next ≡ None → ⊥
 token_is octets ended next (WordAt p) not_end s e n = let k : Some p.end ≡ None = sym e ∙ n in cc
 token_is octets ended next (QuoteAt p) not_end s e n = let k : Some p.end ≡ None = sym e ∙ n in cc
@@ -166,7 +166,7 @@ last_end first second all_ours all_theirs ours theirs new new2 ended that_ended 
       subst (λ n. Begun second all_theirs new2 that_next n (common ++ e ∷ [])) (sym (at ∙ o.2)) (end_begun second all_theirs theirs new2 that_ended that_next common e q o.0 o.1 y t refl),
     )
 
--- where the last of such entries ends it can be cut
+-- at the end of the last of such entries it can be cut
 some_left : (old left : List (Result Piece Fault)) (passed : List Piece) → old ≡ map Ok passed ++ left → 0 < length left → 0 < length old
 some_left old left passed e some = subst (λ (l : List (Result Piece Fault)). 0 < length l) (sym e) (omega (arith, some, length-append (map {B = Result Piece Fault} Ok passed) left))
 
@@ -228,7 +228,7 @@ cut_both first second all_ours all_theirs ours theirs ended that_ended last that
     subst (λ n. SameUntil first second n that_now) (sym e) (subst (λ n. SameUntil first second (if_both here there cut) n) (sym k)
     (both_cut first second all_ours all_theirs ours theirs ended that_ended last that_last cut that_cut here there o p g h x c d u))
 
--- what was taken, as it was found to be
+-- what was consumed, as it was found to be
 pub found_skips : (ended : Option ℕ) (old new : List (Result Piece Fault)) (o : Option (Result Piece Fault)) (x : Result Piece Fault) (p : Piece) → o ≡ Some x → x ≡ Ok p → SkipsToPart ended old o new
     → SkipsToPart ended old (Some (Ok p)) new
 found_skips ended old new o x p e k s = subst (λ y. SkipsToPart ended old (Some y) new) k (subst (λ y. SkipsToPart ended old y new) e s)

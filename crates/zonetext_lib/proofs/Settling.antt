@@ -1,4 +1,4 @@
--- Entries that are laid out while it is found how far they are settled.
+-- Entries that are laid out while the settled ones are found.
 use Rattle.std.proofs.Common.{◌≡◌, ℕ, ◌<◌, ◌≤◌, Bool, true, false, ◌||◌, ◌&&◌, not, List, [], ◌∷◌, ◌++◌, length, take, refl, sym, ap, ◌∙◌, subst, arith, inl, inr, append-nil, append_assoc, length-append, take_all}
 use Rattle.std.specs.Prelude.{◌⊎◌, map, Option, Some, None, Result, Ok, IfSome}
 use Rattle.std.specs.Option.{is_some}
@@ -30,7 +30,7 @@ passed_on : (given left now : List (Result Piece Fault)) (passed : List Piece) (
 passed_on given left now passed p e g =
     g ∙ ap (λ l. map Ok passed ++ l) e ∙ sym (append_assoc (map Ok passed) (Ok p ∷ []) left) ∙ ap (λ l. l ++ left) (sym (map-append Ok passed (p ∷ [])))
 
--- the end of the entry says whether it began with a blank
+-- the end of the entry has whether it began with a blank
 leads_is : (octets : List ℕ) (ended : Option ℕ) (rest : List Piece) (more : List (Result Piece Fault)) (tail : List ComparedPart) (b : Bool) → has_end rest ≡ true
     → IfSome (next_blank (map Ok rest ++ more)) (λ x. b ≡ x) → b ≡ leads (parts_after octets ended rest ++ tail)
 leads_is octets ended [] more tail b h k = cc
@@ -91,7 +91,7 @@ end_laid gap octets old given left now out new ended p e is x = record {
       ∙ ap (λ l. old ++ laid_out gap false (parts octets l ++ tail)) (sym (append_assoc x.passed (EndAt p ∷ []) rest));
 }
 
--- an end was given, and then more; and what was out then
+-- an end was yielded, and then more; and the output then
 pub record MarkAt (gap : Gap) (octets old : List ℕ) (given left : List (Result Piece Fault)) (at : ℕ) (out : List ℕ) : Type 0 where
   pub front : List Piece
   pub more : List Piece
@@ -157,7 +157,7 @@ marked_before gap octets old given left at out o g (inr x) =
     let es : List ComparedPart = parts octets x.0.front ++ Ends false ∷ [] in
     (u.settled, (laid_out gap false es, x.0.text, inl (es, u.entries, refl)))
 
--- where the loop stands
+-- the state of the loop
 pub record Settling (gap : Gap) (octets old : List ℕ) (given left : List (Result Piece Fault)) (out : List ℕ) (ended : Option ℕ) (kept before made_before last made : ℕ) : Type 0 where
   pub given_is : IsGiven octets given
   pub laid : Laid gap octets old given left out ended
@@ -223,6 +223,6 @@ starts gap octets old given kept long g =
       made_before_within = within;
     }
 
--- what is left of pieces that are within octets
+-- the remaining pieces that are within octets
 pub left_within : (n : ℕ) (given left : List (Result Piece Fault)) (passed : List Piece) → given ≡ map Ok passed ++ left → EachWithin n given → EachWithin n left
 left_within n given left passed e w = within_after n passed left (subst (EachWithin n) e w)

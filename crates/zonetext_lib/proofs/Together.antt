@@ -1,4 +1,4 @@
--- Two texts whose entries are the same so far.
+-- Two texts whose entries are the same up to here.
 use Rattle.std.proofs.Common.{◌≡◌, ℕ, ◌+◌, ◌-◌, ◌≤◌, true, false, List, [], ◌∷◌, ◌++◌, length, take, refl, sym, ap, ◌∙◌, subst, arith, append-nil, append_assoc, length-append, ◌==◌, cond}
 use Rattle.std.specs.Prelude.{Option, Some, None, option_map, map, Result, Ok, Err}
 use Rattle.std.proofs.lemmas.List.{map-append}
@@ -60,7 +60,7 @@ tokens_follow before x es fs b o e h k =
     ∙ ap (λ l. l ++ says (before ++ x) None (pieces_in (later n alone))) (says_front before x alone es r h) ∙ ap (λ l. es ++ l) back in
     (parts (before ++ x) (pieces_in all), (pieces_in all, whole_of (before ++ x) all r.is.0 none, refl), shape)
 
--- what is the same is let go
+-- what is the same is dropped
 pub compared_on : (one other : List ℕ) (old new : Both) (cut there : ℕ) (fs : List ComparedPart) → Compared one other old → AreOctets old.first.octets → AreOctets old.second.octets
     → Settled old.first.octets (Ok cut) → Settled old.second.octets (Ok there) → HasTokenEntries (take cut old.first.octets) fs → HasTokenEntries (take there old.second.octets) fs
     → Releases old.first new.first cut → Releases old.second new.second there → Compared one other new
@@ -113,7 +113,7 @@ next_back before x ended (Ok p ∷ rest) e at h = (
 )
 next_back before x ended (Err f ∷ rest) e at h = absurd h
 
--- octets that follow go on alike
+-- octets that follow continue alike
 go_on : (before x : List ℕ) (es common : List ComparedPart) (e : Option ComparedPart) (p q : Position) → AreOctets before → AreOctets x → EndsEntry before → HasTokenEntries before es → GoesOnWithPart x common e p
     → q.line ≡ feeds before + p.line → q.column ≡ p.column → GoesOnWithPart (before ++ x) (es ++ common) e q
 go_on before x es common e p q b o ends h g line column =
@@ -162,7 +162,7 @@ compared_differ one other c p q s t x oa ob d sl sc tl tc =
     } in
     (all, no_common one other s t all)
 
--- what is held has no fault where all octets have none
+-- what is stored has no error if all octets have none
 pub still_well : (all : List ℕ) (h : Held) (f : Fault) → Holds all h → AreOctets h.octets → IsOctetFault h.octets f → IsZone all → ⊥
 still_well all h f x o bad zone = go (first_fault alone) refl
   where
@@ -179,7 +179,7 @@ still_well all h f x o bad zone = go (first_fault alone) refl
         let there = fault_of (x.before ++ h.octets) _ _ r.is.0 r.is.1 (first_on x.before h.octets alone r ∙ ap (option_map (moved_fault (λ i. length x.before + i))) some) in
         zone_not_bad all (parts all zone.0) _ (zone.0, zone.1, refl) (subst (λ l. IsOctetFault l (moved_fault (λ i. length x.before + i) e)) (sym x.is) there)
 
--- a position among octets is no further on than they are many
+-- the line of an octet is at most the number of octets and 1
 pub line_within : (octets : List ℕ) (at : ℕ) (p : Position) → IsAt 0 (take at octets) p → p.line ≤ length octets + 1
 line_within octets at p i = omega (arith, i.0, sum_by-take-le (λ x. cond (x == 10) 1 0) octets at, count_by-le-length (λ c. c == 10) octets)
 

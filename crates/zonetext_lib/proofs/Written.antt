@@ -54,7 +54,7 @@ writes_all w octets from to output h lines is held o at m = λ all written x.
     let whole = wrote_rest all written m.0 output h lines (subst (Wrote all written) (sym is) x) (subst AreOctets held o) at made in
     (m.0, m.1, subst (λ (w : Writing). WritesOutput w.output all 0 (written ++ m.0)) is whole)
 
--- and stays, where a fault does
+-- and stays, if an error does
 pub wrote_bad : (all written more rest : List ℕ) (output : Output) (h : Held) (lines : ℕ) (f : Fault) → Wrote all written (writing output h) → AreOctets h.octets → AreOctets rest
     → lines ≡ h.place.position.line - 1 → Settled h.octets (Err f) → WritesOutput output h.octets lines more → WritesOutput output (all ++ rest) 0 (written ++ more)
 wrote_bad all written more rest output h lines f x o r is s m =

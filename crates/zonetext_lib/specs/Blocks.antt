@@ -1,4 +1,4 @@
--- Octets that come in blocks.
+-- Octets that arrive in chunks.
 use Rattle.std.specs.Prelude.{◌≡◌, ℕ, ◌+◌, ◌*◌, ◌<◌, ◌≤◌, ◌^◌, ◌⊎◌, ◌↔◌, IsTrue, Bool, false, List, [], ◌∷◌, ◌++◌, length, take, drop, map, Option, Some, None, Result, Ok, Err, encode_utf8_all}
 use Rattle.dns_split.specs.Pieces.{AreOctets, IsGiven, end_at}
 use Rattle.dns_split.specs.Viable.{IsViable}
@@ -11,11 +11,11 @@ use Rattle.zonetext_lib.specs.Found.{IsFound}
 use Rattle.zonetext_lib.specs.Held.{Held}
 use Rattle.zone_format.specs.Place.{IsAt}
 
--- no octets, or zone text whose last entry has none
+-- no octets, or octets of the grammar whose last entry has none
 abbrev pub EndsEntry : List ℕ → Type 0
 EndsEntry octets = (octets ≡ []) ⊎ ((found : List Piece) × (blank : Bool) × IsGiven octets (map Ok found ++ Ok (end_at (length octets) blank) ∷ Ok (end_at (length octets) false) ∷ []))
 
--- of all octets that were added these are held: those before them ended with an entry's end, and were let go
+-- of all added octets these are stored: those before them ended with an entry's end, and were dropped
 pub record Holds (all : List ℕ) (h : Held) : Type 0 where
   pub before : List ℕ
   pub is : all ≡ before ++ h.octets
@@ -24,25 +24,25 @@ pub record Holds (all : List ℕ) (h : Held) : Type 0 where
   pub at : h.place.at ≡ length before
   pub position : IsAt 0 before h.place.position
 
--- a block was added; or all octets with it have this fault, whatever follows; or nothing changed
+-- a block was added; or all octets with it have this error, whatever follows; or nothing changed
 abbrev pub AddsBlock : {U : Type 0} → Held → Held → List ℕ → Result U Halt → Type 0
 AddsBlock old new block (Ok u) = (all : List ℕ) → Holds all old → Holds (all ++ block) new
 AddsBlock old new block (Err (WrongHalt f)) = (all : List ℕ) → Holds all old → Holds (all ++ block) new × ((more : List ℕ) → AreOctets more → IsFound ((all ++ block) ++ more) 0 f)
 AddsBlock old new block (Err OutOfMemory) = new ≡ old
 AddsBlock old new block (Err TooLong) = (new ≡ old) × (2 ^ 64 ≤ old.place.at + length old.octets + length block + 2)
 
--- other octets are held, from the same place on
+-- other octets are stored, from the same offset on
 abbrev pub IsHeld : List ℕ → Held → Held → Type 0
 IsHeld octets old new = (new.octets ≡ octets) × (new.place ≡ old.place) × (new.left ≡ old.left)
 
--- a block is held too, and it is time to read where twice as much is held as was left over; or nothing changed
+-- a block is stored too, and parsing is due if twice the octets that were left are stored; or nothing changed
 abbrev pub TakesBlock : Held → Held → List ℕ → Result Bool Halt → Type 0
 TakesBlock old new block (Ok reads) = (new.octets ≡ old.octets ++ block) × (new.place ≡ old.place) × (new.left ≡ old.left) × (IsTrue reads ↔ (2 * old.left ≤ length new.octets))
 TakesBlock old new block (Err (WrongHalt f)) = ⊥
 TakesBlock old new block (Err OutOfMemory) = new ≡ old
 TakesBlock old new block (Err TooLong) = (new ≡ old) × (2 ^ 64 ≤ old.place.at + length old.octets + length block + 2)
 
--- the first octets are no longer held
+-- the first octets are no longer stored
 pub record Releases (old new : Held) (cut : ℕ) : Type 0 where
   pub octets : new.octets ≡ drop cut old.octets
   pub left : new.left ≡ length new.octets
@@ -53,23 +53,23 @@ pub record Releases (old new : Held) (cut : ℕ) : Type 0 where
 abbrev pub EndsEntryAt : List ℕ → ℕ → Type 0
 EndsEntryAt octets at = (found : List Piece) × (blank : Bool) × (more : List (Result Piece Fault)) × IsGiven octets (map Ok found ++ Ok (end_at at blank) ∷ more) × (0 < length more)
 
--- what octets give up to here stays whatever follows; or their fault does
+-- the items of octets up to here stay the same whatever follows; or their error does
 abbrev pub Settled : List ℕ → Result ℕ Fault → Type 0
 Settled octets (Ok at) = (at ≤ length octets) × ((at ≡ 0) ⊎ EndsEntryAt octets at)
 Settled octets (Err f) = (found : List Piece) × IsGiven octets (map Ok found ++ Err f ∷ []) × (f.at < length octets)
 
--- what is held can be cut here; or all octets have this fault, whatever follows
+-- what is held can be cut here; or all octets have this error, whatever follows
 abbrev pub SettlesHeld : Held → Result ℕ Found → Type 0
 SettlesHeld h (Ok at) = Settled h.octets (Ok at)
 SettlesHeld h (Err f) = (e : Fault) × Settled h.octets (Err e) × ((all more : List ℕ) → Holds all h → AreOctets more → IsFound (all ++ more) 0 f)
 
--- a block was added, and all octets with it can still become zone text; or it is held with less than twice as much as was left over, and was not read yet
+-- a block was added, and all octets with it can still become a zone file; or less is stored than twice what was left, and it isn't parsed yet
 abbrev pub AddsInTime : {U : Type 0} → Held → Held → List ℕ → Result U Halt → Type 0
 AddsInTime old new block (Ok u) = ((new.left ≡ length new.octets) × ((all : List ℕ) → Holds all old → IsViable (encode_utf8_all (all ++ block))))
     ⊎ ((new.octets ≡ old.octets ++ block) × (new.left ≡ old.left) × (length new.octets < 2 * old.left))
 AddsInTime old new block (Err h) = new.left ≡ old.left
 
--- octets have this fault after their pieces, or none
+-- octets have this error after their pieces, or none
 abbrev pub EndsWith : List ℕ → Option Fault → Type 0
 EndsWith octets None = (found : List Piece) × IsGiven octets (map Ok found)
 EndsWith octets (Some f) = (found : List Piece) × IsGiven octets (map Ok found ++ Err f ∷ [])

@@ -1,4 +1,4 @@
--- How the entries of two zone texts compare.
+-- How the entries of two zone files compare.
 use Rattle.std.specs.Prelude.{⊤, ◌≡◌, ◌<◌, ◌⊎◌, ℕ, Bool, true, false, List, [], ◌∷◌, ◌++◌, length, take, map, Option, Some, None, Result, Ok, Err}
 use Rattle.std.specs.Option.{is_some}
 use Rattle.dns_split.specs.Pieces.{EachWithin, ReadsOctets, between, end_at, piece_start}
@@ -12,11 +12,11 @@ use Rattle.zonetext_lib.specs.Entries.{ComparedPart, Token, Ends, HasTokenEntrie
 use Rattle.zonetext_lib.specs.Found.{IsFound}
 use Rattle.zone_format.specs.Place.{IsAt}
 
--- the parts that pieces are of those entries that have tokens, where the entry's last token so far, if it has one, ended here
+-- the parts of those entries with tokens that pieces are, if the entry's last token before, if it has one, ended here
 abbrev pub says : List ℕ → Option ℕ → List Piece → List ComparedPart
 says octets ended ps = with_tokens (is_some ended) (parts_after octets ended ps)
 
--- the part that a piece is there: its octets, glued or not, or an entry's end
+-- the part that a piece is there: its octets, adjacent or not, or an entry's end
 abbrev pub part : List ℕ → Option ℕ → Piece → ComparedPart
 part octets ended (WordAt p) = Token (begins_glued ended p.start) (between octets p.start p.end)
 part octets ended (QuoteAt p) = Token (begins_glued ended p.start) (between octets p.start p.end)
@@ -29,13 +29,13 @@ IsPieceText octets (QuoteAt p) t = t ≡ between octets p.start p.end
 IsPieceText octets (CommentAt p) t = t ≡ between octets p.start p.end
 IsPieceText octets (EndAt p) t = ⊤
 
--- what is passed over: a comment, and the end of an entry without tokens
+-- what is skipped: a comment, and the end of an entry without tokens
 abbrev pub is_passed : Option ℕ → Result Piece Fault → Bool
 is_passed ended (Ok (CommentAt p)) = true
 is_passed None (Ok (EndAt p)) = true
 is_passed ended _ = false
 
--- what was taken from the front: pieces that are no parts, and a piece that is one, or a fault, or nothing at the end
+-- what was consumed: pieces that aren't parts, and a piece that is one, or an error, or nothing at the end
 abbrev pub TakesPart : Option ℕ → Option (Result Piece Fault) → List (Result Piece Fault) → List (Result Piece Fault) → Type 0
 TakesPart ended None left new = (left ≡ []) × (new ≡ [])
 TakesPart ended (Some (Ok p)) left new = (left ≡ Ok p ∷ new) × ((octets : List ℕ) → says octets ended (p ∷ []) ≡ part octets ended p ∷ [])
@@ -49,7 +49,7 @@ pub record SkipsToPart (ended : Option ℕ) (old : List (Result Piece Fault)) (t
   pub stays : ended_after_pieces ended passed ≡ ended
   pub takes : TakesPart ended taken left new
 
--- the entry before ended here; what was passed over up to here, where an entry without tokens ends, is no part; something follows
+-- the entry before ended here; what was skipped up to here, the end of an entry without tokens, isn't a part; something follows
 pub record CanCut (ended : Option ℕ) (last : ℕ) (old : List (Result Piece Fault)) (at : ℕ) : Type 0 where
   pub passed : List Piece
   pub left : List (Result Piece Fault)
@@ -58,13 +58,13 @@ pub record CanCut (ended : Option ℕ) (last : ℕ) (old : List (Result Piece Fa
   pub no_parts : (octets : List ℕ) → says octets ended passed ≡ []
   pub ends : ((passed ≡ []) × (at ≡ last)) ⊎ ((ended ≡ None) × (first : List Piece) × (blank : Bool) × (passed ≡ first ++ end_at at blank ∷ []))
 
--- the part that comes next, or nothing, and where it begins; a comment is none, nor the end of an entry without tokens
+-- the next part, or nothing, and its offset; a comment isn't a part, nor the end of an entry without tokens
 abbrev pub ComesNext : List ℕ → Option ℕ → List (Result Piece Fault) → Option ComparedPart → ℕ → Type 0
 ComesNext octets ended [] e at = (e ≡ None) × (at ≡ length octets)
 ComesNext octets ended (Ok p ∷ given) e at = (e ≡ Some (part octets ended p)) × (at ≡ piece_start p) × (says octets ended (p ∷ []) ≡ part octets ended p ∷ [])
 ComesNext octets ended (Err f ∷ given) e at = ⊥
 
--- after the same parts the octets go on with this part at this position
+-- after the same parts the octets continue with this part at this position
 pub record GoesOnWithPart (octets : List ℕ) (common : List ComparedPart) (e : Option ComparedPart) (p : Position) : Type 0 where
   pub before : List Piece
   pub rest : List (Result Piece Fault)

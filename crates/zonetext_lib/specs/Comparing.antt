@@ -1,4 +1,4 @@
--- Two zone texts that come in blocks, and are compared.
+-- Two zone files that arrive in chunks, and are compared.
 use Rattle.std.specs.Prelude.{ℕ, ◌+◌, ◌≤◌, ◌⊎◌, List, [], ◌∷◌, Option, Some, Ok, Err, encode_utf8_all, take}
 use Rattle.dns_split.specs.Viable.{IsViable}
 use Rattle.dns_split.specs.declared.pieces.Fault.{Fault}
@@ -8,7 +8,7 @@ use Rattle.zonetext_lib.specs.Blocks.{Holds, EndsEntryAt, Settled}
 use Rattle.zonetext_lib.specs.Entries.{ComparedPart, Token, Ends, HasTokenEntries}
 use Rattle.zonetext_lib.specs.Held.{Both, Held}
 
--- what is held on one side, and the other side
+-- what is stored of one file, and the other file
 abbrev pub on_side : Side → Both → Held
 on_side FirstSide c = c.first
 on_side SecondSide c = c.second
@@ -17,7 +17,7 @@ abbrev pub opposite : Side → Side
 opposite FirstSide = SecondSide
 opposite SecondSide = FirstSide
 
--- of both texts these are held; what came before has the same entries with tokens
+-- of both files these are stored; what came before has the same entries with tokens
 pub record Compared (one other : List ℕ) (c : Both) : Type 0 where
   pub first : Holds one c.first
   pub second : Holds other c.second
@@ -25,7 +25,7 @@ pub record Compared (one other : List ℕ) (c : Both) : Type 0 where
   pub in_first : HasTokenEntries first.before entries
   pub in_second : HasTokenEntries second.before entries
 
--- how many entries end
+-- the number of entries that end
 abbrev pub ends : List ComparedPart → ℕ
 ends [] = 0
 ends (Token g t ∷ es) = ends es
@@ -35,11 +35,11 @@ ends (Ends b ∷ es) = ends es + 1
 abbrev pub EndTwice : List ℕ → Type 0
 EndTwice octets = (at : ℕ) × (es : List ComparedPart) × EndsEntryAt octets at × HasTokenEntries (take at octets) es × (2 ≤ ends es)
 
--- or there is a fault that stays
+-- or there is an error that stays
 abbrev pub Suffices : List ℕ → Type 0
 Suffices octets = EndTwice octets ⊎ ((f : Fault) × Settled octets (Err f))
 
--- what follows may still make zone text of it, and decides how it compares
+-- what follows may still make it of the grammar, and decides how it compares
 abbrev pub NeedsMore : List ℕ → Type 0
 NeedsMore octets = IsViable (encode_utf8_all octets) × (EndTwice octets → ⊥)
 
@@ -47,7 +47,7 @@ NeedsMore octets = IsViable (encode_utf8_all octets) × (EndTwice octets → ⊥
 abbrev pub SameUntil : List ℕ → List ℕ → ℕ → ℕ → Type 0
 SameUntil first second cut there = Settled first (Ok cut) × Settled second (Ok there) × ((es : List ComparedPart) × HasTokenEntries (take cut first) es × HasTokenEntries (take there second) es)
 
--- the first of two places where both are known, or the one before
+-- the first of two offsets if both are known, or the one before
 abbrev pub if_both : Option ℕ → Option ℕ → ℕ → ℕ
 if_both (Some here) (Some there) before = here
 if_both _ _ before = before

@@ -1,20 +1,20 @@
--- The entries of zone text, one after another.
+-- The entries of a zone file, one after another.
 use Rattle.std.specs.Prelude.{◌≡◌, ℕ, ◌==◌, Bool, true, false, List, [], ◌∷◌, Option, Some, None}
 use Rattle.dns_split.specs.Pieces.{IsOctetPieces, between}
 use Rattle.dns_split.specs.declared.pieces.Piece.{Piece}
 use Rattle.dns_split.specs.declared.pieces.Piece.TheVariants.{Word as WordAt, Quote as QuoteAt, Comment as CommentAt, End as EndAt}
 
--- a token of an entry, and whether it is glued to the one before it; or the entry's end, and whether it began with a blank
+-- a token of an entry, and whether it is adjacent to the one before; or the entry's end, and whether it began with a blank
 pub data ComparedPart : Type 0 where
   Token : (is_glued : Bool) → List ℕ → ComparedPart
   Ends : (begins_blank : Bool) → ComparedPart
 
--- a token is glued that begins where the one before it in its entry, if it has one, ended
+-- a token is adjacent if it begins where the one before it in its entry, if there is one, ended
 abbrev pub begins_glued : Option ℕ → ℕ → Bool
 begins_glued None start = false
 begins_glued (Some end) start = end == start
 
--- the parts that pieces of octets are, where the entry's last token so far, if it has one, ended here: comments are none
+-- the parts that pieces of octets are, if the entry's last token before, if any, ended here; comments are none
 abbrev pub parts_after : List ℕ → Option ℕ → List Piece → List ComparedPart
 parts_after octets ended [] = []
 parts_after octets ended (WordAt p ∷ ps) = Token (begins_glued ended p.start) (between octets p.start p.end) ∷ parts_after octets (Some p.end) ps
@@ -25,11 +25,11 @@ parts_after octets ended (EndAt p ∷ ps) = Ends p.begins_blank ∷ parts_after 
 abbrev pub parts : List ℕ → List Piece → List ComparedPart
 parts octets ps = parts_after octets None ps
 
--- octets are zone text, whose entries have these parts
+-- octets are of the grammar, and their entries have these parts
 abbrev pub HasEntries : List ℕ → List ComparedPart → Type 0
 HasEntries octets es = (found : List Piece) × IsOctetPieces octets found × (parts octets found ≡ es)
 
--- where the last token ended of the entry that is open after a piece, and after pieces
+-- the end of the last token of the entry that is open after a piece, and after pieces
 abbrev pub ended_by : Option ℕ → Piece → Option ℕ
 ended_by ended (WordAt p) = Some p.end
 ended_by ended (QuoteAt p) = Some p.end
@@ -47,6 +47,6 @@ with_tokens some (Token g t ∷ es) = Token g t ∷ with_tokens true es
 with_tokens true (Ends b ∷ es) = Ends b ∷ with_tokens false es
 with_tokens false (Ends b ∷ es) = with_tokens false es
 
--- octets are zone text, and these are the parts of those entries that have tokens
+-- octets are of the grammar, and these are the parts of those entries that have tokens
 abbrev pub HasTokenEntries : List ℕ → List ComparedPart → Type 0
 HasTokenEntries octets es = (all : List ComparedPart) × HasEntries octets all × (with_tokens false all ≡ es)

@@ -1,4 +1,4 @@
--- The form of octets that come in blocks.
+-- The form of octets that arrive in chunks.
 use Rattle.std.specs.Prelude.{⊤, ◌≡◌, ◌≤◌, ◌+◌, ◌^◌, ℕ, List, [], ◌++◌, length, take, Result, Ok, Err}
 use Rattle.dns_split.specs.Pieces.{AreOctets}
 use Rattle.dns_split.specs.declared.pieces.Fault.{Fault}
@@ -23,16 +23,16 @@ as_no_form (WrongHalt f) = Wrong f
 as_no_form OutOfMemoryHalt = OutOfMemory
 as_no_form TooLongHalt = TooLong
 
--- of all octets that were added this was written: the form of those that are not held, behind which the form of others goes on
+-- what was written of all octets that were added: the form of those that aren't stored, which the form of others continues
 pub record FormedSoFar (all written : List ℕ) (f : Forming) : Type 0 where
   pub held : Holds all f.held
   pub formed : FormedTo held.before written f.seam
 
--- the position of an octet that stands after others
+-- the position of an octet that follows others
 abbrev pub HasPosition : Place → List ℕ → ℕ → Position → Type 0
 HasPosition place octets at p = (before : List ℕ) → IsAt 0 before place.position → IsAt 0 (before ++ take at octets) p
 
--- why octets have no form, and where
+-- why octets have no form, and at which position
 abbrev pub HasNoForm : List ℕ → NoForm → Type 0
 HasNoForm all (Wrong f) = IsFound all 0 f
 HasNoForm all (Nul p) = (at : ℕ) × IsWithoutForm all (NulAt at) × IsAt 0 (take at all) p
@@ -40,7 +40,7 @@ HasNoForm all (OrderMark p) = (at : ℕ) × IsWithoutForm all (OrderMarkAt at) �
 HasNoForm all OutOfMemory = ⊤
 HasNoForm all TooLong = ⊥
 
--- why octets that stand after others have no form, and where among all
+-- why octets that follow others have no form, and where among all
 abbrev pub HasNoFormAfter : Place → List ℕ → NoForm → Type 0
 HasNoFormAfter place octets (Wrong r) = (f : Fault) × IsOctetFault octets f
 HasNoFormAfter place octets (Nul p) = (at : ℕ) × IsWithoutForm octets (NulAt at) × HasPosition place octets at p

@@ -1,4 +1,4 @@
--- Octets that are zone text, and the faults of others.
+-- Octets of the grammar of zone files, and the errors of others.
 use Rattle.std.specs.Prelude.{⊤, ◌≡◌, ◌≤◌, ℕ, List, [], ◌++◌, length, take, Option, None, IsSomeAnd, encode_utf8_all}
 use Rattle.dns_split.specs.Opening.{IsOpener}
 use Rattle.dns_split.specs.Pieces.{IsFault, IsOctetPieces, moved_fault, place_of}
@@ -16,25 +16,25 @@ use Rattle.zone_format.specs.Place.{IsAt}
 abbrev pub IsZone : List ℕ → Type 0
 IsZone octets = (found : List Piece) × IsOctetPieces octets found
 
--- they are not, and this is their fault
+-- they are not, and this is their error
 pub record IsOctetFault (octets : List ℕ) (f : Fault) : Type 0 where
   pub within : f.at ≤ length octets
   pub is : IsFault (encode_utf8_all octets) (moved_fault (place_of octets) f)
 
--- the position of what a quoted text was opened by, or of the outermost parenthesis that is left open, in octets that follow others
+-- the position of the opening double quote, or of the outermost parenthesis that isn't closed, in octets that follow others
 abbrev pub IsOpenedAfter : ℕ → List ℕ → List ℕ → Wrong → Option Position → Type 0
 IsOpenedAfter lines before octets (OpenQuote i) o = (i ≤ length octets) × IsSomeAnd o (λ p. IsAt lines (before ++ take i octets) p)
 IsOpenedAfter lines before octets OpenParenthesis o =
     (i : ℕ) × (i ≤ length octets) × IsOpener (encode_utf8_all octets) (place_of octets i) × IsSomeAnd o (λ p. IsAt lines (before ++ take i octets) p)
 IsOpenedAfter lines before octets _ o = o ≡ None
 
--- the fault, and its positions
+-- the error, and its positions
 pub record IsFound (octets : List ℕ) (lines : ℕ) (f : Found) : Type 0 where
   pub fault : IsOctetFault octets f.fault
   pub position : IsAt lines (take f.fault.at octets) f.position
   pub opened : IsOpenedAfter lines [] octets f.fault.wrong f.opened
 
--- why a command stopped
+-- the reason why a command stopped
 abbrev pub IsStop : List ℕ → ℕ → Stop → Type 0
 IsStop octets lines (WrongStop f) = IsFound octets lines f
 IsStop octets lines OutOfMemory = ⊤

@@ -1,4 +1,4 @@
--- Octets that are held, and where they begin; and what is written of them.
+-- Octets that are stored, and their offset; and the output for them.
 use Rattle.std.specs.Prelude.{ℕ, List}
 use Rattle.zone_format.specs.declared.place.Place.{Place}
 use Rattle.zonetext_lib.specs.declared.writer.Output.{Output}
@@ -6,7 +6,7 @@ use Rattle.zonetext_lib.specs.declared.writer.Output.{Output}
 pub record Held : Type 0 where
   pub octets : List ℕ
   pub place : Place
-  -- as many were left over when they were last read
+  -- number of octets that were left when they were last parsed
   pub left : ℕ
 
 pub record Writing : Type 0 where

@@ -1,4 +1,4 @@
--- Octets that are held, and where their form goes on.
+-- Octets that are stored, and the state at which their form continues.
 use Rattle.zone_format.specs.declared.stand.Seam.{Seam}
 use Rattle.zonetext_lib.specs.Held.{Held}
 

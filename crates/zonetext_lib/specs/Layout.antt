@@ -1,4 +1,4 @@
--- Zone text with each entry on a line of its own.
+-- Zone files with each entry on a separate line.
 use Rattle.std.specs.Prelude.{⊤, ◌≡◌, ℕ, ◌||◌, ◌&&◌, not, if◌then◌else◌, Bool, true, false, List, [], ◌∷◌, ◌++◌, Result, Ok, Err}
 use Rattle.dns_symbol.specs.Characters.{tab, line_feed, space}
 use Rattle.zonetext_lib.specs.declared.layout.Gap.{Gap}
@@ -19,12 +19,12 @@ leads [] = false
 leads (Token g t ∷ es) = leads es
 leads (Ends b ∷ es) = b
 
--- a line's end where an entry follows
+-- a line end, if an entry follows
 abbrev pub feed_before : List ComparedPart → List ℕ
 feed_before [] = []
 feed_before (e ∷ es) = line_feed ∷ []
 
--- tokens with gaps between those that are not glued, after a gap where the entry begins with a blank; the first entry has tokens already, or not
+-- tokens separated by gaps unless they are adjacent, after a gap if the entry begins with a blank; the first entry has tokens already, or not
 abbrev pub laid_out : Gap → Bool → List ComparedPart → List ℕ
 laid_out gap inside [] = []
 laid_out gap inside (Token g t ∷ es) = gap_if gap (not g && (inside || leads es)) ++ (t ++ laid_out gap true es)
@@ -35,6 +35,6 @@ abbrev pub LaysOut : {U E : Type 0} → List ℕ → Gap → List ℕ → List �
 LaysOut octets gap old new (Ok u) = (es : List ComparedPart) × HasEntries octets es × (new ≡ old ++ laid_out gap false es)
 LaysOut octets gap old new (Err e) = ⊤
 
--- the end of a line, where it is owed
+-- the end of a line, if it is due
 abbrev pub feed_if : Bool → List ℕ
 feed_if b = if b then 10 ∷ [] else []

@@ -1,4 +1,4 @@
--- What is written of octets that come in blocks.
+-- The output for octets that arrive in chunks.
 use Rattle.std.specs.declared.alloc.AllocError.{AllocError}
 use Rattle.std.specs.Prelude.{⊤, ◌≡◌, ℕ, ◌⊎◌, Bool, true, false, List, [], ◌∷◌, ◌++◌, length, take, map, Option, Some, None, Result, Ok, Err}
 use Rattle.dns_split.specs.Pieces.{AreOctets, IsGiven, end_at}
@@ -29,7 +29,7 @@ has_end (CommentAt p ∷ ps) = has_end ps
 abbrev pub EndsAt : List Piece → ℕ → Type 0
 EndsAt ended at = ((ended ≡ []) × (at ≡ 0)) ⊎ ((first : List Piece) × (blank : Bool) × (ended ≡ first ++ end_at at blank ∷ []))
 
--- octets with a fault, before which the last entry ends here
+-- octets with an error, before which the last entry ends here
 pub record FaultAfter (octets : List ℕ) (at : ℕ) : Type 0 where
   pub ended : List Piece
   pub last : List Piece
@@ -38,11 +38,11 @@ pub record FaultAfter (octets : List ℕ) (at : ℕ) : Type 0 where
   pub ends : EndsAt ended at
   pub none : has_end last ≡ false
 
--- before a fault those entries are laid out that ended, each with its line's end
+-- before an error those entries are laid out that ended, each with its line's end
 abbrev pub LinesBefore : List ℕ → Gap → List ℕ → Type 0
 LinesBefore octets gap out = (at : ℕ) × (f : FaultAfter octets at) × (out ≡ laid_out gap false (parts octets f.ended ++ Ends false ∷ []))
 
--- the entries of zone text are laid out, or those before a fault
+-- all entries are laid out, or those before an error
 abbrev pub HasLines : List ℕ → Gap → List ℕ → Type 0
 HasLines octets gap out = ((es : List ComparedPart) × HasEntries octets es × (out ≡ laid_out gap false es)) ⊎ LinesBefore octets gap out
 
@@ -61,22 +61,22 @@ WritesOutput (Lines gap) octets lines out = HasLines octets gap out
 abbrev pub MadeAfter : Output → List ℕ → ℕ → List ℕ → List ℕ → Type 0
 MadeAfter output octets lines old new = (more : List ℕ) × (new ≡ old ++ more) × WritesOutput output octets lines more
 
--- what is written up to a cut, or nothing
+-- the output up to a cut, or nothing
 abbrev pub WritesSettled : Output → List ℕ → ℕ → List ℕ → List ℕ → Result (Option ℕ) AllocError → Type 0
 WritesSettled output octets lines old new (Ok (Some at)) = Settled octets (Ok at) × MadeAfter output (take at octets) lines old new
 WritesSettled output octets lines old new (Ok None) = new ≡ old
 WritesSettled output octets lines old new (Err e) = ⊤
 
--- where to lay out to: all of zone text, or the entries before a fault
+-- the offset up to which to lay out: the whole file, or the entries before an error
 abbrev pub Until : List ℕ → ℕ → Type 0
 Until octets at = ((found : List Piece) × IsGiven octets (map Ok found) × (at ≡ length octets)) ⊎ FaultAfter octets at
 
--- of all octets that were added this was written: what is made of those that are not held
+-- the output for all octets that were added: that for those that aren't stored
 pub record Wrote (all written : List ℕ) (w : Writing) : Type 0 where
   pub held : Holds all w.held
   pub made : WritesOutput w.output held.before 0 written
 
--- what a block adds to what was written; before a fault all is written that will be, whatever follows
+-- the output that a block adds; before an error it is the whole output, whatever follows
 abbrev pub Writes : {U : Type 0} → Writing → Writing → List ℕ → List ℕ → List ℕ → Result U Halt → Type 0
 Writes old new block from to (Ok u) = (all written : List ℕ) → Wrote all written old → (more : List ℕ) × (to ≡ from ++ more) × Wrote (all ++ block) (written ++ more) new
 Writes old new block from to (Err (Wrong f)) = (all written : List ℕ) → Wrote all written old
@@ -84,11 +84,11 @@ Writes old new block from to (Err (Wrong f)) = (all written : List ℕ) → Wrot
 Writes old new block from to (Err OutOfMemory) = ⊤
 Writes old new block from to (Err TooLong) = to ≡ from
 
--- with this all is written that is made of the octets that were added
+-- with this the output is that for all octets that were added
 abbrev pub WritesAll : Writing → List ℕ → List ℕ → Type 0
 WritesAll w from to = (all written : List ℕ) → Wrote all written w → (more : List ℕ) × (to ≡ from ++ more) × WritesOutput w.output all 0 (written ++ more)
 
--- so at the end, whether they are zone text or have a fault
+-- so at the end, whether they are of the grammar or have an error
 abbrev pub WritesRest : {U : Type 0} → Writing → List ℕ → List ℕ → Result U Halt → Type 0
 WritesRest w from to (Ok u) = WritesAll w from to
 WritesRest w from to (Err (Wrong f)) = WritesAll w from to

@@ -1,4 +1,4 @@
-//! Whether octets are zone text that come in blocks.
+//! Checks octets that arrive in chunks against the grammar of zone files.
 ghost use Rattle.std.specs.Prelude.{◌≡◌, ◌+◌, ◌-◌, ◌++◌, ◌<◌, ◌≤◌, ◌^◌, ℕ, [], List, length, take};
 ghost use Rattle.std.specs.Prelude.{IfOk, IfErr, encode_utf8_all};
 ghost use Rattle.dns_split.specs.Pieces.{AreOctets, moved_fault};
@@ -15,14 +15,14 @@ use std::alloc::{AllocError, Allocator};
 use std::marker::Model;
 use zone_format::place::{Place, advance, moved};
 
-/// Why no more octets are taken.
+/// The error of adding octets.
 #[derive(Clone, Copy, PartialEq, Eq)]
 pub enum Halt {
-    /// The octets are not zone text.
+    /// The octets aren't of the grammar of zone files.
     Wrong(Found),
-    /// There was not enough memory.
+    /// An allocation failed.
     OutOfMemory,
-    /// There would be more octets than can be counted.
+    /// The octets would exceed the greatest count.
     TooLong,
 }
 
@@ -36,7 +36,7 @@ impl From<AllocError> for Halt {
     }
 }
 
-/// Octets as they are: each is below 256.
+/// Returns the octets, and states that each is below 256.
 fn as_octets(octets: &[u8]) -> &[u8]
     ensures same { result.now ≡ octets.now }
     ensures octets { AreOctets octets.now }
@@ -44,8 +44,8 @@ fn as_octets(octets: &[u8]) -> &[u8]
     octets
 }
 
-/// Where the last entry ends that is the same whatever follows the octets, or 0; or the fault
-/// that they have whatever follows.
+/// Returns the offset of the end of the last entry that is the same whatever follows the octets, or
+/// 0. Fails with the syntax error that the octets have whatever follows.
 fn settled(octets: &[u8]) -> Result<usize, Fault>
     ensures octets { AreOctets octets.now }
     ensures settled { Settled octets.now result }
@@ -72,7 +72,7 @@ fn settled(octets: &[u8]) -> Result<usize, Fault>
     Ok(before)
 }
 
-/// The fault of octets, if they have one.
+/// Returns the syntax error of octets, if they have one.
 fn fault_of(octets: &[u8]) -> Option<Fault>
     ensures octets { AreOctets octets.now }
     ensures fault { EndsWith octets.now result }
@@ -86,7 +86,7 @@ fn fault_of(octets: &[u8]) -> Option<Fault>
     None
 }
 
-/// The fault of octets that begin at a place, with its positions.
+/// Returns the syntax error of octets that begin at `place`, with its positions.
 pub(crate) fn locate_after(place: Place, octets: &[u8], fault: Fault) -> Found
     requires room { place.at + length octets.now + 2 < 2 ^ 64 }
     requires line { place.position.line ≤ place.at + 1 }
@@ -106,15 +106,15 @@ pub(crate) fn locate_after(place: Place, octets: &[u8], fault: Fault) -> Found
     }
 }
 
-/// Octets that are added block by block.
+/// A checker to which octets are added in chunks.
 ///
-/// Those of entries that have ended are let go, so that what is held is as long as the longest
-/// entry, twice over at most, and a block.
+/// It drops the octets of entries that have ended. It stores at most twice the length of the
+/// longest entry, and a chunk.
 #[derive(Drop)]
 pub struct Checker<A: Allocator> {
     held: Vec<u8, A>,
     place: Place,
-    /// As many octets were left over when they were last read.
+    /// Number of octets that were left when they were last parsed.
     left: usize,
 }
 
@@ -131,7 +131,7 @@ impl<A: Allocator> Model for Checker<A> {
 }
 
 impl<A: Allocator> Checker<A> {
-    /// No octets.
+    /// Returns a checker without octets.
     pub fn new(alloc: A) -> Checker<A>
         ensures none { Holds [] result }
         ensures left { result.left ≡ 0 }
@@ -146,7 +146,7 @@ impl<A: Allocator> Checker<A> {
         }
     }
 
-    /// The octets that are held.
+    /// Returns the stored octets.
     pub(crate) fn held(&self) -> &[u8]
         ensures held { result.now ≡ self.now.octets }
         ensures octets { AreOctets self.now.octets }
@@ -155,7 +155,7 @@ impl<A: Allocator> Checker<A> {
         as_octets(self.held.as_slice())
     }
 
-    /// How many lines end before them.
+    /// Returns the number of lines before the stored octets.
     pub(crate) fn lines_before(&self) -> usize
         ensures lines { result ≡ self.now.place.position.line - 1 }
         ensures room { result + length self.now.octets + 2 < 2 ^ 64 }
@@ -163,8 +163,8 @@ impl<A: Allocator> Checker<A> {
         self.place.position.line.saturating_sub(1)
     }
 
-    /// Adds octets, and returns whether so many are held that they are worth reading: twice as many
-    /// as were left over the last time.
+    /// Adds octets, and returns whether enough are stored to parse them: twice the number that was
+    /// left the last time. Fails if an allocation fails, or if there would be too many octets.
     pub(crate) fn take(&mut self, block: &[u8]) -> Result<bool, Halt>
         ensures { TakesBlock self.old self.new block.now result }
     {
@@ -176,14 +176,15 @@ impl<A: Allocator> Checker<A> {
         Ok(self.held.len() / 2 >= self.left)
     }
 
-    /// Takes the last octets back, so that so many are held.
+    /// Truncates the stored octets to the first `count`.
     pub(crate) fn forget(&mut self, count: usize)
         ensures { IsHeld (take count self.old.octets) self.old self.new }
     {
         self.held.truncate(count);
     }
 
-    /// Where what is held can be cut, or the fault that all octets have, whatever follows.
+    /// Returns the offset at which the stored octets can be cut. Fails with the syntax error that
+    /// all octets have whatever follows.
     pub(crate) fn settle(&self) -> Result<usize, Found>
         ensures octets { AreOctets self.now.octets }
         ensures settled { SettlesHeld self.now result }
@@ -196,7 +197,7 @@ impl<A: Allocator> Checker<A> {
         }
     }
 
-    /// Where they begin.
+    /// Returns the offset and position of the first stored octet.
     pub(crate) fn place(&self) -> Place
         ensures place { result ≡ self.now.place }
         ensures room { result.at + length self.now.octets + 2 < 2 ^ 64 }
@@ -206,7 +207,7 @@ impl<A: Allocator> Checker<A> {
         self.place
     }
 
-    /// Lets the first octets go.
+    /// Drops the first `cut` octets.
     pub(crate) fn release(&mut self, cut: usize)
         requires { cut ≤ length self.now.octets }
         ensures { Releases self.old self.new cut }
@@ -224,10 +225,11 @@ impl<A: Allocator> Checker<A> {
 
     /// Adds octets after those that were added before.
     ///
-    /// A fault that stays whatever octets follow is returned as soon as it is read, any other at
-    /// the end by [`Checker::finish`]. Reading is put off while less is held than twice what was
-    /// left over the last time, so a fault is returned before what is held has doubled. The octets
-    /// are added where a fault is returned too, but not where memory was lacking.
+    /// A syntax error that stays the same whatever follows is returned as soon as it is parsed, any
+    /// other at the end by [`Checker::finish`]. Parsing is put off until the stored octets are
+    /// twice those that were left the last time, so an error is returned before the stored octets
+    /// have doubled. The octets are added also if a syntax error is returned, but not if an
+    /// allocation fails.
     pub fn add(&mut self, block: &[u8]) -> Result<(), Halt>
         ensures added { AddsBlock self.old self.new block.now result }
         ensures in_time { AddsInTime self.old self.new block.now result }
@@ -244,7 +246,8 @@ impl<A: Allocator> Checker<A> {
         }
     }
 
-    /// Whether all octets that were added are zone text, or the first fault.
+    /// Checks that all octets that were added are of the grammar of zone files. Fails with the
+    /// first syntax error.
     pub fn finish(&self) -> Result<(), Found>
         ensures well { (all : List ℕ) → Holds all self.now → IfOk result (λ _. IsZone all) }
         ensures bad { (all : List ℕ) → Holds all self.now → IfErr result (IsFound all 0) }

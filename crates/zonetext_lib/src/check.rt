@@ -1,4 +1,4 @@
-//! Whether octets are zone text.
+//! Checks octets against the grammar of zone files.
 ghost use Rattle.std.specs.Prelude.{◌≡◌, ◌+◌, ◌++◌, ◌<◌, ◌^◌, ℕ, List, length, take, IfOk, IfErr};
 ghost use Rattle.zonetext_lib.specs.Found.{IsFound, IsOctetFault, IsOpenedAfter, IsZone};
 ghost use Rattle.zone_format.specs.Place.{IsAt};
@@ -8,17 +8,17 @@ use dns_split::pieces::{Fault, Pieces, Wrong};
 use dns_split::position::Position;
 use zone_format::place::{advance, line_start};
 
-/// The first fault of octets that are not zone text.
+/// The first syntax error of octets that aren't of the grammar of zone files.
 #[derive(Clone, Copy, PartialEq, Eq)]
 pub struct Found {
     pub fault: Fault,
-    /// Where the fault is.
+    /// Position of the error.
     pub position: Position,
-    /// Where the quoted text, or the outermost of the parentheses, was opened that is not closed.
+    /// Position of the unclosed double quote, or of the outermost unclosed parenthesis.
     pub opened: Option<Position>,
 }
 
-/// Where what is left open was opened, in octets that begin at a position.
+/// Returns the position of the unclosed opener, in octets that begin at a position.
 fn opened(start: Position, octets: &[u8], fault: Fault) -> Option<Position>
     requires lines { start.line + length octets.now < 2 ^ 64 }
     requires columns { start.column + length octets.now + 1 < 2 ^ 64 }
@@ -36,7 +36,7 @@ fn opened(start: Position, octets: &[u8], fault: Fault) -> Option<Position>
     }
 }
 
-/// A fault of octets that begin at a position, with its positions.
+/// Returns a syntax error of octets that begin at a position, with its positions.
 pub(crate) fn locate_from(start: Position, octets: &[u8], fault: Fault) -> Found
     requires lines { start.line + length octets.now < 2 ^ 64 }
     requires columns { start.column + length octets.now + 1 < 2 ^ 64 }
@@ -54,7 +54,7 @@ pub(crate) fn locate_from(start: Position, octets: &[u8], fault: Fault) -> Found
     }
 }
 
-/// A fault with its positions, in octets that stand after so many lines.
+/// Returns a syntax error with its positions, in octets that follow `lines_before` lines.
 pub fn locate(octets: &[u8], lines_before: usize, fault: Fault) -> Found
     requires room { lines_before + length octets.now + 2 < 2 ^ 64 }
     requires fault { IsOctetFault octets.now fault }
@@ -63,10 +63,10 @@ pub fn locate(octets: &[u8], lines_before: usize, fault: Fault) -> Found
     locate_from(line_start(lines_before), octets, fault)
 }
 
-/// Whether octets are zone text, or the first fault.
+/// Checks that octets are of the grammar of zone files. Fails with the first syntax error.
 ///
-/// They stand after `lines_before` lines, which count in the positions. A fault is where the
-/// longest beginning ends that can still become zone text.
+/// `lines_before` is the number of lines before the octets, which the positions include. The error
+/// is at the end of the longest prefix that can still become a zone file.
 pub fn check(octets: &[u8], lines_before: usize) -> Result<(), Found>
     requires { lines_before + length octets.now + 2 < 2 ^ 64 }
     ensures well { IfOk result (λ _. IsZone octets.now) }

@@ -1,4 +1,4 @@
-//! How two zone texts compare that come in blocks.
+//! Compares two zone files that arrive in chunks.
 ghost use Rattle.std.specs.Prelude.{◌≡◌, ◌+◌, ◌-◌, ◌<◌, ◌^◌, ◌↔◌, [], ℕ, List, false, true};
 ghost use Rattle.zonetext_lib.specs.Blocks.{TakesBlock};
 ghost use Rattle.zonetext_lib.specs.Compare.{Compares};
@@ -11,7 +11,7 @@ use dns_split::position::Position;
 use std::alloc::Allocator;
 use std::marker::Model;
 
-/// Whether two entries that have tokens end, and something follows them.
+/// Returns whether two entries with tokens end, and something follows them.
 fn end_twice(octets: &[u8]) -> bool
     ensures { (result ≡ true) ↔ EndTwice octets.now }
 {
@@ -35,7 +35,7 @@ fn end_twice(octets: &[u8]) -> bool
     false
 }
 
-/// A position of octets that stand after so many lines.
+/// Returns a position of octets that follow `lines_before` lines.
 fn after_lines(lines_before: usize, position: Position) -> Position
     requires { lines_before + position.line < 2 ^ 64 }
     ensures line { result.line ≡ lines_before + position.line }
@@ -47,16 +47,16 @@ fn after_lines(lines_before: usize, position: Position) -> Position
     }
 }
 
-/// One of two texts.
+/// One of the two files.
 #[derive(Clone, Copy)]
 pub enum Side {
     First,
     Second,
 }
 
-/// Two zone texts that are added block by block, and compared.
-///
-/// Those entries are let go that have ended in both and are the same, and with them those without
+/// A comparer to which the octets of two zone files are added in chunks.
+/// It drops the entries that have ended in both and are the same, and the entries without tokens
+/// among them.
 /// tokens.
 #[derive(Drop)]
 pub struct Comparer<A: Allocator + Copy> {
@@ -73,7 +73,7 @@ impl<A: Allocator + Copy> Model for Comparer<A> {
 }
 
 impl<A: Allocator + Copy> Comparer<A> {
-    /// No octets of either.
+    /// Returns a comparer without octets of either file.
     pub fn new(alloc: A) -> Comparer<A>
         ensures { Compared [] [] result }
     {
@@ -83,7 +83,7 @@ impl<A: Allocator + Copy> Comparer<A> {
         }
     }
 
-    /// The octets of one of them.
+    /// Returns the octets of one file.
     fn on(&self, side: Side) -> &Checker<A>
         ensures { result.now ≡ on_side side self.now }
     {
@@ -93,8 +93,9 @@ impl<A: Allocator + Copy> Comparer<A> {
         }
     }
 
-    /// Adds octets on one side, and returns whether so many are held there that it is worth while to
-    /// compare. Where memory is lacking nothing is added. The other side stays as it is.
+    /// Adds octets of one file, and returns whether enough of it are stored to compare them. Fails
+    /// if an allocation fails, or if there would be too many octets; then nothing is added. The
+    /// other file is unchanged.
     pub fn add(&mut self, side: Side, block: &[u8]) -> Result<bool, Halt>
         ensures added { TakesBlock (on_side side self.old) (on_side side self.new)
             block.now result }
@@ -106,9 +107,9 @@ impl<A: Allocator + Copy> Comparer<A> {
         }
     }
 
-    /// Whether more is needed on one side to compare: not where two entries with tokens have ended
-    /// that are held, and something follows them; and not where there is a fault that stays whatever
-    /// follows.
+    /// Returns whether more of one file is needed to compare. It isn't if two stored entries with
+    /// tokens have ended and something follows them, or if there is a syntax error that stays the
+    /// same whatever follows.
     pub fn wants_more(&self, side: Side) -> bool
         ensures enough { result ≡ false → Suffices (on_side side self.now).octets }
         ensures more { result ≡ true → NeedsMore (on_side side self.now).octets }
@@ -120,7 +121,7 @@ impl<A: Allocator + Copy> Comparer<A> {
         }
     }
 
-    /// Lets the first entries go that have ended in both and are the same, and the entries without
+    /// Drops the first entries that have ended in both and are the same, and the entries without
     /// tokens between and after them.
     pub fn let_go(&mut self)
         ensures { (first second : List ℕ) → Compared first second self.old
@@ -131,7 +132,7 @@ impl<A: Allocator + Copy> Comparer<A> {
         self.second.release(other);
     }
 
-    /// How the octets compare that were added.
+    /// Returns how the octets that were added compare.
     pub fn finish(&self) -> Comparison
         ensures { (first second : List ℕ) → Compared first second self.now
             → Compares first second result }

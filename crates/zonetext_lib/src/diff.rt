@@ -1,4 +1,4 @@
-//! Whether two zone texts have the same entries.
+//! Compares the entries of two zone files.
 ghost use Rattle.std.specs.Prelude.{◌≡◌, ◌+◌, ◌<◌, ◌≤◌, ◌^◌, ◌↔◌, IfSome, IsTrue, Ok, length, take};
 ghost use Rattle.dns_split.specs.Pieces.{IsWithin, piece_start};
 ghost use Rattle.zonetext_lib.specs.Compare.{CanCut, Compares, IsPieceText, is_passed, part, SkipsToPart};
@@ -13,22 +13,23 @@ use dns_split::position::Position;
 use zone_format::place::position_after;
 use zonetext_report::lint::piece_start;
 
-/// How two zone texts compare.
+/// The result of comparing two zone files.
 #[derive(Clone, Copy, PartialEq, Eq)]
 pub enum Comparison {
-    /// They have the same entries that have tokens, with the same leading blanks and the same glue.
+    /// They have the same entries with tokens, with the same leading blanks and the same adjacent
+    /// tokens.
     Same,
-    /// They don't. Where in each the first token, or end of an entry, stands that differs, or the
-    /// text ends.
+    /// They differ. The positions, one in each file, are those of the first token or end of an
+    /// entry that differs, or the end of the file.
     Differ(Position, Position),
-    /// The first is not zone text.
+    /// The first isn't of the grammar of zone files.
     FirstWrong(Found),
-    /// The second is not zone text.
+    /// The second isn't of the grammar of zone files.
     SecondWrong(Found),
 }
 
-/// Whether an answer is no part of an entry that has tokens: a comment, or the end of an entry
-/// that has none, where its last token so far, if it has one, ended at `ended`.
+/// Returns whether an item isn't part of an entry with tokens: a comment, or the end of an entry
+/// without tokens. `ended` is the end of the last token of the entry so far.
 fn is_passed_over(answer: Result<Piece, Fault>, ended: Option<usize>) -> bool
     ensures { result ≡ is_passed ended answer }
 {
@@ -40,8 +41,8 @@ fn is_passed_over(answer: Result<Piece, Fault>, ended: Option<usize>) -> bool
     }
 }
 
-/// The next part of an entry that has tokens, or the fault; and where the last entry ends of those
-/// before it, if something follows that end. The entry before them ended at `before`.
+/// Returns the next part of an entry with tokens, or the syntax error; and the end of the last
+/// entry before it, if something follows that end. `before` is the end of the entry before them.
 fn next_after(
     pieces: &mut Pieces,
     ended: Option<usize>,
@@ -64,14 +65,14 @@ fn next_after(
     (None, cut)
 }
 
-/// The next part of an entry that has tokens, or the fault.
+/// Returns the next part of an entry with tokens, or the syntax error.
 fn next_part(pieces: &mut Pieces, ended: Option<usize>) -> Option<Result<Piece, Fault>>
     ensures { SkipsToPart ended pieces.old result pieces.new }
 {
     next_after(pieces, ended, 0).0
 }
 
-/// Where the last token ended of the entry that is open after a piece.
+/// Returns the end of the last token of the entry that is open after a piece.
 fn ended_at(ended: Option<usize>, piece: Piece) -> Option<usize>
     ensures { result ≡ ended_by ended piece }
 {
@@ -83,7 +84,7 @@ fn ended_at(ended: Option<usize>, piece: Piece) -> Option<usize>
     }
 }
 
-/// The octets of a piece, or none of an end.
+/// Returns the octets of a piece, which are empty for an end.
 fn text<'t>(octets: &'t [u8], piece: Piece) -> &'t [u8]
     requires { IsWithin (length octets.now) (Ok piece) }
     ensures { IsPieceText octets.now piece result.now }
@@ -96,8 +97,8 @@ fn text<'t>(octets: &'t [u8], piece: Piece) -> &'t [u8]
     }
 }
 
-/// Whether two pieces are the same: the same octets, glued or not, or ends of entries that both
-/// began with a blank or both did not.
+/// Returns whether two pieces are the same: tokens with the same octets, both adjacent or both not,
+/// or ends of entries that both began with a blank or both didn't.
 fn is_same(
     first: &[u8],
     one: Piece,
@@ -121,7 +122,7 @@ fn is_same(
     }
 }
 
-/// The position where a piece begins.
+/// Returns the position at which a piece begins.
 fn position_of(octets: &[u8], piece: Piece) -> Position
     requires room { length octets.now + 2 < 2 ^ 64 }
     requires within { IsWithin (length octets.now) (Ok piece) }
@@ -130,7 +131,7 @@ fn position_of(octets: &[u8], piece: Piece) -> Position
     position_after(0, &octets[..piece_start(piece)])
 }
 
-/// The first of two places where both are known, or the one before.
+/// Returns the first of two offsets if both are known, or `before`.
 fn newer(here: Option<usize>, there: Option<usize>, before: usize) -> usize
     ensures { result ≡ if_both here there before }
 {
@@ -140,8 +141,8 @@ fn newer(here: Option<usize>, there: Option<usize>, before: usize) -> usize
     }
 }
 
-/// Where the last entries end before which both have the same parts, and after which something
-/// follows in both; or 0 in each.
+/// Returns, for each file, the end of the last entry up to which both have the same parts, and
+/// after which something follows in both; or 0 in each.
 pub(crate) fn same_until(first: &[u8], second: &[u8]) -> (usize, usize)
     ensures { SameUntil first.now second.now result.0 result.1 }
 {
@@ -173,10 +174,10 @@ pub(crate) fn same_until(first: &[u8], second: &[u8]) -> (usize, usize)
     }
 }
 
-/// Compares the entries of two zone texts that have tokens, comments and layout aside: their tokens,
-/// which of them are glued to the one before, and which entries begin with a blank.
+/// Compares the entries with tokens of two zone files, without comments and layout: their tokens,
+/// which of them are adjacent to the one before, and which entries begin with a blank.
 ///
-/// The end of an entry stands where the next entry begins.
+/// The position of an entry's end is that of the next entry.
 pub fn diff(first: &[u8], second: &[u8]) -> Comparison
     requires first { length first.now + 2 < 2 ^ 64 }
     requires second { length second.now + 2 < 2 ^ 64 }

@@ -1,4 +1,4 @@
-//! The form of zone text that comes in blocks.
+//! Formats a zone file that arrives in chunks.
 ghost use Rattle.std.specs.Prelude.{◌≡◌, ◌+◌, ◌<◌, ◌≤◌, ◌^◌, ℕ, [], List, length, IfErr, IfOk};
 ghost use Rattle.zone_format.specs.Refusal.{IsWithoutForm};
 ghost use Rattle.zonetext_lib.specs.Blocks.{Holds};
@@ -14,18 +14,18 @@ use zone_format::blocks::{Seam, format_entries, format_last};
 use zone_format::place::{Place, advance};
 use zone_format::refusal::Refusal;
 
-/// Why octets have no form.
+/// The error if octets have no form.
 #[derive(Clone, Copy)]
 pub enum NoForm {
-    /// They are not zone text.
+    /// The octets aren't of the grammar of zone files.
     Wrong(Found),
-    /// NUL stands here, outside of comments.
+    /// A NUL outside of comments.
     Nul(Position),
-    /// They begin with a byte order mark of UTF-8 or UTF-16, here.
+    /// A byte order mark of UTF-8 or UTF-16 at the beginning.
     OrderMark(Position),
-    /// There was not enough memory.
+    /// An allocation failed.
     OutOfMemory,
-    /// There would be more octets than can be counted.
+    /// The octets would exceed the greatest count.
     TooLong,
 }
 
@@ -43,10 +43,10 @@ impl From<Halt> for NoForm {
     }
 }
 
-/// No more octets are held at once.
+/// Maximum number of octets that are stored at once.
 const MOST: usize = 1 << 62;
 
-/// The position of one of the octets that begin at a place, or of their end.
+/// Returns the position of an octet of those that begin at a place, or of their end.
 fn position_in(place: Place, octets: &[u8], at: usize) -> Position
     requires room { place.at + length octets.now + 2 < 2 ^ 64 }
     requires line { place.position.line ≤ place.at + 1 }
@@ -57,7 +57,7 @@ fn position_in(place: Place, octets: &[u8], at: usize) -> Position
     advance(place.position, &octets[..at])
 }
 
-/// Why octets that begin at a place have no form.
+/// Returns the error of octets that begin at a place, with its position.
 fn why_after(place: Place, octets: &[u8], refusal: Refusal) -> NoForm
     requires room { place.at + length octets.now + 2 < 2 ^ 64 }
     requires line { place.position.line ≤ place.at + 1 }
@@ -73,17 +73,17 @@ fn why_after(place: Place, octets: &[u8], refusal: Refusal) -> NoForm
     }
 }
 
-/// Where a block of whole entries ends, and meets the next one.
+/// The end of a block of whole entries, and the seam for the next one.
 #[derive(Clone, Copy)]
 pub(crate) struct FormedCut {
     pub(crate) at: usize,
     pub(crate) seam: Seam,
 }
 
-/// Octets that are added block by block, of which the form is written as soon as it is settled.
+/// A formatter to which octets are added in chunks. It writes their form as soon as it is settled.
 ///
-/// It holds no more octets than [`Checker`] does: those of the longest entry, twice over at most,
-/// and a block.
+/// It stores no more octets than [`Checker`] does: twice the length of the longest entry at most,
+/// and a chunk.
 #[derive(Drop)]
 pub struct Formatter<A: Allocator> {
     checker: Checker<A>,
@@ -102,7 +102,7 @@ impl<A: Allocator> Model for Formatter<A> {
 }
 
 impl<A: Allocator> Formatter<A> {
-    /// No octets.
+    /// Returns a formatter without octets.
     pub fn new(alloc: A) -> Formatter<A>
         ensures { FormedSoFar [] [] result }
     {
@@ -112,7 +112,7 @@ impl<A: Allocator> Formatter<A> {
         }
     }
 
-    /// Appends the form of the entries that have ended, and returns where they end.
+    /// Appends the form of the entries that have ended, and returns their end.
     fn form_settled(&self, out: &mut Vec<u8, A>) -> Result<FormedCut, NoForm>
         ensures { FormsSettled self.now out.old.items out.new.items result }
     {
@@ -136,8 +136,8 @@ impl<A: Allocator> Formatter<A> {
     /// Adds octets after those that were added before, and appends the form of the entries that
     /// have ended to `out`.
     ///
-    /// Octets that have no form, whatever follows, are refused once that is known, with what stands
-    /// first in them; then nothing is said of `out`. Where memory is lacking, or there are too many
+    /// Fails as soon as it is known that the octets have no form whatever follows, with the first
+    /// error in them; `out` is then unspecified. If an allocation fails, or there are too many
     /// octets, nothing is added.
     pub fn add(&mut self, block: &[u8], out: &mut Vec<u8, A>) -> Result<(), NoForm>
         ensures { AddsForm self.old self.new block.now out.old.items out.new.items result }
@@ -166,10 +166,10 @@ impl<A: Allocator> Formatter<A> {
         }
     }
 
-    /// Appends to `out` what is left to write: then all is written, and it is the form of all octets
-    /// that were added.
+    /// Appends the rest to `out`: then everything written is the form of all octets that were
+    /// added.
     ///
-    /// After an error nothing is said of `out`.
+    /// After an error `out` is unspecified.
     pub fn finish(&self, out: &mut Vec<u8, A>) -> Result<(), NoForm>
         ensures well { IfOk result (λ _. FormsAll self.now out.old.items out.new.items) }
         ensures bad { (all written : List ℕ) → FormedSoFar all written self.now
@@ -181,7 +181,7 @@ impl<A: Allocator> Formatter<A> {
         }
     }
 
-    /// Why all octets have no form.
+    /// Returns the error of all octets, with its position.
     fn why_last(&self, refusal: Refusal) -> NoForm
         requires { IsWithoutForm self.now.held.octets refusal }
         ensures { (all : List ℕ) → Holds all self.now.held → HasNoForm all result }

@@ -1,4 +1,4 @@
-//! Zone text with each entry on a line of its own.
+//! Lays out a zone file with each entry on a separate line.
 ghost use Rattle.std.specs.Prelude.{◌≡◌, ◌+◌, ◌++◌, ◌∷◌, [], ◌<◌, ◌^◌, IfErr, OnOk, ◌&&◌, not, length};
 ghost use Rattle.zonetext_lib.specs.Found.{IsStop};
 ghost use Rattle.zonetext_lib.specs.Layout.{gap_if, gap_octet, LaysOut, feed_if};
@@ -10,7 +10,7 @@ use crate::tokens::Stop;
 use dns_split::pieces::{Piece, Pieces};
 use std::alloc::{AllocError, Allocator};
 
-/// What stands between two tokens, and before the first of an entry that begins with a blank.
+/// What separates two tokens, and precedes the first of an entry that begins with a blank.
 #[derive(Clone, Copy)]
 pub enum Gap {
     Space,
@@ -28,7 +28,7 @@ impl Gap {
     }
 }
 
-/// Appends the end of a line and a gap, each where it is owed.
+/// Appends the end of a line and a gap, each if it is due.
 #[inline(always)]
 fn push_lead<A: Allocator>(
     out: &mut Vec<u8, A>,
@@ -48,7 +48,7 @@ fn push_lead<A: Allocator>(
     Ok(())
 }
 
-/// Appends what is owed before a token, and the token.
+/// Appends what precedes a token, and the token.
 #[inline(always)]
 fn push_token<A: Allocator>(
     out: &mut Vec<u8, A>,
@@ -64,7 +64,7 @@ fn push_token<A: Allocator>(
     out.extend_from_slice(token)
 }
 
-/// Appends the end of a line, after a gap where a blank is all that the entry has.
+/// Appends the end of a line, after a gap if a blank is all that the entry has.
 fn push_end<A: Allocator>(
     out: &mut Vec<u8, A>,
     gap: Gap,
@@ -80,14 +80,14 @@ fn push_end<A: Allocator>(
     out.extend_from_slice(b"\n")
 }
 
-/// Appends each entry as a line: its tokens with gaps between, without comments, and after a gap
-/// where the entry begins with a blank. A token that begins where the one before it ended stays
-/// glued to it, as in `alpn="h2,h3"` (RFC 9460).
+/// Appends each entry as a line: its tokens separated by gaps, without comments, and after a gap if
+/// the entry begins with a blank. A token that is adjacent to the one before it stays adjacent, as
+/// in `alpn="h2,h3"` (RFC 9460).
 ///
-/// There is a line's end between two entries and none after the last, so that the entries stay the
-/// same: where the octets end in a line's end, what is appended does. The octets stand after
-/// `lines_before` lines, which count in the positions of a fault. After an error `out` has more
-/// octets, of which nothing is said.
+/// A line end separates two entries and none follows the last, so that the entries stay the same:
+/// if the octets end with a line end, the output does. `lines_before` is the number of lines before
+/// the octets, which the positions of an error include. After an error `out` has more octets, which
+/// are unspecified.
 pub fn lay_out<A: Allocator>(
     octets: &[u8],
     lines_before: usize,
@@ -131,8 +131,9 @@ pub fn lay_out<A: Allocator>(
     Ok(())
 }
 
-/// Appends as lines the entries up to where the last ends that is the same whatever follows, and
-/// returns that place, or 0. Where octets have a fault whatever follows, nothing is appended.
+/// Appends as lines the entries up to the end of the last one that is the same whatever follows,
+/// and returns the offset of that end, or 0. Appends nothing if the octets have a syntax error
+/// whatever follows.
 pub(crate) fn lay_out_settled<A: Allocator>(
     octets: &[u8],
     gap: Gap,

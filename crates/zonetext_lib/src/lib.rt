@@ -1,19 +1,20 @@
-//! What the commands of `zonetext` do over zone files, of octets.
+//! The commands of `zonetext`, over the octets of zone files.
 //!
-//! - [`check::check`] returns whether octets are zone text, or the first fault with its position.
-//! - [`blocks::Checker`] returns the same of octets that come in blocks, and holds few of them.
+//! - [`check::check`] checks octets against the grammar of zone files, and returns the first syntax
+//!   error with its position.
+//! - [`blocks::Checker`] does so for octets that arrive in chunks, and stores few of them.
 //! - [`tokens::tokens`] writes a row for each token, with its position.
 //! - [`layout::lay_out`] writes a line for each entry.
-//! - [`writer::Writer`] writes either of octets that come in blocks.
-//! - [`formatter::Formatter`] writes the canonical form of octets that come in blocks.
-//! - [`diff::diff`] compares the entries of two texts.
-//! - [`comparer::Comparer`] compares those of two texts that come in blocks.
-//! - [`unified::Unified`] writes what changes from one text to another, as a unified diff.
-//! - [`patch::append_changed`] changes stretches of a text, and leaves all else as it is.
-//! - [`replace::Batch`] gives files new texts, all of them or none.
+//! - [`writer::Writer`] writes either for octets that arrive in chunks.
+//! - [`formatter::Formatter`] writes the canonical form of octets that arrive in chunks.
+//! - [`diff::diff`] compares the entries of two files.
+//! - [`comparer::Comparer`] compares those of two files that arrive in chunks.
+//! - [`unified::Unified`] writes the changes from one text to another, as a unified diff.
+//! - [`patch::append_changed`] changes parts of a text, and copies all else.
+//! - [`replace::Batch`] replaces the contents of files, of all of them or none.
 //!
-//! Octets need not be UTF-8: each counts as a character of the grammar, so that a comment in
-//! another encoding refuses no zone.
+//! Octets needn't be UTF-8: each counts as one character of the grammar, so that a comment in
+//! another encoding is accepted.
 #![tactic(auto)]
 
 pub mod blocks;

@@ -1,27 +1,27 @@
-//! Texts in which some stretches change, and all else stays octet for octet.
+//! Changes parts of a text, and copies all else octet for octet.
 ghost use Rattle.std.specs.Prelude.{◌≡◌, ◌∷◌, [], ◌++◌, ◌≤◌, ◌↔◌, ◌||◌, IfErr, IsTrue, OnOk, false, length, not};
 ghost use Rattle.zonetext_lib.specs.Patches.{AreChangesInOrder, IsBehind, IsPatchError, IsTokenError, comment_goes_on, is_space, kept_len, stretches, taken_out, span_of, changed_text};
 
 use dns_split::pieces::Span;
 use std::alloc::{AllocError, Allocator};
 
-/// A stretch of a text, and what stands in its place then.
+/// A part of a text, and its replacement.
 #[derive(Clone, Copy)]
 pub struct Change<'c> {
-    /// Where it begins, in octets.
+    /// Offset of its first octet.
     pub start: usize,
-    /// Where it ends.
+    /// Offset after its last octet.
     pub end: usize,
-    /// What stands there then.
+    /// The octets that replace it.
     pub text: &'c [u8],
 }
 
-/// Why no text is made.
+/// The error of changing a text.
 #[derive(Clone, Copy)]
 pub enum PatchError {
-    /// A change begins before the one before it ends, or goes beyond the text.
+    /// A change begins before the one before it ends, or extends beyond the text.
     OutOfOrder,
-    /// There was not enough memory.
+    /// An allocation failed.
     OutOfMemory,
 }
 
@@ -35,9 +35,9 @@ impl From<AllocError> for PatchError {
     }
 }
 
-/// Appends a text in which each change was made: before, between and behind them it stays as it is.
-///
-/// The changes are to be in the order of their places, and not to overlap. Where they are not, or
+/// Appends a text with each change made: the octets before, between and after them are copied.
+/// The changes must be in the order of their offsets, and not overlap. After an error the appended
+/// octets are unspecified.
 /// memory is lacking, nothing is said of what was appended.
 pub fn append_changed<A: Allocator>(
     octets: &[u8],
@@ -62,23 +62,24 @@ pub fn append_changed<A: Allocator>(
     Ok(())
 }
 
-/// Whether an octet is a blank or ends a line.
+/// Returns whether an octet is a blank or ends a line.
 fn is_space(octet: u8) -> bool
     ensures { result ≡ is_space octet }
 {
     matches!(octet, b' ' | b'\t' | b'\r' | b'\n')
 }
 
-/// Whether an octet stays by itself: it belongs to a comment, or is no blank and ends no line.
+/// Returns whether an octet is kept for its own sake: it belongs to a comment, or isn't a blank and
+/// ends no line.
 fn stays(is_comment: bool, octet: u8) -> bool
     ensures { result ≡ (is_comment || not (is_space octet)) }
 {
     is_comment || !is_space(octet)
 }
 
-/// How many octets of those between two tokens stay where the second is taken out: all up to the
-/// last parenthesis or comment, with the line end of that comment. Only blanks and line ends stand
-/// behind these.
+/// Returns how many of the octets between two tokens are kept if the second is removed: all up to
+/// the last parenthesis or comment, with the line end of that comment. Only blanks and line ends
+/// follow these.
 pub fn kept_len(gap: &[u8]) -> usize
     ensures kept { result ≡ kept_len false gap.now }
     ensures within { result ≤ length gap.now }
@@ -96,7 +97,7 @@ pub fn kept_len(gap: &[u8]) -> usize
     kept
 }
 
-/// Whether a comment goes on behind an octet, where one does before it or none.
+/// Returns whether a comment is open after an octet, by whether one is open before it.
 fn comment_goes_on(is_comment: bool, octet: u8) -> bool
     ensures { result ≡ comment_goes_on is_comment octet }
 {
@@ -107,7 +108,7 @@ fn comment_goes_on(is_comment: bool, octet: u8) -> bool
     }
 }
 
-/// Whether a token stands within a text, behind a place.
+/// Returns whether a token is within a text, after an offset.
 fn is_behind(octets: &[u8], at: usize, token: Span) -> bool
     ensures { IsTrue result ↔ IsBehind (length octets.now) at token }
 {
@@ -126,8 +127,8 @@ fn push_span<A: Allocator>(
     Ok(())
 }
 
-/// Appends the stretches that go where tokens are taken out which stand behind a place, where
-/// another ends: each with the octets before it that do not stay ([`kept_len`]).
+/// Appends the spans that are removed with tokens that follow an offset, at which another token
+/// ends: each with the octets before it that aren't kept ([`kept_len`]).
 fn append_taken_out<A: Allocator>(
     octets: &[u8],
     behind: usize,
@@ -151,11 +152,11 @@ fn append_taken_out<A: Allocator>(
     Ok(())
 }
 
-/// Appends the stretches that change where one token is to stand in place of several: that of the
-/// first token; and each other with the octets before it that do not stay ([`kept_len`]).
+/// Appends the spans that change if one token replaces several: that of the first token; and each
+/// other with the octets before it that aren't kept ([`kept_len`]).
 ///
-/// The tokens are to be in the order of their places, and not to overlap. Where they are not, or
-/// memory is lacking, nothing is said of what was appended.
+/// The tokens must be in the order of their offsets, and not overlap. After an error the appended
+/// spans are unspecified.
 pub fn append_stretches<A: Allocator>(
     octets: &[u8],
     tokens: &[Span],

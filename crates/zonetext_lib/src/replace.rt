@@ -1,8 +1,8 @@
-//! Files that get a new text, all of them or none.
+//! Replaces the contents of files, of all of them or none.
 //!
-//! The new text of each is written into a file beside it. Only once all of them are written and
-//! have reached the disk are they renamed. Until then each file is as it was, whatever fails, and
-//! nobody ever sees half of a text under a file's name.
+//! The new text of each file is written to a temporary file beside it. Only after all of them are
+//! written and flushed to disk are they renamed. Until then each file is unchanged, whatever fails,
+//! and nobody ever sees a partial text under a file's own name.
 use std::alloc::{AllocError, Global};
 use std::fs::{Files, Metadata, OpenFile, OpenOptions, Permissions};
 use std::io;
@@ -10,27 +10,28 @@ use std::io::{ErrorKind, Write};
 use std::os::fd::AsFd;
 use std::os::unix::fs::{MetadataExt, OpenOptionsExt, PermissionsExt, fchown};
 
-/// What follows a file's name, before two numbers, in the name of the file with its new text.
+/// What follows a file's name, before two numbers, in the name of its temporary file.
 const NEW: &str = ".zonetext-new-";
-/// How many names are tried for the file with a new text.
+/// Maximum number of names that are tried for a temporary file.
 const MOST_NAMES: usize = 10_000;
-/// What a name server puts behind the name of a zone that it changes itself.
+/// What a name server appends to the name of a zone file that it changes itself, for its journal.
 const JOURNAL: &str = ".jnl";
-/// The bits of a file's mode that say who may read, write and run it.
+/// The permission bits of a file's mode.
 const PERMISSIONS: u32 = 0o7777;
 
-/// Why a file gets no new text.
+/// The error of replacing a file.
 #[derive(Drop)]
 pub enum Refusal {
-    /// It can't be found, read, written or renamed.
+    /// The file can't be found, read, written or renamed.
     Io(io::Error),
-    /// It is a folder, a device or a pipe.
+    /// The file is a directory, a device or a pipe.
     NoFile,
-    /// A journal lies beside it: a name server changes the zone itself (dynamic updates, RFC 2136).
+    /// A journal is beside the file: a name server changes the zone itself (dynamic updates, RFC
+    /// 2136).
     Journal,
-    /// Its owner and group can't be kept.
+    /// The file's owner and group can't be kept.
     Owner(io::Error),
-    /// It changed since it was looked at.
+    /// The file changed since it was looked at.
     Changed,
 }
 
@@ -46,7 +47,7 @@ impl From<AllocError> for Refusal {
     }
 }
 
-/// What tells a file from one that was changed, or that took its place.
+/// What distinguishes a file from one that was changed, or that replaced it.
 #[derive(Clone, Copy, PartialEq, Eq)]
 struct Stamp {
     device: u64,
@@ -68,7 +69,7 @@ impl Stamp {
     }
 }
 
-/// Whether something has that name. A link that leads nowhere has it too.
+/// Returns whether a file with that name exists. A dangling link counts too.
 fn exists<R: Files>(files: &R, path: &str) -> io::Result<bool> {
     match files.symlink_metadata(path) {
         Ok(_) => Ok(true),
@@ -77,7 +78,7 @@ fn exists<R: Files>(files: &R, path: &str) -> io::Result<bool> {
     }
 }
 
-/// A path with something behind it.
+/// Returns a path with a suffix appended.
 fn with_suffix(alloc: Global, path: &str, suffix: &str) -> Result<String, AllocError> {
     let mut text = String::from_str(alloc, path)?;
     text.push_str(suffix)?;
@@ -95,9 +96,9 @@ pub struct Original {
 }
 
 impl Original {
-    /// Finds the file to which a name leads, through links.
+    /// Finds the file to which a name refers, through links.
     ///
-    /// Refuses a zone with a journal beside it, unless `ignores_journal`.
+    /// Fails if a journal is beside the file, unless `ignores_journal`.
     pub fn find<R: Files>(
         files: &R,
         alloc: Global,
@@ -122,18 +123,18 @@ impl Original {
         })
     }
 
-    /// Where the file lies.
+    /// Returns the path of the file.
     pub fn path(&self) -> &str {
         self.path.as_str()
     }
 
-    /// Whether the file is as it was.
+    /// Returns whether the file is unchanged.
     pub fn is_unchanged<R: Files>(&self, files: &R) -> io::Result<bool> {
         let metadata = files.metadata(self.path.as_str())?;
         Ok(Stamp::of(&metadata) == self.stamp)
     }
 
-    /// The folder in which the file lies.
+    /// Returns the directory of the file.
     fn folder(&self) -> &str {
         match self.path.as_str().rsplit_once('/') {
             None => ".",
@@ -151,12 +152,12 @@ pub struct NewText<F: Drop> {
     file: F,
 }
 
-/// Gives a new file the owner, the group and the mode of the original.
+/// Sets the owner, the group and the mode of a new file to those of the original.
 fn take_after<F: OpenFile + AsFd>(file: &F, original: &Original) -> Result<(), Refusal> {
     let mine = file.metadata()?;
     let (user, group) = (original.user, original.group);
     if mine.uid() != user || mine.gid() != group {
-        // Without a new owner, whoever owns the file may give it a group of theirs.
+        // Without a new owner, an owner of the file may set its group to one of theirs.
         let owner = if mine.uid() == user { None } else { Some(user) };
         if let Err(error) = fchown(file.as_fd(), owner, Some(group)) {
             return Err(Refusal::Owner(error));
@@ -166,8 +167,8 @@ fn take_after<F: OpenFile + AsFd>(file: &F, original: &Original) -> Result<(), R
     Ok(())
 }
 
-/// Creates a file beside another. Its name is that of the other, the number of the process, and the first
-/// number that is free: a file that another process left is in nobody's way.
+/// Creates a file beside another. Its name is that of the other, the number of the process, and the
+/// first number for which no file exists, so that files which other processes left don't matter.
 fn create_beside<R: Files>(
     files: &R,
     alloc: Global,
@@ -188,10 +189,10 @@ fn create_beside<R: Files>(
 }
 
 impl<F: Write + OpenFile + AsFd + Drop> NewText<F> {
-    /// Makes the file for a new text, beside the original, with its owner, group and mode, for the process
-    /// of that number.
+    /// Creates the file for a new text, beside the original, with its owner, group and mode, for
+    /// the process with that number.
     ///
-    /// If that fails the file is removed again.
+    /// If that fails, the file is removed.
     pub fn create<R: Files<File = F>>(
         files: &R,
         alloc: Global,
@@ -219,9 +220,9 @@ impl<F: Write + OpenFile + Drop> NewText<F> {
         self.file.write_all(octets)
     }
 
-    /// Ends the new text, once it has reached the disk, and closes its file.
+    /// Ends the new text, after flushing it to disk, and closes its file.
     ///
-    /// Where that fails the file is removed.
+    /// If that fails, the file is removed.
     fn finish<R: Files<File = F>>(self, files: &R) -> Result<Ready, Refusal> {
         let NewText {
             original,
@@ -238,13 +239,13 @@ impl<F: Write + OpenFile + Drop> NewText<F> {
         }
     }
 
-    /// Gives the new text up, and removes its file.
+    /// Discards the new text, and removes its file.
     pub fn discard<R: Files<File = F>>(self, files: &R) -> io::Result<()> {
         files.remove_file(self.path.as_str())
     }
 }
 
-/// A new text that is written, and waits to take the place of the original.
+/// A new text that is written, and is to replace the original.
 #[derive(Drop)]
 pub struct Ready {
     original: Original,
@@ -252,7 +253,7 @@ pub struct Ready {
 }
 
 impl Ready {
-    /// Where the file lies that is replaced.
+    /// Returns the path of the file to be replaced.
     pub fn path(&self) -> &str {
         self.original.path()
     }
@@ -261,7 +262,7 @@ impl Ready {
         files.remove_file(self.path.as_str())
     }
 
-    /// Whether the original is as it was.
+    /// Fails if the original changed.
     fn may_go<R: Files>(&self, files: &R) -> Result<(), Refusal> {
         if self.original.is_unchanged(files)? {
             Ok(())
@@ -270,12 +271,12 @@ impl Ready {
         }
     }
 
-    /// Takes the place of the original.
+    /// Replaces the original.
     fn rename<R: Files>(&self, files: &R) -> io::Result<()> {
         files.rename(self.path.as_str(), self.original.path())
     }
 
-    /// Waits until the folder has the new name on the disk.
+    /// Flushes the directory with the new name to disk.
     fn sync_folder<R: Files>(&self, files: &R) -> io::Result<()> {
         let mut options = OpenOptions::new();
         options.read(true);
@@ -285,37 +286,37 @@ impl Ready {
     }
 }
 
-/// Why files that were to be replaced together were not, or not all.
+/// The error if files that were to be replaced together were not, or not all.
 #[derive(Drop)]
 pub struct Incomplete {
-    /// How many have their new text: the first ones.
+    /// Number of files that were replaced: the first ones.
     pub replaced: usize,
-    /// The number of the file that failed, counted from 0.
+    /// Index of the file that failed, from 0.
     pub at: usize,
-    /// Why it failed.
+    /// The error of that file.
     pub why: Refusal,
 }
 
-/// New texts that take their places together.
+/// New texts that replace their originals together.
 #[derive(Drop)]
 pub struct Batch {
     texts: Vec<Ready>,
 }
 
 impl Batch {
-    /// No texts.
+    /// Returns a batch without texts.
     pub fn new(alloc: Global) -> Batch {
         Batch {
             texts: Vec::new(alloc),
         }
     }
 
-    /// The texts, in the order in which they were added.
+    /// Returns the texts, in the order in which they were added.
     pub fn texts(&self) -> &[Ready] {
         self.texts.as_slice()
     }
 
-    /// Ends a new text and adds it. Where that fails its file is removed.
+    /// Ends a new text and adds it. If that fails, its file is removed.
     pub fn add<R: Files>(&mut self, files: &R, text: NewText<R::File>) -> Result<(), Refusal> {
         let ready = text.finish(files)?;
         match self.texts.push(ready) {
@@ -327,16 +328,16 @@ impl Batch {
         }
     }
 
-    /// Gives all up, and removes their files. Returns the first error, once all were tried.
+    /// Discards all texts, and removes their files. Returns the first error, after all were tried.
     pub fn discard<R: Files>(&self, files: &R) -> io::Result<()> {
         discard_from(files, self.texts(), 0)
     }
 
-    /// Puts all in the places of their originals.
+    /// Replaces all originals.
     ///
-    /// None is replaced where one of the originals changed. Returns once all files and their
-    /// folders have reached the disk. Where a file fails, those after it stay as they were, and
-    /// the new texts that did not get their place are removed.
+    /// Replaces none if one of the originals changed. Returns after all files and their directories
+    /// were flushed to disk. If a file fails, those after it are unchanged, and the new texts that
+    /// didn't replace their originals are removed.
     pub fn commit<R: Files>(&self, files: &R) -> Result<(), Incomplete> {
         let answer = replace_in_turn(files, self.texts());
         if let Err(incomplete) = &answer {
@@ -357,7 +358,7 @@ fn discard_from<R: Files>(files: &R, texts: &[Ready], first: usize) -> io::Resul
     answer
 }
 
-/// The first text whose original changed, or can't be looked at.
+/// Fails with the first text whose original changed, or can't be looked at.
 fn find_changed<R: Files>(files: &R, texts: &[Ready]) -> Result<(), Incomplete> {
     for (at, text) in texts.iter().enumerate() {
         if let Err(why) = text.may_go(files) {

@@ -1,4 +1,4 @@
-//! A row for each token.
+//! Writes a row for each token.
 ghost use Rattle.std.specs.Prelude.{◌≡◌, ◌+◌, ◌++◌, ◌<◌, ◌^◌, IfOk, IfErr, OnOk, length};
 ghost use Rattle.zonetext_lib.specs.Found.{IsStop, IsZone};
 ghost use Rattle.zonetext_lib.specs.Tokens.{form_head, glued_member, plain_kind, token_row, HasRows};
@@ -12,22 +12,22 @@ use zone_format::place::{Place, move_to, position_after};
 use zonetext_report::json::{Charset, push_string};
 use zonetext_report::push::{push_number, push_text};
 
-/// How a row is written.
+/// The format of a row.
 #[derive(Clone, Copy)]
 pub enum Form {
-    /// `LINE:COLUMN`, the kind and the token, with tabs between; the kind of a token that begins
-    /// where the one before it ended has `glued-` before it.
+    /// `LINE:COLUMN`, the kind and the token, separated by tabs; the kind of a token that is
+    /// adjacent to the one before it has the prefix `glued-`.
     Plain,
     /// A JSON object with the members `line`, `column`, `kind`, `glued` and `token`.
     Json,
 }
 
-/// Why a command stopped.
+/// The reason why a command stopped.
 #[derive(Clone, Copy)]
 pub enum Stop {
-    /// The octets are not zone text.
+    /// The octets aren't of the grammar of zone files.
     Wrong(Found),
-    /// There was not enough memory.
+    /// An allocation failed.
     OutOfMemory,
 }
 
@@ -63,7 +63,7 @@ fn push_glued<A: Allocator>(out: &mut Vec<u8, A>, glued: bool) -> Result<(), All
     }
 }
 
-/// Appends what stands before a token in its row.
+/// Appends the part of a row before the token.
 fn push_head<A: Allocator>(
     out: &mut Vec<u8, A>,
     form: Form,
@@ -116,12 +116,12 @@ fn push_row<A: Allocator>(
     }
 }
 
-/// Appends a row for each word and quoted text: its position, its kind, whether it is glued to the
-/// token before it, and its octets.
+/// Appends a row for each word and quoted string: its position, its kind, whether it is adjacent to
+/// the token before it, and its octets.
 ///
-/// The octets stand after `lines_before` lines. Where they are not zone text, `out` has the rows
-/// of the tokens that were settled before the fault. Where memory is lacking, it has a beginning
-/// of them.
+/// `lines_before` is the number of lines before the octets. If the octets aren't of the grammar,
+/// `out` has the rows of the tokens that were settled before the error. If an allocation fails, it
+/// has a prefix of the rows.
 pub fn tokens<A: Allocator>(
     octets: &[u8],
     lines_before: usize,

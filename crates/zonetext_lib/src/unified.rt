@@ -1,20 +1,20 @@
-//! What changes from one text to another, as a unified diff.
+//! Writes the changes from one text to another, as a unified diff.
 //!
-//! The second text has the lines of the first, each changed or not, but for blank ones, of which
-//! some are gone. So a line goes with the next line of the other text, and none is looked for
-//! further on; a diff of other texts is right too, if not the shortest.
+//! The second text is assumed to have the lines of the first, each changed or not, except for blank
+//! lines, some of which may be missing. So a line is compared with the next line of the other text,
+//! and no later line is searched. The diff of any other texts is correct too, if not the shortest.
 use std::alloc::{AllocError, Global};
 
-/// How many lines that stay are shown before and after those that change.
+/// Number of unchanged lines that are shown before and after changed ones.
 const CONTEXT: usize = 3;
-/// What stands behind a last line that no line feed ends.
+/// The line after a last line that has no line feed.
 const NO_FEED: &[u8] = b"\\ No newline at end of file\n";
 
-/// The hunks of a diff, made line by line.
+/// The hunks of a diff, built line by line.
 #[derive(Drop)]
 struct Hunks {
     alloc: Global,
-    /// Lines that stay, and that stand in no hunk yet: since the last change, or the last ones.
+    /// Unchanged lines that are in no hunk yet: since the last change, or the last ones.
     recent: Vec<Vec<u8>>,
     /// The lines of the open hunk, with their marks.
     body: Vec<u8>,
@@ -23,17 +23,17 @@ struct Hunks {
     new: LineCount,
 }
 
-/// Where the lines of one text stand.
+/// The line numbers of one text.
 #[derive(Clone, Copy)]
 struct LineCount {
-    /// How many lines were passed.
+    /// Number of lines so far.
     passed: u64,
-    /// How many of them stood before the open hunk.
+    /// Number of lines before the open hunk.
     before: u64,
 }
 
 impl LineCount {
-    /// The lines of the open hunk: the number of the first, and how many there are.
+    /// Returns the lines of the open hunk: the number of the first, and their count.
     fn range(self, ahead: u64) -> (u64, u64) {
         let count = self
             .passed
@@ -71,7 +71,7 @@ impl Hunks {
         }
     }
 
-    /// Passes a line that stays.
+    /// Adds an unchanged line.
     fn keep(&mut self, line: &[u8], out: &mut Vec<u8>) -> Result<(), AllocError> {
         if self.is_open && self.recent.len() >= 2 * CONTEXT {
             self.close(out)?;
@@ -88,7 +88,7 @@ impl Hunks {
         Ok(())
     }
 
-    /// Begins a hunk before the lines that were passed last, or goes on with the open one.
+    /// Begins a hunk before the last unchanged lines, or continues the open one.
     fn change(&mut self) -> Result<(), AllocError> {
         if !self.is_open {
             let ahead = self.recent.len() as u64;
@@ -103,21 +103,21 @@ impl Hunks {
         Ok(())
     }
 
-    /// Passes a line of the first text that goes.
+    /// Adds a line of the first text that is removed.
     fn remove(&mut self, line: &[u8]) -> Result<(), AllocError> {
         self.change()?;
         self.old.passed = self.old.passed.saturating_add(1);
         push_line(&mut self.body, b'-', line)
     }
 
-    /// Passes a line of the second text that comes.
+    /// Adds a line of the second text that is inserted.
     fn add(&mut self, line: &[u8]) -> Result<(), AllocError> {
         self.change()?;
         self.new.passed = self.new.passed.saturating_add(1);
         push_line(&mut self.body, b'+', line)
     }
 
-    /// Writes the open hunk, with the first of the lines that stay behind it.
+    /// Writes the open hunk, with the first of the unchanged lines after it.
     fn close(&mut self, out: &mut Vec<u8>) -> Result<(), AllocError> {
         if !self.is_open {
             return Ok(());
@@ -140,7 +140,7 @@ impl Hunks {
     }
 }
 
-/// A unified diff of two texts that come in blocks.
+/// A unified diff of two texts that arrive in chunks.
 #[derive(Drop)]
 pub struct Unified {
     hunks: Hunks,
@@ -148,7 +148,7 @@ pub struct Unified {
     new: Vec<u8>,
 }
 
-/// How long the first line is, with its line feed, if one ends it.
+/// Returns the length of the first line, with its line feed, if it has one.
 fn first_line(text: &[u8]) -> Option<usize> {
     text.iter()
         .position(|octet| *octet == b'\n')
@@ -159,7 +159,7 @@ fn is_blank(line: &[u8]) -> bool {
     line.iter().all(|octet| b" \t\r\n".contains(octet))
 }
 
-/// Lets the first octets go.
+/// Drops the first octets.
 fn let_go(text: &mut Vec<u8>, count: usize) {
     if count > text.len() {
         return;
@@ -169,7 +169,7 @@ fn let_go(text: &mut Vec<u8>, count: usize) {
 }
 
 impl Unified {
-    /// No lines of either.
+    /// Returns a diff without lines of either text.
     pub fn new(alloc: Global) -> Unified {
         Unified {
             hunks: Hunks::new(alloc),
@@ -218,7 +218,8 @@ impl Unified {
         Ok(())
     }
 
-    /// Appends the last hunk to `out`: what is left of the first text goes, and of the second comes.
+    /// Appends the last hunk to `out`: the rest of the first text is removed, that of the second
+    /// inserted.
     pub fn finish(&mut self, out: &mut Vec<u8>) -> Result<(), AllocError> {
         self.advance(out)?;
         if self.old.as_slice() == self.new.as_slice() {

@@ -1,4 +1,4 @@
-//! What is written of octets that come in blocks.
+//! Writes the output for octets that arrive in chunks.
 ghost use Rattle.std.specs.Prelude.{◌≡◌, ◌+◌, ◌++◌, ◌<◌, ◌≤◌, ◌^◌, ℕ, [], List, length};
 ghost use Rattle.std.specs.Prelude.{IfErr, IfOk, OnOk, Ok, map};
 ghost use Rattle.dns_split.specs.Pieces.{AreOctets, IsGiven};
@@ -17,7 +17,7 @@ use dns_split::pieces::{Piece, Pieces};
 use std::alloc::{AllocError, Allocator};
 use std::marker::Model;
 
-/// What is written of zone text.
+/// The output for a zone file.
 #[derive(Clone, Copy)]
 pub enum Output {
     /// A row for each token, as [`tokens`] writes them.
@@ -26,7 +26,8 @@ pub enum Output {
     Lines(Gap),
 }
 
-/// Where the last entry ends that ended before the fault of octets, or 0; of zone text its length.
+/// Returns the end of the last entry that ended before the syntax error of octets, or 0; or the
+/// length, if there is no error.
 fn until_fault(octets: &[u8]) -> usize
     ensures octets { AreOctets octets.now }
     ensures within { result ≤ length octets.now }
@@ -45,7 +46,7 @@ fn until_fault(octets: &[u8]) -> usize
     octets.len()
 }
 
-/// Appends the entries that ended before a fault as lines, or all entries of zone text.
+/// Appends the entries that ended before a syntax error as lines, or all entries if there is none.
 fn write_lines<A: Allocator>(
     octets: &[u8],
     lines_before: usize,
@@ -65,7 +66,7 @@ fn write_lines<A: Allocator>(
     }
 }
 
-/// Appends a row for each token before a fault, or each token of zone text.
+/// Appends a row for each token before a syntax error, or for each token if there is none.
 fn write_rows<A: Allocator>(
     octets: &[u8],
     lines_before: usize,
@@ -84,7 +85,7 @@ fn write_rows<A: Allocator>(
     }
 }
 
-/// Appends what is written of octets that begin an entry.
+/// Appends the output for octets that begin an entry.
 fn write<A: Allocator>(
     output: Output,
     octets: &[u8],
@@ -103,7 +104,7 @@ fn write<A: Allocator>(
     }
 }
 
-/// Appends all entries of zone text as lines.
+/// Appends all entries of a zone file as lines.
 fn write_all_lines<A: Allocator>(
     octets: &[u8],
     lines_before: usize,
@@ -123,7 +124,7 @@ fn write_all_lines<A: Allocator>(
     }
 }
 
-/// Appends what is written of zone text that begins an entry.
+/// Appends the output for octets of the grammar that begin an entry.
 fn write_ended<A: Allocator>(
     output: Output,
     octets: &[u8],
@@ -142,8 +143,9 @@ fn write_ended<A: Allocator>(
     }
 }
 
-/// Appends what is written of the entries that are the same whatever follows, and returns where the
-/// last of them ends, where one reading does both; nothing for rows, and where octets have a fault.
+/// Appends the output for the entries that are the same whatever follows, and returns the end of
+/// the last of them, if one pass can do both. Appends nothing for rows, or if the octets have a
+/// syntax error.
 fn write_settled<A: Allocator>(
     output: Output,
     octets: &[u8],
@@ -158,11 +160,11 @@ fn write_settled<A: Allocator>(
     }
 }
 
-/// Octets that are added block by block, of which is written what [`tokens`] or [`lay_out`] write
-/// of all of them, as soon as it is settled.
+/// A writer to which octets are added in chunks. It writes what [`tokens`] or [`lay_out`] write for
+/// all of them, as soon as it is settled.
 ///
-/// It holds no more octets than [`Checker`] does: those of the longest entry, twice over at most,
-/// and a block.
+/// It stores no more octets than [`Checker`] does: twice the length of the longest entry at most,
+/// and a chunk.
 #[derive(Drop)]
 pub struct Writer<A: Allocator> {
     checker: Checker<A>,
@@ -178,7 +180,7 @@ impl<A: Allocator> Model for Writer<A> {
 }
 
 impl<A: Allocator> Writer<A> {
-    /// No octets.
+    /// Returns a writer without octets.
     pub fn new(alloc: A, output: Output) -> Writer<A>
         ensures output { result.output ≡ output }
         ensures none { Wrote [] [] result }
@@ -189,12 +191,12 @@ impl<A: Allocator> Writer<A> {
         }
     }
 
-    /// Adds octets after those that were added before, and appends to `out` what is to be written
-    /// of the entries that have ended.
+    /// Adds octets after those that were added before, and appends to `out` the output for the
+    /// entries that have ended.
     ///
-    /// A fault is answered once it is known, whatever octets follow, after what is written before
-    /// it; the octets are added then too, and [`Writer::finish`] returns it again. Where memory is
-    /// lacking nothing is added, and nothing is said of `out`.
+    /// Fails with a syntax error as soon as it is the same whatever follows, after the output
+    /// before it; the octets are added then too, and [`Writer::finish`] fails with it again. If an
+    /// allocation fails, nothing is added, and `out` is unspecified.
     pub fn add(&mut self, block: &[u8], out: &mut Vec<u8, A>) -> Result<(), Halt>
         ensures output { self.new.output ≡ self.old.output }
         ensures told { AddsBlock self.old.held self.new.held block.now result }
@@ -237,10 +239,10 @@ impl<A: Allocator> Writer<A> {
         }
     }
 
-    /// Appends to `out` what is left to write, and returns whether all octets that were added are
-    /// zone text, or the first fault.
+    /// Appends the rest of the output to `out`. Fails with the first syntax error if the octets
+    /// that were added aren't of the grammar of zone files.
     ///
-    /// Where memory is lacking nothing is said of `out`.
+    /// If an allocation fails, `out` is unspecified.
     pub fn finish(&self, out: &mut Vec<u8, A>) -> Result<(), Halt>
         ensures well { (all : List ℕ) → Holds all self.now.held → IfOk result (λ _. IsZone all) }
         ensures bad { (all : List ℕ) → Holds all self.now.held → IsEnd all result }
