@@ -1,4 +1,4 @@
--- `passes` at a call: what it is handed, and what a caller has of it. Assumes `Logic`.
+-- `passes` at a call: its arguments, and what a caller has of it. Assumes `Logic`.
 use Rattle.std.proofs.Common.{◌≡◌, ℕ, List, [], ◌∷◌, refl, ap}
 use seplogic.Ra.Ura.{Ura}
 use mathlib.Core.Bool.{Bool}

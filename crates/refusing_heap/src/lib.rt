@@ -1,9 +1,9 @@
-//! Memory for tests that refuses one call.
+//! An allocator for tests that fails one allocation.
 //!
-//! A value such as a `Vec` that is made with `&heap`, where `heap` is a [`Refusing`], takes its
-//! memory from another allocator, and one call for memory finds none. A test that makes a call with
-//! the first refused, then with the second, and so on until [`Refusing::has_refused`] is false,
-//! has seen the call fall short of memory at each place where it can:
+//! A value such as a `Vec` that is made with `&heap`, where `heap` is a [`Refusing`], allocates
+//! from another allocator, and one allocation fails. A test repeats a call with the first
+//! allocation failing, then with the second, and so on until [`Refusing::has_refused`] is false. It
+//! has then tested the call with each of its allocations failing:
 //!
 //! ```text
 //! for nth in 1..100 {
@@ -16,11 +16,11 @@
 //! }
 //! ```
 //!
-//! That it is safe, and gives back to the inner allocator what it took from it, is proved by hand.
-//! How many calls were made stands in a cell, and no contract speaks of what a cell holds; so that
-//! it refuses just the one call is shown by tests.
+//! A proof by hand shows that it is safe, and returns to the inner allocator what it allocated from
+//! it. The number of calls is in a cell, and no contract covers the contents of cells, so tests
+//! show that it fails just the one allocation.
 //!
-//! [`sink::Sink`] is a sink that refuses one write.
+//! [`sink::Sink`] is a sink that fails one write.
 #![tactic(auto)]
 
 pub mod sink;
@@ -28,14 +28,14 @@ pub mod sink;
 use std::alloc::{AllocError, Allocator};
 use std::cell::Cell;
 
-/// An allocator that passes its calls on to another one, and refuses one call for memory.
+/// An allocator that passes its calls on to another one, and fails one allocation.
 pub struct Refusing<B: Allocator> {
     inner: B,
     left: Cell<u64>,
 }
 
 impl<B: Allocator> Refusing<B> {
-    /// An allocator that refuses the call for memory of this number, counted from 1.
+    /// Returns an allocator that fails its `nth` allocation, counted from 1.
     pub fn new(inner: B, nth: u64) -> Refusing<B> {
         Refusing {
             inner,
@@ -43,7 +43,7 @@ impl<B: Allocator> Refusing<B> {
         }
     }
 
-    /// Whether the call of that number was made, and so refused.
+    /// Returns whether the `nth` allocation was requested, and so failed.
     pub fn has_refused(&self) -> bool {
         self.left.get() == 0
     }
@@ -55,7 +55,7 @@ impl<B: Allocator> Drop for Refusing<B> {
     }
 }
 
-// Counts a call for memory, and says whether it is passed on.
+// Counts an allocation, and returns whether it is passed on.
 fn passes(left: &Cell<u64>) -> bool {
     let before = left.get();
     left.set(before.saturating_sub(1));

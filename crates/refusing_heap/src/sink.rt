@@ -1,20 +1,20 @@
-//! A sink for tests that refuses one write.
+//! A sink for tests that fails one write.
 use std::alloc::Global;
 use std::fmt;
 
-/// A sink that takes so many writes, and refuses the next one.
+/// A sink that accepts a number of writes, and fails the next one.
 #[derive(Drop)]
 pub struct Sink {
-    /// How many writes it still takes.
+    /// Number of writes that it still accepts.
     pub left: usize,
-    /// Whether it has refused one.
+    /// Whether it has failed one.
     pub has_refused: bool,
-    /// What was written.
+    /// The text that was written.
     pub text: String,
 }
 
 impl Sink {
-    /// A sink that takes so many writes.
+    /// Returns a sink that accepts `left` writes.
     pub fn new(alloc: Global, left: usize) -> Sink {
         Sink {
             left,

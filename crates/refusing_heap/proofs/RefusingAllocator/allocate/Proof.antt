@@ -1,4 +1,4 @@
--- It counts the call, and answers what the inner allocator answers, or refuses. Assumes `Logic`.
+-- It counts the call, and returns what the inner allocator returns, or fails. Assumes `Logic`.
 use Rattle.std.proofs.Common.{◌≡◌, ℕ, ◌+◌, ◌^◌, ◌<◌, true, false, List, [], ◌∷◌, Ok, Err, refl, w64, Bor}
 use seplogic.Ra.Ura.{Ura}
 use mir.Syntax.{Ty, Args, Fn, a_type, dnil, dcons}
