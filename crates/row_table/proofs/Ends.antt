@@ -1,4 +1,4 @@
--- Where the end mark first stands, and whether a text is whole.
+-- The first end mark, and whether a text is whole.
 use Rattle.std.proofs.Common.{ℕ, ◌≡◌, ◌≤◌, ◌<◌, ◌+◌, List, [], ◌∷◌, ◌++◌, Option, Some, None, MatchOption, length, take, drop, refl, sym, ap, arith, Bor, Bool, ◌==◌, IsTrue, tests, ◌∙◌, ◌⊎◌, inl, inr}
 use Rattle.std.specs.Str.Pattern.{FindsText, LacksTextAt}
 use Rattle.std.proofs.lemmas.Bool.{cases_lt}
@@ -24,7 +24,7 @@ whole_at_end text x h e =
 end_at_whole : (text : List ℕ) (x : Bor (List ℕ) × Bor (List ℕ)) → IsSplit text (Some x) → IsWhole text → x.1.now ≡ []
 end_at_whole text x h w = w.1 x.0.now x.1.now (split_text_parts end_mark text (Some x) h)
 
--- where the mark stands: nothing is behind it exactly if the text is whole
+-- at the end mark: nothing follows it exactly if the text is whole
 pub whole_if_nothing : (text : List ℕ) (x : Bor (List ℕ) × Bor (List ℕ)) (b : Bool) → IsSplit text (Some x) → b ≡ (length x.1.now == 0)
     → (IsTrue b → IsWhole text) × (IsWhole text → IsTrue b)
 whole_if_nothing text x b h e = (λ t. whole_at_end text x h (nil_from_length x.1.now (grind (arith, tests, t, e))), λ w. grind (arith, tests, e, ap length (end_at_whole text x h w)))

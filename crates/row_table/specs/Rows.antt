@@ -3,7 +3,7 @@ use Rattle.std.specs.Prelude.{ℕ, ◌==◌, ◌≡◌, ◌++◌, Bool, false, n
 use Rattle.std.specs.List.{filter}
 use Rattle.std.specs.Str.Lines.{lines}
 
--- a line is a row: it is not empty, and begins with no `#`
+-- a line is a row: it is not empty, and doesn't begin with `#`
 abbrev pub is_row : List ℕ → Bool
 is_row [] = false
 is_row (c ∷ _) = not (c == 35)
@@ -16,6 +16,6 @@ rows text = filter is_row (lines text)
 abbrev pub end_mark : List ℕ
 end_mark = 10 ∷ 35 ∷ 32 ∷ 101 ∷ 110 ∷ 100 ∷ 10 ∷ []
 
--- a text is whole: it ends in that line, and has it nowhere before
+-- a text is whole: it ends with that line, which doesn't occur before
 abbrev pub IsWhole : List ℕ → Type 0
 IsWhole text = ((front : List ℕ) × (text ≡ front ++ end_mark)) × ((before after : List ℕ) → text ≡ before ++ (end_mark ++ after) → after ≡ [])

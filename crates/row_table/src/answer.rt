@@ -1,21 +1,22 @@
-//! What a call makes of its inputs, as a row spells it.
+//! The result of a call, as a row spells it.
 use refusing_heap::Refusing;
 use std::alloc::{AllocError, AllocFailed, Global};
 use std::fmt;
 
-/// Memory of which one growth may be refused.
+/// An allocator that may fail one allocation.
 pub type Heap = Refusing<Global>;
 
-/// Why a row was not run.
+/// The reason why a row was not run.
 #[derive(Clone, Copy, Debug, PartialEq, Eq)]
 pub enum Failure {
     /// No call has that name.
     NoCall,
-    /// The inputs are not the call's: another number of them, no text or no octets.
+    /// The inputs are not the call's: there is another number of them, or they are not text or not
+    /// octets.
     BadInputs,
-    /// The call's own ways to the same answer differ.
+    /// Two ways to the same result differ.
     Unlike,
-    /// Where a growth was refused there was another answer, and not for lack of memory.
+    /// With a failed allocation the result was another one, and not an error for lack of memory.
     Unfirm,
     OutOfMemory,
 }
@@ -36,10 +37,10 @@ const DIGITS: [char; 16] = [
     '0', '1', '2', '3', '4', '5', '6', '7', '8', '9', 'A', 'B', 'C', 'D', 'E', 'F',
 ];
 
-/// An answer, spelled in ASCII: octets outside 0x20 to 0x7E, `%` and `!` are `%` and two
-/// hexadecimal digits. A refusal begins with `!`.
+/// A result, spelled in ASCII: octets outside 0x20 to 0x7E, `%` and `!` are `%` and two hexadecimal
+/// digits. An error begins with `!`.
 ///
-/// What is added after a failure is of no use: the row then counts as not run.
+/// What is added after a failure is ignored: the row is then counted as not run.
 #[derive(Drop)]
 pub struct Answer<'a> {
     alloc: Global,
@@ -49,7 +50,7 @@ pub struct Answer<'a> {
 }
 
 impl<'a> Answer<'a> {
-    /// None yet, of a call with this memory.
+    /// Returns an empty result of a call with this allocator.
     pub fn new(alloc: Global, heap: &'a Heap) -> Answer<'a> {
         Answer {
             alloc,
@@ -59,22 +60,22 @@ impl<'a> Answer<'a> {
         }
     }
 
-    /// None yet, of the same call.
+    /// Returns an empty result of the same call.
     pub fn another(&self) -> Answer<'a> {
         Answer::new(self.alloc, self.heap)
     }
 
-    /// Memory that is not refused.
+    /// Returns an allocator that doesn't fail.
     pub fn alloc(&self) -> Global {
         self.alloc
     }
 
-    /// The call's memory.
+    /// Returns the call's allocator.
     pub fn heap(&self) -> &'a Heap {
         self.heap
     }
 
-    /// What was spelled, or why the row was not run.
+    /// Returns the spelled result, or the reason why the row was not run.
     pub fn into_text(self) -> Result<String, Failure> {
         match self.failure {
             None => Ok(self.text),
@@ -82,31 +83,31 @@ impl<'a> Answer<'a> {
         }
     }
 
-    /// The row is not run.
+    /// Records that the row is not run.
     pub fn fail(&mut self, failure: Failure) {
         self.failure = Some(failure);
     }
 
-    /// The call found no memory.
+    /// Records that an allocation of the call failed.
     pub fn fail_for_memory(&mut self) {
         self.fail(Failure::OutOfMemory);
     }
 
-    /// Two ways lead to the same, unless one found no memory.
+    /// Checks that two ways lead to the same result, unless an allocation failed.
     pub fn check(&mut self, are_alike: bool) {
         if !are_alike && !self.heap.has_refused() {
             self.fail(Failure::Unlike);
         }
     }
 
-    /// Something holds, whether or not a growth was refused.
+    /// Checks a condition, whether or not an allocation failed.
     pub fn hold(&mut self, holds: bool) {
         if !holds {
             self.fail(Failure::Unlike);
         }
     }
 
-    /// Another way leads to the same answer.
+    /// Checks that another way leads to the same result.
     pub fn check_same(&mut self, other: &Answer) {
         let are_alike = self.text == other.text;
         self.check(are_alike);
@@ -136,7 +137,7 @@ impl<'a> Answer<'a> {
         self.add(text.as_bytes());
     }
 
-    /// Adds what a value prints, whatever the width.
+    /// Adds the text that a value prints, for every width.
     pub fn add_shown(&mut self, value: &impl fmt::Display) {
         match shown(self.alloc, value) {
             Ok(text) => self.add_text(text.as_str()),
@@ -157,32 +158,32 @@ impl<'a> Answer<'a> {
         }
     }
 
-    /// Adds whether something holds.
+    /// Adds a truth value.
     pub fn add_bool(&mut self, holds: bool) {
         self.add_text(if holds { "true" } else { "false" });
     }
 
-    /// Adds what begins a refusal.
+    /// Adds the mark at the beginning of an error.
     fn add_mark(&mut self) {
         if self.text.push('!').is_err() {
             self.fail(Failure::OutOfMemory);
         }
     }
 
-    /// Adds the text of a refusal.
+    /// Adds the text of an error.
     pub fn refuse(&mut self, error: &impl fmt::Display) {
         self.add_mark();
         self.add_shown(error);
     }
 
-    /// Adds a text as one of a refusal.
+    /// Adds a text as that of an error.
     pub fn refuse_text(&mut self, text: &str) {
         self.add_mark();
         self.add_text(text);
     }
 }
 
-/// A value's text, which a width or an alignment does not change.
+/// Returns a value's text, which a width or an alignment doesn't change.
 fn shown(alloc: Global, value: &impl fmt::Display) -> Result<String, Failure> {
     let text = value.to_string(alloc)?;
     let left = format!(in alloc; "{value:9}")?;

@@ -1,13 +1,13 @@
-//! What a program of rows says of its calls.
+//! The trait by which a program of rows defines its calls.
 use crate::answer::Answer;
 use crate::input::Inputs;
 
 /// The calls that rows name.
 pub trait Calls {
-    /// Spells what a call makes of inputs. An unknown call, and inputs that the call does not take,
-    /// fail the row.
+    /// Spells the result of a call with these inputs. Fails the row if the call is unknown, or
+    /// doesn't accept the inputs.
     fn call(&self, name: &str, inputs: &Inputs, answer: &mut Answer<'_>);
 
-    /// Whether a text, from a refusal on, can be one for lack of memory.
+    /// Returns whether a text that begins with an error can be one for lack of memory.
     fn lacks_memory(&self, refusal: &str) -> bool;
 }

@@ -5,15 +5,15 @@ use crate::answer::{Answer, Failure};
 use std::alloc::{AllocError, Global};
 use std::str;
 
-/// The inputs of a row, as octets. A call asks for as many as it takes, and the row is not run
-/// where it has others.
+/// The inputs of a row, as octets. A call requests its number of inputs, and the row fails if it
+/// has another number.
 #[derive(Drop)]
 pub struct Inputs {
     fields: Vec<Vec<u8>>,
 }
 
 impl Inputs {
-    /// The inputs that fields spell.
+    /// Returns the inputs that fields spell.
     pub fn of(alloc: Global, fields: &[&str]) -> Result<Inputs, Failure> {
         let mut inputs = Vec::new(alloc);
         for field in fields {
@@ -22,12 +22,12 @@ impl Inputs {
         Ok(Inputs { fields: inputs })
     }
 
-    /// All of them.
+    /// Returns all inputs.
     pub fn all(&self) -> &[Vec<u8>] {
         self.fields.as_slice()
     }
 
-    /// The only one.
+    /// Returns the only input.
     pub fn octets(&self, answer: &mut Answer) -> &[u8] {
         match self.fields.as_slice() {
             [one] => one.as_slice(),
@@ -38,7 +38,7 @@ impl Inputs {
         }
     }
 
-    /// The only one, as text.
+    /// Returns the only input, as text.
     pub fn text(&self, answer: &mut Answer) -> &str {
         match str::from_utf8(self.octets(answer)) {
             Ok(text) => text,
@@ -49,7 +49,7 @@ impl Inputs {
         }
     }
 
-    /// Both.
+    /// Returns both inputs.
     pub fn two(&self, answer: &mut Answer) -> (&[u8], &[u8]) {
         match self.fields.as_slice() {
             [one, other] => (one.as_slice(), other.as_slice()),
@@ -60,7 +60,7 @@ impl Inputs {
         }
     }
 
-    /// Octets and a number.
+    /// Returns octets and a number.
     pub fn octets_and_number(&self, answer: &mut Answer) -> (&[u8], usize) {
         let (octets, digits) = self.two(answer);
         match number_of(digits) {
@@ -73,12 +73,12 @@ impl Inputs {
     }
 }
 
-/// The number that decimal digits spell.
+/// Returns the number that decimal digits spell.
 pub fn number_of(digits: &[u8]) -> Option<usize> {
     str::from_utf8(digits).ok()?.parse::<usize>().ok()
 }
 
-/// The value of a hexadecimal digit.
+/// Returns the value of a hexadecimal digit.
 fn digit_of(octet: u8) -> Option<u8>
     ensures { IfSome result (λ d. d < 16) }
 {
@@ -89,12 +89,12 @@ fn digit_of(octet: u8) -> Option<u8>
     }
 }
 
-/// The octet of two hexadecimal digits.
+/// Returns the octet of two hexadecimal digits.
 fn octet_of(high: u8, low: u8) -> Option<u8> {
     Some(digit_of(high)? * 16 + digit_of(low)?)
 }
 
-/// Adds what follows a percent sign: two hexadecimal digits, and octets that stand for themselves.
+/// Adds the octet of two hexadecimal digits after a percent sign, and the plain octets after them.
 fn add_part(octets: &mut Vec<u8>, part: &[u8]) -> Result<(), Failure> {
     let [high, low, rest @ ..] = part else {
         return Err(Failure::BadInputs);
@@ -107,7 +107,7 @@ fn add_part(octets: &mut Vec<u8>, part: &[u8]) -> Result<(), Failure> {
     Ok(())
 }
 
-/// The octets that a field spells: `%` and two hexadecimal digits are an octet.
+/// Returns the octets that a field spells: `%` and two hexadecimal digits are an octet.
 fn octets_of(alloc: Global, field: &str) -> Result<Vec<u8>, Failure> {
     let mut octets = Vec::new(alloc);
     for (place, part) in field.split('%').enumerate() {
@@ -120,7 +120,7 @@ fn octets_of(alloc: Global, field: &str) -> Result<Vec<u8>, Failure> {
     Ok(octets)
 }
 
-/// The fields of a line.
+/// Returns the fields of a line.
 pub fn fields_of<'a>(alloc: Global, line: &'a str) -> Result<Vec<&'a str>, AllocError> {
     let mut fields = Vec::new(alloc);
     for field in line.split('\t') {

@@ -1,8 +1,8 @@
-//! Rows of data: calls with their inputs and what is wanted of them, one a line.
+//! Rows of test data: calls with their inputs and expected results, one a line.
 //!
-//! A row is the name of a call, its inputs and the wanted answer, with tabs between. A line that is
-//! empty or begins with `#` is none, and the last line is `# end`. `%` and two hexadecimal capitals
-//! are an octet, and all else stands for itself. Here wide spaces are tabs:
+//! A row is the name of a call, its inputs and the expected result, separated by tabs. A line that
+//! is empty or begins with `#` isn't a row, and the last line is `# end`. `%` and two upper-case
+//! hexadecimal digits are an octet, and all else is plain. Here wide spaces are tabs:
 //!
 //! ```text
 //! # character strings that are read or refused
@@ -12,10 +12,10 @@
 //! # end
 //! ```
 //!
-//! A program of rows says by a [`Calls`] what each call makes of its inputs, and hands it to
-//! [`check_input`]. A call spells its answer into an [`Answer`] in one way alone, so the answer is
-//! compared with the wanted one as text. Each row is made again with each growth of its memory
-//! refused; its answer is then the wanted one or tells that memory was lacking.
+//! A program of rows defines the result of each call by a [`Calls`], which it passes to
+//! [`check_input`]. Each result has only one spelling in an [`Answer`], so that it is compared with
+//! the expected one as text. Each row is run again with each allocation failing in turn; its result
+//! is then the expected one or an error for lack of memory.
 #![tactic(auto)]
 
 pub mod answer;

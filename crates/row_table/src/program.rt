@@ -5,8 +5,8 @@ use std::io;
 use std::io::Write;
 use std::process::ExitCode;
 
-/// Runs the rows of standard input, and tells on standard error how many there are. Whether there
-/// are any, all agree, and the input is whole.
+/// Runs the rows of standard input, and reports their number on standard error. Returns whether
+/// there are rows, all agree, and the input is whole.
 fn run_input<C: Calls>(rt: &HostRuntime, calls: &C) -> io::Result<bool> {
     let text = io::read_to_string(rt.alloc(), rt.stdin())?;
     let mut out = String::new(rt.alloc());
@@ -17,10 +17,10 @@ fn run_input<C: Calls>(rt: &HostRuntime, calls: &C) -> io::Result<bool> {
     Ok(tally.passes())
 }
 
-/// Runs the rows of standard input, and prints what [`report`] says of them; standard error has how
-/// many rows there are, how many agree, and how many growths were refused. The exit status is 0
-/// where there are rows, each agrees and the input is whole, 1 where it is not so, and 2 where the
-/// input can't be read or the output not written.
+/// Runs the rows of standard input, and prints the [`report`] on them. Standard error has the
+/// number of rows, of those that agree, and of failed allocations. The exit status is 0 if there
+/// are rows, each agrees and the input is whole, 1 if not, and 2 if the input can't be read or the
+/// output not written.
 pub fn check_input<C: Calls>(rt: &HostRuntime, calls: &C) -> ExitCode {
     match run_input(rt, calls) {
         Ok(true) => ExitCode::from(0),

@@ -1,11 +1,11 @@
-//! Calls of which a growth of memory is refused.
+//! Runs calls with failing allocations.
 use crate::answer::{Answer, Failure, Heap};
 use crate::call::Calls;
 use crate::input::Inputs;
 use refusing_heap::Refusing;
 use std::alloc::Global;
 
-/// What a call makes of inputs with this memory.
+/// Returns the result of a call with this allocator.
 pub fn answer_of<C: Calls>(
     calls: &C,
     alloc: Global,
@@ -18,19 +18,19 @@ pub fn answer_of<C: Calls>(
     answer.into_text()
 }
 
-/// The most growths of a row that are refused, one after another.
+/// Maximum number of allocations of a row that fail in turn.
 const MOST: u64 = 100;
 
-/// What an answer came to where the growth of a number is refused.
+/// The kind of a result with a failing allocation.
 enum Refusal {
-    /// The wanted answer, and no growth had that number.
+    /// The expected result, and there was no allocation with that number.
     NotMet,
-    /// The wanted answer, or lack of memory.
+    /// The expected result, or an error for lack of memory.
     Met,
     Wrong,
 }
 
-/// Whether an answer is one for lack of memory, after a beginning of the wanted one.
+/// Returns whether a result is an error for lack of memory, after a prefix of the expected result.
 fn is_short<C: Calls>(calls: &C, answer: &str, wanted: &str) -> bool {
     let mut found = answer;
     let mut left = wanted;
@@ -53,7 +53,7 @@ fn is_short<C: Calls>(calls: &C, answer: &str, wanted: &str) -> bool {
     false
 }
 
-/// Whether an answer is the wanted one or one for lack of memory.
+/// Returns whether a result is the expected one or an error for lack of memory.
 fn is_known<C: Calls>(calls: &C, answer: &Result<String, Failure>, wanted: &str) -> bool {
     match answer {
         Ok(text) => text.as_str() == wanted || is_short(calls, text.as_str(), wanted),
@@ -61,7 +61,7 @@ fn is_known<C: Calls>(calls: &C, answer: &Result<String, Failure>, wanted: &str)
     }
 }
 
-/// Makes a call with the growth of a number refused.
+/// Makes a call with its `nth` allocation failing.
 fn refuse<C: Calls>(
     calls: &C,
     alloc: Global,
@@ -79,8 +79,8 @@ fn refuse<C: Calls>(
     }
 }
 
-/// Makes a call with its first growth refused, then with its second, and so on. Returns how many it
-/// has, if each time it makes the wanted answer or tells that memory was lacking.
+/// Makes a call with its first allocation failing, then with its second, and so on. Returns the
+/// number of its allocations, if each result is the expected one or an error for lack of memory.
 pub fn refused_growths<C: Calls>(
     calls: &C,
     alloc: Global,

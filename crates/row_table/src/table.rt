@@ -1,4 +1,4 @@
-//! Rows, one after another.
+//! Runs the rows of a text and reports on them.
 ghost use Rattle.std.specs.Prelude.{◌≡◌, ◌↔◌, ◌<◌, IfOk, IsTrue, MatchResult, length, map, string_bytes};
 ghost use Rattle.row_table.specs.Rows.{IsWhole, is_row, rows};
 ghost use Rattle.row_table.specs.declared.table.Outcome.TheVariants.{Agrees, NotRun};
@@ -11,10 +11,10 @@ use refusing_heap::Refusing;
 use std::alloc::{AllocError, Global};
 use std::fmt;
 
-/// The end of each text of rows: a line of its own, which stands nowhere before.
+/// The end of each text of rows: a separate line, which doesn't occur before.
 const END: &str = "\n# end\n";
 
-/// What became of a row.
+/// The outcome of a row.
 #[derive(Drop)]
 enum Outcome {
     Agrees,
@@ -22,8 +22,8 @@ enum Outcome {
     NotRun(Failure),
 }
 
-/// How many rows a text has, how many of them agreed, how many growths of theirs were refused, and
-/// whether the text is whole.
+/// The number of rows of a text, of those that agree, and of failed allocations, and whether the
+/// text is whole.
 #[derive(Clone, Copy, PartialEq, Eq)]
 pub struct Tally {
     pub rows: usize,
@@ -33,7 +33,7 @@ pub struct Tally {
 }
 
 impl Tally {
-    /// Whether there are rows, each agreed, and the text is whole.
+    /// Returns whether there are rows, each agrees, and the text is whole.
     pub fn passes(&self) -> bool
         ensures { IsTrue result ↔ (IsTrue self.now.is_whole × (0 < self.now.rows) × (self.now.agreeing ≡ self.now.rows)) }
     {
@@ -51,7 +51,7 @@ impl fmt::Display for Tally {
     }
 }
 
-/// What becomes of a row: it agrees where there is an answer, and that is spelled as it is wanted.
+/// Returns the outcome of a row: it agrees if its result is spelled as expected.
 fn judge(answer: Result<String, Failure>, wanted: &str) -> Outcome
     ensures { MatchResult answer (λ a. (result ≡ Agrees) ↔ (string_bytes a ≡ wanted.now)) (λ f. result ≡ NotRun f) }
 {
@@ -62,14 +62,14 @@ fn judge(answer: Result<String, Failure>, wanted: &str) -> Outcome
     }
 }
 
-/// What becomes of a row, and how many growths were refused.
+/// The outcome of a row, and the number of failed allocations.
 #[derive(Drop)]
 struct Ran {
     outcome: Outcome,
     growths: u64,
 }
 
-/// A row that was not run.
+/// Returns the outcome of a row that was not run.
 fn not_run(failure: Failure) -> Ran {
     Ran {
         outcome: Outcome::NotRun(failure),
@@ -77,7 +77,7 @@ fn not_run(failure: Failure) -> Ran {
     }
 }
 
-/// Makes a call, and then again with each growth refused.
+/// Makes a call, and repeats it with each allocation failing.
 fn run_call<C: Calls>(calls: &C, alloc: Global, name: &str, inputs: &Inputs, wanted: &str) -> Ran {
     let heap = Refusing::new(alloc, u64::MAX);
     let outcome = judge(answer_of(calls, alloc, &heap, name, inputs), wanted);
@@ -105,7 +105,7 @@ fn run_line<C: Calls>(calls: &C, alloc: Global, line: &str) -> Result<Ran, Alloc
     })
 }
 
-/// Why a row was not run, as text.
+/// Returns the reason why a row was not run, as text.
 fn reason(failure: Failure) -> &'static str {
     match failure {
         Failure::NoCall => "no such call",
@@ -123,8 +123,8 @@ fn add_line(out: &mut String, head: &str, line: &str) -> Result<(), AllocError> 
     out.push('\n')
 }
 
-/// Runs a row, and says of one that does not agree what was found. How many growths were refused
-/// of one that agrees.
+/// Runs a row, and reports the result of one that doesn't agree. Returns the number of failed
+/// allocations of one that agrees.
 fn run_row<C: Calls>(
     calls: &C,
     alloc: Global,
@@ -146,21 +146,21 @@ fn run_row<C: Calls>(
     Ok(None)
 }
 
-/// Whether a line is a row.
+/// Returns whether a line is a row.
 fn is_row(line: &str) -> bool
     ensures { result ≡ is_row line.now }
 {
     !matches!(line.as_bytes(), [] | [b'#', ..])
 }
 
-/// The rows of a text.
+/// Returns the rows of a text.
 fn rows_of<'a>(alloc: Global, text: &'a str) -> Result<Vec<&'a str>, AllocError>
     ensures { IfOk result (λ v. map (λ x. x.now) v.items ≡ rows text.now) }
 {
     text.lines().filter(|line| is_row(line)).collect(alloc)
 }
 
-/// Runs rows. How many agree, and how many growths of theirs were refused.
+/// Runs rows. Returns how many agree, and the number of failed allocations.
 fn run_rows<C: Calls>(
     calls: &C,
     alloc: Global,
@@ -178,7 +178,7 @@ fn run_rows<C: Calls>(
     Ok((agreeing, all_growths))
 }
 
-/// Whether a text is whole: it has the end mark once, at its end.
+/// Returns whether a text is whole: it has the end mark once, at its end.
 fn is_whole(text: &str) -> bool
     ensures { IsTrue result ↔ IsWhole text.now }
 {
@@ -188,7 +188,7 @@ fn is_whole(text: &str) -> bool
     }
 }
 
-/// Says that all rows agree, or what is wrong with a text as a whole.
+/// Reports that all rows agree, or what is wrong with the text as a whole.
 fn tell_end(tally: &Tally, out: &mut String) -> Result<(), AllocError> {
     if !tally.is_whole {
         out.push_str("cut off: the last line is not the only `# end`\n")?;
@@ -202,9 +202,9 @@ fn tell_end(tally: &Tally, out: &mut String) -> Result<(), AllocError> {
     Ok(())
 }
 
-/// Runs the rows of a text. Says of each that does not agree what was found, and at the end that
-/// all agree, or what is wrong with the text: it has to end in the line `# end`, which stands
-/// nowhere before, and to have rows.
+/// Runs the rows of a text. Reports the result of each row that doesn't agree, and at the end that
+/// all agree, or what is wrong with the text: it must end with the line `# end`, which must not
+/// occur before, and must have rows.
 pub fn report<C: Calls>(
     calls: &C,
     alloc: Global,
