@@ -1,4 +1,4 @@
--- A token that is a backslash alone, and calls that refuse it.
+-- A token that is a backslash alone, and calls that reject it.
 use Rattle.std.proofs.Common.{ℕ, ◌≡◌, List, [], ◌∷◌, Some, Result, Err, refl, inr, arith, codes}
 use Rattle.dns_symbol.specs.declared.symbol.Symbol.{Symbol}
 use Rattle.dns_symbol.specs.declared.error.SymbolCharsError.TheVariants.{ShortInput}
@@ -22,14 +22,14 @@ cut_read = record {
 }
 
 module _ {E : Type 0} (cause : E → Cause) (e : E) (is : cause e ≡ custom_text (codes "unexpected end of input")) where
-  -- no symbol is handed over
+  -- no symbol is passed on
   pub cut_asks : {F : Type 0} (step : F → Symbol → Result (Unit {0}) E → F → Type 0) (f : F) → CallsEachSymbol cause step cut_token f (Err e) f
   cut_asks step f = record { symbols = []; error = Some ShortInput; read = cut_read; asked = (refl, is) }
 
   pub cut_builds : {O : Type 0} (step : List ℕ → Symbol → Result (Unit {0}) E → List ℕ → Type 0) (octets : O → List ℕ) → Builds cause step octets cut_token (Err e)
   cut_builds step octets = record { answer = Err e; built = []; asks = cut_asks step []; gives = refl }
 
--- an entry's first token is refused, where one always comes next
+-- an entry's first token is rejected, if one always comes next
 pub cut_entry : {S F E : Type 0} (call : F → Token → Result (Unit {0}) E → F → Type 0) (old new : S) (f : F) (e : E) → call f cut_token (Err e) f
     → ScansEntry (λ _ o _. o ≡ Some cut_token) call old f (Err e) new f
 cut_entry call old new f e h = record { tokens = cut_token ∷ []; taken = (new, refl, inr (refl, h, refl)) }

@@ -21,12 +21,12 @@ fn builds_on_from_octets_and_clones(rt: HostRuntime) {
     equal(&rt, &builder.len(), &255);
 }
 
-// The character string of a text.
+// Returns the character string of a text.
 fn string_of(rt: &impl Abort, alloc: Global, text: &str) -> CharStr<Vec<u8>> {
     CharStr::from_str(alloc, text).expect(rt, "a character string")
 }
 
-// Writes the first octet, where there is one.
+// Writes the first octet, if there is one.
 fn write_first(octets: &mut [u8], octet: u8) {
     if let Some(first) = octets.first_mut() {
         *first = octet;

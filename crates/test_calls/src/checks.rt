@@ -1,5 +1,5 @@
-//! What the tests check of values, each in a function of its own, which is cheap to call; and a
-//! caller's own writer and error.
+//! The assertions of the tests, each in a separate function, which is cheap to call; and a caller's
+//! own writer and error.
 use dns_octets::AsOctets;
 use dns_scan::ScannerError;
 use dns_symbol::symbol::SymbolCharsError;
@@ -7,22 +7,22 @@ use std::error::Error;
 use std::fmt;
 use std::process::Abort;
 
-/// A value is the wanted one.
+/// Asserts that a value is the expected one.
 pub(crate) fn equal<T: PartialEq + fmt::Debug>(rt: &impl Abort, found: &T, wanted: &T) {
     assert_eq!(rt; *found, *wanted);
 }
 
-/// Something holds.
+/// Asserts a condition.
 pub(crate) fn holds(rt: &impl Abort, is_so: bool) {
     assert!(rt; is_so);
 }
 
-/// Octets are the wanted ones.
+/// Asserts that octets are the expected ones.
 pub(crate) fn octets_are(rt: &impl Abort, found: &[u8], wanted: &[u8]) {
     assert_eq!(rt; found, wanted);
 }
 
-/// These octets were made, or the error is this one.
+/// Asserts that these octets were made, or that the error is this one.
 pub(crate) fn is_made<O: AsOctets + Drop, E: PartialEq + Copy>(
     rt: &impl Abort,
     made: Result<O, E>,
@@ -35,7 +35,7 @@ pub(crate) fn is_made<O: AsOctets + Drop, E: PartialEq + Copy>(
     assert!(rt; is_so);
 }
 
-/// A writer with room for this number of bytes.
+/// A writer that accepts this number of bytes.
 #[derive(Drop)]
 pub(crate) struct Room(pub(crate) usize);
 
@@ -49,7 +49,7 @@ impl fmt::Write for Room {
     }
 }
 
-/// An error of a caller's own.
+/// A caller's own error.
 #[derive(Clone, Copy, Debug, PartialEq, Eq)]
 pub(crate) enum Refusal {
     Custom(&'static str),

@@ -1,5 +1,5 @@
-//! Tests alone, of what rows can't say: generic code at a caller's own types, loans that outlive
-//! their iterators, clones, names in small arrays, and the memory that refuses one call.
+//! Tests of what rows can't express: generic code at a caller's own types, loans that outlive their
+//! iterators, clones, names in small arrays, and the allocator that fails one allocation.
 #![tactic(auto)]
 
 #[cfg(test)]

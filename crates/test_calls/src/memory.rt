@@ -1,10 +1,10 @@
-//! The memory of tests: one call is refused, and those before and after it are not.
+//! Tests of the failing allocator: one allocation fails, and those before and after it don't.
 use crate::checks::{equal, holds};
 use refusing_heap::Refusing;
 use std::alloc::Global;
 use std::process::Abort;
 
-// Of three calls for memory just the one of the number is refused, and this is known from then on.
+// Asserts that of three allocations just the `nth` fails, and that this is known from then on.
 fn refuses_one(rt: &impl Abort, alloc: Global, nth: u64) {
     let heap = Refusing::new(alloc, nth);
     holds(rt, !heap.has_refused());

@@ -1,5 +1,5 @@
-//! Names and chains: in arrays, cloned, and used again once an iterator over their labels is dropped
-//! early.
+//! Names and chains: in arrays, cloned, and used again after an iterator over their labels is
+//! dropped early.
 use crate::checks::{equal, holds, is_made, octets_are};
 use arrayvec::ArrayVec;
 use dns_name::chain::Chain;
@@ -21,12 +21,12 @@ fn absolute(octets: &[u8]) -> Name<&[u8]> {
     Name::from_octets(octets).unwrap_or(Name::root_ref())
 }
 
-// The name of a text.
+// Returns the name of a text.
 fn name_of(rt: &impl Abort, alloc: Global, text: &str) -> Vector {
     Vector::from_str(alloc, text).expect(rt, "a name")
 }
 
-// A label was returned.
+// Asserts that a label was returned.
 fn label_is(rt: &impl Abort, label: Option<Label<'_>>, octets: &[u8]) {
     let is_so = label.is_some_and(|label| label.as_slice() == octets);
     assert!(rt; is_so);

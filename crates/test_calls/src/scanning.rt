@@ -13,14 +13,14 @@ use std::slice::Iter;
 
 type ShortScanner<'a, const N: usize> = IterScanner<Copied<Iter<'a, &'a str>>, ArrayVec<u8, N>>;
 
-// A scanner of these tokens whose octets are few.
+// Returns a scanner of these tokens with a small capacity for octets.
 fn short_scanner<'a, const N: usize>(tokens: &'a [&'a str]) -> ShortScanner<'a, N>
     ensures { ⟦<ShortScanner<'a, N> as Scanner>⟧.can_scan result }
 {
     IterScanner::new((), tokens.iter().copied())
 }
 
-// A converter that counts what it is asked, makes an octet each time, and refuses one symbol.
+// A converter that counts its calls, produces an octet each time, and rejects one symbol.
 #[derive(Drop)]
 struct Counting<'a> {
     symbols: &'a Cell<u32>,
@@ -54,7 +54,7 @@ impl<Sym: Copy> ConvertSymbols<Sym, StrError> for Counting<'_> {
     }
 }
 
-// A token, the symbol that is refused, the answer, and how many symbols and tails are asked for.
+// A token, the symbol that is rejected, the result, and the number of symbols and tails.
 type AskRow = (
     &'static str,
     u32,
@@ -70,7 +70,7 @@ const ASK_ROWS: [AskRow; 5] = [
     ("abcde", 9, Err("short buffer"), (4, 0)),
 ];
 
-// The converter is asked for that many symbols and tails, of the token or of the entry.
+// Asserts the number of symbols and tails of the converter, for the token or the entry.
 fn asks(rt: &impl Abort, (token, refused, wanted, asked): AskRow, of_entry: bool) {
     let tokens = [token];
     let mut scanner = short_scanner::<3>(&tokens);
@@ -98,7 +98,7 @@ fn no_tail_is_asked_after_a_refusal(rt: HostRuntime) {
     }
 }
 
-// A text is handed over if it is ASCII, and else refused.
+// Asserts that a text is passed to the closure if it is ASCII, and else rejected.
 fn handed_over(rt: &impl Abort, token: &str, is_ascii: bool) {
     let tokens = [token];
     let mut scanner = short_scanner::<9>(&tokens);
@@ -122,7 +122,7 @@ fn foreign_texts_are_not_handed_over(rt: HostRuntime) {
     handed_over(&rt, "a", true);
 }
 
-// Two values in a row, of which the second takes no token.
+// Two values in a row, the second of which consumes no token.
 #[test]
 fn pairs_are_read(rt: HostRuntime) {
     let mut scanner = short_scanner::<2>(&["12"]);

@@ -1,4 +1,4 @@
-//! Quoted texts in a caller's own writer, which fails, and symbols for a closure.
+//! Quoted strings in a caller's own writer, which fails, and symbols for a closure.
 use crate::checks::{Refusal, Room, equal};
 use dns_charstr::charstr::DisplayQuoted;
 use dns_symbol::symbol::Symbol;

@@ -7,7 +7,7 @@ mod example;
 mod in_a_row;
 mod writers;
 
-// A value's text in a layout.
+// Asserts a value's text in a layout.
 fn prints_as<T: ZonefileFmt>(
     rt: &impl Abort,
     alloc: Global,
@@ -22,7 +22,7 @@ fn prints_as<T: ZonefileFmt>(
     );
 }
 
-// The texts of a value in the simple layout, the tabbed one and the multiline one.
+// Asserts the texts of a value in the simple, the tabbed and the multiline layout.
 fn prints<T: ZonefileFmt>(rt: &impl Abort, alloc: Global, value: &T, texts: [&str; 3]) {
     let [simple, tabbed, multiline] = texts;
     prints_as(rt, alloc, value, DisplayKind::Simple, simple);

@@ -1,4 +1,4 @@
-//! Chains out of a scanner that has them.
+//! Chains from a scanner whose names are chains.
 ghost use Rattle.std.specs.Prelude.{◌≡◌, codes};
 ghost use Rattle.dns_symbol.specs.Cause.{custom_text};
 
@@ -14,18 +14,18 @@ use dns_symbol::symbol::{EntrySymbol, Symbol, SymbolCharsError};
 use dns_wire::{ToLabelIter, ToName};
 use std::marker::PhantomData;
 
-// Octets that are scanned: there are none.
+// Octets of a scanner: always empty.
 type Empty = ArrayVec<u8, 0>;
 
-// The refusal of a token that is a backslash alone.
+// Returns the error of a token that is a backslash alone.
 fn cut<E: ScannerError>() -> E
     ensures { E.cause result ≡ custom_text (codes "unexpected end of input") }
 {
     E::custom(SymbolCharsError::ShortInput.as_str())
 }
 
-// A scanner whose next token is always a lone backslash. Read as a name, that is the name it has,
-// once; every other call refuses it.
+// A scanner whose next token is always a lone backslash. Parsed as a name, it is the name of the
+// scanner, once; every other call rejects it.
 #[derive(Drop)]
 struct Names<N, E = Refusal> {
     name: Option<N>,

@@ -1,4 +1,4 @@
-//! The worked example on the page of `dns_zone`, a record with a block and comments; and a record
+//! The example of the documentation of `dns_zone`, a record with a block and comments; and a record
 //! within a record.
 ghost use Rattle.std.specs.Prelude.{◌≡◌, [], ◌∷◌, ◌++◌, codes, false, refl};
 ghost use Rattle.std.specs.Fmt.{decimal};
@@ -11,7 +11,7 @@ use dns_zone::zonefile_fmt::{self, FormatWriter, Formatter, ZonefileFmt};
 use std::alloc::{AllocError, Global};
 use std::test::Fail;
 
-/// The data of an MX record (RFC 1035, section 3.3.9).
+/// The RDATA of an MX record (RFC 1035 section 3.3.9).
 #[derive(Drop)]
 pub(super) struct Mx {
     preference: u16,
@@ -43,7 +43,7 @@ impl ZonefileFmt for Mx {
     }
 }
 
-/// Data that is put in a block.
+/// RDATA that is put in a block.
 trait RecordData: ZonefileFmt {
     ghost one_line: { (x : Self) → has_line (Self.document x) ≡ false };
 }
@@ -52,7 +52,7 @@ impl RecordData for Mx {
     ghost one_line = { λ _. refl };
 }
 
-/// A record: its owner, its type, and its data in a block.
+/// A record: its owner, its type, and its RDATA in a block.
 #[derive(Drop)]
 struct Record<D> {
     owner: String,

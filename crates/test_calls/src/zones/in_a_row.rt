@@ -1,4 +1,4 @@
-//! Values in a row, a token each.
+//! Values in a row, one token each.
 use super::{DisplayKind, prints, prints_as};
 use dns_zone::tokens::{Each, ZoneToken, ZoneTokens, write_each};
 use dns_zone::zonefile_fmt::{self, FormatWriter, Formatter, ZonefileFmt};
@@ -29,7 +29,7 @@ impl ZoneToken for Flag {
     ghost is_token = { λ f _. flag_token f.set };
 }
 
-/// Flags after a word of their own.
+/// Flags after a separate word.
 #[derive(Drop)]
 struct Flags<'a> {
     flags: &'a [Flag],

@@ -1,4 +1,4 @@
-//! Writers step by step, a sink that fails, and lines and entries of great length.
+//! Writers step by step, a sink that fails, and very long lines and entries.
 ghost use Rattle.std.specs.Prelude.{◌≡◌};
 
 use super::example::Mx;
@@ -12,7 +12,8 @@ use std::fmt::Write;
 use std::process::Abort;
 use std::test::Fail;
 
-/// The open blocks of a writer with none after a begin, a begin and an end.
+/// Returns the number of open blocks of a writer with none after a beginning, a beginning and an
+/// end.
 fn blocks_left<F: FormatWriter>(writer: &mut F) -> Result<usize, zonefile_fmt::Error>
     requires { F.blocks writer.old ≡ 0 }
 {
@@ -32,7 +33,7 @@ fn open_blocks(rt: HostRuntime) {
     holds(&rt, matches!(blocks_left(&mut multiline), Ok(1)));
 }
 
-/// Prints two values: the second where the first is known to have left no block open.
+/// Prints two values: the second if the first is known to have left no block open.
 fn show_both<T: ZonefileFmt>(rt: &impl Abort, one: &T, other: &T, text: &mut String) {
     let mut writer = MultiLineWriter::new(text);
     assert!(rt; writer.write_show(one).is_ok());
@@ -74,10 +75,10 @@ fn text_beside_steps(rt: HostRuntime) {
     );
 }
 
-/// Room that lines of 2 MB leave.
+/// Number of bytes that are sufficient for lines of 2 MB.
 const AMPLE: usize = 10_000_000;
 
-/// Prints 2,000 tokens of 1,000 bytes on one line: 2,001,999 bytes with what is between them.
+/// Prints 2,000 tokens of 1,000 bytes on one line: 2,001,999 bytes with the separators.
 fn long_line<F: FormatWriter>(rt: &impl Abort, writer: &mut F, word: &str) {
     for _ in 0..2_000 {
         holds(rt, writer.write_token(word).is_ok());
