@@ -26,7 +26,7 @@ use row_table::{Answer, Calls, Failure, Inputs};
 /// The calls of the library.
 pub struct Library;
 
-/// The beginnings of refusals that lack of memory brings.
+/// The prefixes of errors for lack of memory.
 const SHORT: [&str; 5] = [
     "buffer size exceeded",
     "short buffer",
@@ -45,7 +45,7 @@ impl Calls for Library {
     }
 }
 
-/// Makes an answer of a call's inputs.
+/// Spells the result of a call with its inputs.
 fn call(name: &str, inputs: &Inputs, answer: &mut Answer) {
     let (group, name) = name.split_once('.').unwrap_or((name, ""));
     match group {

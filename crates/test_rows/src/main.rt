@@ -1,7 +1,7 @@
-//! A program over rows: calls of the library with their inputs and what is wanted of them.
+//! A program over rows: calls of the library with their inputs and expected results.
 //!
-//! Standard input has the rows, as `row_table` says. Of each row that differs a line is printed with
-//! the answer that was found, and at the end how many rows there were.
+//! Standard input has the rows, in the format of `row_table`. For each row that differs it prints a
+//! line with the result, and at the end the number of rows.
 #![tactic(auto)]
 
 mod calls;

@@ -4,10 +4,10 @@ use dns_octets::{AsOctets, OctetsFrom, ShortBuf};
 use dns_wire::{Name, PushError, RelativeName};
 use row_table::{Answer, Failure, Heap};
 
-/// Octets in memory of which one growth may be refused.
+/// Octets whose allocator may fail one allocation.
 type Octets<'a> = Vec<u8, &'a Heap>;
 
-/// A copy of a relative name, in as much room as its octets need.
+/// Returns a copy of a relative name, with capacity for its octets alone.
 fn copy<'a>(octets: &[u8], answer: &mut Answer<'a>) -> Option<RelativeName<Octets<'a>>> {
     let copy: Result<Octets<'a>, ShortBuf> = OctetsFrom::try_octets_from(answer.heap(), octets);
     let Ok(copy) = copy else {
@@ -21,7 +21,7 @@ fn copy<'a>(octets: &[u8], answer: &mut Answer<'a>) -> Option<RelativeName<Octet
     made
 }
 
-/// The octets of a name, or the refusal.
+/// Adds the octets of a name, or the error.
 fn tell(made: Result<Name<Octets>, PushError>, answer: &mut Answer) {
     match made {
         Ok(name) => answer.add(AsOctets::as_slice(&name)),
@@ -29,7 +29,7 @@ fn tell(made: Result<Name<Octets>, PushError>, answer: &mut Answer) {
     }
 }
 
-/// The absolute name of a relative one, and of one that is uncertain.
+/// Adds the absolute name of a relative one, and of one that is uncertain.
 pub fn into_absolute(octets: &[u8], answer: &mut Answer) {
     if let Some(name) = copy(octets, answer) {
         tell(name.into_absolute(), answer);

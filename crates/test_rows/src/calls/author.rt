@@ -1,4 +1,4 @@
-//! Record types of an author, and what takes all tokens that are left.
+//! Record types of an author, and calls that parse all remaining tokens.
 use super::dnstext::words_of;
 use dns_records::caa::Caa;
 use dns_records::mx::Mx;
@@ -13,7 +13,7 @@ use dns_text::zonefile_fmt::{DisplayKind, ZonefileFmt};
 use row_table::{Answer, Failure, Heap, Inputs};
 use std::alloc::{AllocError, Allocator};
 
-/// Octets in memory of which one growth may be refused.
+/// Octets whose allocator may fail one allocation.
 type Octets<'a> = Vec<u8, &'a Heap>;
 
 const KINDS: [DisplayKind; 3] = [
@@ -37,7 +37,7 @@ pub fn call<'a>(name: &str, inputs: &Inputs, answer: &mut Answer<'a>) {
     }
 }
 
-/// The record data of a text that is one entry.
+/// Parses the RDATA of a text that is one entry.
 fn scanned<R, A: Allocator + Copy>(alloc: A, text: &str) -> Result<R, StrError>
 where
     R: RecordData<Vec<u8, A>, A> + Drop,
@@ -52,7 +52,7 @@ where
     scan_record(alloc, &mut scanner)
 }
 
-/// The text of a value in each layout, with a bar after each.
+/// Adds the text of a value in each layout, with a bar after each.
 fn add_layouts<T: ZonefileFmt>(value: &T, answer: &mut Answer) {
     for kind in KINDS {
         match value.display_zonefile(kind).to_string(answer.heap()) {
@@ -63,7 +63,7 @@ fn add_layouts<T: ZonefileFmt>(value: &T, answer: &mut Answer) {
     }
 }
 
-/// Record data that were read back print as the answer so far.
+/// Checks that parsed RDATA prints as the result so far.
 fn check_same<T: ZonefileFmt + Drop>(back: Result<T, StrError>, answer: &mut Answer) {
     let mut other = answer.another();
     match back {
@@ -73,7 +73,7 @@ fn check_same<T: ZonefileFmt + Drop>(back: Result<T, StrError>, answer: &mut Ans
     answer.check_same(&other);
 }
 
-/// The record data of a text in each layout, from each of which they are read back.
+/// Adds the RDATA of a text in each layout, and checks that each parses as the same RDATA.
 fn read<'a, R>(text: &str, answer: &mut Answer<'a>)
 where
     R: RecordData<Octets<'a>, &'a Heap> + Drop,
@@ -99,7 +99,7 @@ where
     }
 }
 
-/// The text of a CAA record whose value is a part so many times.
+/// Returns the text of a CAA record whose value is a repeated part.
 fn caa_text(answer: &Answer, part: &[u8], times: usize) -> Result<String, AllocError> {
     let mut text = String::from_str(answer.alloc(), "0 issue \"")?;
     let part = str::from_utf8(part).unwrap_or("");
@@ -110,8 +110,8 @@ fn caa_text(answer: &Answer, part: &[u8], times: usize) -> Result<String, AllocE
     Ok(text)
 }
 
-/// The length of a value of CAA, a part so many times, and that of its text in each layout, from the
-/// last of which the value is read back.
+/// Adds the length of a value of CAA, a repeated part, and that of its text in each layout, and
+/// checks that the last parses as the same value.
 fn read_value(inputs: &Inputs, answer: &mut Answer) {
     let (part, times) = inputs.octets_and_number(answer);
     let Ok(text) = caa_text(answer, part, times) else {
@@ -139,7 +139,7 @@ fn read_value(inputs: &Inputs, answer: &mut Answer) {
     }
 }
 
-/// What all tokens left make: octets, strings in each layout, or five numbers.
+/// Adds the value of all remaining tokens: octets, strings in each layout, or five numbers.
 fn take_rest<S: Scanner<Error = StrError>>(scanner: &mut S, name: &str, answer: &mut Answer)
 where
     S::Octets: Drop,
@@ -163,7 +163,7 @@ where
     }
 }
 
-/// Five values in a row, with commas between.
+/// Adds five values in a row, separated by commas.
 fn add_five<S: Scanner<Error = StrError>>(scanner: &mut S, answer: &mut Answer)
     requires { S.can_scan scanner.old }
     ensures { S.can_scan scanner.new }
@@ -181,7 +181,7 @@ fn add_five<S: Scanner<Error = StrError>>(scanner: &mut S, answer: &mut Answer)
     }
 }
 
-/// What all tokens left make, a comma, and what the same call returns then.
+/// Adds the value of all remaining tokens, a comma, and the result of the same call after that.
 fn scan_words<A: Allocator + Copy>(alloc: A, name: &str, words: &[&str], answer: &mut Answer) {
     let mut scanner: EntryScanner<'_, &str, Vec<u8, A>> = entry_scanner(alloc, words, false);
     take_rest(&mut scanner, name, answer);

@@ -1,6 +1,6 @@
 //! Builders, one step after another.
 //!
-//! Each step is an input: a sign and what it goes with.
+//! Each step is an input: a sign and its argument.
 use arrayvec::ArrayVec;
 use dns_charstr::charstr::{CharStr, CharStrBuilder};
 use dns_octets::{AsOctets, AsOctetsMut, FreezeBuilder, FromBuilder, OctetsBuilder, Truncate};
@@ -9,18 +9,18 @@ use row_table::input::number_of;
 use row_table::{Answer, Failure, Heap};
 use std::alloc::Global;
 
-/// Octets in memory of which one growth may be refused.
+/// Octets whose allocator may fail one allocation.
 type Octets<'a> = Vec<u8, &'a Heap>;
 
-/// Writes an octet at the front, where there is one.
+/// Writes the first octet, if there is one.
 fn write_front(octets: &mut [u8], octet: u8) {
     if let Some(first) = octets.first_mut() {
         *first = octet;
     }
 }
 
-/// Takes a step of a character string: `+` and octets to append, `-` and a length to cut it to,
-/// `=` and an octet to write at the front.
+/// Makes a step of a character string: `+` and octets to append, `-` and a length to truncate it
+/// to, `=` and the new first octet.
 fn take_step<B: OctetsBuilder + AsOctetsMut + Truncate>(
     builder: &mut CharStrBuilder<B>,
     step: &[u8],
@@ -39,7 +39,7 @@ fn take_step<B: OctetsBuilder + AsOctetsMut + Truncate>(
     answer.add(builder.as_slice());
 }
 
-/// What each step makes, with a comma after it, and the character string at the end.
+/// Adds the result of each step, with a comma after it, and the character string at the end.
 fn string_of<B: OctetsBuilder + FreezeBuilder + AsOctetsMut + Truncate + Drop>(
     mut builder: CharStrBuilder<B>,
     steps: &[Vec<u8>],
@@ -54,7 +54,7 @@ fn string_of<B: OctetsBuilder + FreezeBuilder + AsOctetsMut + Truncate + Drop>(
     builder.finish()
 }
 
-/// The steps of a character string in a vector, in an array, and in a vector that was one.
+/// Adds the results for a character string in a vector, in an array, and in a vector that was one.
 pub fn string(steps: &[Vec<u8>], answer: &mut Answer) {
     let mut other = answer.another();
     let array = string_of(
@@ -83,7 +83,7 @@ fn push_all<B: OctetsBuilder + AsOctetsMut>(
     Ok(())
 }
 
-/// Takes a step of a name: `+` and octets of a label, `=` and a whole label, `.` for a label's end.
+/// Makes a step of a name: `+` and octets of a label, `=` and a whole label, `.` for a label's end.
 fn take_name_step<B: OctetsBuilder + AsOctetsMut>(
     builder: &mut NameBuilder<B>,
     step: &[u8],
@@ -106,7 +106,7 @@ fn take_name_step<B: OctetsBuilder + AsOctetsMut>(
     answer.check(builder.is_empty() == builder.as_slice().is_empty());
 }
 
-/// What each step makes, with a line after it in a label, and a comma.
+/// Adds the result of each step, with `_` after it in a label, and a comma.
 fn take_name_steps<B: OctetsBuilder + AsOctetsMut>(
     builder: &mut NameBuilder<B>,
     steps: &[Vec<u8>],
@@ -117,7 +117,7 @@ fn take_name_steps<B: OctetsBuilder + AsOctetsMut>(
     }
 }
 
-/// The steps of a name in a vector and in an array, then the relative name, a bar, and the
+/// Adds the results for a name in a vector and in an array, then the relative name, a bar, and the
 /// absolute one.
 pub fn name(steps: &[Vec<u8>], answer: &mut Answer) {
     let mut other = answer.another();

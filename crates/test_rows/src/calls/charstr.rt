@@ -13,7 +13,7 @@ use std::alloc::AllocError;
 use std::cmp::Ordering;
 use std::hash::{DefaultHasher, Hash, Hasher};
 
-/// Octets in memory of which one growth may be refused.
+/// Octets whose allocator may fail one allocation.
 type Octets<'a> = Vec<u8, &'a Heap>;
 
 pub fn call(name: &str, inputs: &Inputs, answer: &mut Answer) {
@@ -42,7 +42,7 @@ pub fn call(name: &str, inputs: &Inputs, answer: &mut Answer) {
     }
 }
 
-/// What was read, or the refusal.
+/// Adds the parsed string, or the error.
 fn tell<O: AsOctets>(read: &Result<CharStr<O>, FromStrError>, answer: &mut Answer) {
     match read {
         Ok(string) => answer.add(string.as_slice()),
@@ -50,7 +50,7 @@ fn tell<O: AsOctets>(read: &Result<CharStr<O>, FromStrError>, answer: &mut Answe
     }
 }
 
-/// The octets of a text, into a vector and into an array.
+/// Adds the octets of a text, parsed into a vector and into an array.
 fn read(text: &str, answer: &mut Answer) {
     let mut other = answer.another();
     tell(
@@ -61,12 +61,12 @@ fn read(text: &str, answer: &mut Answer) {
     answer.check_same(&other);
 }
 
-/// The octets of a text, into the room of two.
+/// Adds the octets of a text, parsed into a capacity of two.
 fn read_into_two(text: &str, answer: &mut Answer) {
     tell(&CharStr::<ArrayVec<u8, 2>>::from_str((), text), answer);
 }
 
-/// The octets of a text of octets, into a vector and into an array.
+/// Adds the octets of a text of octets, parsed into a vector and into an array.
 fn read_octets(text: &[u8], answer: &mut Answer) {
     let mut other = answer.another();
     tell(
@@ -80,7 +80,7 @@ fn read_octets(text: &[u8], answer: &mut Answer) {
     answer.check_same(&other);
 }
 
-/// The octets of a text of octets, into the room of two.
+/// Adds the octets of a text of octets, parsed into a capacity of two.
 fn read_octets_into_two(text: &[u8], answer: &mut Answer) {
     tell(
         &CharStr::<ArrayVec<u8, 2>>::from_octets_text((), text),
@@ -88,7 +88,7 @@ fn read_octets_into_two(text: &[u8], answer: &mut Answer) {
     );
 }
 
-/// The character string of octets.
+/// Returns the character string of octets.
 fn string<'a>(octets: &'a [u8], answer: &mut Answer) -> CharStr<&'a [u8]> {
     let made = CharStr::from_slice(octets);
     if made.is_err() {
@@ -97,7 +97,7 @@ fn string<'a>(octets: &'a [u8], answer: &mut Answer) -> CharStr<&'a [u8]> {
     made.unwrap_or(CharStr::empty_slice())
 }
 
-/// Whether octets can be a character string.
+/// Adds whether octets can be a character string.
 fn of(octets: &[u8], answer: &mut Answer) {
     let made = CharStr::from_slice(octets);
     answer.check(CharStr::from_octets(octets).is_ok() == made.is_ok());
@@ -120,7 +120,7 @@ fn quoted(octets: &[u8], answer: &mut Answer) {
     answer.add_shown(&DisplayQuoted::from_slice(octets));
 }
 
-/// The unquoted text of octets, which is a token where there are any.
+/// Adds the unquoted form of octets, which is a token unless there are none.
 fn unquoted(octets: &[u8], answer: &mut Answer) {
     let display = DisplayUnquoted::from_slice(octets);
     answer.add_shown(&display);
@@ -154,7 +154,7 @@ fn hash_of(string: &CharStr<&[u8]>) -> u64 {
     state.finish()
 }
 
-/// How two character strings compare, of which all ways to tell agree.
+/// Adds how two character strings compare, and checks that all ways to compare them agree.
 fn compare((one, other): (&[u8], &[u8]), answer: &mut Answer) {
     let left = string(one, answer);
     let right = string(other, answer);
@@ -173,7 +173,7 @@ fn canonical((one, other): (&[u8], &[u8]), answer: &mut Answer) {
     answer.add_text(order_name(order));
 }
 
-/// The character string that a wire form begins with, a bar, and what is left.
+/// Adds the character string in wire format at the beginning of octets, a bar, and the rest.
 fn parse(octets: &[u8], answer: &mut Answer) {
     let mut parser = Parser::from_slice(octets);
     let mut other = Parser::from_slice(octets);
@@ -187,7 +187,7 @@ fn parse(octets: &[u8], answer: &mut Answer) {
     answer.add(parser.peek_all());
 }
 
-/// The place after a wire form that is passed over, or where it is refused.
+/// Adds the offset after a wire format that is skipped, or at which it is rejected.
 fn skip(octets: &[u8], answer: &mut Answer) {
     let mut parser = Parser::from_slice(octets);
     if let Err(error) = CharStr::skip(&mut parser) {
@@ -197,7 +197,7 @@ fn skip(octets: &[u8], answer: &mut Answer) {
     answer.add_number(parser.pos());
 }
 
-/// The wire form.
+/// Adds the wire format.
 fn compose(octets: &[u8], answer: &mut Answer) {
     let string = string(octets, answer);
     let mut target = Vec::new(answer.heap());
@@ -208,7 +208,8 @@ fn compose(octets: &[u8], answer: &mut Answer) {
     answer.check(target.len() == usize::from(string.compose_len()));
 }
 
-/// What of a wire form goes into so much room: whether all did, a bar, and the octets.
+/// Adds the part of a wire format that fits a capacity: whether all of it did, a bar, and the
+/// octets.
 fn compose_into((octets, left): (&[u8], usize), answer: &mut Answer) {
     let string = string(octets, answer);
     let mut room = room_of(left);
@@ -220,7 +221,7 @@ fn compose_into((octets, left): (&[u8], usize), answer: &mut Answer) {
     answer.add(AsOctets::as_slice(&room).get(taken..).unwrap_or_default());
 }
 
-/// A copy, or the refusal.
+/// Adds a copy, or the error.
 fn tell_copy<O: AsOctets + Drop>(copy: Result<CharStr<O>, ShortBuf>, answer: &mut Answer) {
     match copy {
         Ok(copy) => answer.add(copy.as_slice()),
@@ -228,7 +229,7 @@ fn tell_copy<O: AsOctets + Drop>(copy: Result<CharStr<O>, ShortBuf>, answer: &mu
     }
 }
 
-/// A copy of octets, in a vector and in an array.
+/// Adds a copy of octets, in a vector and in an array.
 fn copy(octets: &[u8], answer: &mut Answer) {
     let string = string(octets, answer);
     let mut other = answer.another();
@@ -243,7 +244,7 @@ fn copy(octets: &[u8], answer: &mut Answer) {
     answer.check_same(&other);
 }
 
-/// A copy of octets, in the room of two.
+/// Adds a copy of octets, in a capacity of two.
 fn copy_into_two(octets: &[u8], answer: &mut Answer) {
     let string = string(octets, answer);
     tell_copy(
@@ -252,13 +253,13 @@ fn copy_into_two(octets: &[u8], answer: &mut Answer) {
     );
 }
 
-/// What an error below becomes, in one step or in two.
+/// Adds the error that another error converts to, in one step or in two.
 fn refuse_presentation(one: FromStrError, other: PresentationError, answer: &mut Answer) {
     answer.check(one == FromStrError::from(other));
     answer.refuse(&one);
 }
 
-/// The refusal that an error below becomes.
+/// Adds the error that an inner error converts to.
 fn error(name: &str, answer: &mut Answer) {
     let short = SymbolCharsError::ShortInput;
     let bad = SymbolCharsError::BadEscape;

@@ -5,7 +5,7 @@ use row_table::{Answer, Failure};
 use std::alloc::{AllocError, Allocator, Global};
 use std::str;
 
-/// Inputs as words.
+/// Returns inputs as arguments.
 pub fn words_of<'a, A: Allocator>(
     alloc: A,
     inputs: &'a [Vec<u8>],
@@ -17,7 +17,7 @@ pub fn words_of<'a, A: Allocator>(
     Ok(words)
 }
 
-/// What the program prints of words, and after `!` its refusal.
+/// Adds what the program prints for arguments, and after `!` its error.
 pub fn run(inputs: &[Vec<u8>], answer: &mut Answer) {
     let Ok(words) = words_of(answer.heap(), inputs) else {
         return answer.fail_for_memory();
@@ -47,8 +47,8 @@ fn run_into(alloc: Global, words: &[&str], writes: (usize, usize)) -> Ran {
     Ran { out, err, status }
 }
 
-/// Whether a run whose output or error was refused returns the status for it, after a beginning of the
-/// output.
+/// Returns whether a run whose output or error failed returns the status for it, after a prefix of
+/// the output.
 fn is_told(ran: &Ran, ample: &Ran) -> bool {
     let (out, whole) = (ran.out.text.as_str(), ample.out.text.as_str());
     if ran.out.has_refused {
@@ -61,8 +61,8 @@ fn is_told(ran: &Ran, ample: &Ran) -> bool {
     ran.status == ample.status && out == whole && ran.err.text.as_str() == ample.err.text.as_str()
 }
 
-/// What the program prints of words, or its refusal, each write of which fails in turn: of the output
-/// two at least, of the refusal one.
+/// Adds what the program prints for arguments, or its error, each write of which fails in turn: of
+/// the output at least two, of the error one.
 pub fn fail(name: &str, inputs: &[Vec<u8>], answer: &mut Answer) {
     let alloc = answer.alloc();
     let Ok(words) = words_of(alloc, inputs) else {

@@ -7,7 +7,7 @@ use dns_octets::ShortBuf;
 use row_table::{Answer, Failure, Heap, Inputs};
 use std::str;
 
-/// Octets in memory of which one growth may be refused.
+/// Octets whose allocator may fail one allocation.
 pub(crate) type Octets<'a> = Vec<u8, &'a Heap>;
 
 /// An encoding.
@@ -54,7 +54,8 @@ fn write(base: Base, octets: &[u8], text: &mut [u8]) -> Result<usize, ShortBuf> 
     }
 }
 
-/// A text is written into its own length, what follows it stays, and less has no room.
+/// Checks that a text is written into a slice of its own length, that the octets after it are
+/// unchanged, and that it doesn't fit a shorter one.
 fn just_fits(base: Base, octets: &[u8], wanted: &[u8], text: &mut [u8], answer: &mut Answer) {
     answer.check(write(base, octets, text) == Ok(wanted.len()));
     answer.check(text.strip_suffix(b"+") == Some(wanted));
@@ -63,7 +64,7 @@ fn just_fits(base: Base, octets: &[u8], wanted: &[u8], text: &mut [u8], answer: 
     }
 }
 
-/// The text of octets, as a string, as a value that prints, and in a slice.
+/// Adds the text of octets, as a string, as a value that prints, and in a slice.
 fn print(base: Base, octets: &[u8], answer: &mut Answer) {
     show(base, octets, answer);
     let Ok(text) = encode(answer.heap(), base, octets) else {
@@ -100,7 +101,8 @@ fn decode_slice(base: Base, text: &[u8], room: &mut [u8]) -> Option<usize> {
     }
 }
 
-/// A text is read into the room of its octets, and not into less.
+/// Checks that a text is decoded into a slice of the length of its octets, and not into a shorter
+/// one.
 fn just_read(base: Base, text: &[u8], octets: &[u8], room: &mut [u8], answer: &mut Answer) {
     let Some(exact) = room.get_mut(..octets.len()) else {
         return answer.check(false);
@@ -112,7 +114,7 @@ fn just_read(base: Base, text: &[u8], octets: &[u8], room: &mut [u8], answer: &m
     }
 }
 
-/// What was read into an array, or the refusal.
+/// Adds the octets decoded into an array, or the error.
 fn tell<const N: usize>(read: Result<ArrayVec<u8, N>, DecodeError>, answer: &mut Answer) {
     match read {
         Ok(octets) => answer.add(octets.as_slice()),
@@ -120,7 +122,7 @@ fn tell<const N: usize>(read: Result<ArrayVec<u8, N>, DecodeError>, answer: &mut
     }
 }
 
-/// The octets of a text, in an array of that capacity.
+/// Adds the octets of a text, in an array of that capacity.
 fn read_into(base: Base, (text, room): (&[u8], usize), answer: &mut Answer) {
     let text = str::from_utf8(text).unwrap_or("");
     match (base, room) {
@@ -130,7 +132,7 @@ fn read_into(base: Base, (text, room): (&[u8], usize), answer: &mut Answer) {
     }
 }
 
-/// The octets of a text, as a vector and in a slice.
+/// Adds the octets of a text, as a vector and in a slice.
 fn read(base: Base, text: &str, answer: &mut Answer) {
     let Ok(mut room) = vec![in answer.heap(); 0u8; text.len()] else {
         return answer.fail_for_memory();

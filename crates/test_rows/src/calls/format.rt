@@ -1,4 +1,4 @@
-//! Zone text in its canonical form.
+//! Zone files in their canonical form.
 ghost use Rattle.std.specs.Prelude.{◌<◌, ◌^◌, length};
 
 use super::zone::wrong_name;
@@ -13,10 +13,10 @@ pub fn call(name: &str, inputs: &Inputs, answer: &mut Answer) {
     }
 }
 
-/// The most octets of a row's input, and of its form.
+/// Maximum number of octets of a row's input, and of its form.
 const MOST: usize = 1 << 24;
 
-/// Octets of which there are not too many.
+/// Returns octets, unless there are too many.
 fn few<'a>(octets: &'a [u8], answer: &mut Answer) -> &'a [u8]
     ensures { length result.now < 2 ^ 62 }
 {
@@ -27,7 +27,7 @@ fn few<'a>(octets: &'a [u8], answer: &mut Answer) -> &'a [u8]
     octets
 }
 
-/// Why octets have no form, with the place in octets from 0.
+/// Adds the error if octets have no form, with the offset from 0.
 fn add_refusal(refusal: Refusal, answer: &mut Answer) {
     let (reason, place) = match refusal {
         Refusal::Wrong(fault) => (wrong_name(fault.wrong), fault.at),
@@ -40,7 +40,7 @@ fn add_refusal(refusal: Refusal, answer: &mut Answer) {
     answer.add_number(place);
 }
 
-/// The form of octets. The form of that is the same.
+/// Adds the form of octets, and checks that formatting is idempotent.
 fn form(octets: &[u8], answer: &mut Answer)
     requires { length octets.now < 2 ^ 62 }
 {
@@ -54,7 +54,7 @@ fn form(octets: &[u8], answer: &mut Answer)
     }
 }
 
-/// Whether the form of a form is the same.
+/// Checks that the form of a form is the same.
 fn check_again(form: &[u8], answer: &mut Answer)
     requires { length form.now < 2 ^ 62 }
 {

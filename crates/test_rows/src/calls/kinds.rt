@@ -1,4 +1,4 @@
-//! Fields of record data that are one word.
+//! Fields of RDATA that are one word.
 use dns_kinds::addresses::{Ipv6Shown, ipv4_from_text, ipv6_from_text};
 use dns_kinds::algorithms::{Algorithm, CertificateType};
 use dns_kinds::classes::Class;
@@ -43,7 +43,7 @@ fn number(name: &str, text: &[u8], answer: &mut Answer) {
     }
 }
 
-/// What a value prints as, or the refusal.
+/// Adds the text that a value prints, or the error.
 fn tell<T: fmt::Display + Drop>(made: Result<T, ErrorKind>, answer: &mut Answer) {
     match made {
         Ok(value) => match value.to_string(answer.alloc()) {
@@ -54,7 +54,7 @@ fn tell<T: fmt::Display + Drop>(made: Result<T, ErrorKind>, answer: &mut Answer)
     }
 }
 
-/// The number of an algorithm.
+/// Adds the number of an algorithm.
 fn algorithm(text: &[u8], answer: &mut Answer) {
     match Algorithm::from_text(text) {
         Ok(algorithm) => tell(Ok(algorithm.0), answer),
@@ -62,7 +62,7 @@ fn algorithm(text: &[u8], answer: &mut Answer) {
     }
 }
 
-/// The number of a class.
+/// Adds the number of a class.
 fn class(text: &[u8], answer: &mut Answer) {
     match Class::from_text(text) {
         Ok(class) => tell(Ok(class.0), answer),
@@ -70,7 +70,7 @@ fn class(text: &[u8], answer: &mut Answer) {
     }
 }
 
-/// The number of a type.
+/// Adds the number of a type.
 fn record_type(text: &[u8], answer: &mut Answer) {
     match RecordType::from_text(text) {
         Ok(kind) => tell(Ok(kind.0), answer),
@@ -85,7 +85,7 @@ fn ipv6(text: &[u8], answer: &mut Answer) {
     }
 }
 
-/// The seconds of a time.
+/// Adds the seconds of a time.
 fn time(text: &[u8], answer: &mut Answer) {
     match Date::from_text(text) {
         Ok(date) => tell(Ok(date.seconds()), answer),
@@ -93,7 +93,7 @@ fn time(text: &[u8], answer: &mut Answer) {
     }
 }
 
-/// The time of seconds.
+/// Adds the time of seconds.
 fn date(seconds: &[u8], answer: &mut Answer) {
     match u32_from_text(seconds) {
         Ok(seconds) => tell(Ok(Date::from_seconds(seconds)), answer),

@@ -15,7 +15,7 @@ pub fn call(name: &str, inputs: &Inputs, answer: &mut Answer) {
     }
 }
 
-/// Whether octets can be a label.
+/// Adds whether octets can be a label.
 fn of(octets: &[u8], answer: &mut Answer) {
     match Label::from_slice(octets) {
         Ok(label) => {
@@ -28,7 +28,7 @@ fn of(octets: &[u8], answer: &mut Answer) {
     }
 }
 
-/// The label of octets.
+/// Returns the label of octets.
 fn label_of<'a>(octets: &'a [u8], answer: &mut Answer) -> Option<Label<'a>> {
     let label = Label::from_slice(octets).ok();
     if label.is_none() {
@@ -43,7 +43,7 @@ fn plain(octets: &[u8], answer: &mut Answer) {
     }
 }
 
-/// A refusal, and after a bar the place that a pointer points to or the octet of a bad type.
+/// Adds an error, and after a bar the offset of a pointer or the octet of a bad type.
 fn add_refusal(error: SplitLabelError, answer: &mut Answer) {
     answer.refuse(&error);
     let number = match error {
@@ -55,7 +55,7 @@ fn add_refusal(error: SplitLabelError, answer: &mut Answer) {
     answer.add_number(number);
 }
 
-/// The label that octets begin with, a bar, and what is left.
+/// Adds the label at the beginning of octets, a bar, and the rest.
 fn split(octets: &[u8], answer: &mut Answer) {
     match Label::split_from(octets) {
         Ok((label, rest)) => {
@@ -73,7 +73,7 @@ fn hash_of(label: &Label) -> u64 {
     hasher.finish()
 }
 
-/// How two labels compare, of which all ways to tell agree.
+/// Adds how two labels compare, and checks that all ways to compare them agree.
 fn compare((one, other): (&[u8], &[u8]), answer: &mut Answer) {
     let (Some(left), Some(right)) = (label_of(one, answer), label_of(other, answer)) else {
         return;

@@ -1,4 +1,4 @@
-//! Laws across crates at work: each function that states one, and each short document.
+//! Laws across crates, as calls: each function that states one, and each short document.
 use super::dnstext::words_of;
 use super::tally::repeated;
 use super::zone::{check_entries, items};
@@ -40,7 +40,7 @@ pub fn call(name: &str, inputs: &Inputs, answer: &mut Answer) {
 
 const CHOICES: [&[u8]; 6] = [b"a", b"\"b\"", b"(", b")", b"; k", b"\n"];
 
-/// The words of a list of that length, by a number below 6 to that power.
+/// Returns the words of a list of that length, selected by a number below 6 to that power.
 fn words_by(alloc: Global, length: usize, number: usize) -> Result<Vec<Vec<u8>>, AllocError> {
     let mut words = Vec::new(alloc);
     let mut left = number;
@@ -51,7 +51,7 @@ fn words_by(alloc: Global, length: usize, number: usize) -> Result<Vec<Vec<u8>>,
     Ok(words)
 }
 
-/// Whether words are a document. Each layout of it then splits into its entries.
+/// Returns whether words are a document, and checks that each layout of it splits into its entries.
 fn is_split(words: &[Vec<u8>], answer: &mut Answer) -> bool {
     let Ok(items) = items(answer.heap(), words) else {
         answer.fail_for_memory();
@@ -69,12 +69,13 @@ fn is_split(words: &[Vec<u8>], answer: &mut Answer) -> bool {
     true
 }
 
-/// How many lists of that many words are documents, of the lists with a number below a limit.
+/// Adds how many lists of that number of words are documents, of the lists selected by numbers
+/// below a limit.
 fn short((length, lists): (&[u8], usize), answer: &mut Answer) {
     let Some(length) = number_of(length) else {
         return answer.fail(Failure::BadInputs);
     };
-    // (no growth is refused)
+    // (no allocation fails)
     let ample = Refusing::new(answer.alloc(), u64::MAX);
     let mut other = Answer::new(answer.alloc(), &ample);
     let mut documents: usize = 0;
@@ -93,7 +94,7 @@ fn short((length, lists): (&[u8], usize), answer: &mut Answer) {
     }
 }
 
-/// The simple layout of a document.
+/// Adds the simple layout of a document.
 fn tokens_split(words: &[Vec<u8>], answer: &mut Answer) {
     let Ok(items) = items(answer.heap(), words) else {
         return answer.fail_for_memory();
@@ -107,14 +108,14 @@ fn tokens_split(words: &[Vec<u8>], answer: &mut Answer) {
     }
 }
 
-/// A text, a bar, and how many entries it splits into.
+/// Adds a text, a bar, and the number of entries that it splits into.
 fn tell(text: &str, entries: usize, answer: &mut Answer) {
     answer.add_text(text);
     answer.add_text("|");
     answer.add_number(entries);
 }
 
-/// The multiline layout of items.
+/// Adds the multiline layout of items.
 fn split_items(words: &[Vec<u8>], answer: &mut Answer) {
     let Ok(items) = items(answer.heap(), words) else {
         return answer.fail_for_memory();
@@ -125,8 +126,8 @@ fn split_items(words: &[Vec<u8>], answer: &mut Answer) {
     }
 }
 
-/// One token of parts, each repeated by a number: how many octets its tabbed layout has, a bar, and how
-/// many entries that splits into.
+/// Adds, for one token of repeated parts, the number of octets of its tabbed layout, a bar, and the
+/// number of entries that it splits into.
 fn split_long_item(parts: &[Vec<u8>], answer: &mut Answer) {
     let token = match repeated(answer, parts) {
         Ok(token) => token,
@@ -160,7 +161,7 @@ fn add_fields<'a>(
     Ok(())
 }
 
-/// The multiline layout of a line with a field of each kind.
+/// Adds the multiline layout of a line with a field of each kind.
 fn split_fields(answer: &mut Answer) {
     let mut fields = Vec::new(answer.heap());
     if add_fields(answer.heap(), &mut fields).is_err() {
@@ -172,7 +173,7 @@ fn split_fields(answer: &mut Answer) {
     }
 }
 
-/// The unquoted text of octets as a document.
+/// Adds the unquoted form of octets as a document.
 fn token(octets: &[u8], answer: &mut Answer) {
     let string = CharStr::from_slice(octets).unwrap_or(CharStr::empty_slice());
     if string.len() == 0 {
@@ -185,7 +186,7 @@ fn token(octets: &[u8], answer: &mut Answer) {
     }
 }
 
-/// The number of a token, scanned into memory of an allocator.
+/// Adds the number of a token, parsed with an allocator.
 fn scan_number<A: Allocator + Copy>(alloc: A, words: &[&str], answer: &mut Answer) {
     let mut scanner: IterScanner<_, Vec<u8, A>> = IterScanner::new(alloc, words.iter().copied());
     let number: Result<u8, StrError> = number_is_scanned_back(&mut scanner);
@@ -195,7 +196,7 @@ fn scan_number<A: Allocator + Copy>(alloc: A, words: &[&str], answer: &mut Answe
     }
 }
 
-/// The octets of a token.
+/// Adds the octets of a token.
 fn scan_hex<A: Allocator + Copy>(alloc: A, words: &[&str], answer: &mut Answer) {
     let mut scanner: IterScanner<_, Vec<u8, A>> = IterScanner::new(alloc, words.iter().copied());
     let octets: Result<Scanned<Vec<u8, A>>, StrError> = fields_are_scanned_back(
@@ -209,7 +210,7 @@ fn scan_hex<A: Allocator + Copy>(alloc: A, words: &[&str], answer: &mut Answer) 
     }
 }
 
-/// The octets or the number of a token.
+/// Adds the octets or the number of a token.
 fn scan_back(name: &str, inputs: &[Vec<u8>], answer: &mut Answer) {
     match words_of(answer.alloc(), inputs) {
         Ok(words) if name == "number" => scan_number(answer.heap(), words.as_slice(), answer),

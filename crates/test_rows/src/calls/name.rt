@@ -13,7 +13,7 @@ use row_table::{Answer, Failure, Heap, Inputs};
 use std::hash::{DefaultHasher, Hash, Hasher};
 use std::str;
 
-/// Octets in memory of which one growth may be refused.
+/// Octets whose allocator may fail one allocation.
 type Octets<'a> = Vec<u8, &'a Heap>;
 
 type Vector<'a> = UncertainName<Octets<'a>>;
@@ -40,7 +40,7 @@ pub fn call(name: &str, inputs: &Inputs, answer: &mut Answer) {
     }
 }
 
-/// The octets of a name, or the refusal.
+/// Adds the octets of a name, or the error.
 fn tell(read: &Result<Vector, FromStrError>, answer: &mut Answer) {
     match read {
         Ok(name) => answer.add(name.as_slice()),
@@ -48,7 +48,7 @@ fn tell(read: &Result<Vector, FromStrError>, answer: &mut Answer) {
     }
 }
 
-/// The octets of a text, which its characters have as well.
+/// Adds the octets of a text, and checks that parsing its characters returns the same.
 fn read(text: &str, answer: &mut Answer) {
     let mut other = answer.another();
     tell(&Vector::from_chars(answer.heap(), text.chars()), &mut other);
@@ -56,7 +56,7 @@ fn read(text: &str, answer: &mut Answer) {
     answer.check_same(&other);
 }
 
-/// The name of octets. None are the relative name of no labels.
+/// Returns the name of octets. No octets are the relative name without labels.
 fn name_of<'a>(octets: &'a [u8], answer: &mut Answer) -> UncertainName<&'a [u8]> {
     if octets.is_empty() {
         return UncertainName::empty_ref();
@@ -80,7 +80,7 @@ fn zone(octets: &[u8], answer: &mut Answer) {
     answer.add_shown(&ZoneName::new(&name));
 }
 
-/// A name is returned as what it is, and given back as what it isn't.
+/// Checks that a name is returned as its kind, and rejected as the other kind.
 fn check_kind(name: UncertainName<&[u8]>, is_absolute: bool, octets: &[u8], answer: &mut Answer) {
     answer.check(name.as_absolute().is_some() == is_absolute);
     answer.check(name.as_relative().is_some() != is_absolute);
@@ -96,7 +96,8 @@ fn check_kind(name: UncertainName<&[u8]>, is_absolute: bool, octets: &[u8], answ
     }
 }
 
-/// Whether octets are an absolute or a relative name; the octet of a bad label type after a bar.
+/// Adds whether octets are an absolute or a relative name; or the octet of a bad label type after a
+/// bar.
 fn of(octets: &[u8], answer: &mut Answer) {
     match UncertainName::from_octets(octets) {
         Ok(name) => {
@@ -120,12 +121,12 @@ fn hash_of(name: &Vector) -> u64 {
     hasher.finish()
 }
 
-/// The name of a text.
+/// Returns the name of a text.
 fn read_name<'a>(heap: &'a Heap, text: &[u8]) -> Result<Vector<'a>, FromStrError> {
     Vector::from_str(heap, str::from_utf8(text).unwrap_or(".."))
 }
 
-/// Whether two texts are equal names, which then have one hash.
+/// Adds whether two texts are equal names, and checks that these have equal hashes.
 fn are_equal((one, other): (&[u8], &[u8]), answer: &mut Answer) {
     match (
         read_name(answer.heap(), one),
@@ -143,7 +144,7 @@ fn are_equal((one, other): (&[u8], &[u8]), answer: &mut Answer) {
     }
 }
 
-/// The text of octets as an absolute name, a bar, and its text with a dot.
+/// Adds the text of octets as an absolute name, a bar, and its text with a dot.
 fn absolute(octets: &[u8], answer: &mut Answer) {
     match Name::from_octets(octets) {
         Ok(name) => {
@@ -160,7 +161,7 @@ fn absolute(octets: &[u8], answer: &mut Answer) {
     }
 }
 
-/// The text of octets as a relative name.
+/// Adds the text of octets as a relative name.
 fn relative(octets: &[u8], answer: &mut Answer) {
     match RelativeName::from_octets(octets) {
         Ok(name) => {
@@ -186,10 +187,10 @@ fn add_next(label: Option<Label>, answer: &mut Answer) {
     }
 }
 
-/// The most labels that a name has, and one more.
+/// Maximum number of labels of a name, and one more.
 const MANY: usize = 129;
 
-/// The labels of a name from the front, from the back, and from both ends in turn.
+/// Adds the labels of a name from the front, from the back, and from both ends in turn.
 fn labels(octets: &[u8], answer: &mut Answer) {
     let name = name_of(octets, answer);
     for label in &name {
@@ -212,7 +213,7 @@ fn labels(octets: &[u8], answer: &mut Answer) {
     }
 }
 
-/// A relative name, which octets that are none are not.
+/// Returns a relative name, or fails the row if the octets aren't one.
 fn relative_of<'a>(octets: &'a [u8], answer: &mut Answer) -> RelativeName<&'a [u8]> {
     let made = RelativeName::from_octets(octets);
     if made.is_err() {
@@ -221,7 +222,7 @@ fn relative_of<'a>(octets: &'a [u8], answer: &mut Answer) -> RelativeName<&'a [u
     made.unwrap_or(RelativeName::empty_ref())
 }
 
-/// An absolute name, which octets that are none are not.
+/// Returns an absolute name, or fails the row if the octets aren't one.
 fn absolute_of<'a>(octets: &'a [u8], answer: &mut Answer) -> Name<&'a [u8]> {
     let made = Name::from_octets(octets);
     if made.is_err() {
@@ -230,7 +231,7 @@ fn absolute_of<'a>(octets: &'a [u8], answer: &mut Answer) -> Name<&'a [u8]> {
     made.unwrap_or(Name::root_ref())
 }
 
-/// The text of a chain, a bar, and its text with a dot.
+/// Adds the text of a chain, a bar, and its text with a dot.
 fn add_chain<L: ToRelativeName + Drop, R: ToLabelIter + Drop>(
     made: Result<Chain<L, R>, LongChainError>,
     answer: &mut Answer,
@@ -245,7 +246,7 @@ fn add_chain<L: ToRelativeName + Drop, R: ToLabelIter + Drop>(
     }
 }
 
-/// The same of a chain after a name that is absolute or relative.
+/// Adds the same for a chain after a name that is absolute or relative.
 fn add_uncertain_chain(one: &[u8], right: &Name<&[u8]>, answer: &mut Answer) {
     match name_of(one, answer).chain(right) {
         Ok(chain) => {
@@ -257,7 +258,7 @@ fn add_uncertain_chain(one: &[u8], right: &Name<&[u8]>, answer: &mut Answer) {
     }
 }
 
-/// The text of a chain of two names, which all kinds of chains have.
+/// Adds the text of a chain of two names, and checks it for all kinds of chains.
 fn chain_of_two(one: &[u8], other: &[u8], answer: &mut Answer) {
     let right = name_of(other, answer);
     let mut uncertain = answer.another();
@@ -277,7 +278,7 @@ fn chain_of_two(one: &[u8], other: &[u8], answer: &mut Answer) {
     }
 }
 
-/// The text of a chain of three names, of which the first two are relative.
+/// Adds the text of a chain of three names, the first two of which are relative.
 fn chain_of_three(one: &[u8], middle: &[u8], other: &[u8], answer: &mut Answer) {
     let left = relative_of(one, answer);
     let middle = relative_of(middle, answer);
@@ -305,8 +306,8 @@ fn chain(names: &[Vec<u8>], answer: &mut Answer) {
     }
 }
 
-/// The labels of a chain after a relative name from the front, from the back, and from both ends
-/// in turn.
+/// Adds the labels of a chain after a relative name from the front, from the back, and from both
+/// ends in turn.
 fn add_chain_labels(
     chain: &Chain<RelativeName<&[u8]>, &UncertainName<&[u8]>>,
     answer: &mut Answer,
@@ -331,7 +332,7 @@ fn add_chain_labels(
     }
 }
 
-/// The same of a chain after an absolute name.
+/// Adds the same for a chain after an absolute name.
 fn add_absolute_labels(one: &[u8], other: &[u8], answer: &mut Answer) {
     let right = absolute_of(other, answer);
     let Ok(chain) = name_of(one, answer).chain(&right) else {
@@ -358,7 +359,7 @@ fn chain_labels((one, other): (&[u8], &[u8]), answer: &mut Answer) {
     }
 }
 
-/// A name that was made of labels, or the refusal.
+/// Adds a name that was made of labels, or the error.
 fn tell_flat(made: Result<Name<Octets>, ShortBuf>, answer: &mut Answer) {
     match made {
         Ok(name) => answer.add(name.as_slice()),
@@ -366,7 +367,7 @@ fn tell_flat(made: Result<Name<Octets>, ShortBuf>, answer: &mut Answer) {
     }
 }
 
-/// The wire form of a name is the answer so far.
+/// Checks that the wire format of a name is the result so far.
 fn check_composed<N: ToLabelIter>(name: &N, answer: &mut Answer) {
     let mut wire = Vec::new(answer.alloc());
     answer.check(name.compose(&mut wire).is_ok());
@@ -376,7 +377,7 @@ fn check_composed<N: ToLabelIter>(name: &N, answer: &mut Answer) {
     answer.check_same(&composed);
 }
 
-/// The octets of a chain, as a name that is made of it and in wire form.
+/// Adds the octets of a chain, as a name that is made of it and in wire format.
 fn flatten((one, other): (&[u8], &[u8]), answer: &mut Answer) {
     let right = absolute_of(other, answer);
     let Ok(chain) = name_of(one, answer).chain(&right) else {
@@ -388,8 +389,8 @@ fn flatten((one, other): (&[u8], &[u8]), answer: &mut Answer) {
     answer.check(*left.as_slice() == *one);
 }
 
-/// The octets of a chain after a relative name, as a name that is made of it where it is borrowed
-/// and where it is owned, and of its right name in the same ways. There are bars between.
+/// Adds the octets of a chain after a relative name, as a name that is made of it borrowed and
+/// owned, and of its right name in the same ways, separated by bars.
 fn flatten_each((one, other): (&[u8], &[u8]), answer: &mut Answer) {
     let right = absolute_of(other, answer);
     let Ok(chain) = Chain::new(relative_of(one, answer), absolute_of(other, answer)) else {
@@ -405,7 +406,7 @@ fn flatten_each((one, other): (&[u8], &[u8]), answer: &mut Answer) {
     tell_flat(right.try_flatten_into(answer.heap()), answer);
 }
 
-/// The root as a name that may be relative, a bar, and the root as one that may not.
+/// Adds the root as a name that may be relative, a bar, and the root as one that may not.
 fn root(answer: &mut Answer) {
     match Vector::root_vec(answer.heap()) {
         Ok(name) => {
@@ -418,10 +419,10 @@ fn root(answer: &mut Answer) {
     tell_flat(Name::root(answer.heap()), answer);
 }
 
-/// The room of a composed name.
+/// The buffer of a composed name.
 pub type Room = ArrayVec<u8, 255>;
 
-/// Room that is left of an array, whose other octets are taken.
+/// Returns an array with the remaining capacity `left`.
 pub fn room_of(left: usize) -> Room {
     let mut room = Room::new();
     for _ in left..255 {
@@ -430,7 +431,7 @@ pub fn room_of(left: usize) -> Room {
     room
 }
 
-/// What of a chain goes into so much room: whether all did, a bar, and the octets.
+/// Adds the part of a chain that fits a capacity: whether all of it did, a bar, and the octets.
 fn compose_into(inputs: &[Vec<u8>], answer: &mut Answer) {
     let [one, other, digits] = inputs else {
         return answer.fail(Failure::BadInputs);

@@ -1,10 +1,10 @@
-//! Octets that are gone through.
+//! Octets that are parsed step by step.
 use dns_charstr::charstr::CharStrBuilder;
 use dns_octets::{AsOctets, EmptyBuilder, OctetsFrom, ParseError, Parser, ShortBuf, Str};
 use row_table::input::number_of;
 use row_table::{Answer, Failure, Heap, Inputs};
 
-/// Octets in memory of which one growth may be refused.
+/// Octets whose allocator may fail one allocation.
 type Octets<'a> = Vec<u8, &'a Heap>;
 
 pub fn call(name: &str, inputs: &Inputs, answer: &mut Answer) {
@@ -16,14 +16,14 @@ pub fn call(name: &str, inputs: &Inputs, answer: &mut Answer) {
     }
 }
 
-/// What was passed over, or the refusal.
+/// Adds that octets were skipped, or the error.
 fn tell(made: Result<(), ParseError>, answer: &mut Answer) {
     if let Err(error) = made {
         answer.refuse(&error);
     }
 }
 
-/// Takes a step: `+` and how many octets to pass over, `=` and how many to take, `.` for one octet.
+/// Makes a step: `+` and a number of octets to skip, `=` and a number to read, `.` for one octet.
 fn take_step(parser: &mut Parser, step: &[u8], answer: &mut Answer) {
     match step {
         [b'+', digits @ ..] => tell(parser.advance(number_of(digits).unwrap_or(0)), answer),
@@ -39,7 +39,7 @@ fn take_step(parser: &mut Parser, step: &[u8], answer: &mut Answer) {
     }
 }
 
-/// What each step takes of octets, with the place after it and a comma, and what is left.
+/// Adds the result of each step, with the offset after it and a comma, and the rest.
 fn parse(inputs: &[Vec<u8>], answer: &mut Answer) {
     let [octets, steps @ ..] = inputs else {
         return answer.fail(Failure::BadInputs);
@@ -54,7 +54,7 @@ fn parse(inputs: &[Vec<u8>], answer: &mut Answer) {
     answer.add(parser.peek_all());
 }
 
-/// The text that octets are.
+/// Adds the text that octets are.
 fn text(octets: &[u8], answer: &mut Answer) {
     match Str::from_utf8(octets) {
         Ok(text) => {
@@ -68,7 +68,7 @@ fn text(octets: &[u8], answer: &mut Answer) {
     }
 }
 
-/// Octets that were made, or the refusal.
+/// Adds octets that were made, or the error.
 fn tell_made<O: AsOctets + Drop>(made: Result<O, ShortBuf>, answer: &mut Answer) {
     match made {
         Ok(octets) => answer.add(octets.as_slice()),
@@ -76,8 +76,8 @@ fn tell_made<O: AsOctets + Drop>(made: Result<O, ShortBuf>, answer: &mut Answer)
     }
 }
 
-/// A copy of octets; and after bars what is in new builders with room for as many, one of them of a
-/// character string.
+/// Adds a copy of octets; and after bars the contents of new builders of the same capacity, one of
+/// them of a character string.
 fn copy(octets: &[u8], answer: &mut Answer) {
     let copy: Result<Octets, ShortBuf> = OctetsFrom::try_octets_from(answer.heap(), octets);
     tell_made(copy, answer);

@@ -1,4 +1,4 @@
-//! The pieces of octets, by each way that leads to them.
+//! The pieces of octets, by each way to find them.
 use super::zone::{add_fault, add_named_piece};
 use dns_split::pieces::{Fault, Piece, Pieces, Span};
 use dns_split::standing::{Standing, next_of_octets};
@@ -7,7 +7,7 @@ use row_table::{Answer, Failure};
 use std::alloc::{AllocError, Global};
 use std::str;
 
-/// A piece or the fault.
+/// A piece or the error.
 type Given = Result<Piece, Fault>;
 
 fn list(alloc: Global, pieces: Pieces) -> Result<Vec<Given>, AllocError> {
@@ -18,7 +18,7 @@ fn list(alloc: Global, pieces: Pieces) -> Result<Vec<Given>, AllocError> {
     Ok(given)
 }
 
-/// Whether a cursor gives these.
+/// Returns whether an iterator yields these.
 fn gives(pieces: Pieces, wanted: &[Given]) -> bool {
     let mut place: usize = 0;
     let mut are_same = true;
@@ -29,7 +29,7 @@ fn gives(pieces: Pieces, wanted: &[Given]) -> bool {
     are_same && place == wanted.len()
 }
 
-/// The next piece; nothing where the standing is none of these octets.
+/// Returns the next piece, or `None` if the position isn't one of these octets.
 fn next(octets: &[u8], standing: &mut Standing) -> Option<Given> {
     if standing.at > octets.len() || standing.depth > standing.at {
         return None;
@@ -37,7 +37,7 @@ fn next(octets: &[u8], standing: &mut Standing) -> Option<Given> {
     next_of_octets(octets, standing)
 }
 
-/// Whether the pieces are given one by one, then nothing, and the standing stays.
+/// Returns whether the pieces are yielded one by one, then none, and the position stays.
 fn gives_each(octets: &[u8], wanted: &[Given]) -> bool {
     let mut standing = Standing::at_entry(0);
     for piece in wanted {
@@ -49,7 +49,7 @@ fn gives_each(octets: &[u8], wanted: &[Given]) -> bool {
     next(octets, &mut standing).is_none() && standing.is_done && standing == done
 }
 
-/// Whether it is told of each entry before its end whether it begins with a blank.
+/// Returns whether each entry is known to begin with a blank, or not to, before its end.
 fn tells_blanks(octets: &[u8], wanted: &[Given]) -> bool {
     let mut pieces = Pieces::of_octets(octets);
     for piece in wanted {
@@ -64,7 +64,7 @@ fn tells_blanks(octets: &[u8], wanted: &[Given]) -> bool {
     true
 }
 
-/// Whether a cursor that starts there gives what is left, of octets and of a text.
+/// Returns whether an iterator that begins there yields the rest, of octets and of a text.
 fn goes_on(octets: &[u8], at: usize, left: &[Given]) -> bool {
     if at > octets.len() || !gives(Pieces::of_octets_starting_at(octets, at), left) {
         return false;
@@ -75,7 +75,7 @@ fn goes_on(octets: &[u8], at: usize, left: &[Given]) -> bool {
     }
 }
 
-/// From each end but the last what is left is given.
+/// Checks that from each end but the last the rest is yielded.
 fn check_ends(octets: &[u8], whole: &[Given], answer: &mut Answer) {
     for (place, piece) in whole.iter().enumerate() {
         let left = whole.get(place.saturating_add(1)..).unwrap_or_default();
@@ -87,7 +87,8 @@ fn check_ends(octets: &[u8], whole: &[Given], answer: &mut Answer) {
     }
 }
 
-/// How many pieces there are up to the last end that is followed by more, and where that is.
+/// Returns the number of pieces up to the last end that is followed by more, and the offset of that
+/// end.
 fn ended(given: &[Given]) -> (usize, usize) {
     let mut last = (0, 0);
     for (place, piece) in given.iter().enumerate() {
@@ -101,7 +102,8 @@ fn ended(given: &[Given]) -> (usize, usize) {
     last
 }
 
-/// Whether a block that ends in a fault needs more, or is all of it up to the fault.
+/// Returns whether a chunk whose pieces end with an error needs more, or has the error of all
+/// octets.
 fn needs_more_or_ends(block: &[u8], given: &[Given], whole: &[Given]) -> bool {
     match given.last() {
         Some(Err(fault)) => fault.needs_more(block) || whole.last() == given.last(),
@@ -109,8 +111,8 @@ fn needs_more_or_ends(block: &[u8], given: &[Given], whole: &[Given]) -> bool {
     }
 }
 
-/// Whether a block that the octets begin with gives the entries that have ended, and what is left
-/// of it with the octets after it the others.
+/// Returns whether a chunk at the beginning of the octets yields the entries that have ended, and
+/// the rest of it with the octets after it the others.
 fn gives_in_two(octets: &[u8], block: &[u8], given: &[Given], whole: &[Given]) -> bool {
     let (count, at) = ended(given);
     whole.get(..count) == given.get(..count)
@@ -118,7 +120,7 @@ fn gives_in_two(octets: &[u8], block: &[u8], given: &[Given], whole: &[Given]) -
         && needs_more_or_ends(block, given, whole)
 }
 
-/// The octets come in two blocks, cut in each place.
+/// Checks the octets in two chunks, cut at each offset.
 fn check_blocks(octets: &[u8], whole: &[Given], answer: &mut Answer) {
     for cut in 0..=octets.len() {
         let block = &octets[..cut];
@@ -129,7 +131,7 @@ fn check_blocks(octets: &[u8], whole: &[Given], answer: &mut Answer) {
     }
 }
 
-/// Whether the part of a text, and of its octets, is what the span names.
+/// Returns whether the part of a text, and of its octets, is what the span denotes.
 fn is_part(text: &str, span: Span) -> bool {
     let Some(part) = text.get(span.start..span.end) else {
         return false;
@@ -144,7 +146,7 @@ fn is_part(text: &str, span: Span) -> bool {
     span.of(text) == part && span.of_octets(octets) == part.as_bytes()
 }
 
-/// A text gives the pieces of its octets, and each names a part of it.
+/// Checks that a text yields the pieces of its octets, and that each denotes a part of it.
 fn check_text(text: &str, whole: &[Given], answer: &mut Answer) {
     answer.check(gives(Pieces::new(text), whole));
     for piece in whole {
@@ -154,7 +156,7 @@ fn check_text(text: &str, whole: &[Given], answer: &mut Answer) {
     }
 }
 
-/// The other ways to the pieces.
+/// Checks the other ways to find the pieces.
 fn check_ways(octets: &[u8], whole: &[Given], answer: &mut Answer) {
     answer.check(gives_each(octets, whole));
     answer.check(tells_blanks(octets, whole));
@@ -173,7 +175,7 @@ fn add_given(piece: Given, answer: &mut Answer) {
     answer.add_text("|");
 }
 
-/// The pieces of octets with their places, a bar after each.
+/// Adds the pieces of octets with their offsets, a bar after each.
 pub fn pieces(octets: &[u8], answer: &mut Answer) {
     match list(answer.alloc(), Pieces::of_octets(octets)) {
         Ok(whole) => {
@@ -186,8 +188,8 @@ pub fn pieces(octets: &[u8], answer: &mut Answer) {
     }
 }
 
-/// Where a reader stands: at an entry, or after other pieces of it. How many blanks it has passed
-/// there is its own affair.
+/// Adds the position: at an entry, or after other pieces of it. The number of blanks that it has
+/// skipped there is unspecified.
 fn add_standing(octets: &[u8], standing: Standing, answer: &mut Answer) {
     if standing.is_done {
         answer.add_text("done, began ");
@@ -208,7 +210,7 @@ fn add_standing(octets: &[u8], standing: Standing, answer: &mut Answer) {
     });
 }
 
-/// The piece after a standing, and the standing after it.
+/// Adds the piece after a position, and the position after it.
 fn next_from(octets: &[u8], mut standing: Standing, answer: &mut Answer) {
     match next(octets, &mut standing) {
         Some(piece) => {
@@ -219,7 +221,8 @@ fn next_from(octets: &[u8], mut standing: Standing, answer: &mut Answer) {
     }
 }
 
-/// The same of octets, the place, the depth of parentheses there, and where the entry began.
+/// Adds the same for octets, the offset, the depth of parentheses there, and the offset of the
+/// entry.
 pub fn next_piece(inputs: &[Vec<u8>], answer: &mut Answer) {
     let [octets, at, depth, began] = inputs else {
         return answer.fail(Failure::BadInputs);
@@ -239,7 +242,7 @@ pub fn next_piece(inputs: &[Vec<u8>], answer: &mut Answer) {
     }
 }
 
-/// Whether the text of a fault stops too early.
+/// Adds whether the text of an error ends too early.
 pub fn needs_more(octets: &[u8], answer: &mut Answer) {
     match Pieces::of_octets(octets).last() {
         Some(Err(fault)) => answer.add_bool(fault.needs_more(octets)),

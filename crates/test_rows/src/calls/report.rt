@@ -1,4 +1,4 @@
-//! What a checker of zone files says.
+//! The reports of a checker of zone files.
 ghost use Rattle.std.specs.Prelude.{◌<◌, ◌^◌, length};
 
 use dns_split::position::Position;
@@ -29,7 +29,7 @@ pub fn call(name: &str, inputs: &Inputs, answer: &mut Answer) {
     }
 }
 
-/// How a finding is told.
+/// The format of a finding.
 #[derive(Clone, Copy)]
 enum Form {
     Line,
@@ -57,7 +57,7 @@ fn number(digits: &[u8], answer: &mut Answer) -> usize {
     }
 }
 
-/// The code with a name.
+/// Returns the code with a name.
 fn code_of(name: &[u8], answer: &mut Answer) -> Code {
     let name = text_of(name, answer);
     match Code::named(name) {
@@ -72,7 +72,7 @@ fn code_of(name: &[u8], answer: &mut Answer) -> Code {
     }
 }
 
-/// Where something was opened, if that is told.
+/// Returns the position of an opener, if the row has one.
 fn opened_at(fields: &[Vec<u8>], answer: &mut Answer) -> Option<Position> {
     match fields {
         [line, column] => Some(Position {
@@ -83,7 +83,7 @@ fn opened_at(fields: &[Vec<u8>], answer: &mut Answer) -> Option<Position> {
     }
 }
 
-/// Appends what a finding is told by.
+/// Adds the report of a finding.
 fn add_told(told: Result<(), AllocError>, out: &[u8], answer: &mut Answer) {
     match told {
         Ok(()) => answer.add(out),
@@ -91,7 +91,8 @@ fn add_told(told: Result<(), AllocError>, out: &[u8], answer: &mut Answer) {
     }
 }
 
-/// A finding: its file, line, column, end column, code and message, and where something was opened.
+/// Adds a finding: its file, line, column, end column, code and message, and the position of an
+/// opener.
 fn tell(form: Form, fields: &[Vec<u8>], answer: &mut Answer) {
     let [file, line, column, end_column, code, message, opened @ ..] = fields else {
         answer.fail(Failure::BadInputs);
@@ -119,7 +120,7 @@ fn tell(form: Form, fields: &[Vec<u8>], answer: &mut Answer) {
     add_told(told, out.as_slice(), answer);
 }
 
-/// A line, and a caret under a column.
+/// Adds a line, and a caret under a column.
 fn excerpt(is_coloured: bool, fields: &[Vec<u8>], answer: &mut Answer) {
     let [line, column, end_column] = fields else {
         answer.fail(Failure::BadInputs);
@@ -132,10 +133,10 @@ fn excerpt(is_coloured: bool, fields: &[Vec<u8>], answer: &mut Answer) {
     add_told(told, out.as_slice(), answer);
 }
 
-/// The most octets of a row's input.
+/// Maximum number of octets of a row's input.
 const MOST: usize = 1 << 24;
 
-/// Octets of which there are not too many.
+/// Returns octets, unless there are too many.
 fn few<'a>(octets: &'a [u8], answer: &mut Answer) -> &'a [u8]
     ensures { length result.now < 2 ^ 62 }
 {
@@ -146,7 +147,7 @@ fn few<'a>(octets: &'a [u8], answer: &mut Answer) -> &'a [u8]
     octets
 }
 
-/// What a whole file shows by itself: each code with its place.
+/// Adds the findings of a whole file by itself: each code with its offset.
 fn lint_block(octets: &[u8], answer: &mut Answer) {
     let octets = few(octets, answer);
     let block = Block {
@@ -170,7 +171,8 @@ fn order_mark(octets: &[u8], answer: &mut Answer) {
     answer.add_number(order_mark_len(octets));
 }
 
-/// What a finding weighs: the code, one that is allowed and one that is denied, and `strict` or not.
+/// Adds the severity of a finding: the code, one that is allowed and one that is denied, and
+/// `strict` or not.
 fn judge(fields: &[Vec<u8>], answer: &mut Answer) {
     let [code, allowed, denied, strict] = fields else {
         answer.fail(Failure::BadInputs);
@@ -189,7 +191,7 @@ fn judge(fields: &[Vec<u8>], answer: &mut Answer) {
     }
 }
 
-/// Which of some errors (`e`) and warnings are shown, the exit status, and the last line.
+/// Adds which of some errors (`e`) and warnings are shown, the exit status, and the last line.
 fn count((found, most): (&[u8], usize), answer: &mut Answer) {
     let mut tally = Tally::new(most);
     for octet in found {

@@ -1,6 +1,6 @@
-//! Scanning, one step after another.
+//! Calls of a scanner, one step after another.
 //!
-//! A text of steps with commas between says what is scanned in turn: `octets,u8,end`.
+//! A text of steps separated by commas lists the calls in order: `octets,u8,end`.
 use super::dnstext::words_of;
 use arrayvec::ArrayVec;
 use dns_charstr::charstr::CharStr;
@@ -42,7 +42,7 @@ pub fn call(name: &str, inputs: &Inputs, answer: &mut Answer) {
     }
 }
 
-/// Octets that were scanned, or the refusal.
+/// Adds octets that were parsed, or the error.
 fn tell<O: AsOctets + Drop>(made: Result<O, StrError>, answer: &mut Answer) {
     match made {
         Ok(octets) => answer.add(octets.as_slice()),
@@ -50,7 +50,7 @@ fn tell<O: AsOctets + Drop>(made: Result<O, StrError>, answer: &mut Answer) {
     }
 }
 
-/// The same of a value that prints.
+/// Adds the same of a value that prints.
 fn tell_value<T: fmt::Display + Drop>(made: Result<T, StrError>, answer: &mut Answer) {
     match made {
         Ok(value) => match value.to_string(answer.alloc()) {
@@ -61,7 +61,7 @@ fn tell_value<T: fmt::Display + Drop>(made: Result<T, StrError>, answer: &mut An
     }
 }
 
-/// The same of a text.
+/// Adds the same of a text.
 fn tell_text<O: AsOctets + Drop>(made: Result<Str<O>, StrError>, answer: &mut Answer) {
     match made {
         Ok(text) => answer.add_text(text.as_str()),
@@ -69,7 +69,7 @@ fn tell_text<O: AsOctets + Drop>(made: Result<Str<O>, StrError>, answer: &mut An
     }
 }
 
-/// The same of a step that makes nothing.
+/// Adds the same of a step without a value.
 fn tell_end(made: Result<(), StrError>, answer: &mut Answer) {
     match made {
         Ok(()) => answer.add_text("ok"),
@@ -77,7 +77,7 @@ fn tell_end(made: Result<(), StrError>, answer: &mut Answer) {
     }
 }
 
-/// The octets of a new builder.
+/// Returns the octets of a new builder.
 fn new_octets<S: Scanner>(scanner: &mut S) -> Result<S::Octets, S::Error>
     requires { S.can_scan scanner.old }
     ensures { S.can_scan scanner.new }
@@ -86,7 +86,7 @@ fn new_octets<S: Scanner>(scanner: &mut S) -> Result<S::Octets, S::Error>
     Ok(builder.freeze())
 }
 
-/// Scans all tokens left as one text of base 16.
+/// Parses all remaining tokens as one text of base 16.
 fn hex_of_rest<S: Scanner>(scanner: &mut S) -> Result<S::Octets, S::Error>
     requires { S.can_scan scanner.old }
     ensures { S.can_scan scanner.new }
@@ -95,7 +95,7 @@ fn hex_of_rest<S: Scanner>(scanner: &mut S) -> Result<S::Octets, S::Error>
     Ok(rest.octets)
 }
 
-/// Scans all tokens left as character strings, with a bar after each.
+/// Parses all remaining tokens as character strings, and adds them with a bar after each.
 fn list_strings<S: Scanner<Error = StrError>>(scanner: &mut S, answer: &mut Answer)
 where
     S::Octets: Drop,
@@ -113,7 +113,7 @@ where
     }
 }
 
-/// Scans octets of one kind or another.
+/// Parses octets of one kind or another.
 fn take_octets<S: Scanner<Error = StrError>>(scanner: &mut S, step: &str, answer: &mut Answer)
 where
     S::Octets: Drop,
@@ -136,7 +136,7 @@ where
     }
 }
 
-/// Scans a time to live.
+/// Parses a TTL.
 fn scan_seconds<S: Scanner>(scanner: &mut S) -> Result<u32, S::Error>
     requires { S.can_scan scanner.old }
     ensures { S.can_scan scanner.new }
@@ -145,7 +145,7 @@ fn scan_seconds<S: Scanner>(scanner: &mut S) -> Result<u32, S::Error>
     Ok(ttl.as_secs())
 }
 
-/// Scans a number, or else octets.
+/// Parses a number, or else octets.
 fn take_number<S: Scanner<Error = StrError>>(scanner: &mut S, step: &str, answer: &mut Answer)
 where
     S::Octets: Drop,
@@ -164,7 +164,7 @@ where
     }
 }
 
-/// Scans by a converter, or else a number or octets.
+/// Parses by a converter, or else a number or octets.
 fn convert<S: Scanner<Error = StrError>>(scanner: &mut S, step: &str, answer: &mut Answer)
 where
     S::Octets: Drop,
@@ -201,7 +201,7 @@ where
     }
 }
 
-/// Adds a symbol with a bar, and refuses one that is a dollar sign.
+/// Adds a symbol with a bar, and rejects one that is a dollar sign.
 fn take_symbol(symbol: Symbol, answer: &mut Answer) -> Result<(), StrError> {
     if symbol == Symbol::Char('$') {
         return Err(StrError::custom("enough"));
@@ -239,7 +239,7 @@ fn hand_all_over<S: Scanner<Error = StrError>>(scanner: &mut S, answer: &mut Ans
     tell_end(ended, answer);
 }
 
-/// Takes a step: a question or symbols, or else what `convert` takes.
+/// Makes a step: a question or symbols, or else a step of `convert`.
 fn take_step<S: Scanner<Error = StrError>>(scanner: &mut S, step: &str, answer: &mut Answer)
 where
     S::Octets: Drop,
@@ -259,7 +259,7 @@ where
     }
 }
 
-/// Takes steps, and adds what each made with a comma after it.
+/// Makes steps, and adds the result of each with a comma after it.
 fn take_steps<S: Scanner<Error = StrError>>(scanner: &mut S, steps: &str, answer: &mut Answer)
 where
     S::Octets: Drop,
@@ -273,12 +273,12 @@ where
     }
 }
 
-/// Octets as a text, or none.
+/// Returns octets as a text, or the empty text.
 fn text_of(octets: &[u8]) -> &str {
     str::from_utf8(octets).unwrap_or("")
 }
 
-/// The steps and the tokens of a row.
+/// Returns the steps and the tokens of a row.
 fn steps_and_words<'a>(inputs: &'a [Vec<u8>], answer: &mut Answer) -> (&'a str, &'a [Vec<u8>]) {
     match inputs {
         [steps, words @ ..] => (text_of(steps.as_slice()), words),
@@ -289,7 +289,7 @@ fn steps_and_words<'a>(inputs: &'a [Vec<u8>], answer: &mut Answer) -> (&'a str, 
     }
 }
 
-/// Scans tokens as they are spelled, into memory of an allocator.
+/// Parses tokens as they are spelled, with an allocator.
 fn scan_words<A: Allocator + Copy>(alloc: A, words: &[&str], steps: &str, answer: &mut Answer) {
     let mut scanner: IterScanner<_, Vec<u8, A>> = IterScanner::new(alloc, words.iter().copied());
     take_steps(&mut scanner, steps, answer);
@@ -305,7 +305,7 @@ fn tokens(inputs: &[Vec<u8>], answer: &mut Answer) {
     }
 }
 
-/// The same into at most four octets.
+/// Does the same with a capacity of four octets.
 fn four(inputs: &[Vec<u8>], answer: &mut Answer) {
     let (steps, words) = steps_and_words(inputs, answer);
     let Ok(words) = words_of(answer.alloc(), words) else {
@@ -315,7 +315,7 @@ fn four(inputs: &[Vec<u8>], answer: &mut Answer) {
     take_steps(&mut scanner, steps, answer);
 }
 
-/// The same into at most five octets.
+/// Does the same with a capacity of five octets.
 fn five(inputs: &[Vec<u8>], answer: &mut Answer) {
     let (steps, words) = steps_and_words(inputs, answer);
     let Ok(words) = words_of(answer.alloc(), words) else {
@@ -325,7 +325,7 @@ fn five(inputs: &[Vec<u8>], answer: &mut Answer) {
     take_steps(&mut scanner, steps, answer);
 }
 
-/// The same into at most seven octets.
+/// Does the same with a capacity of seven octets.
 fn seven(inputs: &[Vec<u8>], answer: &mut Answer) {
     let (steps, words) = steps_and_words(inputs, answer);
     let Ok(words) = words_of(answer.alloc(), words) else {
@@ -335,7 +335,7 @@ fn seven(inputs: &[Vec<u8>], answer: &mut Answer) {
     take_steps(&mut scanner, steps, answer);
 }
 
-/// So many times a part.
+/// Returns a repeated part.
 fn repeated(answer: &Answer, part: &[u8], times: usize) -> Result<Vec<u8>, AllocError> {
     let mut octets = Vec::new(answer.alloc());
     for _ in 0..times {
@@ -344,7 +344,7 @@ fn repeated(answer: &Answer, part: &[u8], times: usize) -> Result<Vec<u8>, Alloc
     Ok(octets)
 }
 
-/// How many times a text begins with a unit, and what is left of it. A refusal stays one.
+/// Adds how many times a text begins with a unit, and the rest. An error is kept.
 fn add_units(text: &str, unit: &str, answer: &mut Answer) {
     if let Some(refusal) = text.strip_prefix('!') {
         return answer.refuse_text(refusal);
@@ -360,7 +360,8 @@ fn add_units(text: &str, unit: &str, answer: &mut Answer) {
     answer.add_text(left);
 }
 
-/// Scans a number of equal tokens, each a repeated part: how many times the answer repeats a unit.
+/// Parses a number of equal tokens, each a repeated part, and adds how many times the result
+/// repeats a unit.
 fn many(inputs: &[Vec<u8>], answer: &mut Answer) {
     let [steps, part, times, tokens, unit] = inputs else {
         return answer.fail(Failure::BadInputs);
@@ -387,7 +388,7 @@ fn many(inputs: &[Vec<u8>], answer: &mut Answer) {
     }
 }
 
-/// Scans the tokens of an entry that began with a blank, into memory of an allocator.
+/// Parses the tokens of an entry that began with a blank, with an allocator.
 fn scan_entry<A: Allocator + Copy>(alloc: A, words: &[&str], steps: &str, answer: &mut Answer) {
     let mut scanner: EntryScanner<'_, &str, Vec<u8, A>> = entry_scanner(alloc, words, true);
     take_steps(&mut scanner, steps, answer);
@@ -401,7 +402,7 @@ fn entry(inputs: &[Vec<u8>], answer: &mut Answer) {
     }
 }
 
-/// Scans the entry at a place, if it is there, with a slash after it.
+/// Parses the entry with an index, if there is one, with a slash after it.
 fn scan_entry_at<A: Allocator + Copy>(
     alloc: A,
     entries: &[Vec<String>],
@@ -419,7 +420,7 @@ fn scan_entry_at<A: Allocator + Copy>(
     }
 }
 
-/// Scans each entry of zone text by the same steps.
+/// Parses each entry of a zone file by the same steps.
 fn text((steps, text): (&[u8], &[u8]), answer: &mut Answer) {
     let Ok(entries) = split(answer.alloc(), text_of(text)) else {
         return answer.fail_for_memory();

@@ -13,7 +13,8 @@ use row_table::{Answer, Failure};
 use std::alloc::AllocError;
 use std::str;
 
-/// What a converter returns to a symbol; `|` is the end of a token, and `$` the end of them all.
+/// Returns the result of a converter for a symbol; `|` is the end of a token, and `$` the end of
+/// all.
 fn step<C: ConvertSymbols<EntrySymbol, StrError>>(
     converter: &mut C,
     symbol: Symbol,
@@ -25,7 +26,7 @@ fn step<C: ConvertSymbols<EntrySymbol, StrError>>(
     }
 }
 
-/// The same step by the call that lends what it made.
+/// Makes the same step by the call that returns the octets.
 fn lending_step<C: ConvertSymbols<EntrySymbol, StrError>>(
     converter: &mut C,
     symbol: Symbol,
@@ -37,7 +38,7 @@ fn lending_step<C: ConvertSymbols<EntrySymbol, StrError>>(
     }
 }
 
-/// Whether two steps come to the same.
+/// Returns whether two steps have the same result.
 fn are_alike(
     one: Result<Option<&[u8]>, StrError>,
     other: &Result<(), StrError>,
@@ -50,7 +51,7 @@ fn are_alike(
     }
 }
 
-/// The same, which a clone of the converter returns as well.
+/// Makes the same step, and checks that a clone of the converter returns the same.
 fn step_alike<C: ConvertSymbols<EntrySymbol, StrError> + Clone>(
     converter: &mut C,
     symbol: Symbol,
@@ -72,7 +73,7 @@ fn step_alike<C: ConvertSymbols<EntrySymbol, StrError> + Clone>(
     }
 }
 
-/// What a converter makes of each symbol of a text, with a comma after each.
+/// Adds the result of a converter for each symbol of a text, with a comma after each.
 fn convert_by<C: ConvertSymbols<EntrySymbol, StrError> + Clone>(
     mut converter: C,
     text: &str,
@@ -86,7 +87,7 @@ fn convert_by<C: ConvertSymbols<EntrySymbol, StrError> + Clone>(
     answer.check(symbols.ok().is_ok());
 }
 
-/// The same of a new converter and of a default one.
+/// Does the same with a new converter and with a default one.
 fn convert_alike<C: ConvertSymbols<EntrySymbol, StrError> + Clone + Default>(
     converter: C,
     text: &str,
@@ -98,7 +99,7 @@ fn convert_alike<C: ConvertSymbols<EntrySymbol, StrError> + Clone + Default>(
     answer.check_same(&other);
 }
 
-/// The same of an encoding.
+/// Does the same for an encoding.
 pub fn convert(base: Base, text: &str, answer: &mut Answer) {
     match base {
         Base::Base16 => convert_alike(base16::SymbolConverter::new(), text, answer),
@@ -107,7 +108,7 @@ pub fn convert(base: Base, text: &str, answer: &mut Answer) {
     }
 }
 
-/// The error that a decoder returns.
+/// Adds the error that a decoder returns.
 fn add_error(pushed: Result<(), DecodeError>, answer: &mut Answer) {
     if let Err(error) = pushed {
         answer.refuse(&error);
@@ -115,7 +116,8 @@ fn add_error(pushed: Result<(), DecodeError>, answer: &mut Answer) {
     answer.add_text(",");
 }
 
-/// What a decoder returns to each character of a text, with a comma after each, and at the end.
+/// Adds the result of a decoder for each character of a text, with a comma after each, and at the
+/// end.
 fn push_by<B: OctetsBuilder + FreezeBuilder + Drop, K: Encoding>(
     mut decoder: Decoder<B, K>,
     text: &str,
@@ -133,17 +135,17 @@ where
     }
 }
 
-/// The most octets that a default decoder is pushed into.
+/// The array of octets of a default decoder.
 type Array = ArrayVec<u8, 64>;
 
-/// A default decoder makes the same.
+/// Checks that a default decoder has the same results.
 fn push_alike<K: Encoding>(decoder: Decoder<Array, K>, text: &str, answer: &mut Answer) {
     let mut other = answer.another();
     push_by(decoder, text, &mut other);
     answer.check_same(&other);
 }
 
-/// The same of an encoding.
+/// Does the same for an encoding.
 pub fn push(base: Base, text: &str, answer: &mut Answer) {
     let heap = answer.heap();
     match base {
@@ -159,7 +161,7 @@ pub fn push(base: Base, text: &str, answer: &mut Answer) {
     }
 }
 
-/// The same into an array of that capacity.
+/// Does the same into an array of that capacity.
 pub fn push_into(base: Base, (text, room): (&[u8], usize), answer: &mut Answer) {
     let text = str::from_utf8(text).unwrap_or("");
     match (base, room) {

@@ -35,13 +35,13 @@ fn kind(symbol: Symbol) -> &'static str {
     }
 }
 
-/// A symbol's kind and its text.
+/// Adds a symbol's kind and its text.
 fn add_symbol(symbol: Symbol, answer: &mut Answer) {
     answer.add_text(kind(symbol));
     answer.add_shown(&symbol);
 }
 
-/// The symbol at a place of octets, and the place after it.
+/// Adds the symbol at an offset of octets, and the offset after it.
 fn at((octets, place): (&[u8], usize), answer: &mut Answer) {
     match Symbol::from_slice_index(octets, place) {
         Ok(Some((symbol, next))) => {
@@ -54,7 +54,7 @@ fn at((octets, place): (&[u8], usize), answer: &mut Answer) {
     }
 }
 
-/// The first symbol of a text, a bar, and what is left.
+/// Adds the first symbol of a text, a bar, and the rest.
 fn first(text: &str, answer: &mut Answer) {
     let mut chars = text.chars();
     match Symbol::from_chars(&mut chars) {
@@ -66,7 +66,7 @@ fn first(text: &str, answer: &mut Answer) {
     answer.add_text(chars.as_str());
 }
 
-/// The symbols of a text with a bar after each, and what ended them.
+/// Adds the symbols of a text with a bar after each, and what ended them.
 fn each(text: &str, answer: &mut Answer) {
     let mut symbols = Symbols::new(text.chars());
     for _ in 0..=text.len() {
@@ -86,7 +86,7 @@ fn each(text: &str, answer: &mut Answer) {
     }
 }
 
-/// The symbol that a text is.
+/// Returns the symbol that a text is.
 fn symbol_of(octets: &[u8], answer: &mut Answer) -> Symbol {
     let mut chars = str::from_utf8(octets).unwrap_or("").chars();
     match Symbol::from_chars(&mut chars) {
@@ -119,7 +119,7 @@ fn character(octets: &[u8], answer: &mut Answer) {
     }
 }
 
-/// The value of a symbol as a digit to a base.
+/// Adds the value of a symbol as a digit to a base.
 fn digit((octets, base): (&[u8], usize), answer: &mut Answer) {
     if base < 2 || base > 36 {
         return answer.fail(Failure::BadInputs);
@@ -130,7 +130,7 @@ fn digit((octets, base): (&[u8], usize), answer: &mut Answer) {
     }
 }
 
-/// Whether a character that stands for itself is one of a word.
+/// Adds whether a plain character may be part of a word.
 fn is_plain_word_char(text: &str, answer: &mut Answer) {
     let mut chars = text.chars();
     match (chars.next(), chars.next()) {
@@ -139,7 +139,7 @@ fn is_plain_word_char(text: &str, answer: &mut Answer) {
     }
 }
 
-/// Whether a character, alone in octets, is read as itself.
+/// Returns whether a character, alone in octets, is parsed as itself.
 fn is_itself(c: char) -> bool {
     let mut buffer = [0; 4];
     let text = c.encode_utf8(&mut buffer);
@@ -147,7 +147,7 @@ fn is_itself(c: char) -> bool {
     read == Ok(Some((Symbol::Char(c), text.len())))
 }
 
-/// How many characters from one number to another are read as themselves.
+/// Adds how many characters from one number to another are parsed as themselves.
 fn walk((first, last): (&[u8], &[u8]), answer: &mut Answer) {
     let (Some(first), Some(last)) = (number_of(first), number_of(last)) else {
         return answer.fail(Failure::BadInputs);
@@ -190,7 +190,7 @@ fn print<F: Form>(octets: &[u8], answer: &mut Answer) {
     answer.add_shown(&in_form::<F>(octets));
 }
 
-/// The symbols of an octet in the plain, the quoted and the unquoted form, with bars between.
+/// Adds the symbols of an octet in the plain, the quoted and the unquoted form, separated by bars.
 fn from_octet(octets: &[u8], answer: &mut Answer) {
     let [octet] = octets else {
         return answer.fail(Failure::BadInputs);

@@ -1,4 +1,4 @@
-//! How many pieces a long text has, of parts that are repeated.
+//! The number of pieces of a long text of repeated parts.
 use super::zone::add_fault;
 use dns_split::opening::{outermost_open, outermost_open_of_octets};
 use dns_split::pieces::{Fault, Piece, Pieces, Span, Wrong};
@@ -8,8 +8,8 @@ use row_table::{Answer, Failure};
 use std::alloc::Allocator;
 use std::str;
 
-/// How many pieces of each kind, how many octets the words and quoted texts have and how many the
-/// comments, and the fault.
+/// The number of pieces of each kind, of the octets of words and quoted strings and of those of
+/// comments, and the error.
 #[derive(Clone, Copy, PartialEq, Eq)]
 struct Tally {
     words: usize,
@@ -60,7 +60,7 @@ fn tally_of(pieces: Pieces) -> Tally {
     tally
 }
 
-/// How many tokens there are, and how many octets they have.
+/// Returns the number of tokens, and of their octets.
 fn count_tokens<A: Allocator>(entries: &[Vec<String<A>, A>]) -> (usize, usize) {
     let (mut tokens, mut octets) = (0, 0);
     for entry in entries {
@@ -72,7 +72,7 @@ fn count_tokens<A: Allocator>(entries: &[Vec<String<A>, A>]) -> (usize, usize) {
     (tokens, octets)
 }
 
-/// A text splits into as many entries and tokens, or not at the same place.
+/// Checks that a text splits into the same number of entries and tokens, or has the same error.
 fn check_split(text: &str, tally: Tally, answer: &mut Answer) {
     match split(answer.alloc(), text) {
         Ok(entries) => {
@@ -87,7 +87,7 @@ fn check_split(text: &str, tally: Tally, answer: &mut Answer) {
     }
 }
 
-/// A number and what is counted.
+/// Adds a number and the name of what is counted.
 fn add_count(number: usize, name: &str, answer: &mut Answer) {
     answer.add_number(number);
     answer.add_text(name);
@@ -105,7 +105,7 @@ fn add_tally(tally: Tally, answer: &mut Answer) {
     }
 }
 
-/// Where a parenthesis was opened that is left open, if that is the fault.
+/// Adds the position of the outermost open parenthesis, if that is the error.
 fn add_open(octets: &[u8], tally: Tally, answer: &mut Answer) {
     if !matches!(tally.fault, Some(fault) if fault.wrong == Wrong::OpenParenthesis) {
         return;
@@ -131,7 +131,7 @@ fn tally_octets(octets: &[u8], answer: &mut Answer) {
     add_open(octets, found, answer);
 }
 
-/// The octets of parts, each repeated by a number.
+/// Returns the octets of parts, each repeated by a number.
 pub fn repeated(answer: &Answer, inputs: &[Vec<u8>]) -> Result<Vec<u8>, Failure> {
     let mut octets = Vec::new(answer.alloc());
     for pair in inputs.chunks(2) {
@@ -148,7 +148,7 @@ pub fn repeated(answer: &Answer, inputs: &[Vec<u8>]) -> Result<Vec<u8>, Failure>
     Ok(octets)
 }
 
-/// How many pieces the octets have of parts, each so many times.
+/// Adds the number of pieces of repeated parts.
 pub fn tally_parts(inputs: &[Vec<u8>], answer: &mut Answer) {
     match repeated(answer, inputs) {
         Ok(octets) => tally_octets(octets.as_slice(), answer),
@@ -156,7 +156,7 @@ pub fn tally_parts(inputs: &[Vec<u8>], answer: &mut Answer) {
     }
 }
 
-/// How many entries and tokens a text splits into, and how many octets these have.
+/// Adds the number of entries and tokens that a text splits into, and of the tokens' octets.
 fn split_text(text: &str, answer: &mut Answer) {
     match split(answer.heap(), text) {
         Ok(entries) => {
@@ -169,7 +169,7 @@ fn split_text(text: &str, answer: &mut Answer) {
     }
 }
 
-/// The same of parts, each so many times.
+/// Adds the same for repeated parts.
 pub fn split_parts(inputs: &[Vec<u8>], answer: &mut Answer) {
     match repeated(answer, inputs) {
         Ok(octets) => split_text(str::from_utf8(octets.as_slice()).unwrap_or(""), answer),

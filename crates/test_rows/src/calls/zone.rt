@@ -1,4 +1,4 @@
-//! Zone text: how it splits, and its layouts.
+//! Zone files: how they split, and their layouts.
 use super::{pieces, tally};
 use dns_split::entry_tokens::{EntryPart, EntryToken, EntryTokens, NextEntryError};
 use dns_split::opening::{outermost_open, outermost_open_of_octets};
@@ -40,7 +40,7 @@ fn is_one_token(text: &str, answer: &mut Answer) {
     answer.add_bool(is_token(text));
 }
 
-/// The tokens of an entry with a bar after each, and a slash.
+/// Adds the tokens of an entry with a bar after each, and a slash.
 fn add_entry(tokens: &[String<&Heap>], answer: &mut Answer) {
     for token in tokens {
         answer.add_text(token.as_str());
@@ -49,7 +49,7 @@ fn add_entry(tokens: &[String<&Heap>], answer: &mut Answer) {
     answer.add_text("/");
 }
 
-/// The same of a piece.
+/// Adds the same for a piece.
 fn add_piece(text: &str, piece: Piece, answer: &mut Answer) {
     match piece {
         Piece::Word(part) | Piece::Quote(part) => {
@@ -61,7 +61,7 @@ fn add_piece(text: &str, piece: Piece, answer: &mut Answer) {
     }
 }
 
-/// The entries of a text by the cursor, up to a fault.
+/// Adds the entries of a text by the iterator, up to an error.
 fn split_by_pieces(text: &str, answer: &mut Answer) {
     for piece in Pieces::new(text) {
         match piece {
@@ -71,7 +71,7 @@ fn split_by_pieces(text: &str, answer: &mut Answer) {
     }
 }
 
-/// The entries of a text, as `split` and as the cursor give them.
+/// Adds the entries of a text by `split`, and checks those of the iterator.
 fn split_text(text: &str, answer: &mut Answer) {
     match split(answer.heap(), text) {
         Ok(entries) => {
@@ -86,7 +86,7 @@ fn split_text(text: &str, answer: &mut Answer) {
     answer.check_same(&other);
 }
 
-/// A name and two numbers, with spaces between.
+/// Adds a name and two numbers, separated by spaces.
 fn add_span(name: &str, span: Span, answer: &mut Answer) {
     answer.add_text(name);
     answer.add_number(span.start);
@@ -106,7 +106,7 @@ pub fn add_named_piece(piece: Piece, answer: &mut Answer) {
     }
 }
 
-/// What is wrong.
+/// Returns the name of the cause of an error.
 pub fn wrong_name(wrong: Wrong) -> &'static str {
     match wrong {
         Wrong::Closing => "closing",
@@ -127,7 +127,7 @@ pub fn add_fault(fault: Fault, answer: &mut Answer) {
     answer.add_number(fault.at);
 }
 
-/// A token after its place and a colon, or a plus if it is glued, with a bar after it.
+/// Adds a token after its offset and a colon, or a plus if it is adjacent, with a bar after it.
 fn add_entry_token(token: EntryToken, answer: &mut Answer) {
     let quote = if token.is_quoted { "\"" } else { "" };
     answer.add_number(token.at);
@@ -138,12 +138,12 @@ fn add_entry_token(token: EntryToken, answer: &mut Answer) {
     answer.add_text("|");
 }
 
-/// A slash, after a line if the entry began with a blank.
+/// Adds a slash, after `_` if the entry began with a blank.
 fn add_entry_end(end: EndOfEntry, answer: &mut Answer) {
     answer.add_text(if end.begins_blank { "_/" } else { "/" });
 }
 
-/// The entries of octets token by token, up to a fault.
+/// Adds the entries of octets token by token, up to an error.
 fn entries_by_tokens(octets: &[u8], answer: &mut Answer) {
     let mut left = EntryTokens::of_octets(octets);
     let mut is_blank = None;
@@ -172,7 +172,7 @@ fn entries_by_tokens(octets: &[u8], answer: &mut Answer) {
     }
 }
 
-/// The same an entry at a time.
+/// Does the same an entry at a time.
 fn entries_at_once(octets: &[u8], answer: &mut Answer) {
     let mut tokens = Vec::new(answer.heap());
     let mut left = EntryTokens::of_octets(octets);
@@ -202,7 +202,7 @@ fn token_content(token: &str, answer: &mut Answer) {
     answer.add_text(content(token));
 }
 
-/// Where the outermost parenthesis stands that is left open.
+/// Adds the offset of the outermost open parenthesis.
 fn open(octets: &[u8], answer: &mut Answer) {
     let open = outermost_open_of_octets(octets);
     match open {
@@ -214,14 +214,14 @@ fn open(octets: &[u8], answer: &mut Answer) {
     }
 }
 
-/// A line and a column.
+/// Adds a line and a column.
 pub fn add_position(position: Position, answer: &mut Answer) {
     answer.add_number(position.line);
     answer.add_text(":");
     answer.add_number(position.column);
 }
 
-/// The line and the column of a place, as octets.
+/// Adds the line and the column of an offset, in octets.
 fn position((octets, place): (&[u8], usize), answer: &mut Answer) {
     if place > octets.len() {
         return answer.fail(Failure::BadInputs);
@@ -229,7 +229,7 @@ fn position((octets, place): (&[u8], usize), answer: &mut Answer) {
     add_position(line_and_column_of_octets(octets, place), answer);
 }
 
-/// The line and the column of a place, in characters of a text.
+/// Adds the line and the column of an offset, in characters of a text.
 fn text_position((octets, place): (&[u8], usize), answer: &mut Answer) {
     match str::from_utf8(octets) {
         Ok(text) if text.is_char_boundary(place) => {
@@ -239,7 +239,7 @@ fn text_position((octets, place): (&[u8], usize), answer: &mut Answer) {
     }
 }
 
-/// The item that a word means: a parenthesis, a line end, a comment, and else a token.
+/// Returns the item that a word denotes: a parenthesis, a line end, a comment, or else a token.
 fn item<'a>(heap: &'a Heap, word: &str) -> Result<Item<&'a Heap>, AllocError> {
     Ok(match word {
         "(" => Item::Begin,
@@ -264,7 +264,7 @@ pub fn items<'a>(
     Ok(items)
 }
 
-/// The tokens of words with a bar after each, and a slash at each line's end.
+/// Adds the tokens of words with a bar after each, and a slash at each line end.
 fn add_words(words: &[Vec<u8>], answer: &mut Answer) {
     for word in words {
         match word.as_slice() {
@@ -279,7 +279,7 @@ fn add_words(words: &[Vec<u8>], answer: &mut Answer) {
     answer.add_text("/");
 }
 
-/// A layout of words splits into their entries.
+/// Checks that a layout of words splits into their entries.
 pub fn check_entries(text: &str, words: &[Vec<u8>], answer: &mut Answer) {
     let mut wanted = answer.another();
     add_words(words, &mut wanted);
@@ -291,7 +291,7 @@ pub fn check_entries(text: &str, words: &[Vec<u8>], answer: &mut Answer) {
     }
 }
 
-/// Whether a value prints a text, or a beginning of it where memory is lacking.
+/// Returns whether a value prints a text, or a prefix of it if an allocation fails.
 fn is_printed(heap: &Heap, value: &impl fmt::Display, wanted: &str) -> bool {
     let mut out = String::new(heap);
     match write!(out, "{value}") {
@@ -300,7 +300,7 @@ fn is_printed(heap: &Heap, value: &impl fmt::Display, wanted: &str) -> bool {
     }
 }
 
-/// What a document of words prints, as a text of its own and into one.
+/// Adds what a document of words prints, as a separate text and into one.
 fn print(value: &impl fmt::Display, words: &[Vec<u8>], answer: &mut Answer) {
     answer.add_shown(value);
     let Ok(text) = value.to_string(answer.heap()) else {
@@ -313,7 +313,7 @@ fn print(value: &impl fmt::Display, words: &[Vec<u8>], answer: &mut Answer) {
     check_entries(text.as_str(), words, answer);
 }
 
-/// Whether an item is that of a word.
+/// Returns whether an item is that of a word.
 fn is_item(item: &Item<&Heap>, word: &[u8]) -> bool {
     match item {
         Item::Begin => matches!(word, [b'(']),
@@ -324,7 +324,7 @@ fn is_item(item: &Item<&Heap>, word: &[u8]) -> bool {
     }
 }
 
-/// Whether items are those of words.
+/// Returns whether items are those of words.
 fn are_items(items: &[Item<&Heap>], words: &[Vec<u8>]) -> bool {
     for (item, word) in items.iter().zip(words) {
         if !is_item(item, word.as_slice()) {
@@ -334,7 +334,7 @@ fn are_items(items: &[Item<&Heap>], words: &[Vec<u8>]) -> bool {
     items.len() == words.len()
 }
 
-/// The text of a document of words in a layout.
+/// Adds the text of a document of words in a layout.
 fn layout(kind: DisplayKind, words: &[Vec<u8>], answer: &mut Answer) {
     let Ok(items) = items(answer.heap(), words) else {
         return answer.fail_for_memory();
@@ -348,7 +348,8 @@ fn layout(kind: DisplayKind, words: &[Vec<u8>], answer: &mut Answer) {
     }
 }
 
-/// Whether a sink with a limit of writes takes all of a value's text; else it has a beginning of it.
+/// Returns whether a sink with a limit of writes accepts all of a value's text; else it has a
+/// prefix of it.
 fn takes(value: &impl fmt::Display, text: &str, writes: usize, answer: &mut Answer) -> bool {
     let mut sink = Sink::new(answer.alloc(), writes);
     let is_taken = write!(sink, "{value}").is_ok();
@@ -361,7 +362,7 @@ fn takes(value: &impl fmt::Display, text: &str, writes: usize, answer: &mut Answ
     is_taken
 }
 
-/// The text of a document of words, each of whose writes fails in turn.
+/// Adds the text of a document of words, each of whose writes fails in turn.
 fn print_failing(kind: DisplayKind, words: &[Vec<u8>], answer: &mut Answer) {
     let Ok(items) = items(answer.heap(), words) else {
         return answer.fail_for_memory();
@@ -385,7 +386,7 @@ fn print_failing(kind: DisplayKind, words: &[Vec<u8>], answer: &mut Answer) {
     answer.add_text(text.as_str());
 }
 
-/// The same, after the name of a layout.
+/// Does the same, after the name of a layout.
 fn failing(inputs: &[Vec<u8>], answer: &mut Answer) {
     let [kind, words @ ..] = inputs else {
         return answer.fail(Failure::BadInputs);

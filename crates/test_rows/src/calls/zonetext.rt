@@ -1,4 +1,4 @@
-//! What is done with zone files.
+//! The commands over zone files.
 ghost use Rattle.std.specs.Prelude.{◌+◌, ◌<◌, ◌^◌, length};
 
 use super::zone::{add_position, wrong_name};
@@ -29,10 +29,10 @@ pub fn call(name: &str, inputs: &Inputs, answer: &mut Answer) {
     }
 }
 
-/// The most octets of a row's input.
+/// Maximum number of octets of a row's input.
 const MOST: usize = 1 << 24;
 
-/// Octets of which there are not too many.
+/// Returns octets, unless there are too many.
 fn few<'a>(octets: &'a [u8], answer: &mut Answer) -> &'a [u8]
     ensures { length result.now < 2 ^ 62 }
 {
@@ -43,7 +43,7 @@ fn few<'a>(octets: &'a [u8], answer: &mut Answer) -> &'a [u8]
     octets
 }
 
-/// A number of lines that is not too large.
+/// Returns a number of lines, unless it is too large.
 fn few_lines(lines: usize, answer: &mut Answer) -> usize
     ensures { result < 2 ^ 62 }
 {
@@ -54,7 +54,7 @@ fn few_lines(lines: usize, answer: &mut Answer) -> usize
     lines
 }
 
-/// A fault's position and reason, its place, and the position of what is left open.
+/// Adds an error's position and cause, its offset, and the position of the unclosed opener.
 fn add_found(found: Found, answer: &mut Answer) {
     add_position(found.position, answer);
     answer.add_text(" ");
@@ -67,7 +67,7 @@ fn add_found(found: Found, answer: &mut Answer) {
     }
 }
 
-/// Adds a block, and once more where memory was lacking.
+/// Adds a chunk, and repeats that if an allocation failed.
 fn add_again<A: Allocator>(checker: &mut Checker<A>, block: &[u8]) -> Result<(), Halt> {
     match checker.add(block) {
         Err(Halt::OutOfMemory) => checker.add(block),
@@ -75,7 +75,7 @@ fn add_again<A: Allocator>(checker: &mut Checker<A>, block: &[u8]) -> Result<(),
     }
 }
 
-/// Octets in blocks of a length.
+/// Checks octets in chunks of a length.
 fn check_blocks<A: Allocator>(alloc: A, octets: &[u8], size: usize) -> Result<(), Halt>
     requires { 0 < size }
 {
@@ -93,7 +93,7 @@ fn add_check(checked: Result<(), Found>, answer: &mut Answer) {
     }
 }
 
-/// Whether octets are zone text, whole and in blocks of any length.
+/// Adds whether octets are of the grammar, whole and in chunks of any length.
 fn check_octets(octets: &[u8], answer: &mut Answer)
     requires { length octets.now + 2 < 2 ^ 64 }
 {
@@ -106,13 +106,13 @@ fn check_octets(octets: &[u8], answer: &mut Answer)
     add_check(whole, answer);
 }
 
-/// Whether octets are zone text that stand after so many lines.
+/// Adds whether octets after a number of lines are of the grammar.
 fn check_after((octets, lines): (&[u8], usize), answer: &mut Answer) {
     let checked = check(few(octets, answer), few_lines(lines, answer));
     add_check(checked, answer);
 }
 
-/// Adds a block, and once more where memory was lacking.
+/// Adds a chunk, and repeats that if an allocation failed.
 fn write_again<A: Allocator>(
     writer: &mut Writer<A>,
     block: &[u8],
@@ -128,7 +128,7 @@ fn write_again<A: Allocator>(
     }
 }
 
-/// Writes what is left, and once more where memory was lacking.
+/// Writes the rest, and repeats that if an allocation failed.
 fn finish_again<A: Allocator>(writer: &Writer<A>, out: &mut Vec<u8, A>) -> Result<(), Halt> {
     let before = out.len();
     match writer.finish(out) {
@@ -140,7 +140,7 @@ fn finish_again<A: Allocator>(writer: &Writer<A>, out: &mut Vec<u8, A>) -> Resul
     }
 }
 
-/// What is written of octets in blocks of a length.
+/// Returns the output for octets in chunks of a length.
 fn write_blocks<A: Allocator>(
     alloc: A,
     output: Output,
@@ -157,7 +157,7 @@ fn write_blocks<A: Allocator>(
     finish_again(&writer, out)
 }
 
-/// What is written of whole octets that stand after so many lines.
+/// Returns the output for whole octets after a number of lines.
 fn write_whole<'a>(
     output: Output,
     octets: &[u8],
@@ -172,14 +172,14 @@ fn write_whole<'a>(
     }
 }
 
-/// What was written of octets, and how it ended.
+/// The output for octets, and its end.
 #[derive(Clone, Copy)]
 struct Written<'a> {
     octets: &'a [u8],
     end: Result<(), Halt>,
 }
 
-/// Whether blocks of another length are written alike.
+/// Returns whether chunks of another length have the same output.
 fn is_alike(alloc: Global, output: Output, octets: &[u8], size: usize, wanted: &Written) -> bool
     requires { 0 < size }
 {
@@ -188,7 +188,8 @@ fn is_alike(alloc: Global, output: Output, octets: &[u8], size: usize, wanted: &
     end == wanted.end && *out.as_slice() == *wanted.octets
 }
 
-/// Whether whole octets are written alike, but perhaps before a fault, or lack memory.
+/// Returns whether whole octets have the same output, except before an error, or an allocation
+/// fails.
 fn is_whole(heap: &Heap, output: Output, octets: &[u8], wanted: &Written) -> bool
     requires { length octets.now + 2 < 2 ^ 64 }
 {
@@ -201,7 +202,7 @@ fn is_whole(heap: &Heap, output: Output, octets: &[u8], wanted: &Written) -> boo
     }
 }
 
-/// Lines have the entries of the octets.
+/// Checks that lines have the entries of the octets.
 fn check_lines(output: Output, octets: &[u8], lines: &[u8], answer: &mut Answer)
     requires ours { length octets.now + 2 < 2 ^ 64 }
     requires theirs { length lines.now + 2 < 2 ^ 64 }
@@ -211,13 +212,13 @@ fn check_lines(output: Output, octets: &[u8], lines: &[u8], answer: &mut Answer)
     }
 }
 
-/// A bar and the fault after it.
+/// Adds a bar and the error after it.
 fn add_fault(found: Found, answer: &mut Answer) {
     answer.add_text("|");
     add_found(found, answer);
 }
 
-/// Adds octets, and the fault after them.
+/// Adds octets, and the error after them.
 fn add_written(written: Written, answer: &mut Answer) {
     answer.add(written.octets);
     match written.end {
@@ -227,7 +228,7 @@ fn add_written(written: Written, answer: &mut Answer) {
     }
 }
 
-/// What is written of octets, in blocks of any length, and the fault after it.
+/// Adds the output for octets, in chunks of any length, and the error after it.
 fn write(output: Output, inputs: &Inputs, answer: &mut Answer) {
     let octets = few(inputs.octets(answer), answer);
     let heap = answer.heap();
@@ -247,8 +248,8 @@ fn write(output: Output, inputs: &Inputs, answer: &mut Answer) {
     add_written(written, answer);
 }
 
-/// What is written of octets that stand after so many lines, and the fault after it. Of lines
-/// before a fault nothing is said.
+/// Adds the output for octets after a number of lines, and the error after it. Lines before an
+/// error are unspecified.
 fn write_after(output: Output, inputs: &Inputs, answer: &mut Answer) {
     let (octets, lines) = inputs.octets_and_number(answer);
     let mut out = Vec::new(answer.heap());
@@ -267,7 +268,7 @@ fn write_after(output: Output, inputs: &Inputs, answer: &mut Answer) {
     }
 }
 
-/// Adds a block on one side, and once more where memory was lacking.
+/// Adds a chunk of one file, and repeats that if an allocation failed.
 fn add_twice<A: Allocator + Copy>(
     comparer: &mut Comparer<A>,
     side: Side,
@@ -279,7 +280,7 @@ fn add_twice<A: Allocator + Copy>(
     }
 }
 
-/// Adds a block of a length on one side, if more is wanted there. What is left.
+/// Adds a chunk of a length of one file, if more of it is needed. Returns the rest.
 fn add_block<'o, A: Allocator + Copy>(
     comparer: &mut Comparer<A>,
     side: Side,
@@ -294,7 +295,7 @@ fn add_block<'o, A: Allocator + Copy>(
     Ok(rest)
 }
 
-/// How two texts compare that come in blocks of a length, until no more is wanted of either.
+/// Returns how two texts compare in chunks of a length, until no more of either is needed.
 fn compare_blocks<A: Allocator + Copy>(
     alloc: A,
     one: &[u8],
@@ -335,7 +336,7 @@ fn add_comparison(comparison: Comparison, answer: &mut Answer) {
     }
 }
 
-/// Where two zone texts differ first, whole and in blocks of any length.
+/// Adds the first positions at which two zone files differ, whole and in chunks of any length.
 fn compare((one, other): (&[u8], &[u8]), answer: &mut Answer) {
     let comparison = diff(few(one, answer), few(other, answer));
     for size in 1..=one.len().max(other.len()) {
@@ -345,7 +346,7 @@ fn compare((one, other): (&[u8], &[u8]), answer: &mut Answer) {
     add_comparison(comparison, answer);
 }
 
-/// The hunks of a unified diff of two texts that come in blocks of a length.
+/// Returns the hunks of a unified diff of two texts in chunks of a length.
 fn unified_blocks(alloc: Global, old: &[u8], new: &[u8], size: usize) -> Result<Vec<u8>, AllocError>
     requires { 0 < size }
 {
@@ -363,7 +364,7 @@ fn unified_blocks(alloc: Global, old: &[u8], new: &[u8], size: usize) -> Result<
     Ok(out)
 }
 
-/// The hunks of a unified diff, whatever the blocks.
+/// Adds the hunks of a unified diff, whatever the chunks.
 fn unified((old, new): (&[u8], &[u8]), answer: &mut Answer) {
     let Ok(hunks) = unified_blocks(answer.alloc(), old, new, 1) else {
         return answer.fail_for_memory();
