@@ -1,4 +1,4 @@
-"""The pieces of zone text by its grammar (docs/RULES.md), for octets of which each is a character."""
+"""Parses the pieces of a zone file by its grammar (docs/RULES.md), for octets of which each is a character."""
 
 BLANKS = b" \t"
 ENDS_LINE = b"\r\n"
@@ -10,7 +10,7 @@ def digit(octets, at):
 
 
 def after_escape(octets, at):
-    """The place after the escape whose backslash stands there, or None and the place of its fault."""
+    """Returns the offset after the escape at an offset, or None and the offset of its error."""
     at += 1
     if at >= len(octets) or not 0x20 <= octets[at] <= 0x7E:
         return None, min(at, len(octets))
@@ -19,7 +19,7 @@ def after_escape(octets, at):
     number = 0
     for weight in (100, 10, 1):
         found = digit(octets, at)
-        # (what is left of 255 after the digits before)
+        # (what remains of 255 after the digits before)
         if found is None or number + found * weight > 255:
             return None, min(at, len(octets))
         number += found * weight
@@ -28,7 +28,7 @@ def after_escape(octets, at):
 
 
 def after_text(octets, at, ends):
-    """The place of the first octet of ends from there on that no escape takes, or None and a fault."""
+    """Returns the offset of the first octet of ends from there on outside escapes, or None and an error."""
     while at < len(octets) and octets[at] not in ends:
         if octets[at] == 0x5C:
             at, fault = after_escape(octets, at)
@@ -40,7 +40,8 @@ def after_text(octets, at, ends):
 
 
 def pieces(octets):
-    """Yields ('word', 0, 1), ('quote', 2, 5), ('comment', 6, 8), ('end', 9), ('blank', 9) and, last, a fault, as ('closing', 9)."""
+    """Yields ('word', 0, 1), ('quote', 2, 5), ('comment', 6, 8), ('end', 9), ('blank', 9) and, last, an error,
+    such as ('closing', 9)."""
     at = depth = began = 0
     size = len(octets)
 
@@ -70,7 +71,7 @@ def pieces(octets):
         elif octet == 0x3B:
             while at < size and octets[at] not in ENDS_LINE:
                 at += 1
-            # (what a fault cuts off may go on, and isn't given)
+            # (a piece that ends at the error might be longer, and isn't yielded)
             if at < size or not depth:
                 yield "comment", start, at
         elif octet == 0x22:
@@ -95,7 +96,7 @@ def pieces(octets):
 
 
 def listed(octets):
-    """The pieces as rows have them."""
+    """Returns the pieces as rows have them."""
     text = ""
     for name, *places in pieces(octets):
         if name in ("word", "quote", "comment"):
@@ -110,7 +111,7 @@ def listed(octets):
 
 
 def split(octets):
-    """The tokens with a bar after each, and a slash after each entry, or None where there is a fault."""
+    """Returns the tokens with a bar after each, and a slash after each entry, or None if there is a syntax error."""
     text = b""
     for name, *places in pieces(octets):
         if name in ("word", "quote"):
@@ -123,7 +124,7 @@ def split(octets):
 
 
 def tallied(octets):
-    """How many pieces there are, and the fault, without what is left open."""
+    """Returns the number of pieces, and the error, without the position of its opener."""
     count = dict.fromkeys(("word", "quote", "comment", "end", "blank"), 0)
     size, fault = 0, ""
     for name, *places in pieces(octets):
