@@ -1,6 +1,6 @@
 #!/bin/sh
-# Makes the library, runs every row, and puts the tables and the chart into ../docs. Best run where
-# nothing else does. Words given to it go to `rt lib`.
+# Builds the library, runs every row, and writes the tables and the chart into ../docs. Run it on an idle
+# computer. Its arguments are passed to `rt lib`.
 set -e
 cd "$(dirname "$0")"
 ./make_library.sh "$@"

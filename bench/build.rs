@@ -1,4 +1,4 @@
-//! Links the static library that `make_library.sh` makes.
+//! Links the static library that `make_library.sh` builds.
 use std::env;
 use std::path::PathBuf;
 

@@ -1,7 +1,7 @@
 #!/bin/sh
-# Makes the static library that the benchmark times: one crate over everything, in a copy of the
-# crates under target/, since it is no part of what is proved and tested. Words given to it go to
-# `rt lib`. The program `dnstext`, whose memory is measured, is built beside it.
+# Builds the static library that the benchmark times: one crate over all others, in a copy of the crates
+# under target/, since it isn't proved and tested. Its arguments are passed to `rt lib`. The program
+# `dnstext`, whose memory is measured, is built beside it.
 set -e
 cd "$(dirname "$0")"
 space=target/library

@@ -1,5 +1,5 @@
-/* Reads all records of a zone file with the C library, and prints how many there are and the microseconds
- * of processor time that took: reading FILE */
+/* Parses all records of a zone file with the C library, and prints their number and the microseconds of
+ * processor time: reading FILE */
 #include <dnstext.h>
 #include <stdio.h>
 #include <stdlib.h>
@@ -7,7 +7,7 @@
 
 static uint8_t octets[65535];
 
-/* The octets of a file, of which there are this many. */
+/* Returns the octets of a file, and stores their number in `length`. */
 static uint8_t *read_all(const char *path, size_t *length) {
     FILE *file = fopen(path, "rb");
     uint8_t *text = NULL;

@@ -4,12 +4,12 @@
 usage: bench/tools.py [--turns N] [--folder DIR] [--pages]
 
 The program must be built (`rt run` in crates/zonetext), and the C library (`make -C c`) for the rows of C
-and Rust; a peer that is not installed is left out. Zone files are made below DIR, `bench/target/zones`,
+and Rust; a peer that isn't installed is skipped. Zone files are generated below DIR, `bench/target/zones`,
 the same in each run: `mix` (SOA, NS, A, AAAA, MX, TXT, DS, CNAME), `com` (delegations), `signed` (A,
-RRSIG, NSEC3) of 10.5 MB, and `mix` of 1 KB to 100 MB. A figure is processor time, the least of N turns
-(9) in turns, of a peer the least of 3, of dnspython of 1; instructions are counted by callgrind, on `mix`
-of 1 MB. Prints the tables; with --pages puts them into docs/SPEED.md and docs/ZONETEXT.md, and the chart
-into docs/tools.svg.
+RRSIG, NSEC3) of 10.5 MB, and `mix` of 1 KB to 100 MB. A figure is processor time, the minimum of N turns
+(9) in alternation, of a peer the minimum of 3, of dnspython of 1; instructions are counted by callgrind, on
+`mix` of 1 MB. Prints the tables; with --pages writes them into docs/SPEED.md and docs/ZONETEXT.md, and the
+chart into docs/tools.svg.
 """
 import argparse
 import base64
@@ -26,7 +26,7 @@ from urllib.parse import unquote_to_bytes
 TOP = os.path.dirname(os.path.dirname(os.path.abspath(__file__)))
 ZONETEXT = os.path.join(TOP, "crates/zonetext/out/zonetext")
 ZONE = "example."
-# What + stands for in zones.tsv.
+# The meaning of + in zones.tsv.
 FRONT = b"$TTL 60\n@ SOA ns h 1 2 3 4 5\n@ NS ns\nns A 192.0.2.1\n"
 HEAD = ("$ORIGIN example.\n$TTL 3600\n@ IN SOA ns1.example. host.example. 1 7200 3600 1209600 3600\n"
         "@ IN NS ns1.example.\nns1 IN A 192.0.2.1\n")
@@ -42,7 +42,7 @@ PEERS = {
     "ldns-read-zone -z": ["ldns-read-zone", "-z"],
 }
 CUT = 'rm -f "$2"-cut*; exec "$1" cut 4 "$2" -o "$2"-cut'
-# Programs that read all records, and print how many there are and the microseconds that took.
+# Programs that parse all records, and print their number and the microseconds.
 READERS = {"`dnstext_record_next`, C": os.path.join(TOP, "bench/target/reading"),
            "`read_records`, Rust": os.path.join(TOP, "bench/target/rust/release/examples/reading")}
 PYTHON = "import dns.zone, sys; dns.zone.from_file(sys.argv[1], sys.argv[2], relativize=False)"
@@ -56,7 +56,7 @@ def hexadecimal(source, count):
 
 
 def mix(source, number):
-    """An entry or two of an ordinary zone."""
+    """Returns an entry or two of an ordinary zone."""
     name = f"host{number}"
     return [
         lambda: f"{name} IN A 192.0.{number >> 8 & 255}.{number & 255}\n",
@@ -71,14 +71,14 @@ def mix(source, number):
 
 
 def com(source, number):
-    """A delegation of two name servers."""
+    """Returns a delegation with two name servers."""
     word = "".join(source.choice("abcdefghijklmnopqrstuvwxyz0123456789") for _ in range(source.randint(4, 16)))
     name = f"{word}{number}"
     return f"{name} NS ns1.{word}.net.\n{name} NS ns2.{word}.net.\n"
 
 
 def signed(source, number):
-    """An address and its NSEC3, each with a signature."""
+    """Returns an address and its NSEC3, each with a signature."""
     name = f"host{number}"
     signature = base64.b64encode(source.randbytes(64)).decode()
     owner, after = ("".join(source.choice(B32HEX) for _ in range(32)) for _ in range(2))
@@ -90,7 +90,7 @@ def signed(source, number):
 
 
 def make_zone(folder, entry, size):
-    """The path of a zone file of about `size` octets, which is made where it isn't there."""
+    """Returns the path of a zone file of about `size` octets, which is generated if it doesn't exist."""
     path = os.path.join(folder, f"{entry.__name__}-{size}")
     if not os.path.exists(path):
         source, number, octets = random.Random(1), 0, len(HEAD)
@@ -104,7 +104,7 @@ def make_zone(folder, entry, size):
 
 
 def make_readers():
-    """Builds the programs in C and Rust over the C library, where there is one."""
+    """Builds the programs in C and Rust over the C library, if there is one."""
     library = os.path.join(TOP, "out/libdnstext.a")
     for path in READERS.values():
         if os.path.exists(path):
@@ -120,7 +120,7 @@ def make_readers():
 
 
 def dnspython():
-    """The words that read a zone with dnspython; none where it is not installed."""
+    """Returns the command that reads a zone with dnspython, or none if it isn't installed."""
     for python in ["python3", "/usr/bin/python3"]:
         if shutil.which(python) and subprocess.run([python, "-c", "import dns.zone"], capture_output=True, check=False).returncode == 0:
             return [python, "-c", PYTHON]
@@ -128,7 +128,7 @@ def dnspython():
 
 
 def processor_time(words):
-    """The seconds that a command takes of a processor, its own and the system's, or that a reader prints."""
+    """Returns the processor seconds of a command, user and system, or those that a reader prints."""
     if words[0] in READERS.values():
         return int(subprocess.run(words, capture_output=True, text=True, check=True).stdout.split()[1]) / 1e6
     child = os.fork()
@@ -142,7 +142,7 @@ def processor_time(words):
 
 
 def peak(words):
-    """The most memory that a command holds, in MB; None where `time` is not installed."""
+    """Returns the peak memory of a command, in MB; None if `time` isn't installed."""
     if not shutil.which("time"):
         return None
     run = subprocess.run([shutil.which("time"), "-f", "%M", *words], stdin=subprocess.DEVNULL,
@@ -151,7 +151,7 @@ def peak(words):
 
 
 def instructions(words):
-    """How many instructions a command runs; None where valgrind is not installed."""
+    """Returns the number of instructions of a command; None if valgrind isn't installed."""
     if not shutil.which("valgrind"):
         return None
     run = subprocess.run(["valgrind", "--tool=callgrind", "--callgrind-out-file=/dev/null", *words], stdin=subprocess.DEVNULL,
@@ -168,7 +168,7 @@ def readers(path):
 
 
 def commands(path):
-    """Name, words and whether it is a peer, of each command over a file."""
+    """Returns name, arguments and whether it is a peer, of each command over a file."""
     listed = [(name, [*words, path], False) for name, words in WC]
     listed += [(f"zonetext {it}", ours(it, path), False) for it in COMMANDS]
     listed += [("zonetext diff", [ZONETEXT, "diff", path, path], False),
@@ -178,7 +178,7 @@ def commands(path):
 
 
 def times(listed, turns):
-    """The least processor time of each command by its name: all in turns, peers in the first three."""
+    """Returns the minimum processor time of each command by its name: all in alternation, peers in the first three."""
     least = {name: float("inf") for name, _, _ in listed}
     for turn in range(turns):
         for name, words, is_peer in listed:
@@ -192,7 +192,7 @@ def number(value, digits=2):
 
 
 def table(files, large, turns):
-    """One row a command: milliseconds on `mix`, the parts of `wc -lw` on each file, and memory."""
+    """Returns one row for each command: milliseconds on `mix`, relative to `wc -lw` on each file, and memory."""
     measured = {name: times(commands(path), turns) for name, path in files.items()}
     rows = ["| Command | ms, `mix` | `mix` | `com` | `signed` | MB, `mix` | MB, 100 MB |", "|---|---|---|---|---|---|---|"]
     for (name, words, _), (_, on_large, is_peer) in zip(commands(files["mix"]), commands(large)):
@@ -203,8 +203,8 @@ def table(files, large, turns):
 
 
 def reading_table(path, small, turns):
-    """One row a reader of records: milliseconds on a file, nanoseconds a record, parts of `wc -lw`, and the
-    instructions an octet of a smaller file."""
+    """Returns one row for each reader of records: milliseconds on a file, nanoseconds per record, relative to
+    `wc -lw`, and the instructions per octet of a smaller file."""
     wanted = ["`wc -lw`", "zonetext check --text", "zonetext check", "zonetext records", "kzonecheck"]
     listed = [it for it in commands(path) if it[0] in wanted] + readers(path)
     least = times(listed, turns)
@@ -223,7 +223,7 @@ def reading_table(path, small, turns):
 
 
 def refused_without_zone(texts):
-    """How many of the zone files of zones.tsv `check` refuses that is told no zone."""
+    """Returns how many of the zone files of zones.tsv `check` rejects without --zone."""
     refused = 0
     with tempfile.TemporaryDirectory() as folder:
         path = os.path.join(folder, "zone")
@@ -236,7 +236,7 @@ def refused_without_zone(texts):
 
 
 def found_by():
-    """Of the zone files of crates/zonetext/zones.tsv: how many `check` and each peer refuse, and of how many."""
+    """Returns how many of the zone files of crates/zonetext/zones.tsv `check` and each peer reject, and their number."""
     with open(os.path.join(TOP, "crates/zonetext/zones.tsv"), encoding="utf-8") as lines:
         rows = [line.rstrip("\n").split("\t") for line in lines if not line.startswith("#")]
     refused = {"zonetext check": refused_without_zone(it[1] for it in rows),
@@ -258,7 +258,7 @@ def peers_table(mix_path, measured):
 
 
 def chart(folder, turns):
-    """Processor time by size, both on a scale of powers of ten."""
+    """Returns a chart of processor time by size, both on logarithmic scales."""
     lines = {}
     for size in SIZES:
         path = make_zone(folder, mix, size)
@@ -297,7 +297,7 @@ def svg(lines):
 
 
 def put(page, mark, rows):
-    """Puts rows between two marks of a page."""
+    """Writes rows between two marks of a page."""
     path = os.path.join(TOP, "docs", page)
     with open(path, encoding="utf-8") as file:
         text = file.read()

@@ -1,4 +1,5 @@
-//! A bar chart of the ratios: the library's time by the plain program's, at the largest size.
+//! Draws a bar chart of the ratios: the library's time relative to the plain program's, at the
+//! largest size.
 use crate::rows::Row;
 use std::fmt::Write;
 
@@ -6,10 +7,10 @@ const LINE: usize = 18;
 
 const LEFT: usize = 330;
 
-/// How wide the ratio 1 is.
+/// Width of the ratio 1, in pixels.
 const WHOLE: f64 = 320.0;
 
-/// The widest bar.
+/// Maximum ratio of a bar.
 const MOST: f64 = 1.5;
 
 pub fn svg(rows: &[Row]) -> String {

@@ -1,4 +1,4 @@
-//! The encodings, beside plain table-driven ones.
+//! Times the encodings, against plain table-driven ones.
 use crate::rows::{Case, Rows};
 use crate::texts;
 use std::cell::RefCell;
@@ -209,7 +209,7 @@ pub mod plain {
         }
     }
 
-    /// How many characters the text of so many octets has.
+    /// Returns the number of characters of the text of `octets` octets.
     fn length(e: &Encoding, octets: usize) -> usize {
         let chars = (octets * 8).div_ceil(e.bits);
         if e.padded {
@@ -233,7 +233,8 @@ pub mod plain {
         Some(octets)
     }
 
-    /// A token symbol by symbol: each has a character, and each group of characters its octets.
+    /// Decodes a token symbol by symbol: each has a character, and each group of characters its
+    /// octets.
     pub fn scan(e: &Encoding, token: &str) -> Option<Vec<u8>> {
         let mut chars = token.chars();
         let mut octets = Vec::new();

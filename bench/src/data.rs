@@ -1,4 +1,4 @@
-//! Record data of a type, from lines of text to octets and back.
+//! Times the RDATA of a type, from presentation format to octets and back.
 mod digits;
 mod entries;
 mod identifiers;
@@ -21,12 +21,12 @@ mod library {
     }
 }
 
-/// The sum of octets.
+/// Returns the sum of octets.
 fn sum_of(octets: &[u8]) -> usize {
     octets.iter().map(|octet| usize::from(*octet)).sum()
 }
 
-/// The data in the lines of a text, each behind its length in two octets.
+/// Parses the RDATA in the lines of a text, and appends each after its length in two octets.
 fn read(code: u16, text: &[u8]) -> Option<Vec<u8>> {
     let text = std::str::from_utf8(text).ok()?;
     let (mut tokens, mut octets) = (Vec::new(), Vec::new());
@@ -45,7 +45,7 @@ fn read(code: u16, text: &[u8]) -> Option<Vec<u8>> {
     Some(octets)
 }
 
-/// The lines as which data print that stand behind their lengths.
+/// Prints RDATA, each of which follows its length, as lines.
 fn print(code: u16, octets: &[u8]) -> Option<String> {
     let mut text = String::new();
     let mut rest = octets;

@@ -1,6 +1,6 @@
-//! Documents: items that are checked, and printed in three layouts.
+//! Times documents: items that are checked, and printed in three layouts.
 //!
-//! The items are made once, and then checked or printed again and again.
+//! The items are built once, and then checked or printed repeatedly.
 use crate::rows::{Case, Rows};
 use crate::texts;
 
@@ -44,7 +44,7 @@ mod plain {
         items
     }
 
-    /// Whether a text is one token.
+    /// Returns whether a text is one token.
     fn is_token(text: &str) -> bool {
         let octets = text.as_bytes();
         if octets.first() == Some(&b'"') {
@@ -55,7 +55,7 @@ mod plain {
         !octets.is_empty() && token_end(octets, 0, ends) == Some(octets.len())
     }
 
-    /// The place of the first item that makes the list no document, if there is one.
+    /// Returns the index of the first item for which the list isn't a document, if there is one.
     pub fn fault(items: &[Item]) -> Option<usize> {
         let mut depth = 0usize;
         for (place, item) in items.iter().enumerate() {
@@ -169,7 +169,7 @@ mod plain {
     }
 }
 
-/// Checks the items of a text so many times, with an end of a block too many after them.
+/// Checks the items of a text `times` times, followed by an end of a block too many.
 fn check(text: &[u8], times: usize) -> usize {
     let mut items = plain::items(text);
     items.push(plain::Item::End);

@@ -1,4 +1,4 @@
-//! The memory that the static library asks its program for, from the C library.
+//! The allocator of the static library: that of the C library.
 
 #[repr(C)]
 pub struct Tried {
@@ -30,7 +30,7 @@ pub extern "C" fn rattle_alloc(n: usize, _align: usize) -> Tried {
 }
 
 /// # Safety
-/// `p` came from this function or `rattle_alloc`, and was not given back.
+/// `p` was returned by this function or `rattle_alloc`, and not freed.
 #[no_mangle]
 pub unsafe extern "C" fn rattle_realloc(
     p: *mut u8,
@@ -42,7 +42,7 @@ pub unsafe extern "C" fn rattle_realloc(
 }
 
 /// # Safety
-/// `p` came from the functions above, and was not given back.
+/// `p` was returned by the functions above, and not freed.
 #[no_mangle]
 pub unsafe extern "C" fn rattle_dealloc(p: *mut u8) {
     unsafe { free(p) }

@@ -1,8 +1,8 @@
-//! Times the proved library beside plain Rust that was written for the comparison, and is ours too.
+//! Times the proved library against plain Rust that we wrote for the comparison.
 //!
-//! `./make_library.sh` makes the library. `cargo run --release` prints the rows, with `--markdown`
-//! as tables, and with `--svg` writes a bar chart into `../docs/speed.svg`. Words after these pick
-//! rows by a part of their names, and then the tables of texts and of memory are left out.
+//! `./make_library.sh` builds the library. `cargo run --release` prints the rows, with `--markdown`
+//! as tables, and with `--svg` writes a bar chart into `../docs/speed.svg`. Arguments after these
+//! select rows by a part of their names, and the tables of texts and of memory are then skipped.
 
 mod chart;
 mod codecs;

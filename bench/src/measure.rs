@@ -1,4 +1,4 @@
-//! Processor times, least of many turns, and the peak of memory.
+//! Measures processor times, the minimum of many turns, and peak memory.
 use std::process::{Child, Command, Stdio};
 
 #[repr(C)]
@@ -29,30 +29,30 @@ const ITSELF: i32 = 0;
 
 const CHILDREN: i32 = -1;
 
-/// Work that is done so many times.
+/// Work that is repeated a number of times.
 pub type Work<'a> = Box<dyn Fn(usize) -> usize + 'a>;
 
-/// The processor time of this process so far, in seconds.
+/// Returns the processor time of this process so far, in seconds.
 fn processor_time() -> f64 {
     let mut time = Time::default();
     assert_eq!(unsafe { clock_gettime(PROCESSOR_TIME, &mut time) }, 0);
     time.seconds as f64 + time.fraction as f64 * 1e-9
 }
 
-/// The processor time of a call, in seconds.
+/// Returns the processor time of a call, in seconds.
 pub fn processor_seconds(call: impl FnOnce() -> usize) -> f64 {
     let start = processor_time();
     std::hint::black_box(call());
     processor_time() - start
 }
 
-/// The length of a turn, in seconds, and how many turns there are.
+/// Length of a turn, in seconds, and number of turns.
 const TURN: f64 = 0.002;
 
 const TURNS: usize = 15;
 
-/// Nanoseconds of processor time an octet, of each work, the least of turns one after another. What
-/// a work does once is taken off.
+/// Returns nanoseconds of processor time per octet, of each work, the minimum of alternating turns.
+/// The time of what a work does once is subtracted.
 pub fn in_turns(octets: usize, works: [&Work; 2]) -> [f64; 2] {
     let once = processor_seconds(|| works[0](1)).max(1e-8);
     let runs = 1 + (TURN / once) as usize;
@@ -73,19 +73,19 @@ fn usage(who: i32) -> Usage {
     usage
 }
 
-/// The processor time of the children that have ended, in seconds.
+/// Returns the processor time of the children that have ended, in seconds.
 fn time_of_children() -> f64 {
     let usage = usage(CHILDREN);
     let of = |time: Time| time.seconds as f64 + time.fraction as f64 * 1e-6;
     of(usage.user) + of(usage.system)
 }
 
-/// The most memory that this process has held, in octets.
+/// Returns the peak memory of this process, in octets.
 pub fn peak() -> usize {
     usage(ITSELF).peak as usize * 1024
 }
 
-/// The most memory that a child has held until its end, in octets.
+/// Returns the peak memory of a child up to its end, in octets.
 pub fn peak_of(child: Child) -> usize {
     let mut usage = Usage::default();
     let mut status = 0;
@@ -95,7 +95,7 @@ pub fn peak_of(child: Child) -> usize {
     usage.peak as usize * 1024
 }
 
-/// The least processor time of a command, of many runs, in seconds.
+/// Returns the minimum processor time of a command, of many runs, in seconds.
 pub fn seconds_of_child(command: &str, arguments: &[&str]) -> f64 {
     let times = (0..40).map(|_| {
         let start = time_of_children();

@@ -1,4 +1,4 @@
-//! The peak of memory beyond the text, each in a process of its own.
+//! Measures peak memory beyond the text, each in a separate process.
 use crate::measure::peak;
 use crate::splitting;
 use crate::texts::zone;
@@ -10,7 +10,7 @@ pub struct Peak {
     pub beyond: usize,
 }
 
-/// Runs an operation on a file, and prints the peak of memory beyond its text.
+/// Runs an operation on a file, and prints the peak memory beyond its text.
 pub fn run(operation: &str, file: &str) {
     let text = std::fs::read(file).expect("the file is read");
     let before = peak();
@@ -23,9 +23,10 @@ pub fn run(operation: &str, file: &str) {
     println!("{}", peak() - before);
 }
 
-/// The peak of the program `dnstext`, and how many octets it printed.
+/// Returns the peak memory of the program `dnstext`, and the number of octets that it printed.
 ///
-/// The indent after each comment is as wide as the first token, so a few words make a long text.
+/// The indent after each comment is as wide as the first token, so a few arguments make a long
+/// text.
 fn program() -> Peak {
     let path = concat!(
         env!("CARGO_MANIFEST_DIR"),
@@ -58,7 +59,8 @@ fn program() -> Peak {
     }
 }
 
-/// `split`, the cursor and the plain splitter on some 100 MB, and the program.
+/// Returns the figures of `split`, the iterator and the plain splitter on about 100 MB, and of the
+/// program.
 pub fn rows() -> Vec<Peak> {
     let text = zone(1_600_000);
     let path = std::env::temp_dir().join("dnstext-memory.zone");

@@ -1,4 +1,5 @@
-//! Names: read from text, and printed from their wire form; and numbers, scanned from tokens.
+//! Times names, parsed from presentation format and printed from wire format; and numbers, parsed
+//! from tokens.
 use crate::rows::{Case, Rows};
 use crate::symbols::plain::Symbol;
 use crate::texts;
@@ -20,7 +21,7 @@ pub mod plain {
     use crate::symbols::plain::Symbol;
     use std::fmt;
 
-    /// A decimal number, a symbol at a time.
+    /// Parses a decimal number, a symbol at a time.
     pub fn number(text: &str) -> Option<u32> {
         let mut chars = text.chars();
         let mut value = 0u32;
@@ -31,7 +32,7 @@ pub mod plain {
         Some(value)
     }
 
-    /// The wire form of an absolute or a relative name.
+    /// Returns the wire format of an absolute or a relative name.
     pub fn read(text: &str) -> Option<Vec<u8>> {
         if text == "." {
             return Some(vec![0]);
@@ -74,7 +75,7 @@ pub mod plain {
         }
     }
 
-    /// A name that ends in the root.
+    /// A name that ends in the root, for printing.
     pub struct Shown<'a> {
         pub octets: &'a [u8],
         pub symbol: fn(u8) -> Symbol,
@@ -108,7 +109,7 @@ fn read(text: &[u8]) -> usize {
     plain::read(text).map_or(0, |octets| octets.len())
 }
 
-/// Labels of so many octets, and the root, together at most so many.
+/// Returns labels of `label` octets, and the root, at most `octets` in total.
 fn wire(octets: usize, label: usize, make: fn(usize) -> Vec<u8>) -> Vec<u8> {
     let mut wire = Vec::new();
     let letters = make(octets);

@@ -1,4 +1,4 @@
-//! Entry lines, and MX records from text to values and back.
+//! Times entry lines, and MX records from text to values and back.
 use crate::codecs::plain as encodings;
 use crate::names::plain as names;
 use crate::rows::{Case, Rows};
@@ -14,7 +14,7 @@ mod library {
     }
 }
 
-/// A line of a number, octets in base 16 and base 64, and a word.
+/// Prints a line of a number, octets in base 16 and base 64, and a word.
 fn line(octets: &[u8]) -> usize {
     let hex = encodings::encode_string(&encodings::Encoding::encoding16(), octets);
     let base64 = encodings::encode_string(&encodings::Encoding::encoding64(), octets);

@@ -1,7 +1,8 @@
-//! Rows: an operation at three sizes, the library's call and a plain program in turns.
+//! Rows: an operation at three sizes, with alternating turns of the library's call and a plain
+//! program.
 use crate::measure::{in_turns, Work};
 
-/// The same work twice, on so many octets.
+/// The same work by two programs, on a number of octets.
 pub struct Case<'a> {
     pub octets: usize,
     pub ours: Work<'a>,
@@ -9,7 +10,7 @@ pub struct Case<'a> {
 }
 
 impl<'a> Case<'a> {
-    /// Two calls that answer the same.
+    /// Returns a case of two calls with the same result.
     pub fn new(
         octets: usize,
         ours: impl Fn() -> usize + 'a,
@@ -18,7 +19,7 @@ impl<'a> Case<'a> {
         Case::repeated(octets, repeat(ours), repeat(plain))
     }
 
-    /// Two calls that make something once, and then do their work so many times.
+    /// Returns a case of two calls that build something once, and then repeat their work.
     pub fn repeated(
         octets: usize,
         ours: impl Fn(usize) -> usize + 'a,
@@ -42,7 +43,7 @@ fn repeat(call: impl Fn() -> usize) -> impl Fn(usize) -> usize {
     }
 }
 
-/// What was measured of an operation: nanoseconds an octet at each size.
+/// The figures of an operation: nanoseconds per octet at each size.
 pub struct Row {
     pub group: &'static str,
     pub name: String,
@@ -52,7 +53,7 @@ pub struct Row {
 }
 
 impl Row {
-    /// The library's time by the plain program's.
+    /// Returns the library's time relative to the plain program's.
     pub fn ratios(&self) -> [f64; 3] {
         std::array::from_fn(|size| self.ours[size] / self.plain[size])
     }
@@ -71,7 +72,7 @@ impl Rows {
         }
     }
 
-    /// Measures an operation, if it is wanted.
+    /// Measures an operation, if it is selected.
     pub fn add<'a>(&mut self, group: &'static str, name: &str, cases: impl Fn() -> [Case<'a>; 3]) {
         let whole = format!("{group}: {name}");
         if !self.wanted.is_empty() && !self.wanted.iter().any(|it| whole.contains(it.as_str())) {

@@ -1,4 +1,4 @@
-//! Zone text: `split` and the cursor, beside a plain splitter, which is ours too.
+//! Times zone files: `split` and the iterator, against a plain splitter that we wrote.
 use crate::measure::{in_turns, processor_seconds, seconds_of_child, Work};
 use crate::rows::{Case, Rows};
 use crate::texts::{self, zone};
@@ -16,7 +16,7 @@ pub fn cursor(text: &[u8]) -> usize {
     unsafe { dns_text_tokens(text.as_ptr(), text.len()) }
 }
 
-/// The octets of the escape that begins a text, if one does.
+/// Returns the length of the escape at the beginning of a text, if there is one.
 fn escape(text: &[u8]) -> Option<usize> {
     match text.get(1)? {
         b'0'..=b'9' => {
@@ -32,7 +32,7 @@ fn escape(text: &[u8]) -> Option<usize> {
     }
 }
 
-/// The end of a word or of a quoted text that goes on at a place.
+/// Returns the end of a word or of a quoted string that is open at an offset.
 pub fn token_end(text: &[u8], mut at: usize, ends: impl Fn(u8) -> bool) -> Option<usize> {
     while let Some(&octet) = text.get(at) {
         if ends(octet) {
@@ -47,7 +47,7 @@ pub fn token_end(text: &[u8], mut at: usize, ends: impl Fn(u8) -> bool) -> Optio
     Some(at)
 }
 
-/// A splitter as one would write it by hand.
+/// Splits a zone file, as one would write it by hand.
 pub fn plain(text: &str) -> Option<Vec<Vec<String>>> {
     let octets = text.as_bytes();
     let mut found = Vec::new();
@@ -106,14 +106,14 @@ pub fn plain_count(octets: &[u8]) -> usize {
     plain(text).map_or(0, |entries| entries.len())
 }
 
-/// How many tokens a text has, as the plain splitter finds them.
+/// Returns the number of tokens of a text, by the plain splitter.
 fn plain_tokens(octets: &[u8]) -> usize {
     let text = std::str::from_utf8(octets).expect("the text is UTF-8");
     plain(text).map_or(0, |entries| entries.iter().map(Vec::len).sum())
 }
 
-/// The texts of one thing over and over: nanoseconds an octet of the cursor, of `split` and of the
-/// plain splitter.
+/// Returns the figures of texts of one repeated item: nanoseconds per octet of the iterator, of
+/// `split` and of the plain splitter.
 pub fn each_text() -> Vec<(String, [f64; 3])> {
     let texts = texts::texts(1_000_000);
     let times = texts.iter().map(|it| {
@@ -132,7 +132,7 @@ pub fn each_text() -> Vec<(String, [f64; 3])> {
     times
 }
 
-/// The zone of 200,000 lines as multiples of `wc -l`.
+/// Returns the figures of the zone of 200,000 lines, as multiples of `wc -l`.
 fn beside_wc() -> (String, [f64; 3]) {
     let text = zone(200_000);
     let path = std::env::temp_dir().join("dnstext-bench.zone");

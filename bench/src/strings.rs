@@ -1,4 +1,4 @@
-//! Character strings: read from text, and printed in three forms.
+//! Times character strings, parsed from text, and printed in three forms.
 //!
 //! 1 KiB and more are strings of 255 octets, one after another.
 use crate::rows::{Case, Rows};
@@ -53,7 +53,7 @@ pub mod plain {
         }
     }
 
-    /// The octets of a text, if it has at most 255.
+    /// Returns the octets of a text, if it has at most 255.
     pub fn read(text: &str) -> Option<Vec<u8>> {
         let mut chars = text.chars();
         let mut octets = Vec::new();

@@ -1,4 +1,4 @@
-//! Symbols: reading a text, and printing octets symbol by symbol.
+//! Times symbols: parsing a text, and printing octets symbol by symbol.
 use crate::rows::{Case, Rows};
 use crate::texts;
 
@@ -31,7 +31,8 @@ pub mod plain {
     }
 
     impl Symbol {
-        /// The next symbol of some characters: none at their end, and an error at a bad escape.
+        /// Returns the next symbol of some characters, `None` at their end, or an error for a bad
+        /// escape.
         pub fn next(chars: &mut std::str::Chars) -> Result<Option<Symbol>, ()> {
             let Some(first) = chars.next() else {
                 return Ok(None);

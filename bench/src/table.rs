@@ -3,7 +3,7 @@ use crate::memory::Peak;
 use crate::rows::Row;
 use std::fmt::Write;
 
-/// How many octets, in words.
+/// Returns a number of octets, in words.
 fn size(octets: usize) -> String {
     match octets {
         0..=9_999 => octets.to_string(),
@@ -12,7 +12,7 @@ fn size(octets: usize) -> String {
     }
 }
 
-/// A number of some two figures.
+/// Returns a number with about two figures.
 fn short(number: f64) -> String {
     match number {
         n if n < 9.995 => format!("{n:.2}"),
@@ -37,7 +37,7 @@ pub fn plain(rows: &[Row]) -> String {
     text
 }
 
-/// Three figures, one for each size.
+/// Returns three figures, one for each size.
 fn slashed(figures: [String; 3]) -> String {
     figures.join("/")
 }
@@ -66,7 +66,8 @@ pub fn markdown(rows: &[Row]) -> String {
     text
 }
 
-/// The texts that are split, further rows of the same table: the cursor's time and `split`'s.
+/// Returns the texts that are split, as further rows of the same table: the time of the iterator
+/// and of `split`.
 pub fn texts(texts: &[(String, [f64; 3])]) -> String {
     let mut text = String::from("| **Zone text by kind: cursor/`split`** | | | |\n");
     for (name, [cursor, split, plain]) in texts {

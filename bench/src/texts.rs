@@ -1,7 +1,7 @@
-//! Octets and zone texts to be timed on.
+//! Generates octets and zone files to be timed.
 use crate::symbols::plain;
 
-/// Octets of which more than half are printed as decimal escapes.
+/// Returns octets more than half of which are printed as decimal escapes.
 pub fn random(count: usize) -> Vec<u8> {
     let mut state = 12345u64;
     (0..count)
@@ -14,19 +14,19 @@ pub fn random(count: usize) -> Vec<u8> {
         .collect()
 }
 
-/// Plain text, with spaces and a few characters that are escaped.
+/// Returns plain text, with spaces and a few characters that are escaped.
 pub fn words(count: usize) -> Vec<u8> {
     let words = b"v=spf1 include:_spf.example.com ip4:192.0.2.0/24 -all; see the notes of 2024. ";
     words.iter().copied().cycle().take(count).collect()
 }
 
-/// Letters, digits and hyphens.
+/// Returns letters, digits and hyphens.
 pub fn letters(count: usize) -> Vec<u8> {
     let letters = b"www-example4mail2hostabcdefghijkl";
     letters.iter().copied().cycle().take(count).collect()
 }
 
-/// The text of octets as a word.
+/// Returns the text of octets as a word.
 pub fn spelled(octets: &[u8]) -> Vec<u8> {
     let symbols = octets
         .iter()
@@ -34,26 +34,26 @@ pub fn spelled(octets: &[u8]) -> Vec<u8> {
     symbols.collect::<String>().into_bytes()
 }
 
-/// So many numbers of 32 bits, one a line.
+/// Returns `count` numbers of 32 bits, one a line.
 pub fn numbers(count: usize) -> Vec<u8> {
     let number = |place: usize| (place as u32).wrapping_mul(2_654_435_761) % 100_000;
     let lines = (1..=count).map(|place| format!("{}\n", number(place)));
     lines.collect::<String>().into_bytes()
 }
 
-/// So many MX records, one a line.
+/// Returns `count` MX records, one a line.
 pub fn exchanges(count: usize) -> Vec<u8> {
     let lines = (0..count).map(|place| format!("{} mail{place}.example.com.\n", place % 100));
     lines.collect::<String>().into_bytes()
 }
 
-/// A text, and what it is called.
+/// A text, and its name.
 pub struct Text {
     pub name: &'static str,
     pub text: String,
 }
 
-/// The `DS` record that stands in parentheses over four lines, as the layouts print it.
+/// Appends a `DS` record in parentheses over four lines, as the layouts print it.
 fn ds(zone: &mut String, number: usize) {
     let tag = number % 65_536;
     zone.push_str(&format!(
@@ -66,8 +66,8 @@ fn ds(zone: &mut String, number: usize) {
     ));
 }
 
-/// A zone of `lines` lines: addresses, mail exchangers with the owner left out, names and quoted
-/// texts with escapes, and records in parentheses with comments.
+/// Returns a zone of `lines` lines: addresses, mail exchangers without owner, names and quoted
+/// strings with escapes, and records in parentheses with comments.
 pub fn zone(lines: usize) -> String {
     let mut zone = String::new();
     for number in 0..lines / 10 {
@@ -87,7 +87,7 @@ pub fn zone(lines: usize) -> String {
     zone
 }
 
-/// Texts of about `octets` octets, each of one thing over and over.
+/// Returns texts of about `octets` octets, each of one repeated item.
 pub fn texts(octets: usize) -> Vec<Text> {
     let of = |name, unit: &str| Text {
         name,

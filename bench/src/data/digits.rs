@@ -1,4 +1,4 @@
-//! The encodings of record data, whose tables are made once.
+//! The encodings of RDATA, whose tables are built once.
 use crate::codecs::plain::Encoding;
 use std::sync::LazyLock;
 

@@ -1,8 +1,8 @@
-//! The tokens of entries, as one would find them by hand.
+//! Splits entries into tokens, as one would write it by hand.
 use crate::splitting::token_end;
 
-/// A word, or what stands between double quotes. It is glued where nothing stands between it and
-/// the token before it.
+/// A word, or the text between double quotes. It is adjacent if nothing separates it from the token
+/// before it.
 #[derive(Clone, Copy)]
 pub struct Token<'t> {
     pub text: &'t str,
@@ -10,7 +10,7 @@ pub struct Token<'t> {
     pub glued: bool,
 }
 
-/// Puts the tokens of the entry that begins at a place into a list. Returns where the next begins.
+/// Appends the tokens of the entry at an offset to a list. Returns the offset of the next entry.
 pub fn entry<'t>(text: &'t str, start: usize, tokens: &mut Vec<Token<'t>>) -> Option<usize> {
     let octets = text.as_bytes();
     tokens.clear();

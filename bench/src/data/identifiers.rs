@@ -1,12 +1,12 @@
 //! Identifiers in hexadecimal digits: EUI-48 and EUI-64, and those of 64 bits in groups.
 use std::fmt::Write;
 
-/// Whether a text is hexadecimal digits alone, so many at most.
+/// Returns whether a text has only hexadecimal digits, at most `most`.
 fn are_digits(text: &str, most: usize) -> bool {
     text.len() <= most && text.bytes().all(|octet| octet.is_ascii_hexdigit())
 }
 
-/// Pairs of digits with dashes between them.
+/// Parses pairs of digits separated by dashes.
 pub fn read_dashed<const COUNT: usize>(text: &str) -> Option<[u8; COUNT]> {
     let mut octets = [0; COUNT];
     let mut pairs = text.split('-');
@@ -27,7 +27,7 @@ pub fn put_dashed(octets: &[u8], text: &mut String) -> Option<()> {
     Some(())
 }
 
-/// Four groups of at most four digits, with colons between them.
+/// Parses four groups of at most four digits, separated by colons.
 pub fn read_groups(text: &str) -> Option<[u8; 8]> {
     let mut octets = [0; 8];
     let mut groups = text.split(':');

@@ -1,6 +1,6 @@
-//! Lines of record data to be timed on.
+//! Generates lines of RDATA to be timed.
 
-/// A type, and its data in a line of a number. There is one for each form that data of types have.
+/// A type, and its RDATA in the line of a number. There is one for each form of RDATA.
 pub struct Kind {
     pub name: &'static str,
     pub code: u16,
@@ -8,24 +8,24 @@ pub struct Kind {
 }
 
 impl Kind {
-    /// The line of a number.
+    /// Returns the line of a number.
     pub fn line(&self, place: usize) -> String {
         (self.line)(place)
     }
 
-    /// So many lines.
+    /// Returns `count` lines.
     pub fn lines(&self, count: usize) -> Vec<u8> {
         let lines = (0..count).map(|place| self.line(place) + "\n");
         lines.collect::<String>().into_bytes()
     }
 }
 
-/// A number that differs from place to place.
+/// Returns a number that differs from index to index.
 fn mixed(place: usize) -> u64 {
     (place as u64 + 1).wrapping_mul(0x9e37_79b9_7f4a_7c15)
 }
 
-/// So many digits of an alphabet.
+/// Returns `count` digits of an alphabet.
 fn digits(place: usize, count: usize, alphabet: &[u8]) -> String {
     let digit = |at: usize| {
         let value = mixed(place * 131 + at) >> 40;
@@ -38,14 +38,14 @@ fn hex(place: usize, octets: usize) -> String {
     digits(place, 2 * octets, b"0123456789ABCDEF")
 }
 
-/// So many pairs of digits, with dashes between them.
+/// Returns pairs of digits, separated by dashes.
 fn dashed(place: usize, pairs: usize) -> String {
     let octets = &mixed(place).to_be_bytes()[..pairs];
     let pairs: Vec<String> = octets.iter().map(|it| format!("{it:02x}")).collect();
     pairs.join("-")
 }
 
-/// So many groups of four digits in base 64.
+/// Returns groups of four digits in base 64.
 fn base64(place: usize, groups: usize) -> String {
     let alphabet = b"ABCDEFGHIJKLMNOPQRSTUVWXYZabcdefghijklmnopqrstuvwxyz0123456789+/";
     digits(place, 4 * groups, alphabet)

@@ -1,4 +1,4 @@
-//! Locations and address prefix lists.
+//! Parses and prints locations (LOC) and address prefix lists (APL).
 use super::words::number;
 use std::fmt::Write;
 use std::net::{IpAddr, Ipv4Addr, Ipv6Addr};
@@ -7,7 +7,7 @@ const ZERO: i64 = 1 << 31;
 
 const SEA: i64 = 10_000_000;
 
-/// A decimal number with at most so many places, in units of the last.
+/// Parses a decimal number with at most `places` decimal places, in units of the last.
 fn fixed(text: &str, places: usize) -> Option<i64> {
     let (whole, part) = text.split_once('.').unwrap_or((text, "0"));
     if whole.is_empty() || part.is_empty() || part.len() > places {
@@ -25,7 +25,7 @@ fn metres(text: &str) -> Option<i64> {
     fixed(text.strip_suffix('m').unwrap_or(text), 2)
 }
 
-/// The octet of a size in centimetres.
+/// Returns the octet of a size in centimetres.
 fn size(text: &str) -> Option<u8> {
     let (mut value, mut zeros) = (metres(text)?, 0);
     if value / 100 > 90_000_000 {
@@ -38,7 +38,7 @@ fn size(text: &str) -> Option<u8> {
     Some(value as u8 * 16 + zeros)
 }
 
-/// An angle, with the words that are left.
+/// Parses an angle from the remaining words.
 fn angle<'t>(mut words: impl Iterator<Item = &'t str>, most: i64, sides: [&str; 2]) -> Option<u32> {
     let mut thousandths = 0;
     for (unit, places, below) in [(3_600_000, 0, most + 1), (60_000, 0, 60), (1, 3, 60_000)] {
@@ -144,7 +144,7 @@ pub fn print_location(octets: &[u8], text: &mut String) -> Option<()> {
         .try_for_each(|octet| print_size(*octet, text))
 }
 
-/// An item: an address with its prefix.
+/// Parses an item: an address with its prefix.
 pub fn read_prefix(word: &str, octets: &mut Vec<u8>) -> Option<()> {
     let (negated, word) = match word.strip_prefix('!') {
         Some(rest) => (128, rest),
@@ -168,7 +168,7 @@ pub fn read_prefix(word: &str, octets: &mut Vec<u8>) -> Option<()> {
     Some(())
 }
 
-/// Prints the item in front of octets. Returns those behind it.
+/// Prints the item at the beginning of octets. Returns the octets after it.
 pub fn print_prefix<'o>(octets: &'o [u8], text: &mut String) -> Option<&'o [u8]> {
     let [0, family, bits, used, rest @ ..] = octets else {
         return None;

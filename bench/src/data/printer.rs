@@ -1,4 +1,4 @@
-//! The parts of record data, printed from octets as one would by hand.
+//! Prints the fields of RDATA from octets, as one would write it by hand.
 use super::words::type_text;
 use crate::codecs::plain::{encode_string, Encoding};
 use crate::symbols::plain::Symbol;
@@ -6,7 +6,7 @@ use crate::{names, strings};
 use std::fmt::{Display, Write};
 use std::net::{Ipv4Addr, Ipv6Addr};
 
-/// The octets that are left, and the text of those that were printed.
+/// The remaining octets, and the text of those that were printed.
 pub struct Printer<'a> {
     pub rest: &'a [u8],
     pub text: &'a mut String,
@@ -27,12 +27,12 @@ impl<'a> Printer<'a> {
         Some(front)
     }
 
-    /// The octets of an array.
+    /// Returns the octets of an array.
     pub fn array<const COUNT: usize>(&mut self) -> Option<[u8; COUNT]> {
         self.take(COUNT)?.try_into().ok()
     }
 
-    /// Octets behind their length.
+    /// Returns octets after their length.
     pub fn short(&mut self) -> Option<&'a [u8]> {
         let [length] = self.array()?;
         self.take(usize::from(length))
@@ -42,7 +42,7 @@ impl<'a> Printer<'a> {
         write!(self.text, "{value}").ok()
     }
 
-    /// A value and a blank.
+    /// Prints a value and a blank.
     pub fn part(&mut self, value: impl Display) -> Option<()> {
         write!(self.text, "{value} ").ok()
     }
@@ -109,14 +109,14 @@ impl<'a> Printer<'a> {
         self.quoted(string)
     }
 
-    /// Octets of an encoding up to the end, one at least.
+    /// Prints octets in an encoding up to the end, at least one.
     pub fn digits(&mut self, encoding: &Encoding) -> Option<()> {
         let octets = std::mem::take(&mut self.rest);
         self.put(encode_string(encoding, octets))?;
         (!octets.is_empty()).then_some(())
     }
 
-    /// Types, each behind a blank.
+    /// Prints types, each after a blank.
     pub fn types(&mut self) -> Option<()> {
         while !self.rest.is_empty() {
             let [window] = self.array()?;

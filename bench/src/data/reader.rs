@@ -1,4 +1,4 @@
-//! The parts of record data, read from tokens as one would by hand.
+//! Parses the fields of RDATA from tokens, as one would write it by hand.
 use super::digits::HEX;
 use super::entries::Token;
 use super::words::{algorithm, number, type_code};
@@ -8,7 +8,7 @@ use crate::{names, strings};
 use std::net::{Ipv4Addr, Ipv6Addr};
 use std::slice;
 
-/// The octets that a text spells.
+/// Returns the octets that a text spells.
 pub fn spelled(text: &str) -> Option<Vec<u8>> {
     let mut chars = text.chars();
     let mut octets = Vec::new();
@@ -18,7 +18,7 @@ pub fn spelled(text: &str) -> Option<Vec<u8>> {
     Some(octets)
 }
 
-/// The tokens that are left, and the octets of those that were read.
+/// The remaining tokens, and the octets of those that were parsed.
 pub struct Reader<'a, 't> {
     pub tokens: slice::Iter<'a, Token<'t>>,
     pub octets: &'a mut Vec<u8>,
@@ -39,7 +39,7 @@ impl<'t> Reader<'_, 't> {
         Some(value)
     }
 
-    /// A word that is a number of 16 bits.
+    /// Parses a word that is a number of 16 bits.
     pub fn word16(&mut self, read: fn(&str) -> Option<u16>) -> Option<()> {
         let value = read(self.word()?)?;
         self.octets.extend(value.to_be_bytes());
@@ -50,14 +50,14 @@ impl<'t> Reader<'_, 't> {
         self.word16(number)
     }
 
-    /// A word that is a number of 32 bits.
+    /// Parses a word that is a number of 32 bits.
     pub fn word32(&mut self, read: fn(&str) -> Option<u32>) -> Option<()> {
         let value = read(self.word()?)?;
         self.octets.extend(value.to_be_bytes());
         Some(())
     }
 
-    /// A word of so many octets.
+    /// Parses a word of `COUNT` octets.
     pub fn array<const COUNT: usize>(
         &mut self,
         read: fn(&str) -> Option<[u8; COUNT]>,
@@ -108,7 +108,7 @@ impl<'t> Reader<'_, 't> {
         Some(())
     }
 
-    /// Octets of an encoding behind their length.
+    /// Appends the octets of an encoding, after their length.
     pub fn short(&mut self, encoding: &Encoding, word: &str) -> Option<()> {
         let octets = decode_vec(encoding, word)?;
         self.octets.push(u8::try_from(octets.len()).ok()?);
@@ -126,7 +126,7 @@ impl<'t> Reader<'_, 't> {
         }
     }
 
-    /// Octets of an encoding up to the end, one at least.
+    /// Parses octets in an encoding up to the end, at least one.
     pub fn digits(&mut self, encoding: &Encoding) -> Option<usize> {
         let first = self.word()?;
         let octets = if self.tokens.len() == 0 {
@@ -142,7 +142,7 @@ impl<'t> Reader<'_, 't> {
         Some(octets.len()).filter(|count| *count > 0)
     }
 
-    /// A number, and the digest that it names, whose length has to fit.
+    /// Parses a number, and the digest of that algorithm, whose length must fit.
     pub fn digest(&mut self, fits: fn(u8, usize) -> bool) -> Option<()> {
         let number = self.number8()?;
         let count = self.digits(&HEX)?;

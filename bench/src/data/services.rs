@@ -1,4 +1,4 @@
-//! Service parameters, read and printed as one would write it by hand.
+//! Parses and prints service parameters (RFC 9460), as one would write it by hand.
 use super::digits::BASE64;
 use super::entries::Token;
 use super::reader::spelled;
@@ -20,7 +20,7 @@ const KEYS: [&str; 8] = [
     "dohpath",
 ];
 
-/// The number behind `key`, without zeros in front.
+/// Returns the number after `key`, without leading zeros.
 fn numbered_key(text: &str) -> Option<u16> {
     let digits = text.strip_prefix("key")?;
     number(digits).filter(|_| digits == "0" || !digits.starts_with('0'))
@@ -33,7 +33,7 @@ fn key(text: &str) -> Option<u16> {
     }
 }
 
-/// The keys that are named, in ascending order.
+/// Parses a list of keys, in ascending order.
 fn read_keys(text: &str) -> Option<Vec<u8>> {
     let keys: Option<Vec<u16>> = text.split(',').map(key).collect();
     let mut keys = keys?;
@@ -41,8 +41,8 @@ fn read_keys(text: &str) -> Option<Vec<u8>> {
     Some(keys.into_iter().flat_map(u16::to_be_bytes).collect())
 }
 
-/// The strings of a list, each behind its length. A backslash stands before a comma or a backslash
-/// of a string.
+/// Parses the strings of a list, each stored after its length. A comma or a backslash of a string
+/// is preceded by a backslash.
 fn read_strings(text: &str) -> Option<Vec<u8>> {
     let list = spelled(text)?;
     let mut value = vec![0];
@@ -63,7 +63,7 @@ fn read_strings(text: &str) -> Option<Vec<u8>> {
     Some(value)
 }
 
-/// Addresses with commas between them.
+/// Parses addresses separated by commas.
 fn read_each<const COUNT: usize>(
     text: &str,
     read: fn(&str) -> Option<[u8; COUNT]>,
@@ -75,13 +75,13 @@ fn read_each<const COUNT: usize>(
     Some(value)
 }
 
-/// The octets of an IPv4 address.
+/// Parses an IPv4 address.
 fn ipv4(text: &str) -> Option<[u8; 4]> {
     let address: Ipv4Addr = text.parse().ok()?;
     Some(address.octets())
 }
 
-/// The octets of an IPv6 address.
+/// Parses an IPv6 address.
 fn ipv6(text: &str) -> Option<[u8; 16]> {
     let address: Ipv6Addr = text.parse().ok()?;
     Some(address.octets())
@@ -104,7 +104,7 @@ fn read_param(name: &str, text: &str) -> Option<Param<Vec<u8>>> {
     Some((key, value))
 }
 
-/// Whether octets are strings of one octet or more, each behind its length.
+/// Returns whether octets are strings of at least one octet, each after its length.
 fn are_strings(octets: &[u8]) -> bool {
     let mut rest = octets;
     while let [length, behind @ ..] = rest {
@@ -116,7 +116,7 @@ fn are_strings(octets: &[u8]) -> bool {
     true
 }
 
-/// Whether parameters stand in ascending order, each with a value that it may have.
+/// Returns whether parameters are in ascending order, each with a valid value.
 fn are_params<V: AsRef<[u8]>>(params: &[Param<V>]) -> bool {
     let has = |key: u16| params.binary_search_by_key(&key, |param| param.0).is_ok();
     let is_value = |key: u16, value: &[u8]| match key {
@@ -170,7 +170,7 @@ pub fn read_params(tokens: &mut slice::Iter<Token>, octets: &mut Vec<u8>) -> Opt
     Some(())
 }
 
-/// The parameters that octets are.
+/// Returns the parameters that octets are.
 fn params_of(octets: &[u8]) -> Option<Vec<Param<&[u8]>>> {
     let mut params = Vec::new();
     let mut rest = octets;
@@ -217,7 +217,7 @@ fn print_strings(octets: &[u8], text: &mut String) -> Option<()> {
     Some(())
 }
 
-/// Prints parts of so many octets with commas between them.
+/// Prints parts of `COUNT` octets, separated by commas.
 fn print_each<const COUNT: usize>(
     value: &[u8],
     text: &mut String,
@@ -255,7 +255,7 @@ fn print_value(key: u16, value: &[u8], text: &mut String) -> Option<()> {
     }
 }
 
-/// Prints parameters, each behind a blank.
+/// Prints parameters, each after a blank.
 pub fn print_params(octets: &[u8], text: &mut String) -> Option<()> {
     let params = params_of(octets)?;
     if !are_params(&params) {

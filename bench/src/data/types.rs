@@ -1,4 +1,4 @@
-//! Data of each type, read and printed as one would write it by hand.
+//! Parses and prints the RDATA of each type, as one would write it by hand.
 use super::digits::{BASE32HEX, BASE64, HEX};
 use super::entries::Token;
 use super::identifiers::{put_dashed, put_groups, read_dashed, read_groups};
@@ -109,7 +109,7 @@ impl Reader<'_, '_> {
         self.digits(&BASE64).map(|_| ())
     }
 
-    /// How names are hashed. Returns the algorithm.
+    /// Parses the parameters of the hash of names. Returns the algorithm.
     fn hashing(&mut self) -> Option<u8> {
         let algorithm = self.number8()?;
         self.number8()?;
@@ -222,7 +222,7 @@ impl Reader<'_, '_> {
     }
 }
 
-/// Appends the data of a type that tokens spell.
+/// Appends the RDATA of a type that tokens spell.
 pub fn read(code: u16, tokens: &[Token], octets: &mut Vec<u8>) -> Option<()> {
     let tokens = tokens.iter();
     Reader { tokens, octets }.data(code)
@@ -441,7 +441,7 @@ impl Printer<'_> {
     }
 }
 
-/// Appends the text of data of a type.
+/// Appends the RDATA of a type in presentation format.
 pub fn print(code: u16, octets: &[u8], text: &mut String) -> Option<()> {
     let rest = octets;
     Printer { rest, text }.data(code)

@@ -1,13 +1,13 @@
-//! Words of record data: numbers, times, types, algorithms and certificates.
+//! Parses and prints words of RDATA: numbers, times, types, algorithms and certificates.
 use std::str::FromStr;
 
-/// A decimal number.
+/// Parses a decimal number.
 pub fn number<N: FromStr>(text: &str) -> Option<N> {
     let decimal = text.bytes().all(|octet| octet.is_ascii_digit());
     text.parse().ok().filter(|_| decimal)
 }
 
-/// Seconds, alone or in units.
+/// Parses seconds, alone or in units.
 pub fn interval(text: &str) -> Option<u32> {
     if let Some(seconds) = number(text) {
         return Some(seconds);
@@ -38,7 +38,7 @@ pub fn interval(text: &str) -> Option<u32> {
     u32::try_from(sum).ok().filter(|_| !open)
 }
 
-/// Days since 1970.
+/// Returns the days since 1970.
 fn days_of(year: i64, month: i64, day: i64) -> i64 {
     let year = if month <= 2 { year - 1 } else { year };
     let (era, of_era) = (year.div_euclid(400), year.rem_euclid(400));
@@ -46,7 +46,7 @@ fn days_of(year: i64, month: i64, day: i64) -> i64 {
     era * 146_097 + of_era * 365 + of_era / 4 - of_era / 100 + of_year - 719_468
 }
 
-/// Year, month and day.
+/// Returns year, month and day.
 fn date_of(days: i64) -> (i64, i64, i64) {
     let days = days + 719_468;
     let (era, of_era) = (days.div_euclid(146_097), days.rem_euclid(146_097));
@@ -59,7 +59,7 @@ fn date_of(days: i64) -> (i64, i64, i64) {
     (year, month, day)
 }
 
-/// A time of signatures, modulo 2^32.
+/// Parses a time of signatures, modulo 2^32.
 pub fn time(text: &str) -> Option<u32> {
     if text.len() != 14 {
         return number(text).filter(|_| text.len() <= 10);
@@ -84,7 +84,7 @@ pub fn time_text(time: u32) -> String {
     format!("{year:04}{month:02}{day:02}{hour:02}{minute:02}{second:02}")
 }
 
-/// Types with their names, in the order of names.
+/// The types with names, in the order of names.
 const TYPES: [(&str, u16); 49] = [
     ("A", 1),
     ("AAAA", 28),
@@ -137,7 +137,7 @@ const TYPES: [(&str, u16); 49] = [
     ("ZONEMD", 63),
 ];
 
-/// The code of a type that is named.
+/// Returns the number of a type, by its name.
 pub fn type_code(text: &str) -> Option<u16> {
     let mut room = [0; 16];
     let upper = room.get_mut(..text.len())?;
@@ -157,7 +157,7 @@ pub fn type_text(code: u16) -> String {
     }
 }
 
-/// Algorithms with their names.
+/// The algorithms with names.
 const ALGORITHMS: [(&str, u8); 18] = [
     ("DH", 2),
     ("DSA", 3),
@@ -187,12 +187,12 @@ pub fn algorithm(text: &str) -> Option<u8> {
     ALGORITHMS.iter().find(named).map(|row| row.1)
 }
 
-/// The name of an algorithm, if it has one.
+/// Returns the name of an algorithm, if it has one.
 pub fn algorithm_text(code: u8) -> Option<&'static str> {
     ALGORITHMS.iter().find(|row| row.1 == code).map(|row| row.0)
 }
 
-/// Types of certificates with their names.
+/// The types of certificates with names.
 const CERTIFICATES: [(&str, u16); 10] = [
     ("PKIX", 1),
     ("SPKI", 2),
@@ -214,7 +214,7 @@ pub fn certificate(text: &str) -> Option<u16> {
     CERTIFICATES.iter().find(named).map(|row| row.1)
 }
 
-/// The name of a type of certificates, if it has one.
+/// Returns the name of a type of certificates, if it has one.
 pub fn certificate_text(code: u16) -> Option<&'static str> {
     let named = CERTIFICATES.iter().find(|row| row.1 == code);
     named.map(|row| row.0)

@@ -1,11 +1,11 @@
-//! The records of a zone file, read as one would by hand.
+//! Parses the records of a zone file, as one would write it by hand.
 use super::entries::{entry, Token};
 use super::lines::KINDS;
 use super::words::{interval, type_code};
 use super::{sum_of, types};
 use crate::names;
 
-/// A zone file of so many records, of each type in turn. Some leave out owner, time to live or class.
+/// Returns a zone file of `count` records, of each type in turn. Some omit owner, TTL or class.
 pub fn text(count: usize) -> Vec<u8> {
     let mut text = String::from("$ORIGIN example.com.\n$TTL 1h\n");
     for place in 0..count {
@@ -21,7 +21,7 @@ pub fn text(count: usize) -> Vec<u8> {
     text.into_bytes()
 }
 
-/// What the entries before one say.
+/// The state after the entries before one.
 struct Past {
     origin: Vec<u8>,
     owner: Vec<u8>,
@@ -30,7 +30,7 @@ struct Past {
 }
 
 impl Past {
-    /// A name before the origin, if it is relative.
+    /// Parses a name, with the origin appended if it is relative.
     fn name(&self, text: &str) -> Option<Vec<u8>> {
         if text == "@" {
             return Some(self.origin.clone());
@@ -42,7 +42,7 @@ impl Past {
         (name.len() <= 255).then_some(name)
     }
 
-    /// A directive, if it is one.
+    /// Parses a directive, if it is one.
     fn directive(&mut self, tokens: &[Token]) -> Option<bool> {
         match tokens {
             [word, name] if word.text.eq_ignore_ascii_case("$ORIGIN") => {
@@ -57,7 +57,7 @@ impl Past {
         Some(true)
     }
 
-    /// The sum of a record's owner, time to live, class, type and data.
+    /// Returns the sum of a record's owner, TTL, class, type and RDATA.
     fn record(&mut self, blank: bool, tokens: &[Token], data: &mut Vec<u8>) -> Option<usize> {
         let mut rest = tokens;
         if !blank {
@@ -86,7 +86,7 @@ impl Past {
     }
 }
 
-/// The sum of all records' owners, times to live, classes, types and data.
+/// Returns the sum of all records' owners, TTLs, classes, types and RDATA.
 pub fn read(text: &[u8]) -> Option<usize> {
     let text = std::str::from_utf8(text).ok()?;
     let mut past = Past {
