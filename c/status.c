@@ -1,5 +1,5 @@
-/* The names and the texts of statuses, and the version: strings that stand as long as the program.
- * `signatures` compares both tables with the header and with crates/dns_text_c. */
+/* The names and the texts of statuses, and the version, as static strings. `signatures` compares both
+ * tables with the header and with crates/dns_text_c. */
 #include <dnstext.h>
 
 /* The library writes flags as one octet, 0 or 1. */

@@ -1,6 +1,6 @@
-/* Checks zone files: each refusal on standard output, as FILE:LINE:COLUMN: WHY.
+/* Checks zone files: prints each error on standard output, as FILE:LINE:COLUMN: MESSAGE.
  *   check ORIGIN FILE..
- * Files that are included are named, and not read. */
+ * Included files are named, and not read. */
 #include <dnstext.h>
 #include <stdio.h>
 #include <stdlib.h>
@@ -8,7 +8,7 @@
 
 static uint8_t octets[65535];
 
-/* All octets of a file, which the caller frees; or NULL. */
+/* Returns all octets of a file, which the caller frees; or NULL. */
 static uint8_t *contents(const char *path, size_t *length) {
     FILE *file = fopen(path, "rb");
     uint8_t *text = NULL, *more = NULL;
@@ -32,7 +32,7 @@ static uint8_t *contents(const char *path, size_t *length) {
     return text;
 }
 
-/* The position moves on from that of the refusal before: all of them take the time of one reading. */
+/* The position continues from that of the error before: all of them take the time of one pass. */
 static void tell(const char *path, const uint8_t *text, size_t length, struct dnstext_position *position,
                  uint32_t status, struct dnstext_outcome outcome) {
     dnstext_position_move(text, length, position, outcome.place);
@@ -43,7 +43,7 @@ static void tell(const char *path, const uint8_t *text, size_t length, struct dn
         printf("%s\n", dnstext_status_message(status));
 }
 
-/* How many refusals a file has; or -1 where it is not read. */
+/* Returns the number of errors of a file; or -1 if it can't be read. */
 static long check(const char *path, const struct dnstext_zone *start) {
     struct dnstext_zone zone = *start;
     struct dnstext_position position = DNSTEXT_POSITION_INIT;

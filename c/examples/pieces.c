@@ -1,5 +1,5 @@
-/* Lists the tokens of a zone text on standard input, one a line after the number of its entry, with
- * no memory but the text's. */
+/* Lists the tokens of a zone file on standard input, one a line after the number of its entry, without
+ * memory other than the text's. */
 #include <dnstext.h>
 #include <stdio.h>
 

@@ -1,5 +1,5 @@
-/* Prints the records of one owner and type of a zone file, each as its time to live and its data in base
- * 16, and the line and column of each refusal on standard error:
+/* Prints the records of one owner and type of a zone file, each as its TTL and its RDATA in base 16, and
+ * the line and column of each error on standard error:
  *   records ORIGIN OWNER TYPE < FILE */
 #include <dnstext.h>
 #include <stdio.h>
@@ -29,7 +29,7 @@ static void read_all(FILE *file) {
     } while (got != 0);
 }
 
-/* The wire octets of an absolute name. */
+/* Returns an absolute name in wire format. */
 static struct dnstext_kept_name name_of(const char *word) {
     struct dnstext_kept_name name = {0, false, {0}};
     struct dnstext_outcome outcome;
@@ -45,7 +45,7 @@ static struct dnstext_kept_name name_of(const char *word) {
     return name;
 }
 
-/* Whether two names are equal, without regard to the case of letters (RFC 4343). */
+/* Returns whether two names are equal, without regard to the case of letters (RFC 4343). */
 static bool same_name(const struct dnstext_kept_name *a, const struct dnstext_kept_name *b) {
     size_t i;
     if (a->length != b->length)
@@ -58,7 +58,7 @@ static bool same_name(const struct dnstext_kept_name *a, const struct dnstext_ke
     return true;
 }
 
-/* The position moves on from that of the refusal before: all of them take the time of one reading. */
+/* The position continues from that of the error before: all of them take the time of one pass. */
 static void complain(struct dnstext_position *position, uint32_t status, struct dnstext_outcome outcome) {
     dnstext_position_move(text, text_len, position, outcome.place);
     fprintf(stderr, "%lu:%lu: ", (unsigned long)position->line, (unsigned long)position->column);

@@ -1,5 +1,5 @@
-/* Prints the strings of each TXT record of a zone text on standard input, one a line, and the line and
- * column of a fault on standard error, and of where what is not closed was opened. */
+/* Prints the strings of each TXT record of a zone file on standard input, one a line, and the line and
+ * column of a syntax error, and of the unclosed opener, on standard error. */
 #include <dnstext.h>
 #include <stdio.h>
 #include <stdlib.h>

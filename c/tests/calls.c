@@ -1,4 +1,4 @@
-/* Each call with rooms from none to ample, and each status; data.c has those of record data. */
+/* Each call with buffers from none to ample, and each status; data.c has the calls for RDATA. */
 #define TESTS "tests/calls.c"
 #include "expect.h"
 
@@ -60,8 +60,8 @@ static void strings(void) {
     refuses(dnstext_charstr_print_unquoted, long_string, 256, DNSTEXT_TOO_LONG, 255, __LINE__);
 }
 
-/* Whether dnstext_name_read has to report an absolute name, a relative one or nothing; and the line of the
- * row that says so. */
+/* Whether dnstext_name_read must report an absolute name, a relative one or nothing; and the line of the
+ * row that expects it. */
 enum { RELATIVE, ABSOLUTE, UNTOLD };
 static int absolute;
 static int row;
@@ -182,8 +182,8 @@ static void numbers(void) {
     UNNUMBERED("1\xFFx", 255, DNSTEXT_BAD_UTF8, 1);
 }
 
-/* What is no text of an encoding. The room that so many characters want is asked for first, and
- * what follows it stays as it was. */
+/* A text that isn't of the encoding. The buffer for its number of characters is required first, and the
+ * octets after it are unchanged. */
 static void no_text(call f, const uint8_t *from, size_t from_len, size_t wanted, int line) {
     uint8_t memory[32];
     size_t room, i;
@@ -201,7 +201,7 @@ static void no_text(call f, const uint8_t *from, size_t from_len, size_t wanted,
 }
 #define NO_TEXT(f, text, wanted) no_text(f, BYTES(text), wanted, __LINE__)
 
-/* Many rows are of RFC 4648 section 10. */
+/* Many rows are from RFC 4648 section 10. */
 static void encodings(void) {
     GIVES(dnstext_base16_print, "foob", "666F6F62");
     GIVES(dnstext_base16_print, "foobar", "666F6F626172");
@@ -257,7 +257,7 @@ static void code(code_read f, const uint8_t *text, size_t length, uint32_t statu
 #define CLASS(text, wanted) code(dnstext_class_read, BYTES(text), DNSTEXT_OK, wanted, __LINE__)
 #define NO_CLASS(text) code(dnstext_class_read, BYTES(text), DNSTEXT_UNKNOWN_CLASS, 0, __LINE__)
 
-/* The code is the input's two octets, the greater one first. */
+/* The type's number is the two octets of the input, the more significant one first. */
 static uint32_t type_print(const uint8_t *octets, size_t octets_len, uint8_t *text, size_t text_len,
                            struct dnstext_outcome *outcome) {
     uint16_t type = (uint16_t)(octets[0] * 256 + octets[octets_len - 1]);
@@ -270,7 +270,7 @@ static uint32_t class_print(const uint8_t *octets, size_t octets_len, uint8_t *t
     return dnstext_class_print(type, text, text_len, outcome);
 }
 
-/* Types and classes as RFC 1035 section 3.2, RFC 3597 section 5 and IANA's registry have them. */
+/* Types and classes of RFC 1035 section 3.2, RFC 3597 section 5 and IANA's registry. */
 static void kinds(void) {
     unsigned number;
     TTL("0", 0);
@@ -320,7 +320,7 @@ static void kinds(void) {
     }
 }
 
-/* The position of a place, and the same from each other place. */
+/* The position of an offset, computed directly and from each other offset. */
 static void position(const uint8_t *text, size_t length, size_t place, uint32_t status, size_t line,
                      size_t column, int here) {
     size_t found_line = 7, found_column = 7, from;
@@ -356,7 +356,7 @@ static void positions(void) {
     NO_POSITION("a\n\nbc\r\n", 8);
     NO_POSITION("a", SIZE_MAX);
     {
-        /* Of a position that no call left the numbers are any. */
+        /* A position that no call returned may have any numbers. */
         struct dnstext_position any = {1, SIZE_MAX, SIZE_MAX};
         EXPECT(dnstext_position_move(BYTES("a\nb"), &any, 3) == DNSTEXT_OK && any.offset == 3);
         any.offset = SIZE_MAX;
@@ -431,7 +431,7 @@ static int is_cursor(struct dnstext_cursor cursor, size_t at, bool begins_blank,
            cursor.opened == opened;
 }
 
-/* Each call with all that stands in its cursor after it. */
+/* Each call, with the whole state of its cursor after it. */
 static void cursors(void) {
     static const char whole[] = " a ( \"b\"\n;c\n) \351\n\nd";
     static const char quote[] = "a\nb \"c\nd";
@@ -567,13 +567,13 @@ static void standings_outside_the_text(void) {
     EXPECT(is_standing(past, 2, 0, 0, 0));
     NO_PIECE("a", &deep, DNSTEXT_BAD_CURSOR, 0);
     EXPECT(is_standing(deep, 0, 1, 0, 0));
-    /* What is done is not looked at. */
+    /* The other fields are ignored if it is done. */
     NO_PIECE("a", &done, DNSTEXT_END, 0);
-    /* The beginning of the entry may be anywhere. */
+    /* The beginning of the entry may have any offset. */
     PIECE("a", &elsewhere, DNSTEXT_ENTRY_END, 1, 1, 0);
 }
 
-/* States of octets that no call returned: a flag that is neither 0 nor 1 counts as 1. */
+/* States of any octets that no call returned: a flag other than 0 and 1 counts as 1. */
 static void states_of_any_octets(void) {
     struct dnstext_standing standing;
     struct dnstext_cursor cursor;

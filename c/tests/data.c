@@ -1,8 +1,8 @@
-/* Record data: read, printed and in canonical form, with rooms from none to ample, and each refusal. */
+/* RDATA: parsed, printed and in canonical form, with buffers from none to ample, and each error. */
 #define TESTS "tests/data.c"
 #include "expect.h"
 
-/* The type and the origin of data. */
+/* The type and the origin of the RDATA. */
 static uint16_t data_code;
 static const uint8_t *data_origin;
 static size_t data_origin_len;
@@ -23,7 +23,7 @@ static uint32_t canonical_data(const uint8_t *octets, size_t octets_len, uint8_t
     return dnstext_data_canonical(data_code, octets, octets_len, form, form_len, outcome);
 }
 
-/* A refusal of a text, with as much of its text as fits, and the memory after it as it was. */
+/* An error of a text, with the part of its message that fits, and the memory after it unchanged. */
 static void refuses_data(const uint8_t *text, size_t text_len, uint32_t status, size_t place, const char *why,
                          int line) {
     uint8_t memory[300];
@@ -90,7 +90,7 @@ static void record_data(void) {
     EXPECT(print_data(many, 65535, NULL, 0, &outcome) == DNSTEXT_NO_ROOM && tells(outcome, 131079, 0));
 }
 
-/* RFC 4034 section 6.2, RFC 6840 section 5.1; more octets than the call has room for at once. */
+/* RFC 4034 section 6.2, RFC 6840 section 5.1; and more octets than the call converts at once. */
 static void canonical_forms(void) {
     static uint8_t many[65536], form[65536];
     struct dnstext_outcome outcome = {7, 7};
@@ -114,7 +114,7 @@ static void canonical_forms(void) {
     EXPECT(memcmp(form, many, 65535) == 0);
     data_code = 41;
     REFUSES(canonical_data, "", DNSTEXT_BAD_DATA, 0);
-    /* NXT: a name, and octets that stay */
+    /* NXT: a name, and octets that don't change */
     data_code = 30;
     memcpy(many, "\1A\0", 4);
     EXPECT(canonical_data(many, 1025, form, sizeof form, &outcome) == DNSTEXT_OK && tells(outcome, 1025, 0));

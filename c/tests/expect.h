@@ -1,4 +1,4 @@
-/* Calls with rooms from none to ample, for tests of which TESTS names the file. */
+/* Calls with buffers from none to ample, for the tests in the file TESTS. */
 #ifndef EXPECT_H
 #define EXPECT_H
 
@@ -21,7 +21,7 @@ static inline void expect(int is_so, const char *what, int line) {
 }
 #define EXPECT(is_so) expect((is_so), #is_so, __LINE__)
 
-/* A call on memory of just the lengths that are passed, so that a sanitizer sees what is beyond. */
+/* A call on memory of the exact lengths, so that a sanitizer detects accesses beyond them. */
 static inline uint32_t run(call f, const uint8_t *from, size_t from_len, uint8_t *to, size_t to_len,
                            struct dnstext_outcome *outcome) {
     uint8_t *input = from_len != 0 ? (uint8_t *)malloc(from_len) : NULL;
@@ -56,7 +56,7 @@ static inline void gives(call f, const uint8_t *from, size_t from_len, const uin
 }
 #define GIVES(f, from, made) gives(f, BYTES(from), BYTES(made), __LINE__)
 
-/* A refusal, whatever the room, which leaves the memory as it was. */
+/* An error, for every buffer, which leaves the memory unchanged. */
 static inline void refuses(call f, const uint8_t *from, size_t from_len, uint32_t status, size_t place,
                            int line) {
     static const size_t rooms[] = {0, 1, 4, 255, 1023};

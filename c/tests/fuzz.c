@@ -1,8 +1,8 @@
-/* Every call over texts that nobody meant: a status, and nothing written but what the header says. Inputs
- * are copied into memory of just their length, and what is written stands between guards.
+/* Fuzzes every call: checks its status, and that it writes only what the header allows. Inputs are copied
+ * into memory of their exact length, and outputs are between guards.
  *
- * With -DLIBFUZZER an entry for libFuzzer. Else a program: `fuzz SECONDS COUNT SEED` makes inputs of the
- * rows on standard input, mutated; `fuzz seeds FOLDER` writes some of them as files for libFuzzer. */
+ * With -DLIBFUZZER this is an entry for libFuzzer. Otherwise it is a program: `fuzz SECONDS COUNT SEED`
+ * mutates the rows on standard input; `fuzz seeds FOLDER` writes some of them as files for libFuzzer. */
 #include <dnstext.h>
 #include <stdio.h>
 #include <stdlib.h>
@@ -19,13 +19,13 @@ enum { GUARD = 16, FILL = 0xA5, MOST = 4096, STATUSES = DNSTEXT_RELATIVE_NAME + 
         } \
     } while (0)
 
-/* What is taken from an input: a type, another number, and the text. */
+/* The parts of an input: a type, another number, and the text. */
 static uint16_t code;
 static size_t number;
 static const uint8_t *text;
 static size_t text_len;
 
-/* Memory between guards, filled. */
+/* Returns memory between guards, filled. */
 static uint8_t *guarded(size_t room) {
     uint8_t *all = (uint8_t *)malloc(room + 2 * GUARD);
     CHECK(all != NULL);
@@ -41,14 +41,14 @@ static int is_filled(const uint8_t *from, size_t length) {
     return 1;
 }
 
-/* Nothing was written but `written` octets at the start. */
+/* Checks that only `written` octets at the beginning were written, and frees the memory. */
 static void release(uint8_t *memory, size_t room, size_t written) {
     CHECK(is_filled(memory - GUARD, GUARD));
     CHECK(is_filled(memory + written, room - written + GUARD));
     free(memory - GUARD);
 }
 
-/* ---- calls that give octets */
+/* ---- calls that write octets */
 
 typedef uint32_t (*call)(const uint8_t *, size_t, uint8_t *, size_t, struct dnstext_outcome *);
 
@@ -86,7 +86,7 @@ static uint32_t class_print(const uint8_t *from, size_t from_len, uint8_t *to, s
     return dnstext_class_print(code, to, to_len, outcome);
 }
 
-/* Where an encoding refuses, nothing is said of the octets that were to be. */
+/* If an encoding rejects a text, the octets of the buffer are unspecified. */
 static const struct {
     call f;
     int is_encoding;
@@ -113,7 +113,7 @@ static const struct {
     {data_canonical, 0},
 };
 
-/* A call with so much room: what it says, and what it wrote. */
+/* Makes a call with a buffer of `room` octets, and returns its status and its output. */
 static uint32_t give(call f, int is_encoding, size_t room, struct dnstext_outcome *outcome) {
     uint8_t *to = guarded(room);
     uint32_t status;
@@ -151,7 +151,7 @@ static void try_call(call f, int is_encoding) {
     }
 }
 
-/* ---- data: what is read prints, and is read again */
+/* ---- RDATA: what is parsed prints, and parses again */
 
 static uint32_t read_data(const uint8_t *from, size_t from_len, const uint8_t *origin, size_t origin_len,
                           size_t room, uint8_t **to, struct dnstext_outcome *outcome) {
@@ -199,7 +199,7 @@ static void try_data(const uint8_t *origin, size_t origin_len) {
 
 /* ---- words */
 
-/* From each place of the text the position of one is the same; and one of any numbers is safe. */
+/* The position of an offset is the same from each other offset; and one of any numbers is safe. */
 static void try_position(size_t line, size_t column) {
     struct dnstext_position position = DNSTEXT_POSITION_INIT;
     size_t i;
@@ -320,7 +320,7 @@ static void try_records(struct dnstext_zone *zone) {
     } while (status != DNSTEXT_END && status != DNSTEXT_BAD_CURSOR);
 }
 
-/* States that no call returned, of the octets of the input. */
+/* States that no call returned, made of the octets of the input. */
 static void try_states(void) {
     struct dnstext_cursor cursor;
     struct dnstext_standing standing;
@@ -426,7 +426,7 @@ static unsigned digit(char c) {
     return c <= '9' ? (unsigned)(c - '0') : (unsigned)(c - 'A') + 10;
 }
 
-/* An input of a field, and of the type that the field before names. */
+/* Stores an input of a field, and of the type that the field before names. */
 static void keep(const char *type, const char *field) {
     uint8_t *octets;
     size_t count = 3, type_len = strcspn(type, "\t");
@@ -467,7 +467,7 @@ static void read_rows(void) {
     }
 }
 
-/* One change: an octet set, some taken away, one put in, the rest cut off, or that of another input. */
+/* Makes one change: an octet set, some removed, one inserted, the rest cut off, or that of another input. */
 static size_t mutate(uint8_t *octets, size_t length) {
     static const char often[] = "\"\\()\n\r;$@. \t0#-\0\377";
     size_t at = length != 0 ? next_random((uint32_t)length) : 0, other, count;

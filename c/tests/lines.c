@@ -1,4 +1,4 @@
-/* A zone text of 200,000 lines, written from tokens that are known, gives just these tokens. */
+/* A zone file of 200,000 lines, written from known tokens, returns just these tokens. */
 #include <dnstext.h>
 #include <stdio.h>
 #include <stdlib.h>
@@ -21,7 +21,7 @@ static void put(const char *characters) {
     length += n;
 }
 
-/* What is known of a token: where it stands, and what kind it is. */
+/* The known tokens: their offsets and kinds. */
 static struct dnstext_token *known;
 static size_t count;
 
@@ -45,7 +45,7 @@ static int is_same(struct dnstext_token token, struct dnstext_token other) {
     return token.start == other.start && token.end == other.end && token.is_quoted == other.is_quoted;
 }
 
-/* The text piece by piece: the tokens, and each line's end with its flag. */
+/* Parses the text piece by piece: the tokens, and each line end with its flag. */
 static void read_pieces(const size_t *ends, const uint8_t *blanks) {
     struct dnstext_standing standing = DNSTEXT_STANDING_INIT;
     struct dnstext_piece piece;

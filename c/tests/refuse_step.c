@@ -1,7 +1,7 @@
 /* Fails one step of a program on files: loaded before the C library, it counts the calls to find, open, read,
  * write, sync, rename and change the owner and the mode of a file, and fails the one whose number is in
- * REFUSE_STEP with EIO. Calls that clean up don't fail. A program that comes to that number leaves an empty
- * file of the name in REFUSED.
+ * REFUSE_STEP with EIO. Calls that clean up don't fail. A program that reaches that number leaves an empty
+ * file with the name in REFUSED.
  *     cc -shared -fPIC -o refuse_step.so refuse_step.c -ldl */
 #define _GNU_SOURCE
 #include <dlfcn.h>
@@ -13,7 +13,7 @@
 #include <sys/syscall.h>
 #include <unistd.h>
 
-/* whether this call is the one to fail */
+/* whether this call must fail */
 static int fails(void) {
     static long calls, number = -1;
     const char *word;
@@ -58,7 +58,7 @@ ssize_t read(int file, void *to, size_t count) {
     return fails() ? -1 : NEXT(read_call, "read")(file, to, count);
 }
 
-/* what is said on standard error is no step */
+/* output on standard error isn't a step */
 ssize_t write(int file, const void *from, size_t count) {
     return file > 2 && fails() ? -1 : NEXT(write_call, "write")(file, from, count);
 }

@@ -1,5 +1,5 @@
-/* The reader of records: what it gives, each refusal, and zones that no call left. With the rows of `data`
- * and of zones on standard input, as crates/test_records/stdin has them. */
+/* The parser of records: its results, each error, and zones that no call returned. With the rows of `data`
+ * and of zones on standard input, in the format of crates/test_records/stdin. */
 #include "table.h"
 #include <dnstext.h>
 
@@ -27,7 +27,7 @@ static void begin(void) {
     EXPECT(dnstext_zone_origin(&zone, (const uint8_t *)"\7example", 9, &outcome) == DNSTEXT_OK);
 }
 
-/* A call on memory of just the lengths that are passed, so that a sanitizer sees what is beyond. */
+/* A call on memory of the exact lengths, so that a sanitizer detects accesses beyond them. */
 static uint32_t next(const char *text, size_t length, size_t room) {
     uint8_t *input = length != 0 ? (uint8_t *)malloc(length) : NULL;
     uint8_t *output = room != 0 ? (uint8_t *)malloc(room) : NULL;
@@ -49,7 +49,7 @@ static bool named(const struct dnstext_kept_name *name, const char *wire, size_t
     return name->length == length && !name->is_refused && memcmp(name->octets, wire, length) == 0;
 }
 
-/* What the next call gives, with the room that it needs; and that with less it gives nothing. */
+/* The result of the next call, with a buffer of the exact size; and that it fails with a smaller one. */
 static void gives(const char *text, size_t length, uint32_t status, const char *given, size_t given_len,
                   int line) {
     struct dnstext_zone before = zone;
@@ -83,7 +83,7 @@ static void is(size_t place, uint32_t ttl, uint16_t class_code, uint16_t type_co
 #define IS(place, ttl, class_code, type_code, owner) \
     is(place, ttl, class_code, type_code, TEXT(owner), __LINE__)
 
-/* A refusal with its place and as much of its text as fits. */
+/* An error with its place and the part of its message that fits. */
 static void refuses(const char *text, size_t length, uint32_t status, size_t place, const char *why,
                     int line) {
     struct dnstext_zone before = zone;
@@ -140,7 +140,7 @@ static void records(void) {
     ENDS("");
     ends(NULL, 0, __LINE__);
     ENDS("\n ; nothing\n");
-    /* The minimum of an SOA, RFC 3597 section 5, and a copy that goes back. */
+    /* The minimum of an SOA, RFC 3597 section 5, and a copy of an earlier state. */
     {
         static const char soa[] = "@ SOA . . 1 2 3 4 5\n@ TYPE731 \\# 3 abcd ef\n";
         struct dnstext_zone first;
@@ -157,7 +157,7 @@ static void records(void) {
     }
 }
 
-/* Character strings that have so many octets with their lengths, as text and in wire form. */
+/* Character strings of `left` octets including their lengths, as text and in wire format. */
 static size_t strings(size_t left, char *text, char *wire) {
     char *at = text + sprintf(text, "a 1 TXT");
     while (left != 0) {
@@ -175,7 +175,7 @@ static size_t strings(size_t left, char *text, char *wire) {
     return (size_t)(at - text);
 }
 
-/* Data of as many octets as their length says in 16 bits (RFC 1035 section 3.2.1), and of one more: as a
+/* RDATA of the greatest length that 16 bits allow (RFC 1035 section 3.2.1), and of one octet more: as a
  * record, and both ways alone. */
 static void long_data(void) {
     static const char reason[] = "TXT text: RDATA exceeds 65535 octets";
@@ -217,7 +217,7 @@ static void files(void) {
     ENDS(text);
 }
 
-/* From 2^31 on a time to live is 0, also of those after it (RFC 2181 section 8). */
+/* A TTL of 2^31 or more is 0, also for the records after it (RFC 2181 section 8). */
 static void long_ttls(void) {
     static const char text[] = "$TTL 2147483648\n"
                                "a A 192.0.2.1\n"
@@ -341,7 +341,7 @@ static void zones_that_no_call_left(void) {
     }
 }
 
-/* Each beginning of a text is read to its end. */
+/* Each prefix of a text is parsed to its end. */
 static void cut_texts(void) {
     static const char text[] = "$TTL 1\n$ORIGIN a.\n@ SOA @ \\@ 1 2 3 4 (5)\n  TXT \"b\\\"\\008\" ;\r\n"
                                "x NSEC @ A TYPE731\ny LOC 1 N 2 E 3m\nz HTTPS 1 . alpn=h2,h3\n$INCLUDE y\n";
