@@ -20,7 +20,7 @@ cons_same x y r s h = (ap (λ l. head_or l) h, ap (λ l. tail_of l) h)
     tail_of [] = []
     tail_of (o ∷ os) = os
 
--- an octet's part of a key tells the octet
+-- an octet's part of a key determines the octet
 octet_told : (o p : ℕ) (r s : List ℕ) → key_octets o ++ r ≡ key_octets p ++ s → (o ≡ p) × (r ≡ s)
 octet_told o p r s h = by (is o) (is p)
   where
@@ -45,7 +45,7 @@ octet_some o r s h = by (is o)
 parted : (o : ℕ) (x r : List ℕ) → label_key (o ∷ x) ++ r ≡ key_octets o ++ (label_key x ++ r)
 parted o x r = ap (λ l. l ++ r) (append_assoc (key_octets o) (flat_map key_octets x) (0 ∷ [])) ∙ append_assoc (key_octets o) (label_key x) r
 
--- a label's part of a key tells the label
+-- a label's part of a key determines the label
 label_told : (x y r s : List ℕ) → label_key x ++ r ≡ label_key y ++ s → (x ≡ y) × (r ≡ s)
 label_told [] [] r s h = (refl, (cons_same 0 0 r s h).1)
 label_told [] (p ∷ y) r s h = absurd (octet_some p (label_key y ++ s) r (h ∙ parted p y s))
@@ -63,7 +63,7 @@ label_some (o ∷ x) r h = by (is o)
     by (low k) = omega (arith, ap length (h ∙ parted o x r ∙ ap (λ l. l ++ (label_key x ++ r)) (paired o k)))
     by (high k) = omega (arith, ap length (h ∙ parted o x r ∙ ap (λ l. l ++ (label_key x ++ r)) (alone o k)))
 
--- the parts of labels tell the labels in front
+-- if the parts of labels begin with those of other labels, the labels begin with the others
 labels_told : (xs ys : List (List ℕ)) (rest : List ℕ) → flat_map label_key ys ≡ flat_map label_key xs ++ rest → (zs : List (List ℕ)) × (ys ≡ xs ++ zs)
 labels_told [] ys rest h = (ys, refl)
 labels_told (x ∷ xs) [] rest h = absurd (label_some x (flat_map label_key xs ++ rest) (h ∙ append_assoc (label_key x) (flat_map label_key xs) rest))
@@ -72,7 +72,7 @@ labels_told (x ∷ xs) (y ∷ ys) rest h =
     let more = labels_told xs ys rest told.1 in
     (more.0, (λ i. told.0 i ∷ more.1 i))
 
--- a key begins with that of a name exactly where the name stands at the other or above it
+-- a key begins with that of another name exactly if its name is the other or below it
 pub begins_below : (name top : List (List ℕ)) → ((rest : List ℕ) × (order_key name ≡ order_key top ++ rest)) ↔ IsAtOrBelow name top
 begins_below name top = (
   λ h. let told = labels_told (labels_from_root top) (labels_from_root name) h.0 h.1 in

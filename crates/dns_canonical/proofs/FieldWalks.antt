@@ -25,7 +25,7 @@ canonical_wire : (f : Field) (octets : List ℕ) → IsFieldWire f octets → Is
 canonical_wire OfName octets h = lowered_name octets h
 canonical_wire f octets h = h
 
--- a field is in front of octets in one way
+-- octets begin with one field of a kind at most
 part_same : (f : Field) (a b x y : List ℕ) → IsFieldWire f a → IsFieldWire f b → a ++ x ≡ b ++ y → (a ≡ b) × (x ≡ y)
 part_same f a b x y p q h =
     let cut : take (length a) (b ++ y) ≡ a =
@@ -59,7 +59,7 @@ pub forms_begin : (fields : List Field) (octets form : List ℕ) → CanonicalFi
 forms_begin [] octets form h = tt
 forms_begin (f ∷ fs) octets form h = (h.0, h.1, h.3, h.4, forms_begin fs h.1 h.2 h.6)
 
--- octets behind the fields stay
+-- octets after the fields are unchanged
 pub forms_behind : (fields : List Field) (octets form more : List ℕ) → CanonicalFields fields octets form → CanonicalFields fields (octets ++ more) (form ++ more)
 forms_behind [] octets form more h = ap (λ o. o ++ more) h
 forms_behind (f ∷ fs) octets form more h = (
@@ -94,7 +94,7 @@ pub record FieldWalk (fields left : List Field) (octets rest old new : List ℕ)
 pub fields_none : (fields : List Field) (octets old : List ℕ) → FieldWalk fields fields octets octets old old
 fields_none fields octets old = record { done = []; gained = sym (append-nil old); forms = λ others h. h; fronts = λ h. h; long = omega arith }
 
--- the rest of a slice behind a field
+-- the rest of a slice after a field
 pub fields_more : (fields left : List Field) (f : Field) (octets rest old middle new : List ℕ) (width count : ℕ) → FieldWalk fields (f ∷ left) octets rest old middle
     → FindsWidth (IsFieldWire f) rest (Some width) → new ≡ middle ++ canonical_field f (take width rest) → count ≡ length rest - width
     → FieldWalk fields left octets (take count (drop width rest)) old new
@@ -116,7 +116,7 @@ pub next_field : (fields : List Field) (place : ℕ) (d : Field) (octets rest ol
     → FieldWalk fields (get_or fields place d ∷ drop (place + 1) fields) octets rest old new
 next_field fields place d octets rest old new w lt = subst (λ l. FieldWalk fields l octets rest old new) (drop_more fields place d lt) w
 
--- where octets of what is left don't surely fit, nor does the canonical form
+-- if octets of the rest don't surely fit, neither does the canonical form
 pub lacks_form : (room : Room) (fields left : List Field) (octets rest old new : List ℕ) (more : ℕ) → FieldWalk fields left octets rest old new → room.fits < length new + more
     → more ≤ length rest → LacksRoom room (CanonicalFields fields octets) old
 lacks_form room fields left octets rest old new more w short few = λ form h.

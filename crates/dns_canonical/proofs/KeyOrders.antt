@@ -28,7 +28,7 @@ less m n h = Prim.grind (arith, nat_tests)
 greater : (m n : ℕ) → n < m → nat_cmp m n ≡ Greater
 greater m n h = Prim.grind (arith, nat_tests)
 
--- an octet of a key that stands for itself
+-- an octet that is itself in a key
 pub alone : (o : ℕ) → 1 < o → key_octets o ≡ o ∷ []
 alone o h = Prim.grind (arith, nat_tests)
 
@@ -52,7 +52,7 @@ more m n p q h = ap (λ c. ordering_then c q) h
 plus_one : (m n : ℕ) → nat_cmp (m + 1) (n + 1) ≡ nat_cmp m n
 plus_one m n = Prim.grind (arith, nat_tests)
 
--- an octet's part of a key decides as the octet does, and before what is behind it
+-- an octet's part of a key decides as the octet does, and before what follows it
 pub octets_in_keys : (o p : ℕ) (r s : List ℕ) → octet_order (key_octets o ++ r) (key_octets p ++ s) ≡ ordering_then (nat_cmp o p) (octet_order r s)
 octets_in_keys o p r s = by (is o) (is p)
   where
@@ -128,7 +128,7 @@ pub key_none : (old octets : List ℕ) (labels : List (List ℕ)) → octets ≡
 key_none old octets [] h none = sym (append-nil old)
 key_none old octets (l ∷ ls) h none = absurd (omega (arith, ap length h, length-append l (wire ls)))
 
--- the key of labels stands behind that of those behind the first
+-- the key of labels is that of the labels after the first, and then that of the first
 pub key_behind : (old middle new label rest octets : List ℕ) → octets ≡ wire_label label ++ rest → AppendsKey rest old middle → new ≡ middle ++ label_key (lowered label)
     → AppendsKey octets old new
 key_behind old middle new label rest octets h k e labels w =
@@ -136,7 +136,7 @@ key_behind old middle new label rest octets h k e labels w =
     e ∙ ap (λ l. l ++ label_key (lowered label)) (k first.0 first.2) ∙ append_assoc old (order_key first.0) (label_key (lowered label))
     ∙ ap (λ l. old ++ l) (sym (key_more label first.0)) ∙ ap (λ l. old ++ order_key l) (sym first.1)
 
--- what goes on behind old octets and more goes on behind the old ones
+-- what extends old octets and more extends the old ones
 pub extends_behind : (old more middle new : List ℕ) → middle ≡ old ++ more → Extends middle new → Extends old new
 extends_behind old more middle new h e = (more ++ e.0, e.1 ∙ ap (λ l. l ++ e.0) h ∙ append_assoc old more e.0)
 
@@ -148,11 +148,11 @@ same_front : (front left right : List ℕ) → octet_order (front ++ left) (fron
 same_front [] left right = refl
 same_front (o ∷ front) left right = ap (λ c. ordering_then c (octet_order (front ++ left) (front ++ right))) (tied_itself nat_cmp_total o) ∙ same_front front left right
 
--- what stands behind one front decides as the names do
+-- what follows the same octets of keys decides as the names do
 pub order_behind : (left right front : List ℕ) (a b : List (List ℕ)) → order_key a ≡ front ++ left → order_key b ≡ front ++ right → octet_order left right ≡ name_order a b
 order_behind left right front a b h k = sym (same_front front left right) ∙ (λ i. octet_order (sym h i) (sym k i)) ∙ sym (key_order a b)
 
--- the keys of names are the same exactly where the names are, but for the case of letters
+-- the keys of names are the same exactly if the names differ at most in case
 pub keys_tied : (a b : List (List ℕ)) → (order_key a ≡ order_key b) ↔ (name_order a b ≡ Equal)
 keys_tied a b = (
   λ h. key_order a b ∙ (octets_tied (order_key a) (order_key b)).1 h,

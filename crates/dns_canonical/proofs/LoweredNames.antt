@@ -25,7 +25,7 @@ pub lowered_again : (octets : List ℕ) → lowered (lowered octets) ≡ lowered
 lowered_again [] = refl
 lowered_again (o ∷ os) = λ i. lowercase-lowercase o i ∷ lowered_again os i
 
--- a part more is lowered, and the others are left
+-- one more part is lowered, and the others are left
 pub record Lowering (octets old rest new : List ℕ) : Type 0 where
   pub done : List ℕ
   pub whole : octets ≡ done ++ rest

@@ -20,7 +20,7 @@ then_equal Less = refl
 then_equal Equal = refl
 then_equal Greater = refl
 
--- lists that are as long decide before what is behind them
+-- lists of the same length decide before what follows them
 pub slice_cmp-append : {K : Type 0} (R : K → K → Ordering) (a b c d : List K) → length a ≡ length b → slice_cmp R (a ++ c) (b ++ d) ≡ ordering_then (slice_cmp R a b) (slice_cmp R c d)
 slice_cmp-append R [] [] c d h = refl
 slice_cmp-append R [] (y ∷ b) c d h = absurd (omega arith)
@@ -37,13 +37,13 @@ length_from_root labels = length-reverse (map lowered labels) ∙ length-map lab
 level_from_root : (a b : List (List ℕ)) → length a ≡ length b → length (labels_from_root a) ≡ length (labels_from_root b)
 level_from_root a b h = length_from_root a ∙ h ∙ sym (length_from_root b)
 
--- labels in front decide last
+-- the first labels decide last
 pub order_append : (a b c d : List (List ℕ)) → length c ≡ length d → name_order (a ++ c) (b ++ d) ≡ ordering_then (name_order c d) (slice_cmp octet_order (labels_from_root a) (labels_from_root b))
 order_append a b c d h =
     (λ i. slice_cmp octet_order (from_root_append a c i) (from_root_append b d i))
     ∙ slice_cmp-append octet_order (labels_from_root c) (labels_from_root d) (labels_from_root a) (labels_from_root b) (level_from_root c d h)
 
--- one more label in front of each of two names that have as many
+-- one more label before each of two names with the same number of labels
 pub order_more : (x y : List ℕ) (a b : List (List ℕ)) → length a ≡ length b → name_order (x ∷ a) (y ∷ b) ≡ ordering_then (name_order a b) (lowered_order x y)
 order_more x y a b h = order_append (x ∷ []) (y ∷ []) a b h ∙ ap (ordering_then (name_order a b)) (then_equal (lowered_order x y))
 
@@ -63,7 +63,7 @@ ended R [] (y ∷ b) m n h k = sym (less_than m n (sym h) (λ e. omega (arith, h
 ended R (x ∷ a) [] m n h k = sym (greater_than m n (sym k) (λ e. omega (arith, h, k, e)))
 ended R (x ∷ a) (y ∷ b) m n h k = absurd (omega (arith, h, k))
 
--- as many labels of each decide before the count does
+-- the last labels of both, in equal number, decide before the number of labels does
 pub order_level : (a b : List (List ℕ)) (m n shared : ℕ) → m ≡ length a → n ≡ length b → shared ≡ min m n
     → name_order a b ≡ ordering_then (name_order (drop (m - shared) a) (drop (n - shared) b)) (nat_cmp m n)
 order_level a b m n shared p q s =

@@ -12,12 +12,12 @@ use Rattle.dns_canonical.specs.Names.{name_order}
 use Rattle.dns_canonical.specs.Walks.{BeginsWithLabel, HasLabels, AreLevel, IsLevelOrder}
 use Rattle.dns_canonical.proofs.NameOrders.{then_assoc, order_more}
 
--- the label in front of labels is the first of them
+-- the label that octets of labels begin with is the first of them
 pub first_label : (labels : List (List ℕ)) (label rest : List ℕ) → wire labels ≡ wire_label label ++ rest → (more : List (List ℕ)) × (labels ≡ label ∷ more) × (rest ≡ wire more)
 first_label [] label rest h = absurd (omega (arith, ap length h))
 first_label (l ∷ ls) label rest h = let same = label_same l label (wire ls) rest h in (ls, ap (λ x. x ∷ ls) same.0, sym same.1)
 
--- behind the label in front of labels there are labels
+-- after the first of labels there are labels
 pub rest_labels : (octets label rest : List ℕ) → HasLabels 0 octets → octets ≡ wire_label label ++ rest → HasLabels 0 rest
 rest_labels octets label rest h e = let first = first_label h.0 label rest (sym h.1 ∙ e) in (first.0, first.2, omega arith)
 
@@ -33,7 +33,7 @@ no_labels : (labels : List (List ℕ)) (rest : List ℕ) → rest ≡ wire label
 no_labels [] rest h none = refl
 no_labels (l ∷ ls) rest h none = absurd (omega (arith, ap length h, length-append l (wire ls)))
 
--- what is left of octets behind so many labels
+-- the octets after the first `count` labels
 pub record Walked (octets rest : List ℕ) (count : ℕ) : Type 0 where
   pub labels : List (List ℕ)
   pub whole : octets ≡ wire labels
@@ -71,7 +71,7 @@ walked_all octets rest count w none labels h =
 pub walked_behind : (octets rest : List ℕ) (count : ℕ) → Walked octets rest count → (labels : List (List ℕ)) → octets ≡ wire labels → rest ≡ wire (drop count labels)
 walked_behind octets rest count w labels h = w.left ∙ ap (λ l. wire (drop count l)) (wire_same w.labels labels (sym w.whole ∙ h))
 
--- names that have as many labels, of which the last are left, with the order of those before
+-- names with the same number of labels, of which the last are left, with the order of those before
 pub record LevelWalk (left right : List ℕ) (otherwise : Ordering) (left_rest right_rest : List ℕ) (order : Ordering) : Type 0 where
   pub a : List (List ℕ)
   pub b : List (List ℕ)

@@ -1,4 +1,4 @@
--- The orders are total, and equal where the canonical forms are.
+-- The orders are total, and equal if the canonical forms are.
 use Rattle.std.proofs.Common.{ℕ, ◌≡◌, List, [], ◌∷◌, ◌++◌, map, refl, sym, ap, subst, ◌∙◌}
 use Rattle.std.specs.Prelude.{◌↔◌, reverse}
 use Rattle.std.specs.Cmp.{IsTotalOrder, Equal-is}
@@ -27,7 +27,7 @@ octets_equal a b h = (bytes_decides a b).0 (texts_ties a b ∙ (Equal-is (octet_
 pub octets_tied : (a b : List ℕ) → (octet_order a b ≡ Equal) ↔ (a ≡ b)
 octets_tied a b = (octets_equal a b, λ e. subst (λ x. octet_order a x ≡ Equal) e (tied_itself octets_total a))
 
--- octets stand before those that go on after them
+-- octets are before longer ones that begin with them
 pub octets_absent : (a : List ℕ) (o : ℕ) (more : List ℕ) → octet_order a (a ++ o ∷ more) ≡ Less
 octets_absent [] o more = refl
 octets_absent (x ∷ a) o more = ap (λ c. ordering_then c (octet_order a (a ++ o ∷ more))) (tied_itself nat_cmp_total x) ∙ octets_absent a o more
@@ -53,7 +53,7 @@ names_tied a b p q = (
   λ e. names_alike a b (wire_same (map lowered a) (map lowered b) (sym (lowered_labels a p) ∙ e ∙ lowered_labels b q)),
 )
 
--- a name stands before the names below it
+-- a name is before the names below it
 pub names_absent : (a : List (List ℕ)) (label : List ℕ) → name_order a (label ∷ a) ≡ Less
 names_absent a label = order_append [] (label ∷ []) a a refl ∙ ap (λ c. ordering_then c Less) (tied_itself names_total a)
 
@@ -83,7 +83,7 @@ records_tied a b = (
       (equal_then _ _ ((numbers_tied a.class b.class).1 h.1) (equal_then _ _ ((numbers_tied a.rtype b.rtype).1 h.2) ((octets_tied a.octets b.octets).1 h.3))),
 )
 
--- names of which the same octets are left
+-- names whose remaining octets are the same
 pub level_same : (left right : List ℕ) (otherwise : Ordering) (left_rest right_rest : List ℕ) (order : Ordering) → LevelWalk left right otherwise left_rest right_rest order
     → left_rest ≡ right_rest → IsLevelOrder left right otherwise order
 level_same left right otherwise left_rest right_rest order w e c d p q =

@@ -24,7 +24,7 @@ short_name = record {
   whole = refl;
 }
 
--- a number, which stays, a name in lower case, and an octet behind both
+-- a number, which is unchanged, a name in lower case, and an octet after both
 data_row : CanonicalFields (Number16 ∷ OfName ∷ []) (65 ∷ 66 ∷ 1 ∷ 65 ∷ 0 ∷ 67 ∷ []) (65 ∷ 66 ∷ 1 ∷ 97 ∷ 0 ∷ 67 ∷ [])
 data_row = (
   65 ∷ 66 ∷ [],

@@ -23,7 +23,7 @@ use Rattle.dns_canonical.specs.FieldForms.{StartsWithFields, CanonicalFields}
 use Rattle.dns_canonical.specs.Untexted.{names_behind, address_form, labels_before_root, if_at_most, name_size, names_size, front_of_form, untexted_form, untexted_front, lowered_between}
 use Rattle.dns_canonical.specs.declared.untexted.NamePlaces.{NamePlaces}
 
--- ---- the name in front
+-- ---- the first name
 
 -- a label of at most 63 octets is passed
 label_passed : (more n : ℕ) (octets : List ℕ) → suc n ≤ 63 → suc n ≤ length octets → labels_before_root (suc more) (suc n ∷ octets) ≡ option_map (λ width. 2 + n + width) (labels_before_root more (drop (suc n) octets))
@@ -54,7 +54,7 @@ labels_found ((x ∷ xs) ∷ ls) more (suc count) p few =
     ∙ ap (λ o. option_map (λ width. 2 + length xs + width) (labels_before_root count o)) off
     ∙ ap (option_map (λ width. 2 + length xs + width)) later ∙ ap Some long
 
--- labels and the root are in front of octets, with so many octets
+-- octets begin with labels and the root, of `width` octets
 record EndsLabels (octets : List ℕ) (width : ℕ) : Type 0 where
   front : List (List ℕ)
   rest : List ℕ
@@ -93,7 +93,7 @@ labels_few : (labels : List (List ℕ)) → length labels ≤ length (wire label
 labels_few [] = omega arith
 labels_few (l ∷ ls) = let later = labels_few ls in omega (arith, later, length-append l (wire ls))
 
--- the labels of a name in front are found
+-- the labels of the first name are found
 name_labels : (form rest : List ℕ) → IsWireName form → labels_before_root (length (form ++ rest)) (form ++ rest) ≡ Some (length form)
 name_labels form rest h =
     let front = h.absolute.0 in
@@ -147,7 +147,7 @@ widths_same octets (Some m) b h k =
 pub size_is : (octets : List ℕ) (found : Option ℕ) → AreOctetValues octets → FindsWidth IsWireName octets found → found ≡ name_size octets
 size_is octets found values h = widths_same octets found (name_size octets) h (name_found octets values)
 
--- ---- so many names
+-- ---- a number of names
 
 next_names : (names i : ℕ) (rest : List ℕ) → i < names → names_size (names - i) rest ≡ option_and_then (λ width. option_map (λ more. width + more) (names_size (names - (i + 1)) (drop width rest))) (name_size rest)
 next_names names i rest lt = let one : names - i ≡ suc (names - (i + 1)) = omega arith in ap (λ n. names_size n rest) one
@@ -188,7 +188,7 @@ walk_done names i width octets w le =
     let whole : width + 0 ≡ width = omega arith in
     sym (w.same ∙ ap (λ n. option_map (λ more. width + more) (names_size n (drop width octets))) none ∙ ap Some whole)
 
--- a slice from a place on
+-- a slice from an offset on
 pub behind : (width count : ℕ) (octets : List ℕ) → count ≡ length octets - width → take count (drop width octets) ≡ drop width octets
 behind width count octets is = take_all count (drop width octets) (omega (arith, is, length-drop width octets))
 
@@ -204,7 +204,7 @@ between_is start end count octets is =
     append_assoc (take start octets) (lowered (take (end - start) (drop start octets))) (take count (drop end octets))
     ∙ ap (λ o. take start octets ++ (lowered (take (end - start) (drop start octets)) ++ o)) (behind end count octets is)
 
--- octets in front stay
+-- the octets before names are unchanged
 numbers_form : (count : ℕ) (fields : List Field) (octets form : List ℕ) → CanonicalFields (replicate count Number8 ++ fields) octets form
     → (count ≤ length octets) × ((others : List ℕ) × (form ≡ take count octets ++ others) × CanonicalFields fields (drop count octets) others)
 numbers_form zero fields octets form h = (omega arith, (form, refl, h))
@@ -227,11 +227,11 @@ numbers_form (suc count) fields octets form h = by h.0 (sym h.3.0) h.4 h.5 (numb
 some_same : (m n : ℕ) → Some m ≡ Some n → m ≡ n
 some_same m n h = cc
 
--- the width of a name in front
+-- the width of the first name
 front_size : (part rest octets : List ℕ) → AreOctetValues octets → IsWireName part → octets ≡ part ++ rest → name_size octets ≡ Some (length part)
 front_size part rest octets values name is = names_in_front.width part rest (name_size octets) name (subst (λ o. FindsWidth IsWireName o (name_size octets)) is (name_found octets values))
 
--- names in front are lowered
+-- the first names are lowered
 names_form : (names width : ℕ) (octets form : List ℕ) → AreOctetValues octets → CanonicalFields (replicate names OfName) octets form → names_size names octets ≡ Some width → form ≡ lowered (take width octets) ++ drop width octets
 names_form zero width octets form values h is = h ∙ ap (λ n. lowered (take n octets) ++ drop n octets) (some_same 0 width is)
 names_form (suc names) width octets form values h is =
@@ -257,7 +257,7 @@ names_form (suc names) width octets form values h is =
     by rest_is None none later = absurd (let e = sym is ∙ sized rest_is ∙ ap (option_map (λ more. length part + more)) none in cc)
     by rest_is (Some more) some later = whole more (later more refl) (some_same (length part + more) width (ap (option_map (λ more. length part + more)) (sym some) ∙ sym (sized rest_is) ∙ is))
 
--- ---- octets and names in front
+-- ---- octets and names at the start
 
 is_octet_list : (octets : List ℕ) → AreOctetValues octets → list_all (λ o. nat_lt o 256) octets ≡ true
 is_octet_list [] h = refl
@@ -275,7 +275,7 @@ octet_list (o ∷ os) h = by (nat_lt o 256) refl h (octet_list os)
     by true is e more = All-cons (λ x. x < 256) o os (ltb-true o 256 is) (more e)
     by false is e more = absurd cc
 
--- names in front, as they are found
+-- the first names, as they are found
 names_start : (names width : ℕ) (octets : List ℕ) → AreOctetValues octets → names_size names octets ≡ Some width → StartsWithFields (replicate names OfName) octets
 names_start zero width octets values is = tt
 names_start (suc names) width octets values is =
@@ -296,7 +296,7 @@ numbers_start (suc count) fields [] values few h = absurd (omega arith)
 numbers_start (suc count) fields (o ∷ os) values few h =
     (o ∷ [], os, (refl, All-cons (λ x. x < 256) o [] (All-head (λ x. x < 256) o os values) (All-nil (λ x. x < 256))), refl, numbers_start count fields os (All-tail (λ x. x < 256) o os values) (omega arith) h)
 
--- ---- a form in front
+-- ---- a form at the start
 
 names_within : (names width : ℕ) (octets : List ℕ) → names_size names octets ≡ Some width → 0 < names → 0 < length octets
 names_within zero width octets is some = absurd (omega arith)
@@ -368,7 +368,7 @@ form_is_named rtype octets =
     (named_if (rtype == Rtype.sig) (names_behind 18 1) of_map (some_names 18 1 (omega arith))
     (named_if (rtype == Rtype.px) (names_behind 2 2) of_address (some_names 2 2 (omega arith)) (named_if (rtype == Rtype.a6) address (names_behind 0 0) (address_is_named (slice_index octets 0)) no_names)))
 
--- data begins with the fields that are in front
+-- RDATA begins with its untexted fields
 pub untexted_starts : (rtype : RecordType) (octets : List ℕ) → StartsWithFields (untexted_front rtype octets) octets
 untexted_starts rtype octets = form_starts (untexted_form rtype octets) octets (form_is_named rtype octets)
 

@@ -1,15 +1,15 @@
--- What holds of canonical forms of record data.
+-- Laws of canonical forms of RDATA.
 use Rattle.std.specs.Prelude.{◌≡◌, ◌↔◌, ℕ, List, ◌++◌}
 use Rattle.dns_fields.specs.declared.field.Field.{Field}
 use Rattle.dns_kinds.specs.declared.types.RecordType.{RecordType}
 use Rattle.dns_canonical.specs.FieldForms.{StartsWithFields, CanonicalFields}
 use Rattle.dns_canonical.specs.Untexted.{untexted_front}
 
--- octets have a canonical form exactly where they begin with the fields
+-- octets have a canonical form exactly if they begin with the fields
 abbrev pub HasFormWhereBegun : List Field → List ℕ → Type 0
 HasFormWhereBegun fields octets = StartsWithFields fields octets ↔ ((form : List ℕ) × CanonicalFields fields octets form)
 
--- so it is of each canonical form, by the fields, the octets and the form
+-- this holds for each canonical form, by the fields, the octets and the form
 abbrev pub EachForm : (List Field → List ℕ → List ℕ → Type 0) → Type 0
 EachForm Is = (fields : List Field) (octets form : List ℕ) → CanonicalFields fields octets form → Is fields octets form
 
@@ -17,10 +17,10 @@ EachForm Is = (fields : List Field) (octets form : List ℕ) → CanonicalFields
 abbrev pub IsOnlyForm : List Field → List ℕ → List ℕ → Type 0
 IsOnlyForm fields octets form = (other : List ℕ) → CanonicalFields fields octets other → form ≡ other
 
--- octets behind the fields stay
+-- octets after the fields are unchanged
 abbrev pub KeepsBehind : List Field → List ℕ → List ℕ → Type 0
 KeepsBehind fields octets form = (more : List ℕ) → CanonicalFields fields (octets ++ more) (form ++ more)
 
--- data of any type begins with its untexted fields
+-- RDATA of any type begins with its untexted fields
 abbrev pub StartsUntexted : RecordType → List ℕ → Type 0
 StartsUntexted rtype octets = StartsWithFields (untexted_front rtype octets) octets

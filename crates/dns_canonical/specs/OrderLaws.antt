@@ -1,4 +1,4 @@
--- What holds of the orders of names and octets, and of order keys.
+-- Laws of the orders of names and octets, and of order keys.
 use Rattle.std.specs.Prelude.{◌≡◌, ◌↔◌, ◌≤◌, ◌+◌, ◌*◌, ℕ, List, ◌∷◌, ◌++◌, length}
 use Rattle.std.specs.declared.cmp.Ordering.TheVariants.{Less, Equal}
 use Rattle.dns_octets.specs.Lowered.{lowered}
@@ -11,33 +11,33 @@ use Rattle.dns_canonical.specs.Names.{octet_order, name_order}
 abbrev pub LowersByLabels : List (List ℕ) → Type 0
 LowersByLabels labels = IsName labels → lowered (wire labels) ≡ lowered_wire labels
 
--- names are equal in canonical order exactly where their canonical forms are the same
+-- names are equal in canonical order exactly if their canonical forms are the same
 abbrev pub IsTiedByLowering : List (List ℕ) → List (List ℕ) → Type 0
 IsTiedByLowering a b = IsName a → IsName b → (name_order a b ≡ Equal) ↔ (lowered (wire a) ≡ lowered (wire b))
 
--- a name stands before one with a label more
+-- a name is before one with one more label
 abbrev pub StandsBeforeBelow : List (List ℕ) → List ℕ → Type 0
 StandsBeforeBelow name label = name_order name (label ∷ name) ≡ Less
 
--- keys compare octet by octet as their names do, and are one where the names are equal
+-- keys compare octet by octet as their names do, and are the same if the names are equal
 abbrev pub IsOrderedByKey : List (List ℕ) → List (List ℕ) → Type 0
 IsOrderedByKey a b = name_order a b ≡ octet_order (order_key a) (order_key b)
 
 abbrev pub IsTiedByKey : List (List ℕ) → List (List ℕ) → Type 0
 IsTiedByKey a b = (order_key a ≡ order_key b) ↔ (name_order a b ≡ Equal)
 
--- the key of a name begins with that of another exactly where the name is the other or below it
+-- the key of a name begins with that of another exactly if the name is the other or below it
 abbrev pub IsWithinByKey : List (List ℕ) → List (List ℕ) → Type 0
 IsWithinByKey name top = ((rest : List ℕ) × (order_key name ≡ order_key top ++ rest)) ↔ IsAtOrBelow name top
 
--- the key of a name below another goes on with its label
+-- the key of a name below another is the other's key and then the label's
 abbrev pub GoesOnByLabel : List ℕ → List (List ℕ) → Type 0
 GoesOnByLabel label name = order_key (label ∷ name) ≡ order_key name ++ label_key (lowered label)
 
--- a key has at most twice as many octets as the name on the wire, less one for each label
+-- the length of a key is at most twice that of the name in wire format, less one for each label
 abbrev pub HasShortKey : List (List ℕ) → Type 0
 HasShortKey labels = length (order_key labels) + length labels ≤ 2 * length (wire labels)
 
--- octets stand before those that go on after them
+-- octets are before longer ones that begin with them
 abbrev pub StandsBeforeMore : List ℕ → ℕ → List ℕ → Type 0
 StandsBeforeMore octets octet more = octet_order octets (octets ++ octet ∷ more) ≡ Less

@@ -8,19 +8,19 @@ use Rattle.dns_kinds.specs.declared.types.RecordType.{RecordType}
 use Rattle.dns_canonical.specs.Names.{name_order, octet_order}
 use Rattle.dns_fields.specs.declared.record_ref.RecordRef.{RecordRef}
 
--- what a record is sorted by: the labels of its owner, its class and type, and the octets of its data
+-- the parts by which records are sorted: the labels of the owner, the class and type, and the octets of the RDATA
 pub record RecordKey : Type 0 where
   pub owner : List (List ℕ)
   pub class : Class
   pub rtype : RecordType
   pub octets : List ℕ
 
--- by the owner, then by the class, then by the type, then by the data
+-- by the owner, then by the class, then by the type, then by the RDATA
 abbrev pub record_order : RecordKey → RecordKey → Ordering
 record_order =
     then_cmp (on (λ k. k.owner) name_order) (then_cmp (on (λ k. k.class) nat_cmp) (then_cmp (on (λ k. k.rtype) nat_cmp) (on (λ k. k.octets) octet_order)))
 
--- what a record is sorted by, where its owner has these labels
+-- the parts by which a record is sorted, if its owner has these labels
 abbrev pub key_of : List (List ℕ) → RecordRef → RecordKey
 key_of labels parts = record { owner = labels; class = parts.class; rtype = parts.rtype; octets = parts.data.now }
 

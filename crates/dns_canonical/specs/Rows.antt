@@ -90,7 +90,7 @@ below_row = (codes "b" ∷ [], refl)
 case_row : name_order (below (codes "Mail" ∷ [])) (codes "mAIL" ∷ codes "EXAMPLE" ∷ [] ∷ []) ≡ Equal
 case_row = refl
 
--- the root stands before all, and a label before one that goes on after it
+-- the root is before all, and a label before longer ones that begin with it
 root_row : neighbours (([] ∷ []) ∷ (codes "b" ∷ [] ∷ []) ∷ (codes "bb" ∷ [] ∷ []) ∷ (codes "c" ∷ [] ∷ []) ∷ []) ≡ Less ∷ Less ∷ Less ∷ []
 root_row = refl
 
@@ -100,7 +100,7 @@ lowered_row = refl
 wire_form_row : lowered_wire (codes "A\\" ∷ (192 ∷ 90 ∷ []) ∷ [] ∷ []) ≡ 2 ∷ 97 ∷ 92 ∷ 2 ∷ 192 ∷ 122 ∷ 0 ∷ []
 wire_form_row = refl
 
--- an absent octet stands before a zero
+-- an absent octet is before a zero
 absent_row : octet_order (1 ∷ []) (1 ∷ 0 ∷ []) ≡ Less
 absent_row = refl
 
@@ -110,7 +110,7 @@ unsigned_row = refl
 letters_row : octet_order (codes "a") (codes "B") ≡ Greater
 letters_row = refl
 
--- the owner decides first, then the class, then the type, then the data
+-- the owner decides first, then the class, then the type, then the RDATA
 abbrev key : List (List ℕ) → Class → RecordType → List ℕ → RecordKey
 key owner class rtype octets = record { owner = owner; class = class; rtype = rtype; octets = octets }
 
@@ -132,9 +132,9 @@ name_field_row = refl
 string_field_row : canonical_field OfString (2 ∷ 78 ∷ 83 ∷ []) ≡ 2 ∷ 78 ∷ 83 ∷ []
 string_field_row = refl
 
--- ---- names in data of types without a text form, with its octets in front and behind
+-- ---- names in RDATA of types without a text form, with the octets before and after them
 
--- the mail host of MD; of NXT (RFC 2535 section 5.2) the types behind the name stay
+-- the mail host of MD; in NXT (RFC 2535 section 5.2) the types after the name are unchanged
 abbrev two_letters : List ℕ
 two_letters = 1 ∷ 65 ∷ 1 ∷ 66 ∷ 0 ∷ []
 
@@ -144,7 +144,7 @@ host_row = refl
 next_row : untexted_front Rtype.nxt (two_letters ++ 64 ∷ []) ≡ OfName ∷ []
 next_row = refl
 
--- two names of PX behind 2 octets (RFC 2163 section 4), the second of which is cut off, or no name
+-- two names of PX after 2 octets (RFC 2163 section 4), the second of which is cut off, or not a name
 map_row : untexted_front Rtype.px (65 ∷ 66 ∷ (two_letters ++ two_letters)) ≡ Number8 ∷ Number8 ∷ OfName ∷ OfName ∷ []
 map_row = refl
 
@@ -154,7 +154,7 @@ cut_row = refl
 pointer_row : untexted_front Rtype.px (65 ∷ 66 ∷ (two_letters ++ 192 ∷ 12 ∷ [])) ≡ []
 pointer_row = refl
 
--- the signer's name of SIG behind 18 octets (RFC 2535 section 4.1)
+-- the signer's name of SIG after 18 octets (RFC 2535 section 4.1)
 signer_row : untexted_front Rtype.sig (replicate 18 65 ++ two_letters) ≡ replicate 18 Number8 ++ OfName ∷ []
 signer_row = refl
 
@@ -168,7 +168,7 @@ partial_row = refl
 whole_row : untexted_front Rtype.a6 (128 ∷ two_letters) ≡ Number8 ∷ OfName ∷ []
 whole_row = refl
 
--- without a prefix there is no name, and no prefix has more bits than an address
+-- without a prefix there are no names, and no prefix has more bits than an address
 no_prefix_row : untexted_front Rtype.a6 (0 ∷ replicate 16 65) ≡ []
 no_prefix_row = refl
 

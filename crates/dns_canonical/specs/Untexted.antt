@@ -1,4 +1,4 @@
--- Names in data of types that have no text form here, MD, MF, NXT and A6, and of SIG and PX.
+-- Names in RDATA of MD, MF, NXT and A6, which have no text form here, and of SIG and PX.
 use Rattle.std.specs.Prelude.{ℕ, zero, suc, ◌+◌, ◌-◌, ◌/◌, ◌==◌, ◌||◌, ◌&&◌, nat_lt, nat_le, is_some, if◌then◌else◌, Option, Some, None, List, [], ◌∷◌, ◌++◌, length, take, drop, replicate, slice_index}
 use Rattle.std.specs.List.{list_all}
 use Rattle.std.specs.Option.{option_map, option_and_then}
@@ -10,7 +10,7 @@ use Rattle.dns_kinds.specs.Rtype as Rtype
 use Rattle.dns_kinds.specs.declared.types.RecordType.{RecordType}
 use Rattle.dns_canonical.specs.declared.untexted.NamePlaces.{NamePlaces}
 
--- so many octets, and behind them so many names
+-- `front` octets, and after them `names` names
 abbrev pub names_behind : ℕ → ℕ → NamePlaces
 names_behind front names = record { front = front; names = names }
 
@@ -18,7 +18,7 @@ names_behind front names = record { front = front; names = names }
 abbrev pub address_form : ℕ → NamePlaces
 address_form prefix = if nat_lt 0 prefix && nat_le prefix 128 then names_behind (1 + (128 - prefix + 7) / 8) 1 else names_behind 0 0
 
--- MD, MF and NXT begin with a name, SIG has 18 octets in front of the signer's, and PX a preference in front of two (RFC 1035 sections 3.3.4 and 3.3.5, RFC 2535 sections 5.2 and 4.1, RFC 2163 section 4)
+-- MD, MF and NXT begin with a name, SIG has 18 octets before the signer's, and PX a preference before two (RFC 1035 sections 3.3.4 and 3.3.5, RFC 2535 sections 5.2 and 4.1, RFC 2163 section 4)
 abbrev pub untexted_form : RecordType → List ℕ → NamePlaces
 untexted_form rtype octets =
     if rtype == Rtype.md || rtype == Rtype.mf || rtype == Rtype.nxt then names_behind 0 1
@@ -27,7 +27,7 @@ untexted_form rtype octets =
     else if rtype == Rtype.a6 then address_form (slice_index octets 0)
     else names_behind 0 0
 
--- how many octets labels of at most 63 octets and the root behind them have, so many labels at most, if they are in front
+-- the length in octets of labels of at most 63 octets and the root after them, if octets begin with them; the first argument limits the number of labels
 abbrev pub labels_before_root : ℕ → List ℕ → Option ℕ
 labels_before_root zero octets = None
 labels_before_root (suc more) [] = None
@@ -39,11 +39,11 @@ abbrev pub if_at_most : ℕ → Option ℕ → Option ℕ
 if_at_most most None = None
 if_at_most most (Some width) = if nat_le width most then Some width else None
 
--- how many octets the name in front of octets has, if one is in front
+-- the length in octets of the name that octets begin with, if they begin with one
 abbrev pub name_size : List ℕ → Option ℕ
 name_size octets = if_at_most max_name (labels_before_root (length octets) octets)
 
--- and so many names
+-- the length in octets of `names` names
 abbrev pub names_size : ℕ → List ℕ → Option ℕ
 names_size zero octets = Some 0
 names_size (suc names) octets = option_and_then (λ width. option_map (λ more. width + more) (names_size names (drop width octets))) (name_size octets)
@@ -53,10 +53,10 @@ abbrev pub front_of_form : NamePlaces → List ℕ → List Field
 front_of_form p octets =
     if list_all (λ o. nat_lt o 256) octets && is_some (names_size p.names (drop p.front octets)) then replicate p.front Number8 ++ replicate p.names OfName else []
 
--- the fields in front of data up to the last name, and none where data doesn't begin with them
+-- the fields that RDATA begins with up to the last name, or none if it doesn't begin with such fields
 abbrev pub untexted_front : RecordType → List ℕ → List Field
 untexted_front rtype octets = front_of_form (untexted_form rtype octets) octets
 
--- octets with those from one place to another in lower case, which follows the code
+-- octets with those from one offset to another in lower case, as the code does it
 abbrev pub lowered_between : ℕ → ℕ → List ℕ → List ℕ
 lowered_between start end octets = take start octets ++ (lowered (take (end - start) (drop start octets)) ++ drop end octets)

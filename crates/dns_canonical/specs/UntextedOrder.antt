@@ -1,4 +1,4 @@
--- The order of data of types that have no text form here.
+-- The order of RDATA of types that have no text form here.
 use Rattle.std.specs.Prelude.{◌≡◌, ℕ, List}
 use Rattle.std.specs.declared.cmp.Ordering.{Ordering}
 use Rattle.dns_kinds.specs.declared.types.RecordType.{RecordType}
@@ -11,7 +11,7 @@ use Rattle.dns_canonical.specs.declared.untexted.NameSpan.{NameSpan}
 abbrev pub lower_names : NameSpan → List ℕ → List ℕ
 lower_names names octets = lowered_between names.start names.end octets
 
--- the canonical form of data of a type
+-- the canonical form of RDATA of a type
 abbrev pub IsUntextedForm : RecordType → List ℕ → List ℕ → Type 0
 IsUntextedForm rtype octets form = CanonicalFields (untexted_front rtype octets) octets form
 

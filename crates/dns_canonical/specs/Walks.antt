@@ -1,30 +1,30 @@
--- What the walks over the labels of a name need and give. It follows the code.
+-- The preconditions and results of the loops over the labels of a name. The definitions follow the code.
 use Rattle.std.specs.Prelude.{◌≡◌, ℕ, ◌≤◌, List, ◌++◌, length, drop}
 use Rattle.std.specs.Ordering.{ordering_then}
 use Rattle.std.specs.declared.cmp.Ordering.{Ordering}
 use Rattle.dns_wire.specs.Wire.{wire, wire_label}
 use Rattle.dns_canonical.specs.Names.{name_order}
 
--- a label is in front of the octets
+-- the octets begin with a label
 abbrev pub BeginsWithLabel : List ℕ → Type 0
 BeginsWithLabel octets = (label rest : List ℕ) × (octets ≡ wire_label label ++ rest)
 
--- the octets are those of labels, so many at least
+-- the octets are those of at least `count` labels
 abbrev pub HasLabels : ℕ → List ℕ → Type 0
 HasLabels count octets = (labels : List (List ℕ)) × (octets ≡ wire labels) × (count ≤ length labels)
 
--- so many labels have the octets
+-- the octets have this number of labels
 abbrev pub IsLabelCount : List ℕ → ℕ → Type 0
 IsLabelCount octets count = (labels : List (List ℕ)) → octets ≡ wire labels → count ≡ length labels
 
--- octets of labels behind the first so many
+-- the octets of the labels after the first `count`
 abbrev pub AreBehindLabels : ℕ → List ℕ → List ℕ → Type 0
 AreBehindLabels count octets rest = (labels : List (List ℕ)) → octets ≡ wire labels → rest ≡ wire (drop count labels)
 
--- both are octets of labels, of as many
+-- both are octets of the same number of labels
 abbrev pub AreLevel : List ℕ → List ℕ → Type 0
 AreLevel left right = (a b : List (List ℕ)) × (left ≡ wire a) × (right ≡ wire b) × (length a ≡ length b)
 
--- their order, or another one where that is equal
+-- their order, or another one if they are equal
 abbrev pub IsLevelOrder : List ℕ → List ℕ → Ordering → Ordering → Type 0
 IsLevelOrder left right otherwise order = (a b : List (List ℕ)) → left ≡ wire a → right ≡ wire b → order ≡ ordering_then (name_order a b) otherwise

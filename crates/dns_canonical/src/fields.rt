@@ -1,4 +1,4 @@
-//! The canonical form of record data (RFC 4034 section 6.2, RFC 6840 section 5.1).
+//! The canonical form of RDATA (RFC 4034 section 6.2, RFC 6840 section 5.1).
 ghost use Rattle.std.specs.Prelude.{◌≡◌, ◌↔◌, ◌<◌, ◌+◌, ◌++◌, length, Contains, IsTrue, OnOk, OnErr, IfErr};
 ghost use Rattle.dns_octets.specs.Appending.{Extends, Gains};
 ghost use Rattle.dns_canonical.specs.FieldForms.{lowered_types, canonical_field, CanonicalFields, RefusesFields};
@@ -10,13 +10,13 @@ use dns_kinds::RecordType;
 use dns_octets::{OctetsBuilder, ShortBuf};
 use thiserror::Error;
 
-/// Why data has no canonical form, or that it didn't fit.
+/// The reason why no canonical form was appended.
 #[derive(Clone, Copy, Debug, PartialEq, Eq, Error)]
 pub enum CanonicalError {
-    /// The data doesn't begin with the fields.
+    /// The RDATA doesn't begin with the fields.
     #[error("record data without its fields")]
     BadData,
-    /// There was no room, or no memory.
+    /// The target is too small, or there is no memory.
     #[error("buffer size exceeded")]
     ShortBuf,
 }
@@ -29,7 +29,7 @@ impl From<ShortBuf> for CanonicalError {
     }
 }
 
-/// The types whose data has its names in lower case.
+/// The types with names in lower case in the canonical form of their RDATA.
 const LOWERED: [RecordType; 23] = [
     RecordType::NS,
     RecordType::MD,
@@ -56,9 +56,9 @@ const LOWERED: [RecordType; 23] = [
     RecordType::RRSIG,
 ];
 
-/// Whether the names in data of a type are in lower case in its canonical form: in the types of RFC
-/// 4034 section 6.2 but NSEC (RFC 6840 section 5.1), and in no others. HINFO, which the RFC lists
-/// too, has no names.
+/// Returns whether the names in RDATA of a type are in lower case in its canonical form. They are
+/// for the types of RFC 4034 section 6.2 except NSEC (RFC 6840 section 5.1), and for no others.
+/// HINFO, which the RFC lists too, has no names.
 pub fn lowers_names(rtype: RecordType) -> bool
     ensures { IsTrue result ↔ Contains lowered_types rtype }
 {
@@ -81,12 +81,13 @@ fn append_canonical_field<B: OctetsBuilder>(
     }
 }
 
-/// Appends the canonical form of record data that begins with these fields: the names among them in
-/// lower case, and all other octets as they stand, also those behind the fields.
+/// Appends the canonical form of RDATA that begins with these fields: the names among them in lower
+/// case, and all other octets unchanged, also those after the fields.
 ///
-/// The fields are those of the type up to the last name, and none where the type doesn't
-/// [lower its names](lowers_names). Data that doesn't begin with them is
-/// [`CanonicalError::BadData`]. After an error some octets may have been appended.
+/// The fields are those of the type up to its last name. If the type doesn't [lower its
+/// names](lowers_names), there are none. Fails with [`CanonicalError::BadData`] if the RDATA
+/// doesn't begin with the fields, and with `CanonicalError::ShortBuf` if the target fails. On an
+/// error, some octets may have been appended.
 pub fn append_canonical_fields<B: OctetsBuilder>(
     fields: &[Field],
     octets: &[u8],

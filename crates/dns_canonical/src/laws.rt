@@ -1,4 +1,4 @@
-//! What holds of all names, record data and records.
+//! Laws of all names, RDATA and records.
 ghost use Rattle.std.specs.Prelude.{ℕ, ◌≡◌, ◌↔◌, List, length};
 ghost use Rattle.std.specs.Cmp.{IsTotalOrder};
 ghost use Rattle.std.specs.declared.cmp.Ordering.TheVariants.{Equal};
@@ -12,16 +12,17 @@ ghost use Rattle.dns_canonical.specs.Names.{octet_order, name_order};
 ghost use Rattle.dns_canonical.specs.OrderLaws.{GoesOnByLabel, HasShortKey, IsOrderedByKey, IsTiedByKey, IsTiedByLowering, IsWithinByKey, LowersByLabels, StandsBeforeBelow, StandsBeforeMore};
 ghost use Rattle.dns_canonical.specs.Records.{RecordKey, record_order};
 
-/// To lower all octets of a name on the wire lowers its labels and nothing else, since no length
-/// octet is a letter. The result is a name, and doing it again changes nothing.
+/// States that lowering all octets of a name in wire format lowers its labels and nothing else,
+/// since no length octet is a letter. The result is a name, and lowering it again changes nothing.
+/// Does nothing.
 pub fn names_are_lowered_by_labels()
     ensures labels { (labels : List (List ℕ)) → LowersByLabels labels }
     ensures name { (form : List ℕ) → IsWireName form → IsWireName (lowered form) }
     ensures again { (octets : List ℕ) → lowered (lowered octets) ≡ lowered octets }
 {}
 
-/// The order of names is total, and equal exactly where the canonical forms are the same. A name
-/// stands before the names below it.
+/// States that the order of names is total, and equal exactly if their canonical forms are. A name
+/// is before the names below it. Does nothing.
 pub fn names_are_ordered()
     ensures total { IsTotalOrder name_order }
     ensures equal { (a b : List (List ℕ)) → IsTiedByLowering a b }
@@ -30,8 +31,8 @@ pub fn names_are_ordered()
 
 /// States that order keys compare octet by octet as their names do in canonical order, that two
 /// names have one key if and only if they differ at most in case, and that a name's key begins with
-/// the key of another if and only if the name is the other or below it. A key has at most twice as
-/// many octets as the name in wire format, less one for each label.
+/// the key of another if and only if the name is the other or below it. The length of a key is at
+/// most twice that of the name in wire format, less one for each label. Does nothing.
 pub fn keys_are_ordered_as_names()
     ensures order { (a b : List (List ℕ)) → IsOrderedByKey a b }
     ensures equal { (a b : List (List ℕ)) → IsTiedByKey a b }
@@ -40,26 +41,26 @@ pub fn keys_are_ordered_as_names()
     ensures length { (labels : List (List ℕ)) → HasShortKey labels }
 {}
 
-/// The order of octets is total, and equal exactly where they are the same. Octets stand before
-/// those that go on after them.
+/// States that the order of octets is total, and equal exactly if the octets are. Octets are before
+/// longer ones that begin with them. Does nothing.
 pub fn octets_are_ordered()
     ensures total { IsTotalOrder octet_order }
     ensures equal { (a b : List ℕ) → (octet_order a b ≡ Equal) ↔ (a ≡ b) }
     ensures absent { (octets more : List ℕ) (octet : ℕ) → StandsBeforeMore octets octet more }
 {}
 
-/// The order of records is total, and equal exactly where the owners' is and class, type and data
-/// are the same.
+/// States that the order of records is total, and equal exactly if the owners are equal in order
+/// and class, type and RDATA are the same. Does nothing.
 pub fn records_are_ordered()
     ensures total { IsTotalOrder record_order }
     ensures equal { (a b : RecordKey) → (record_order a b ≡ Equal)
         ↔ ((name_order a.owner b.owner ≡ Equal) × (a.class ≡ b.class) × (a.rtype ≡ b.rtype) × (a.octets ≡ b.octets)) }
 {}
 
-/// Data that begins with fields has one canonical form, and no other data has one. The form has as
-/// many octets and is the same but for the case of letters; it begins with these fields, and is its
-/// own canonical form. Octets behind the fields stay. Data of every type begins with its
-/// [`untexted_fields`](crate::untexted_fields).
+/// States that RDATA that begins with fields has one canonical form, and that no other RDATA has
+/// one. The form has the same length, and differs at most in the case of letters. It begins with
+/// these fields, and is its own canonical form. Octets after the fields are unchanged. RDATA of
+/// every type begins with its [`untexted_fields`](crate::untexted_fields). Does nothing.
 pub fn data_has_one_canonical_form()
     ensures some { (fields : List Field) (octets : List ℕ) → HasFormWhereBegun fields octets }
     ensures one { EachForm IsOnlyForm }

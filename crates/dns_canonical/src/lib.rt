@@ -1,4 +1,4 @@
-//! The canonical form and order of names, record data and records (RFC 4034 sections 6.1 to 6.3).
+//! The canonical form and order of names, RDATA and records (RFC 4034 sections 6.1 to 6.3).
 #![tactic(auto)]
 
 pub mod fields;

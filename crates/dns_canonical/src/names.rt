@@ -11,10 +11,10 @@ use dns_octets::lowered::compare_lowered;
 use dns_octets::{OctetsBuilder, ShortBuf};
 use std::cmp::Ordering;
 
-/// How many octets are lowered at once.
+/// Number of octets that are lowered at once.
 const BLOCK: usize = 64;
 
-/// Appends a block of octets in lower case, or changes nothing.
+/// Appends a block of octets in lower case. On an error, nothing is appended.
 fn append_block<B: OctetsBuilder>(octets: &[u8], target: &mut B) -> Result<(), ShortBuf>
     requires { length octets.now ≤ BLOCK }
     ensures ok { OnOk result (B.octets target.new ≡ B.octets target.old ++ lowered octets.now) }
@@ -28,10 +28,10 @@ fn append_block<B: OctetsBuilder>(octets: &[u8], target: &mut B) -> Result<(), S
     target.append_slice(small)
 }
 
-/// Appends octets with the letters A to Z in lower case. Of a name on the wire this is the canonical
-/// form (RFC 4034 section 6.2), since its length octets are no letters.
+/// Appends octets with the letters A to Z in lower case. For a name in wire format this is the
+/// canonical form (RFC 4034 section 6.2), since its length octets are not letters.
 ///
-/// Where the octets don't fit, the first of them may have been appended.
+/// Fails if the target does. The first octets may then have been appended.
 pub fn append_lowered<B: OctetsBuilder>(octets: &[u8], target: &mut B) -> Result<(), ShortBuf>
     ensures ok { OnOk result (B.octets target.new ≡ B.octets target.old ++ lowered octets.now) }
     ensures err { OnErr result (B.room.fits < length (B.octets target.old) + length octets.now) }
@@ -46,14 +46,14 @@ pub fn append_lowered<B: OctetsBuilder>(octets: &[u8], target: &mut B) -> Result
     Ok(())
 }
 
-/// A label in front of octets, and the octets behind it.
+/// The label that octets begin with, and the octets after it.
 #[derive(Clone, Copy)]
 pub(crate) struct FrontLabel<'a> {
     pub(crate) label: &'a [u8],
     pub(crate) rest: &'a [u8],
 }
 
-/// The label in front of octets.
+/// Returns the label that octets begin with.
 pub(crate) fn front_label(octets: &[u8]) -> FrontLabel<'_>
     requires { BeginsWithLabel octets.now }
     ensures { octets.now ≡ wire_label result.label.now ++ result.rest.now }
@@ -65,7 +65,7 @@ pub(crate) fn front_label(octets: &[u8]) -> FrontLabel<'_>
     }
 }
 
-/// How many labels octets are.
+/// Returns the number of labels of octets.
 fn count_labels(octets: &[u8]) -> usize
     requires { HasLabels 0 octets.now }
     ensures { IsLabelCount octets.now result }
@@ -79,7 +79,7 @@ fn count_labels(octets: &[u8]) -> usize
     count
 }
 
-/// The octets behind so many labels.
+/// Returns the octets after the first `count` labels.
 fn behind_labels(octets: &[u8], count: usize) -> &[u8]
     requires { HasLabels count octets.now }
     ensures { AreBehindLabels count octets.now result.now }
@@ -130,11 +130,10 @@ fn compare_level(left: &[u8], right: &[u8], otherwise: Ordering) -> Ordering
     order
 }
 
-/// The canonical order of two names on the wire (RFC 4034 section 6.1).
+/// Compares two names in wire format in canonical order (RFC 4034 section 6.1).
 ///
-/// The labels are compared from the root on, each in lower case and octet by octet. A label or an
-/// octet that is absent stands before any. The order is equal where the names are the same but for
-/// the case of letters.
+/// The labels are compared from the root on, each in lower case and octet by octet. An absent label
+/// or octet is before any other. The order is equal if the names differ at most in case.
 pub fn compare_names(left: &[u8], right: &[u8]) -> Ordering
     requires left { IsWireName left.now }
     requires right { IsWireName right.now }

@@ -1,4 +1,4 @@
-//! The order of record data and of records (RFC 4034 section 6.3).
+//! The canonical order of RDATA and of records (RFC 4034 section 6.3).
 ghost use Rattle.std.specs.Prelude.{◌≡◌};
 ghost use Rattle.dns_spelling.specs.NameSpelling.{IsWireName};
 ghost use Rattle.dns_canonical.specs.Names.{octet_order};
@@ -8,17 +8,17 @@ use crate::names::compare_names;
 use dns_fields::RecordRef;
 use std::cmp::Ordering;
 
-/// The canonical order of record data (RFC 4034 section 6.3): octet by octet, as unsigned numbers.
-/// An absent octet stands before a zero.
+/// Compares RDATA in canonical order (RFC 4034 section 6.3): octet by octet, as unsigned numbers.
+/// An absent octet is before a zero.
 pub fn compare_octets(left: &[u8], right: &[u8]) -> Ordering
     ensures { result ≡ octet_order left.now right.now }
 {
     left.cmp(right)
 }
 
-/// The order of two records: by their owners, then by class and by type as numbers, and then by
-/// their data, which is in canonical form (RFC 4034 section 6, RFC 8976 section 3.3.1). Times to live
-/// don't count.
+/// Compares two records: by their owners, then by class and by type as numbers, and then by the
+/// octets of their RDATA, which should be in canonical form (RFC 4034 section 6, RFC 8976 section
+/// 3.3.1). TTLs are not compared.
 pub fn compare_records(left: &RecordRef<'_>, right: &RecordRef<'_>) -> Ordering
     requires left { IsWireName left.now.owner.now }
     requires right { IsWireName right.now.owner.now }

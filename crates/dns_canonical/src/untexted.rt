@@ -1,4 +1,5 @@
-//! Names in data of types that have no text form here, MD, MF, NXT and A6, and of SIG and PX.
+//! Names in RDATA of MD, MF, NXT and A6, which have only the generic presentation format here, and
+//! of SIG and PX.
 ghost use Rattle.std.specs.Prelude.{◌≡◌, ◌<◌, ◌≤◌, length, IfSome};
 ghost use Rattle.dns_canonical.specs.Names.{octet_order};
 ghost use Rattle.dns_canonical.specs.Untexted.{address_form, untexted_form, names_size, untexted_front};
@@ -9,16 +10,16 @@ use dns_kinds::RecordType;
 use dns_spelling::name_width;
 use std::cmp::Ordering;
 
-/// How many octets stand in front of names, and how many names there are.
+/// The number of octets before names, and the number of names.
 pub(crate) struct NamePlaces {
     front: usize,
     names: usize,
 }
 
-/// The most octets in front of names: those of SIG.
+/// Greatest number of octets before names: those of SIG.
 const MAX_FRONT: usize = 18;
 
-/// So many octets, and names behind them.
+/// Octets, and names after them.
 static OCTETS_AND_NAMES: [Field; 20] = [
     Field::Number8,
     Field::Number8,
@@ -42,9 +43,9 @@ static OCTETS_AND_NAMES: [Field; 20] = [
     Field::Name,
 ];
 
-/// Where the name stands in data of A6 (RFC 2874 section 3.1), by the length of the prefix in bits:
-/// behind that octet, and as many octets as hold the other bits of an address. Without a prefix there
-/// is none.
+/// Returns the position of the name in RDATA of A6 (RFC 2874 section 3.1), by the length of the
+/// prefix in bits. The name follows that octet and the octets with the other bits of the address.
+/// If the prefix has no bits, or more than an address, there is no name.
 fn address_places(prefix: u8) -> NamePlaces
     ensures { result ≡ address_form prefix }
 {
@@ -58,7 +59,7 @@ fn address_places(prefix: u8) -> NamePlaces
     }
 }
 
-/// Where names stand in data of a type without a text form.
+/// Returns the position of the names in RDATA of a type that has only the generic form.
 fn name_places(rtype: RecordType, octets: &[u8]) -> NamePlaces
     ensures form { result ≡ untexted_form rtype octets.now }
     ensures few { (result.front ≤ MAX_FRONT) × (result.names ≤ 2) }
@@ -77,7 +78,8 @@ fn name_places(rtype: RecordType, octets: &[u8]) -> NamePlaces
     NamePlaces { front, names }
 }
 
-/// How many octets so many names in front of octets have, or none where these are not in front.
+/// Returns the length in octets of `names` names that octets begin with. Returns `None` if octets
+/// don't begin with them.
 fn names_width(names: usize, octets: &[u8]) -> Option<usize>
     ensures size { result ≡ names_size names octets.now }
     ensures within { IfSome result (λ width. width ≤ length octets.now) }
@@ -89,8 +91,9 @@ fn names_width(names: usize, octets: &[u8]) -> Option<usize>
     Some(width)
 }
 
-/// The fields with which data of a type without a text form begins, up to the last name: octets, and
-/// names behind them. There are none where the type has no names, and where data doesn't begin so.
+/// Returns the fields that RDATA of a type with only the generic form begins with, up to the last
+/// name: octets, and names after them. Returns no fields if the type has no names, or if the RDATA
+/// doesn't begin with such fields.
 pub fn untexted_fields(rtype: RecordType, octets: &[u8]) -> &'static [Field]
     ensures { result.now ≡ untexted_front rtype octets.now }
 {
@@ -101,14 +104,14 @@ pub fn untexted_fields(rtype: RecordType, octets: &[u8]) -> &'static [Field]
     &OCTETS_AND_NAMES[MAX_FRONT - front..MAX_FRONT + names]
 }
 
-/// The octets from `start` to before `end`.
+/// The span of the names: the octets from `start` to before `end`.
 #[derive(Clone, Copy)]
 pub(crate) struct NameSpan {
     start: usize,
     end: usize,
 }
 
-/// The octets of the names in data of a type without a text form.
+/// Returns the span of the names in RDATA of a type with only the generic form.
 fn name_span(rtype: RecordType, octets: &[u8]) -> NameSpan
     ensures within { (result.start ≤ result.end) × (result.end ≤ length octets.now) }
     ensures form { LowersUntexted rtype octets.now result }
@@ -126,7 +129,7 @@ fn name_span(rtype: RecordType, octets: &[u8]) -> NameSpan
     }
 }
 
-/// The order of octets of which some are lowered.
+/// Compares octets, with those of the names in lower case.
 fn compare_between(left: &[u8], names: NameSpan, right: &[u8], others: NameSpan) -> Ordering
     requires left { (names.start ≤ names.end) × (names.end ≤ length left.now) }
     requires right { (others.start ≤ others.end) × (others.end ≤ length right.now) }
@@ -146,7 +149,7 @@ fn compare_between(left: &[u8], names: NameSpan, right: &[u8], others: NameSpan)
     first.cmp(second)
 }
 
-/// The order of the canonical forms of data of a type without a text form.
+/// Compares the canonical forms of RDATA of a type with only the generic form.
 pub fn compare_untexted(rtype: RecordType, left: &[u8], right: &[u8]) -> Ordering
     ensures { IsUntextedOrder rtype left.now right.now result }
 {
