@@ -1,4 +1,4 @@
--- The places of errors.
+-- The offsets of errors.
 use Rattle.std.proofs.Common.{ℕ, ◌≡◌, ◌+◌, List, ap, sym, ◌∙◌, arith, refl}
 use Rattle.std.specs.Prelude.{Result, Ok, Err}
 use Rattle.dns_octets.specs.Room.{Room}
@@ -18,7 +18,7 @@ moved r h is = h ∙ ap (λ p. error_at p r.kind) is
 pub kind_of : {at : ℕ} {kind : ErrorKind} (r : RecordError) → r ≡ error_at at kind → r.kind ≡ kind
 kind_of r h = ap (λ (e : RecordError). e.kind) h
 
--- an error that is known, at the same place
+-- an error that is known, at the same offset
 pub known_at : {at place : ℕ} {kind : ErrorKind} (r : RecordError) → r ≡ error_at at kind → at ≡ place → IsErrorAt place r
 known_at {at} {place} r h is = h ∙ ap (error_at at) (sym (kind_of r h)) ∙ ap (λ p. error_at p r.kind) is
 

@@ -1,4 +1,4 @@
--- Fields in front of octets.
+-- Fields at the start of octets.
 use Rattle.std.proofs.Common.{ℕ, Some, None, ◌≡◌, ◌<◌, ◌+◌, ◌-◌, List, [], ◌∷◌, ◌++◌, length, take, drop, get_or, refl, sym, ap, subst, ◌∙◌, arith, length-append, add-one}
 use Rattle.std.proofs.Math.Seq.{drop-append_seam, take-append_seam, drop-cons}
 use Rattle.std.proofs.lemmas.List.{take-append-drop}
@@ -15,7 +15,7 @@ module _ (Is : List ℕ → Type 0) (fronts : StandInFront Is) where
       let same : Some width ≡ Some (length form) = fronts.width form more (Some width) one (subst (λ o. FindsWidth Is o (Some width)) is found) in
       cc same
 
-  -- behind the form in front stands one rest
+  -- one rest follows the form that octets begin with
   pub behind_front : (octets form more : List ℕ) (width : ℕ) → FindsWidth Is octets (Some width) → octets ≡ form ++ more → Is form → drop width octets ≡ more
   behind_front octets form more width found is one =
       ap (λ n. drop n octets) (front_width octets form more width found is one) ∙ ap (drop (length form)) is ∙ drop-append_seam form more
@@ -38,7 +38,7 @@ fields_begin_once (f ∷ fs) octets a b h k =
     ∙ behind_front Is (fronts_of f) octets k.0 k.1 (length h.0) (front_found Is (fronts_of f) octets h.0 h.1 h.2 h.3) k.2 k.3 in
     fields_begin_once fs k.1 a b (subst (λ o. BeginsWithFields fs o a) same h.4) k.4
 
--- what stands behind the fields from a place on is what stands behind all of them
+-- what follows the fields from an index on is what follows all of them
 pub record HasSplit (fields : List Field) (octets : List ℕ) (more : List Field) (left : List ℕ) : Type 0 where
   pub on : (rest : List ℕ) → BeginsWithFields more left rest → BeginsWithFields fields octets rest
   pub back : (rest : List ℕ) → BeginsWithFields fields octets rest → BeginsWithFields more left rest
@@ -59,7 +59,7 @@ one_split fields more next octets left after f width h is found rest_is = subst 
     behind : (rest : List ℕ) → BeginsWithFields (f ∷ next) left rest → BeginsWithFields next (drop width left) rest
     behind rest k = subst (λ o. BeginsWithFields next o rest) (sym (behind_front (field_form None f).is_wire (fronts_of f) left k.0 k.1 width found k.2 k.3)) k.4
 
--- where no form of the next field is in front, the octets don't begin with the fields
+-- if octets don't begin with a form of the next field, they don't begin with the fields
 pub not_split : (fields more next : List Field) (octets left : List ℕ) (f : Field) → HasSplit fields octets more left → more ≡ f ∷ next → FindsWidth (field_form None f).is_wire left None
     → (rest : List ℕ) → BeginsWithFields fields octets rest → ⊥
 not_split fields more next octets left f h is none rest k =

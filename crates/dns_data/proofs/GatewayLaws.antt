@@ -121,7 +121,7 @@ module _ (origin : Option (List (List ℕ))) (number : ℕ) (room : Room) (end :
       address t octets (inl sp) = absurd (other sp.0)
       address t octets (inr sp) = sp
 
--- ---- what is taken one behind the other
+-- ---- what is parsed one after the other
 
 module _ (origin : Option (List (List ℕ))) (number algorithm : ℕ) (room : Room) (end : ℕ) (tokens : List TokenSeen) (old : List ℕ) (begun : ℕ) (rest : List TokenSeen) (middle : List ℕ) (r : Result (Unit {0}) RecordError) (left : List TokenSeen) (new : List ℕ) where
   pub type_before : begun ≡ end → (t : TokenSeen) × (tokens ≡ t ∷ rest) × gateway_type_form.spells t (number ∷ []) × (middle ≡ old ++ number ∷ [])
@@ -138,7 +138,7 @@ module _ (origin : Option (List (List ℕ))) (number algorithm : ℕ) (room : Ro
       → TakesRest room (key_form algorithm) begun rest middle r left new → TakesRest room (behind_algorithm origin number algorithm) end tokens old r left new
   gateway_before ends k h = behind_taken (gateway_form origin number) (λ gateway. key_form algorithm) room end tokens old (gateway_once origin number) k.0 rest k.2.0 middle k.1 k.2.1 k.2.2 begun r left new ends h
 
--- ---- which part is refused
+-- ---- the part that is rejected
 
 module _ (origin : Option (List (List ℕ))) where
   module _ (tokens left : List TokenSeen) (t : TokenSeen) (rest : List TokenSeen) (is : tokens ≡ t ∷ rest) (number : ℕ) (spelled : gateway_type_form.spells t (number ∷ [])) where
@@ -180,7 +180,7 @@ module _ (room : Room) (algorithm end : ℕ) (tokens : List TokenSeen) (old : Li
       by (inl short) = inl (short.0, λ octets sp. short.1 octets (from octets sp))
       by (inr bad) = inr (why bad.0, λ octets sp. bad.1 octets (from octets sp))
 
-  -- a key that may be left out, and one that may not
+  -- a key that may be omitted, and one that may not
   pub any_key : algorithm ≡ 0 → (r : Result (Unit {0}) RecordError) (left : List TokenSeen) (new : List ℕ) → TakesRest room (digits_form InBase64) end tokens old r left new → TakesRest room (key_form algorithm) end tokens old r left new
   any_key is (Ok x) left new h = (h.0, (h.1.0, (h.1.1, λ none. is), h.1.2))
   any_key is (Err r) left new h = key_refused (digits_form InBase64) r left new (λ octets sp. sp.0) inl h
@@ -209,7 +209,7 @@ four_octets a h = h.0
 pub sixteen_octets : (a : Ipv6Addr) → IsGateway (Ipv6 a) → length (gateway_octets (Ipv6 a)) ≡ 16
 sixteen_octets a h = length_octets_of (ipv6_segments a) ∙ ap (λ n. 2 * n) h.0
 
--- the octets of a gateway stand in front in one way
+-- octets begin with one gateway of a type at most
 pub gateway_width_is : (number : ℕ) (form rest : List ℕ) (found : Option ℕ) → (gateway_form None number).is_wire form → FindsWidth (gateway_form None number).is_wire (form ++ rest) found → found ≡ Some (length form)
 gateway_width_is number form rest None is finds = absurd (finds form rest is refl)
 gateway_width_is number form rest (Some w) (inl name) (within, inl found) = names_in_front.width form rest (Some w) name.1 (within, found.1)
@@ -234,7 +234,7 @@ no_octets : (octets : List ℕ) → length octets ≡ 0 → octets ≡ []
 no_octets [] none = refl
 no_octets (o ∷ os) none = absurd (omega (arith, none))
 
--- octets are a gateway and a key, behind two others
+-- octets are a gateway and a key, after two others
 pub record IsKeyed (a b : ℕ) (octets : List ℕ) : Type 0 where
   pub gateway : List ℕ
   pub key : List ℕ
@@ -247,7 +247,7 @@ one_octet [] h = absurd (omega (arith, h))
 one_octet (o ∷ []) h = refl
 one_octet (o ∷ p ∷ os) h = absurd (omega (arith, h))
 
--- the octet in front is the first
+-- the first octet
 one_front : (a : ℕ) (octets front back : List ℕ) → length front ≡ 1 → a ∷ octets ≡ front ++ back → (slice_index front 0 ≡ a) × (back ≡ octets)
 one_front a octets front back h is =
     let all : a ∷ octets ≡ slice_index front 0 ∷ back = is ∙ ap (λ o. o ++ back) (one_octet front h) in

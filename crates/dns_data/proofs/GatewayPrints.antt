@@ -1,4 +1,4 @@
--- What gateways and keys are printed as.
+-- What gateways and keys print as.
 use Rattle.std.proofs.Common.{ℕ, ◌≡◌, ◌≢◌, ◌+◌, ◌-◌, ◌≤◌, Some, None, List, [], ◌∷◌, length, take, drop, sym, ap, subst, ◌∙◌, inl, inr, arith, append-nil, length-append, length-drop}
 use Rattle.std.specs.Fmt.{decimal}
 use Rattle.std.specs.Prelude.{slice_index}
@@ -14,7 +14,7 @@ use Rattle.dns_data.proofs.GatewayLaws.{IsKeyed, keyed, gateway_width_is, two_in
 use Rattle.dns_data.proofs.PlacesBack.{gateway_sized, word_is}
 use Rattle.dns_data.proofs.Sizes.{name_sized}
 
--- ---- a gateway that is no name
+-- ---- a gateway that is not a name
 
 record HasOwn (number : ℕ) (octets : List ℕ) : Type 0 where
   gateway : Gateway
@@ -25,7 +25,7 @@ own_of : (number : ℕ) (octets : List ℕ) → number ≢ 3 → (gateway_form N
 own_of number octets other (inl name) = absurd (other name.0)
 own_of number octets other (inr own) = record { gateway = own.0; front = (own.1, own.2, [], own.3 ∙ sym (append-nil (gateway_octets own.0))); whole = own.3 }
 
--- octets that are a gateway are printed as that one
+-- octets that are a gateway print as that one
 pub gateway_shown : (number : ℕ) (octets : List ℕ) (g : Gateway) → number ≢ 3 → (gateway_form None number).is_wire octets → FrontGateway number octets g → gateway_word number octets ≡ gateway_text g
 gateway_shown number octets g other is front =
     let own = own_of number octets other is in
@@ -35,14 +35,14 @@ gateway_shown number octets g other is front =
 pub gateway_there : (number : ℕ) (octets : List ℕ) → number ≢ 3 → (gateway_form None number).is_wire octets → ((g : Gateway) → FrontGateway number octets g → ⊥) → ⊥
 gateway_there number octets other is none = let own = own_of number octets other is in none own.gateway own.front
 
--- ---- the gateway behind a type and an algorithm
+-- ---- the gateway after a type and an algorithm
 
 pub record IsGatewayFront (octets : List ℕ) (width : ℕ) : Type 0 where
   pub size : width ≡ gateway_size (slice_index octets 0) (drop 2 octets)
   pub is_wire : (gateway_form None (slice_index octets 0)).is_wire (take width (drop 2 octets))
   pub fits : 2 + width ≤ length octets
 
--- what is behind both, as it is cut off
+-- the octets after both, as they are cut off
 abbrev pub rest_of_key : List ℕ → List ℕ
 rest_of_key octets = take (length octets - 2) (drop 2 octets)
 
@@ -76,7 +76,7 @@ module _ (octets : List ℕ) (is : (gateway_key_form None).is_wire octets) where
   pub gateway_in_front : FindsWidth (gateway_form None (slice_index octets 0)).is_wire (take (length octets - 2) (drop 2 octets)) None → ⊥
   gateway_in_front none = let k = key_parts in none k.gateway k.key k.is_wire (cut_is ∙ k.split)
 
-  -- the tokens, where the gateway and the key are cut off
+  -- the tokens, if the gateway and the key are cut off
   pub key_tokens : (width : ℕ) → width ≡ gateway_size (slice_index octets 0) (drop 2 octets)
       → (gateway_key_form None).printed octets ≡
       plain_word (decimal (slice_index octets 0)) ∷ plain_word (decimal (slice_index octets 1)) ∷ (gateway_form None (slice_index octets 0)).printed (take width (rest_of_key octets))

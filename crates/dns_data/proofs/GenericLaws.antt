@@ -1,4 +1,4 @@
--- The generic form: its tokens, and octets that are not as many as they are said to be.
+-- The generic form: its tokens, and octets whose number is not the stated one.
 use Rattle.std.proofs.Common.{ℕ, false, ◌≡◌, ◌≢◌, ◌+◌, ◌-◌, List, [], ◌∷◌, length, drop, refl, sym, ap, subst, ◌∙◌, inl, inr, arith, append-nil, decimal, length-append, true}
 use Rattle.std.specs.Prelude.{codes, Err}
 use Rattle.dns_octets.specs.Room.{Room}
@@ -49,7 +49,7 @@ no_count mark [] e why octets sp = sp
 no_count mark (t ∷ ts) e (inl quoted) octets sp = let bad : false ≡ true = sym sp.1.0 ∙ quoted.1 in cc bad
 no_count mark (t ∷ ts) e (inr none) octets sp = none.2 (length octets) sp.1.1
 
--- behind the mark no number comes
+-- no number follows the mark
 pub count_refused : (room : Room) (begun end : ℕ) (tokens first left : List TokenSeen) (old : List ℕ) (r : RecordError) → BeginsGeneric tokens → first ≡ drop 1 tokens → end ≡ begun → TakesCount end first (Err r) left
     → RefusesRest room generic_form begun tokens old r left old
 count_refused room begun end [] first left old r mark is ends h = absurd mark
@@ -61,7 +61,7 @@ count_refused room begun end (m ∷ ts) first left old r mark is ends h =
       extends = ([], sym (append-nil old));
     }
 
--- behind the number the digits are refused
+-- the digits after the number are rejected
 pub digits_refused : (room : Room) (begun end count : ℕ) (tokens first left final : List TokenSeen) (old new : List ℕ) (r : RecordError) → BeginsGeneric tokens → first ≡ drop 1 tokens → end ≡ begun
     → (t : TokenSeen) × (first ≡ t ∷ left) × IsCount t count → RefusesRest room (digits_form Hex) end left old r final new → RefusesRest room generic_form begun tokens old r final new
 digits_refused room begun end count [] first left final old new r mark is ends counted h = absurd mark
@@ -77,7 +77,7 @@ digits_refused room begun end count (m ∷ ts) first left final old new r mark i
       extends = h.extends;
     }
 
--- behind the number come as many octets in digits
+-- after the number comes this number of octets in digits
 pub generic_spelled : (count : ℕ) (tokens first left final : List TokenSeen) (old new : List ℕ) → BeginsGeneric tokens → first ≡ drop 1 tokens → (t : TokenSeen) × (first ≡ t ∷ left) × IsCount t count
     → (final ≡ []) × Gains (SpellsJoined base16 left) old new → length new - length old ≡ count → (final ≡ []) × Gains (SpellsGeneric tokens) old new
 generic_spelled count [] first left final old new mark is counted gained size = absurd mark

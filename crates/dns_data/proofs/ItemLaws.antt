@@ -13,7 +13,7 @@ use Rattle.dns_data.specs.PrefixLists.{IsPrefixItem, IsOtherItem, IsAnyItem, is_
 use Rattle.dns_data.specs.TokenForms.{AreParts}
 use Rattle.dns_data.proofs.PlacesBack.{item_sized}
 
--- ---- an item in front
+-- ---- an item at the start
 
 pub item_long : (item : List ℕ) → IsAnyItem item → 4 ≤ length item
 item_long item (inl is) = omega (arith, ap length is.2.written)
@@ -35,7 +35,7 @@ pub any_sized : (item more : List ℕ) → IsAnyItem item → item_size (item ++
 any_sized item more (inl is) = item_sized is.0 item more is.1 is.2
 any_sized item more (inr other) = same_size item more other.head ∙ sym other.whole
 
--- ---- the item in front, of one family or another
+-- ---- the item at the start, of one family or another
 
 module _ (octets : List ℕ) where
   none_found : ((p : Prefix) → BeginsWithItem octets p → ⊥) → FindsWidth IsOtherItem octets None → FindsWidth IsAnyItem octets None
@@ -64,7 +64,7 @@ module _ (left : List ℕ) (width : ℕ) (found : FindsWidth IsAnyItem left (Som
   pub before_any : AreItems (drop width left) → AreItems left
   before_any (items, each, whole) = (take width left ∷ items, (found.1, each), sym (take-append-drop width left) ∙ ap (λ o. take width left ++ o) whole)
 
--- some octets are items exactly where others are
+-- some octets are items exactly if others are
 abbrev pub SameAny : List ℕ → List ℕ → Type 0
 SameAny octets left = (AreItems octets → AreItems left) × (AreItems left → AreItems octets)
 
@@ -124,7 +124,7 @@ IsSought octets left = (count : ℕ) × (length left ≤ count) × AreItems left
 pub search_begins : (octets : List ℕ) → AreItems octets → IsSought octets octets
 search_begins octets is = (length octets, omega arith, is, refl)
 
--- the first item is no longer than all
+-- the first item is not longer than all
 pub size_within : (left : List ℕ) → 4 ≤ length left → AreItems left → item_size left ≤ length left
 size_within left long ([], each, whole) = absurd (omega (arith, long, ap length whole))
 size_within left long (item ∷ items, each, whole) =
@@ -153,7 +153,7 @@ module _ (octets left : List ℕ) (long : 4 ≤ length left) (h : IsSought octet
           let size : item_size left ≡ length item = ap item_size whole ∙ any_sized item (concat items) each.0 in
           (items, each.1, ap (λ n. drop n left) size ∙ ap (drop (length item)) whole ∙ drop-append_seam item (concat items))
 
--- with too few octets left there is no item
+-- too few octets don't begin with an item
 pub none_is : (octets left : List ℕ) → length left < 4 → IsSought octets left → false ≡ has_other_family octets
 none_is octets left short h = sym (h.3 ∙ ap (is_other_in h.0) (nothing h.2) ∙ none_in h.0)
   where

@@ -1,4 +1,4 @@
--- Words of digits behind one another.
+-- Words of digits after one another.
 use Rattle.std.proofs.Common.{ℕ, false, true≢false, ◌≡◌, ◌≢◌, ◌<◌, ◌+◌, List, [], ◌∷◌, ◌++◌, length, refl, sym, ap, subst, ◌∙◌, inl, inr, append-nil}
 use Rattle.std.proofs.lemmas.List.{append_assoc}
 use Rattle.dns_octets.specs.Room.{Room}

@@ -1,4 +1,4 @@
--- Locations that are refused.
+-- Locations that are rejected.
 use Rattle.std.proofs.Math.Seq.{drop-cons}
 use Rattle.std.proofs.Math.ListN.{drop_of_length-le}
 use Rattle.std.proofs.Common.{ℕ, suc, length, drop, get_or, ◌+◌, ◌≤◌, ◌≡◌, ◌<◌, false, List, [], ◌∷◌, map, refl, sym, ap, subst, inl, inr, ◌∙◌, arith, append-nil}
@@ -54,7 +54,7 @@ words_printed [] (t ∷ ts) h = absurd h
 words_printed (w ∷ ws) [] h = absurd h
 words_printed (w ∷ ws) (t ∷ ts) h = (h.0, h.1, words_printed ws ts h.3)
 
--- what a location is printed as spells it
+-- what a location prints as spells it
 pub location_back : (octets : List ℕ) (tokens : List TokenSeen) → location_form.is_wire octets → ArePrinted (location_form.printed octets) tokens → SpellsLocation tokens octets
 location_back octets tokens is h =
     let words = words_printed (location_words (location_at octets)) tokens h in
@@ -68,7 +68,7 @@ tokens_of_words : (words : List LocationWord) → word_tokens words ≡ map (λ 
 tokens_of_words [] = refl
 tokens_of_words (w ∷ ws) = ap (λ ts. record { is_quoted = false; text = word_text w } ∷ ts) (tokens_of_words ws)
 
--- the words of a location are those that its octets are printed as
+-- the words of a location are those that its octets print as
 pub words_are : (octets : List ℕ) (words : List LocationWord) → (l : Location) × IsLocation octets l × (map word_text words ≡ location_words l) → word_tokens words ≡ location_form.printed octets
 words_are octets words h =
     tokens_of_words words ∙ ap (map (λ word. record { is_quoted = false; text = word })) (h.2 ∙ ap location_words (sym (location_at_is octets h.0 h.1)))

@@ -1,4 +1,4 @@
--- Words that name types, one behind the other.
+-- Words that name types, one after the other.
 use Rattle.std.proofs.Common.{ℕ, true≢false, ◌≡◌, ◌≢◌, List, [], ◌∷◌, ◌++◌, refl, sym, ap, subst, ◌∙◌, inl, inr, append-nil}
 use Rattle.std.proofs.lemmas.List.{append_assoc}
 use Rattle.dns_kinds.specs.Types.{SpellsType}

@@ -1,4 +1,4 @@
--- Service parameters that are refused, and those that are printed.
+-- Service parameters that are rejected, and those that are printed.
 use Rattle.std.proofs.Common.{ℕ, List, [], ◌∷◌, map}
 use Rattle.std.specs.Prelude.{◌≡◌, Result, Ok, Err, OnOk, OnErr, IfErr}
 use Rattle.dns_octets.specs.Room.{Room}
@@ -26,6 +26,6 @@ words_of [] (t ∷ ts) h = absurd h
 words_of (p ∷ ps) [] h = absurd h
 words_of (p ∷ ps) (t ∷ ts) h = ((h.0, h.2), h.1, words_of ps ts h.3)
 
--- what parameters are printed as spells them
+-- what parameters print as spells them
 pub params_back : (octets : List ℕ) (tokens : List TokenSeen) → params_form.is_wire octets → ArePrinted (params_form.printed octets) tokens → params_form.spells tokens octets
 params_back octets tokens is h = params_read_back octets tokens is.0 is.1 (words_of (params_of octets) tokens h)

@@ -1,4 +1,4 @@
--- What items, and gateways with keys, are printed as spells them again.
+-- What items, and gateways with keys, print as spells them again.
 use Rattle.std.proofs.lemmas.List.{take-append-drop, length-take-le, length-drop}
 use Rattle.std.proofs.Common.{ℕ, zero, suc, true, false, ◌≡◌, ◌<◌, ◌≤◌, ◌+◌, ◌-◌, ◌%◌, Bool, Option, None, List, [], ◌∷◌, ◌++◌, length, take, drop, replicate, get_or, refl, sym, ap, subst, ◌∙◌, inl, inr, arith, length-append}
 use Rattle.std.proofs.Math.Seq.{take-append_seam, drop-append_seam}
@@ -31,7 +31,7 @@ use Rattle.dns_data.specs.Rests.{RestForm, ArePrinted}
 use Rattle.dns_data.specs.TokenForms.{TokenForm, AreParts, SpellOctets, printed_each, SpellsThen, IsThen, then_form}
 use Rattle.dns_data.proofs.GatewayLaws.{behind_algorithm, behind_type, four_octets, sixteen_octets}
 
--- what is printed of octets spells them, and they are as many as the width says
+-- what octets print as spells them, and their number is the width
 pub record IsBack (f : TokenForm) (Spells : TokenSeen → List ℕ → Type 0) : Type 0 where
   pub back : (octets : List ℕ) (t : TokenSeen) → f.is_wire octets → t.is_quoted ≡ (f.printed octets).is_quoted → t.text ≡ (f.printed octets).text → Spells t octets
   pub sized : (front more : List ℕ) → f.is_wire front → f.width (front ++ more) ≡ length front
@@ -178,13 +178,13 @@ size_is Nothing number octets valid n = ap (λ n. gateway_size n octets) n
 size_is (Ipv4 a) number octets valid n = ap (λ n. gateway_size n octets) n ∙ sym (four_octets a valid)
 size_is (Ipv6 a) number octets valid n = ap (λ n. gateway_size n octets) n ∙ sym (sixteen_octets a valid)
 
--- names in front of octets are as many as their labels take
+-- names at the start of octets have the length of their labels
 module _ (names : (form more : List ℕ) → IsWireName form → labels_size (length (form ++ more)) (form ++ more) ≡ length form) where
   pub gateway_sized : (number : ℕ) (front more : List ℕ) → (gateway_form None number).is_wire front → gateway_size number (front ++ more) ≡ length front
   gateway_sized number front more (inl name) = ap (λ n. gateway_size n (front ++ more)) name.0 ∙ names front more name.1
   gateway_sized number front more (inr own) = size_is own.0 number (front ++ more) own.1 (sym own.2) ∙ sym (ap length own.3)
 
--- and digits are read as they are printed
+-- digits parse as they print
 module _ (origin : Option (List (List ℕ))) (known : IsOrigin origin) (names : (form more : List ℕ) → IsWireName form → labels_size (length (form ++ more)) (form ++ more) ≡ length form)
     (digits : (octets : List ℕ) (tokens : List TokenSeen) → AreOctetValues octets → ArePrinted (printed_digits base64 octets) tokens → SpellsJoined base64 tokens octets) where
   gateway_spelled : (number : ℕ) (octets : List ℕ) (t : TokenSeen) → (gateway_form None number).is_wire octets → t.is_quoted ≡ false → t.text ≡ gateway_word number octets → (gateway_form origin number).spells t octets
@@ -222,7 +222,7 @@ pub no_more_items : (count : ℕ) → printed_each prefix_form count [] ≡ []
 no_more_items zero = refl
 no_more_items (suc count) = refl
 
--- the next item is printed, and those behind it are left
+-- the next item is printed, and those after it are left
 pub record NextItem (count : ℕ) (octets rest : List ℕ) (item : Prefix) : Type 0 where
   pub fewer : ℕ
   pub enough : length rest ≤ fewer

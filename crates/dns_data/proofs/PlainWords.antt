@@ -1,4 +1,4 @@
--- Words of zone text whose characters stand for themselves.
+-- Words of a zone file whose characters print as themselves.
 use Rattle.std.proofs.Common.{◌≡◌, ℕ, zero, suc, ◌+◌, ◌-◌, ◌/◌, ◌%◌, ◌^◌, ◌<◌, ◌≤◌, Bool, true, false, List, [], ◌∷◌, ◌++◌, length, map, replicate, decimal, refl, sym, ap, subst, ◌∙◌, arith, inl, inr, length-append}
 use Rattle.std.specs.Prelude.{All, slice_index, nat_lt, ◌&&◌, ◌==◌, if◌then◌else◌}
 use Rattle.std.specs.Char.{digit_value, is_ascii_alphanumeric}
@@ -24,7 +24,7 @@ use Rattle.dns_split.specs.Token.{IsWord}
 use Rattle.dns_symbol.specs.Symbol.{bytes, is_word_symbol}
 use Rattle.dns_symbol.specs.declared.symbol.Symbol.TheVariants.{Char}
 
--- an ASCII character that stands for itself in a word
+-- an ASCII character that prints as itself in a word
 abbrev pub is_plain_char : ℕ → Bool
 is_plain_char c = nat_lt c 128 && is_word_symbol (Char c)
 

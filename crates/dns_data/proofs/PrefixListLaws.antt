@@ -33,7 +33,7 @@ item_refused room t ts old e plain (inr short) = inl (short.0, λ octets sp. sho
 
 -- ---- items in octets
 
--- the item in front is the one that is found there
+-- octets begin with the item that is found there
 module _ (left : List ℕ) (p : Prefix) (width : ℕ) (found : IsItemOf left p width) where
   one_item : (item rest : List ℕ) → IsPrefixItem item → left ≡ item ++ rest → (item ≡ take width left) × (rest ≡ drop width left)
   one_item item rest h split =
@@ -50,7 +50,7 @@ module _ (left : List ℕ) (p : Prefix) (width : ℕ) (found : IsItemOf left p w
   before_items : AreParts IsPrefixItem (drop width left) → AreParts IsPrefixItem left
   before_items (items, each, whole) = (take width left ∷ items, ((p, found.0, found.2), each), sym (take-append-drop width left) ∙ ap (λ o. take width left ++ o) whole)
 
--- some octets are items exactly where others are
+-- some octets are items exactly if others are
 abbrev pub SameItems : List ℕ → List ℕ → Type 0
 SameItems octets left = (AreParts IsPrefixItem octets → AreParts IsPrefixItem left) × (AreParts IsPrefixItem left → AreParts IsPrefixItem octets)
 
@@ -77,7 +77,7 @@ pub is_none : (octets : List ℕ) → length octets ≡ 0 → octets ≡ []
 is_none [] h = refl
 is_none (o ∷ os) h = absurd (omega (arith, h))
 
--- with nothing left all are items
+-- at the end of the octets all are items
 pub items_end : (octets left : List ℕ) → SameItems octets left → length left ≡ 0 → AreParts IsPrefixItem octets
 items_end octets left h none = all_items octets left h (is_none left none)
 

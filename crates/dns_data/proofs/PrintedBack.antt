@@ -1,4 +1,4 @@
--- What record data is printed as spells it.
+-- What RDATA prints as spells it.
 use Rattle.std.proofs.Common.{ℕ, Bool, true, false, true≢false, ◌≡◌, ◌≢◌, ◌<◌, ◌==◌, ◌||◌, Option, None, List, [], ◌∷◌, ◌++◌, length, take, drop, map, refl, sym, ap, subst, ◌∙◌, arith, inl, inr, append_assoc, append-nil}
 use Rattle.std.specs.Prelude.{All}
 use Rattle.std.proofs.Math.Seq.{take-append_seam, drop-append_seam}
@@ -60,7 +60,7 @@ digits_back kind (o ∷ os) (t ∷ []) values p = (
 )
 digits_back kind (o ∷ os) (t ∷ u ∷ ts) values p = absurd p.3
 
--- the strings of their wire form
+-- the strings of their wire format
 pub strings_again : (strings : List (List ℕ)) → strings_in_octets (strings_wire strings) ≡ strings
 strings_again [] = refl
 strings_again (s ∷ ss) =
@@ -109,7 +109,7 @@ types_back octets tokens is p =
     (types_of octets, named_back (types_of octets) tokens small is.1 p, sym (bitmap_of_types octets is.0))
 
 module _ (origin : Option (List (List ℕ))) (known : IsOrigin origin) where
-  -- what a field is printed as spells it, before any origin
+  -- what a field prints as spells it, whatever the origin is
   field_back : (f : Field) (form : List ℕ) → (field_form None f).is_wire form → (field_form origin f).spells (field_form None f).quotes ((field_form None f).printed form) form
   field_back Number8 form is = (fields_are_forms origin known Number8).back form is
   field_back Number16 form is = (fields_are_forms origin known Number16).back form is
@@ -151,7 +151,7 @@ module _ (origin : Option (List (List ℕ))) (known : IsOrigin origin) where
   rest_back GatewayKey octets tokens is p = gateway_key_back origin known name_sized (digits_back InBase64) octets tokens is p
   rest_back Params octets tokens is p = params_back octets tokens is p
 
-  -- tokens are those of fields, and of the rest behind them
+  -- tokens are those of fields, and of the tail after them
   record PartsBack (fields : List Field) (r : Rest) (octets back : List ℕ) (tokens : List TokenSeen) : Type 0 where
     pub first : List TokenSeen
     pub last : List TokenSeen

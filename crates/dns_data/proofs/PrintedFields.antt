@@ -15,14 +15,14 @@ use Rattle.dns_data.specs.declared.rest.Rest.{Rest}
 use Rattle.dns_data.proofs.Sizes.{field_sized}
 use Rattle.dns_data.proofs.Tokens.{HasPrinted, more_printed, rest_printed, next_failed, rest_failed}
 
--- a field in front, behind others
+-- the first field after others
 pub front_field : (fields : List Field) (i : ℕ) (d : Field) (octets back : List ℕ) → i < length fields → BeginsWithFields (drop i fields) octets back
     → (rest : List ℕ) × BeginsWithFields (get_or fields i d ∷ []) octets rest
 front_field fields i d octets back lt b =
     let c : BeginsWithFields (get_or fields i d ∷ drop (suc i) fields) octets back = subst (λ fs. BeginsWithFields fs octets back) (drop-cons fields i d lt) b in
     (c.1, (c.0, c.1, c.2, c.3, refl))
 
--- the token of the next field, and those behind it
+-- the token of the next field, and those after it
 next_field : (fields : List Field) (i : ℕ) (r : Rest) (d : Field) (octets : List ℕ) (width : ℕ) → i < length fields → width ≡ field_size (get_or fields i d) octets
     → printed_parts (drop i fields) r octets ≡ printed_field (get_or fields i d) (take width octets) ∷ printed_parts (drop (i + 1) fields) r (drop width octets)
 next_field fields i r d octets width lt wide =
@@ -31,7 +31,7 @@ next_field fields i r d octets width lt wide =
     let cut : drop i fields ≡ f ∷ drop (i + 1) fields = drop-cons fields i d lt ∙ ap (λ n. f ∷ drop n fields) next in
     ap (λ fs. printed_parts fs r octets) cut ∙ ap (λ n. printed_field f (take n octets) ∷ printed_parts (drop (i + 1) fields) r (drop n octets)) (sym wide)
 
--- behind the fields are the octets of the rest
+-- after the fields are the octets of the tail
 pub rest_left : (fields : List Field) (i : ℕ) (r : Rest) (octets back : List ℕ) → length fields ≤ i → BeginsWithFields (drop i fields) octets back → (rest_form None r).is_wire back → (rest_form None r).is_wire octets
 rest_left fields i r octets back end b is = subst (rest_form None r).is_wire (sym (subst (λ fs. BeginsWithFields fs octets back) (drop_all i fields end) b)) is
 
@@ -55,7 +55,7 @@ module _ {F : Type 0} (blocks : F → ℕ) (gives : F → Step → F → Type 0)
         subst (λ o. BeginsWithFields (drop (i + 1) fields) o back) (sym behind) c.4,
       )
 
-  -- all fields are printed, and then the rest
+  -- all fields are printed, and then the tail
   pub parts_printed : {T E : Type 0} (result : Result T E) (octets : List ℕ) (v u : F) → length fields ≤ i → HasPrinted blocks gives w all (printed_parts (drop i fields) r octets) v
       → OnOk result (WritesSteps blocks gives v (token_steps ((rest_form None r).printed octets)) u) → OnOk result (WritesSteps blocks gives w (token_steps all) u)
   parts_printed result octets v u end h later =

@@ -15,7 +15,7 @@ parts_enough (suc k) (suc m) [] h g = refl
 parts_enough (suc k) (suc m) (x ∷ xs) h g =
     ap (λ ls. take x xs ∷ ls) (parts_enough k m (drop x xs) (omega (arith, length-drop x xs)) (omega (arith, length-drop x xs)))
 
--- the string in front, and those behind it
+-- the first string, and those after it
 pub front_string : (x : ℕ) (xs : List ℕ) → strings_in_octets (x ∷ xs) ≡ take x xs ∷ strings_in_octets (drop x xs)
 front_string x xs = ap (λ ls. take x xs ∷ ls) (parts_enough (length xs) (length (drop x xs)) (drop x xs) (omega (arith, length-drop x xs)) (omega arith))
 

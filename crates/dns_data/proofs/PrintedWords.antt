@@ -1,4 +1,4 @@
--- Each token that record data is printed as is one of zone text.
+-- Each token that RDATA prints as is one of a zone file.
 use Rattle.std.proofs.Common.{ℕ, zero, suc, ◌≡◌, ◌⊎◌, ◌-◌, ◌*◌, ◌/◌, ◌%◌, ◌^◌, ◌<◌, Bool, true, false, true≢false, Some, None, List, [], ◌∷◌, ◌++◌, length, take, drop, map, decimal, refl, sym, ap, subst, ◌∙◌, inl, inr, arith, length-append}
 use Rattle.std.proofs.Math.Seq.{take-append_seam, drop-append_seam}
 use Rattle.std.proofs.lemmas.Bool.{and_parts, ltb-true}
@@ -399,7 +399,7 @@ data_words shape octets is = by (text_or_none shape octets is)
     by (inl own) = subst AreWell (sym (text_printed shape octets own)) (parts_words shape.fields.now shape.rest octets own.back own.fields own.rest)
     by (inr none) = subst AreWell (sym (generic_printed shape octets none)) (generic_words octets)
 
--- ---- words and quoted texts are tokens
+-- ---- words and quoted strings are tokens
 
 token_of : (t : PrintedToken) → IsQuotedWell t → IsWordWell t → IsToken (token_bytes t)
 token_of t quote word = by t.is_quoted refl

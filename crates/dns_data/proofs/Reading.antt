@@ -1,4 +1,4 @@
--- Tokens that are refused as data of a shape.
+-- Tokens that are rejected as RDATA of a shape.
 use Rattle.std.specs.Prelude.{Err, slice_index}
 use Rattle.std.proofs.Common.{ℕ, Option, true, false, ◌≡◌, ◌<◌, ◌+◌, ◌-◌, List, [], ◌∷◌, ◌++◌, length, take, drop, refl, sym, ap, subst, ◌∙◌, inl, inr, arith, length-append}
 use Rattle.std.proofs.Math.Seq.{drop-append_seam}
@@ -39,7 +39,7 @@ text_once wants_quotes [] a b h k = absurd h
 text_once wants_quotes (t ∷ []) a b h k = octets_spelled.once t.text a b h.1 k.1
 text_once wants_quotes (t ∷ u ∷ ts) a b h k = absurd h
 
--- tokens spell what comes behind fields in one way
+-- tokens spell one tail only
 pub rest_once : (origin : Option (List (List ℕ))) (r : Rest) (tokens : List TokenSeen) (a b : List ℕ) → (rest_form origin r).spells tokens a → (rest_form origin r).spells tokens b → a ≡ b
 rest_once origin Nothing tokens a b h k = h.1 ∙ sym k.1
 rest_once origin Strings tokens a b h k = all_once origin _ tokens a b h.0 k.0
@@ -69,7 +69,7 @@ module _ (origin : Option (List (List ℕ))) (room : Room) (shape : Shape) (end 
       )
 
   module _ (behind : List TokenSeen) (middle : List ℕ) (t : HasTaken origin shape.fields.now tokens old behind middle) where
-    -- what tokens spell of data, behind the fields that were taken
+    -- what tokens spell of RDATA, after the fields that were parsed
     parts : (octets : List ℕ) (sp : SpellsData origin shape tokens octets) → (rest_form origin shape.rest).spells behind sp.back × (octets ≡ t.octets ++ sp.back)
     parts octets sp =
         let same = fields_front origin shape.fields.now sp.first sp.last t.taken behind sp.front t.octets sp.fields t.spelled (sym sp.tokens_are ∙ t.whole) in
@@ -145,7 +145,7 @@ module _ (origin : Option (List (List ℕ))) (room : Room) (shape : Shape) (end 
     pub none_wrong : (HasWrongHash shape.length (drop (length old) middle) → ⊥) → HasWrongHash shape.length t.octets → ⊥
     none_wrong none h = none (subst (HasWrongHash shape.length) (sym (ap (drop (length old)) t.gained ∙ drop-append_seam old t.octets)) h)
 
-    -- behind the fields comes what it should
+    -- after the fields comes the tail of the shape
     pub data_taken : (left : List TokenSeen) (new : List ℕ) → (left ≡ []) × Gains ((rest_form origin shape.rest).spells behind) middle new → HasLength shape.length (drop (length old) new)
         → (left ≡ []) × Gains (SpellsData origin shape tokens) old new
     data_taken left new h long =

@@ -1,4 +1,4 @@
--- The fields in front of octets, by their sizes.
+-- The fields at the start of octets, by their sizes.
 use Rattle.std.proofs.Common.{ℕ, zero, suc, ◌≡◌, ◌+◌, ◌-◌, ◌<◌, ◌≤◌, List, [], ◌∷◌, ◌++◌, length, take, drop, refl, sym, ap, subst, ◌∙◌, arith, append_assoc, length-append, Some, None, true}
 use Rattle.std.specs.Prelude.{All}
 use Rattle.std.proofs.Math.Logic.{∥∥₁_elim}
@@ -52,7 +52,7 @@ name_sized form more h =
     ap (λ f. labels_size (length (form ++ more)) (f ++ more)) whole
     ∙ (labels_sized front more (length (form ++ more)) (name_front_plain h.labels front h.is_name h.absolute.1) enough ∙ sym (ap length whole))
 
--- a field in front has as many octets as its size says
+-- the field at the start has the number of octets of its size
 pub field_sized : (f : Field) (form more : List ℕ) → (field_form None f).is_wire form → field_size f (form ++ more) ≡ length form
 field_sized Number8 form more h = sym h.0
 field_sized Number16 form more h = sym h.0
@@ -85,7 +85,7 @@ front_sized f octets rest width b finds =
 
 -- ---- octets that surely are a field's
 
--- the root behind others, cut off and put back
+-- the root after others, cut off and put back
 root_cut : (front : List (List ℕ)) → front ++ [] ∷ [] ≡ take (length (front ++ [] ∷ []) - 1) (front ++ [] ∷ []) ++ [] ∷ []
 root_cut front =
     let n : length (front ++ [] ∷ []) - 1 ≡ length front = omega (arith, length-append front ([] ∷ [])) in

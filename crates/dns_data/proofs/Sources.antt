@@ -1,4 +1,4 @@
--- What a source has left.
+-- The unread tokens of a source.
 use Rattle.std.proofs.Common.{◌≡◌, ◌≢◌, List, [], ◌∷◌, sym, true, true≢false, Option, Some, None}
 use Rattle.std.proofs.lemmas.Option.{none-some}
 use Rattle.std.specs.Prelude.{slice_get, option_map, is_some}

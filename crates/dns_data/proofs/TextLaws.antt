@@ -14,7 +14,7 @@ use Rattle.dns_data.specs.Rests.{RefusesAs, RefusesRest, TakesRest}
 use Rattle.dns_data.specs.Texts.{AreText, TakesNoToken, text_form, nothing_form}
 use Rattle.dns_data.proofs.ErrorPlaces.{placed, kind_of, known_at}
 
--- nothing is left and nothing gained
+-- no token is unread, and nothing is appended
 pub nothing_taken : (room : Room) (end : ℕ) (tokens left : List TokenSeen) (old new : List ℕ) (r : Result (Unit {0}) RecordError) → new ≡ old → TakesNoToken end tokens r left → TakesRest room nothing_form end tokens old r left new
 nothing_taken room end tokens left old new (Ok x) is h = (h.1, ([], (h.0, refl), is ∙ sym (append-nil old)))
 nothing_taken room end [] left old new (Err r) is h = absurd h

@@ -17,7 +17,7 @@ use Rattle.dns_data.proofs.ErrorPlaces.{placed, moved}
 abbrev pub SpelledOnce : (TokenSeen → List ℕ → Type 0) → Type 0
 SpelledOnce Spells = (t : TokenSeen) (a b : List ℕ) → Spells t a → Spells t b → a ≡ b
 
--- what is taken by one relation is taken by another that says the same
+-- what is parsed by one relation is parsed by another that is equivalent
 pub as_other : (Spells Others : TokenSeen → List ℕ → Type 0) (Reason Why : TokenSeen → ErrorKind → Type 0) (room : Room) (end : ℕ) (tokens : List TokenSeen) (old : List ℕ) (r : Result (Unit {0}) RecordError) (left : List TokenSeen) (new : List ℕ)
     → ((t : TokenSeen) (octets : List ℕ) → Spells t octets → Others t octets) → ((t : TokenSeen) (octets : List ℕ) → Others t octets → Spells t octets) → ((t : TokenSeen) (e : ErrorKind) → Reason t e → Why t e)
     → TakesTokenAs room Spells Reason end tokens old r left new → TakesTokenAs room Others Why end tokens old r left new
@@ -29,7 +29,7 @@ as_other Spells Others Reason Why room end (t ∷ ts) old (Err r) left new to fr
     refused (inl short) = inl (short.0, λ octets sp. short.1 octets (from t octets sp))
     refused (inr bad) = inr (why t r.kind bad.0, λ octets sp. bad.1 octets (from t octets sp))
 
--- the next token is refused, and nothing is taken
+-- the next token is rejected, and no token is read
 pub next_refused : (Spells : TokenSeen → List ℕ → Type 0) (Reason : TokenSeen → ErrorKind → Type 0) (room : Room) (end at : ℕ) (tokens : List TokenSeen) (t : TokenSeen) (ts : List TokenSeen) (old new : List ℕ) (e : ErrorKind) → tokens ≡ t ∷ ts
     → at ≡ next_place tokens end → RefusesTokenAs room Spells Reason (t ∷ ts) old e → Extends old new → TakesTokenAs room Spells Reason end tokens old (Err (error_at at e)) tokens new
 next_refused Spells Reason room end at tokens t ts old new e is place why extends = (refl, placed e place, subst (λ l. RefusesTokenAs room Spells Reason l old e) (sym is) why, extends)
@@ -111,7 +111,7 @@ module _ (f : TokenForm) where
       extends = (h.octets ++ k.3.0, k.3.1 ∙ ap (λ o. o ++ k.3.0) h.gained ∙ append_assoc old h.octets k.3.0);
     }
 
--- ---- a token, and others behind it
+-- ---- a token, and others after it
 
 module _ (f : TokenForm) (behind : List ℕ → RestForm) where
   pub then_once : SpelledOnce f.spells → ((front : List ℕ) (ts : List TokenSeen) (a b : List ℕ) → (behind front).spells ts a → (behind front).spells ts b → a ≡ b)
@@ -146,7 +146,7 @@ module _ (f : TokenForm) (behind : List ℕ → RestForm) where
         by (t ∷ ts) same (inr bad) = inr (inl (same, bad.0), λ octets sp. bad.1 sp.front (first_is t ts octets sp))
 
     module _ (once : SpelledOnce f.spells) (t : TokenSeen) (ts : List TokenSeen) (front middle : List ℕ) (is : tokens ≡ t ∷ ts) (spelled : f.spells t front) (gained : middle ≡ old ++ front) where
-      -- what tokens spell, behind the first
+      -- what tokens spell, after the first
       parts : (octets : List ℕ) (sp : SpellsThen f behind tokens octets) → (behind front).spells ts sp.back × (sp.front ≡ front)
       parts octets sp =
           let all : t ∷ ts ≡ sp.first ∷ sp.last = sym is ∙ sp.tokens_are in

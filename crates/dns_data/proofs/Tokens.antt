@@ -10,7 +10,7 @@ use Rattle.dns_codec.specs.Base.{Base, encoded}
 use Rattle.dns_data.specs.Digits.{printed_digits}
 use Rattle.dns_data.specs.Rests.{PrintedToken}
 
--- of all tokens some are printed, and these are left
+-- some of all tokens are printed, and these are left
 pub record HasPrinted {F : Type 0} (blocks : F → ℕ) (gives : F → Step → F → Type 0) (w : F) (all left : List PrintedToken) (v : F) : Type 0 where
   pub done : List PrintedToken
   pub whole : all ≡ done ++ left
@@ -41,7 +41,7 @@ module _ {F : Type 0} (blocks : F → ℕ) (gives : F → Step → F → Type 0)
   one_printed t v is level gave = all_printed [] v (more_printed all t [] w v none_printed is level gave) refl
 
 module _ {F : Type 0} (blocks : F → ℕ) (gives : F → Step → F → Type 0) (fails : F → Step → Type 0) (w : F) (all : List PrintedToken) where
-  -- the next of those that are left is not printed
+  -- the next of the tokens left is not printed
   pub next_failed : (now : List PrintedToken) (t : PrintedToken) (left : List PrintedToken) (v : F) → HasPrinted blocks gives w all now v → now ≡ t ∷ left → fails v (token_step t) → FailsInSteps blocks gives fails w (token_steps all)
   next_failed now t left v h is failed = record {
     taken = token_steps h.done;

@@ -46,7 +46,7 @@ gained_slice old new more xs ys before after is =
     let back : drop (length ys) xs ≡ more = ap (λ (n : ℕ). drop n xs) begun ∙ ap (drop (length old)) (after ∙ is) ∙ drop-append_seam old more in
     ap (take (length xs - length ys)) back ∙ take_all (length xs - length ys) more (omega (arith, size, begun))
 
--- octets in the generic form: data of a row's shape, and none
+-- octets in the generic form: RDATA of a row's shape, and octets that are not
 pub generic_typed : (s : TypeShape) (shape : Shape) (tokens left : List TokenSeen) (old new xs ys : List ℕ) → IsShapeOf s shape → ys ≡ old → xs ≡ new → (left ≡ []) × Gains (SpellsGeneric tokens) old new
     → IsDataOf shape (take (length xs - length ys) (drop (length ys) xs)) → (left ≡ []) × Gains (SpellsGenericData (Some s) tokens) old new
 generic_typed s shape tokens left old new xs ys is before after h own =

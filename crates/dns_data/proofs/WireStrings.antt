@@ -1,4 +1,4 @@
--- Character strings one behind another.
+-- Character strings after one another.
 use Rattle.std.proofs.Common.{ℕ, zero, suc, Some, None, ◌≡◌, ◌≢◌, ◌<◌, ◌-◌, List, [], ◌∷◌, ◌++◌, length, take, drop, refl, sym, ap, subst, ◌∙◌, arith}
 use Rattle.std.proofs.lemmas.List.{take-append-drop}
 use Rattle.dns_digits.proofs.Pieces.{rest_of}

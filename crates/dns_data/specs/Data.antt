@@ -1,4 +1,4 @@
--- Record data of a shape: fields that are one token each, and what goes to the entry's end.
+-- RDATA of a shape: fields of one token each, and a tail that goes to the entry's end.
 use Rattle.std.specs.Prelude.{ℕ, ◌≡◌, ◌⊎◌, ◌<◌, ◌+◌, ◌-◌, ⊤, Option, None, List, [], ◌++◌, length, slice_index, Ok, Err}
 use Rattle.dns_digits.specs.DigestLengths.{IsDigestLength, wanted_digest}
 use Rattle.dns_octets.specs.Room.{Room}
@@ -17,30 +17,31 @@ use Rattle.dns_data.specs.declared.shape.Length.{Length}
 use Rattle.dns_data.specs.declared.shape.Length.TheVariants.{Any, Digest, Hash}
 use Rattle.dns_data.specs.declared.shape.Shape.{Shape}
 
--- the lengths that octets of the data ask for: none; after the octet at a place, which names it, comes a digest; and the hash of NSEC3, after
--- algorithm, flags, iterations and salt, has 20 octets if the algorithm is 1
+-- the length that octets of the RDATA require: none; or a digest follows the octet at an offset,
+-- which names its kind; or the hash of NSEC3, after algorithm, flags, iterations and salt, has 20
+-- octets if the algorithm is 1
 abbrev pub HasLength : Length → List ℕ → Type 0
 HasLength Any octets = ⊤
 HasLength (Digest digests place) octets = IsDigestLength digests (slice_index octets place) (length octets - (place + 1))
 HasLength Hash octets = slice_index octets 0 ≡ 1 → slice_index octets (5 + slice_index octets 4) ≡ 20
 
--- how many octets the digest or the hash has
+-- the length of the digest or the hash, in octets
 abbrev pub found_length : Length → List ℕ → ℕ
 found_length Any octets = 0
 found_length (Digest digests place) octets = length octets - (place + 1)
 found_length Hash octets = slice_index octets (5 + slice_index octets 4)
 
--- how many octets it is to have, by the number before it: a digest as its list says, and a hash of SHA-1 20
+-- the length that is required by the number before it: for a digest the one of its list, and for a SHA-1 hash 20
 abbrev pub wanted_length : Length → List ℕ → ℕ
 wanted_length Any octets = 0
 wanted_length (Digest digests place) octets = wanted_digest digests (slice_index octets place)
 wanted_length Hash octets = 20
 
--- it has another number of octets
+-- the digest or the hash has another length
 abbrev pub wrong_length : Length → List ℕ → ErrorKind
 wrong_length lengths octets = WrongLength (found_length lengths octets) (wanted_length lengths octets)
 
--- tokens spell data of a shape: the first of them its fields, and the others what comes after them
+-- tokens spell RDATA of a shape: the first of them its fields, and the others its tail
 pub record SpellsData (origin : Option (List (List ℕ))) (shape : Shape) (tokens : List TokenSeen) (octets : List ℕ) : Type 0 where
   pub first : List TokenSeen
   pub last : List TokenSeen
@@ -52,33 +53,33 @@ pub record SpellsData (origin : Option (List (List ℕ))) (shape : Shape) (token
   pub rest : (rest_form origin shape.rest).spells last back
   pub lengths : HasLength shape.length octets
 
--- octets are data of a shape in its text form
+-- octets are RDATA of a shape in its text form
 pub record IsTextData (shape : Shape) (octets : List ℕ) : Type 0 where
   pub back : List ℕ
   pub fields : BeginsWithFields shape.fields.now octets back
   pub rest : (rest_form None shape.rest).is_wire back
   pub lengths : HasLength shape.length octets
 
--- octets are data of a shape, in its text form or without one
+-- octets are RDATA of a shape, in its text form or without one
 pub record IsDataOf (shape : Shape) (octets : List ℕ) : Type 0 where
   pub back : List ℕ
   pub fields : BeginsWithFields shape.fields.now octets back
   pub rest : IsRestOf shape.rest back
   pub lengths : HasLength shape.length octets
 
--- the octets of the fields have a hash among them that is not as long as it has to be
+-- the octets of the fields have a hash that does not have the required length
 abbrev pub HasWrongHash : Length → List ℕ → Type 0
 HasWrongHash Any octets = ⊥
 HasWrongHash (Digest digests place) octets = ⊥
 HasWrongHash Hash octets = (5 + slice_index octets 4 < length octets) × (HasLength Hash octets → ⊥)
 
--- all tokens after the fields are taken, and the length of the digest is wrong
+-- all tokens after the fields are parsed, and the length of the digest is wrong
 abbrev pub IsWrongLength : Shape → ℕ → List TokenSeen → List ℕ → RecordError → Type 0
 IsWrongLength shape end behind octets r =
     (HasLength shape.length octets → ⊥) × (r ≡ error_in_field (length shape.fields.now) (error_at (next_place behind end) (wrong_length shape.length octets)))
 
--- The fields are taken, and the data is refused: for a hash among the fields, the last of them; for what comes after the fields; or for the length of
--- that, once all is taken.
+-- The fields are parsed, and the RDATA is rejected: for a hash among the fields, the last of them;
+-- for the tail; or for the length of the tail, after all tokens are parsed.
 pub record RefusesBehindFields (origin : Option (List (List ℕ))) (room : Room) (shape : Shape) (end : ℕ) (tokens : List TokenSeen) (old : List ℕ) (r : RecordError) (left : List TokenSeen) (new : List ℕ) : Type 0 where
   pub behind : List TokenSeen
   pub middle : List ℕ
@@ -89,7 +90,7 @@ pub record RefusesBehindFields (origin : Option (List (List ℕ))) (room : Room)
       × (TakesRestParts origin room shape.rest (length shape.fields.now) end behind middle (Err r) left new
       ⊎ ((left ≡ []) × Gains (λ back. (rest_form origin shape.rest).spells behind back × IsWrongLength shape end behind (taken.octets ++ back) r) middle new)))
 
--- all tokens are taken, and the target gained the data that they spell; or a field is refused, and if the tokens spell data, for lack of room alone
+-- all tokens are parsed, and the target gained the RDATA that they spell; or a field is rejected, and if the tokens spell RDATA, only because the octets don't surely fit
 abbrev pub ReadsData : Option (List (List ℕ)) → Room → Shape → TokenParser (Unit {0})
 ReadsData origin room shape end tokens old (Ok _) left new = (left ≡ []) × Gains (SpellsData origin shape tokens) old new
 ReadsData origin room shape end tokens old (Err r) left new =

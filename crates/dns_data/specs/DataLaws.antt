@@ -1,4 +1,4 @@
--- What holds of the data of each shape.
+-- Laws of the RDATA of each shape.
 use Rattle.std.specs.Prelude.{ℕ, Option, ◌≡◌, List}
 use Rattle.dns_spelling.specs.NameSpelling.{IsOrigin}
 use Rattle.dns_split.specs.EntryTokens.{TokenSeen}
@@ -6,7 +6,7 @@ use Rattle.dns_data.specs.Data.{IsTextData, SpellsData}
 use Rattle.dns_data.specs.RestLaws.{HoldOctets}
 use Rattle.dns_data.specs.declared.shape.Shape.{Shape}
 
--- What tokens spell is data of the shape in its text form; and tokens spell it in one way.
+-- What tokens spell is RDATA of the shape in its text form; and tokens spell one only.
 pub record IsSpelledData (origin : Option (List (List ℕ))) (shape : Shape) : Type 0 where
   pub are_data : (tokens : List TokenSeen) (octets : List ℕ) → HoldOctets tokens → SpellsData origin shape tokens octets → IsTextData shape octets
   pub once : (tokens : List TokenSeen) (a b : List ℕ) → SpellsData origin shape tokens a → SpellsData origin shape tokens b → a ≡ b

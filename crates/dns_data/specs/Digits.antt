@@ -12,7 +12,7 @@ use Rattle.dns_spelling.specs.Spelling.{AreOctetValues}
 use Rattle.dns_split.specs.EntryTokens.{TokenSeen}
 use Rattle.dns_data.specs.Rests.{RestForm, PrintedToken, BehindSome}
 
--- what words hold, one behind the other
+-- the texts of words, one after the other
 abbrev pub joined_words : List TokenSeen → List ℕ
 joined_words [] = []
 joined_words (t ∷ ts) = t.text ++ joined_words ts
@@ -20,23 +20,23 @@ joined_words (t ∷ ts) = t.text ++ joined_words ts
 abbrev pub AreUnquoted : List TokenSeen → Type 0
 AreUnquoted tokens = AllByRecursion (λ t. t.is_quoted ≡ false) tokens
 
--- words spell octets in digits, wherever these are cut
+-- words spell octets in digits, which are cut anywhere
 abbrev pub SpellsJoined : Base → List TokenSeen → List ℕ → Type 0
 SpellsJoined b tokens octets = AreUnquoted tokens × SpellsDigits b (joined_words tokens) octets
 
--- why digits spell no octets: they end within a group; or whatever follows they spell none, and then whether something
--- stands behind a padded group
+-- why digits spell no octets: they end within a group; or no continuation spells octets, and then
+-- whether something follows a padded group
 abbrev pub IsDigitsFault : DigitsKind → List ℕ → ErrorKind → Type 0
 IsDigitsFault kind text e =
     ((e ≡ unfinished kind) × DigitsGoOn kind text)
     ⊎ ((((e ≡ illegal kind) × (PaddedBefore (base_of kind) text → ⊥)) ⊎ ((e ≡ TrailingBase64) × PaddedBefore (base_of kind) text)) × (DigitsGoOn kind text → ⊥))
 
--- behind words, why the next token is refused: it is a quoted text; or the digits up to its end have a fault
+-- why the next token after words is rejected: it is a quoted string; or the digits up to its end are wrong
 abbrev pub JoinedReason : DigitsKind → List TokenSeen → List TokenSeen → ErrorKind → Type 0
 JoinedReason kind before [] e = IsDigitsFault kind (joined_words before) e
 JoinedReason kind before (t ∷ ts) e = ((e ≡ Quoted) × (t.is_quoted ≡ true)) ⊎ ((t.is_quoted ≡ false) × IsDigitsFault kind (joined_words (before ++ t ∷ [])) e)
 
--- octets are printed as one word, and none as no word
+-- octets print as one word, or as no word if there are none
 abbrev pub printed_digits : Base → List ℕ → List PrintedToken
 printed_digits b [] = []
 printed_digits b (o ∷ os) = record { is_quoted = false; text = encoded b (o ∷ os) } ∷ []

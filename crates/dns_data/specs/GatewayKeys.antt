@@ -33,7 +33,7 @@ octet_form = record {
   printed = λ octets. plain_word ((field_form None OfNumber8).printed octets);
 }
 
--- why a token is no type of a gateway: it is no number; or a greater one
+-- why a token is not the type of a gateway: it is not a number; or the number is too great
 abbrev pub GatewayTypeReason : TokenSeen → ErrorKind → Type 0
 GatewayTypeReason t e = octet_form.reason t e ⊎ ((e ≡ UnknownGateway) × ((octets : List ℕ) × octet_form.spells t octets × (3 < slice_index octets 0)))
 
@@ -47,17 +47,17 @@ gateway_type_form = record {
   printed = octet_form.printed;
 }
 
--- the type that a token names, or why it names none
+-- the type that a token names, or why it does not name one
 abbrev pub ReadsGatewayType : TokenSeen → Result ℕ ErrorKind → Type 0
 ReadsGatewayType t (Ok number) = gateway_type_form.spells t (number ∷ [])
 ReadsGatewayType t (Err e) = GatewayTypeReason t e × ((octets : List ℕ) → gateway_type_form.spells t octets → ⊥)
 
--- the number that the next token spells is appended, and the token taken; or it is refused
+-- the number that the next token spells is appended, and the token read; or it is rejected
 abbrev pub TakesNumberAs : TokenForm → Room → TokenParser ℕ
 TakesNumberAs f room end tokens old (Ok number) left new = (t : TokenSeen) × (tokens ≡ t ∷ left) × f.spells t (number ∷ []) × (new ≡ old ++ number ∷ [])
 TakesNumberAs f room end tokens old (Err r) left new = TakesTokenAs room f.spells f.reason end tokens old (Err r) left new
 
--- the type of a gateway so, and the algorithm of a key
+-- the type of a gateway, and the algorithm of a key, parsed so
 abbrev pub TakesGatewayType : Room → TokenParser ℕ
 TakesGatewayType = TakesNumberAs gateway_type_form
 
@@ -66,23 +66,23 @@ TakesAlgorithm = TakesNumberAs octet_form
 
 -- ---- the gateway of a type
 
--- a word spells a gateway that is no name
+-- a word spells a gateway that is not a name
 abbrev pub SpellsAddress : ℕ → TokenSeen → List ℕ → Type 0
 SpellsAddress number t octets = (t.is_quoted ≡ false) × ((g : Gateway) × SpellsGateway number t.text g × (octets ≡ gateway_octets g))
 
--- why a token spells none: it is a quoted text, or none of the type
+-- why a token does not spell one: it is a quoted string, or a word that is not a gateway of the type
 abbrev pub AddressReason : TokenSeen → ErrorKind → Type 0
 AddressReason t e = ((e ≡ Quoted) × (t.is_quoted ≡ true)) ⊎ ((e ≡ ExpectedGateway) × (t.is_quoted ≡ false))
 
--- the next word is taken as such a gateway; or it is rejected
+-- the next word is parsed as such a gateway; or it is rejected
 abbrev pub TakesAddress : Room → ℕ → TokenParser (Unit {0})
 TakesAddress room number = TakesTokenAs room (SpellsAddress number) AddressReason
 
--- the octets of a gateway that is no name
+-- the octets of a gateway that is not a name
 abbrev pub IsAddressOf : ℕ → List ℕ → Type 0
 IsAddressOf number octets = (g : Gateway) × IsGateway g × (gateway_type g ≡ number) × (octets ≡ gateway_octets g)
 
--- how many octets the first labels have, each after its length, up to the empty one and with it; at most `count` labels
+-- the length in octets of the first labels, each after its length octet, up to the empty one and with it; at most `count` labels
 abbrev pub labels_size : ℕ → List ℕ → ℕ
 labels_size zero octets = 0
 labels_size (suc count) [] = 0
@@ -107,7 +107,7 @@ gateway_form origin number = record {
 
 -- ---- the key
 
--- a key in base 64, which may be left out only if the algorithm is 0: that says that there is none (RFC 4025 section 2.4)
+-- a key in base 64, which may be omitted only if the algorithm is 0: this algorithm means that there is no key (RFC 4025 section 2.4)
 abbrev pub key_form : ℕ → RestForm
 key_form algorithm = record {
   spells = λ tokens octets. (digits_form InBase64).spells tokens octets × (octets ≡ [] → algorithm ≡ 0);
@@ -121,11 +121,11 @@ abbrev pub gateway_key_form : Option (List (List ℕ)) → RestForm
 gateway_key_form origin =
     then_form gateway_type_form (λ number. then_form octet_form (λ algorithm. then_form (gateway_form origin (slice_index number 0)) (λ gateway. key_form (slice_index algorithm 0))))
 
--- these are four parts; a rejected token is of this part, by its place, once those before it are taken
+-- these are four parts; a rejected token is of this part, by its index, after those before it are read
 abbrev pub IsGatewayPart : Option (List (List ℕ)) → List TokenSeen → List TokenSeen → ℕ → Type 0
 IsGatewayPart origin =
     PartBehind gateway_type_form (λ number. PartBehind octet_form (λ algorithm. PartBehind (gateway_form origin (slice_index number 0)) (λ gateway tokens left part. part ≡ 0)))
 
--- all tokens are taken as these parts, which follow other fields of the data; or one is rejected, and the error says which part
+-- all tokens are parsed as these parts, which follow other fields of the RDATA; or one is rejected, and the error has its part
 abbrev pub TakesGatewayParts : Option (List (List ℕ)) → Room → ℕ → TokenParser (Unit {0})
 TakesGatewayParts origin room before = TakesInParts room (gateway_key_form origin) (IsGatewayPart origin) before

@@ -1,4 +1,4 @@
--- Record data in the generic form (RFC 3597 section 5).
+-- RDATA in the generic form (RFC 3597 section 5).
 use Rattle.std.specs.Prelude.{ℕ, ◌≡◌, ◌≢◌, ◌⊎◌, ◌^◌, true, false, List, [], ◌∷◌, length, codes, decimal, Result, Ok, Err}
 use Rattle.dns_codec.specs.Base.{base16}
 use Rattle.dns_digits.specs.declared.kind.DigitsKind.TheVariants.{Hex}
@@ -25,7 +25,7 @@ BeginsGeneric (t ∷ ts) = IsGenericMark t
 abbrev pub IsCount : TokenSeen → ℕ → Type 0
 IsCount t count = (t.is_quoted ≡ false) × SpellsBelow (2 ^ 16) t.text count
 
--- why a token is not one
+-- why a token is not such a word
 abbrev pub IsNoCount : TokenSeen → ErrorKind → Type 0
 IsNoCount t e = ((e ≡ Quoted) × (t.is_quoted ≡ true)) ⊎ ((t.is_quoted ≡ false) × NumberReason (2 ^ 16) t.text e × ((n : ℕ) → SpellsBelow (2 ^ 16) t.text n → ⊥))
 
@@ -33,29 +33,29 @@ abbrev pub WhyNoCount : List TokenSeen → ErrorKind → Type 0
 WhyNoCount [] e = e ≡ EndOfEntry
 WhyNoCount (t ∷ ts) e = IsNoCount t e
 
--- the next token is taken as a number; or it is refused, and none is taken
+-- the next token is parsed as a number; or it is rejected, and no token is read
 abbrev pub TakesCount : ℕ → List TokenSeen → Result ℕ RecordError → List TokenSeen → Type 0
 TakesCount end tokens (Ok count) left = (t : TokenSeen) × (tokens ≡ t ∷ left) × IsCount t count
 TakesCount end tokens (Err r) left = (left ≡ tokens) × IsErrorAt (next_place tokens end) r × WhyNoCount tokens r.kind
 
--- the mark, how many octets there are, and these in hexadecimal
+-- the mark, the number of octets, and the octets in hexadecimal
 abbrev pub SpellsGeneric : List TokenSeen → List ℕ → Type 0
 SpellsGeneric [] octets = ⊥
 SpellsGeneric (mark ∷ []) octets = ⊥
 SpellsGeneric (mark ∷ count ∷ digits) octets = IsGenericMark mark × IsCount count (length octets) × SpellsJoined base16 digits octets
 
--- the number of octets in digits is not that of a word, and the error has both
+-- the number of octets in digits is not the number of the word, and the error has both
 abbrev pub IsOtherCount : TokenSeen → List TokenSeen → ErrorKind → Type 0
 IsOtherCount count digits e = (wanted : ℕ) × (octets : List ℕ) × IsCount count wanted × SpellsJoined base16 digits octets × (length octets ≢ wanted) × (e ≡ WrongLength (length octets) wanted)
 
--- why tokens after the mark are rejected: the first is not a number; the others are not octets in digits; or their count is another
+-- why tokens after the mark are rejected: the first is not a number; or the others are not octets in digits; or there is another number of octets
 abbrev pub GenericReason : List TokenSeen → List TokenSeen → ErrorKind → Type 0
 GenericReason [] left e = ⊥
 GenericReason (mark ∷ tokens) left e =
     ((left ≡ tokens) × WhyNoCount tokens e)
     ⊎ ((count : TokenSeen) × (digits : List TokenSeen) × (tokens ≡ count ∷ digits) × ((digits_form Hex).reason digits left e ⊎ (IsOtherCount count digits e × (left ≡ []))))
 
--- the mark and the number are printed as words, and the octets as one
+-- the mark and the number print as words, and the octets as one
 abbrev pub generic_form : RestForm
 generic_form = record {
   spells = SpellsGeneric;

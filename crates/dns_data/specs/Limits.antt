@@ -1,4 +1,4 @@
--- How many octets data of a record has at most.
+-- The greatest length of RDATA.
 use Rattle.std.specs.Prelude.{ℕ}
 
 abbrev pub max_data : ℕ

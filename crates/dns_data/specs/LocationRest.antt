@@ -17,7 +17,7 @@ location_at octets = record {
   altitude = from_be_bytes w32 (take 4 (drop 12 octets));
 }
 
--- another version than 0, of which no meaning is known (RFC 1876 section 2)
+-- a version other than 0, whose meaning is not defined (RFC 1876 section 2)
 abbrev pub is_other_version : List ℕ → Bool
 is_other_version octets = not (slice_index octets 0 == 0)
 

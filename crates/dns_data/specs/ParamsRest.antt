@@ -9,7 +9,7 @@ use Rattle.dns_spelling.specs.Spelling.{AreOctetValues}
 use Rattle.dns_data.specs.GatewayKeys.{plain_word}
 use Rattle.dns_data.specs.Rests.{RestForm}
 
--- parameters in any order, each key once; they are printed in ascending order of keys, each as one word
+-- parameters in any order, each key once; they print in ascending order of keys, each as one word
 abbrev pub params_form : RestForm
 params_form = record {
   spells = SpellsParams;

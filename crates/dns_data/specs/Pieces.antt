@@ -22,7 +22,7 @@ abbrev pub RefusesPush : Room → DigitsState → List TokenSeen → List ℕ �
 RefusesPush room s [] old e = e ≡ EndOfEntry
 RefusesPush room s (t ∷ ts) old e = ((e ≡ Quoted) × (t.is_quoted ≡ true)) ⊎ ((t.is_quoted ≡ false) × RefusesPiece room s t.text old e)
 
--- the next token is pushed and taken; or it is refused, and none is taken
+-- the next token is pushed and read; or it is rejected, and no token is read
 abbrev pub PushesNext : Room → DigitsState → DigitsState → TokenParser (Unit {0})
 PushesNext room s pushed end tokens old (Ok _) left new = (t : TokenSeen) × (tokens ≡ t ∷ left) × PushesDigits s t old pushed new
 PushesNext room s pushed end tokens old (Err r) left new = (left ≡ tokens) × IsErrorAt (next_place tokens end) r × RefusesPush room s tokens old r.kind × Extends old new

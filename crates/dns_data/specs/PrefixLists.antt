@@ -11,7 +11,7 @@ use Rattle.dns_split.specs.EntryTokens.{TokenSeen}
 use Rattle.dns_data.specs.Rests.{RestForm}
 use Rattle.dns_data.specs.TokenForms.{TokenForm, each_form}
 
--- why a token is no item: it is a quoted text; or it spells none
+-- why a token is not an item: it is a quoted string; or it spells none
 abbrev pub PrefixReason : TokenSeen → ErrorKind → Type 0
 PrefixReason t e = ((e ≡ Quoted) × (t.is_quoted ≡ true)) ⊎ ((e ≡ ExpectedPrefix) × (t.is_quoted ≡ false))
 
@@ -19,20 +19,20 @@ PrefixReason t e = ((e ≡ Quoted) × (t.is_quoted ≡ true)) ⊎ ((e ≡ Expect
 abbrev pub IsPrefixItem : List ℕ → Type 0
 IsPrefixItem octets = (p : Prefix) × IsPrefix p × IsPrefixWire p octets
 
--- ---- the item that octets are
+-- ---- the item of octets
 
 -- octets, and zeros up to a count
 abbrev pub with_zeros : ℕ → List ℕ → List ℕ
 with_zeros size part = part ++ replicate (size - length part) 0
 
--- the address of a family, all but the zeros at its end
+-- the address of a family, without the zeros at its end
 abbrev pub family_address : ℕ → List ℕ → IpAddr
 family_address family part = if family == 1 then V4 (record { octets = with_zeros 4 part }) else V6 (record { segments = segments_of (with_zeros 16 part) })
 
 abbrev pub item_prefix : List ℕ → Prefix
 item_prefix octets = record { negated = nat_le 128 (slice_index octets 3); address = family_address (slice_index octets 1) (drop 4 octets); bits = slice_index octets 2 }
 
--- behind four octets, as many as the last of these counts beside the exclusion
+-- the length of an item: 4, and the number in its fourth octet without the bit of an exclusion
 abbrev pub item_size : List ℕ → ℕ
 item_size octets = 4 + slice_index octets 3 % 128
 
@@ -52,11 +52,11 @@ prefixes_form = each_form prefix_form
 
 -- ---- items of other families
 
--- another address family than 1 and 2
+-- a family other than 1 and 2
 abbrev pub is_other_family : List ℕ → Bool
 is_other_family octets = not ((slice_index octets 0 == 0) && ((slice_index octets 1 == 1) || (slice_index octets 1 == 2)))
 
--- such an item has the length that it says, and nothing more is known of it (RFC 3123 section 4)
+-- such an item has the length that it states, and no more is known of it (RFC 3123 section 4)
 pub record IsOtherItem (octets : List ℕ) : Type 0 where
   pub family : is_other_family octets ≡ true
   pub head : 4 ≤ length octets

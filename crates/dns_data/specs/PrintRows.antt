@@ -19,11 +19,11 @@ preference_and_host = refl
 two_strings : printed_parts [] Strings (2 ∷ codes "a\"" ++ 0 ∷ []) ≡ record { is_quoted = true; text = codes "a\\\"" } ∷ record { is_quoted = true; text = [] } ∷ []
 two_strings = refl
 
--- such a text stands between double quotes
+-- a quoted string is between double quotes
 in_quotes : token_bytes (record { is_quoted = true; text = codes "a\\\"" }) ≡ codes "\"a\\\"\""
 in_quotes = refl
 
--- a string as a field, and nothing in hexadecimal behind it
+-- a string as a field, and after it an empty tail in hexadecimal
 no_digits : printed_parts (String ∷ []) Hex (1 ∷ 120 ∷ []) ≡ record { is_quoted = true; text = codes "x" } ∷ []
 no_digits = refl
 
@@ -39,10 +39,10 @@ numbered_types : printed_parts [] SomeTypes (1 ∷ 1 ∷ 3 ∷ []) ≡ record { 
 unfolding set_places block_types type_rows digits
 numbered_types = refl
 
--- an address of X25
+-- an X25 address
 address : printed_parts (PsdnAddress ∷ []) Nothing (4 ∷ codes "1234") ≡ record { is_quoted = true; text = codes "1234" } ∷ []
 address = refl
 
--- a writer that fails at no step takes all steps
+-- a writer that fails at no step does all steps
 never_fails : {F : Type 0} (blocks : F → ℕ) (gives : F → Step → F → Type 0) (fails : F → Step → Type 0) (w : F) (xs : List Step) → ((v : F) (x : Step) → fails v x → ⊥) → FailsInSteps blocks gives fails w xs → ⊥
 never_fails blocks gives fails w xs none h = none h.stands h.next h.failed

@@ -1,4 +1,4 @@
--- Record data as the tokens that it is printed as.
+-- RDATA as the tokens that it prints as.
 use Rattle.std.specs.Prelude.{ℕ, None, Result, OnOk, OnErr, ◌≡◌, ◌+◌, if◌then◌else◌, List, [], ◌∷◌, ◌++◌, map, length, take, drop, slice_index}
 use Rattle.dns_symbol.specs.Characters.{double_quote}
 use Rattle.dns_zone.specs.Layout.{Step, token}
@@ -13,11 +13,11 @@ use Rattle.dns_data.specs.RestKinds.{has_no_text, rest_form}
 use Rattle.dns_data.specs.declared.rest.Rest.{Rest}
 use Rattle.dns_data.specs.declared.shape.Shape.{Shape}
 
--- the number of octets that the first one is, and that one
+-- the number in the first octet, and 1 for that octet
 abbrev pub counted_size : List ℕ → ℕ
 counted_size octets = 1 + slice_index octets 0
 
--- how many octets the first field has
+-- the length of the first field, in octets
 abbrev pub field_size : Field → List ℕ → ℕ
 field_size Number8 octets = 1
 field_size Number16 octets = 2
@@ -44,7 +44,7 @@ field_size Name octets = labels_size (length octets) octets
 abbrev pub printed_field : Field → List ℕ → PrintedToken
 printed_field f form = record { is_quoted = (field_form None f).quotes; text = (field_form None f).printed form }
 
--- the tokens of the first fields, one after another, and after them those of the rest
+-- the tokens of the first fields, one after another, and after them those of the tail
 abbrev pub printed_parts : List Field → Rest → List ℕ → List PrintedToken
 printed_parts [] rest octets = (rest_form None rest).printed octets
 printed_parts (f ∷ fs) rest octets = printed_field f (take (field_size f octets) octets) ∷ printed_parts fs rest (drop (field_size f octets) octets)
@@ -54,7 +54,7 @@ abbrev pub behind_fields : List Field → List ℕ → List ℕ
 behind_fields [] octets = octets
 behind_fields (f ∷ fs) octets = behind_fields fs (drop (field_size f octets) octets)
 
--- data that have no text form are printed in the generic form
+-- RDATA without a text form prints in the generic form
 abbrev pub printed_with : List Field → Rest → List ℕ → List PrintedToken
 printed_with fields rest octets = if has_no_text rest (behind_fields fields octets) then generic_form.printed octets else printed_parts fields rest octets
 
@@ -71,7 +71,7 @@ token_step t = token (token_bytes t)
 abbrev pub token_steps : List PrintedToken → List Step
 token_steps tokens = map token_step tokens
 
--- a writer took the first steps of a list, and failed at the next
+-- a writer did the first steps of a list, and failed at the next
 pub record FailsInSteps {F : Type 0} (blocks : F → ℕ) (step_gives : F → Step → F → Type 0) (step_fails : F → Step → Type 0) (w : F) (xs : List Step) : Type 0 where
   pub taken : List Step
   pub next : Step
@@ -81,10 +81,10 @@ pub record FailsInSteps {F : Type 0} (blocks : F → ℕ) (step_gives : F → St
   pub steps : WritesSteps blocks step_gives w taken stands
   pub failed : step_fails stands next
 
--- a writer took these tokens one by one
+-- a writer printed these tokens one by one
 abbrev pub PrintsTokens : {F R E : Type 0} → (F → ℕ) → (F → Step → F → Type 0) → F → List PrintedToken → Result R E → F → Type 0
 PrintsTokens blocks step_gives old tokens result new = OnOk result (WritesSteps blocks step_gives old (token_steps tokens) new)
 
--- or it failed at one of them, once it took those before
+-- or it failed at one of them, after it printed those before
 abbrev pub FailsInTokens : {F R E : Type 0} → (F → ℕ) → (F → Step → F → Type 0) → (F → Step → Type 0) → F → List PrintedToken → Result R E → Type 0
 FailsInTokens blocks step_gives step_fails old tokens result = OnErr result (FailsInSteps blocks step_gives step_fails old (token_steps tokens))

@@ -1,4 +1,4 @@
--- The kinds of what goes to the end of an entry.
+-- The kinds of tails, which go to the end of an entry.
 use Rattle.std.specs.Prelude.{ℕ, zero, suc, ◌≡◌, ◌≤◌, ◌⊎◌, Bool, true, false, Option, None, List, [], ◌∷◌, ◌++◌, map, take, drop, length}
 use Rattle.std.specs.List.{AllByRecursion}
 use Rattle.dns_octets.specs.Room.{Room}
@@ -23,7 +23,7 @@ use Rattle.dns_data.specs.TypeLists.{types_form}
 use Rattle.dns_data.specs.declared.rest.Rest.{Rest}
 use Rattle.dns_data.specs.declared.rest.Rest.TheVariants.{Nothing, Strings, Hex, Base64, Types, SomeTypes, Text, QuotedText, Location as OfLocation, Prefixes, GatewayKey, Params}
 
--- why the next token is no character string
+-- why the next token is not a character string
 abbrev pub StringTokensReason : List TokenSeen → List TokenSeen → ErrorKind → Type 0
 StringTokensReason before [] e = ⊥
 StringTokensReason before (t ∷ ts) e = StringReason t.is_quoted t.text e
@@ -48,7 +48,7 @@ strings_in (suc count) (size ∷ octets) = take size octets ∷ strings_in count
 abbrev pub strings_in_octets : List ℕ → List (List ℕ)
 strings_in_octets octets = strings_in (length octets) octets
 
--- character strings, any number of them; each is printed in quotes
+-- character strings, any number of them; each prints in quotes
 abbrev pub strings_form : Option (List (List ℕ)) → RestForm
 strings_form origin = record {
   spells = SpellsEach origin OfString;
@@ -57,7 +57,7 @@ strings_form origin = record {
   printed = λ octets. map (λ s. record { is_quoted = true; text = text_in_quotes s }) (strings_in_octets octets);
 }
 
--- each kind, where an origin is appended to relative names
+-- the form of each kind, in which the origin is appended to relative names
 abbrev pub rest_form : Option (List (List ℕ)) → Rest → RestForm
 rest_form origin Nothing = nothing_form
 rest_form origin Strings = some_form (strings_form origin)
@@ -72,7 +72,7 @@ rest_form origin Prefixes = prefixes_form
 rest_form origin GatewayKey = gateway_key_form origin
 rest_form origin Params = params_form
 
--- the part that a refused token is of: a gateway and a key have four, and each other kind one
+-- the part of a rejected token: a gateway and a key have four, and each other kind one
 abbrev pub IsRestPart : Option (List (List ℕ)) → Rest → List TokenSeen → List TokenSeen → ℕ → Type 0
 IsRestPart origin Nothing tokens left part = part ≡ 0
 IsRestPart origin Strings tokens left part = part ≡ 0
@@ -87,19 +87,19 @@ IsRestPart origin Prefixes tokens left part = part ≡ 0
 IsRestPart origin GatewayKey tokens left part = IsGatewayPart origin tokens left part
 IsRestPart origin Params tokens left part = part ≡ 0
 
--- all tokens are taken as the parts of a kind, which follow other fields of the data; or one is rejected, and the error says which part
+-- all tokens are parsed as the parts of a kind, which follow other fields of the RDATA; or one is rejected, and the error has its part
 abbrev pub TakesRestParts : Option (List (List ℕ)) → Room → Rest → ℕ → TokenParser (Unit {0})
 TakesRestParts origin room rest before = TakesInParts room (rest_form origin rest) (IsRestPart origin rest) before
 
 -- ---- octets without a text form
 
--- a location of another version than 0, and an address prefix list with an item of another family than 1 and 2
+-- a location of a version other than 0, and an address prefix list with an item of a family other than 1 and 2
 abbrev pub IsTextless : Rest → List ℕ → Type 0
 IsTextless OfLocation octets = is_other_version octets ≡ true
 IsTextless Prefixes octets = AreParts IsAnyItem octets × (has_other_family octets ≡ true)
 IsTextless _ octets = ⊥
 
--- of octets that a kind can have, whether they are such
+-- whether octets that a kind can have are without a text form
 abbrev pub has_no_text : Rest → List ℕ → Bool
 has_no_text OfLocation octets = is_other_version octets
 has_no_text Prefixes octets = has_other_family octets

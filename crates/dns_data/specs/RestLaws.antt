@@ -1,4 +1,4 @@
--- What holds of each kind of what goes to the end of an entry.
+-- Laws of each kind of tail.
 use Rattle.std.specs.Prelude.{ℕ, Option, ◌≡◌, List}
 use Rattle.std.specs.List.{AllByRecursion}
 use Rattle.dns_spelling.specs.NameSpelling.{IsOrigin}
@@ -12,11 +12,11 @@ use Rattle.dns_data.specs.declared.rest.Rest.{Rest}
 abbrev pub HoldOctets : List TokenSeen → Type 0
 HoldOctets tokens = AllByRecursion (λ t. AreOctetValues t.text) tokens
 
--- What tokens spell are octets that it can have; and tokens spell it in one way.
+-- What tokens spell are octets that the kind can have; and tokens spell one list of octets only.
 pub record IsRestForm (f : RestForm) : Type 0 where
   pub are_wire : (tokens : List TokenSeen) (octets : List ℕ) → HoldOctets tokens → f.spells tokens octets → f.is_wire octets
   pub once : (tokens : List TokenSeen) (a b : List ℕ) → f.spells tokens a → f.spells tokens b → a ≡ b
 
--- each kind is spelled as its form says
+-- each kind is spelled as its form defines
 abbrev pub AreRestForms : Type 0
 AreRestForms = (origin : Option (List (List ℕ))) → IsOrigin origin → (r : Rest) → IsRestForm (rest_form origin r)

@@ -2,10 +2,10 @@
 use Rattle.std.specs.Prelude.{◌≡◌, [], ◌∷◌, codes, refl}
 use Rattle.dns_data.specs.RestKinds.{strings_wire, strings_in_octets}
 
--- strings behind their lengths; one without octets is its length alone
+-- strings after their lengths; an empty string is its length alone
 wire : strings_wire (codes "a" ∷ [] ∷ codes "bc" ∷ []) ≡ 1 ∷ 97 ∷ 0 ∷ 2 ∷ 98 ∷ 99 ∷ []
 wire = refl
 
--- and read back
+-- the strings, parsed back
 read_strings : strings_in_octets (1 ∷ 97 ∷ 0 ∷ 2 ∷ 98 ∷ 99 ∷ []) ≡ codes "a" ∷ [] ∷ codes "bc" ∷ []
 read_strings = refl

@@ -1,4 +1,4 @@
--- Text of any length, as the one token that is left.
+-- Text of any length, as the one unread token.
 use Rattle.std.specs.Prelude.{ℕ, ◌≡◌, ◌⊎◌, Bool, true, false, List, [], ◌∷◌, Result, Ok, Err}
 use Rattle.dns_fields.specs.RecordErrors.{error_at}
 use Rattle.dns_fields.specs.declared.record_error.RecordError.{RecordError}
@@ -9,7 +9,7 @@ use Rattle.dns_spelling.specs.Spelling.{AreOctetValues, SpellsOctetList, SpellsT
 use Rattle.dns_split.specs.EntryTokens.{TokenSeen}
 use Rattle.dns_data.specs.Rests.{RestForm, BehindSome}
 
--- no token is left, or the next is refused
+-- there are no unread tokens, or the next is rejected
 abbrev pub TakesNoToken : ℕ → List TokenSeen → Result (Unit {0}) RecordError → List TokenSeen → Type 0
 TakesNoToken end tokens (Ok _) left = (tokens ≡ []) × (left ≡ [])
 TakesNoToken end [] (Err r) left = ⊥
@@ -24,24 +24,24 @@ nothing_form = record {
   printed = λ octets. [];
 }
 
--- a token, in quotes where they are wanted, spells the octets
+-- a token, quoted if quotes are wanted, spells the octets
 abbrev pub SpellsText : Bool → TokenSeen → List ℕ → Type 0
 SpellsText wants_quotes t octets = (wants_quotes ≡ true → t.is_quoted ≡ true) × SpellsOctetList t.text octets
 
--- the one token does
+-- the one token spells the octets
 abbrev pub AreText : Bool → List TokenSeen → List ℕ → Type 0
 AreText wants_quotes [] octets = ⊥
 AreText wants_quotes (t ∷ []) octets = SpellsText wants_quotes t octets
 AreText wants_quotes (t ∷ u ∷ ts) octets = ⊥
 
--- why: there is no token; it is a word where quotes are wanted; it has a bad escape; or another is left behind it
+-- why a text is rejected: there is no token; or it is a word and quotes are wanted; or it has a wrong escape; or another token follows it
 abbrev pub TextReason : Bool → List TokenSeen → List TokenSeen → ErrorKind → Type 0
 TextReason wants_quotes [] [] e = e ≡ EndOfEntry
 TextReason wants_quotes [] (t ∷ ts) e =
     ((e ≡ NotQuoted) × (wants_quotes ≡ true) × (t.is_quoted ≡ false)) ⊎ ((e ≡ BadEscape) × SpellsToBadEscape t.text)
 TextReason wants_quotes (t ∷ ts) left e = (ts ≡ []) × (e ≡ TrailingToken)
 
--- text without a length; it is printed in quotes
+-- text without a length; it prints in quotes
 abbrev pub text_form : Bool → RestForm
 text_form wants_quotes = record {
   spells = AreText wants_quotes;

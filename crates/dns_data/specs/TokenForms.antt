@@ -1,4 +1,4 @@
--- What one token is read as, and what goes to the end of an entry as such tokens.
+-- The form of one token, and a tail that is such tokens.
 use Rattle.std.specs.Prelude.{ℕ, zero, suc, ◌≡◌, ◌⊎◌, Option, List, [], ◌∷◌, ◌++◌, take, drop, length, Ok, Err}
 use Rattle.std.specs.List.{AllByRecursion, concat}
 use Rattle.dns_octets.specs.Room.{Room}
@@ -17,33 +17,33 @@ use Rattle.dns_data.specs.Rests.{RestForm, PrintedToken, BehindSome}
 pub record TokenForm : Type 1 where
   -- a token spells these octets
   pub spells : TokenSeen → List ℕ → Type 0
-  -- why a token that spells none is refused
+  -- why a token that spells none is rejected
   pub reason : TokenSeen → ErrorKind → Type 0
   -- the octets that it can have
   pub is_wire : List ℕ → Type 0
-  -- how many octets there are at the beginning of others
+  -- the length of the form that octets begin with
   pub width : List ℕ → ℕ
   pub printed : List ℕ → PrintedToken
 
--- why a token is no field
+-- why a token is not a field
 abbrev pub FieldReason : Option (List (List ℕ)) → Field → TokenSeen → ErrorKind → Type 0
 FieldReason origin f t e = (field_form origin f).reason t.is_quoted t.text e
 
--- why the next token was not taken: there is none; its octets don't surely fit; or it spells none, and this is why
+-- why the next token was not parsed: there is none; or its octets don't surely fit; or it spells none, for this reason
 abbrev pub RefusesTokenAs : Room → (TokenSeen → List ℕ → Type 0) → (TokenSeen → ErrorKind → Type 0) → List TokenSeen → List ℕ → ErrorKind → Type 0
 RefusesTokenAs room Spells Reason [] old e = e ≡ EndOfEntry
 RefusesTokenAs room Spells Reason (t ∷ ts) old e = ((e ≡ ShortBuf) × LacksRoom room (Spells t) old) ⊎ (Reason t e × ((octets : List ℕ) → Spells t octets → ⊥))
 
--- the next token is taken, and the target gained the octets that it spells; or it is refused, and none is taken
+-- the next token is parsed, and the target gained the octets that it spells; or it is rejected, and no token is read
 abbrev pub TakesTokenAs : Room → (TokenSeen → List ℕ → Type 0) → (TokenSeen → ErrorKind → Type 0) → TokenParser (Unit {0})
 TakesTokenAs room Spells Reason end tokens old (Ok _) left new = (t : TokenSeen) × (tokens ≡ t ∷ left) × Gains (Spells t) old new
 TakesTokenAs room Spells Reason end tokens old (Err r) left new = (left ≡ tokens) × IsErrorAt (next_place tokens end) r × RefusesTokenAs room Spells Reason tokens old r.kind × Extends old new
 
--- it is taken as a field
+-- the next token is parsed as a field
 abbrev pub TakesOneField : Option (List (List ℕ)) → Room → Field → TokenParser (Unit {0})
 TakesOneField origin room f = TakesTokenAs room (SpellsField origin f) (FieldReason origin f)
 
--- it is taken as a token of a form
+-- the next token is parsed as a token of a form
 abbrev pub TakesTokenOf : Room → TokenForm → TokenParser (Unit {0})
 TakesTokenOf room f = TakesTokenAs room f.spells f.reason
 
@@ -77,7 +77,7 @@ each_form f = record {
   printed = λ octets. printed_each f (length octets) octets;
 }
 
--- ---- one token, and after it what its octets ask for
+-- ---- one token, and after it what its octets require
 
 pub record SpellsThen (f : TokenForm) (behind : List ℕ → RestForm) (tokens : List TokenSeen) (octets : List ℕ) : Type 0 where
   pub first : TokenSeen
@@ -89,7 +89,7 @@ pub record SpellsThen (f : TokenForm) (behind : List ℕ → RestForm) (tokens :
   pub spelled : f.spells first front
   pub rest : (behind front).spells last back
 
--- no token is there; the first is rejected; or it spells octets, and what follows it is rejected
+-- there is no token; or the first is rejected; or it spells octets, and what follows it is rejected
 abbrev pub ThenReason : TokenForm → (List ℕ → RestForm) → List TokenSeen → List TokenSeen → ErrorKind → Type 0
 ThenReason f behind [] left e = (left ≡ []) × (e ≡ EndOfEntry)
 ThenReason f behind (t ∷ ts) left e = ((left ≡ t ∷ ts) × f.reason t e) ⊎ ((front : List ℕ) × f.spells t front × (behind front).reason ts left e)
@@ -109,7 +109,7 @@ then_form f behind = record {
   printed = λ octets. let front = take (f.width octets) octets in f.printed front ∷ (behind front).printed (drop (f.width octets) octets);
 }
 
--- which part of such tokens is refused: the first, of which none is taken, or after it a part of the others
+-- the part of such tokens that is rejected: the first, and no token is read, or after it a part of the others
 abbrev pub PartBehind : TokenForm → (List ℕ → List TokenSeen → List TokenSeen → ℕ → Type 0) → List TokenSeen → List TokenSeen → ℕ → Type 0
 PartBehind f Behind tokens left zero = left ≡ tokens
 PartBehind f Behind [] left (suc part) = ⊥

@@ -21,24 +21,24 @@ NameTypes [] (rtype ∷ types) = ⊥
 NameTypes (t ∷ ts) [] = ⊥
 NameTypes (t ∷ ts) (rtype ∷ types) = NamesType t rtype × NameTypes ts types
 
--- why a token names no type of a list: it is a quoted text; it names none; or type 0
+-- why a token does not name a type of a list: it is a quoted string; or it names none; or type 0
 abbrev pub NamesNone : TokenSeen → ErrorKind → Type 0
 NamesNone t e =
     ((e ≡ Quoted) × (t.is_quoted ≡ true))
     ⊎ ((t.is_quoted ≡ false) × (((e ≡ UnknownType) × ((named : RecordType) → SpellsType t.text named → ⊥)) ⊎ ((e ≡ TypeZero) × SpellsType t.text 0)))
 
--- the next token's type is added to a set, and the token taken; or it is refused
+-- the next token's type is added to a set, and the token read; or it is rejected
 abbrev pub InsertsNext : List RecordType → ℕ → List TokenSeen → Result (Unit {0}) RecordError → List RecordType → List TokenSeen → Type 0
 InsertsNext types end tokens (Ok _) more left = (t : TokenSeen) × (tokens ≡ t ∷ left) × ((rtype : RecordType) × NamesType t rtype × SameTypes more (rtype ∷ types))
 InsertsNext types end [] (Err r) more left = (left ≡ []) × (r ≡ error_at end EndOfEntry)
 InsertsNext types end (t ∷ ts) (Err r) more left = (left ≡ t ∷ ts) × IsErrorAt t.at r × NamesNone t r.kind
 
--- behind some, why the next is refused
+-- after some tokens, why the next is rejected
 abbrev pub TypesReason : List TokenSeen → List TokenSeen → ErrorKind → Type 0
 TypesReason before [] e = ⊥
 TypesReason before (t ∷ ts) e = NamesNone t e
 
--- types in any order, repeated or not, but 0; they are printed in ascending order, each as a word, by name if every reader knows that
+-- types in any order, repeated or not, except 0; they print in ascending order, each as a word, by name if every reader knows that
 abbrev pub types_form : RestForm
 types_form = record {
   spells = λ tokens octets. (types : List RecordType) × NameTypes tokens types × (octets ≡ bitmap types);

@@ -1,4 +1,4 @@
--- The types whose data have a text form.
+-- The types whose RDATA has a text form.
 use Rattle.std.specs.Prelude.{ℕ, ◌≡◌, ◌==◌, find, map, Option, option_map, List, [], ◌∷◌, codes}
 use Rattle.dns_digits.specs.declared.digests.Digests.TheVariants.{Ds, Sshfp, Zonemd}
 use Rattle.dns_fields.specs.declared.field.Field.{Field}
@@ -11,7 +11,7 @@ use Rattle.dns_data.specs.declared.shape.Length.{Length}
 use Rattle.dns_data.specs.declared.shape.Length.TheVariants.{Any, Digest, Hash as HashLength}
 use Rattle.dns_data.specs.declared.types.TypeRow.{TypeRow}
 
--- a type, the fields of its data, what comes after them, the lengths that are asked for, and the names of the fields and of what comes after them
+-- a type, the fields of its RDATA, the tail after them, the length that is required, and the names of the fields and of the parts of the tail
 pub record TypeShape : Type 0 where
   pub rtype : RecordType
   pub fields : List Field
@@ -32,7 +32,7 @@ row_shape r = type_shape r.0 r.1.now r.2 r.3 (row_names r)
 abbrev pub row_shapes : List TypeRow → List TypeShape
 row_shapes = map row_shape
 
--- the first of these of the type is found, if there is one
+-- the first row of the type, if there is one
 abbrev pub FindsShape : List TypeShape → RecordType → Option TypeRow → Type 0
 FindsShape shapes rtype r = option_map row_shape r ≡ find (λ (s : TypeShape). s.rtype == rtype) shapes
 

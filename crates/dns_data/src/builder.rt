@@ -1,4 +1,4 @@
-//! Record data that are being built.
+//! Builds RDATA of at most 65,535 octets.
 ghost use Rattle.std.specs.Prelude.{◌≡◌, ◌<◌, ◌≤◌, List, [], ℕ, length, All, refl};
 ghost use Rattle.dns_octets.specs.Octets.{written_over};
 ghost use Rattle.dns_octets.specs.Room.{within};
@@ -7,10 +7,10 @@ ghost use Rattle.dns_data.specs.Limits.{max_data};
 use dns_octets::{AsOctets, AsOctetsMut, EmptyBuilder, FreezeBuilder, OctetsBuilder, ShortBuf};
 use std::marker::Model;
 
-/// The most octets of record data: its length is a number of 16 bits (RFC 1035 section 3.2.1).
+/// Greatest length of RDATA in octets: its length is a number of 16 bits (RFC 1035 section 3.2.1).
 pub const MAX_DATA: usize = 65535;
 
-/// Record data that are being built: at most 65,535 octets.
+/// A builder of RDATA, which holds at most 65,535 octets.
 #[derive(Drop)]
 pub struct DataBuilder<B: OctetsBuilder> {
     inner: B,
@@ -25,7 +25,7 @@ impl<B: OctetsBuilder> Model for DataBuilder<B> {
 }
 
 impl<B: OctetsBuilder> DataBuilder<B> {
-    /// A builder of no octets. It takes no memory.
+    /// Returns an empty builder. Allocates no memory.
     pub fn new(alloc: B::Alloc) -> Self
     where
         B: EmptyBuilder,
@@ -36,7 +36,7 @@ impl<B: OctetsBuilder> DataBuilder<B> {
         }
     }
 
-    /// The octets so far.
+    /// Returns the octets so far.
     pub fn as_slice(&self) -> &[u8]
         ensures value { result.now ≡ self.now }
         ensures short { length self.now ≤ max_data }
@@ -45,7 +45,7 @@ impl<B: OctetsBuilder> DataBuilder<B> {
         self.inner.as_slice()
     }
 
-    /// The octets, finished.
+    /// Finishes the builder, and returns its octets.
     pub fn finish(self) -> B::Octets
     where
         B: FreezeBuilder,
@@ -64,7 +64,7 @@ impl<B: OctetsBuilder> AsOctets for DataBuilder<B> {
     }
 }
 
-/// Appends only while there are at most 65,535 octets.
+/// Appending fails if there would be more than 65,535 octets.
 impl<B: OctetsBuilder> OctetsBuilder for DataBuilder<B> {
     ghost room = { within max_data B.room };
 

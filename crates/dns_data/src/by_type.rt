@@ -1,4 +1,4 @@
-//! Record data by the type of the record.
+//! Parses RDATA by the type of the record.
 ghost use Rattle.std.specs.Prelude.{◌≡◌, ◌≤◌, ◌↔◌, ℕ, List, [], length, IfOk, IfErr, IsTrue, option_copied};
 ghost use Rattle.dns_octets.specs.Room.{within};
 ghost use Rattle.dns_fields.specs.TokenParsers.{Parses};
@@ -16,16 +16,16 @@ use dns_kinds::{ErrorKind, RecordType};
 use dns_octets::{AsOctets, AsOctetsMut, EmptyBuilder, FreezeBuilder, OctetsBuilder};
 use dns_wire::Name;
 
-/// Whether records of a type can be in a zone: those of type 0, OPT, and the types 128 to 255
-/// cannot (RFC 6895 section 3.1).
+/// Returns whether records of a type can be in a zone. Those of type 0, OPT, and the types 128 to
+/// 255 cannot (RFC 6895 section 3.1).
 pub fn is_data_type(rtype: RecordType) -> bool
     ensures { IsTrue result ↔ IsDataType rtype }
 {
     rtype.0 != 0 && rtype != RecordType::OPT && !(128..=255).contains(&rtype.0)
 }
 
-/// Parses the remaining tokens as data in the generic form, which have to be data of the type if it
-/// has a text form.
+/// Parses the remaining tokens as RDATA in the generic form. If the type has a presentation format
+/// of its own, fails unless the octets are RDATA of the type.
 fn read_generic<S: TokenSource, B: OctetsBuilder>(
     row: Option<&'static TypeRow>,
     source: &mut S,
@@ -49,7 +49,7 @@ fn read_generic<S: TokenSource, B: OctetsBuilder>(
     }
 }
 
-/// Parses the remaining tokens as data of a type, as [`read_type`] does. An error doesn't say the
+/// Parses the remaining tokens as RDATA of a type, as [`read_type`] does. An error doesn't have the
 /// type.
 fn take_data<S: TokenSource, Octets: AsOctets, B: OctetsBuilder + AsOctetsMut>(
     rtype: RecordType,
@@ -74,11 +74,12 @@ fn take_data<S: TokenSource, Octets: AsOctets, B: OctetsBuilder + AsOctetsMut>(
     read_data(&row.shape(), origin, source, target)
 }
 
-/// Parses the remaining tokens as data of a type, in its text form or in the generic one, and appends
-/// its octets. The origin is appended to a relative name.
+/// Parses the remaining tokens as RDATA of a type, in its own form or in the generic one, and
+/// appends its octets. The origin is appended to a relative name.
 ///
-/// An error says the type, and the field if one is rejected: data in the generic form, and data of
-/// which nothing is read, have no fields. [`field_text`](crate::field_text) returns the field's name.
+/// An error has the type, and the field if one is rejected. RDATA in the generic form, and RDATA of
+/// which no token is parsed, have no fields. [`field_text`](crate::field_text) returns the field's
+/// name.
 pub fn read_type<S: TokenSource, Octets: AsOctets, B: OctetsBuilder + AsOctetsMut>(
     rtype: RecordType,
     origin: Option<&Name<Octets>>,
@@ -95,8 +96,8 @@ pub fn read_type<S: TokenSource, Octets: AsOctets, B: OctetsBuilder + AsOctetsMu
     }
 }
 
-/// Parses the remaining tokens as data of a type, and returns its octets, at most 65,535. If there
-/// are more, or if memory is lacking, the error is at the token with which they get too long.
+/// Parses the remaining tokens as RDATA of a type, and returns its octets, at most 65,535. If there
+/// are more, or if there is no memory, the error is at the token with which they get too long.
 pub fn data_of_type<
     S: TokenSource,
     Octets: AsOctets,

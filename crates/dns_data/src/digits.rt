@@ -1,4 +1,4 @@
-//! Octets in digits to the end of an entry.
+//! Parses octets in digits to the end of an entry.
 ghost use Rattle.std.specs.Prelude.{◌≡◌, ◌∷◌, ◌++◌, [], List, ℕ, false, IfErr, OnErr, OnOk};
 ghost use Rattle.dns_octets.specs.Appending.{Extends};
 ghost use Rattle.dns_fields.specs.TokenParsers.{Parses};
@@ -13,7 +13,7 @@ use dns_fields::{RecordError, TokenSource};
 use dns_kinds::ErrorKind;
 use dns_octets::OctetsBuilder;
 
-/// Pushes the next word to a reader, and takes it.
+/// Pushes the next word to a reader, and skips it.
 fn push_next<S: TokenSource, B: OctetsBuilder>(
     reader: &mut DigitsReader,
     source: &mut S,
@@ -37,8 +37,8 @@ fn push_next<S: TokenSource, B: OctetsBuilder>(
     Ok(())
 }
 
-/// Parses the remaining words as octets in digits, wherever these are cut, and appends the octets. A
-/// quoted string is rejected.
+/// Parses the remaining words as octets in digits, and appends the octets. The digits may be cut
+/// into words anywhere. A quoted string is rejected.
 pub fn take_digits<S: TokenSource, B: OctetsBuilder>(
     kind: DigitsKind,
     source: &mut S,

@@ -1,4 +1,4 @@
-//! A gateway and a public key (IPSECKEY, RFC 4025 section 2.1), after the precedence.
+//! Parses a gateway and a public key (IPSECKEY, RFC 4025 section 2.1), after the precedence.
 ghost use Rattle.std.specs.Prelude.{◌≡◌, ◌<◌, ◌^◌, ◌↔◌, IsTrue, None};
 ghost use Rattle.std.specs.Option.{option_copied};
 ghost use Rattle.dns_fields.specs.TokenParsers.{Parses};
@@ -37,7 +37,7 @@ fn take_one<S: TokenSource, Octets: AsOctets, B: OctetsBuilder>(
     take_field(field, origin, source, target)
 }
 
-/// The type of a gateway that a token names.
+/// Returns the type of a gateway that a token names.
 fn gateway_type(token: &EntryToken<'_>) -> Result<u8, ErrorKind>
     ensures { ReadsGatewayType (token_seen token.now) result }
 {
@@ -75,7 +75,7 @@ fn take_gateway_type<S: TokenSource, B: OctetsBuilder>(
     Ok(number)
 }
 
-/// Parses the next word as a gateway that is no name.
+/// Parses the next word as a gateway that is not a name.
 fn take_address<S: TokenSource, B: OctetsBuilder>(
     number: u8,
     source: &mut S,
@@ -136,7 +136,7 @@ fn take_algorithm<S: TokenSource, Octets: AsOctets, B: OctetsBuilder>(
     Ok(target.as_slice()[begun])
 }
 
-/// Parses the remaining tokens as a key in base 64, which may be left out if the algorithm is 0.
+/// Parses the remaining tokens as a key in base 64, which may be omitted if the algorithm is 0.
 fn take_key<S: TokenSource, B: OctetsBuilder>(
     algorithm: u8,
     source: &mut S,
@@ -153,12 +153,14 @@ fn take_key<S: TokenSource, B: OctetsBuilder>(
     }
 }
 
-/// Parses the remaining tokens as the type of a gateway (0 for none, 1 for an IPv4 address, 2 for an
-/// IPv6 address, 3 for a name), an algorithm, the gateway, and a key in base 64, and appends their
-/// octets. A gateway of type 0 is written `.`. A name is uncompressed, and the origin is appended to
-/// a relative one. Other types are rejected. The key may be left out only if the algorithm is 0 (RFC
-/// 4025 section 2.4). These are four fields of the data, after `before` others. An error says which
-/// field is rejected.
+/// Parses the remaining tokens as the type of a gateway (0 for none, 1 for an IPv4 address, 2 for
+/// an IPv6 address, 3 for a name), an algorithm, the gateway, and a key in base 64, and appends
+/// their octets. Other types are rejected.
+///
+/// A gateway of type 0 is written `.`. A name is uncompressed, and the origin is appended to a
+/// relative one. The key may be omitted only if the algorithm is 0 (RFC 4025 section 2.4).
+///
+/// These are four fields of the RDATA, after `before` others. An error has the rejected field.
 pub(crate) fn take_gateway_parts<S: TokenSource, Octets: AsOctets, B: OctetsBuilder>(
     before: usize,
     origin: Option<&Name<Octets>>,
@@ -187,7 +189,8 @@ pub(crate) fn take_gateway_parts<S: TokenSource, Octets: AsOctets, B: OctetsBuil
     Ok(())
 }
 
-/// How many octets the gateway has that octets begin with, of a type that is no name.
+/// Returns the length in octets of the gateway that octets begin with, of a type that is not a
+/// name.
 fn address_width(number: u8, octets: &[u8]) -> Option<usize>
     ensures { FindsWidth (IsAddressOf number) octets.now result }
 {
@@ -198,7 +201,7 @@ fn address_width(number: u8, octets: &[u8]) -> Option<usize>
     }
 }
 
-/// How many octets the gateway of a type has that octets begin with.
+/// Returns the length in octets of the gateway of a type that octets begin with.
 pub(crate) fn gateway_width(number: u8, octets: &[u8]) -> Option<usize>
     ensures { FindsWidth (gateway_form None number).is_wire octets.now result }
 {
@@ -209,14 +212,14 @@ pub(crate) fn gateway_width(number: u8, octets: &[u8]) -> Option<usize>
     }
 }
 
-/// Whether a key may have a number of octets.
+/// Returns whether a key may have a number of octets.
 fn may_have(algorithm: u8, count: usize) -> bool
     ensures { IsTrue result ↔ (count ≡ 0 → algorithm ≡ 0) }
 {
     count > 0 || algorithm == 0
 }
 
-/// Whether octets are the type of a gateway, an algorithm, the gateway and a key.
+/// Returns whether octets are the type of a gateway, an algorithm, the gateway and a key.
 pub(crate) fn is_gateway_key(octets: &[u8]) -> bool
     ensures { IsTrue result ↔ (gateway_key_form None).is_wire octets.now }
 {

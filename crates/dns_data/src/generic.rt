@@ -1,4 +1,4 @@
-//! Record data in the generic form, for types of any code (RFC 3597 section 5).
+//! Parses RDATA in the generic form, for types of any code (RFC 3597 section 5).
 ghost use Rattle.std.specs.Prelude.{◌≡◌, MatchBool};
 ghost use Rattle.dns_fields.specs.TokenParsers.{Parses};
 ghost use Rattle.dns_data.specs.Generic.{BeginsGeneric, TakesCount, generic_form};
@@ -10,7 +10,7 @@ use dns_fields::{RecordError, TokenSource, Word};
 use dns_kinds::ErrorKind;
 use dns_octets::OctetsBuilder;
 
-/// Whether the next token is the mark of the generic form, `\#` without quotes.
+/// Returns whether the next token is the mark of the generic form, `\#` without quotes.
 pub fn begins_generic<S: TokenSource>(source: &S) -> bool
     ensures { MatchBool result (BeginsGeneric (S.left source.now))
         (BeginsGeneric (S.left source.now) → ⊥) }
@@ -43,8 +43,8 @@ fn take_count<S: TokenSource>(source: &mut S) -> Result<u16, RecordError>
     }
 }
 
-/// Parses the remaining tokens as data in the generic form, and appends its octets: the mark, which
-/// comes next, how many octets there are, and these in hexadecimal.
+/// Parses the remaining tokens as RDATA in the generic form, and appends its octets. The tokens are
+/// the mark, which comes next, the number of octets, and the octets in hexadecimal.
 pub fn take_generic<S: TokenSource, B: OctetsBuilder>(
     source: &mut S,
     target: &mut B,

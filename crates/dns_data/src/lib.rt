@@ -1,5 +1,4 @@
-//! Record data: the tokens that spell data of a type, their octets on the wire, and how they are
-//! printed.
+//! RDATA: the tokens that spell RDATA of a type, its wire format, and how it prints.
 #![tactic(auto)]
 
 pub mod builder;

@@ -1,4 +1,4 @@
-//! Locations (RFC 1876) to the end of an entry.
+//! Parses locations (RFC 1876) to the end of an entry.
 ghost use Rattle.std.specs.Prelude.{◌≡◌};
 ghost use Rattle.dns_fields.specs.TokenParsers.{Parses};
 ghost use Rattle.dns_data.specs.LocationRest.{is_other_version, location_form};
@@ -8,7 +8,8 @@ use dns_fields::{RecordError, TokenSource};
 use dns_octets::OctetsBuilder;
 use dns_places::take_location;
 
-/// Whether octets begin with another version than 0, of which no meaning is known (RFC 1876 section 2).
+/// Returns whether octets begin with a version other than 0, whose meaning is not defined (RFC 1876
+/// section 2).
 pub(crate) fn is_other_version(octets: &[u8]) -> bool
     ensures { result ≡ is_other_version octets.now }
 {

@@ -1,4 +1,4 @@
-//! Service parameters (RFC 9460) to the end of an entry.
+//! Parses service parameters (RFC 9460) to the end of an entry.
 ghost use Rattle.std.specs.Prelude.{◌≡◌, ◌↔◌, IsTrue};
 ghost use Rattle.dns_fields.specs.TokenParsers.{Parses};
 ghost use Rattle.dns_data.specs.ParamsRest.{params_form};
@@ -22,7 +22,8 @@ pub(crate) fn take_service_params<S: TokenSource, B: OctetsBuilder + AsOctetsMut
     take_params(source, target)
 }
 
-/// Whether octets are service parameters in ascending order of keys, each with a right value.
+/// Returns whether octets are service parameters in ascending order of keys, with values that their
+/// keys allow.
 pub(crate) fn are_params(octets: &[u8]) -> bool
     ensures { IsTrue result ↔ params_form.is_wire octets.now }
 {

@@ -1,4 +1,4 @@
-//! Address prefix lists (APL, RFC 3123) to the end of an entry.
+//! Parses address prefix lists (APL, RFC 3123) to the end of an entry.
 ghost use Rattle.std.specs.Prelude.{◌≡◌, ◌≤◌, ◌<◌, ◌↔◌, IsTrue, drop, length};
 ghost use Rattle.dns_fields.specs.TokenParsers.{Parses};
 ghost use Rattle.dns_spelling.specs.Forms.{FindsWidth};
@@ -50,7 +50,7 @@ pub fn take_prefixes<S: TokenSource, B: OctetsBuilder>(
     Ok(())
 }
 
-/// Whether octets are items, one after another.
+/// Returns whether octets are items, one after another.
 pub(crate) fn are_prefixes(octets: &[u8]) -> bool
     ensures { IsTrue result ↔ prefixes_form.is_wire octets.now }
 {
@@ -64,7 +64,7 @@ pub(crate) fn are_prefixes(octets: &[u8]) -> bool
     true
 }
 
-/// Whether octets begin with an item of another family than 1 and 2.
+/// Returns whether octets begin with an item of a family other than 1 and 2.
 fn is_other_family(octets: &[u8]) -> bool
     requires { 4 ≤ length octets.now }
     ensures { result ≡ is_other_family octets.now }
@@ -72,7 +72,7 @@ fn is_other_family(octets: &[u8]) -> bool
     octets[0] != 0 || octets[1] != 1 && octets[1] != 2
 }
 
-/// How many octets the first item says that it has.
+/// Returns the length in octets that the first item states.
 fn item_size(octets: &[u8]) -> usize
     requires { 4 ≤ length octets.now }
     ensures size { result ≡ item_size octets.now }
@@ -81,7 +81,7 @@ fn item_size(octets: &[u8]) -> usize
     4 + usize::from(octets[3] % 128)
 }
 
-/// What follows the first item.
+/// Returns the octets after the first item.
 fn behind_item(octets: &[u8]) -> &[u8]
     requires head { 4 ≤ length octets.now }
     requires whole { item_size octets.now ≤ length octets.now }
@@ -91,7 +91,7 @@ fn behind_item(octets: &[u8]) -> &[u8]
     &octets[item_size(octets)..]
 }
 
-/// How many octets the first item has, if it is of another family than 1 and 2.
+/// Returns the length in octets of the first item, if it is of a family other than 1 and 2.
 fn other_width(octets: &[u8]) -> Option<usize>
     ensures { FindsWidth IsOtherItem octets.now result }
 {
@@ -109,7 +109,7 @@ fn other_width(octets: &[u8]) -> Option<usize>
     }
 }
 
-/// How many octets the first item has, whatever its family.
+/// Returns the length in octets of the first item, whatever its family.
 fn any_width(octets: &[u8]) -> Option<usize>
     ensures { FindsWidth IsAnyItem octets.now result }
 {
@@ -119,7 +119,7 @@ fn any_width(octets: &[u8]) -> Option<usize>
     }
 }
 
-/// Whether octets are items of any family, one after another.
+/// Returns whether octets are items of any family, one after another.
 pub(crate) fn are_items(octets: &[u8]) -> bool
     ensures { IsTrue result ↔ AreParts IsAnyItem octets.now }
 {
@@ -133,7 +133,7 @@ pub(crate) fn are_items(octets: &[u8]) -> bool
     true
 }
 
-/// Whether one of the items that octets are is of another family than 1 and 2.
+/// Returns whether one of the items is of a family other than 1 and 2.
 pub(crate) fn has_other_family(octets: &[u8]) -> bool
     requires { AreParts IsAnyItem octets.now }
     ensures { result ≡ has_other_family octets.now }

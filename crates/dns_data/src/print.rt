@@ -1,4 +1,4 @@
-//! Record data in presentation format.
+//! Prints RDATA in presentation format.
 ghost use Rattle.std.specs.Prelude.{◌≡◌, ◌≤◌, ◌+◌, ℕ, List, [], ◌∷◌, None, length, take, drop, slice_index, OnOk, OnErr};
 ghost use Rattle.dns_fields.specs.Fields.{field_form};
 ghost use Rattle.dns_data.specs.Data.{IsDataOf, IsTextData};
@@ -30,7 +30,7 @@ use dns_places::{Gateway, Prefix, item_width, location_words};
 use dns_spelling::{NameText, QuotedOctets};
 use dns_zone::zonefile_fmt::{self, FormatWriter, Formatter};
 
-/// How many octets the field has that octets begin with.
+/// Returns the length in octets of the field that octets begin with.
 fn front_width(field: Field, octets: &[u8]) -> usize
     requires { (rest : List ℕ) × BeginsWithFields (field ∷ []) octets.now rest }
     ensures size { result ≡ field_size field octets.now }
@@ -59,7 +59,7 @@ fn write_strings<F: FormatWriter>(octets: &[u8], p: &mut F) -> zonefile_fmt::Res
     Ok(())
 }
 
-/// Prints octets in digits as one word, and none as no word.
+/// Prints octets in digits as one word, or as no word if there are none.
 fn write_digits<F: FormatWriter>(kind: DigitsKind, octets: &[u8], p: &mut F) -> zonefile_fmt::Result
     ensures gives { PrintsTokens F.blocks F.step_gives p.old
         ((digits_form kind).printed octets.now) result p.new }
@@ -88,8 +88,8 @@ fn write_types<F: FormatWriter>(octets: &[u8], p: &mut F) -> zonefile_fmt::Resul
     Ok(())
 }
 
-/// Prints octets in the generic form (RFC 3597 section 5): the mark, how many there are, and these in
-/// hexadecimal as one word, or no word if there are none. An error comes from the writer alone.
+/// Prints octets in the generic form (RFC 3597 section 5): the mark, the number of octets, and the
+/// octets in hexadecimal as one word, or no word if there are none. Fails only if the writer does.
 pub fn write_generic<F: FormatWriter>(octets: &[u8], p: &mut F) -> zonefile_fmt::Result
     ensures gives { PrintsTokens F.blocks F.step_gives p.old
         (generic_form.printed octets.now) result p.new }
@@ -140,7 +140,7 @@ fn write_location<F: FormatWriter>(octets: &[u8], p: &mut F) -> zonefile_fmt::Re
     Ok(())
 }
 
-/// How many octets the gateway has, which follows the algorithm.
+/// Returns the length in octets of the gateway after the algorithm.
 fn gateway_front(octets: &[u8]) -> usize
     requires { (gateway_key_form None).is_wire octets.now }
     ensures size { result ≡ gateway_size (slice_index octets.now 0) (drop 2 octets.now) }
@@ -205,7 +205,7 @@ fn write_params<F: FormatWriter>(octets: &[u8], p: &mut F) -> zonefile_fmt::Resu
     Ok(())
 }
 
-/// Prints what goes to the end of an entry.
+/// Prints a tail.
 fn write_rest<F: FormatWriter>(rest: Rest, octets: &[u8], p: &mut F) -> zonefile_fmt::Result
     requires { (rest_form None rest).is_wire octets.now }
     ensures gives { PrintsTokens F.blocks F.step_gives p.old
@@ -227,7 +227,7 @@ fn write_rest<F: FormatWriter>(rest: Rest, octets: &[u8], p: &mut F) -> zonefile
     }
 }
 
-/// What follows the fields that octets begin with.
+/// Returns the octets after the fields that octets begin with.
 fn behind_fields<'a>(fields: &[Field], octets: &'a [u8]) -> &'a [u8]
     requires { (back : List ℕ) × BeginsWithFields fields.now octets.now back }
     ensures { result.now ≡ behind_fields fields.now octets.now }
@@ -238,7 +238,7 @@ fn behind_fields<'a>(fields: &[Field], octets: &'a [u8]) -> &'a [u8]
     }
 }
 
-/// Whether data of a shape has no text form.
+/// Returns whether RDATA of a shape has only the generic form.
 fn has_no_text(shape: &Shape, octets: &[u8]) -> bool
     requires { IsDataOf shape.now octets.now }
     ensures { result
@@ -251,8 +251,8 @@ fn has_no_text(shape: &Shape, octets: &[u8]) -> bool
     }
 }
 
-/// Prints data of a shape in its text form: a token for each of its fields, and then the tokens of what
-/// goes to the end of an entry.
+/// Prints RDATA of a shape in its own form: a token for each of its fields, and then the tokens of
+/// the tail.
 fn write_parts<F: FormatWriter>(shape: &Shape, octets: &[u8], p: &mut F) -> zonefile_fmt::Result
     requires { IsTextData shape.now octets.now }
     ensures gives { PrintsTokens F.blocks F.step_gives p.old
@@ -272,11 +272,13 @@ fn write_parts<F: FormatWriter>(shape: &Shape, octets: &[u8], p: &mut F) -> zone
     write_rest(shape.rest, rest, p)
 }
 
-/// Prints data of a shape: in its text form, or if it has none in the generic form. The text form is a
-/// token for each field, and then the tokens of what goes to the end of an entry. Names print absolute,
+/// Prints RDATA of a shape: in its own form, or in the generic form if it has no other.
+///
+/// Its own form is a token for each field, and then the tokens of the tail. Names print absolute,
 /// character strings and text between double quotes, octets in digits as one word, and types in
-/// ascending order. An error comes from the writer alone: it failed at one of these tokens, once those
-/// before it were printed.
+/// ascending order.
+///
+/// Fails only if the writer does, at one of these tokens, after the tokens before it were printed.
 pub fn write_data<F: FormatWriter>(shape: &Shape, octets: &[u8], p: &mut F) -> zonefile_fmt::Result
     requires { IsDataOf shape.now octets.now }
     ensures gives { PrintsTokens F.blocks F.step_gives p.old

@@ -1,4 +1,4 @@
-//! What goes to the end of an entry, after the fields that are one token each.
+//! Parses the tail of RDATA: what goes to the end of an entry, after the fields of one token each.
 ghost use Rattle.std.specs.Prelude.{◌≡◌, ◌<◌, ◌^◌};
 ghost use Rattle.std.specs.Option.{option_copied};
 ghost use Rattle.dns_fields.specs.TokenParsers.{Parses};
@@ -20,30 +20,30 @@ use dns_kinds::ErrorKind;
 use dns_octets::{AsOctets, AsOctetsMut, OctetsBuilder};
 use dns_wire::Name;
 
-/// A kind of what goes to the end of an entry.
+/// The kind of a tail, which goes to the end of an entry.
 #[derive(Clone, Copy)]
 pub enum Rest {
     /// Nothing.
     Nothing,
-    /// One character string or more.
+    /// One or more character strings.
     Strings,
-    /// One octet or more, in hexadecimal.
+    /// One or more octets in hexadecimal.
     Hex,
-    /// One octet or more, in base 64.
+    /// One or more octets in base 64.
     Base64,
-    /// Any number of types.
+    /// Any number of record types.
     Types,
-    /// One type or more.
+    /// One or more record types.
     SomeTypes,
-    /// Text of any length, in quotes or not.
+    /// Text of any length, quoted or not.
     Text,
-    /// Text of any length, in quotes.
+    /// Text of any length, quoted.
     QuotedText,
     /// A location.
     Location,
     /// Any number of items of an address prefix list.
     Prefixes,
-    /// The type of a gateway, an algorithm, the gateway, and a key in base 64, which may be left out
+    /// The type of a gateway, an algorithm, the gateway, and a key in base 64, which may be omitted
     /// if the algorithm is 0.
     GatewayKey,
     /// Any number of service parameters.
@@ -78,7 +78,7 @@ fn take_strings<S: TokenSource, Octets: AsOctets, B: OctetsBuilder>(
     take_each(Field::String, origin, source, target)
 }
 
-/// Parses the remaining tokens as one character string or more.
+/// Parses the remaining tokens as one or more character strings.
 fn take_some_strings<S: TokenSource, Octets: AsOctets, B: OctetsBuilder>(
     origin: Option<&Name<Octets>>,
     source: &mut S,
@@ -94,7 +94,7 @@ fn take_some_strings<S: TokenSource, Octets: AsOctets, B: OctetsBuilder>(
     want_more(length, source, target)
 }
 
-/// Parses the remaining tokens as one octet or more in digits.
+/// Parses the remaining tokens as one or more octets in digits.
 pub(crate) fn take_some_digits<S: TokenSource, B: OctetsBuilder>(
     kind: DigitsKind,
     source: &mut S,
@@ -109,7 +109,7 @@ pub(crate) fn take_some_digits<S: TokenSource, B: OctetsBuilder>(
     want_more(length, source, target)
 }
 
-/// Parses the remaining tokens as one type or more.
+/// Parses the remaining tokens as one or more types.
 fn take_some_types<S: TokenSource, B: OctetsBuilder>(
     source: &mut S,
     target: &mut B,
@@ -123,7 +123,7 @@ fn take_some_types<S: TokenSource, B: OctetsBuilder>(
     want_more(length, source, target)
 }
 
-/// The same result, whose error says the field after `before` others.
+/// Returns the result. An error gets the field after `before` others.
 fn in_field_after(before: usize, parsed: Result<(), RecordError>) -> Result<(), RecordError>
     ensures { result ≡ in_field_after before parsed }
 {
@@ -133,8 +133,8 @@ fn in_field_after(before: usize, parsed: Result<(), RecordError>) -> Result<(), 
     }
 }
 
-/// Parses the remaining tokens, and appends the octets that they spell. They are fields of the data,
-/// after `before` others. An error says which field is rejected.
+/// Parses the remaining tokens as a tail, and appends the octets that they spell. They are fields
+/// of the RDATA, after `before` others. An error has the rejected field.
 pub(crate) fn take_parts<S: TokenSource, Octets: AsOctets, B: OctetsBuilder + AsOctetsMut>(
     before: usize,
     rest: Rest,

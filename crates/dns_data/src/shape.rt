@@ -1,4 +1,4 @@
-//! Shapes of record data: fields that are one token each, and what goes to the entry's end.
+//! Shapes of RDATA: fields of one token each, and a tail that goes to the entry's end.
 ghost use Rattle.std.specs.Prelude.{◌≡◌, ◌↔◌, IsTrue, slice_index};
 ghost use Rattle.std.specs.Option.{option_copied};
 ghost use Rattle.dns_fields.specs.TokenParsers.{Parses};
@@ -11,33 +11,33 @@ use dns_kinds::ErrorKind;
 use dns_octets::{AsOctets, AsOctetsMut, OctetsBuilder};
 use dns_wire::Name;
 
-/// How many octets a hash of SHA-1 has.
+/// Length of a SHA-1 hash, in octets.
 const SHA1_OCTETS: usize = 20;
 
-/// The lengths that octets of the data ask for.
+/// A length that octets of the RDATA require of later ones.
 #[derive(Clone, Copy)]
 pub enum Length {
-    /// None.
+    /// No length.
     Any,
-    /// The digest that goes to the end has as many octets as the number at this place, before it,
-    /// asks for.
+    /// The digest in the tail has the length that the number at this offset, before the digest,
+    /// requires.
     Digest(Digests, u8),
-    /// The hash of NSEC3 has 20 octets where its algorithm is 1 (RFC 5155 section 11).
+    /// The hash of NSEC3 has 20 octets if its algorithm is 1 (RFC 5155 section 11).
     Hash,
 }
 
-/// What data of a type consists of.
+/// The parts of RDATA of a type.
 #[derive(Clone, Copy)]
 pub struct Shape {
-    /// The fields that are one token each.
+    /// The fields of one token each.
     pub fields: &'static [Field],
-    /// What comes after them.
+    /// The tail after the fields.
     pub rest: Rest,
-    /// The lengths that are asked for.
+    /// The length that is required.
     pub length: Length,
 }
 
-/// The octet at a place, or 0 after the end.
+/// Returns the octet at an offset, or 0 after the end.
 fn octet_at(octets: &[u8], place: usize) -> u8
     ensures { result ≡ slice_index octets.now place }
 {
@@ -48,7 +48,7 @@ fn octet_at(octets: &[u8], place: usize) -> u8
     }
 }
 
-/// Whether data has the lengths that it asks for.
+/// Returns whether RDATA has the length that it requires.
 pub(crate) fn has_length(length: Length, octets: &[u8]) -> bool
     ensures { IsTrue result ↔ HasLength length octets.now }
 {
@@ -66,7 +66,8 @@ pub(crate) fn has_length(length: Length, octets: &[u8]) -> bool
     }
 }
 
-/// Whether the hash of NSEC3 is among octets and has not the length that its algorithm asks for.
+/// Returns whether the octets have the hash of NSEC3, and it does not have the length that its
+/// algorithm requires.
 fn has_wrong_hash(length: Length, octets: &[u8]) -> bool
     ensures { IsTrue result ↔ HasWrongHash length octets.now }
 {
@@ -78,8 +79,8 @@ fn has_wrong_hash(length: Length, octets: &[u8]) -> bool
     }
 }
 
-/// The error of data whose digest or hash has not the length that it asks for: how many octets it
-/// has, and how many it has to have.
+/// Returns the error of RDATA whose digest or hash does not have the length that it requires. The
+/// error has its length and the required length.
 fn wrong_length(length: Length, octets: &[u8]) -> ErrorKind
     ensures { result ≡ wrong_length length octets.now }
 {
@@ -105,11 +106,11 @@ fn wrong_length(length: Length, octets: &[u8]) -> ErrorKind
     }
 }
 
-/// Parses the remaining tokens as data of a shape, and appends its octets. The origin is appended to
-/// a relative name.
+/// Parses the remaining tokens as RDATA of a shape, and appends its octets. The origin is appended
+/// to a relative name.
 ///
-/// An error says the field that is rejected. The fields are those of one token each, and after them
-/// those of the rest: four of a gateway and a key, else one.
+/// An error has the rejected field. The fields are those of one token each, and after them those of
+/// the tail: four for a gateway and a key, one for any other tail.
 pub fn read_data<S: TokenSource, Octets: AsOctets, B: OctetsBuilder + AsOctetsMut>(
     shape: &Shape,
     origin: Option<&Name<Octets>>,

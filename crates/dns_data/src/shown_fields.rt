@@ -1,4 +1,4 @@
-//! A field that prints as its token.
+//! Prints one field as its token.
 ghost use Rattle.std.specs.Prelude.{None, Some};
 ghost use Rattle.dns_fields.specs.Fields.{field_form};
 ghost use Rattle.dns_fields.specs.Forms.{token_text};

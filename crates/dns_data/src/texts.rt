@@ -1,4 +1,4 @@
-//! Text of any length, which is the last token of an entry.
+//! Parses text of any length, which is the last token of an entry.
 ghost use Rattle.std.specs.Prelude.{◌≡◌};
 ghost use Rattle.dns_fields.specs.TokenParsers.{Parses};
 ghost use Rattle.dns_data.specs.Rests.{TakesRest};
@@ -34,8 +34,8 @@ pub(crate) fn take_no_token<S: TokenSource, B: OctetsBuilder>(
 }
 
 /// Parses the one remaining token, and appends the octets that it spells, without a length (the
-/// value of CAA, RFC 8659 section 4.1.1; the target of URI, RFC 7553 section 4.4). If quotes are
-/// wanted, a word is rejected.
+/// value of CAA, RFC 8659 section 4.1.1; the target of URI, RFC 7553 section 4.4). If
+/// `wants_quotes`, a word is rejected.
 pub fn take_text<S: TokenSource, B: OctetsBuilder>(
     wants_quotes: bool,
     source: &mut S,

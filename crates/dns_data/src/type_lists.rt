@@ -1,4 +1,4 @@
-//! Lists of types (RFC 4034 section 4.1.2) to the end of an entry.
+//! Parses lists of types (RFC 4034 section 4.1.2) to the end of an entry.
 ghost use Rattle.std.specs.Prelude.{◌≡◌};
 ghost use Rattle.dns_fields.specs.TokenParsers.{Parses};
 ghost use Rattle.dns_data.specs.Rests.{TakesRest};
@@ -9,7 +9,7 @@ use dns_kinds::{ErrorKind, RecordType};
 use dns_lists::TypeSet;
 use dns_octets::OctetsBuilder;
 
-/// Adds the type that the next word names to a set, and takes the word.
+/// Adds the type that the next word names to a set, and skips the word.
 fn insert_next<S: TokenSource>(types: &mut TypeSet, source: &mut S) -> Result<(), RecordError>
     ensures inserts { InsertsNext types.old (S.end source.old).at (S.left source.old)
         result types.new (S.left source.new) }
@@ -34,8 +34,8 @@ fn insert_next<S: TokenSource>(types: &mut TypeSet, source: &mut S) -> Result<()
     Ok(())
 }
 
-/// Parses the remaining words, each as the name of a type, in any order and repeated or not, and
-/// appends the bitmap of these types. Type 0 is rejected.
+/// Parses the remaining words, each as the name of a type, and appends the bitmap of these types.
+/// The types may be in any order, and repeated. Type 0 is rejected.
 pub fn take_types<S: TokenSource, B: OctetsBuilder>(
     source: &mut S,
     target: &mut B,

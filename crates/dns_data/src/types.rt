@@ -1,4 +1,4 @@
-//! The types of records whose data have a text form.
+//! The record types whose RDATA has a presentation format of its own.
 ghost use Rattle.std.specs.Prelude.{◌≡◌, option_copied};
 ghost use Rattle.dns_data.specs.ByType.{name_of_field, shape_of_code};
 ghost use Rattle.dns_data.specs.Types.{row_shapes, FindsShape, type_shapes};
@@ -9,9 +9,9 @@ use dns_digits::Digests;
 use dns_fields::{Field, FieldName};
 use dns_kinds::RecordType;
 
-/// A type of records by its number, the fields of its data, what comes after them, the lengths that
-/// are asked for, and the names of the fields: of those that are one token each, and after them of
-/// those of the rest.
+/// A record type by its number, the fields of its RDATA, the tail after them, the length that is
+/// required, and the names of the fields: of those of one token each, and after them of those of
+/// the tail.
 pub struct TypeRow(
     pub u16,
     pub &'static [Field],
@@ -645,7 +645,7 @@ pub static TYPES: [TypeRow; 66] = [
 ];
 
 impl TypeRow {
-    /// What data of the type consists of.
+    /// Returns the parts of RDATA of the type.
     pub fn shape(&self) -> Shape
         ensures fields { result.fields.now ≡ self.now.1.now }
         ensures rest { result.rest ≡ self.now.2 }
@@ -659,7 +659,7 @@ impl TypeRow {
     }
 }
 
-/// The row of a type in a table.
+/// Returns the row of a type in a table.
 fn find_row(table: &'static [TypeRow], rtype: RecordType) -> Option<&'static TypeRow>
     ensures { FindsShape (row_shapes table.now) rtype (option_copied result) }
 {
@@ -671,14 +671,14 @@ fn find_row(table: &'static [TypeRow], rtype: RecordType) -> Option<&'static Typ
     None
 }
 
-/// The row of a type, if its data have a text form.
+/// Returns the row of a type, if its RDATA has a presentation format of its own.
 pub fn type_row(rtype: RecordType) -> Option<&'static TypeRow>
     ensures { FindsShape type_shapes rtype (option_copied result) }
 {
     find_row(&TYPES, rtype)
 }
 
-/// The name of a field in data of a type, if the type has the field.
+/// Returns the name of a field in RDATA of a type, if the type has the field.
 pub fn field_text(rtype: RecordType, field: FieldName) -> Option<&'static str>
     ensures { option_copied result ≡ name_of_field (shape_of_code rtype) field }
 {

@@ -1,4 +1,4 @@
-//! Whether octets are data of a shape.
+//! Checks that octets are RDATA of a shape.
 ghost use Rattle.std.specs.Prelude.{◌≡◌, ◌↔◌, IsTrue, None, MatchOption, List, ℕ};
 ghost use Rattle.dns_lists.specs.Bitmap.{has, types_of, IsBitmap};
 ghost use Rattle.dns_data.specs.Data.{IsDataOf};
@@ -17,7 +17,8 @@ use dns_lists::{BitmapTypes, check_bitmap};
 use dns_places::is_location;
 use dns_spelling::string_width;
 
-/// What follows the fields that octets begin with, or none if they don't begin with these.
+/// Returns the octets after the fields that octets begin with. Returns `None` if they don't begin
+/// with these fields.
 pub(crate) fn split_fields<'a>(fields: &[Field], octets: &'a [u8]) -> Option<&'a [u8]>
     ensures { MatchOption result ((rest : List ℕ) → BeginsWithFields fields.now octets.now rest → ⊥)
         (λ rest. BeginsWithFields fields.now octets.now rest.now) }
@@ -30,7 +31,7 @@ pub(crate) fn split_fields<'a>(fields: &[Field], octets: &'a [u8]) -> Option<&'a
     Some(left)
 }
 
-/// Whether octets are character strings, one after another.
+/// Returns whether octets are character strings, one after another.
 fn are_strings(octets: &[u8]) -> bool
     ensures { IsTrue result ↔ AreCharacterStrings octets.now }
 {
@@ -44,7 +45,7 @@ fn are_strings(octets: &[u8]) -> bool
     true
 }
 
-/// Whether type 0 is among the types of a bitmap, where it is the first.
+/// Returns whether a bitmap has type 0, which would be the first of its types.
 fn has_type_zero(octets: &[u8]) -> bool
     requires { IsBitmap octets.now }
     ensures { result ≡ has (types_of octets.now) 0 }
@@ -56,14 +57,14 @@ fn has_type_zero(octets: &[u8]) -> bool
     }
 }
 
-/// Whether octets are the bitmap of types other than 0.
+/// Returns whether octets are the bitmap of types other than 0.
 fn are_types(octets: &[u8]) -> bool
     ensures { IsTrue result ↔ types_form.is_wire octets.now }
 {
     check_bitmap(octets).is_ok() && !has_type_zero(octets)
 }
 
-/// Whether octets are what goes to the end of an entry, in its text form.
+/// Returns whether octets are a tail in its own form.
 pub(crate) fn is_rest(rest: Rest, octets: &[u8]) -> bool
     ensures { IsTrue result ↔ (rest_form None rest).is_wire octets.now }
 {
@@ -83,8 +84,8 @@ pub(crate) fn is_rest(rest: Rest, octets: &[u8]) -> bool
     }
 }
 
-/// Whether octets go to the end of an entry and have no text form: those of a location of another
-/// version than 0, and those of an address prefix list with an item of another family than 1 and 2.
+/// Returns whether octets are a tail with only the generic form: a location of a version other than
+/// 0, or an address prefix list with an item of a family other than 1 and 2.
 fn is_textless(rest: Rest, octets: &[u8]) -> bool
     ensures { IsTrue result ↔ IsTextless rest octets.now }
 {
@@ -95,14 +96,14 @@ fn is_textless(rest: Rest, octets: &[u8]) -> bool
     }
 }
 
-/// Whether octets are what goes to the end of an entry, in its text form or without one.
+/// Returns whether octets are a tail, in its own form or with only the generic one.
 fn is_any_rest(rest: Rest, octets: &[u8]) -> bool
     ensures { IsTrue result ↔ IsRestOf rest octets.now }
 {
     is_rest(rest, octets) || is_textless(rest, octets)
 }
 
-/// Whether octets are data of a shape, in its text form or without one.
+/// Returns whether octets are RDATA of a shape, in its own form or with only the generic one.
 pub fn check_data(shape: &Shape, octets: &[u8]) -> bool
     ensures { IsTrue result ↔ IsDataOf shape.now octets.now }
 {

@@ -2,7 +2,7 @@ use Rattle.std.proofs.Common.{length}
 use Rattle.dns_data.proofs.ItemLaws.{SameAny}
 use Rattle.dns_data.proofs.prefixes.are_items.Given as goal
 
--- what is left are items exactly where all are
+-- the rest is items exactly if all is
 abbrev pub invariant-loop-left : goal.invariant-loop-left
 invariant-loop-left l = SameAny l.octets l.left
 

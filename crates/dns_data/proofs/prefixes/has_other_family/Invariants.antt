@@ -2,7 +2,7 @@ use Rattle.std.proofs.Common.{length}
 use Rattle.dns_data.proofs.ItemLaws.{IsSought}
 use Rattle.dns_data.proofs.prefixes.has_other_family.Given as goal
 
--- one is among those that are left exactly where one is among all
+-- one is in the rest exactly if one is among all
 abbrev pub invariant-loop-left : goal.invariant-loop-left
 invariant-loop-left l = IsSought l.octets l.left
 

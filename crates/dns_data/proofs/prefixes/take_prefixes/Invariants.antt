@@ -3,7 +3,7 @@ use Rattle.dns_data.specs.PrefixLists.{prefix_form}
 use Rattle.dns_data.proofs.TokenRests.{HasEach}
 use Rattle.dns_data.proofs.prefixes.take_prefixes.Given as goal
 
--- the words so far are taken
+-- the words so far are parsed
 abbrev pub invariant-loop-source : goal.invariant-loop-source
 invariant-loop-source g l =
     let left = g.S.TokenSource.left in

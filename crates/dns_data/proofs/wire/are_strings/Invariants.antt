@@ -2,7 +2,7 @@ use Rattle.std.proofs.Common.{length}
 use Rattle.dns_data.proofs.WireStrings.{HasBehind}
 use Rattle.dns_data.proofs.wire.are_strings.Given as goal
 
--- what is left are strings exactly where all are
+-- the rest is strings exactly if all is
 abbrev pub invariant-loop-left : goal.invariant-loop-left
 invariant-loop-left l = HasBehind l.octets l.left
 
