@@ -12,7 +12,7 @@ use Rattle.dns_digits.proofs.Spelling.{known, spells_once, spells_joined, opens_
 use Rattle.dns_digits.proofs.Pieces.{nothing_spelled, nothing_open, cons_not_nil, closes, takes_none, takes_some}
 use Rattle.dns_digits.proofs.TakenDigit.{least_on}
 
--- where the next block ends
+-- the end of the next block
 pub block_end : (k : DigitsKind) (size at m total : ℕ) → size ≡ (base_of k).group → at % (base_of k).group ≡ 0 → m ≤ total - at - 1 → size < total - at
     → (at + m / size * size < total) × ((at + m / size * size) % (base_of k).group ≡ 0)
 block_end Hex size at m total is even few lots = let e : size ≡ 2 = is in rw e (omega (arith, even, few, lots, e), omega (arith, even))
@@ -21,7 +21,7 @@ block_end Base64 size at m total is even few lots = let e : size ≡ 4 = is in r
 pub least_min : (a b m : ℕ) → m ≡ min a b → m ≤ a
 least_min a b m is = omega arith
 
--- what was read up to a place
+-- what was read up to an offset
 pub record Blocks (k : DigitsKind) (digits : List ℕ) (at : ℕ) (gained : List ℕ) : Type 0 where
   pub spelled : SpellsDigits (base_of k) (take at digits) gained
   pub closed : opens_group (base_of k) gained ≡ false
@@ -49,7 +49,7 @@ no_room fits old now gained more is full =
     let b = length-append gained more in
     omega (arith, a, b, full)
 
--- ---- blocks as a piece, where nothing is begun
+-- ---- blocks as a piece, if no group is begun
 
 module _ (s : DigitsState) (digits : List ℕ) (goes : s.ended ≡ false) (none : s.begun ≡ []) where
   pub takes_blocks : (n : ℕ) (gained : List ℕ) → length (take n digits) % (base_of s.kind).group ≡ 0 → SpellsDigits (base_of s.kind) (take n digits) gained → opens_group (base_of s.kind) gained ≡ false → TakesPiece s (take n digits) gained s

@@ -1,4 +1,4 @@
--- Pieces behind one another: what is read, and what a refusal means for the whole.
+-- Pieces one after another: what is read, and what an error of one means for the whole.
 use Rattle.std.proofs.Common.{◌≤◌, ◌⊎◌, Bool, ◌≡◌, ◌≢◌, ℕ, ◌+◌, ◌-◌, ◌%◌, ◌<◌, true, false, List, [], ◌∷◌, ◌++◌, length, take, drop, refl, sym, ap, subst, ◌∙◌, arith, inl, inr, append-nil, length-append, length-drop}
 use Rattle.std.proofs.Math.Seq.{take-length}
 use Rattle.std.proofs.lemmas.List.{append_assoc, length-take-le}
@@ -57,7 +57,7 @@ begins s text rest more is few goes started = record {
   goes_on = (rest, more, subst (λ t. SpellsDigits (base_of s.kind) (t ++ rest) more) is started);
 }
 
--- nothing is begun behind whole groups
+-- no group is begun after whole groups
 pub closes : (s : DigitsState) (text octets : List ℕ) → s.begun ≡ [] → SpellsDigits (base_of s.kind) text octets → length text % (base_of s.kind).group ≡ 0 → s.ended ≡ opens_group (base_of s.kind) octets
     → HasRead s text octets
 closes s text octets none spelled whole ended = record {
@@ -71,7 +71,7 @@ closes s text octets none spelled whole ended = record {
   goes_on = ([], [], subst (λ t. SpellsDigits (base_of s.kind) (t ++ []) []) (sym none) (nothing_spelled s.kind));
 }
 
--- a first part is told apart, and something goes on behind it
+-- a text is split, and more follows its second part
 moved : (front back begun piece more : List ℕ) → begun ++ piece ≡ front ++ back → begun ++ (piece ++ more) ≡ front ++ (back ++ more)
 moved front back begun piece more is = sym (append_assoc begun piece more) ∙ (ap (λ t. t ++ more) is ∙ append_assoc front back more)
 
@@ -102,7 +102,7 @@ takes_none s = record { kept = refl; none = λ is. (refl, refl); read = λ some.
 pub takes_some : (a b : DigitsState) (piece gained : List ℕ) → b.kind ≡ a.kind → piece ≢ [] → a.ended ≡ false → HasRead b (a.begun ++ piece) gained → TakesPiece a piece gained b
 takes_some a b piece gained kept some goes h = record { kept = kept; none = λ is. absurd (some is); read = λ any. (goes, h) }
 
--- two pieces, one behind the other
+-- two pieces, one after the other
 pub takes_on : (a b c : DigitsState) (p q m n : List ℕ) → TakesPiece a p m b → TakesPiece b q n c → TakesPiece a (p ++ q) (m ++ n) c
 takes_on a b c [] q m n t u =
     let none = t.none refl in
@@ -132,7 +132,7 @@ reads_on a b text octets (x ∷ p) gained h t =
     let read = t.read (cons_not_nil x p) in
     joins a b text octets (x ∷ p) gained h read.0 t.kept read.1
 
--- ---- refusals
+-- ---- errors
 
 not_nil : (xs : List ℕ) → xs ≢ [] → 0 < length xs
 not_nil [] some = absurd (some refl)
@@ -164,7 +164,7 @@ gains_on a b (x ∷ p) q m v t some g =
     let goes : b.ended ≡ false = h.ended ∙ (ap (opens_group (base_of b.kind)) (sym same) ∙ split.closed) in
     (split.later, (goes, (rest, split.back)), split.parts ∙ ap (λ xs. xs ++ split.later) same)
 
--- what goes on with more of a piece
+-- a piece without its last digits may gain the same
 shorter : (s : DigitsState) (q r v : List ℕ) → MayGain s (q ++ r) v → MayGain s q v
 shorter s q r v g =
     let text : (s.begun ++ (q ++ r)) ++ g.1.0 ≡ (s.begun ++ q) ++ (r ++ g.1.0) = ap (λ z. z ++ g.1.0) (sym (append_assoc s.begun q r)) ∙ append_assoc (s.begun ++ q) r g.1.0 in
@@ -181,7 +181,7 @@ follows_more s q r (inr f) =
     let text : s.begun ++ (q ++ r) ≡ g.0 ++ (g.1 ++ r) = moved g.0 g.1 s.begun q r g.3 in
     inr (f.0, (g.0, g.1 ++ r, g.2, text, some_more g.1 r g.4, g.5, g.6))
 
--- behind a first part that was taken
+-- if the second piece follows padding, so do both pieces together
 follows_behind : (a b : DigitsState) (p q m : List ℕ) → TakesPiece a p m b → q ≢ [] → FollowsPadding b q → FollowsPadding a (p ++ q)
 follows_behind a b [] q m t some f = subst (λ s. FollowsPadding s q) (t.none refl).1 f
 follows_behind a b (x ∷ p) q m t some (inl f) =
@@ -203,13 +203,13 @@ follows_behind a b (x ∷ p) q m t some (inr f) =
     let opens : opens_group (base_of a.kind) (m ++ g.2) ≡ true = ap (λ k. opens_group (base_of k) (m ++ g.2)) (sym t.kept) ∙ (opens_joined b.kind m g.2 closed ∙ g.6) in
     inr (read.0, (h.groups ++ g.0, g.1, m ++ g.2, text, g.4, front, opens))
 
--- ---- a refusal that isn't that of padding
+-- ---- an error that isn't that of padding
 
 pub never_illegal : (k : DigitsKind) → illegal k ≢ ShortBuf
 never_illegal Hex = λ is. cc is
 never_illegal Base64 = λ is. cc is
 
--- of two lists in front of one text, one goes on from the other
+-- if two lists begin one text, one of them begins with the other
 overlap : (xs ys us vs : List ℕ) → xs ++ ys ≡ us ++ vs → ((more : List ℕ) × (xs ≡ us ++ more) × (vs ≡ more ++ ys)) ⊎ ((more : List ℕ) × (us ≡ xs ++ more) × (more ≢ []) × (ys ≡ more ++ vs))
 overlap xs ys [] vs is = inl (xs, refl, sym is)
 overlap [] ys (u ∷ us) vs is = inr (u ∷ us, refl, cons_not_nil u us, is)
@@ -280,7 +280,7 @@ apart_behind a b (x ∷ p) q m t some apart (inr f) =
           apart (inr (goes, (over.0, g.1, split.later, over.3, g.4, split.back, later)))
     ]
 
--- what refuses a piece refuses it with more behind it
+-- what rejects a piece rejects it with more after it
 pub refuses_front : (room : Room) (s : DigitsState) (q r old : List ℕ) (e : ErrorKind) → RefusesPiece room s q old e → RefusesPiece room s (q ++ r) old e
 refuses_front room s q r old e h = record {
   some = some_more q r h.some;
@@ -293,7 +293,7 @@ refuses_front room s q r old e h = record {
   none = λ other v g. h.none other v (shorter s q r v g);
 }
 
--- and behind a first part
+-- what rejects a piece rejects it after a first piece
 pub refuses_behind : (room : Room) (a b : DigitsState) (p q m old new : List ℕ) (e : ErrorKind) → TakesPiece a p m b → new ≡ old ++ m → RefusesPiece room b q new e → RefusesPiece room a (p ++ q) old e
 refuses_behind room a b p q m old new e t is h = record {
   some = behind_not_nil p q h.some;
@@ -393,7 +393,7 @@ gains_next s text piece rest octets read spelled h some =
     let goes : s.ended ≡ false = h.ended ∙ (ap (opens_group (base_of s.kind)) (sym same) ∙ split.closed) in
     (split.later, (goes, (rest, split.back)), split.parts ∙ ap (λ xs. xs ++ split.later) same)
 
--- what was read goes on
+-- what was read can continue
 pub reads_goes_on : (s : DigitsState) (text read : List ℕ) → HasRead s text read → (rest : List ℕ) × (more : List ℕ) × SpellsDigits (base_of s.kind) (text ++ rest) (read ++ more)
 reads_goes_on s text read h = by s.ended refl
   where

@@ -1,4 +1,4 @@
--- Texts that spell octets in digits, and what dns_codec says of them.
+-- Texts that spell octets in digits, and the laws of dns_codec about them.
 use Rattle.std.proofs.Common.{◌≡◌, ℕ, zero, suc, ◌+◌, ◌-◌, ◌*◌, ◌/◌, ◌%◌, ◌^◌, ◌<◌, ◌≤◌, true, false, Bool, List, [], ◌∷◌, ◌++◌, length, map, take, drop, replicate, refl, sym, ap, ◌∙◌, arith, Some, inl, inr, append-nil, append_assoc, subst, length-append, slice_index, get_or}
 use Rattle.std.specs.Prelude.{All, ◌==◌, not, if◌then◌else◌}
 use Rattle.std.specs.List.{AllByRecursion, position_from, list_all}
@@ -267,7 +267,7 @@ append_parts (x ∷ xs) (y ∷ ys) us vs len is =
     let xs_are : xs ≡ ys = later.0 in
     (cc, later.1)
 
--- ---- whole groups in front of others
+-- ---- whole groups before others
 
 each_low : (xs : List ℕ) → All (λ o. o < 256) xs → (k : ℕ) → get_or xs k 0 < 256
 each_low xs all k = elim (cases_lt k (length xs)) [
@@ -305,7 +305,7 @@ encoded_front b xs ys width unit all even whole =
 unopened : (b : Base) (v : List ℕ) → opens_group b v ≡ false → 8 * length v % (b.width * b.group) ≡ 0
 unopened b v is = eqb-true _ 0 (not-false _ is)
 
--- the octets of whole groups print in front of the others
+-- the octets of whole groups print before the others
 pub prints_front : (k : DigitsKind) (xs ys : List ℕ) → All (λ o. o < 256) xs → opens_group (base_of k) xs ≡ false
     → encoded (base_of k) (xs ++ ys) ≡ encoded (base_of k) xs ++ encoded (base_of k) ys
 prints_front Hex xs ys all is = encoded_front base16 xs ys (omega arith) (omega arith) all (omega arith) (omega arith)
@@ -328,7 +328,7 @@ fold_length b xs = folds b.folds_case
     folds true = length-map xs capital
     folds false = refl
 
--- a text of whole groups without padding, and one behind it
+-- a text of whole groups without padding, and a text after it
 pub spells_joined : (k : DigitsKind) (xs ys u v : List ℕ) → SpellsDigits (base_of k) xs u → opens_group (base_of k) u ≡ false → SpellsDigits (base_of k) ys v
     → SpellsDigits (base_of k) (xs ++ ys) (u ++ v)
 spells_joined k xs ys u v s is t = record {
@@ -347,7 +347,7 @@ opens_joined Base64 u v is =
     let same : 8 * length (u ++ v) % 24 ≡ 8 * length v % 24 = omega arith in
     ap (λ n. not (n == 0)) same
 
--- ---- what is in front of a text that spells octets
+-- ---- the beginning of a text that spells octets
 
 pub record Splits (k : DigitsKind) (xs ys v : List ℕ) : Type 0 where
   pub first : List ℕ
@@ -357,7 +357,7 @@ pub record Splits (k : DigitsKind) (xs ys v : List ℕ) : Type 0 where
   pub closed : opens_group (base_of k) first ≡ false
   pub back : SpellsDigits (base_of k) ys later
 
--- the octets that a front of whole groups has, where something follows
+-- the octets of whole groups at the start, if something follows
 abbrev count_of : DigitsKind → ℕ → ℕ
 count_of Hex n = n / 2
 count_of Base64 n = n / 4 * 3

@@ -1,4 +1,4 @@
--- One digit behind what was begun.
+-- One digit after those of the group begun.
 use Rattle.std.proofs.Common.{◌≡◌, ℕ, ◌+◌, ◌-◌, ◌%◌, ◌<◌, ◌≤◌, true, false, List, [], ◌∷◌, ◌++◌, length, take, refl, sym, ap, subst, ◌∙◌, arith, inl, inr, append-nil, length-append}
 use Rattle.std.specs.Prelude.{Result, Ok, Err, IsOk, is_err}
 use Rattle.dns_octets.specs.Room.{Room}
@@ -38,14 +38,14 @@ pub not_ok : {T E : Type 0} (r : Result T E) → true ≡ is_err r → IsOk r �
 not_ok (Ok x) is ok = cc is
 not_ok (Err e) is ok = cc ok
 
--- what spells no octets goes on to none
+-- what spells no octets does not continue to any
 pub none_on : (k : DigitsKind) (xs : List ℕ) → length xs % (base_of k).group ≡ 0 → ((v : List ℕ) → SpellsDigits (base_of k) xs v → ⊥) → (rest v : List ℕ) → SpellsDigits (base_of k) (xs ++ rest) v → ⊥
 none_on k xs whole none [] v s = none v (subst (λ t. SpellsDigits (base_of k) t v) (append-nil xs) s)
 none_on k xs whole none (y ∷ ys) v s =
     let split = spells_split k xs (y ∷ ys) v whole (omega arith) s in
     none split.first split.front
 
--- and what spells octets goes on to no fewer
+-- what spells octets does not continue to fewer
 pub least_on : (k : DigitsKind) (xs rest u v : List ℕ) → length xs % (base_of k).group ≡ 0 → SpellsDigits (base_of k) xs u → SpellsDigits (base_of k) (xs ++ rest) v → length u ≤ length v
 least_on k xs [] u v whole s t =
     let same = spells_once (base_of k) (known k) xs u v s (subst (λ z. SpellsDigits (base_of k) z v) (append-nil xs) t) in

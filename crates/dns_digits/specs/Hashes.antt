@@ -1,4 +1,4 @@
--- Octets behind an octet that has their number, as hashes and salts are (RFC 5155 section 3.2).
+-- Octets after an octet that has their length, as hashes and salts are (RFC 5155 section 3.2).
 use Rattle.std.specs.Prelude.{ℕ, ◌≡◌, ◌<◌, ◌==◌, ◌||◌, not, nat_lt, if◌then◌else◌, List, ◌∷◌, length, slice_index, ◌⊎◌}
 use Rattle.dns_codec.specs.Base.{base32hex}
 use Rattle.dns_codec.specs.Grammar.{may_end_after}
@@ -8,18 +8,18 @@ use Rattle.dns_kinds.specs.declared.error.ErrorKind.TheVariants.{LongHash, Short
 use Rattle.dns_octets.specs.Room.{Room}
 use Rattle.dns_octets.specs.Appending.{LacksRoom}
 
--- the octet in front, or 0 of none
+-- the first octet, or 0 if there is none
 abbrev pub first_octet : List ℕ → ℕ
 first_octet octets = slice_index octets 0
 
--- why a text is no hash: 255 octets have 408 digits
+-- the error of a text that is not a hash: 255 octets have 408 digits
 abbrev pub hash_refusal : List ℕ → ErrorKind
 hash_refusal text =
     if nat_lt 408 (length text) then LongHash
     else if (length text == 0) || not (may_end_after base32hex (length text)) then ShortBase32
     else IllegalBase32
 
--- the text is a hash of 1 to 255 octets in base 32 hex, and the octets are its wire form
+-- the text is a hash of 1 to 255 octets in base 32 hex, and the octets are its wire format
 pub record SpellsHash (text octets : List ℕ) : Type 0 where
   pub hash : List ℕ
   pub spelled : SpellsDigits base32hex text hash
@@ -27,7 +27,7 @@ pub record SpellsHash (text octets : List ℕ) : Type 0 where
   pub short : length hash < 256
   pub wire_is : octets ≡ length hash ∷ hash
 
--- a text is refused: its octets don't surely fit after those that the target had, or it is no hash
+-- a text is rejected: its octets don't surely fit after those that the target had, or it is not a hash
 abbrev pub RefusesHash : Room → List ℕ → List ℕ → ErrorKind → Type 0
 RefusesHash room text old e =
     ((e ≡ ShortBuf) × LacksRoom room (SpellsHash text) old)

@@ -1,4 +1,4 @@
--- Digits that come in pieces: what is held between two pieces, and what a piece makes of it.
+-- Digits that arrive in pieces: the state between two pieces, and how a piece changes it.
 use Rattle.std.specs.Prelude.{ℕ, ◌≡◌, ◌≢◌, ◌<◌, ◌%◌, ◌⊎◌, Bool, true, false, List, [], ◌++◌, length, ◌+◌, Result, MatchResult, take}
 use Rattle.dns_octets.specs.Room.{Room}
 use Rattle.dns_octets.specs.Appending.{LacksRoom}
@@ -15,8 +15,8 @@ pub record DigitsState : Type 0 where
   -- a padded group was read, and nothing may follow it
   pub ended : Bool
 
--- of a text in pieces so much was read: whole groups, which spell these octets, and what is begun of one more, which some
--- text goes on with
+-- these are read of a text in pieces: whole groups, which spell these octets, and the first digits
+-- of one more group, which some text continues
 pub record HasRead (s : DigitsState) (text octets : List ℕ) : Type 0 where
   pub groups : List ℕ
   pub split : text ≡ groups ++ s.begun
@@ -27,7 +27,7 @@ pub record HasRead (s : DigitsState) (text octets : List ℕ) : Type 0 where
   pub last : s.ended ≡ true → s.begun ≡ []
   pub goes_on : (rest : List ℕ) × (more : List ℕ) × SpellsDigits (base_of s.kind) (s.begun ++ rest) more
 
--- a piece was read behind what was begun, and these octets were gained. After a padded group only an empty one is
+-- a piece was read after the digits of the group begun, and these octets were gained. After a padded group only an empty piece is
 pub record TakesPiece (old : DigitsState) (piece gained : List ℕ) (new : DigitsState) : Type 0 where
   pub kept : new.kind ≡ old.kind
   pub none : piece ≡ [] → (gained ≡ []) × (new ≡ old)
@@ -37,17 +37,17 @@ pub record TakesPiece (old : DigitsState) (piece gained : List ℕ) (new : Digit
 abbrev pub MayGain : DigitsState → List ℕ → List ℕ → Type 0
 MayGain s piece gained = (s.ended ≡ false) × ((rest : List ℕ) × SpellsDigits (base_of s.kind) (s.begun ++ piece ++ rest) gained)
 
--- something stands behind a padded group of a text
+-- something follows a padded group of a text
 abbrev pub PaddedBefore : Base → List ℕ → Type 0
 PaddedBefore b text = (front rest octets : List ℕ) × (text ≡ front ++ rest) × (rest ≢ []) × SpellsDigits b front octets × (opens_group b octets ≡ true)
 
--- a padded group was read before, or stands in what is begun and a piece, and something stands behind it
+-- a padded group was read before, or ends within the digits begun and a piece, and something follows it
 abbrev pub FollowsPadding : DigitsState → List ℕ → Type 0
 FollowsPadding s piece = ((s.ended ≡ true) × (piece ≢ []))
     ⊎ ((s.ended ≡ false) × PaddedBefore (base_of s.kind) (s.begun ++ piece))
 
--- a piece is refused, and it isn't empty: its octets don't surely fit behind those that the target had, or whatever follows,
--- there are none
+-- a piece that is not empty is rejected: its octets don't surely fit after those that the target
+-- had, or no continuation of it has octets
 pub record RefusesPiece (room : Room) (s : DigitsState) (piece old : List ℕ) (error : ErrorKind) : Type 0 where
   pub some : piece ≢ []
   pub why : (error ≡ ShortBuf) ⊎ (((error ≡ illegal s.kind) × (FollowsPadding s piece → ⊥)) ⊎ ((error ≡ TrailingBase64) × FollowsPadding s piece))
@@ -68,6 +68,6 @@ abbrev pub LacksBlocks : DigitsKind → List ℕ → Room → List ℕ → Type 
 LacksBlocks kind digits room old = (n : ℕ) × (n < length digits) × (length (take n digits) % (base_of kind).group ≡ 0)
     × ((gained : List ℕ) × SpellsDigits (base_of kind) (take n digits) gained × (opens_group (base_of kind) gained ≡ false) × (room.fits < length old + length gained))
 
--- a text ends where no group is begun, and else it is refused
+-- a text ends if no group is begun, and fails otherwise
 abbrev pub EndsPieces : DigitsState → Result (Unit {0}) ErrorKind → Type 0
 EndsPieces s r = MatchResult r (λ _. s.begun ≡ []) (λ e. (s.begun ≢ []) × (e ≡ unfinished s.kind))

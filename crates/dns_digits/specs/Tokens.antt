@@ -1,4 +1,4 @@
--- Digits of one token, which are refused.
+-- Digits of one token that is rejected.
 use Rattle.std.specs.Prelude.{ℕ, ◌≡◌, ◌≢◌, ◌⊎◌, List, ◌++◌}
 use Rattle.dns_octets.specs.Room.{Room}
 use Rattle.dns_octets.specs.Appending.{LacksRoom}
@@ -8,11 +8,11 @@ use Rattle.dns_digits.specs.declared.kind.DigitsKind.{DigitsKind}
 use Rattle.dns_kinds.specs.declared.error.ErrorKind.{ErrorKind}
 use Rattle.dns_kinds.specs.declared.error.ErrorKind.TheVariants.{TrailingBase64, ShortBuf}
 
--- a text goes on to one that spells octets
+-- a text continues to one that spells octets
 abbrev pub DigitsGoOn : DigitsKind → List ℕ → Type 0
 DigitsGoOn kind text = (rest : List ℕ) × (octets : List ℕ) × SpellsDigits (base_of kind) (text ++ rest) octets
 
--- a token is refused: its octets don't surely fit, or it has none, and then its error says whether a longer one could have some
+-- a token is rejected: its octets don't surely fit, or it has none, and then its error shows whether a longer one could have some
 pub record RefusesToken (kind : DigitsKind) (room : Room) (text old : List ℕ) (error : ErrorKind) : Type 0 where
   pub why : (error ≡ ShortBuf) ⊎ (((error ≡ unfinished kind) × DigitsGoOn kind text)
       ⊎ ((((error ≡ illegal kind) × (PaddedBefore (base_of kind) text → ⊥)) ⊎ ((error ≡ TrailingBase64) × PaddedBefore (base_of kind) text)) × (DigitsGoOn kind text → ⊥)))

@@ -1,4 +1,4 @@
-//! Octets in digits of one token, appended to a target.
+//! Parses the digits of one token, and appends the octets that they encode.
 ghost use Rattle.std.specs.Prelude.{◌≡◌, ◌∷◌, OnOk, OnErr, IfErr};
 ghost use Rattle.dns_octets.specs.Appending.{Extends, Gains};
 ghost use Rattle.dns_codec.specs.Base.{base16, base64};
@@ -30,11 +30,11 @@ fn append_token<B: OctetsBuilder>(
     reader.finish()
 }
 
-/// Appends the octets that a token has in hexadecimal digits, in either case. A token without
-/// digits has no octets.
+/// Parses a token of hexadecimal digits, in either case, and appends their octets (RFC 4648 section
+/// 8). A token without digits has no octets.
 ///
-/// The errors are those of [`DigitsReader`]; the target then has its old octets, and perhaps more
-/// behind them.
+/// The errors are those of [`DigitsReader`]. On an error, the target has its old octets, perhaps
+/// with more after them.
 pub fn append_hex<B: OctetsBuilder>(text: &[u8], target: &mut B) -> Result<(), ErrorKind>
     ensures ok { OnOk result (Gains (SpellsDigits base16 text.now)
         (B.octets target.old) (B.octets target.new)) }
@@ -44,10 +44,11 @@ pub fn append_hex<B: OctetsBuilder>(text: &[u8], target: &mut B) -> Result<(), E
     append_token(DigitsKind::Hex, text, target)
 }
 
-/// Appends the octets that a token has in base 64. A token without digits has no octets.
+/// Parses a token of base 64, and appends its octets (RFC 4648 section 4). A token without digits
+/// has no octets.
 ///
-/// The errors are those of [`DigitsReader`]; the target then has its old octets, and perhaps more
-/// behind them.
+/// The errors are those of [`DigitsReader`]. On an error, the target has its old octets, perhaps
+/// with more after them.
 pub fn append_base64<B: OctetsBuilder>(text: &[u8], target: &mut B) -> Result<(), ErrorKind>
     ensures ok { OnOk result (Gains (SpellsDigits base64 text.now)
         (B.octets target.old) (B.octets target.new)) }
@@ -57,7 +58,7 @@ pub fn append_base64<B: OctetsBuilder>(text: &[u8], target: &mut B) -> Result<()
     append_token(DigitsKind::Base64, text, target)
 }
 
-/// Why a text is no hash.
+/// Returns the error of a text that is not a hash.
 fn hash_error(text: &[u8]) -> ErrorKind
     ensures { result ≡ hash_refusal text.now }
 {
@@ -70,7 +71,7 @@ fn hash_error(text: &[u8]) -> ErrorKind
     ErrorKind::IllegalBase32
 }
 
-/// A hash behind its length.
+/// Returns the octets of a hash after its length.
 fn behind_length(length: u8, hash: &[u8; 255]) -> [u8; 256]
     ensures { result ≡ length ∷ hash.now }
 {
@@ -79,13 +80,13 @@ fn behind_length(length: u8, hash: &[u8; 255]) -> [u8; 256]
     wire
 }
 
-/// Appends a hash of 1 to 255 octets in base 32 hex, in either case and without padding: an octet
-/// with their number, and the octets (RFC 5155 section 3.3).
+/// Parses a hash of 1 to 255 octets in base 32 hex, in either case and without padding. Appends its
+/// length in one octet, and the octets (RFC 5155 section 3.3).
 ///
-/// More than 408 digits are [`ErrorKind::LongHash`]; none, or a number of digits that no octets
-/// have, are [`ErrorKind::ShortBase32`]; any other text that is no hash is
-/// [`ErrorKind::IllegalBase32`], and octets that the target refuses are
-/// [`ErrorKind::ShortBuf`]. Refused, the target stays as it was.
+/// Fails with [`ErrorKind::LongHash`] if the text has more than 408 digits, and with
+/// [`ErrorKind::ShortBase32`] if it has none, or a number of digits that encodes no octets. Fails
+/// with [`ErrorKind::IllegalBase32`] for any other text that is not a hash, and with
+/// [`ErrorKind::ShortBuf`] if the target fails. On an error, the target is unchanged.
 pub fn append_base32hex<B: OctetsBuilder>(text: &[u8], target: &mut B) -> Result<(), ErrorKind>
     ensures ok { OnOk result (Gains (SpellsHash text.now)
         (B.octets target.old) (B.octets target.new)) }

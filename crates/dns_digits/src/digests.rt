@@ -1,10 +1,10 @@
-//! Digests by their lengths: the data of DS, CDS, DLV, SSHFP and ZONEMD say in an octet which
-//! digest follows.
+//! Lengths of digests. In the RDATA of DS, CDS, DLV, SSHFP and ZONEMD, an octet before the digest
+//! has the number of its algorithm.
 ghost use Rattle.std.specs.Prelude.{IsTrue, ◌≡◌, ◌==◌, ◌↔◌};
 ghost use Rattle.std.specs.Map.{lookup};
 ghost use Rattle.dns_digits.specs.DigestLengths.{digest_rows, least_digest, IsDigestLength, wanted_digest};
 
-/// The lists of digests.
+/// The registries of digest algorithms.
 #[derive(Clone, Copy, Debug, PartialEq, Eq)]
 pub enum Digests {
     /// Digest types of DS, CDS, DLV and TA: 1 SHA-1, 2 SHA-256 (RFC 4509), 3 GOST R 34.11-94 (RFC
@@ -16,7 +16,8 @@ pub enum Digests {
     Zonemd,
 }
 
-/// How many octets a digest after a number has, if the list names the number.
+/// Returns the length of a digest in octets by its number, or `None` if the registry does not have
+/// the number.
 fn named_length(digests: Digests, number: u8) -> Option<usize>
     ensures { result ≡ lookup (λ n. n == number) (digest_rows digests) }
 {
@@ -31,7 +32,7 @@ fn named_length(digests: Digests, number: u8) -> Option<usize>
     }
 }
 
-/// The fewest octets of a digest after a number that the list doesn't name.
+/// Returns the least length in octets of a digest whose number the registry does not have.
 fn least_length(digests: Digests) -> usize
     ensures { result ≡ least_digest digests }
 {
@@ -41,8 +42,10 @@ fn least_length(digests: Digests) -> usize
     }
 }
 
-/// Whether a digest of so many octets may stand behind a number: the length of a number that the
-/// list names, and else any but none, and in ZONEMD 12 or more (RFC 8976 section 2.2.4).
+/// Returns whether a digest with a number may have a length, in octets.
+///
+/// If the registry has the number, the length is the one that it states. For any other number, a
+/// digest has 1 octet or more, and in ZONEMD 12 or more (RFC 8976 section 2.2.4).
 pub fn is_digest_length(digests: Digests, number: u8, length: usize) -> bool
     ensures { IsTrue result ↔ IsDigestLength digests number length }
 {
@@ -52,8 +55,8 @@ pub fn is_digest_length(digests: Digests, number: u8, length: usize) -> bool
     }
 }
 
-/// How many octets a digest after a number has to have: as many as the list says of that number,
-/// and these at least if it names no such number.
+/// Returns the length in octets that a digest with a number must have. If the registry does not
+/// have the number, this is the least length.
 pub fn wanted_digest(digests: Digests, number: u8) -> usize
     ensures { result ≡ wanted_digest digests number }
 {

@@ -1,4 +1,4 @@
-//! Whole groups of digits, read into slices.
+//! Whole groups of digits, decoded into slices.
 ghost use Rattle.std.specs.Prelude.{◌≡◌, ℕ, List, ◌*◌, ◌<◌, ◌≤◌, false, [], ◌∷◌, map, length, take, ◌-◌, ◌==◌, IfSome, MatchOption};
 ghost use Rattle.dns_codec.specs.Base.{base16, base32hex, base64, capital};
 ghost use Rattle.dns_digits.specs.Spelled.{base_of, SpellsDigits, SpellsGroups, TellsBeginning, TellsSame, filled_group};
@@ -6,7 +6,7 @@ ghost use Rattle.dns_digits.specs.Spelled.{base_of, SpellsDigits, SpellsGroups, 
 use crate::kind::DigitsKind;
 use dns_codec::{base16, base32, base64};
 
-/// The capital of a small letter.
+/// Returns the upper case of a letter.
 fn capital(digit: u8) -> u8
     ensures { result ≡ capital digit }
 {
@@ -16,7 +16,7 @@ fn capital(digit: u8) -> u8
     }
 }
 
-/// Whether a text is digits in capitals, but for the case of its letters.
+/// Returns whether a text in upper case is `digits`.
 fn is_folded(text: &[u8], digits: &[u8]) -> bool
     ensures { TellsSame result (map capital text.now) digits.now }
 {
@@ -31,7 +31,8 @@ fn is_folded(text: &[u8], digits: &[u8]) -> bool
     true
 }
 
-/// Reads hexadecimal digits into the start of a slice, and returns how many octets.
+/// Decodes hexadecimal digits into the start of a slice. Returns the number of octets, or `None` if
+/// the text is not such digits.
 pub(crate) fn read_hex(text: &[u8], octets: &mut [u8]) -> Option<usize>
     requires { length text.now ≤ 2 * length octets.old }
     ensures { MatchOption result ((v : List ℕ) → SpellsDigits base16 text.now v → ⊥)
@@ -40,7 +41,8 @@ pub(crate) fn read_hex(text: &[u8], octets: &mut [u8]) -> Option<usize>
     base16::decode_slice(text, octets)
 }
 
-/// Reads a group of base 64 into the start of a slice, and returns how many octets.
+/// Decodes a group of base 64 into the start of a slice. Returns the number of octets, or `None` if
+/// the text is not such a group.
 pub(crate) fn read_base64_group(group: &[u8], octets: &mut [u8]) -> Option<usize>
     requires group { length group.now ≡ 4 }
     requires room { length octets.old ≡ 3 }
@@ -59,7 +61,8 @@ pub(crate) fn read_base64_group(group: &[u8], octets: &mut [u8]) -> Option<usize
     }
 }
 
-/// Reads base 32 hex into the start of a slice, and returns how many octets.
+/// Decodes base 32 hex into the start of a slice. Returns the number of octets, or `None` if the
+/// text is not base 32 hex or encodes more than 255 octets.
 pub(crate) fn read_base32hex(text: &[u8], octets: &mut [u8]) -> Option<usize>
     requires { length octets.old ≡ 255 }
     ensures { MatchOption result ((v : List ℕ) → SpellsDigits base32hex text.now v → 255 < length v)
@@ -77,7 +80,8 @@ pub(crate) fn read_base32hex(text: &[u8], octets: &mut [u8]) -> Option<usize>
     }
 }
 
-/// Reads a group into the start of a slice, and returns how many octets.
+/// Decodes a group into the start of a slice. Returns the number of octets, or `None` if the text
+/// is not such a group.
 pub(crate) fn read_group(kind: DigitsKind, group: &[u8], octets: &mut [u8]) -> Option<usize>
     requires group { length group.now ≡ (base_of kind).group }
     requires room { length octets.old ≡ 3 }
@@ -90,7 +94,7 @@ pub(crate) fn read_group(kind: DigitsKind, group: &[u8], octets: &mut [u8]) -> O
     }
 }
 
-/// Reads whole groups of base 64 without padding, if that is what the text is.
+/// Decodes groups of base 64 without padding, if the text is exactly that.
 fn read_base64_block(text: &[u8], octets: &mut [u8]) -> Option<usize>
     ensures { IfSome result (SpellsGroups base64 text.now octets.new) }
 {
@@ -102,8 +106,8 @@ fn read_base64_block(text: &[u8], octets: &mut [u8]) -> Option<usize>
     }
 }
 
-/// Reads whole groups without padding into the start of a slice, if that is what the text is, and
-/// returns how many octets.
+/// Decodes groups without padding into the start of a slice, if the text is exactly that. Returns
+/// the number of octets.
 pub(crate) fn read_block(kind: DigitsKind, text: &[u8], octets: &mut [u8]) -> Option<usize>
     requires { length text.now ≤ length octets.old }
     ensures { IfSome result (SpellsGroups (base_of kind) text.now octets.new) }
@@ -114,7 +118,7 @@ pub(crate) fn read_block(kind: DigitsKind, text: &[u8], octets: &mut [u8]) -> Op
     }
 }
 
-/// Whether a digit is the first of a pair.
+/// Returns whether a digit can be the first of a pair.
 fn starts_pair(digit: u8) -> bool
     ensures { TellsBeginning base16 result (digit ∷ []) }
 {
@@ -122,7 +126,8 @@ fn starts_pair(digit: u8) -> bool
     read_hex(&[digit, b'0'], &mut octet).is_some()
 }
 
-/// A group of base 64 that begins so, filled with `=` behind one and with zeros else.
+/// Returns a group of base 64 from its first digits: filled with `=` if the last of these is `=`,
+/// and with zeros otherwise.
 fn filled(begun: &[u8]) -> [u8; 4]
     requires { (0 < length begun.now) × (length begun.now < 4) }
     ensures { result ≡ filled_group begun.now }
@@ -137,7 +142,7 @@ fn filled(begun: &[u8]) -> [u8; 4]
     group
 }
 
-/// Whether digits are the first of a group of base 64.
+/// Returns whether digits can be the first of a group of base 64.
 fn starts_quartet(begun: &[u8]) -> bool
     requires { (0 < length begun.now) × (length begun.now < 4) }
     ensures { TellsBeginning base64 result begun.now }
@@ -146,7 +151,7 @@ fn starts_quartet(begun: &[u8]) -> bool
     read_base64_group(&filled(begun), &mut octets).is_some()
 }
 
-/// Whether digits are the first of a group.
+/// Returns whether digits can be the first of a group.
 pub(crate) fn starts_group(kind: DigitsKind, begun: &[u8]) -> bool
     requires { (0 < length begun.now) × (length begun.now < (base_of kind).group) }
     ensures { TellsBeginning (base_of kind) result begun.now }

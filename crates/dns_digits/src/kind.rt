@@ -1,10 +1,10 @@
-//! The encodings that come in pieces.
+//! The encodings whose digits may be in several tokens.
 ghost use Rattle.std.specs.Prelude.{◌≡◌, ℕ, List, length};
 ghost use Rattle.dns_digits.specs.Spelled.{base_of, unfinished, illegal, opens_group};
 
 use dns_kinds::ErrorKind;
 
-/// An encoding whose digits may come in pieces.
+/// An encoding whose digits may be in several tokens.
 #[derive(Clone, Copy, Debug, PartialEq, Eq)]
 pub enum DigitsKind {
     /// Hexadecimal digits in either case, two to an octet (RFC 4648 section 8).
@@ -14,7 +14,7 @@ pub enum DigitsKind {
 }
 
 impl DigitsKind {
-    /// How many digits are a group.
+    /// Returns the number of digits in a group.
     pub(crate) fn group(self) -> usize
         ensures { result ≡ (base_of self).group }
     {
@@ -24,7 +24,7 @@ impl DigitsKind {
         }
     }
 
-    /// Whether so many octets leave the last group open.
+    /// Returns whether this number of octets ends within a group.
     pub(crate) fn opens_group(self, octets: usize) -> bool
         ensures { (xs : List ℕ) → length xs ≡ octets → result ≡ opens_group (base_of self) xs }
     {
@@ -34,7 +34,7 @@ impl DigitsKind {
         }
     }
 
-    /// Why digits are refused that no text of octets has.
+    /// Returns the error of digits that are not the beginning of an encoding.
     pub(crate) fn illegal(self) -> ErrorKind
         ensures { result ≡ illegal self }
     {
@@ -44,7 +44,7 @@ impl DigitsKind {
         }
     }
 
-    /// Why a text is refused that ends within a group.
+    /// Returns the error of a text that ends within a group.
     pub(crate) fn unfinished(self) -> ErrorKind
         ensures { result ≡ unfinished self }
     {

@@ -1,8 +1,7 @@
-//! What holds of octets in digits, whatever text they stand in: laws that say so, and do nothing
-//! else.
+//! Laws of octets in digits, for all texts and octets. The functions do nothing.
 //!
-//! Together with the contracts of [`DigitsReader`](crate::reader::DigitsReader) they say that what
-//! is printed is read as the same octets, in one piece or cut into several.
+//! Together with the contracts of [`DigitsReader`](crate::reader::DigitsReader) they state that
+//! parsing what was printed returns the same octets, in one piece or in several.
 ghost use Rattle.std.specs.Prelude.{◌≡◌, ◌≢◌, ℕ, ◌+◌, ◌*◌, ◌/◌, ◌<◌, List, [], ◌++◌, length, All};
 ghost use Rattle.dns_octets.specs.Room.{Room};
 ghost use Rattle.dns_codec.specs.Base.{Base, base16, base32hex, base64, encoded, IsEncoding};
@@ -11,20 +10,21 @@ ghost use Rattle.dns_digits.specs.Reading.{DigitsState, HasRead, TakesPiece, Ref
 ghost use Rattle.dns_kinds.specs.declared.error.ErrorKind.{ErrorKind};
 ghost use Rattle.dns_kinds.specs.declared.error.ErrorKind.TheVariants.{ShortBuf};
 
-/// What octets print spells them.
+/// States that the text that octets print as spells them.
 pub fn printed_text_spells()
     ensures { (b : Base) → IsEncoding b → (octets : List ℕ) → All (λ o. o < 256) octets
         → SpellsDigits b (encoded b octets) octets }
 {}
 
-/// A text spells one list of octets.
+/// States that a text spells one list of octets.
 pub fn a_text_spells_once()
     ensures { (b : Base) → IsEncoding b → (text u v : List ℕ)
         → SpellsDigits b text u → SpellsDigits b text v → u ≡ v }
 {}
 
-/// How many digits spell octets: two for each in hexadecimal, four for three or fewer in base 64,
-/// and in base 32 hex eight for five, and for fewer as many as they need.
+/// States the number of digits that spell octets: two for each octet in hexadecimal, and four for
+/// one to three octets in base 64. In base 32 hex they are eight for five octets, and for fewer the
+/// number that these need.
 pub fn digits_of_octets()
     ensures hex { (text v : List ℕ) → SpellsDigits base16 text v → length text ≡ 2 * length v }
     ensures base64 { (text v : List ℕ) → SpellsDigits base64 text v
@@ -33,7 +33,8 @@ pub fn digits_of_octets()
         → length text ≡ (8 * length v + 4) / 5 }
 {}
 
-/// A piece is read behind those before it, and what was read goes on to some text of octets.
+/// States that a piece is read after those before it, and that what was read can continue to a text
+/// of octets.
 pub fn pieces_are_read()
     ensures next { (a b : DigitsState) (text octets piece gained : List ℕ)
         → HasRead a text octets → TakesPiece a piece gained b
@@ -42,8 +43,8 @@ pub fn pieces_are_read()
         → GoesOnTo (base_of s.kind) text octets }
 {}
 
-/// The pieces of a text that spells octets are read as exactly these, and nothing is begun at its
-/// end; none of them is refused but for lack of room for the octets that are left.
+/// States that the pieces of a text that spells octets are read as exactly these octets, and that
+/// no group is begun at the text's end. A piece fails only if the octets that are left do not fit.
 pub fn a_cut_text_is_read()
     ensures read { (s : DigitsState) (text octets read : List ℕ)
         → SpellsDigits (base_of s.kind) text octets → HasRead s text read
@@ -54,7 +55,7 @@ pub fn a_cut_text_is_read()
         → (e ≡ ShortBuf) × ((later : List ℕ) × (octets ≡ read ++ later) × (room.fits < length old + length later)) }
 {}
 
-/// A refusal but for lack of room means that no text of octets goes on from the pieces.
+/// States that after an error other than `ShortBuf` no text of octets continues the pieces.
 pub fn a_refusal_is_final()
     ensures { (room : Room) (s : DigitsState) (text piece rest octets read old : List ℕ)
         (e : ErrorKind)

@@ -1,8 +1,8 @@
-//! Octets in digits, as record data has them: hexadecimal and base 64 over one token or several,
-//! and base 32 hex for the hashes of NSEC3 (RFC 4648 sections 8, 4 and 7).
+//! RDATA in digits: hexadecimal and base 64 over one token or several, and base 32 hex for the
+//! hashes of NSEC3 (RFC 4648 sections 8, 4 and 7).
 //!
-//! Reading is strict: a text is taken exactly if it is what its octets print, in letters of either
-//! case for hexadecimal and base 32 hex.
+//! Parsing is strict: a text is accepted exactly if it is what its octets print as. Hexadecimal and
+//! base 32 hex may be in either case.
 #![tactic(auto)]
 
 pub mod append;

@@ -1,4 +1,4 @@
-//! Digits that come in pieces, as the tokens of an entry do.
+//! Digits that arrive in pieces, as the tokens of an entry do.
 ghost use Rattle.std.specs.Prelude.{◌≡◌, ℕ, List, ◌+◌, ◌<◌, ◌≤◌, false, true, [], ◌∷◌, length, take, IfOk, IfErr, OnOk, OnErr, MatchResult};
 ghost use Rattle.dns_octets.specs.Appending.{Extends};
 ghost use Rattle.dns_digits.specs.Spelled.{base_of, unfinished, opens_group, SpellsDigits};
@@ -10,10 +10,10 @@ use dns_kinds::ErrorKind;
 use dns_octets::{OctetsBuilder, ShortBuf};
 use std::marker::Model;
 
-/// How many digits are read at a time.
+/// Number of digits that are decoded at a time.
 const BLOCK: usize = 320;
 
-/// Reads digits that come in pieces, one after another, into a target.
+/// Decodes digits that arrive in pieces, and appends their octets to a target.
 ///
 /// A piece may end anywhere, also within a group.
 #[derive(Drop)]
@@ -36,8 +36,8 @@ impl Model for DigitsReader {
     ghost invariant = { λ r. (r.count < (base_of r.kind).group) × (r.ended ≡ true → r.count ≡ 0) };
 }
 
-/// Appends the octets of whole groups at the start of digits, a block at a time, and returns how
-/// many digits these are. The last digit is not among them.
+/// Appends the octets of whole groups at the start of digits, a block at a time. Returns the number
+/// of digits decoded, which does not include the last digit.
 fn append_blocks<B: OctetsBuilder>(
     kind: DigitsKind,
     digits: &[u8],
@@ -64,7 +64,7 @@ fn append_blocks<B: OctetsBuilder>(
 }
 
 impl DigitsReader {
-    /// A reader that no piece was given to.
+    /// Returns a reader that has read no piece.
     pub fn new(kind: DigitsKind) -> DigitsReader
         ensures kind { result.kind ≡ kind }
         ensures read { HasRead result [] [] }
@@ -77,7 +77,7 @@ impl DigitsReader {
         }
     }
 
-    /// Takes one digit. Refused, it changes nothing.
+    /// Reads one digit. On an error, nothing is changed.
     fn take_digit<B: OctetsBuilder>(&mut self, digit: u8, target: &mut B) -> Result<(), ErrorKind>
         ensures ok { OnOk result (AppendsPiece self.old (digit ∷ []) self.new
             (B.octets target.old) (B.octets target.new)) }
@@ -112,7 +112,7 @@ impl DigitsReader {
         Ok(())
     }
 
-    /// Takes digits one by one.
+    /// Reads digits one by one.
     fn take_digits<B: OctetsBuilder>(
         &mut self,
         digits: &[u8],
@@ -129,7 +129,7 @@ impl DigitsReader {
         Ok(())
     }
 
-    /// How many digits the group wants that is begun.
+    /// Returns the number of digits that the group which is begun still needs.
     fn wanted(&self) -> usize {
         if self.count == 0 {
             0
@@ -138,8 +138,8 @@ impl DigitsReader {
         }
     }
 
-    /// Takes whole groups in front of digits, where no group is begun, and returns how many digits
-    /// these are.
+    /// Reads whole groups at the start of digits if no group is begun. Returns the number of digits
+    /// read.
     fn take_blocks<B: OctetsBuilder>(
         &self,
         digits: &[u8],
@@ -160,13 +160,14 @@ impl DigitsReader {
         }
     }
 
-    /// Takes a piece, and appends the octets of each group that is whole then. An error leaves the
-    /// target with its old octets, and perhaps more behind them, and the reader is done with.
+    /// Reads a piece, and appends the octets of each group that is whole then.
     ///
-    /// A digit that may not stand in its place is [`ErrorKind::ExpectedHex`] or
-    /// [`ErrorKind::IllegalBase64`], as soon as it comes; what follows a padded group is
-    /// [`ErrorKind::TrailingBase64`]. Octets that the target refuses are
-    /// [`ErrorKind::ShortBuf`].
+    /// Fails with [`ErrorKind::ExpectedHex`] or [`ErrorKind::IllegalBase64`] at the first digit
+    /// that is not allowed, with [`ErrorKind::TrailingBase64`] if a digit follows a padded group,
+    /// and with [`ErrorKind::ShortBuf`] if the target fails.
+    ///
+    /// On an error, the target has its old octets, perhaps with more after them, and the reader
+    /// should not be used again.
     pub fn push<B: OctetsBuilder>(&mut self, piece: &[u8], target: &mut B) -> Result<(), ErrorKind>
         ensures ok { OnOk result (AppendsPiece self.old piece.now self.new
             (B.octets target.old) (B.octets target.new)) }
@@ -180,8 +181,8 @@ impl DigitsReader {
         self.take_digits(last, target)
     }
 
-    /// Ends the text, which is refused within a group: [`ErrorKind::UnevenHex`] or
-    /// [`ErrorKind::IncompleteBase64`].
+    /// Ends the text. Fails with [`ErrorKind::UnevenHex`] or [`ErrorKind::IncompleteBase64`] if the
+    /// text ends within a group.
     pub fn finish(&self) -> Result<(), ErrorKind>
         ensures begun { EndsPieces self.now result }
         ensures whole { (text octets : List ℕ) → HasRead self.now text octets
