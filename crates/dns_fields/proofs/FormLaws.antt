@@ -1,4 +1,4 @@
--- Each kind of field is spelled, printed and found as its form says.
+-- Each kind of field is spelled, printed and found as its form defines.
 use Rattle.std.proofs.Common.{ℕ, zero, suc, ◌-◌, ◌≡◌, ◌<◌, ◌≤◌, true, false, true≢false, List, [], ◌∷◌, ◌++◌, length, take, drop, inl, inr, refl, sym, subst, ap, arith, ◌∙◌, Option, Some, None}
 use lib.Seq.{take-nil}
 use Rattle.std.proofs.lemmas.List.{length-take-le}
@@ -33,7 +33,7 @@ use Rattle.dns_fields.specs.Forms.{IsFieldForm, IsPsdnAddress, IsWireHash, IsWir
 use Rattle.dns_fields.specs.Words.{AreOctetsOf, IsWordKind}
 use Rattle.dns_fields.specs.WordLaws.{number8_is_kind, number16_is_kind, number32_is_kind, interval_is_kind, ipv4_is_word, ipv6_is_word, type_is_word, sig_type_is_word, algorithm_is_word, certificate_is_word, eui48_is_word, eui64_is_word, date_is_word, locator_is_word}
 
--- so many octets stand in front in one way
+-- octets begin with one value of `width` octets at most
 of_one_width : (width : ℕ) → StandInFront (AreOctetsOf width)
 of_one_width width = record { width = at }
   where
@@ -60,7 +60,7 @@ string_is_form = record {
 
 -- ---- addresses of X25
 
--- digits are printed in quotes as they are
+-- digits print in quotes as they are
 digit_as_it_is : (o : ℕ) → is_ascii_digit o ≡ true → spell (symbol_of is_quoted_escape o) ≡ o ∷ []
 digit_as_it_is o digit = by (is_printable o) (is_quoted_escape o) refl refl
   where
@@ -86,19 +86,19 @@ digit_values (o ∷ os) h =
 pub psdn_address_is_string : (form : List ℕ) → IsWirePsdnAddress form → IsWireString form
 psdn_address_is_string form h = record { octets = h.digits; values = digit_values h.digits h.is_address.digital; short = h.is_address.short; whole = h.whole }
 
--- what is behind the first of so many octets
+-- what follows the first of `width` octets
 behind_first : (octets : List ℕ) (width : ℕ) → take (width - 1) (drop 1 octets) ≡ drop 1 (take width octets)
 behind_first octets zero = refl
 behind_first [] (suc width) = take-nil (suc width - 1)
 behind_first (o ∷ os) (suc width) = let n : suc width - 1 ≡ width = omega arith in ap (λ m. take m os) n
 
--- a character string of such digits in front is an address
+-- octets that begin with a character string of such digits begin with an address
 pub psdn_address_front : (octets : List ℕ) (width : ℕ) → FindsWidth IsWireString octets (Some width) → IsPsdnAddress (take (width - 1) (drop 1 octets)) → FindsWidth IsWirePsdnAddress octets (Some width)
 psdn_address_front octets width h is =
     let s = h.1 in
     (h.0, record { digits = s.octets; is_address = subst IsPsdnAddress (behind_first octets width ∙ ap (drop 1) s.whole) is; whole = s.whole })
 
--- no address stands in front of no character string, and of one of other octets
+-- octets that begin with no character string, or one of other octets, begin with no address
 pub no_psdn_string : (octets : List ℕ) → FindsWidth IsWireString octets None → FindsWidth IsWirePsdnAddress octets None
 no_psdn_string octets h form rest is = h form rest (psdn_address_is_string form is)
 
@@ -151,14 +151,14 @@ salt_is_form = record {
 hash_is_string : (form : List ℕ) → IsWireHash form → IsWireString form
 hash_is_string form h = record { octets = h.octets; values = h.values; short = h.short; whole = h.whole }
 
--- a character string in front of two octets or more is a hash
+-- octets that begin with a character string of one octet or more begin with a hash
 pub hash_front : (octets : List ℕ) (width : ℕ) → FindsWidth IsWireString octets (Some width) → 2 ≤ width → FindsWidth IsWireHash octets (Some width)
 hash_front octets width h long =
     let s = h.1 in
     let size : width ≡ suc (length s.octets) = sym (length-take-le width octets h.0) ∙ ap length s.whole in
     (h.0, record { octets = s.octets; values = s.values; some = omega (arith, size, long); short = s.short; whole = s.whole })
 
--- no hash stands in front of no character string, and of one without octets
+-- octets that begin with no character string, or an empty one, begin with no hash
 pub no_string_front : (octets : List ℕ) → FindsWidth IsWireString octets None → FindsWidth IsWireHash octets None
 no_string_front octets h form rest is = h form rest (hash_is_string form is)
 

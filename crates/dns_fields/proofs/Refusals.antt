@@ -1,4 +1,4 @@
--- Why tokens that spell octets are refused.
+-- Why tokens that spell octets are rejected.
 use Rattle.std.specs.Prelude.{Result, Ok, Err, OnOk, OnErr, IfErr}
 use Rattle.std.proofs.Common.{ℕ, Option, Bool, false, ◌≡◌, ◌≤◌, ◌∙◌, List, [], length, refl, sym, subst, arith, inl, inr, append-nil}
 use Rattle.dns_kinds.specs.declared.error.ErrorKind.{ErrorKind}

@@ -1,4 +1,4 @@
--- Tokens of which one was refused as a field spell no fields, but for lack of room.
+-- Tokens of which one was rejected as a field spell no fields, unless the octets didn't fit.
 use Rattle.std.proofs.Common.{ℕ, zero, suc, replicate, Option, Some, ◌≡◌, ◌≢◌, ◌<◌, ◌+◌, List, [], ◌∷◌, ◌++◌, length, take, drop, refl, sym, ap, subst, ◌∙◌, inl, inr, arith, length-append}
 use Rattle.std.proofs.lemmas.List.{append_assoc}
 use Rattle.std.proofs.lemmas.Option.{none-some}
@@ -24,7 +24,7 @@ module _ (origin : Option (List (List ℕ))) where
   all_once (f ∷ fs) (t ∷ ts) a b h k =
       h.2 ∙ ap (λ o. o ++ h.1) (field_once f t h.0 k.0 h.3 k.3) ∙ ap (λ o. k.0 ++ o) (all_once fs ts h.1 k.1 h.4 k.4) ∙ sym k.2
 
-  -- behind octets, those of a field that a token spells
+  -- after octets come those of a field that a token spells
   pub record IsNext (f : Field) (t : TokenSeen) (o octets : List ℕ) : Type 0 where
     pub mid : List ℕ
     pub back : List ℕ
@@ -94,7 +94,7 @@ module _ (origin : Option (List (List ℕ))) where
   pub same_field : (count : ℕ) (f g : Field) → slice_get (replicate (suc count) f) count ≡ Some g → f ≡ g
   same_field count f g h = let same : Some f ≡ Some g = sym (get_last origin count f) ∙ h in cc same
 
-  -- the tokens before one that is refused are each of the field
+  -- the tokens before one that is rejected are each of the field
   pub each_before : (room : Room) (f : Field) (count : ℕ) (tokens : List TokenSeen) (old : List ℕ) (e : ErrorKind) (left : List TokenSeen) (new : List ℕ)
       → (h : RefusesAField origin room (replicate (suc count) f) tokens old count e left new) → SpellsEach origin f h.before.taken h.before.octets
   each_before room f count tokens old e left new h =
@@ -115,7 +115,7 @@ module _ (origin : Option (List (List ℕ))) where
       let rest = length-append n.mid n.back in
       (lacks.0, omega (arith, lacks.1, middle_length, all, rest))
 
-  -- the same fields in front of the same tokens are of the same ones
+  -- the same fields at the start of the same tokens are those of the same tokens
   pub fields_front : (fields : List Field) (first last taken left : List TokenSeen) (a b : List ℕ) → SpellsFields origin fields first a → SpellsFields origin fields taken b → first ++ last ≡ taken ++ left
       → (first ≡ taken) × (last ≡ left) × (a ≡ b)
   fields_front [] [] last [] left a b h k is = (refl, is, h ∙ sym k)

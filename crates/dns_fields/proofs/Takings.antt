@@ -1,4 +1,4 @@
--- Fields taken one after another.
+-- Fields parsed one after another.
 use Rattle.std.proofs.Common.{ℕ, Option, zero, suc, replicate, Some, ◌≡◌, ◌<◌, ◌≤◌, ◌+◌, ◌-◌, arith, Err, List, [], ◌∷◌, ◌++◌, length, take, drop, get_or, refl, sym, subst, ap, ◌∙◌, length-take-le}
 use Rattle.std.proofs.Math.Seq.{take-suc, take-length, drop-append_seam}
 use Rattle.std.proofs.lemmas.List.{append_assoc, append-nil, length-replicate}
@@ -15,7 +15,7 @@ use Rattle.dns_fields.specs.declared.record_error.RecordError.{RecordError}
 use Rattle.dns_fields.specs.Source.{next_place}
 use Rattle.dns_fields.specs.Taking.{SpellsField, SpellsFields, HasTaken, RefusesAField, RefusesNext, SpellsEach, TakesEachAs, TakesField}
 
--- the place is that of the token that is refused, or of the entry's end
+-- the offset is that of the rejected token, or of the entry's end
 refused_there : (begun end : ℕ) (left rest : List TokenSeen) (e : RecordError) → end ≡ begun → rest ≡ left → IsErrorAt (next_place left end) e → IsErrorAt (next_place rest begun) e
 refused_there begun end left rest e same kept h = h ∙ (λ i. error_at (next_place (sym kept i) (same i)) e.kind)
 
@@ -85,7 +85,7 @@ module _ (origin : Option (List (List ℕ))) where
   as_many (f ∷ fs) [] octets h = absurd h
   as_many (f ∷ fs) (t ∷ ts) octets h = ap suc (as_many fs ts h.1 h.4)
 
-  -- the tokens after those that are taken
+  -- the tokens after those that are read
   pub left_behind : (fields : List Field) (place : ℕ) (tokens left : List TokenSeen) (old new : List ℕ) → place ≤ length fields → HasTaken origin (take place fields) tokens old left new → left ≡ drop place tokens
   left_behind fields place tokens left old new few h =
       let long : length h.taken ≡ place = sym (as_many (take place fields) h.taken h.octets h.spelled) ∙ length-take-le place fields few in
@@ -120,7 +120,7 @@ module _ (origin : Option (List (List ℕ))) where
     refused_there begun end left rest e same k.0 k.1,
   )
 
-  -- so many tokens are taken, each as the same field
+  -- the first tokens are parsed, each as the same field
   abbrev pub HasTakenSome : Field → List TokenSeen → List ℕ → List TokenSeen → List ℕ → Type 0
   HasTakenSome f tokens old left new = (count : ℕ) × HasTaken origin (replicate count f) tokens old left new
 

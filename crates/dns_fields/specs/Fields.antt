@@ -20,7 +20,7 @@ use Rattle.dns_spelling.specs.NameSpelling.{IsOrigin}
 use Rattle.dns_fields.specs.Forms.{FieldForm, IsFieldForm, word_form, string_form, psdn_address_form, tag_form, salt_form, hash_form, name_form}
 use Rattle.dns_fields.specs.Words.{SpellsBelow, NumberReason}
 
--- the form of each kind, where relative names stand before an origin
+-- the form of each kind, in which the origin is appended to relative names
 abbrev pub field_form : Option (List (List ℕ)) → Field → FieldForm
 field_form origin OfNumber8 = word_form 1 (λ n. n < 2 ^ 8) (SpellsBelow (2 ^ 8)) (NumberReason (2 ^ 8)) (λ n. n ∷ []) (λ octets. decimal (slice_index octets 0))
 field_form origin OfNumber16 = word_form 2 (λ n. n < 2 ^ 16) (SpellsBelow (2 ^ 16)) (NumberReason (2 ^ 16)) (to_be_bytes w16) (λ octets. decimal (from_be_bytes w16 octets))
@@ -43,6 +43,6 @@ field_form origin OfSalt = salt_form
 field_form origin OfHash = hash_form
 field_form origin OfName = name_form origin
 
--- each kind of field is spelled, printed and found as its form says
+-- each kind of field is spelled, printed and found as its form defines
 abbrev pub AreFieldForms : Type 0
 AreFieldForms = (origin : Option (List (List ℕ))) → IsOrigin origin → (f : Field) → IsFieldForm (field_form origin f)

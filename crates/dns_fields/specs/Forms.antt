@@ -1,5 +1,5 @@
--- What a field of record data is: the tokens that spell it, its octets on the wire, and the token
--- that it is printed as.
+-- The form of a field of RDATA: the tokens that spell it, its octets in wire format, and the token
+-- that it prints as.
 use Rattle.std.specs.Prelude.{ℕ, ◌≡◌, ◌<◌, ◌≤◌, ◌⊎◌, Bool, true, false, if◌then◌else◌, List, [], ◌∷◌, ◌++◌, length, drop, Option, Result, OnOk, OnErr, IfErr}
 use Rattle.std.specs.Char.{is_ascii_digit}
 use Rattle.std.specs.List.{list_all}
@@ -19,33 +19,33 @@ use Rattle.dns_kinds.specs.declared.error.ErrorKind.TheVariants.{ShortBuf, Quote
 use Rattle.dns_fields.specs.Words.{SpellsAs, AreOctetsOf}
 
 pub record FieldForm : Type 1 where
-  -- a token, by whether it is a quoted text and by what it holds, spells a field of these octets
+  -- a token, by whether it is a quoted string and by its text, spells a field of these octets
   pub spells : Bool → List ℕ → List ℕ → Type 0
-  -- why a token that spells none is refused
+  -- why a token that spells none is rejected
   pub reason : Bool → List ℕ → ErrorKind → Type 0
   -- the octets that a field can have
   pub is_wire : List ℕ → Type 0
-  -- whether it is printed as a quoted text, and what that token holds
+  -- whether it prints as a quoted string, and the text of that token
   pub quotes : Bool
   pub printed : List ℕ → List ℕ
 
--- the token that a field is printed as
+-- the token that a field prints as
 abbrev pub token_text : FieldForm → List ℕ → List ℕ
 token_text f octets = if f.quotes then double_quote ∷ (f.printed octets ++ double_quote ∷ []) else f.printed octets
 
--- Each token spells octets of a field, and those of one. What a field is printed as spells it. And
--- a field stands in front of octets in one way.
+-- Each token spells octets of one field. What a field prints as spells it. And octets begin with
+-- one field at most.
 pub record IsFieldForm (f : FieldForm) : Type 0 where
   pub are_wire : (quoted : Bool) (text octets : List ℕ) → AreOctetValues text → f.spells quoted text octets → f.is_wire octets
   pub back : (octets : List ℕ) → f.is_wire octets → f.spells f.quotes (f.printed octets) octets
   pub once : (quoted : Bool) (text a b : List ℕ) → f.spells quoted text a → f.spells quoted text b → a ≡ b
   pub in_front : StandInFront f.is_wire
 
--- why a word is refused: it is a quoted text; or it spells no value of its kind
+-- why a word is rejected: it is a quoted string; or it spells no value of its kind
 abbrev pub WordReason : (List ℕ → ErrorKind → Type 0) → Bool → List ℕ → ErrorKind → Type 0
 WordReason reason quoted text e = ((e ≡ Quoted) × (quoted ≡ true)) ⊎ ((quoted ≡ false) × reason text e)
 
--- a word of a kind whose values have so many octets
+-- a word of a kind whose values have `width` octets
 abbrev pub word_form : {V : Type 0} → ℕ → (V → Type 0) → (List ℕ → V → Type 0) → (List ℕ → ErrorKind → Type 0) → (V → List ℕ) → (List ℕ → List ℕ) → FieldForm
 word_form width valid spells reason wire printed = record {
   spells = λ quoted text octets. (quoted ≡ false) × SpellsAs valid spells wire text octets;
@@ -55,13 +55,13 @@ word_form width valid spells reason wire printed = record {
   printed = printed;
 }
 
--- why a text spells no character string: it has a bad escape, or spells too many octets
+-- why a text does not spell a character string: it has a wrong escape, or spells too many octets
 abbrev pub StringReason : Bool → List ℕ → ErrorKind → Type 0
 StringReason quoted text BadEscape = SpellsToBadEscape text
 StringReason quoted text LongString = (octets : List ℕ) × SpellsOctetList text octets × (255 < length octets)
 StringReason quoted text other = ⊥
 
--- a character string, whether in quotes or not; it is printed in quotes
+-- a character string, quoted or not; it prints in quotes
 abbrev pub string_form : FieldForm
 string_form = record {
   spells = λ quoted text octets. SpellsString text octets;
@@ -77,7 +77,7 @@ pub record IsPsdnAddress (digits : List ℕ) : Type 0 where
   pub short : length digits ≤ 255
   pub digital : list_all is_ascii_digit digits ≡ true
 
--- on the wire it is a character string
+-- in wire format it is a character string
 pub record IsWirePsdnAddress (form : List ℕ) : Type 0 where
   pub digits : List ℕ
   pub is_address : IsPsdnAddress digits
@@ -90,7 +90,7 @@ SpellsPsdnAddress text form = IsPsdnAddress text × (form ≡ length text ∷ te
 abbrev pub PsdnAddressReason : Bool → List ℕ → ErrorKind → Type 0
 PsdnAddressReason quoted text e = (e ≡ ExpectedPsdnAddress) × (IsPsdnAddress text → ⊥)
 
--- an address, whether in quotes or not; it is printed in quotes
+-- an address, quoted or not; it prints in quotes
 abbrev pub psdn_address_form : FieldForm
 psdn_address_form = record {
   spells = λ quoted text octets. SpellsPsdnAddress text octets;
@@ -100,7 +100,7 @@ psdn_address_form = record {
   printed = string_in_quotes;
 }
 
--- why a token is no tag
+-- why a token is not a tag
 abbrev pub TagReason : Bool → List ℕ → ErrorKind → Type 0
 TagReason quoted text e = ((e ≡ Quoted) × (quoted ≡ true)) ⊎ ((e ≡ BadTag) × (quoted ≡ false) × (IsTag text → ⊥))
 
@@ -114,7 +114,7 @@ tag_form = record {
   printed = tag_text;
 }
 
--- a text spells a salt, whose octets stand behind their length
+-- a text spells a salt, whose octets follow their length
 pub record SpellsWireSalt (text form : List ℕ) : Type 0 where
   pub octets : List ℕ
   pub spelled : SpellsSalt text octets
@@ -129,7 +129,7 @@ salt_form = record {
   printed = λ form. salt_text (drop 1 form);
 }
 
--- the octets of a hash, 1 to 255 of them, behind their number
+-- 1 to 255 octets of a hash after their length
 pub record IsWireHash (form : List ℕ) : Type 0 where
   pub octets : List ℕ
   pub values : AreOctetValues octets
@@ -137,7 +137,7 @@ pub record IsWireHash (form : List ℕ) : Type 0 where
   pub short : length octets ≤ 255
   pub whole : form ≡ length octets ∷ octets
 
--- why a token is no hash: it is a quoted text; or its digits are none of a hash
+-- why a token is not a hash: it is a quoted string; or its digits are not those of a hash
 abbrev pub HashReason : Bool → List ℕ → ErrorKind → Type 0
 HashReason quoted text e = ((e ≡ Quoted) × (quoted ≡ true)) ⊎ ((e ≡ hash_refusal text) × (quoted ≡ false))
 
@@ -151,11 +151,11 @@ hash_form = record {
   printed = λ form. encoded base32hex (drop 1 form);
 }
 
--- why a token is no name: it is a quoted text; or something is wrong with the text
+-- why a token is not a name: it is a quoted string; or something is wrong with the text
 abbrev pub NameReason : Option (List (List ℕ)) → Bool → List ℕ → ErrorKind → Type 0
 NameReason origin quoted text e = ((e ≡ QuotedName) × (quoted ≡ true)) ⊎ ((quoted ≡ false) × WhyNoName origin text e)
 
--- a name, without quotes; a relative one stands before the origin
+-- a name, without quotes; the origin is appended to a relative name
 abbrev pub name_form : Option (List (List ℕ)) → FieldForm
 name_form origin = record {
   spells = λ quoted text octets. (quoted ≡ false) × SpellsName origin text octets;
@@ -165,12 +165,12 @@ name_form origin = record {
   printed = wire_name_text;
 }
 
--- why a token was not taken as a field: its octets don't surely fit; or it spells none, and this is why
+-- why a token is rejected as a field: its octets don't surely fit; or it spells none, for this reason
 abbrev pub RefusesField : Room → (List ℕ → Type 0) → (ErrorKind → Type 0) → List ℕ → ErrorKind → Type 0
 RefusesField room spelled reason old e = ((e ≡ ShortBuf) × LacksRoom room spelled old) ⊎ (reason e × ((octets : List ℕ) → spelled octets → ⊥))
 
--- A token is read as a field: the target gains the octets that it spells; or it is refused, and the
--- target has what it had, with more behind it.
+-- A token is parsed as a field: the target gains the octets that it spells. Or it is rejected, and
+-- the target has its old octets, perhaps with more after them.
 pub record ReadsField (room : Room) (f : FieldForm) (quoted : Bool) (text old : List ℕ) (r : Result (Unit {0}) ErrorKind) (new : List ℕ) : Type 0 where
   pub gains : OnOk r (Gains (f.spells quoted text) old new)
   pub refused : IfErr r (RefusesField room (f.spells quoted text) (f.reason quoted text) old)

@@ -1,20 +1,20 @@
--- Where the tokens of an entry come from.
+-- Sources of the tokens of an entry.
 use Rattle.std.specs.Prelude.{ℕ, List, [], ◌∷◌, map, Option, None, Result}
 use Rattle.dns_split.specs.declared.pieces.Fault.{Fault}
 use Rattle.dns_split.specs.EntryTokens.{PartSeen, TokenSeen, token_seen}
 use Rattle.dns_fields.specs.declared.source.TokenList.{TokenList}
 
--- the place of the token that comes next, or of the entry's end
+-- the offset of the next token, or of the entry's end
 abbrev pub next_place : List TokenSeen → ℕ → ℕ
 next_place [] end = end
 next_place (t ∷ ts) end = t.at
 
--- where an entry ends; and, where it is read of a text, what the text has behind the tokens: the entry's end and what follows, or the fault
+-- the offset of an entry's end; and, if it is read of a text, what the text has after the tokens: the entry's end and what follows, or the error
 pub record EntryEnd : Type 0 where
   pub at : ℕ
   pub behind : Option (List (Result PartSeen Fault))
 
--- the tokens that are left of a list, and where its entry ends
+-- the unread tokens of a list, and the end of its entry
 abbrev pub listed : TokenList → List TokenSeen
 listed l = map token_seen l.tokens.now
 

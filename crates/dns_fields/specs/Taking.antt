@@ -1,4 +1,4 @@
--- Fields that are read of the tokens of an entry, one token each.
+-- Fields that are parsed from the tokens of an entry, one token each.
 use Rattle.std.specs.Prelude.{ℕ, Option, suc, length, replicate, ◌≡◌, ◌-◌, List, [], ◌∷◌, ◌++◌, take, drop, slice_get, Some, Result, Ok, Err}
 use Rattle.dns_octets.specs.Room.{Room}
 use Rattle.dns_octets.specs.Appending.{Extends, Gains}
@@ -24,17 +24,17 @@ SpellsFields origin [] (t ∷ ts) octets = ⊥
 SpellsFields origin (f ∷ fs) [] octets = ⊥
 SpellsFields origin (f ∷ fs) (t ∷ ts) octets = (front : List ℕ) × (back : List ℕ) × (octets ≡ front ++ back) × SpellsField origin f t front × SpellsFields origin fs ts back
 
--- why the next token is not taken as a field: there is none; or it is refused
+-- why the next token is not parsed as a field: there is none; or it is rejected
 abbrev pub RefusesNext : Option (List (List ℕ)) → Room → Field → List TokenSeen → List ℕ → ErrorKind → Type 0
 RefusesNext origin room f [] old e = e ≡ EndOfEntry
 RefusesNext origin room f (t ∷ ts) old e = RefusesField room (SpellsField origin f t) ((field_form origin f).reason t.is_quoted t.text) old e
 
--- the next token is taken as a field; or it is refused at its place, and nothing is taken
+-- the next token is parsed as a field; or it is rejected at its offset, and no token is read
 abbrev pub TakesField : Option (List (List ℕ)) → Room → Field → TokenParser (Unit {0})
 TakesField origin room f end tokens old (Ok _) left new = (t : TokenSeen) × (tokens ≡ t ∷ left) × Gains (SpellsField origin f t) old new
 TakesField origin room f end tokens old (Err e) left new = (left ≡ tokens) × IsErrorAt (next_place tokens end) e × RefusesNext origin room f tokens old e.kind × Extends old new
 
--- the first of the tokens are taken as the fields, one each, and the target gained their octets
+-- the first of the tokens are parsed as the fields, one each, and the target gained their octets
 pub record HasTaken (origin : Option (List (List ℕ))) (fields : List Field) (tokens : List TokenSeen) (old : List ℕ) (left : List TokenSeen) (new : List ℕ) : Type 0 where
   pub taken : List TokenSeen
   pub octets : List ℕ
@@ -42,7 +42,7 @@ pub record HasTaken (origin : Option (List (List ℕ))) (fields : List Field) (t
   pub spelled : SpellsFields origin fields taken octets
   pub gained : new ≡ old ++ octets
 
--- the fields before a place are taken, and the one there is refused
+-- the fields before an index are parsed, and the one at the index is rejected
 pub record RefusesAField (origin : Option (List (List ℕ))) (room : Room) (fields : List Field) (tokens : List TokenSeen) (old : List ℕ) (place : ℕ) (e : ErrorKind) (left : List TokenSeen) (new : List ℕ) : Type 0 where
   pub field : Field
   pub is_field : slice_get fields place ≡ Some field
@@ -51,11 +51,11 @@ pub record RefusesAField (origin : Option (List (List ℕ))) (room : Room) (fiel
   pub why : RefusesNext origin room field left middle e
   pub extends : Extends middle new
 
--- the place of the last of the tokens that are taken as fields
+-- the offset of the last of the tokens that are parsed as fields
 abbrev pub last_place : List Field → List TokenSeen → ℕ → ℕ
 last_place fields tokens end = next_place (drop (length fields - 1) tokens) end
 
--- all fields are taken, and this is the place of the last; or one is refused
+-- all fields are parsed, and this is the offset of the last; or one is rejected
 abbrev pub TakesAllFields : Option (List (List ℕ)) → Room → List Field → TokenParser ℕ
 TakesAllFields origin room fields end tokens old (Ok at) left new = HasTaken origin fields tokens old left new × (at ≡ last_place fields tokens end)
 TakesAllFields origin room fields end tokens old (Err e) left new = (place : ℕ) × RefusesAField origin room fields tokens old place e.kind left new × IsErrorInField place (next_place left end) e
@@ -64,7 +64,7 @@ TakesAllFields origin room fields end tokens old (Err e) left new = (place : ℕ
 abbrev pub SpellsEach : Option (List (List ℕ)) → Field → List TokenSeen → List ℕ → Type 0
 SpellsEach origin f tokens octets = SpellsFields origin (replicate (length tokens) f) tokens octets
 
--- all tokens are taken; or one is refused
+-- all tokens are parsed; or one is rejected
 abbrev pub TakesEachAs : Option (List (List ℕ)) → Room → Field → TokenParser (Unit {0})
 TakesEachAs origin room f end tokens old (Ok _) left new = (left ≡ []) × Gains (SpellsEach origin f tokens) old new
 TakesEachAs origin room f end tokens old (Err e) left new = (count : ℕ) × RefusesAField origin room (replicate (suc count) f) tokens old count e.kind left new × IsErrorAt (next_place left end) e

@@ -1,4 +1,4 @@
--- Each kind of word has so many octets, and is printed as a text that spells it alone.
+-- Each kind of word has a constant length, and prints as a text that spells it alone.
 use Rattle.std.proofs.Common.{ℕ, suc, zero, ◌≡◌, ◌<◌, ◌≤◌, ◌^◌, ◌*◌, ◌+◌, ◌/◌, ◌%◌, List, [], ◌∷◌, refl, sym, ap, subst, arith, ◌∙◌, decimal, length, slice_index, get_or}
 use Rattle.std.specs.Prelude.{All}
 use Rattle.std.specs.Int.{to_be_bytes, from_be_bytes, w16, w32}
@@ -39,7 +39,7 @@ octets16 n = (refl, All-from_recursion IsOctet (to_be_bytes w16 n) (omega arith,
 octets32 : (n : ℕ) → AreOctetsOf 4 (to_be_bytes w32 n)
 octets32 n = (refl, All-from_recursion IsOctet (to_be_bytes w32 n) (omega arith, (omega arith, (omega arith, (omega arith, tt)))))
 
--- at each place of octets stands one
+-- each element of octets is an octet
 octet_at : (octets : List ℕ) → All IsOctet octets → (k : ℕ) → get_or octets k 0 < 256
 octet_at [] h k = omega arith
 octet_at (o ∷ os) h zero = (recursion_from_All IsOctet (o ∷ os) h).0
@@ -75,7 +75,7 @@ number32_of (a ∷ b ∷ c ∷ d ∷ []) h =
     (few, sym (be_bytes_4 (a ∷ b ∷ c ∷ d ∷ []) (from_be_bytes w32 (a ∷ b ∷ c ∷ d ∷ [])) refl (octet_at (a ∷ b ∷ c ∷ d ∷ []) h.1) refl))
 number32_of (a ∷ b ∷ c ∷ d ∷ e ∷ _) h = absurd (omega (arith, h.0))
 
--- of a number that is printed in decimal, these are the octets
+-- the octets of a number that prints in decimal
 in_decimal : (limit n : ℕ) (wire : ℕ → List ℕ) (octets : List ℕ) → limit ≤ 2 ^ 64 → IsNumberOf limit wire octets n → SpellsAs (λ n. n < limit) (SpellsBelow limit) wire (decimal n) octets
 in_decimal limit n wire octets wide h =
     let d = decimal_is_IsNumeral n (omega (arith, h.0, wide)) in (n, h.0, ((d.0, sym d.1), h.0), h.1)
@@ -101,7 +101,7 @@ number32_is_kind = record {
   once = λ text v w h k. ap (to_be_bytes w32) (h.0.1 ∙ sym k.0.1);
 }
 
--- a kind whose values are those of so many octets is one of words
+-- a kind whose values are those of `width` octets is a kind of word
 of_kind : {V : Type 0} (width : ℕ) (valid : V → Type 0) (spells : List ℕ → V → Type 0) (text : V → List ℕ) (wire : V → List ℕ) (of : List ℕ → V) → IsKind valid spells text
     → ((v : V) → valid v → AreOctetsOf width (wire v)) → ((octets : List ℕ) → AreOctetsOf width octets → valid (of octets) × (octets ≡ wire (of octets)))
     → IsWordKind width valid spells wire (λ octets. text (of octets))
@@ -122,7 +122,7 @@ pub ipv4_is_word : IsWordKind 4 IsIpv4Addr IsIpv4Text ipv4_octets ipv4_text
 ipv4_is_word = of_kind 4 IsIpv4Addr IsIpv4Text (λ a. ipv4_text (ipv4_octets a)) ipv4_octets (λ octets. record { octets = octets }) ipv4_is_kind (λ a h. (h.0, All-from_get_or IsOctet (ipv4_octets a) 0 (λ k _. h.1 k)))
     (λ octets h. ((h.0, octet_at octets h.1), refl))
 
--- so many segments are twice as many octets, and back
+-- the list is `count` segments
 abbrev AreSegmentsOf : ℕ → List ℕ → Type 0
 AreSegmentsOf count segments = (length segments ≡ count) × ((k : ℕ) → slice_index segments k < 2 ^ 16)
 

@@ -1,4 +1,4 @@
-//! The kinds of fields that are one token.
+//! Fields of RDATA that are one token.
 ghost use Rattle.std.specs.Prelude.{None};
 ghost use Rattle.std.specs.Option.{option_copied};
 ghost use Rattle.std.specs.Fmt.{WritesOnOk};
@@ -24,7 +24,7 @@ use dns_wire::Name;
 use std::fmt;
 use std::net::Ipv4Addr;
 
-/// A kind of field that is one token of an entry.
+/// The kind of a field that is one token of an entry.
 #[derive(Clone, Copy)]
 pub enum Field {
     /// A number of 8 bits.
@@ -33,19 +33,19 @@ pub enum Field {
     Number16,
     /// A number of 32 bits.
     Number32,
-    /// A number of seconds, which may have units.
+    /// A number of seconds, which may be written with units.
     Interval,
     /// An IPv4 address.
     Ipv4,
     /// An IPv6 address.
     Ipv6,
-    /// A type of records.
+    /// A record type.
     RecordType,
     /// The type that a SIG covers, which may be the digit 0.
     SigType,
     /// An algorithm of keys and signatures, by name or number, which prints as its number.
     Algorithm,
-    /// A type of certificates.
+    /// A certificate type.
     CertificateType,
     /// An EUI-48.
     Eui48,
@@ -55,7 +55,7 @@ pub enum Field {
     Time,
     /// A locator or an identifier of 64 bits.
     Locator,
-    /// A character string, in quotes or not.
+    /// A character string, quoted or not.
     String,
     /// A character string of 4 digits or more, without escapes.
     PsdnAddress,
@@ -65,11 +65,14 @@ pub enum Field {
     Salt,
     /// A hash in base 32 hex.
     Hash,
-    /// A name, absolute or before the origin.
+    /// A name. The origin is appended to a relative name.
     Name,
 }
 
-/// Appends the octets of the field that a token spells. A relative name stands before the origin.
+/// Parses a token as a field, and appends its octets. The origin is appended to a relative name.
+///
+/// Fails with the error of the field's kind if the token doesn't spell such a field, and with
+/// `ShortBuf` if the target fails.
 pub fn append_field<Octets: AsOctets, B: OctetsBuilder>(
     field: Field,
     token: &EntryToken<'_>,
@@ -103,7 +106,8 @@ pub fn append_field<Octets: AsOctets, B: OctetsBuilder>(
     }
 }
 
-/// How many of the octets in front are a field.
+/// Returns the length in octets of the field at the start of octets. Returns `None` if the octets
+/// don't begin with such a field.
 pub fn field_width(field: Field, octets: &[u8]) -> Option<usize>
     ensures { FindsWidth (field_form None field).is_wire octets.now result }
 {
@@ -131,7 +135,7 @@ pub fn field_width(field: Field, octets: &[u8]) -> Option<usize>
     }
 }
 
-/// Prints the token of a field.
+/// Prints a field as its token.
 pub fn write_field<W: fmt::Write>(
     field: Field,
     octets: &[u8],

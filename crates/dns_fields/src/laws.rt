@@ -1,8 +1,8 @@
-//! What holds of all fields.
+//! Laws of all fields.
 ghost use Rattle.dns_fields.specs.Fields.{AreFieldForms};
 
-/// States that what a field is printed as is read back, that a token spells one field, and that a
-/// field stands in front of octets in one way. It does nothing else.
+/// States that a field that is printed and parsed is the same field, that a token spells one field,
+/// and that octets begin with one field at most. Does nothing.
 pub fn fields_are_read_back()
     ensures { AreFieldForms }
 {}

@@ -1,5 +1,4 @@
-//! The fields of record data: the texts that spell each, its octets on the wire, and how it is
-//! printed.
+//! The fields of RDATA: which tokens spell each, its octets in wire format, and how it prints.
 #![tactic(auto)]
 
 pub mod field;

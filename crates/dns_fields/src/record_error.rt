@@ -1,4 +1,4 @@
-//! Why a record is not read: what is wrong, and where.
+//! The error of a record: what is wrong, and where.
 ghost use Rattle.std.specs.Prelude.{◌≡◌, Some};
 ghost use Rattle.dns_fields.specs.RecordErrors.{error_at, error_in_field, error_of_type, error_of_fault};
 ghost use Rattle.dns_kinds.specs.ErrorKinds.{error_kind_text};
@@ -9,7 +9,7 @@ use std::error::Error;
 use std::fmt;
 use std::marker::Model;
 
-/// The name of a field of record data, by its place among the fields of its type: 0 is the first.
+/// The name of a field of RDATA, by its index among the fields of its type. The first is 0.
 #[derive(Clone, Copy, Debug, PartialEq, Eq)]
 pub struct FieldName(pub usize);
 
@@ -23,23 +23,23 @@ impl Model for FieldName {
     ghost inverse = { λ place. record { 0 = place } };
 }
 
-/// Why a record is not read. Each layer adds what it knows: the reader of a token the offset and
-/// the kind, a reader of fields the field, and a reader of a type's data the type.
+/// The error of a record. Each layer adds what it knows: the parser of a token the offset and the
+/// kind, the parser of fields the field, and the parser of a type's RDATA the type.
 #[derive(Clone, Copy, Debug, PartialEq, Eq)]
 pub struct RecordError {
-    /// Octets from the text's beginning to the token or the octet that is refused, or to the end of
-    /// the entry where a token is missing.
+    /// Offset of the rejected token or octet from the beginning of the text, or of the entry's end
+    /// if a token is missing.
     pub offset: usize,
-    /// The type of the record, where its data are refused.
+    /// Type of the record, if its RDATA is rejected.
     pub rtype: Option<RecordType>,
-    /// The field that is refused, where a field of the data is.
+    /// The rejected field, if a field of the RDATA is rejected.
     pub field: Option<FieldName>,
     /// What is wrong.
     pub kind: ErrorKind,
 }
 
 impl RecordError {
-    /// An error of which the place and the kind are known.
+    /// Returns an error with an offset and a kind.
     pub fn at(offset: usize, kind: ErrorKind) -> RecordError
         ensures { result ≡ error_at offset kind }
     {
@@ -51,7 +51,7 @@ impl RecordError {
         }
     }
 
-    /// The same error, of a field.
+    /// Returns the error with a field.
     pub fn in_field(self, field: FieldName) -> RecordError
         ensures { result ≡ error_in_field field self }
     {
@@ -63,7 +63,7 @@ impl RecordError {
         }
     }
 
-    /// The same error, of data of a type.
+    /// Returns the error with the type of the record.
     pub fn of_type(self, rtype: RecordType) -> RecordError
         ensures { result ≡ error_of_type rtype self }
     {

@@ -1,35 +1,35 @@
-//! Where the tokens of an entry come from.
+//! Sources of the tokens of an entry.
 ghost use Rattle.std.specs.Prelude.{◌≡◌, List, option_map, slice_get, drop};
 ghost use Rattle.dns_split.specs.EntryTokens.{TokenSeen, token_seen};
 ghost use Rattle.dns_fields.specs.Source.{EntryEnd, next_place};
 
 use dns_split::entry_tokens::EntryToken;
 
-/// The tokens of one entry, taken one by one.
+/// The tokens of one entry, returned one by one.
 ///
-/// A token's text need live only until the next is taken.
+/// A token's text is valid only until the next call of [`advance`](TokenSource::advance).
 pub trait TokenSource {
-    // The tokens that are left.
+    // The unread tokens.
     ghost left: { Self → List TokenSeen };
 
-    // Where the entry ends, and what its text has behind the tokens.
+    // The offset of the entry's end, and what the text has after the tokens.
     ghost end: { Self → EntryEnd };
 
-    /// The token that comes next, if one is left.
+    /// Returns the next token, if there is one.
     fn current(&self) -> Option<EntryToken<'_>>
         ensures { option_map token_seen result ≡ slice_get (left self.now) 0 };
 
-    /// The place of the token that comes next, or of the entry's end.
+    /// Returns the offset of the next token, or of the entry's end.
     fn place(&self) -> usize
         ensures { result ≡ next_place (left self.now) (end self.now).at };
 
-    /// Takes the token that comes next.
+    /// Skips the next token.
     fn advance(&mut self)
         ensures left { left self.new ≡ drop 1 (left self.old) }
         ensures end { end self.new ≡ end self.old };
 }
 
-/// The tokens of a list.
+/// A list of tokens, as a [`TokenSource`].
 #[derive(Drop)]
 pub struct TokenList<'t> {
     tokens: &'t [EntryToken<'t>],
@@ -40,7 +40,7 @@ impl<'t> TokenList<'t> {
     ghost use Rattle.std.specs.Prelude.{map};
     ghost use Rattle.dns_fields.specs.Source.{listed, listed_end};
 
-    /// The tokens of an entry that ends at a place.
+    /// Returns the tokens of an entry that ends at an offset.
     pub fn new(tokens: &'t [EntryToken<'t>], end: usize) -> TokenList<'t>
         ensures left { listed result ≡ map token_seen tokens.now }
         ensures end { (listed_end result).at ≡ end }

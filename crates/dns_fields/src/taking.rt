@@ -12,7 +12,10 @@ use dns_octets::{AsOctets, OctetsBuilder};
 use dns_wire::Name;
 
 /// Parses the next token as a field, and appends its octets. The origin is appended to a relative
-/// name. On an error, no token is taken.
+/// name.
+///
+/// Fails with `EndOfEntry` if there is no token, and with an error of [`append_field`]. On an
+/// error, no token is read.
 pub fn take_field<S: TokenSource, Octets: AsOctets, B: OctetsBuilder>(
     field: Field,
     origin: Option<&Name<Octets>>,
@@ -34,9 +37,11 @@ pub fn take_field<S: TokenSource, Octets: AsOctets, B: OctetsBuilder>(
     Ok(())
 }
 
-/// Parses a token as each of the fields, and appends their octets one after another. On an error,
-/// the tokens before the rejected one are taken. Returns the offset of the last of these tokens, or
-/// that of the next token if there are no fields.
+/// Parses a token as each of the fields, and appends their octets one after another. Returns the
+/// offset of the last of these tokens, or that of the next token if there are no fields.
+///
+/// The errors are those of [`take_field`], with the field. On an error, the tokens before the
+/// rejected one are read.
 pub fn take_fields<S: TokenSource, Octets: AsOctets, B: OctetsBuilder>(
     fields: &[Field],
     origin: Option<&Name<Octets>>,
@@ -57,8 +62,10 @@ pub fn take_fields<S: TokenSource, Octets: AsOctets, B: OctetsBuilder>(
     Ok(last)
 }
 
-/// Parses the tokens that are left, each as the same field, and appends their octets one after
-/// another. On an error, the tokens before the rejected one are taken.
+/// Parses the unread tokens, each as the same field, and appends their octets one after another.
+///
+/// The errors are those of [`take_field`]. On an error, the tokens before the rejected one are
+/// read.
 pub fn take_each<S: TokenSource, Octets: AsOctets, B: OctetsBuilder>(
     field: Field,
     origin: Option<&Name<Octets>>,

@@ -1,4 +1,4 @@
-//! Fields that are octets in a token: character strings, addresses of X25, tags and salts.
+//! Fields whose token is octets: character strings, X25 addresses, tags and salts.
 ghost use Rattle.std.specs.Prelude.{◌≡◌, MatchBool};
 ghost use Rattle.std.specs.Char.{is_ascii_digit};
 ghost use Rattle.std.specs.List.{list_all};
@@ -27,27 +27,27 @@ pub(crate) fn append_string_field<B: OctetsBuilder>(
     append_string(token.text, target)
 }
 
-/// The fewest digits of an address of X25: those of the network.
+/// Least number of digits of an X25 address: those of the network.
 const FEWEST_DIGITS: usize = 4;
 
-/// The most digits, as a character string holds them.
+/// Greatest number of digits of an X25 address: those that a character string can hold.
 const MOST_DIGITS: usize = 255;
 
-/// Whether octets are digits.
+/// Returns whether octets are digits.
 fn are_digits(octets: &[u8]) -> bool
     ensures { result ≡ list_all is_ascii_digit octets.now }
 {
     octets.iter().all(|octet| octet.is_ascii_digit())
 }
 
-/// Whether octets are the digits of an address of X25.
+/// Returns whether octets are the digits of an X25 address.
 fn is_psdn_address(octets: &[u8]) -> bool
     ensures { MatchBool result (IsPsdnAddress octets.now) (¬ IsPsdnAddress octets.now) }
 {
     octets.len() >= FEWEST_DIGITS && octets.len() <= MOST_DIGITS && are_digits(octets)
 }
 
-/// Appends the address of X25 (RFC 1183 section 3.1) that a token is.
+/// Appends the X25 address (RFC 1183 section 3.1) that a token is.
 pub(crate) fn append_psdn_address<B: OctetsBuilder>(
     token: &EntryToken<'_>,
     target: &mut B,
@@ -63,7 +63,7 @@ pub(crate) fn append_psdn_address<B: OctetsBuilder>(
     Ok(())
 }
 
-/// How many of the octets in front are an address of X25.
+/// Returns the length in octets of the X25 address at the start of octets.
 pub(crate) fn psdn_address_width(octets: &[u8]) -> Option<usize>
     ensures { FindsWidth IsWirePsdnAddress octets.now result }
 {
@@ -121,7 +121,7 @@ pub(crate) fn append_hash_field<B: OctetsBuilder>(
     append_base32hex(token.text, target)
 }
 
-/// How many of the octets in front are a hash.
+/// Returns the length in octets of the hash at the start of octets.
 pub(crate) fn hash_field_width(octets: &[u8]) -> Option<usize>
     ensures { FindsWidth IsWireHash octets.now result }
 {
@@ -156,7 +156,7 @@ pub(crate) fn write_string<W: fmt::Write>(octets: &[u8], f: &mut fmt::Formatter<
     write!(f, "{}", QuotedOctets(string))
 }
 
-/// Prints an address of X25 in quotes.
+/// Prints an X25 address in quotes.
 pub(crate) fn write_psdn_address<W: fmt::Write>(
     octets: &[u8],
     f: &mut fmt::Formatter<W>,

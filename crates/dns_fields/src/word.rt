@@ -1,4 +1,4 @@
-//! Kinds of fields that are one word of text, and always have so many octets.
+//! Fields that are one word in presentation format, and have a constant length in wire format.
 ghost use Rattle.std.specs.Prelude.{◌≡◌, ◌≤◌, ◌-◌, ◌++◌, ℕ, List, Some, IsOk, MatchResult, OnOk, OnErr, length};
 ghost use Rattle.std.specs.Fmt.{WritesOnOk};
 ghost use Rattle.dns_kinds.specs.declared.error.ErrorKind.{ErrorKind};
@@ -12,44 +12,43 @@ use dns_split::entry_tokens::EntryToken;
 use std::fmt;
 use std::fmt::Display;
 
-/// A kind of field that is one word of text, without quotes and escapes, and always has the same
-/// number of octets on the wire.
+/// A field that is one word, without quotes and escapes, and has a constant length in wire format.
 pub trait Word: Display + Sized {
-    // How many octets.
+    // The length of a value in wire format, in octets.
     ghost width: { ℕ };
 
-    // The values that there are.
+    // The possible values.
     ghost valid: { Self → Type 0 };
 
     // The texts that spell a value.
     ghost spells: { List ℕ → Self → Type 0 };
 
-    // Why a text that spells none is refused.
+    // The error of a text that spells no value.
     ghost reason: { List ℕ → ErrorKind → Type 0 };
 
-    // The octets of a value.
+    // The octets of a value in wire format.
     ghost wire: { Self → List ℕ };
 
-    // The text that the value of these octets is printed as.
+    // The text that the value of these octets prints as.
     ghost printed: { List ℕ → List ℕ };
 
-    /// How many octets a value has.
+    /// Returns the length of a value in wire format, in octets.
     fn width() -> usize
         ensures { result ≡ width };
 
-    /// The value that a text spells.
+    /// Parses a text. Fails if it doesn't spell a value.
     fn from_text(text: &[u8]) -> Result<Self, ErrorKind>
         ensures { MatchResult result (λ v. valid v × spells text.now v)
             (RefusesWord (spells text.now) (reason text.now)) };
 
-    /// The value of octets.
+    /// Returns the value of octets in wire format.
     fn from_wire(octets: &[u8]) -> Self
         requires { AreOctetsOf width octets.now }
         ensures valid { valid result }
         ensures wire { wire result ≡ octets.now }
         ensures text { Self.output result ≡ Some (printed octets.now) };
 
-    /// Appends the octets, or changes nothing.
+    /// Appends the octets of the value. On an error, the target is unchanged.
     fn append<B: OctetsBuilder>(&self, target: &mut B) -> Result<(), ShortBuf>
         requires { valid self.now }
         ensures ok { OnOk result (B.octets target.new ≡ B.octets target.old ++ wire self.now) }
@@ -57,11 +56,11 @@ pub trait Word: Display + Sized {
         ensures fits { length (wire self.now) ≤ B.room.fits - length (B.octets target.old)
             → IsOk result };
 
-    // A value has so many octets, is printed as a text that spells it, and a text spells one.
+    // A value has this length, and prints as a text that spells it. A text spells one value.
     ghost is_kind: { IsWordKind width valid spells wire printed };
 }
 
-/// Appends the octets of the value that a word spells, or changes nothing.
+/// Parses a word as a value, and appends its octets. On an error, the target is unchanged.
 pub fn append_word<W: Word + Drop, B: OctetsBuilder>(
     token: &EntryToken<'_>,
     target: &mut B,
@@ -78,7 +77,7 @@ pub fn append_word<W: Word + Drop, B: OctetsBuilder>(
     Ok(())
 }
 
-/// How many of the octets in front are a value.
+/// Returns the length in octets of the value at the start of octets, if they are long enough.
 pub fn word_width<W: Word>(octets: &[u8]) -> Option<usize>
     ensures { FindsWidth (AreOctetsOf W.width) octets.now result }
 {
@@ -90,7 +89,7 @@ pub fn word_width<W: Word>(octets: &[u8]) -> Option<usize>
     }
 }
 
-/// Prints the value of octets.
+/// Prints the value of octets in wire format.
 pub fn write_word<W: Word + Drop, F: fmt::Write>(
     octets: &[u8],
     f: &mut fmt::Formatter<F>,

@@ -1,4 +1,4 @@
-//! The kinds of words.
+//! The fields that are one word.
 ghost use Rattle.std.specs.Prelude.{◌≡◌, ◌<◌, ◌^◌, ◌∷◌, [], Some, decimal, slice_index, length};
 ghost use Rattle.std.specs.Int.{to_be_bytes, from_be_bytes, w16, w32};
 ghost use Rattle.std.specs.Net.Addr.{ipv4_octets, ipv6_octets, segments_of, IsIpv4Addr, IsIpv6Addr};
@@ -38,7 +38,7 @@ impl fmt::Display for Interval {
     }
 }
 
-/// So many octets as an array.
+/// Returns `N` octets as an array.
 fn array_of<const N: usize>(octets: &[u8]) -> [u8; N]
     requires { length octets.now ≡ N }
     ensures { result ≡ octets.now }

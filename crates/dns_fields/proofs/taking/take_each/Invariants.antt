@@ -3,7 +3,7 @@ use Rattle.std.specs.Option.{option_copied}
 use Rattle.dns_fields.proofs.Takings.{HasTakenSome}
 use Rattle.dns_fields.proofs.taking.take_each.Given as goal
 
--- the tokens so far are taken
+-- the tokens so far are parsed
 abbrev pub invariant-loop-field : goal.invariant-loop-field
 invariant-loop-field g l =
     let left = g.S.TokenSource.left in

@@ -4,7 +4,7 @@ use Rattle.dns_fields.specs.Source.{next_place}
 use Rattle.dns_fields.specs.Taking.{HasTaken}
 use Rattle.dns_fields.proofs.taking.take_fields.Given as goal
 
--- the fields before the place are taken
+-- the fields before the index are parsed
 abbrev pub invariant-loop-place : goal.invariant-loop-place
 invariant-loop-place g l =
     let left = g.S.TokenSource.left in
