@@ -1,4 +1,4 @@
--- Addresses are read as they are printed.
+-- Addresses parse as they print.
 use Rattle.std.proofs.Common.{ℕ, zero, suc, ◌≡◌, ◌<◌, ◌+◌, ◌*◌, ◌/◌, ◌%◌, ◌^◌, Bool, true, false, List, [], ◌∷◌, ◌++◌, length, get_or, take, drop, refl, sym, arith, ap, inr}
 use Rattle.std.specs.Prelude.{nat_lt, cond, codes, replicate}
 use Rattle.std.specs.Str.{bytes_eq}

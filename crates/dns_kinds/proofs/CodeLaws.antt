@@ -1,4 +1,4 @@
--- Types, classes, algorithms and types of certificates are read as they are printed.
+-- Types, classes, algorithms and certificate types parse as they print.
 use Rattle.std.proofs.Common.{ℕ, ◌≡◌, ◌<◌, ◌^◌, ◌++◌, Bool, true, false, Option, None, List, [], ◌∷◌, length, get_or, refl, sym, subst, arith, ap, ◌∙◌, inl, inr, decimal}
 use Rattle.std.specs.Prelude.{◌==◌, if◌then◌else◌, codes, MatchOption}
 use Rattle.std.specs.Char.{digit_value, to_ascii_lowercase}
@@ -61,7 +61,7 @@ digit_registry : is_registry type_rows [] 65535 ≡ true
 unfolding type_rows
 digit_registry = refl
 
--- a digit is no t in small letters
+-- a decimal digit is not the letter t
 no_letter : (c : ℕ) → digit_value c < 10 → to_ascii_lowercase c ≡ 116 → ⊥
 no_letter c d h = let range = digit_from_value c d in Prim.grind (arith, nat_tests)
 

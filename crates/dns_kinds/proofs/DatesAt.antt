@@ -8,7 +8,7 @@ use Rattle.dns_kinds.specs.Time.{IsDate, days_before_month, days_before_year, ye
 use Rattle.dns_kinds.proofs.Calendar.{months_sum, next_year, before_month_more}
 use Rattle.dns_kinds.proofs.DateLaws.{one_date}
 
--- a day lies in one of so many, from its beginning on and before its end
+-- a day lies in number `k`, after its beginning and before its end, of the `count` numbers from `from` on
 pub record Holds (days_before : ℕ → ℕ) (from count day k : ℕ) : Type 0 where
   pub low : from ≤ k
   pub high : k < from + count

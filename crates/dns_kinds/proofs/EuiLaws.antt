@@ -1,4 +1,4 @@
--- Identifiers are read as they are written, and in one way.
+-- EUI-48 and EUI-64 addresses parse as they print, and to one value.
 use Rattle.std.proofs.Common.{ℕ, zero, suc, ◌≡◌, ◌<◌, ◌+◌, ◌-◌, ◌*◌, List, [], ◌∷◌, length, get_or, refl, sym, subst, arith, ap, ◌∙◌}
 use Rattle.std.specs.Prelude.{All}
 use Rattle.std.specs.Char.{digit_value}

@@ -62,7 +62,7 @@ behind : (text more : List ℕ) (r : Option Group) → text ≡ 58 ∷ more → 
 behind text more None is h = λ n rest g. h n rest (subst (λ t. BeginsWithGroup t n rest) (sym (ap (drop 1) (sym is ∙ g.1))) g.2)
 behind text more (Some g) is h = (more, is, h)
 
--- behind a colon
+-- the group after a colon
 pub behind_colon : (text : List ℕ) (r : Option Group) → (length text ≡ 0 → ⊥) → get_or text 0 0 ≡ 58 → TakesGroup BeginsWithGroup (take (length text - 1) (drop 1 text)) r → TakesGroup GoesOnWith text r
 behind_colon [] r some first h = absurd (some refl)
 behind_colon (c ∷ cs) r some first h =
@@ -82,7 +82,7 @@ goes_on : (text : List ℕ) (s : ℕ) (segments : List ℕ) → IsGroupsAfter fa
 goes_on text s segments (inl h) = (h.1, (h.0 ++ h.1, h.2, record { group = h.0; written = refl; value = h.3; end = ends segments h.1 h.4 }), h.4)
 goes_on text s segments (inr h) = absurd (true≢false (sym h.2))
 
--- so many groups more, each behind a colon
+-- the rest is this number of groups, each after a colon
 abbrev pub More : List ℕ → ℕ → Type 0
 More rest count = (segments : List ℕ) × (length segments ≡ count) × IsGroupsAfter false (58 ∷ []) rest segments
 

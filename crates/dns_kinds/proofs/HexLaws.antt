@@ -9,7 +9,7 @@ use Rattle.dns_kinds.specs.Hex.{IsPair, IsHex, pair_digit, pair_text, pairs_text
 upper : (n : ℕ) → n < 16 → digit_value (pair_digit 65 n) ≡ n
 upper n small = Prim.grind (arith, nat_tests)
 
--- a pair stands as it stood behind one more character
+-- a pair is the same pair after one more character before it
 pub pair_behind : (c : ℕ) (text : List ℕ) (at o : ℕ) → IsPair text at o → IsPair (c ∷ text) (suc at) o
 pair_behind c text at o h =
     let e : suc at + 1 ≡ suc (at + 1) = omega arith in

@@ -1,4 +1,4 @@
--- Locators are read as they are printed, and in one way.
+-- Locators parse as they print, and to one value.
 use Rattle.std.proofs.Common.{ℕ, zero, suc, ◌≡◌, ◌<◌, ◌+◌, ◌*◌, ◌/◌, ◌%◌, false, List, [], ◌∷◌, length, refl, sym, arith, ap, ◌∙◌, inl, inr, append-nil, true≢false}
 use Rattle.std.proofs.lemmas.List.Elements.{All-head, All-tail}
 use Rattle.std.specs.Prelude.{All}
@@ -18,7 +18,7 @@ group_written a b high low =
     let fourth = lower (b % 16) (omega arith) in
     (((omega arith, (omega (arith, first, high), (omega (arith, second), (omega (arith, third, low), (omega (arith, fourth), tt))))), omega (arith, first, second, third, fourth)), omega arith)
 
--- the first octets, and so many groups after a colon each
+-- the groups of the first two octets and of those after them, with colons between them
 groups_written : (n a b : ℕ) (os : List ℕ) → length os ≡ 2 * n → All (λ o. o < 256) (a ∷ b ∷ os) → IsGroupsAfter false [] (locator_text (a ∷ b ∷ os)) (segments_of (a ∷ b ∷ os))
 groups_written n a b [] long small =
     let rest = All-tail (λ o. o < 256) a (b ∷ []) small in

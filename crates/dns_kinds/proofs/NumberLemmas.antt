@@ -1,4 +1,4 @@
--- What is left to read of a number.
+-- The digits of a number that are unread.
 use Rattle.std.proofs.Common.{ℕ, zero, suc, lit<, ◌-◌, ◌≡◌, ◌<◌, ◌≤◌, ◌+◌, ◌*◌, ◌^◌, List, [], ◌∷◌, length, refl, sym, subst, ap, arith, get_or, take, drop}
 use Rattle.std.proofs.lemmas.List.{drop_more, drop_all, take_all}
 use Rattle.std.proofs.Math.Nat.{pow-le-pow_right}

@@ -1,4 +1,4 @@
--- What is left to read of periods.
+-- The periods that are unread.
 use Rattle.std.proofs.Common.{ℕ, lit<, ◌≡◌, ◌<◌, ◌≤◌, ◌+◌, ◌*◌, ◌^◌, List, ◌∷◌, length, refl, sym, subst, arith, inl, inr, Option, Some, None, get_or, drop, ap, ◌∙◌}
 use Rattle.std.specs.Prelude.{IfSome, unwrap_or}
 use Rattle.std.specs.Char.{digit_value}
@@ -6,8 +6,7 @@ use Rattle.std.proofs.lemmas.List.{drop_more, drop_all}
 use Rattle.dns_kinds.specs.Ttl.{unit_seconds, IsPeriods, ReadsPeriods}
 use Rattle.dns_kinds.proofs.Periods.{After, after_periods, periods_of, after_ge}
 
--- a text is so many seconds so far, in which this number has begun, and these are its other
--- characters
+-- the periods read so far are `total` seconds, the number `count` has begun, and `rest` is unread
 pub record Totals (text : List ℕ) (total : ℕ) (count : Option ℕ) (rest : List ℕ) : Type 0 where
   pub small : total < 2 ^ 32
   pub fits : IfSome count (λ k. k < 2 ^ 32)
@@ -70,7 +69,7 @@ module _ (text : List ℕ) (total i : ℕ) where
     now : (count : Option ℕ) → Totals text total count (drop i text) → Totals text total count (get_or text i 0 ∷ drop (i + 1) text)
     now count h = subst (Totals text total count) (drop_more text i 0 here) h
 
-    -- where nothing of few enough seconds goes on, the text is no such periods
+    -- if no continuation has few enough seconds, the text is not such periods
     refused : (count : Option ℕ) (r : Option ℕ) → ((m : ℕ) → After count (get_or text i 0 ∷ drop (i + 1) text) m → total + m < 2 ^ 32 → ⊥) → Totals text total count (drop i text) → r ≡ None → ReadsPeriods text r
     refused count r none h e =
         subst (ReadsPeriods text) (sym e) (λ n small is. let w = (now count h).on n (after_periods text n is) in none w.0 w.2 (omega (arith, w.1, small)))

@@ -1,4 +1,4 @@
--- Periods, read from the front with a number that has begun.
+-- Periods, parsed from their beginning, after a number that has begun.
 use Rattle.std.proofs.Common.{ℕ, ◌≡◌, ◌<◌, ◌≤◌, ◌+◌, ◌*◌, List, [], ◌∷◌, ◌++◌, refl, sym, subst, arith, ◌∙◌, ap, ◌⊎◌, inl, inr, Option, Some, None, append_assoc, mul-le-mul_left}
 use Rattle.std.specs.Prelude.{sum_by, All}
 use Rattle.std.specs.List.{flat_map}
@@ -80,7 +80,7 @@ pub after_periods : (text : List ℕ) (n : ℕ) → IsPeriods text n → After N
 after_periods text n h =
     subst (λ t. After None t n) (sym h.written) (subst (λ v. After None (flat_map period_text h.periods) v) (sym h.value) (all_after h.periods h.each))
 
--- they are read in one way
+-- they parse to one number of seconds
 pub after_once : (count : Option ℕ) (text : List ℕ) (n m : ℕ) → After count text n → After count text m → n ≡ m
 after_once None [] n m h k = h ∙ sym k
 after_once (Some v) [] n m h k = absurd h
@@ -110,7 +110,7 @@ numeral_not k [] n h is = is
 numeral_not k (d ∷ ds) n h (inl is) = let none = no_unit d h.0 in cc (is.2, none)
 numeral_not k (d ∷ ds) n h (inr is) = numeral_not (k * 10 + digit_value d) ds n h.1 is.2
 
--- a number alone is no periods
+-- a number alone is not periods
 pub numeral_no_periods : (text : List ℕ) (n : ℕ) → IsNumeral 10 text → IsPeriods text n → ⊥
 numeral_no_periods text n is h = by text is (after_periods text n h)
   where

@@ -1,4 +1,4 @@
--- What is printed is read back; numbers.
+-- What is printed parses to the same value; numbers.
 use Rattle.std.proofs.Common.{ℕ, ◌≡◌, List, ap, arith, ◌∙◌, inl, inr, Result, Ok, Err, decimal}
 use Rattle.std.proofs.lemmas.Fmt.{decimal_is_IsNumeral}
 use Rattle.dns_kinds.specs.Kind.{ReadsKind, IsKind}

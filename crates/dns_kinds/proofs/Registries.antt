@@ -1,4 +1,4 @@
--- Rows found in a table, and that codes are read as they are written.
+-- Rows that are found in a table, and codes that parse as they print.
 use Rattle.std.proofs.Common.{ℕ, ◌≡◌, ◌<◌, ◌+◌, ◌^◌, Bool, true, false, List, [], ◌∷◌, ◌++◌, length, take, drop, get_or, decimal, refl, sym, subst, arith, ap, ◌∙◌, Option, Some, None}
 use Rattle.std.specs.Prelude.{◌≤◌, ◌==◌, ◌&&◌, not, nat_le, find, unwrap_or, MatchOption, cond}
 use Rattle.std.specs.Char.{to_ascii_lowercase, is_ascii_digit}
@@ -49,7 +49,7 @@ is_own table row = option_map_or (λ code. code == row.code) (row_code table row
 abbrev test : List Row → List ℕ → ℕ → Row → Bool
 test table prefix most row = is_own table row && (nat_le row.code most && not (is_like_numbered prefix row.name))
 
--- each row's name is read as its code, which is at most so much, and no name looks like the prefix
+-- each row's name parses to its code, which is at most `most`, and no name looks like the prefix
 -- and a number
 abbrev pub is_registry : List Row → List ℕ → ℕ → Bool
 is_registry table prefix most = list_all (test table prefix most) table
@@ -73,7 +73,7 @@ module _ (table : List Row) (prefix : List ℕ) (most : ℕ) where
       let rest = and_parts (nat_le row.code most) (not (is_like_numbered prefix row.name)) own.1 in
       (own.0, rest.0, rest.1, all.1)
 
-  -- a row's name is read as its code
+  -- a row's name parses to its code
   named : (rs : List Row) → list_all (test table prefix most) rs ≡ true → (code : ℕ) (name : List ℕ) → row_name rs code ≡ Some name → row_code table name ≡ Some code
   named [] h code name e = cc
   named (row ∷ rs) h code name e = by (row.code == code) refl e (named rs (parts row rs h).3 code name)
@@ -87,7 +87,7 @@ module _ (table : List Row) (prefix : List ℕ) (most : ℕ) where
           ap (row_code table) (sym text) ∙ read ∙ ap Some same
       by false is e more = more e
 
-  -- the code of a row is at most so much
+  -- the code of a row is at most `most`
   small : (rs : List Row) → list_all (test table prefix most) rs ≡ true → (text : List ℕ) (code : ℕ) → row_code rs text ≡ Some code → code ≤ most
   small [] h text code e = cc
   small (row ∷ rs) h text code e = by (bytes_eq (lowered row.name) (lowered text)) e (small rs (parts row rs h).3 text code)
@@ -101,7 +101,7 @@ module _ (table : List Row) (prefix : List ℕ) (most : ℕ) where
           omega (arith, same, least)
       by false e more = more e
 
-  -- a text of the prefix and a number is no row's name
+  -- a text of the prefix and a number is not a row's name
   pub unnamed : (rs : List Row) → list_all (test table prefix most) rs ≡ true → (text : List ℕ) → lowered (take (length prefix) text) ≡ lowered prefix → is_ascii_digit (get_or text (length prefix) 0) ≡ true → row_code rs text ≡ None
   unnamed [] h text e d = refl
   unnamed (row ∷ rs) h text e d = by (bytes_eq (lowered row.name) (lowered text)) refl (unnamed rs (parts row rs h).3 text e d)
@@ -153,7 +153,7 @@ module _ (table : List Row) (prefix : List ℕ) (most : ℕ) where
         by None e = numbered code few
         by (Some name) e = subst (λ (o : Option ℕ). MatchOption o (IsNumbered prefix most name code) (λ c. code ≡ c)) (sym (named table h code name e)) refl
 
-    -- what is spelled is at most so much
+    -- the code that a text spells is at most `most`
     pub within : (text : List ℕ) (code : ℕ) → SpellsCode table prefix most text code → code ≤ most
     within text code k = by (row_code table text) refl k
       where

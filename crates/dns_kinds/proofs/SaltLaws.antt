@@ -1,4 +1,4 @@
--- Salts are read as they are written.
+-- Salts parse as they print.
 use Rattle.std.proofs.Common.{ℕ, ◌≡◌, ◌<◌, ◌≤◌, List, [], ◌∷◌, length, refl, sym, arith, ap, ◌∙◌, inl, inr}
 use Rattle.std.specs.Prelude.{All}
 use Rattle.dns_kinds.specs.Salt.{SpellsSalt, salt_text, SaltsAreKind}

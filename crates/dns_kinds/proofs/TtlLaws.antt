@@ -20,7 +20,7 @@ seconds_once text n m (e, inl h) (f, inr k) = absurd (numeral_no_periods text m 
 seconds_once text n m (e, inr h) (f, inl k) = absurd (numeral_no_periods text n k.0 h)
 seconds_once text n m (e, inr h) (f, inr k) = after_once None text n m (after_periods text n h) (after_periods text m k)
 
--- more seconds than so many are not few enough
+-- 2^31 seconds or more are not a TTL
 pub too_many : (text : List ℕ) (n m : ℕ) → IsSeconds text n → 2 ^ 31 ≤ n → SpellsTtl text m → ⊥
 too_many text n m h many k = let same = seconds_once text n m h k.0 in omega (arith, same, many, k.1)
 

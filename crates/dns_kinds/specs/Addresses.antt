@@ -1,4 +1,4 @@
--- Addresses: IPv6 as name servers print it.
+-- IPv6 addresses, as name servers print them.
 use Rattle.std.specs.Prelude.{ℕ, ◌&&◌, Bool, List, ◌++◌, take, drop, replicate, slice_index, nat_lt, codes, if◌then◌else◌}
 use Rattle.std.specs.Str.{bytes_eq}
 use Rattle.std.specs.Net.Addr.{ipv4_octets, ipv6_segments, octets_of, IsIpv4Addr, IsIpv6Addr}
@@ -10,7 +10,7 @@ use Rattle.dns_kinds.specs.Kind.{IsKind}
 abbrev pub has_ipv4_end : List ℕ → Bool
 has_ipv4_end segments = bytes_eq (take 6 segments) (replicate 6 0) && nat_lt 0 (slice_index segments 6)
 
--- then the last two are printed as an IPv4 address
+-- then the last two print as an IPv4 address
 abbrev pub shown_ipv6 : List ℕ → List ℕ
 shown_ipv6 segments = if has_ipv4_end segments then codes "::" ++ ipv4_text (octets_of (drop 6 segments)) else ipv6_text segments
 

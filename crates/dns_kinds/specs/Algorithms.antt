@@ -1,4 +1,4 @@
--- Algorithms of keys and signatures, and types of certificates, as IANA's registries have them.
+-- Algorithms of keys and signatures, and certificate types, as IANA's registries have them.
 use Rattle.std.specs.Prelude.{ℕ, ◌<◌, ◌^◌, List, [], ◌∷◌, codes, decimal}
 use Rattle.dns_kinds.specs.Kind.{IsKind}
 use Rattle.dns_kinds.specs.Registry.{Row, code_row, SpellsCode, code_text}
@@ -45,11 +45,11 @@ certificate_rows =
     code_row 254 (codes "OID") ∷
     []
 
--- an algorithm's name in any case of its letters, or its number
+-- an algorithm's name in any case, or its number
 abbrev pub SpellsAlgorithm : List ℕ → Algorithm → Type 0
 SpellsAlgorithm text a = SpellsCode algorithm_rows [] 255 text a.0
 
--- it is printed as its number
+-- it prints as its number
 abbrev pub AlgorithmsAreKind : Type 0
 AlgorithmsAreKind = IsKind (λ a. a.0 < 2 ^ 8) SpellsAlgorithm (λ a. decimal a.0)
 

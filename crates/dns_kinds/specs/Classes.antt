@@ -18,7 +18,7 @@ class_rows =
     code_row 4 (codes "HS") ∷
     []
 
--- a class's name in any case of its letters, or `CLASS` and its code
+-- a class's name in any case, or `CLASS` and its code
 abbrev pub SpellsClass : List ℕ → Class → Type 0
 SpellsClass text c = SpellsCode class_rows class_prefix 65535 text c
 

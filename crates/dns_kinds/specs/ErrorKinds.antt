@@ -1,11 +1,11 @@
--- The texts of the errors.
+-- The messages of the errors.
 use Rattle.std.specs.Prelude.{ℕ, List, codes, ◌==◌, if◌then◌else◌}
 use Rattle.dns_split.specs.declared.pieces.Wrong.{Wrong}
 use Rattle.dns_split.specs.declared.pieces.Wrong.TheVariants.{Closing, OpenParenthesis, OpenQuote, LoneReturn, BadEscape as WrongEscape}
 use Rattle.dns_kinds.specs.declared.error.ErrorKind.{ErrorKind}
 use Rattle.dns_kinds.specs.declared.error.ErrorKind.TheVariants.{ShortBuf, Syntax, EndOfEntry, TrailingToken, Quoted, QuotedName, NotQuoted, ExpectedNumber, NumberOverflow, ExpectedIpv4, ExpectedIpv6, ExpectedTtl, ExpectedInterval, ExpectedTime, UnknownType, UnknownClass, UnknownAlgorithm, UnknownCertificate, ExpectedEui48, ExpectedEui64, ExpectedLocator, ExpectedSalt, ExpectedPsdnAddress, BadEscape, LongString, BadTag, EmptyLabel, LongLabel, LongName, NoOrigin, ExpectedHex, UnevenHex, IllegalBase64, TrailingBase64, IncompleteBase64, IllegalBase32, ShortBase32, LongHash, ExpectedLatitude, ExpectedLongitude, ExpectedAltitude, ExpectedSize, ExpectedEnd, ExpectedPrefix, ExpectedGateway, UnknownGateway, QuotedParam, GluedParam, UnknownKey, UnexpectedValue, RepeatedKey, LongValue, RepeatedParam, ListString, ListEscape, ShortParams, ParamOrder, ParamValue, MissingParam, TypeZero, NotOfType, NoDataType, NoTextForm, WrongLength, TrailingArgument, NotSupported, UnknownDirective, NoOwner, RefusedOwner, NoTtl}
 
--- what is wrong with a text that is not of the grammar
+-- the message of a syntax error
 abbrev pub syntax_text : Wrong → List ℕ
 syntax_text Closing = codes "closing parenthesis, and none is open"
 syntax_text OpenParenthesis = codes "parenthesis is not closed"
@@ -13,7 +13,7 @@ syntax_text (OpenQuote start) = codes "quoted text is not closed"
 syntax_text LoneReturn = codes "CR without LF"
 syntax_text WrongEscape = codes "bad escape"
 
--- a key that the value of `mandatory` lists, and that is missing
+-- the message for a key that the value of `mandatory` lists and that is missing
 abbrev pub missing_key_text : ℕ → List ℕ
 missing_key_text key =
     if key == 1 then codes "mandatory names alpn, which is missing" else (if key == 2 then codes "mandatory names no-default-alpn, which is missing" else (

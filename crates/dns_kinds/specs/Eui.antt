@@ -1,11 +1,11 @@
--- Identifiers of 48 and 64 bits (RFC 7043).
+-- EUI-48 and EUI-64 addresses (RFC 7043).
 use Rattle.std.specs.Prelude.{ℕ, ◌≡◌, ◌<◌, ◌+◌, ◌-◌, ◌*◌, List, [], ◌∷◌, ◌++◌, length, All, slice_index}
 use Rattle.dns_kinds.specs.Hex.{IsPair, pair_text}
 use Rattle.dns_kinds.specs.Kind.{IsKind}
 use Rattle.dns_kinds.specs.declared.eui.Eui48.{Eui48}
 use Rattle.dns_kinds.specs.declared.eui.Eui64.{Eui64}
 
--- a dash before each pair but the first
+-- a dash before each pair except the first
 abbrev pub AreDashes : List ℕ → ℕ → Type 0
 AreDashes text pairs = (k : ℕ) → 0 < k → k < pairs → slice_index text (3 * k - 1) ≡ 45
 
@@ -15,7 +15,7 @@ pub record IsDashed (text octets : List ℕ) : Type 0 where
   pub pairs : (k : ℕ) → k < length octets → IsPair text (3 * k) (slice_index octets k)
   pub dashes : AreDashes text (length octets)
 
--- so many pairs of digits in small letters, and dashes between them
+-- a pair of digits in lower case for each octet, and dashes between them
 abbrev pub dashed_text : List ℕ → List ℕ
 dashed_text [] = []
 dashed_text (o ∷ []) = pair_text 97 o
@@ -27,7 +27,7 @@ SpellsEui48 text e = (length e.0 ≡ 6) × IsDashed text e.0
 abbrev pub SpellsEui64 : List ℕ → Eui64 → Type 0
 SpellsEui64 text e = (length e.0 ≡ 8) × IsDashed text e.0
 
--- so many octets
+-- the octets are `count` octets
 abbrev pub AreEuiOctets : ℕ → List ℕ → Type 0
 AreEuiOctets count octets = (length octets ≡ count) × All (λ o. o < 256) octets
 

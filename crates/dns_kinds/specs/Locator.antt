@@ -15,26 +15,26 @@ pub record SpellsLocator (text : List ℕ) (l : Locator) : Type 0 where
   pub written : IsGroups false text groups
   pub octets : l.0 ≡ octets_of groups
 
--- a text begins with a group, and goes on otherwise than with a digit
+-- a text begins with a group, and no hexadecimal digit follows
 pub record BeginsWithGroup (text : List ℕ) (number : ℕ) (rest : List ℕ) : Type 0 where
   pub group : List ℕ
   pub written : text ≡ group ++ rest
   pub value : IsGroup group number
   pub end : 16 ≤ digit_value (slice_index rest 0)
 
--- the same behind a colon
+-- a text begins with a colon and then a group, and no hexadecimal digit follows
 abbrev pub GoesOnWith : List ℕ → ℕ → List ℕ → Type 0
 GoesOnWith text number rest = (more : List ℕ) × (text ≡ 58 ∷ more) × BeginsWithGroup more number rest
 
--- the result is a group and what follows it, or there is none
+-- the result is a group and the text after it, or the text does not begin with one
 abbrev pub TakesGroup : (List ℕ → ℕ → List ℕ → Type 0) → List ℕ → Option Group → Type 0
 TakesGroup Has text r = MatchOption r ((number : ℕ) (rest : List ℕ) → Has text number rest → ⊥) (λ g. Has text g.number g.rest.now)
 
--- the four groups of a text, if it has so many
+-- the four groups of a text, if it is exactly four groups
 abbrev pub FindsGroups : List ℕ → Option (List ℕ) → Type 0
 FindsGroups text r = MatchOption r ((groups : List ℕ) → length groups ≡ 4 → IsGroups false text groups → ⊥) (λ groups. (length groups ≡ 4) × IsGroups false text groups)
 
--- two octets as four hexadecimal digits in small letters
+-- two octets as four hexadecimal digits in lower case
 abbrev pub group_text : ℕ → ℕ → List ℕ
 group_text high low = pair_text 97 high ++ pair_text 97 low
 

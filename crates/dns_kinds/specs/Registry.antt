@@ -18,7 +18,7 @@ code_row c n = record { code = c; name = n }
 abbrev pub code_rows : List Named → List Row
 code_rows = map (λ (n : Named). code_row n.0 n.1.now)
 
--- the code of the row with this name, in any case of its letters
+-- the code of the row with this name, in any case
 abbrev pub row_code : List Row → List ℕ → Option ℕ
 row_code table text = option_map (λ (r : Row). r.code) (find (λ (r : Row). bytes_eq (lowered r.name) (lowered text)) table)
 
@@ -26,17 +26,17 @@ row_code table text = option_map (λ (r : Row). r.code) (find (λ (r : Row). byt
 abbrev pub row_name : List Row → ℕ → Option (List ℕ)
 row_name table code = option_map (λ (r : Row). r.name) (find (λ (r : Row). r.code == code) table)
 
--- a prefix in any case of its letters, and a number that is at most so much
+-- a prefix in any case, and a number that is at most `most`
 abbrev pub IsNumbered : List ℕ → ℕ → List ℕ → ℕ → Type 0
 IsNumbered prefix most text code =
     (lowered (take (length prefix) text) ≡ lowered prefix) × SpellsNumber (drop (length prefix) text) code × (code ≤ most)
 
--- a text names a code: that of the row with this name, or without such a row by the prefix and
--- the code
+-- a text names a code: that of the row with this name, or without such a row by the prefix and the
+-- code
 abbrev pub SpellsCode : List Row → List ℕ → ℕ → List ℕ → ℕ → Type 0
 SpellsCode table prefix most text code = MatchOption (row_code table text) (IsNumbered prefix most text code) (λ c. code ≡ c)
 
--- the same, of a search
+-- the code that a search finds, or there is none
 abbrev pub FindsNumbered : List ℕ → ℕ → List ℕ → Option ℕ → Type 0
 FindsNumbered prefix most text r = MatchOption r ((code : ℕ) → IsNumbered prefix most text code → ⊥) (IsNumbered prefix most text)
 

@@ -14,7 +14,7 @@ use Rattle.dns_kinds.specs.Ttl.{unit_seconds, Period, period_text, period_second
 use Rattle.dns_kinds.specs.Rtype as Rtype
 use Rattle.dns_kinds.specs.Types.{type_rows, type_prefix, portable_text, sig_type_text}
 
--- ---- times to live
+-- ---- TTLs
 
 -- w, D, h, M, s and y
 units : map unit_seconds (119 ∷ 68 ∷ 104 ∷ 77 ∷ 115 ∷ 121 ∷ []) ≡ Some 604800 ∷ Some 86400 ∷ Some 3600 ∷ Some 60 ∷ Some 1 ∷ None ∷ []

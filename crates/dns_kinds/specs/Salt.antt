@@ -3,7 +3,7 @@ use Rattle.std.specs.Prelude.{ℕ, ◌≡◌, ◌<◌, ◌≤◌, ◌⊎◌, Lis
 use Rattle.dns_kinds.specs.Hex.{IsHex, pairs_text}
 use Rattle.dns_kinds.specs.Kind.{IsKind}
 
--- a dash for none, or at least one octet and at most 255
+-- a dash for an empty salt, or 1 to 255 octets in hexadecimal digits
 abbrev pub SpellsSalt : List ℕ → List ℕ → Type 0
 SpellsSalt text octets = ((text ≡ codes "-") × (octets ≡ [])) ⊎ (IsHex text octets × (0 < length octets) × (length octets ≤ 255))
 

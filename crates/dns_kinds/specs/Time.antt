@@ -1,4 +1,4 @@
--- Times of signatures, in the calendar and in seconds since 1970 began (RFC 4034 section 3.2).
+-- Times of signatures, as dates and as seconds since 1970 began (RFC 4034 section 3.2).
 use Rattle.std.specs.Prelude.{ℕ, zero, suc, ◌≡◌, ◌<◌, ◌≤◌, ◌*◌, ◌+◌, ◌-◌, ◌/◌, ◌%◌, ◌^◌, ◌⊎◌, ◌==◌, ◌||◌, ◌&&◌, not, Bool, List, [], ◌∷◌, ◌++◌, length, sum, take, Option, MatchOption, slice_index, slice_range, nat_lt, find, unwrap_or, if◌then◌else◌}
 use Rattle.std.specs.List.{range_with_len}
 use Rattle.std.specs.Str.Parse.{AllDigits, digits_value}
@@ -20,7 +20,7 @@ months year = 31 ∷ (if is_leap year then 29 else 28) ∷ 31 ∷ 30 ∷ 31 ∷ 
 abbrev pub month_days : ℕ → ℕ → ℕ
 month_days year month = slice_index (months year) (month - 1)
 
--- the days of so many years from 1970
+-- the number of days of the first years from 1970 on
 abbrev pub days_of_years : ℕ → ℕ
 days_of_years zero = 0
 days_of_years (suc n) = days_of_years n + year_days (1970 + n)
@@ -31,7 +31,7 @@ days_before_year year = days_of_years (year - 1970)
 abbrev pub days_before_month : ℕ → ℕ → ℕ
 days_before_month year month = sum (take (month - 1) (months year))
 
--- a day of the calendar from 1970 on, and a time of that day
+-- a date from 1970 on, and a time of that day
 pub record IsDate (d : Date) : Type 0 where
   pub from_1970 : 1970 ≤ d.year
   pub four_digits : d.year < 10000
@@ -84,7 +84,7 @@ abbrev pub IsTime : List ℕ → ℕ → Type 0
 IsTime text seconds =
     (IsDateText text × (seconds ≡ seconds_at (date_of text) % 2 ^ 32)) ⊎ ((length text ≤ 10) × SpellsNumber text seconds × (seconds < 2 ^ 32))
 
--- the first of so many numbers, from one on, before whose end a day lies, by the days before each
+-- the first number from `from` on before whose end a day lies, of `count` numbers; `days_before` counts the days before each
 unfoldable pub holding : (ℕ → ℕ) → ℕ → ℕ → ℕ → ℕ
 holding days_before from count day = unwrap_or (find (λ k. nat_lt day (days_before (k + 1))) (range_with_len from count)) from
 
@@ -96,7 +96,7 @@ year_at day = holding days_before_year 1970 137 day
 unfoldable pub month_at : ℕ → ℕ → ℕ
 month_at year day = holding (days_before_month year) 1 12 day
 
--- the date of so many seconds since 1970 began, below 2^32
+-- the date of a second, counted from the beginning of 1970, below 2^32
 unfoldable pub date_at : ℕ → Date
 date_at n =
     let day = n / 86400 in

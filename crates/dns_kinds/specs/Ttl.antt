@@ -1,4 +1,4 @@
--- Times to live: a number of seconds, or periods with units.
+-- TTLs: a number of seconds, or periods with units.
 use Rattle.std.specs.Prelude.{ℕ, ◌≡◌, ◌<◌, ◌*◌, ◌⊎◌, ◌==◌, ◌||◌, ◌^◌, List, [], ◌∷◌, ◌++◌, length, sum_by, All, Option, Some, None, MatchOption, if◌then◌else◌}
 use Rattle.std.specs.List.{flat_map}
 use Rattle.std.specs.Fmt.{decimal}
@@ -37,18 +37,18 @@ pub record IsPeriods (text : List ℕ) (seconds : ℕ) : Type 0 where
   pub written : text ≡ flat_map period_text periods
   pub value : seconds ≡ sum_by period_seconds periods
 
--- a text that writes so many seconds: as a number, or as periods
+-- a text that writes this number of seconds: as a number, or as periods
 abbrev pub IsSeconds : List ℕ → ℕ → Type 0
 IsSeconds text seconds = (0 < length text) × (SpellsNumber text seconds ⊎ IsPeriods text seconds)
 
--- a time to live is below 2^31, an interval below 2^32
+-- a TTL is below 2^31, an interval below 2^32
 abbrev pub SpellsTtl : List ℕ → ℕ → Type 0
 SpellsTtl text seconds = IsSeconds text seconds × (seconds < 2 ^ 31)
 
 abbrev pub SpellsInterval : List ℕ → ℕ → Type 0
 SpellsInterval text seconds = IsSeconds text seconds × (seconds < 2 ^ 32)
 
--- a number of 32 bits that the text writes, or there is none
+-- a number below 2^32 that the text writes, or there is none
 abbrev pub ReadsBelow : (List ℕ → ℕ → Type 0) → List ℕ → Option ℕ → Type 0
 ReadsBelow writes text r = MatchOption r ((n : ℕ) → n < 2 ^ 32 → writes text n → ⊥) (λ n. (n < 2 ^ 32) × writes text n)
 
@@ -58,7 +58,7 @@ ReadsPeriods = ReadsBelow IsPeriods
 abbrev pub ReadsSeconds : List ℕ → Option ℕ → Type 0
 ReadsSeconds = ReadsBelow IsSeconds
 
--- both are printed in decimal
+-- both print in decimal
 abbrev pub TtlsAreKind : Type 0
 TtlsAreKind = IsKind (λ n. n < 2 ^ 31) SpellsTtl decimal
 

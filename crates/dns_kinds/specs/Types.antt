@@ -1,4 +1,4 @@
--- The types of records, as IANA's registry has them.
+-- Record types, as IANA's registry has them.
 use Rattle.std.specs.Prelude.{ℕ, ◌<◌, ◌≤◌, ◌^◌, ◌⊎◌, ◌==◌, Bool, if◌then◌else◌, List, [], ◌∷◌, ◌++◌, codes, decimal}
 use Rattle.std.specs.List.{list_any}
 use Rattle.dns_kinds.specs.Kind.{IsKind}
@@ -112,7 +112,7 @@ type_rows =
     code_row 32769 (codes "DLV") ∷
     []
 
--- a type's name in any case of its letters, or `TYPE` and its code
+-- a type's name in any case, or `TYPE` and its code
 abbrev pub SpellsType : List ℕ → RecordType → Type 0
 SpellsType text t = SpellsCode type_rows type_prefix 65535 text t
 
@@ -149,7 +149,7 @@ PortableTypesAreKind = IsKind (λ t. t.0 < 2 ^ 16) SpellsPortable (λ t. portabl
 abbrev pub SpellsSigType : List ℕ → SigType → Type 0
 SpellsSigType text t = SpellsType text t.0 ⊎ (SpellsNumber text t.0 × (t.0 ≤ 65535))
 
--- type 0 is a digit; it is covered where a SIG is one of a message (RFC 2931 section 3)
+-- type 0 is a digit; it is covered if a SIG is one of a message (RFC 2931 section 3)
 abbrev pub sig_type_text : RecordType → List ℕ
 sig_type_text t = if t == 0 then codes "0" else portable_text t
 

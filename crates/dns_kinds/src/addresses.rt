@@ -1,4 +1,4 @@
-//! Addresses of IPv4 and IPv6 (RFC 1035 section 3.4.1, RFC 3596).
+//! IPv4 and IPv6 addresses (RFC 1035 section 3.4.1, RFC 3596).
 ghost use Rattle.std.specs.Prelude.{◌≡◌, ◌∷◌, [], Some};
 ghost use Rattle.std.specs.Net.Addr.{ipv4_octets, ipv6_segments, octets_of};
 ghost use Rattle.std.specs.Net.Grammar.{IsIpv4Text, IsIpv6Text};
@@ -10,7 +10,8 @@ use crate::error::ErrorKind;
 use std::fmt;
 use std::net::{Ipv4Addr, Ipv6Addr};
 
-/// The address that a text writes: four decimal numbers without leading zeros, and dots.
+/// Parses an IPv4 address: four decimal numbers without leading zeros, with dots between them.
+/// Fails with `ExpectedIpv4` for any other text.
 pub fn ipv4_from_text(text: &[u8]) -> Result<Ipv4Addr, ErrorKind>
     ensures { ReadsKind IsIpv4Text ExpectedIpv4 text.now result }
 {
@@ -20,7 +21,7 @@ pub fn ipv4_from_text(text: &[u8]) -> Result<Ipv4Addr, ErrorKind>
     }
 }
 
-/// The address that a text writes (RFC 4291 section 2.2).
+/// Parses an IPv6 address (RFC 4291 section 2.2). Fails with `ExpectedIpv6` for any other text.
 pub fn ipv6_from_text(text: &[u8]) -> Result<Ipv6Addr, ErrorKind>
     ensures { ReadsKind IsIpv6Text ExpectedIpv6 text.now result }
 {
@@ -30,7 +31,7 @@ pub fn ipv6_from_text(text: &[u8]) -> Result<Ipv6Addr, ErrorKind>
     }
 }
 
-/// Whether the first six segments are zero, and the next is not.
+/// Returns whether the first six segments are zero and the next is not.
 fn has_ipv4_end(segments: &[u16; 8]) -> bool
     ensures { result ≡ has_ipv4_end segments.now }
 {
@@ -47,8 +48,8 @@ fn ipv4_of(high: u16, low: u16) -> Ipv4Addr
     Ipv4Addr::from_octets([a, b, c, d])
 }
 
-/// An IPv6 address that prints as name servers print it: as RFC 5952 has it, but with an IPv4
-/// address at the end where all other bits are zero and the first 16 of its own are not, as in
+/// An IPv6 address that prints as name servers print it: as in RFC 5952, but the last 32 bits print
+/// as an IPv4 address if all other bits are zero and the first 16 of these 32 are not, as in
 /// `::192.0.2.1`.
 #[derive(Clone, Copy)]
 pub struct Ipv6Shown(pub Ipv6Addr);
@@ -66,7 +67,7 @@ impl fmt::Display for Ipv6Shown {
     }
 }
 
-/// States that addresses are read as they are printed, and does nothing else.
+/// States that an address that is printed and parsed is the same address. Does nothing.
 pub fn addresses_are_read_back()
     ensures ipv4 { Ipv4IsKind }
     ensures ipv6 { Ipv6IsKind }

@@ -1,4 +1,4 @@
-//! Algorithms of keys and signatures (RFC 4034 appendix A.1), and types of certificates (RFC 4398).
+//! Algorithms of keys and signatures (RFC 4034 appendix A.1), and certificate types (RFC 4398).
 ghost use Rattle.std.specs.Prelude.{◌≡◌, Some, decimal, option_copied};
 ghost use Rattle.dns_kinds.specs.Kind.{ReadsKind};
 ghost use Rattle.dns_kinds.specs.Registry.{row_name};
@@ -9,8 +9,8 @@ use crate::error::ErrorKind;
 use crate::registry::{Named, code_from_text, name_of};
 use std::fmt;
 
-/// The algorithms that have a name: IANA's names, and then the three that BIND writes otherwise. 0 is
-/// written as a number alone.
+/// The algorithms that have a name: IANA's names, and then BIND's other names for three of them.
+/// Algorithm 0 has only its number.
 pub static ALGORITHMS: [Named; 21] = [
     Named(1, "RSAMD5"),
     Named(2, "DH"),
@@ -35,7 +35,7 @@ pub static ALGORITHMS: [Named; 21] = [
     Named(12, "ECCGOST"),
 ];
 
-/// The types of certificates that have a name.
+/// The certificate types that have a name.
 pub static CERTIFICATES: [Named; 10] = [
     Named(1, "PKIX"),
     Named(2, "SPKI"),
@@ -54,7 +54,8 @@ pub static CERTIFICATES: [Named; 10] = [
 pub struct Algorithm(pub u8);
 
 impl Algorithm {
-    /// The algorithm that a text names, in any case of its letters, or by its number.
+    /// Parses an algorithm: its name, in any case, or its number. Fails with `UnknownAlgorithm` for
+    /// any other text.
     pub fn from_text(text: &[u8]) -> Result<Algorithm, ErrorKind>
         ensures { ReadsKind SpellsAlgorithm UnknownAlgorithm text.now result }
     {
@@ -80,12 +81,13 @@ impl fmt::Display for Algorithm {
     }
 }
 
-/// A type of certificates, by its number. It prints as its name or, without one, as the number.
+/// A certificate type, by its number. It prints as its name or, without one, as the number.
 #[derive(Clone, Copy)]
 pub struct CertificateType(pub u16);
 
 impl CertificateType {
-    /// The type that a text names, in any case of its letters, or by its number.
+    /// Parses a certificate type: its name, in any case, or its number. Fails with
+    /// `UnknownCertificate` for any other text.
     pub fn from_text(text: &[u8]) -> Result<CertificateType, ErrorKind>
         ensures { ReadsKind SpellsCertificate UnknownCertificate text.now result }
     {
@@ -101,7 +103,7 @@ impl CertificateType {
         }
     }
 
-    /// The name of the type, if it has one.
+    /// Returns the name of the type, if it has one.
     pub fn name(&self) -> Option<&'static str>
         ensures { option_copied result ≡ row_name certificate_rows self.now.0 }
     {
@@ -120,8 +122,8 @@ impl fmt::Display for CertificateType {
     }
 }
 
-/// States that algorithms and types of certificates are read as they are printed, and does nothing
-/// else.
+/// States that an algorithm or a certificate type that is printed and parsed is the same. Does
+/// nothing.
 pub fn algorithms_are_read_back()
     ensures algorithms { AlgorithmsAreKind }
     ensures certificates { CertificatesAreKind }

@@ -13,7 +13,8 @@ use std::marker::Model;
 /// The classes that have a name.
 pub static CLASSES: [Named; 3] = [Named(1, "IN"), Named(3, "CH"), Named(4, "HS")];
 
-/// A class of records, by its code. It prints as its name or, without one, as `CLASS` and the code.
+/// The class of a record, by its code. It prints as its name or, without one, as `CLASS` and the
+/// code.
 #[derive(Clone, Copy, Debug, PartialEq, Eq)]
 pub struct Class(pub u16);
 
@@ -27,9 +28,9 @@ impl Model for Class {
     ghost inverse = { λ code. record { 0 = code } };
 }
 
-/// Returns whether a text has 2 octets, or at least 6, as each text has that names a class.
+/// Returns whether a text has 2 octets, or at least 6. Each text that names a class does.
 ///
-/// A word that names a type and no class is mostly of another length.
+/// Most words that name a type have another length.
 #[inline(always)]
 fn is_class_long(text: &[u8]) -> bool
     ensures { result ≡ false → (c : Class) → SpellsClass text.now c → ⊥ }
@@ -44,7 +45,7 @@ impl Class {
 
     pub const HS: Class = Class(4);
 
-    /// The class that a text names, in any case of its letters: `IN` or `CLASS1`.
+    /// Parses a class, in any case: `IN` or `CLASS1`. Fails with `UnknownClass` for any other text.
     pub fn from_text(text: &[u8]) -> Result<Class, ErrorKind>
         ensures { ReadsKind SpellsClass UnknownClass text.now result }
     {
@@ -57,7 +58,7 @@ impl Class {
         }
     }
 
-    /// The name of the class, if it has one.
+    /// Returns the name of the class, if it has one.
     pub fn name(&self) -> Option<&'static str>
         ensures { option_copied result ≡ row_name class_rows self.now }
     {
@@ -76,7 +77,7 @@ impl fmt::Display for Class {
     }
 }
 
-/// States that a class is read as it is printed, and does nothing else.
+/// States that a class that is printed and parsed is the same class. Does nothing.
 pub fn classes_are_read_back()
     ensures { ClassesAreKind }
 {}

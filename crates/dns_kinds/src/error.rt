@@ -1,4 +1,4 @@
-//! Why zone text is not read as record data.
+//! The reasons why a token, an entry or a zone file is rejected.
 ghost use Rattle.std.specs.Prelude.{◌≡◌, Some};
 ghost use Rattle.dns_kinds.specs.ErrorKinds.{error_kind_text, syntax_text, missing_key_text};
 ghost use Rattle.dns_kinds.specs.declared.error.ErrorKind.TheVariants.{ShortBuf as NoRoom};
@@ -8,156 +8,159 @@ use dns_split::pieces::Wrong;
 use std::error::Error;
 use std::fmt;
 
-/// Why zone text is not read as record data: what is wrong with a token, an entry or the text.
+/// The reason why a token, an entry or a zone file is rejected.
 ///
-/// What has limits says what was found and what is wanted.
+/// A variant with a limit holds what is allowed, and `WrongLength` also what was found.
 #[derive(Clone, Copy, Debug, PartialEq, Eq)]
 pub enum ErrorKind {
-    /// There was no room for the octets, or no memory.
+    /// The buffer is too small, or there is no memory.
     ShortBuf,
-    /// The text is not of the grammar of zone files.
+    /// A syntax error: the text is not of the grammar of zone files.
     Syntax(Wrong),
-    /// No token is left where one is asked for.
+    /// The entry ends where a token is expected.
     EndOfEntry,
-    /// A token is left after the data.
+    /// A token follows the RDATA.
     TrailingToken,
-    /// A text is in quotes where a word is asked for.
+    /// A quoted string is where a word is expected.
     Quoted,
-    /// A text is in quotes where a name is asked for.
+    /// A quoted string is where a name is expected.
     QuotedName,
-    /// Text that has to be in quotes is not.
+    /// A word is where a quoted string is expected.
     NotQuoted,
-    /// The text is not decimal digits, one at least.
+    /// The text is not one or more decimal digits.
     ExpectedNumber,
-    /// The decimal number is above the most that its field takes.
+    /// The decimal number is above the greatest that its field allows.
     NumberOverflow { most: u32 },
-    /// The text is no IPv4 address.
+    /// The text is not an IPv4 address.
     ExpectedIpv4,
-    /// The text is no IPv6 address.
+    /// The text is not an IPv6 address.
     ExpectedIpv6,
-    /// The text is no time to live.
+    /// The text is not a TTL.
     ExpectedTtl,
-    /// The text is no interval.
+    /// The text is not an interval.
     ExpectedInterval,
-    /// The text is no time of a signature.
+    /// The text is not a time of a signature.
     ExpectedTime,
-    /// The text names no type of records.
+    /// The text does not name a record type.
     UnknownType,
-    /// The text names no class.
+    /// The text does not name a class.
     UnknownClass,
-    /// The text names no algorithm.
+    /// The text does not name an algorithm.
     UnknownAlgorithm,
-    /// The text names no type of certificates.
+    /// The text does not name a certificate type.
     UnknownCertificate,
-    /// The text is no EUI-48.
+    /// The text is not an EUI-48.
     ExpectedEui48,
-    /// The text is no EUI-64.
+    /// The text is not an EUI-64.
     ExpectedEui64,
-    /// The text is no locator or identifier of 64 bits.
+    /// The text is not a locator or identifier of 64 bits.
     ExpectedLocator,
-    /// The text is no salt.
+    /// The text is not a salt.
     ExpectedSalt,
-    /// The text is not the digits of an address of X25.
+    /// The text is not the digits of an X25 address.
     ExpectedPsdnAddress,
-    /// A backslash is before no octet, or before digits that are no number of three digits up
-    /// to 255.
+    /// A backslash has no octet after it, or has a digit after it that does not begin a number of
+    /// three digits up to 255.
     BadEscape,
     /// A character string has more than 255 octets.
     LongString,
-    /// A tag is to have 1 to 255 letters or digits.
+    /// A tag is not 1 to 255 letters or digits.
     BadTag,
     /// A label of a name has no octets.
     EmptyLabel,
     /// A label of a name has more than 63 octets.
     LongLabel,
-    /// A name has more than 255 octets on the wire.
+    /// A name has more than 255 octets in wire format.
     LongName,
     /// A name is relative, and there is no origin.
     NoOrigin,
-    /// A character is no hexadecimal digit.
+    /// A character is not a hexadecimal digit.
     ExpectedHex,
     /// The text ends within a pair of hexadecimal digits.
     UnevenHex,
-    /// A character may not stand in its place, or a padded group of base 64 has bits to spare that
+    /// A character is not allowed at its offset, or a padded group of base 64 has unused bits that
     /// are not zero.
     IllegalBase64,
-    /// Something follows a padded group of base 64.
+    /// A character follows a padded group of base 64.
     TrailingBase64,
     /// The text ends within a group of base 64.
     IncompleteBase64,
-    /// A character is no digit of base 32 hex, or the last one has bits to spare that are not zero.
+    /// A character is not a digit of base 32 hex, or the last digit has unused bits that are not
+    /// zero.
     IllegalBase32,
-    /// The digits of base 32 hex are no whole octets, or there are none.
+    /// The digits of base 32 hex do not end at an octet's end, or there are none.
     ShortBase32,
     /// The hash has more than 255 octets.
     LongHash,
-    /// No latitude: degrees, and perhaps minutes and seconds, and a side, at most 90 degrees.
+    /// The latitude is missing or wrong: degrees, optional minutes and seconds, and a side, at most
+    /// 90 degrees.
     ExpectedLatitude,
-    /// No longitude after the latitude: the same with at most 180 degrees.
+    /// The longitude after the latitude is missing or wrong. Its form is that of a latitude, at
+    /// most 180 degrees.
     ExpectedLongitude,
-    /// No altitude after the longitude.
+    /// The altitude after the longitude is missing or wrong.
     ExpectedAltitude,
-    /// A token after the altitude is no size.
+    /// A token after the altitude is not a size.
     ExpectedSize,
-    /// More tokens than those of a location.
+    /// Tokens follow those of a location.
     ExpectedEnd,
-    /// The text is no item of an address prefix list.
+    /// The text is not an item of an address prefix list.
     ExpectedPrefix,
-    /// The text is no gateway of its type.
+    /// The text is not a gateway of its type.
     ExpectedGateway,
     /// The type of a gateway is above 3.
     UnknownGateway,
-    /// A quoted text is where a service parameter begins.
+    /// A quoted string is where a service parameter begins.
     QuotedParam,
-    /// A token touches the service parameter before it.
+    /// A token is adjacent to the service parameter before it.
     GluedParam,
     /// The name of a service parameter's key is unknown.
     UnknownKey,
-    /// The key of a service parameter takes no value.
+    /// A service parameter has a value that its key does not allow.
     UnexpectedValue,
     /// A key is in the value of `mandatory` twice.
     RepeatedKey,
     /// The value of a service parameter has more than 65535 octets.
     LongValue,
-    /// The key of a service parameter was there before.
+    /// The key of a service parameter is that of a parameter before it.
     RepeatedParam,
     /// A string of a list has no octets or more than 255.
     ListString,
-    /// In a list a backslash is before an octet other than a comma or a backslash.
+    /// A backslash in a list is before an octet other than a comma or a backslash.
     ListEscape,
     /// A service parameter is cut off.
     ShortParams,
-    /// This key of a service parameter is not above those before it.
+    /// This key of a service parameter is not greater than those before it.
     ParamOrder(u16),
-    /// The value of this key of a service parameter is not what it has to be.
+    /// The value of this key of a service parameter is not one that the key allows.
     ParamValue(u16),
     /// The value of `mandatory` lists this key, which no service parameter has.
     MissingParam(u16),
     /// Type 0 is in a list of types.
     TypeZero,
-    /// The octets are no data of the type.
+    /// The octets are not RDATA of the type.
     NotOfType,
     /// Records of the type cannot be in a zone.
     NoDataType,
-    /// Data of the type has no text form but the generic one.
+    /// RDATA of the type has no presentation format except the generic one (RFC 3597).
     NoTextForm,
-    /// The octets found are not as many as a number before them asks for.
+    /// The number of octets differs from the length stated before them.
     WrongLength { found: usize, wanted: usize },
-    /// A token is left after the arguments of a directive.
+    /// A token follows the arguments of a directive.
     TrailingArgument,
     /// The directive is not supported: `$GENERATE`.
     NotSupported,
-    /// No directive has this word.
+    /// The word does not name a directive.
     UnknownDirective,
-    /// The record begins with a blank, and no entry before it said an owner.
+    /// The record begins with a blank, and no entry before it has an owner.
     NoOwner,
-    /// The record begins with a blank, and the owner that was said last is refused.
+    /// The record begins with a blank, and the last owner before it was rejected.
     RefusedOwner,
-    /// The record says no time to live, and none is known.
+    /// The record has no TTL, and there is none that it could inherit.
     NoTtl,
 }
 
-/// The text of what is wrong with a text that is not of the grammar.
+/// Returns the message of a syntax error.
 fn syntax_text(wrong: Wrong) -> &'static str
     ensures { result.now ≡ syntax_text wrong }
 {
@@ -170,7 +173,7 @@ fn syntax_text(wrong: Wrong) -> &'static str
     }
 }
 
-/// The text of a key that the value of `mandatory` lists, and that is missing.
+/// Returns the message for a key that the value of `mandatory` lists and that is missing.
 fn missing_text(key: u16) -> &'static str
     ensures { result.now ≡ missing_key_text key }
 {
@@ -188,7 +191,7 @@ fn missing_text(key: u16) -> &'static str
 }
 
 impl ErrorKind {
-    /// Returns the text of the error.
+    /// Returns the error message.
     pub fn as_str(&self) -> &'static str
         ensures { result.now ≡ error_kind_text self.now }
     {

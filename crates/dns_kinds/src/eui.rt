@@ -1,4 +1,4 @@
-//! Identifiers of 48 and 64 bits, as pairs of hexadecimal digits with dashes (RFC 7043).
+//! EUI-48 and EUI-64 addresses: pairs of hexadecimal digits with dashes (RFC 7043).
 ghost use Rattle.std.specs.Prelude.{◌≡◌, ◌≤◌, ◌+◌, ◌*◌, ◌↔◌, length, IsTrue, Some};
 ghost use Rattle.dns_kinds.specs.Hex.{WritesOctets};
 ghost use Rattle.dns_kinds.specs.Kind.{ReadsKind};
@@ -9,7 +9,7 @@ use crate::error::ErrorKind;
 use crate::hex::{octet_of, write_groups};
 use std::fmt;
 
-/// Whether a dash stands before each pair of digits but the first.
+/// Returns whether there is a dash before each pair of digits except the first.
 fn has_dashes(text: &[u8], pairs: usize) -> bool
     requires few { pairs ≤ 8 }
     requires whole { length text.now + 1 ≡ 3 * pairs }
@@ -23,7 +23,8 @@ fn has_dashes(text: &[u8], pairs: usize) -> bool
     true
 }
 
-/// Writes the octets of a text of hexadecimal digits and dashes over others, as many as there are.
+/// Parses pairs of hexadecimal digits with dashes between them, and stores an octet for each pair.
+/// Returns whether the text is exactly that of `octets.len()` octets.
 fn dashed_into(text: &[u8], octets: &mut [u8]) -> bool
     requires { length octets.old ≤ 8 }
     ensures { WritesOctets IsDashed (length octets.old) text.now octets.new result }
@@ -40,16 +41,17 @@ fn dashed_into(text: &[u8], octets: &mut [u8]) -> bool
     true
 }
 
-/// An EUI-48. It prints in small letters.
+/// An EUI-48. It prints in lower case.
 #[derive(Clone, Copy)]
 pub struct Eui48(pub [u8; 6]);
 
-/// An EUI-64. It prints in small letters.
+/// An EUI-64. It prints in lower case.
 #[derive(Clone, Copy)]
 pub struct Eui64(pub [u8; 8]);
 
 impl Eui48 {
-    /// The identifier that a text writes, with letters in either case: `00-00-5e-00-53-2a`.
+    /// Parses an EUI-48, in either case: `00-00-5e-00-53-2a`. Fails with `ExpectedEui48` for any
+    /// other text.
     pub fn from_text(text: &[u8]) -> Result<Eui48, ErrorKind>
         ensures { ReadsKind SpellsEui48 ExpectedEui48 text.now result }
     {
@@ -63,7 +65,8 @@ impl Eui48 {
 }
 
 impl Eui64 {
-    /// The identifier that a text writes, with letters in either case: `00-00-5e-ef-10-00-00-2a`.
+    /// Parses an EUI-64, in either case: `00-00-5e-ef-10-00-00-2a`. Fails with `ExpectedEui64` for
+    /// any other text.
     pub fn from_text(text: &[u8]) -> Result<Eui64, ErrorKind>
         ensures { ReadsKind SpellsEui64 ExpectedEui64 text.now result }
     {
@@ -94,7 +97,7 @@ impl fmt::Display for Eui64 {
     }
 }
 
-/// States that identifiers are read as they are printed, and does nothing else.
+/// States that an address that is printed and parsed is the same address. Does nothing.
 pub fn euis_are_read_back()
     ensures { EuisAreKind }
 {}

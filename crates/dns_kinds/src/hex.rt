@@ -7,7 +7,7 @@ ghost use Rattle.dns_kinds.specs.Hex.{marked_pair, grouped_text, begins_group};
 
 use std::fmt;
 
-/// The value of a hexadecimal digit, in either case.
+/// Returns the value of a hexadecimal digit, in either case.
 pub(crate) fn value_of(digit: u8) -> Option<u8>
     ensures { SomeIff result (digit_value digit < 16) (digit_value digit) }
 {
@@ -19,14 +19,15 @@ pub(crate) fn value_of(digit: u8) -> Option<u8>
     }
 }
 
-/// The octet that two hexadecimal digits write.
+/// Returns the octet that two hexadecimal digits write.
 pub(crate) fn octet_of(high: u8, low: u8) -> Option<u8>
     ensures { SomeIff result ((digit_value high < 16) × (digit_value low < 16)) (digit_value high * 16 + digit_value low) }
 {
     Some(value_of(high)? * 16 + value_of(low)?)
 }
 
-/// Writes the octets of a text of hexadecimal digits over others, as many as there are.
+/// Parses pairs of hexadecimal digits, and stores an octet for each pair. Returns whether the text
+/// is exactly that of `octets.len()` octets.
 pub(crate) fn hex_into(text: &[u8], octets: &mut [u8]) -> bool
     ensures { WritesOctets IsHex (length octets.old) text.now octets.new result }
 {
@@ -42,7 +43,7 @@ pub(crate) fn hex_into(text: &[u8], octets: &mut [u8]) -> bool
     true
 }
 
-/// A hexadecimal digit, by its letter for ten.
+/// Returns a hexadecimal digit, where `ten` is the letter of the digit ten.
 fn digit_of(number: u8, ten: u8) -> u8
     requires number { number < 16 }
     requires letter { ten < 100 }
@@ -55,7 +56,7 @@ fn digit_of(number: u8, ten: u8) -> u8
     }
 }
 
-/// The two digits of an octet, by the letter for ten.
+/// Returns the two digits of an octet, where `ten` is the letter of the digit ten.
 fn digits_of(octet: u8, ten: u8) -> [u8; 2]
     requires { ten < 100 }
     ensures { result ≡ pair_text ten octet }
@@ -63,7 +64,7 @@ fn digits_of(octet: u8, ten: u8) -> [u8; 2]
     [digit_of(octet / 16, ten), digit_of(octet % 16, ten)]
 }
 
-/// Writes an octet as a pair of digits, in capital letters.
+/// Prints an octet as a pair of digits in upper case.
 fn write_pair<W: fmt::Write>(octet: u8, f: &mut fmt::Formatter<W>) -> fmt::Result
     ensures { WritesOnOk W.write_str_gives f.old result (pair_text 65 octet) f.new }
 {
@@ -71,7 +72,7 @@ fn write_pair<W: fmt::Write>(octet: u8, f: &mut fmt::Formatter<W>) -> fmt::Resul
     f.write_str(str::from_utf8(&pair).map_err(|_| fmt::Error)?)
 }
 
-/// Writes octets as pairs of digits, in capital letters.
+/// Prints octets as pairs of digits in upper case.
 pub(crate) fn write_hex<W: fmt::Write>(octets: &[u8], f: &mut fmt::Formatter<W>) -> fmt::Result
     ensures { WritesOnOk W.write_str_gives f.old result (pairs_text octets.now) f.new }
 {
@@ -81,7 +82,7 @@ pub(crate) fn write_hex<W: fmt::Write>(octets: &[u8], f: &mut fmt::Formatter<W>)
     Ok(())
 }
 
-/// Writes an octet as a pair of digits, in small letters, with a mark before it if it is marked.
+/// Prints an octet as a pair of digits in lower case, after a mark if `is_marked`.
 fn write_marked_pair<W: fmt::Write>(
     is_marked: bool,
     mark: u8,
@@ -96,7 +97,7 @@ fn write_marked_pair<W: fmt::Write>(
     f.write_str(str::from_utf8(shown).map_err(|_| fmt::Error)?)
 }
 
-/// Whether a group of `size` octets other than the first begins at a place.
+/// Returns whether a group of `size` octets other than the first begins at an offset.
 fn begins_group(size: usize, place: usize) -> bool
     requires { 0 < size }
     ensures { result ≡ begins_group size place }
@@ -104,8 +105,8 @@ fn begins_group(size: usize, place: usize) -> bool
     place > 0 && place % size == 0
 }
 
-/// Writes octets as pairs of digits, in small letters, in groups of `size` octets, with a mark
-/// between groups.
+/// Prints octets as pairs of digits in lower case, in groups of `size` octets, with a mark between
+/// groups.
 pub(crate) fn write_groups<W: fmt::Write>(
     octets: &[u8],
     size: usize,

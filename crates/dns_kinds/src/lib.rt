@@ -1,7 +1,8 @@
-//! Kinds of fields in record data, each one word of zone text: which texts spell a value, and how it
-//! is printed.
+//! Fields of RDATA that are one word in presentation format: which texts spell a value, and how the
+//! value prints.
 //!
-//! A kind is read from the octets of a word, as they stand: no kind has quotes or escapes.
+//! A field is parsed from the octets of a word without unescaping: no such field has quotes or
+//! escapes.
 #![tactic(auto)]
 
 pub mod addresses;

@@ -1,4 +1,4 @@
-//! Locators and identifiers of 64 bits, as groups of hexadecimal digits (RFC 6742 section 2).
+//! Locators and identifiers of 64 bits: groups of hexadecimal digits (RFC 6742 section 2).
 ghost use Rattle.std.specs.Prelude.{◌≡◌, ◌<◌, ◌≤◌, ◌^◌, length, take, slice_index, Some};
 ghost use Rattle.std.specs.Char.{digit_value};
 ghost use Rattle.std.specs.Str.Parse.{AllDigits, digits_value};
@@ -10,7 +10,7 @@ use crate::error::ErrorKind;
 use crate::hex::{value_of, write_groups};
 use std::fmt;
 
-/// A locator or an identifier of 64 bits. It prints as groups of four digits, in small letters.
+/// A locator or an identifier of 64 bits. It prints as groups of four digits in lower case.
 #[derive(Clone, Copy)]
 pub struct Locator(pub [u8; 8]);
 
@@ -21,7 +21,7 @@ struct Group<'a> {
     rest: &'a [u8],
 }
 
-/// How many hexadecimal digits a text begins with.
+/// Returns the number of hexadecimal digits that a text begins with.
 #[tactic(auto, using(std::proofs::lemmas::Int::Digits::digits_more))]
 fn count_digits(text: &[u8]) -> usize
     ensures within { result ≤ length text.now }
@@ -36,7 +36,7 @@ fn count_digits(text: &[u8]) -> usize
     text.len()
 }
 
-/// The number that at most four hexadecimal digits write.
+/// Returns the number that at most four hexadecimal digits write.
 #[tactic(auto, using(crate::proofs::GroupLemmas::group_more))]
 fn number_of(digits: &[u8]) -> u16
     requires digits { AllDigits 16 digits.now }
@@ -50,7 +50,7 @@ fn number_of(digits: &[u8]) -> u16
     number
 }
 
-/// The group that a text begins with.
+/// Returns the group that a text begins with, if there is one.
 fn first_group(text: &[u8]) -> Option<Group<'_>>
     ensures { TakesGroup BeginsWithGroup text.now result }
 {
@@ -64,7 +64,7 @@ fn first_group(text: &[u8]) -> Option<Group<'_>>
     })
 }
 
-/// The group behind the colon that a text begins with.
+/// Returns the group after the colon that a text begins with, if there is one.
 fn next_group(text: &[u8]) -> Option<Group<'_>>
     ensures { TakesGroup GoesOnWith text.now result }
 {
@@ -74,7 +74,7 @@ fn next_group(text: &[u8]) -> Option<Group<'_>>
     first_group(&text[1..])
 }
 
-/// The four groups of a text.
+/// Returns the four groups of a text, if it is four groups.
 fn groups_of(text: &[u8]) -> Option<[u16; 4]>
     ensures { FindsGroups text.now result }
 {
@@ -90,7 +90,8 @@ fn groups_of(text: &[u8]) -> Option<[u16; 4]>
 }
 
 impl Locator {
-    /// The locator that a text writes, with letters in either case: `2001:0DB8:1140:1000`.
+    /// Parses a locator, in either case: `2001:0DB8:1140:1000`. Fails with `ExpectedLocator` for
+    /// any other text.
     pub fn from_text(text: &[u8]) -> Result<Locator, ErrorKind>
         ensures { ReadsKind SpellsLocator ExpectedLocator text.now result }
     {
@@ -115,7 +116,7 @@ impl fmt::Display for Locator {
     }
 }
 
-/// States that locators are read as they are printed, and does nothing else.
+/// States that a locator that is printed and parsed is the same locator. Does nothing.
 pub fn locators_are_read_back()
     ensures { LocatorsAreKind }
 {}

@@ -1,4 +1,4 @@
-//! Numbers of decimal digits (RFC 1035 section 5.1): leading zeros are taken, and no sign.
+//! Numbers of decimal digits (RFC 1035 section 5.1). Leading zeros are allowed, signs are not.
 ghost use Rattle.std.specs.Prelude.{◌≡◌, ◌<◌, ◌+◌, ◌*◌, ◌^◌, ◌↔◌, IsTrue, SomeIff};
 ghost use Rattle.std.specs.Char.{digit_value};
 ghost use Rattle.std.specs.Str.Parse.{AllDigits, IsNumeral};
@@ -6,7 +6,7 @@ ghost use Rattle.dns_kinds.specs.Numbers.{ReadsDecimal, ReadsNumeral, NumbersRea
 
 use crate::error::ErrorKind;
 
-/// The number with one more decimal digit.
+/// Returns the number with one more decimal digit, if it is below 2^32.
 pub(crate) fn with_digit(number: u32, byte: u8) -> Option<u32>
     ensures { SomeIff result ((digit_value byte < 10) × (number * 10 + digit_value byte < 2 ^ 32)) (number * 10 + digit_value byte) }
 {
@@ -16,7 +16,7 @@ pub(crate) fn with_digit(number: u32, byte: u8) -> Option<u32>
     }
 }
 
-/// The number that a text of decimal digits writes, if it is one of 32 bits.
+/// Returns the number that a text of decimal digits writes, if it is below 2^32.
 pub(crate) fn number_from_text(text: &[u8]) -> Option<u32>
     ensures { ReadsNumeral text.now result }
 {
@@ -30,7 +30,7 @@ pub(crate) fn number_from_text(text: &[u8]) -> Option<u32>
     Some(number)
 }
 
-/// Whether a text has decimal digits alone.
+/// Returns whether a text has only decimal digits.
 pub(crate) fn are_digits(text: &[u8]) -> bool
     ensures { IsTrue result ↔ AllDigits 10 text.now }
 {
@@ -42,7 +42,7 @@ pub(crate) fn are_digits(text: &[u8]) -> bool
     true
 }
 
-/// Reads the number that a text writes, if it is at most `most`.
+/// Parses a decimal number that is at most `most`.
 fn number_up_to(text: &[u8], most: u32) -> Result<u32, ErrorKind>
     ensures { ReadsDecimal (most + 1) text.now result }
 {
@@ -55,14 +55,16 @@ fn number_up_to(text: &[u8], most: u32) -> Result<u32, ErrorKind>
     }
 }
 
-/// The number of 32 bits that a text writes.
+/// Parses a decimal number of 32 bits. Fails with `NumberOverflow` if it is greater, and with
+/// `ExpectedNumber` if the text is not a number.
 pub fn u32_from_text(text: &[u8]) -> Result<u32, ErrorKind>
     ensures { ReadsDecimal (2 ^ 32) text.now result }
 {
     number_up_to(text, u32::MAX)
 }
 
-/// The number of 16 bits that a text writes.
+/// Parses a decimal number of 16 bits. Fails with `NumberOverflow` if it is greater, and with
+/// `ExpectedNumber` if the text is not a number.
 pub fn u16_from_text(text: &[u8]) -> Result<u16, ErrorKind>
     ensures { ReadsDecimal (2 ^ 16) text.now result }
 {
@@ -72,7 +74,8 @@ pub fn u16_from_text(text: &[u8]) -> Result<u16, ErrorKind>
     }
 }
 
-/// The number of 8 bits that a text writes.
+/// Parses a decimal number of 8 bits. Fails with `NumberOverflow` if it is greater, and with
+/// `ExpectedNumber` if the text is not a number.
 pub fn u8_from_text(text: &[u8]) -> Result<u8, ErrorKind>
     ensures { ReadsDecimal (2 ^ 8) text.now result }
 {
@@ -82,7 +85,7 @@ pub fn u8_from_text(text: &[u8]) -> Result<u8, ErrorKind>
     }
 }
 
-/// States that a number in decimal is read as it was, and does nothing else.
+/// States that a number that is printed in decimal and parsed is the same number. Does nothing.
 pub fn numbers_are_read_back()
     ensures { NumbersReadBack }
 {}

@@ -9,7 +9,7 @@ use crate::numbers::number_from_text;
 /// A code, and its name in capital letters.
 pub struct Named(pub u16, pub &'static str);
 
-/// The number after a prefix, in any case of its letters.
+/// Returns the number after a prefix, which may be in any case.
 fn code_after(prefix: &str, most: u16, text: &[u8]) -> Option<u16>
     ensures { FindsNumbered prefix.now most text.now result }
 {
@@ -24,7 +24,7 @@ fn code_after(prefix: &str, most: u16, text: &[u8]) -> Option<u16>
     Some(number as u16)
 }
 
-/// The code that a text names: by a row's name, or by a prefix and the code itself.
+/// Returns the code that a text names: by a row's name, or by a prefix and the code itself.
 fn find_code(table: &[Named], prefix: &str, most: u16, text: &[u8]) -> Option<u16>
     ensures { FindsCode (code_rows table.now) prefix.now most text.now result }
 {
@@ -36,8 +36,8 @@ fn find_code(table: &[Named], prefix: &str, most: u16, text: &[u8]) -> Option<u1
     code_after(prefix, most, text)
 }
 
-/// The code that a text names, or a refusal: by a row's name, or by a prefix and the code itself,
-/// which is at most `most`.
+/// Returns the code that a text names: by a row's name, or by a prefix and the code itself, which
+/// is at most `most`. Fails with a given error if the text names no code.
 pub(crate) fn code_from_text(
     table: &[Named],
     prefix: &str,
@@ -50,7 +50,7 @@ pub(crate) fn code_from_text(
     find_code(table, prefix, most, text).ok_or(why)
 }
 
-/// The name of a code, if it has one.
+/// Returns the name of a code, if it has one.
 pub(crate) fn name_of(table: &[Named], code: u16) -> Option<&'static str>
     ensures { option_copied result ≡ row_name (code_rows table.now) code }
 {

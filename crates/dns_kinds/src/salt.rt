@@ -9,10 +9,11 @@ use crate::hex::{hex_into, write_hex};
 use std::fmt;
 use std::marker::Model;
 
-/// The most octets of a salt.
+/// Greatest length of a salt, in octets.
 const MOST: usize = 255;
 
-/// At most 255 octets. It prints as hexadecimal digits in capital letters, or as `-` without octets.
+/// A salt of at most 255 octets. It prints as hexadecimal digits in upper case, or as `-` if it is
+/// empty.
 #[derive(Drop)]
 pub struct Salt {
     octets: [u8; 255],
@@ -28,7 +29,7 @@ impl Model for Salt {
 }
 
 impl Salt {
-    /// The salt of octets, if they are not too many.
+    /// Returns the salt with these octets, or `None` if there are more than 255.
     pub fn from_octets(octets: &[u8]) -> Option<Salt>
         ensures { SomeIff result (length octets.now ≤ 255) octets.now }
     {
@@ -44,7 +45,8 @@ impl Salt {
         })
     }
 
-    /// The salt that a text writes: `-` for none, or its octets in hexadecimal digits.
+    /// Parses a salt: hexadecimal digits, or `-` for an empty salt. Fails with `ExpectedSalt` for
+    /// any other text.
     pub fn from_text(text: &[u8]) -> Result<Salt, ErrorKind>
         ensures { ReadsKind SpellsSalt ExpectedSalt text.now result }
     {
@@ -66,7 +68,7 @@ impl Salt {
         }
     }
 
-    /// The octets.
+    /// Returns the octets of the salt.
     pub fn as_slice(&self) -> &[u8]
         ensures { result.now ≡ self.now }
     {
@@ -86,7 +88,7 @@ impl fmt::Display for Salt {
     }
 }
 
-/// States that a salt is read as it is printed, and does nothing else.
+/// States that a salt that is printed and parsed is the same salt. Does nothing.
 pub fn salts_are_read_back()
     ensures { SaltsAreKind }
 {}

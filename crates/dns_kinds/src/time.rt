@@ -1,4 +1,4 @@
-//! Times of signatures, in the calendar and in seconds since 1970 began (RFC 4034 section 3.2).
+//! Times of signatures, as dates and as seconds since 1970 began (RFC 4034 section 3.2).
 ghost use Rattle.std.specs.Prelude.{◌≡◌, ◌<◌, ◌≤◌, ◌+◌, ◌-◌, ◌*◌, ◌/◌, ◌%◌, ◌^◌, ◌↔◌, length, IsTrue, Some, SomeIff};
 ghost use Rattle.std.specs.Str.Parse.{AllDigits, digits_value};
 ghost use Rattle.dns_kinds.specs.Kind.{ReadsKind};
@@ -60,7 +60,8 @@ fn days_to_month(year: u16, month: u8) -> u32
     days
 }
 
-/// The year of a day, by the days from the beginning of 1970, and the days of that year before it.
+/// Returns the year of a day, and the number of days of that year before it. `days` counts the days
+/// from the beginning of 1970.
 fn year_of(days: u32) -> (u16, u32)
     requires { days < 50000 }
     ensures from { 1970 ≤ result.0 }
@@ -75,7 +76,8 @@ fn year_of(days: u32) -> (u16, u32)
     (year, days - days_to_year(year))
 }
 
-/// The month of a day, by the days of its year before it, and its day of that month.
+/// Returns the month of a day, and its day of that month. `days` counts the days of its year before
+/// it.
 fn month_of(year: u16, days: u32) -> (u8, u8)
     requires { days < year_days year }
     ensures from { 1 ≤ result.0 }
@@ -93,14 +95,14 @@ fn month_of(year: u16, days: u32) -> (u8, u8)
     (month, rest as u8 + 1)
 }
 
-/// The first of the two digits of a number.
+/// Returns the first of the two decimal digits of a number.
 fn tens(number: u8) -> u8
     ensures { result ≡ 48 + number / 10 }
 {
     b'0' + number / 10
 }
 
-/// The second of them.
+/// Returns the second of the two decimal digits of a number.
 fn units(number: u8) -> u8
     ensures { result ≡ 48 + number % 10 }
 {
@@ -108,7 +110,7 @@ fn units(number: u8) -> u8
 }
 
 impl Date {
-    /// The date of so many seconds from the beginning of 1970.
+    /// Returns the date of a second, counted from the beginning of 1970.
     pub fn from_seconds(seconds: u32) -> Self
         ensures valid { IsDate result }
         ensures same { seconds_at result ≡ seconds }
@@ -127,9 +129,9 @@ impl Date {
         }
     }
 
-    /// The time that a text writes: fourteen digits of a date from 1970 on, or at most ten digits of
-    /// the seconds themselves. Of a date whose seconds are no number of 32 bits, they are taken
-    /// modulo 2^32 (RFC 4034 section 3.1.5).
+    /// Parses a time: fourteen digits of a date from 1970 on, or at most ten digits of the seconds
+    /// themselves. The seconds of a date are then modulo 2^32 (RFC 4034 section 3.1.5). Fails with
+    /// `ExpectedTime` for any other text.
     pub fn from_text(text: &[u8]) -> Result<Date, ErrorKind>
         ensures { ReadsKind SpellsDate ExpectedTime text.now result }
     {
@@ -139,7 +141,7 @@ impl Date {
         }
     }
 
-    /// Whether this is a date from 1970 on, and a time of that day.
+    /// Returns whether this is a date from 1970 on, and a time of that day.
     pub fn is_valid(&self) -> bool
         ensures { IsTrue result ↔ IsDate self.now }
     {
@@ -154,7 +156,7 @@ impl Date {
             && self.second < 60
     }
 
-    /// The seconds from the beginning of 1970, modulo 2^32.
+    /// Returns the seconds from the beginning of 1970, modulo 2^32.
     pub fn seconds(&self) -> u32
         requires { IsDate self.now }
         ensures { result ≡ seconds_at self.now % 2 ^ 32 }
@@ -168,7 +170,7 @@ impl Date {
         (seconds % (1 << 32)) as u32
     }
 
-    /// YYYYMMDDHHmmSS.
+    /// Returns the date as YYYYMMDDHHmmSS.
     fn text(&self) -> [u8; 14]
         ensures { result ≡ date_text self.now }
     {
@@ -202,7 +204,7 @@ impl fmt::Display for Date {
     }
 }
 
-/// The number that at most four digits write.
+/// Returns the number that at most four digits write.
 #[tactic(auto, using(crate::proofs::NumberLemmas::digit_more))]
 fn number_of(digits: &[u8]) -> u16
     requires digits { AllDigits 10 digits.now }
@@ -217,7 +219,7 @@ fn number_of(digits: &[u8]) -> u16
     number
 }
 
-/// The number that two digits of a text write.
+/// Returns the number that two digits of a text write.
 #[tactic(auto, using(crate::proofs::NumberLemmas::digits_drop, crate::proofs::NumberLemmas::digits_take))]
 fn two_at(text: &[u8], from: usize) -> u8
     requires digits { AllDigits 10 text.now }
@@ -227,7 +229,7 @@ fn two_at(text: &[u8], from: usize) -> u8
     number_of(&text[from..from + 2]) as u8
 }
 
-/// The date that fourteen digits write.
+/// Parses a date of fourteen digits.
 fn date_from_text(text: &[u8]) -> Option<Date>
     ensures { SomeIff result (IsDateText text.now) (date_of text.now) }
 {
@@ -245,7 +247,8 @@ fn date_from_text(text: &[u8]) -> Option<Date>
     if date.is_valid() { Some(date) } else { None }
 }
 
-/// The seconds that a text writes: those of a date of fourteen digits, or the number in at most ten.
+/// Parses a time as seconds: those of a date of fourteen digits, or the number in at most ten
+/// digits.
 fn seconds_from_text(text: &[u8]) -> Option<u32>
     ensures { FindsSeconds text.now result }
 {
@@ -258,12 +261,12 @@ fn seconds_from_text(text: &[u8]) -> Option<u32>
     }
 }
 
-/// States that a time is read as it is printed, and does nothing else.
+/// States that a time that is printed and parsed is the same time. Does nothing.
 pub fn times_are_read_back()
     ensures { DatesAreKind }
 {}
 
-/// States that each second has a date, and a date its second, and does nothing else.
+/// States that each second has a date, and each date its second. Does nothing.
 pub fn seconds_have_dates()
     ensures { SecondsHaveDates }
 {}

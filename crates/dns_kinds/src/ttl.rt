@@ -1,7 +1,7 @@
-//! Times to live and intervals: seconds, or periods with units such as `1h30m`.
+//! TTLs and intervals: seconds, or periods with units such as `1h30m`.
 //!
-//! The units are `w`, `d`, `h`, `m` and `s`, in either case. They may stand in any order, and those
-//! that stand twice add up.
+//! The units are `w`, `d`, `h`, `m` and `s`, in either case. They may be in any order. Periods with
+//! the same unit add up.
 ghost use Rattle.std.specs.Prelude.{ℕ, ◌≡◌, ◌<◌, IfSome, IsTrue, false, length, slice_get};
 ghost use Rattle.std.specs.Char.{is_ascii_digit};
 ghost use Rattle.dns_kinds.specs.Kind.{ReadsKind};
@@ -11,10 +11,11 @@ ghost use Rattle.dns_kinds.specs.declared.error.ErrorKind.TheVariants.{ExpectedT
 use crate::error::ErrorKind;
 use crate::numbers::{number_from_text, with_digit};
 
-/// The most seconds of a time to live (RFC 2181 section 8).
+/// Greatest TTL, in seconds (RFC 2181 section 8).
 const MOST_TTL: u32 = 0x7FFF_FFFF;
 
-/// The seconds of a unit, by its letter in either case: weeks, days, hours, minutes, seconds.
+/// Returns the seconds of a unit, by its letter in either case: weeks, days, hours, minutes,
+/// seconds.
 fn seconds_in_unit(letter: u8) -> Option<u32>
     ensures { result ≡ unit_seconds letter }
 {
@@ -28,7 +29,7 @@ fn seconds_in_unit(letter: u8) -> Option<u32>
     }
 }
 
-/// The sum of periods, each a number and a unit.
+/// Returns the sum of periods, each a number and a unit, if it is below 2^32.
 fn periods_from_text(text: &[u8]) -> Option<u32>
     ensures { ReadsPeriods text.now result }
 {
@@ -63,7 +64,7 @@ fn begins_with_digit(text: &[u8]) -> bool
     }
 }
 
-/// The seconds that a text writes, if they are a number of 32 bits.
+/// Returns the seconds that a text writes, if they are below 2^32.
 fn seconds_from_text(text: &[u8]) -> Option<u32>
     ensures { ReadsSeconds text.now result }
 {
@@ -76,8 +77,8 @@ fn seconds_from_text(text: &[u8]) -> Option<u32>
     }
 }
 
-/// The seconds of a time to live, below 2^31 (RFC 2181 section 8): a number of them, or periods
-/// such as `1h30m` or `1w2d`.
+/// Parses a TTL in seconds, below 2^31 (RFC 2181 section 8): a number, or periods such as `1h30m`
+/// or `1w2d`. Fails with `ExpectedTtl` for any other text.
 pub fn ttl_from_text(text: &[u8]) -> Result<u32, ErrorKind>
     ensures { ReadsKind SpellsTtl ExpectedTtl text.now result }
 {
@@ -87,7 +88,8 @@ pub fn ttl_from_text(text: &[u8]) -> Result<u32, ErrorKind>
     }
 }
 
-/// The seconds of an interval, below 2^32, as the four timers of SOA have it: as a time to live.
+/// Parses an interval in seconds, below 2^32, such as the four timers of SOA. It is written as a
+/// TTL is. Fails with `ExpectedInterval` for any other text.
 pub fn interval_from_text(text: &[u8]) -> Result<u32, ErrorKind>
     ensures { ReadsKind SpellsInterval ExpectedInterval text.now result }
 {
@@ -97,8 +99,8 @@ pub fn interval_from_text(text: &[u8]) -> Result<u32, ErrorKind>
     }
 }
 
-/// States that seconds in decimal are read as they were, and that no text writes two numbers of
-/// them, and does nothing else.
+/// States that seconds that are printed in decimal and parsed are the same, and that a text writes
+/// one number of seconds. Does nothing.
 pub fn ttls_are_read_back()
     ensures ttl { TtlsAreKind }
     ensures interval { IntervalsAreKind }

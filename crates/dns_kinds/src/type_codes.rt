@@ -1,7 +1,7 @@
-//! The types of records by their names.
+//! Record types as constants, by their names.
 use crate::types::RecordType;
 
-/// The types of [`crate::types::TYPES`], each under its name.
+/// The types of [`crate::types::TYPES`], each with its name.
 impl RecordType {
     pub const A: RecordType = RecordType(1);
 

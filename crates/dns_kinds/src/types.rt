@@ -1,4 +1,4 @@
-//! The types of records (RFC 1035 section 3.2.2, IANA's registry, RFC 3597 section 5).
+//! Record types (RFC 1035 section 3.2.2, IANA's registry, RFC 3597 section 5).
 ghost use Rattle.std.specs.Prelude.{◌≡◌, ◌↔◌, Some, IfSome, IsTrue, option_copied};
 ghost use Rattle.dns_kinds.specs.Kind.{ReadsKind};
 ghost use Rattle.dns_kinds.specs.Registry.{row_code, row_name};
@@ -11,7 +11,7 @@ use crate::registry::{Named, code_from_text, name_of};
 use std::fmt;
 use std::marker::Model;
 
-/// The types that have a name. `ANY` is how the registry's `*` is written.
+/// The types that have a name. The registry's `*` is written `ANY`.
 pub static TYPES: [Named; 97] = [
     Named(1, "A"),
     Named(2, "NS"),
@@ -122,7 +122,7 @@ const PORTABLE: [u16; 48] = [
     257,
 ];
 
-/// A type of records, by its code. It prints as its name or, without one, as `TYPE` and the code.
+/// A record type, by its code. It prints as its name or, without one, as `TYPE` and the code.
 #[derive(Clone, Copy, Debug, PartialEq, Eq)]
 pub struct RecordType(pub u16);
 
@@ -136,7 +136,7 @@ impl Model for RecordType {
     ghost inverse = { λ code. record { 0 = code } };
 }
 
-/// Returns whether a text is a name, in the same case of its letters.
+/// Returns whether a text is a name, in the same case.
 #[inline(always)]
 fn is_name(text: &[u8], name: &[u8]) -> bool
     ensures { IsTrue result ↔ (text.now ≡ name.now) }
@@ -204,7 +204,8 @@ fn type_name(code: u16) -> Option<&'static str>
 }
 
 impl RecordType {
-    /// The type that a text names, in any case of its letters: `MX` or `TYPE15`.
+    /// Parses a record type, in any case: `MX` or `TYPE15`. Fails with `UnknownType` for any other
+    /// text.
     pub fn from_text(text: &[u8]) -> Result<RecordType, ErrorKind>
         ensures { ReadsKind SpellsType UnknownType text.now result }
     {
@@ -217,16 +218,16 @@ impl RecordType {
         }
     }
 
-    /// The name of the type, if it has one.
+    /// Returns the name of the type, if it has one.
     pub fn name(&self) -> Option<&'static str>
         ensures { option_copied result ≡ row_name type_rows self.now }
     {
         type_name(self.0)
     }
 
-    /// Whether every reader knows the name of the type. The names of all other types, among them
-    /// those whose record data have a text form here, are read, and printed as the type of a record
-    /// in text form only.
+    /// Returns whether every reader knows the name of the type. The name of any other type is
+    /// parsed, even if RDATA of the type has a presentation format here. It prints only as the type
+    /// of a record whose RDATA is not in the generic form.
     pub fn is_portable(&self) -> bool
         ensures { result ≡ is_portable self.now }
     {
@@ -246,8 +247,8 @@ impl fmt::Display for RecordType {
     }
 }
 
-/// A type in a type bitmap, in RRSIG, or before record data in the generic form. It prints as its
-/// name if every reader knows that, and otherwise as `TYPE` and the code (RFC 3597 section 5).
+/// A type in a type bitmap, in RRSIG, or before generic RDATA. It prints as its name if every
+/// reader knows that, and otherwise as `TYPE` and the code (RFC 3597 section 5).
 #[derive(Clone, Copy)]
 pub struct PortableType(pub RecordType);
 
@@ -269,7 +270,8 @@ impl fmt::Display for PortableType {
 pub struct SigType(pub RecordType);
 
 impl SigType {
-    /// The type that a text names, or whose code it is: `MX`, `TYPE15` or `15`.
+    /// Parses a type by its name or its code: `MX`, `TYPE15` or `15`. Fails with `UnknownType` for
+    /// any other text.
     pub fn from_text(text: &[u8]) -> Result<SigType, ErrorKind>
         ensures { ReadsKind SpellsSigType UnknownType text.now result }
     {
@@ -295,7 +297,8 @@ impl fmt::Display for SigType {
     }
 }
 
-/// States that a type is read as it is printed, whichever way that is, and does nothing else.
+/// States that a type that is printed and parsed is the same type, in each of the three forms. Does
+/// nothing.
 pub fn types_are_read_back()
     ensures named { TypesAreKind }
     ensures portable { PortableTypesAreKind }
