@@ -1,4 +1,4 @@
--- Bits of octets by their place from the left.
+-- Bits of octets by their index from the left.
 use Rattle.std.proofs.Common.{◌≡◌, ◌≢◌, ℕ, ◌+◌, ◌-◌, ◌*◌, ◌/◌, ◌%◌, ◌^◌, ◌<◌, ◌==◌, Bool, true, false, cond, ◌||◌, List, [], ◌∷◌, length, get_or, set, inl, inr, refl, sym, ap, ◌∙◌, arith, bit_or, zero, suc, w8}
 use Rattle.std.specs.Int.{bit_at}
 use Rattle.std.proofs.lemmas.List.{get_or-set_same, get_or-set_other, ext_get_or}
@@ -70,7 +70,7 @@ octet_at types window k l = get_or-map-range_with_len (λ j. types_octet types (
 pub octets_small : (types : List ℕ) (window k : ℕ) → k < 32 → get_or (window_octets_of types window) k 0 < 256
 octets_small types window k l = let e = octet_at types window k l in let s = octet_small types (256 * window + 8 * k) in omega arith
 
--- the bit at a place is that of its code
+-- the bit at an index is that of its code
 pub bit_of_place : (types : List ℕ) (window p : ℕ) → p < 256 → bit_in (window_octets_of types window) p ≡ one_if (has types (256 * window + p))
 bit_of_place types window p l =
     let below : p / 8 < 32 = omega arith in
@@ -105,7 +105,7 @@ other_bit xs q p l d n =
     ∙ bit_at_set_other w8 (get_or xs (q / 8) 0) (7 - q % 8) k (7 - p % 8) apart
     ∙ ap (λ j. bit_at (get_or xs j 0) (7 - p % 8)) d
 
--- a bit set at the place q
+-- a bit set at the index q
 pub set_place : (xs : List ℕ) (q p : ℕ) → q / 8 < length xs
     → bit_in (set xs (q / 8) (bit_or (get_or xs (q / 8) 0) (1 * 2 ^ (7 - q % 8) % 2 ^ 8))) p ≡ cond (q == p) 1 (bit_in xs p)
 set_place xs q p l = elim (cases_eq q p) [

@@ -47,7 +47,7 @@ string_more (x ∷ ys) n k e ek l some small =
       back = λ h. subst P (sym rest) (string_back n ys (subst Q (sym e) h)).2;
     }
 
--- what begins with a length that is 0 or too great is no strings
+-- octets that begin with a length of 0 or too great are not strings
 pub no_string : (xs : List ℕ) (n : ℕ) → n ≡ get_or xs 0 0 → 0 < length xs → AreWireStrings xs → (0 < n) × (1 + n ≤ length xs)
 no_string [] n e l h = absurd (omega arith)
 no_string (x ∷ ys) n e l h = let b = string_back x ys h in (omega (arith, b.0), omega (arith, b.1))

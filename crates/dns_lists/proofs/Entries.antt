@@ -49,7 +49,7 @@ entries_last f n =
     ap (λ xs. params_from f 0 n ++ xs) (sym (entries_first f n 0 ∙ ap (λ xs. param_if n (f n) ++ xs) (entries_none f (n + 1)) ∙ append-nil (param_if n (f n))))
     ∙ ap (λ w. params_from f 0 n ++ params_from f w 1) (omega arith) ∙ sym (entries_split f 0 n 1)
 
--- keys that none has give no octets
+-- keys without a value have no octets
 pub keys_skipped : (ps : List (ℕ × List ℕ)) (a b : ℕ) → a ≤ b → All (λ p. (p.0 < a) ⊎ (b ≤ p.0)) ps
     → params_from (value_at ps) 0 b ≡ params_from (value_at ps) 0 a
 keys_skipped ps a b l h =

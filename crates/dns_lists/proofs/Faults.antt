@@ -1,4 +1,4 @@
--- A bitmap that is checked block by block, and where it goes wrong.
+-- A bitmap that is checked block by block, and the error in it.
 use Rattle.std.proofs.Common.{◌≡◌, ℕ, ◌+◌, ◌*◌, ◌/◌, ◌<◌, ◌≤◌, ◌⊎◌, List, [], ◌∷◌, ◌++◌, length, refl, sym, ap, ◌∙◌, arith, inl, inr}
 use Rattle.std.proofs.lemmas.List.Elements.{All-weaker}
 use Rattle.dns_lists.specs.Bitmap.{window_block, bitmap, types_in, IsData, IsBitmap, GoesWrong, IsWrongBlock}

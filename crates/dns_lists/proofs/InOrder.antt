@@ -1,4 +1,4 @@
--- Parameters in any order, and those in order with the same wire form.
+-- Parameters in any order, and those in order with the same wire format.
 use Rattle.std.proofs.Common.{◌≡◌, ℕ, ◌+◌, ◌<◌, ◌≤◌, List, [], ◌∷◌, ◌++◌, length, All, Option, None, Some, refl, sym, ap, ◌∙◌, arith, subst, zero, suc}
 use Rattle.std.specs.List.{flat_map, range_with_len}
 use Rattle.std.proofs.lemmas.List.Elements.{All-nil, All-cons, All-weaker}
@@ -12,7 +12,7 @@ abbrev entry_if : ℕ → Option (List ℕ) → List (ℕ × List ℕ)
 entry_if key None = []
 entry_if key (Some value) = (key, value) ∷ []
 
--- of so many keys from the first on, those with a value
+-- the keys with a value, of `n` keys from the first on
 unfoldable listed : (ℕ → Option (List ℕ)) → ℕ → ℕ → List (ℕ × List ℕ)
 listed f w n = flat_map (λ k. entry_if k (f k)) (range_with_len w n)
 
@@ -66,7 +66,7 @@ is_listed f w (suc n) fit =
     let P : List (ℕ × List ℕ) → Type 0 = IsListed f w (suc n) in
     subst P (sym (listed_first f w n)) (listed_by f w n (f w) refl fit (is_listed f (w + 1) n fit))
 
--- a wire form of parameters is that of ascending ones
+-- a wire format of parameters is that of ascending ones
 pub are_in_order : (ps : List (ℕ × List ℕ)) → HasFittingValues ps → IsParams (params_wire ps)
 are_in_order ps fit =
     let f = value_at ps in

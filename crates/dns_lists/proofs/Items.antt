@@ -12,7 +12,7 @@ shape_by : (o : ℕ) (more : List ℕ) (b : Bool) → is_special o ≡ b
 shape_by o more true e = inl (e, refl)
 shape_by o more false e = inr (e, refl)
 
--- an octet of an item stands for itself, or behind a backslash
+-- an octet of an item is itself, or is after a backslash
 shape : (o : ℕ) (more : List ℕ) → ((is_special o ≡ true) × (item_octet o ++ more ≡ 92 ∷ o ∷ more)) ⊎ ((is_special o ≡ false) × (item_octet o ++ more ≡ o ∷ more))
 unfolding item_octet
 shape o more = shape_by o more (is_special o) refl
@@ -36,7 +36,7 @@ escape_split (x ∷ y ∷ xs) l e n s = elim (shape y (take (length (x ∷ y ∷
   | inr h ↦ absurd (both_ways (is_special y) h.0 s)
 ]
 
--- no octet of an item is in front
+-- the text does not begin with an octet of an item
 pub no_octet : (xs : List ℕ) → (0 < length xs → is_special (get_or xs 0 0) ≡ true)
     → (2 ≤ length xs → get_or xs 0 0 ≡ 92 → is_special (get_or xs 1 0) ≡ false) → EndsItem xs
 no_octet xs one two o more e = elim (shape o more) [
@@ -80,7 +80,7 @@ octet_shorter rest after o e = elim (shape o after) [
   | inr s ↦ (let l = ap length (e ∙ s.1) in omega arith)
 ]
 
--- what has been taken of an item
+-- what has been read of an item
 pub record TakesItem (text front rest : List ℕ) : Type 0 where
   pub split : text ≡ item_text front ++ rest
   pub short : length front + length rest ≤ length text
@@ -92,12 +92,12 @@ takes_more text front rest after o h e = record {
   short = let l = octet_shorter rest after o e in omega (arith, h.short, length-append front (o ∷ []));
 }
 
--- text of items behind commas ends an item
+-- text of items after commas ends an item
 pub later_ends : (items : List (List ℕ)) → EndsItem (later_text items)
 later_ends [] = ends_empty [] refl
 later_ends (item ∷ items) = ends_comma (item_text item ++ later_text items)
 
--- an item with another number of octets is not in front
+-- the item that a text begins with has one number of octets
 pub other_count : (text front rest item more : List ℕ) → SplitsItem text front rest → SplitsItem text item more → length item ≡ length front
 other_count text front rest item more a b = ap length (one_item item front more rest (sym b.0 ∙ a.0) b.1 a.1).0
 
@@ -163,7 +163,7 @@ one_list_text (x ∷ xs) (y ∷ ys) ia ib e =
     let one = one_item x y (later_text xs) (later_text ys) e (later_ends xs) (later_ends ys) in
     ap (λ z. z ∷ xs) one.0 ∙ ap (λ zs. y ∷ zs) (same_later xs ys (All-tail IsItem x xs ia.each) (All-tail IsItem y ys ib.each) one.1)
 
--- nothing is left of the text
+-- all of the text is read
 pub list_whole : (text rest old new : List ℕ) → TakesList text rest old new → length rest ≡ 0 → Gains (SpellsList text) old new
 list_whole text [] old new h none = (wire_strings h.items, (h.items, h.is_list, sym (h.split ∙ append-nil (list_text h.items)), refl), h.strings)
 list_whole text (x ∷ rest) old new h none = absurd (omega (arith, none))

@@ -1,4 +1,4 @@
--- What the reasons of refused lists mean.
+-- What the errors of rejected lists mean.
 use Rattle.std.proofs.Common.{◌≡◌, ◌≢◌, ℕ, ◌+◌, ◌<◌, ◌≤◌, ◌⊎◌, List, [], ◌∷◌, ◌++◌, length, take, drop, get_or, All, refl, sym, ap, ◌∙◌, arith, subst, inl, inr, append_assoc, append-nil, ◌-◌, Result, Ok, Err, OnOk, OnErr, IfErr, IsOk}
 use Rattle.std.proofs.lemmas.List.{take_at, drop_at, take-append-drop, length-append}
 use Rattle.std.proofs.lemmas.Bool.{cases_lt}
@@ -41,7 +41,7 @@ front_tells (f ∷ front) (i ∷ items) rest h e =
     let one = one_item f i (44 ∷ (front_text front ++ rest)) (later_text items) split (ends_comma (front_text front ++ rest)) (later_ends items) in
     front_by f i front items rest (λ others k text. front_tells front others rest k text) (All-tail IsItem i items h.each) one.0 one.1
 
--- the item in front of a list's text is its first
+-- the item that a list's text begins with is the list's first
 first_tells : (later : List (List ℕ)) (rest item after : List ℕ) → IsList later → rest ≡ list_text later → SplitsItem rest item after
     → (ls : List (List ℕ)) × (later ≡ item ∷ ls) × IsItem item
 first_tells [] rest item after h e s = absurd (h.some refl)
@@ -101,7 +101,7 @@ lacks_by : (room : Room) (old text octets : List ℕ) (front : List (List ℕ)) 
 lacks_by room old text octets front rest item after e s l (items, h, is, eo) =
     let n = ap length eo in let k = list_lacks room old text front items rest item after e s l h is in omega arith
 
--- a fault in a text says that it is no list, or that the list does not surely fit
+-- a fault in a text means that it is not a list, or that the list does not surely fit
 pub list_fault : (room : Room) (old text : List ℕ) (e : ErrorKind) → IsListFault room old text e → RefusesList room text old e
 list_fault room old text ListString (front, rest, each, split, (item, after, s, none)) = inr (λ others h. no_list_length front others text rest item after split s none h)
 list_fault room old text ShortBuf (front, rest, each, split, (item, after, s, is, l)) = inl (refl, λ octets h. lacks_by room old text octets front rest item after split s l h)
@@ -140,7 +140,7 @@ fault_later room old mid text rest tail other t e h = absurd h
 pub fault_escape : (room : Room) (old mid text rest : List ℕ) → TakesList text rest old mid → rest ≢ [] → get_or rest 0 0 ≢ 44 → IsListFault room old text ListEscape
 fault_escape room old mid text rest t some n = (t.items, rest, t.is_list, t.split, t.ends, some, n)
 
--- an octet of an item that does not fit, after those in front
+-- an octet of an item does not fit after those before it
 pub octet_lacks : (room : Room) (text front rest after old now : List ℕ) (o : ℕ) → TakesItem text front rest → rest ≡ item_octet o ++ after → now ≡ old ++ front
     → room.fits < length now + 1 → (item : List ℕ) → ((more : List ℕ) × SplitsItem text item more) → room.fits < length old + length item
 octet_lacks room text front rest after old now o t e n l item (more, s) =
@@ -166,7 +166,7 @@ same_front xs ys us vs l e = (
   sym (drop_at xs us (length xs) refl) ∙ ap (drop (length xs)) e ∙ drop_at ys vs (length xs) (sym l),
 )
 
--- strings in front are the first of all
+-- the strings that a list begins with are its first
 strings_tell : (items others : List (List ℕ)) (rest : List ℕ) → wire_strings items ++ rest ≡ wire_strings others → (later : List (List ℕ)) × (others ≡ items ++ later) × (rest ≡ wire_strings later)
 strings_tell [] others rest e = (others, refl, e)
 strings_tell (i ∷ items) [] rest e = absurd cc
@@ -209,7 +209,7 @@ text_lacks room old octets text rest items split l (others, h, is, e) =
     let n = ap length e ∙ ap (λ x. length (list_text x)) t.1 in
     omega (arith, list_longer items t.0)
 
--- a fault in octets says that they are no list, or that its text does not surely fit
+-- a fault in octets means that they are not a list, or that its text does not surely fit
 pub strings_fault : (room : Room) (old octets : List ℕ) (e : ErrorKind) → IsStringsFault room old octets e → RefusesStrings room octets old e
 strings_fault room old octets ListString (front, rest, each, split, none, first) = inr (empty_or_not octets (no_strings front octets rest split none first))
 strings_fault room old octets ShortBuf (items, rest, h, split, l) = inl (refl, λ text h. text_lacks room old octets text rest items split l h)
@@ -241,7 +241,7 @@ pub on_ok : {T E : Type 0} (r : Result T E) (P Q : Type 0) → (P → Q) → OnO
 on_ok (Ok x) P Q f h = f h
 on_ok (Err e) P Q f h = h
 
--- a slice that was refused didn't surely fit
+-- a slice that was not appended didn't surely fit
 pub on_lack : {T E : Type 0} (r : Result T E) (n fits old : ℕ) (Q : Type 0) → (n ≤ fits - old → IsOk r) → (fits < old + n → Q) → OnErr r Q
 on_lack (Ok x) n fits old Q h f = tt
 on_lack (Err e) n fits old Q h f = elim (cases_lt fits (old + n)) [

@@ -61,7 +61,7 @@ zero_list : (xs : List ℕ) → param_list zero xs ≡ []
 unfolding param_list
 zero_list xs = refl
 
--- a parameter, and then those behind it
+-- the parameters of a parameter and octets after it
 pub params_next : (k : ℕ) (v r : List ℕ) → k < 65536 → length v < 65536 → params_of (param k v ++ r) ≡ (k, v) ∷ params_of r
 params_next k v r lk lv =
     let size = param_length k v r in
@@ -80,7 +80,7 @@ no_list_by n a b c d ys small none =
           absurd (none key (take size ys) (take (length xs - suc (suc (suc (suc size)))) (drop (suc (suc (suc (suc size)))) xs)) (omega (arith, length-take-le size ys l)) split))
     ])
 
--- what begins with no parameter has none
+-- octets that don't begin with a parameter have none
 pub no_list : (n : ℕ) (xs : List ℕ) → ((i : ℕ) → get_or xs i 0 < 256) → BeginsNoParam xs → param_list n xs ≡ []
 no_list n [] small none = short_list n [] (omega arith)
 no_list n (a ∷ []) small none = short_list n (a ∷ []) (omega arith)
@@ -95,11 +95,11 @@ list_all (p ∷ ps) small fit =
     params_next p.0 p.1 (flat_map (λ q. param q.0 q.1) ps) (All-head (λ q. q.0 < 65536) p ps small) (All-head (λ q. length q.1 < 65536) p ps fit)
     ∙ ap (λ qs. p ∷ qs) (list_all ps (All-tail (λ q. q.0 < 65536) p ps small) (All-tail (λ q. length q.1 < 65536) p ps fit))
 
--- what is read of the wire form of ascending parameters is these
+-- what parses from the wire format of ascending parameters is these
 pub params_of_wire : (ps : List (ℕ × List ℕ)) → HasAscendingKeys ps → All (λ p. p.0 < 65536) ps → HasFittingValues ps → params_of (params_wire ps) ≡ ps
 params_of_wire ps up small fit = ap params_of (in_order ps up small fit) ∙ list_all ps small fit
 
--- the parameters of a wire form
+-- the parameters of a wire format
 pub record ReadBack (octets : List ℕ) : Type 0 where
   pub ascending : HasAscendingKeys (params_of octets)
   pub fitting : HasFittingValues (params_of octets)

@@ -1,4 +1,4 @@
--- The places whose bits are set, and the types of a window.
+-- The indices of set bits, and the types of a window.
 use Rattle.std.proofs.Common.{◌≡◌, ◌≢◌, ℕ, ◌+◌, ◌-◌, ◌*◌, ◌/◌, ◌<◌, ◌≤◌, ◌||◌, ◌==◌, true, false, cond, List, [], ◌∷◌, ◌++◌, length, All, map, refl, sym, ap, ◌∙◌, arith, zero, suc, inl, inr, subst, min}
 use Rattle.std.proofs.lemmas.List.Folds.{list_any-append}
 use Rattle.std.proofs.lemmas.List.Elements.{All-nil, All-cons, All-same, All-weaker, All-append, All-map, All-tail}
@@ -26,7 +26,7 @@ place_set octets first n e = places_first octets first n ∙ ap (λ b. cond b (f
 pub place_clear : (octets : List ℕ) (first n : ℕ) → bit_in octets first ≢ 1 → set_places octets first (suc n) ≡ set_places octets (first + 1) n
 place_clear octets first n e = places_first octets first n ∙ ap (λ b. cond b (first ∷ []) [] ++ set_places octets (first + 1) n) (ne_eqb (bit_in octets first) 1 e)
 
--- where no bit is set there are no places
+-- without set bits there are no indices
 pub no_places : (octets : List ℕ) (first n : ℕ) → ((p : ℕ) → first ≤ p → p < first + n → bit_in octets p ≡ 0) → set_places octets first n ≡ []
 no_places octets first zero h = places_none octets first
 no_places octets first (suc n) h =
@@ -69,7 +69,7 @@ places_ascend octets first (suc n) = elim (cases_eq (bit_in octets first) 1) [
 has_here : (x t : ℕ) (xs : List ℕ) → x ≡ t → has (x ∷ xs) t ≡ true
 has_here x t xs e = ap (λ b. b || has xs t) (eq-eqb x t e)
 
--- a place is one of them exactly if its bit is set
+-- an index is one of them exactly if its bit is set
 pub places_have : (octets : List ℕ) (first n code : ℕ) → first ≤ code → code < first + n → one_if (has (set_places octets first n) code) ≡ bit_in octets code
 places_have octets first zero code l h = absurd (omega arith)
 places_have octets first (suc n) code l h = elim (cases_eq (bit_in octets first) 1) [

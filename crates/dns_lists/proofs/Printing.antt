@@ -57,7 +57,7 @@ prints_more octets rest after old mid new item h is e n = record {
   text = n ∙ ap (λ x. x ++ (44 ∷ item_text item)) h.text ∙ append_assoc old (list_text h.items) (44 ∷ item_text item) ∙ ap (λ x. old ++ x) (sym (pushed_text h.items item h.is_list.some));
 }
 
--- nothing is left of the octets
+-- all of the octets are read
 pub text_whole : (octets rest old new : List ℕ) → PrintsList octets rest old new → length rest ≡ 0 → Gains (HasListText octets) old new
 text_whole octets [] old new h none = (list_text h.items, (h.items, h.is_list, h.split ∙ append-nil (wire_strings h.items), refl), h.text)
 text_whole octets (x ∷ rest) old new h none = absurd (omega (arith, none))

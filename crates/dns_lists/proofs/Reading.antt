@@ -1,4 +1,4 @@
--- Parameters that are taken from octets, one by one.
+-- Parameters that are parsed from octets, one by one.
 use Rattle.std.proofs.Common.{◌≡◌, ◌≢◌, ℕ, ◌+◌, ◌-◌, ◌<◌, ◌≤◌, ◌⊎◌, ◌==◌, Bool, true, false, cond, List, [], ◌∷◌, ◌++◌, length, take, drop, get_or, All, Option, None, Some, refl, sym, ap, ◌∙◌, arith, zero, suc, inl, inr, append_assoc, append-nil}
 use Rattle.std.specs.Int.{w16, to_be_bytes, from_be_bytes}
 use Rattle.std.specs.List.{flat_map}
@@ -22,7 +22,7 @@ same_number m n l k e = sym (from_be_bytes-to_be_bytes_2 m l) ∙ ap (from_be_by
 regrouped : (k v r : List ℕ) (l : List ℕ) → ((k ++ l) ++ v) ++ r ≡ k ++ (l ++ (v ++ r))
 regrouped k v r l = append_assoc (k ++ l) v r ∙ append_assoc k l (v ++ r)
 
--- a parameter in front of octets is told by them
+-- octets begin with one parameter
 pub same_param : (k j : ℕ) (v u r s : List ℕ) → k < 65536 → j < 65536 → length v < 65536 → length u < 65536
     → param k v ++ r ≡ param j u ++ s → (k ≡ j) × (v ≡ u) × (r ≡ s)
 unfolding param
@@ -170,7 +170,7 @@ no_param_from others next n rest fitting (inl none) some h = some none
 no_param_from others next n rest fitting (inr b) some h =
     h b.key b.value (params_from (value_at others) (b.key + 1) (next + n - (b.key + 1))) (fits_at others b.key b.value fitting b.is) b.octets_are
 
--- what begins with no parameter is the wire form of none
+-- octets with a rest that does not begin with a parameter are not a wire format
 pub no_param : (octets rest : List ℕ) (params others : List (ℕ × List ℕ)) (next : ℕ) → ReadsParams octets params rest next → rest ≢ []
     → ((key : ℕ) (value after : List ℕ) → length value < 65536 → rest ≢ param key value ++ after) → HasFittingValues others → params_wire others ≢ octets
 no_param octets rest params others next h some none fitting is =
@@ -187,7 +187,7 @@ param_number : (k : ℕ) (v r : List ℕ) → length v < 65536
 unfolding param
 param_number k v r l = from_be_bytes-to_be_bytes_2 (length v) l
 
--- what is cut off is no parameter
+-- a truncated parameter is not a parameter
 pub no_param_short : (xs : List ℕ) (k : ℕ) (v r : List ℕ) → xs ≡ param k v ++ r → 4 ≤ length xs
 no_param_short xs k v r e = let l = ap length e ∙ param_length k v r in omega arith
 
@@ -254,7 +254,7 @@ entries_tell f g w (suc n) v fit git l e low high =
       | inr later ↦ entries_tell f g (w + 1) n v fit git (omega arith) first.1 (omega arith) (omega arith)
     ]
 
--- the wire form tells the value of each key
+-- the wire format determines the value of each key
 pub same_values : (a b : List (ℕ × List ℕ)) (key : ℕ) → HasFittingValues a → HasFittingValues b → params_wire a ≡ params_wire b → key < 65536 → value_at a key ≡ value_at b key
 same_values a b key fa fb e l = entries_tell (value_at a) (value_at b) 0 65536 key (λ k v s. fits_at a k v fa s) (λ k v s. fits_at b k v fb s) (omega arith) e (omega arith) (omega arith)
 
@@ -274,7 +274,7 @@ read_all octets done (p ∷ ps) next h low up high fit =
     (All-head (λ q. next ≤ q.0) p ps low) (All-head (λ q. q.0 < 65536) p ps high) (All-head (λ q. length q.1 < 65536) p ps fit) refl)
     (first_key p ps up) (later_keys p ps up) (All-tail (λ q. q.0 < 65536) p ps high) (All-tail (λ q. length q.1 < 65536) p ps fit)
 
--- of ascending parameters the wire form is theirs, one after another
+-- the wire format of ascending parameters is theirs, one after another
 pub in_order : (ps : List (ℕ × List ℕ)) → HasAscendingKeys ps → All (λ p. p.0 < 65536) ps → HasFittingValues ps → params_wire ps ≡ flat_map (λ p. param p.0 p.1) ps
 in_order ps up high fit =
     read_all (flat_map (λ p. param p.0 p.1) ps) [] ps 0 (params_none (flat_map (λ p. param p.0 p.1) ps) [] refl) (λ k d l. omega arith) up high fit

@@ -44,7 +44,7 @@ slice_is_window octets w k m ek em n l small =
 has_no : (octets : List ℕ) (code : ℕ) → code < 65536 → bit_in octets code ≡ 0 → has (members octets) code ≡ false
 has_no octets code l e = sym (bit_of false octets code l (sym e))
 
--- behind the windows in use there are no types
+-- there are no types after the windows in use
 pub none_above : (octets : List ℕ) (n : ℕ) → CoversCodes octets n → (code : ℕ) → code < 65536 → 256 * n ≤ code → has (members octets) code ≡ false
 none_above octets n c code l m = has_no octets code l (c.above code l m)
 
@@ -88,7 +88,7 @@ some_in_use octets n c e none =
     let is = members_have octets at.0 at.1 ∙ at.3 in
     let clear = ap (λ ts. one_if (has ts at.0)) none in omega arith
 
--- octets with the bit at a place set
+-- octets with the bit at an index set
 abbrev pub with_bit : List ℕ → ℕ → List ℕ
 with_bit octets q = set octets (q / 8) (bit_or (get_or octets (q / 8) 0) (1 * 2 ^ (7 - q % 8) % 2 ^ 8))
 

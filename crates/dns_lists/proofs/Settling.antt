@@ -1,4 +1,4 @@
--- A parameter that is brought to its place.
+-- A parameter that is moved to its offset.
 use Rattle.std.proofs.Common.{◌≡◌, ℕ, ◌+◌, ◌-◌, ◌<◌, ◌≤◌, ◌==◌, Bool, true, false, cond, List, [], ◌∷◌, ◌++◌, length, take, drop, get_or, set, Option, None, Some, IsSome, refl, sym, ap, ◌∙◌, arith, subst, zero, suc, inl, inr, append_assoc, append-nil}
 use Rattle.std.specs.Int.{w16, to_be_bytes, from_be_bytes}
 use Rattle.std.proofs.lemmas.List.{take_at, drop_at, set_at, get_or-append-add, take-append-drop, take_all, drop_all, length-append, length-drop, length-take-le}
@@ -9,7 +9,7 @@ use Rattle.dns_lists.specs.Params.{param, param_if, params_from, params_wire, va
 use Rattle.dns_lists.proofs.Entries.{entries_none, entries_first, entries_split, entries_same, entries_empty, entries_more}
 use Rattle.dns_lists.proofs.Reading.{same_param, param_some, key_begins, BeginsWithKey, key_follows, fits_at, value_other}
 
--- no value is longer than its length can say
+-- each value is short enough for a length of two octets
 abbrev pub Fits : (ℕ → Option (List ℕ)) → Type 0
 Fits f = (key : ℕ) (value : List ℕ) → f key ≡ Some value → length value < 65536
 
@@ -26,7 +26,7 @@ none_by f w n a u v after None e fit l la lv is low high later =
       | inr other ↦ later (sym front ∙ is) (omega arith)
     ]
 
--- below the first key there is none
+-- no key is below the first
 pub none_before : (f : ℕ → Option (List ℕ)) (w n a u : ℕ) (v after : List ℕ) → Fits f → w + n ≤ 65536 → a < 65536 → length v < 65536
     → params_from f w n ≡ param a v ++ after → w ≤ u → u < a → f u ≡ None
 none_before f w zero a u v after fit l la lv is low high = absurd (param_some a v after (sym is ∙ entries_none f w))
@@ -45,12 +45,12 @@ empty_by f w n u None e is low later =
       | inr other ↦ later (sym front ∙ is) (omega arith)
     ]
 
--- with no octets there is no key
+-- without octets there is no key
 pub none_of_empty : (f : ℕ → Option (List ℕ)) (w n u : ℕ) → params_from f w n ≡ [] → w ≤ u → u < w + n → f u ≡ None
 none_of_empty f w zero u is low high = absurd (omega arith)
 none_of_empty f w (suc n) u is low high = empty_by f w n u (f w) refl is low (λ e later. none_of_empty f (w + 1) n u e later (omega arith))
 
--- the place is that behind the keys below some key, which is not above the one that is looked for
+-- the offset is after the parameters with keys below some key, which is not above the one that is looked for
 pub record StandsAt (params : List (ℕ × List ℕ)) (key place : ℕ) : Type 0 where
   pub next : ℕ
   pub low : next ≤ key
@@ -115,7 +115,7 @@ placed params key place octets h l e none =
       back = behind params key place octets h l e ∙ back;
     }
 
--- in front of a parameter whose key is above
+-- the offset is before a parameter whose key is above
 pub placed_before : (params : List (ℕ × List ℕ)) (key place k : ℕ) (octets v after : List ℕ) → StandsAt params key place → HasFittingValues params → key < 65536
     → octets ≡ params_wire params → drop place octets ≡ param k v ++ after → k < 65536 → length v < 65536 → key < k → Placed params key place octets
 placed_before params key place k octets v after h fit l e split lk lv less =
@@ -127,7 +127,7 @@ nothing_by : (params : List (ℕ × List ℕ)) (w n : ℕ) (octets : List ℕ) �
 nothing_by params w n octets fit (inl e) none = e
 nothing_by params w n octets fit (inr b) none = absurd (none b.key b.value (params_from (value_at params) (b.key + 1) (w + n - (b.key + 1))) (fit b.key b.value b.is) b.octets_are)
 
--- behind all parameters
+-- the offset is after all parameters
 pub placed_last : (params : List (ℕ × List ℕ)) (key place : ℕ) (octets : List ℕ) → StandsAt params key place → HasFittingValues params → key < 65536
     → octets ≡ params_wire params → BeginsNoParam (drop place octets) → Placed params key place octets
 placed_last params key place octets h fit l e none =
@@ -158,7 +158,7 @@ now_has_value : (ps : List (ℕ × List ℕ)) (key : ℕ) (v : List ℕ) → val
 now_has_value [] key v e = ap (λ b. cond b (Some v) None) (eq-eqb key key refl)
 now_has_value (q ∷ qs) key v e = new_by q qs key v (q.0 == key) (now_has_value qs key v) e
 
--- the wire form with one parameter more
+-- the wire format with one more parameter
 wire_with : (params : List (ℕ × List ℕ)) (key : ℕ) (v : List ℕ) → key < 65536 → value_at params key ≡ None
     → params_wire (params ++ (key, v) ∷ []) ≡ params_from (value_at params) 0 key ++ (param key v ++ params_from (value_at params) (key + 1) (65536 - (key + 1)))
 wire_with params key v l none =
@@ -191,7 +191,7 @@ size_set octets (a ∷ b ∷ []) value params key at l e ea bytes eb =
     ∙ ap (λ y. set (set (params_wire params ++ (to_be_bytes w16 key ++ (a ∷ b ∷ value))) (at + 2) (get_or y 0 0)) (at + 3) (get_or y 1 0)) eb
     ∙ set_two (params_wire params) value (get_or (to_be_bytes w16 key) 0 0) (get_or (to_be_bytes w16 key) 1 0) a b (get_or (to_be_bytes w16 (length value)) 0 0) (get_or (to_be_bytes w16 (length value)) 1 0) at (sym ea)
 
--- the key behind the parameters
+-- the key after the parameters
 pub key_behind : (octets size value : List ℕ) (params : List (ℕ × List ℕ)) (key at : ℕ) → key < 65536 → octets ≡ params_wire params ++ (to_be_bytes w16 key ++ (size ++ value))
     → at ≡ length (params_wire params) → from_be_bytes w16 (get_or octets at 0 ∷ get_or octets (at + 1) 0 ∷ []) ≡ key
 key_behind octets size value params key at l e ea =
@@ -224,7 +224,7 @@ turn f l p s a b e la lb =
     ∙ ap (λ x. f ++ (x ++ take b (l ++ p))) (drop_at l p b lb)
     ∙ ap (λ x. f ++ (p ++ x)) (take_at l p b lb)
 
--- turned, the parameter is at its place
+-- after the rotation, the parameter is at its offset
 pub turned : (params : List (ℕ × List ℕ)) (key place at : ℕ) (value sized : List ℕ) → key < 65536 → at ≡ length (params_wire params) → place ≤ at
     → value_at params key ≡ None → take place (params_wire params) ≡ params_from (value_at params) 0 key
     → drop place (params_wire params) ≡ params_from (value_at params) (key + 1) (65536 - (key + 1)) → sized ≡ params_wire params ++ param key value
@@ -242,7 +242,7 @@ turned params key place at value sized l ea lp none front back e =
 put_end : (a k : ℕ) (xs ys : List ℕ) → length xs ≤ a + k → put_mid a k xs ys ≡ take a xs ++ ys
 put_end a k xs ys l = ap (λ r. take a xs ++ (ys ++ r)) (drop_all k (drop a xs) (omega (arith, length-drop a xs))) ∙ ap (λ x. take a xs ++ x) (append-nil ys)
 
--- the part behind a place is turned, and so the parameter at its place
+-- the part after an offset is rotated, so the parameter is at its offset
 pub turned_at : (params : List (ℕ × List ℕ)) (key place at k : ℕ) (value sized moved : List ℕ) → key < 65536 → at ≡ length (params_wire params) → place ≤ at
     → value_at params key ≡ None → take place (params_wire params) ≡ params_from (value_at params) 0 key
     → drop place (params_wire params) ≡ params_from (value_at params) (key + 1) (65536 - (key + 1)) → sized ≡ params_wire params ++ param key value

@@ -1,4 +1,4 @@
--- Types that are taken from a bitmap, window by window.
+-- Types that are parsed from a bitmap, window by window.
 use Rattle.std.proofs.Common.{◌≡◌, ◌≢◌, ℕ, ◌+◌, ◌-◌, ◌*◌, ◌/◌, ◌%◌, ◌<◌, ◌≤◌, ◌⊎◌, false, List, [], ◌∷◌, ◌++◌, length, get_or, take, drop, All, refl, sym, ap, ◌∙◌, arith, suc, inl, inr, append-nil, append_assoc}
 use Rattle.std.proofs.lemmas.List.{get_or_past, get_or-take, get_or-drop, take_at, drop_at, take-append-drop, take_rest, length-take-le, length-drop}
 use Rattle.std.proofs.lemmas.List.Elements.{All-weaker, All-from_get_or}
@@ -14,7 +14,7 @@ use Rattle.dns_lists.proofs.Windows.{window_of, window_is, has_none, skipped}
 pub none_above : (types : List ℕ) (n code : ℕ) → All (λ t. t < n) types → n ≤ code → has types code ≡ false
 none_above types n code h l = has_none types code (All-weaker (λ t. t < n) (λ t. t ≢ code) (λ t below e. omega arith) types h)
 
--- behind the end there are no bits
+-- there are no bits after the end
 pub bit_past : (octets : List ℕ) (p : ℕ) → 8 * length octets ≤ p → bit_in octets p ≡ 0
 bit_past octets p l = ap (λ x. bit_at x (7 - p % 8)) (get_or_past octets (p / 8) 0 (omega arith)) ∙ bit_at-zero (7 - p % 8)
 
@@ -60,7 +60,7 @@ pub block_is : (w : ℕ) (xs : List ℕ) → 0 < length xs → window_block w xs
 block_is w [] l = absurd (omega arith)
 block_is w (x ∷ xs) l = refl
 
--- new is old with the types of a window behind it
+-- the new set is the old one with the types of a window added
 pub record TakesWindow (old : List ℕ) (window : ℕ) (octets new : List ℕ) : Type 0 where
   pub kept : (code : ℕ) → code / 256 ≢ window → has new code ≡ has old code
   pub bits : (place : ℕ) → place < 256 → one_if (has new (256 * window + place)) ≡ bit_in octets place
@@ -122,7 +122,7 @@ refused_by others next n rest (inl none) some h = some none
 refused_by others next n rest (inr (a, at)) some h =
     h a (window_of others a) (window_blocks (window_of others) (a + 1) (next + n - (a + 1))) (window_data others a at.some) at.octets_are
 
--- what begins with no block is the bitmap of no types
+-- octets that are not empty and do not begin with a block are not the blocks of windows
 pub no_block : (others : List ℕ) (next n : ℕ) (rest : List ℕ) → window_blocks (window_of others) next n ≡ rest → rest ≢ []
     → ((a : ℕ) (xs after : List ℕ) → IsData xs → rest ≢ a ∷ length xs ∷ xs ++ after) → ⊥
 no_block others next n rest e some h =

@@ -1,4 +1,4 @@
--- A bitmap tells the members, and an ascending list is told by its members.
+-- A bitmap determines its members, and the members determine an ascending list.
 use Rattle.std.proofs.Common.{◌≡◌, ◌≢◌, ℕ, ◌+◌, ◌-◌, ◌*◌, ◌/◌, ◌%◌, ◌<◌, ◌≤◌, ◌||◌, Bool, true, false, List, [], ◌∷◌, ◌++◌, All, refl, sym, ap, ◌∙◌, arith, zero, suc, inl, inr}
 use Rattle.std.proofs.lemmas.List.Elements.{All-tail, All-weaker}
 use Rattle.std.proofs.lemmas.Bool.{cases_order, eq-eqb, ne_eqb, cases_eq}

@@ -56,7 +56,7 @@ module _ (test other : List ℕ → Bool) (parts later : List (List ℕ)) (part 
   pub both_found : test part ≡ true → other part ≡ true → both_tests test other true later ≡ all
   both_found t f = both_found_by (test part) (other part) passed (list_all test later) (list_any other later) t f (ap (both_tests test other passed) (sym split) ∙ h)
 
--- octets from a place on pass a test
+-- octets from an index on pass a test
 module _ (test : ℕ → Bool) (text : List ℕ) (i : ℕ) (all : Bool) (h : list_all test (drop i text) ≡ all) where
   pub octet_passes : i < length text → test (get_or text i 0) ≡ true → list_all test (drop (i + 1) text) ≡ all
   octet_passes l t = ap (λ b. b && list_all test (drop (i + 1) text)) (sym t) ∙ ap (list_all test) (sym (drop_more text i 0 l)) ∙ h
@@ -67,7 +67,7 @@ module _ (test : ℕ → Bool) (text : List ℕ) (i : ℕ) (all : Bool) (h : lis
   pub none_fails : length text ≤ i → true ≡ all
   none_fails l = ap (list_all test) (sym (drop_all i text l)) ∙ h
 
--- the place of the first mark
+-- the index of the first mark
 pub mark_place : (text : List ℕ) (i : ℕ) → i < length text → ((k : ℕ) → k < i → is_modifier_mark (get_or text k 0) ≡ false) → is_modifier_mark (get_or text i 0) ≡ true
     → i ≡ position_or_len is_modifier_mark text
 mark_place text i l before here = sym (position_or_len_is is_modifier_mark text i 0 (omega (arith, l)) before (λ m. here))

@@ -15,7 +15,7 @@ at_front (suc x) [] k = refl
 at_front zero (y ∷ ys) k = refl
 at_front (suc x) (y ∷ ys) k = refl
 
--- each octet stays, where those past the end count as zeros
+-- each octet is unchanged, if those past the end count as zeros
 pub trimmed_at : (xs : List ℕ) (k : ℕ) → get_or (trimmed xs) k 0 ≡ get_or xs k 0
 unfolding trimmed
 trimmed_at [] k = refl

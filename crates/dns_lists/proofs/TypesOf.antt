@@ -156,7 +156,7 @@ taken_so_far xs n size e = elim (cases_lt size (length xs)) [
   | inr l ↦ (take_all n xs (omega arith) ∙ sym (take_all size xs l), drop_all n xs (omega arith) ∙ sym (drop_all size xs l))
 ]
 
--- where a block is entered, its types are left and those of the blocks behind it
+-- at the beginning of a block, its types and those of the blocks after it are unread
 pub entered : (xs : List ℕ) (n size : ℕ) → 2 ≤ length xs → size ≡ get_or xs 1 0 → n ≡ min (length xs) (2 + size)
     → types_in (get_or xs 0 0) (take (n - 2) (drop 2 xs)) 0 ++ types_of (take (length xs - n) (drop n xs)) ≡ types_of xs
 entered [] n size l e en = absurd (omega arith)
@@ -171,7 +171,7 @@ entered (a ∷ b ∷ ys) (suc (suc n)) size l e en =
     ∙ ap (λ x. types_in a x 0 ++ types_of (drop n ys)) parts.0 ∙ ap (λ r. types_in a (take size ys) 0 ++ types_of r) parts.1
     ∙ ap (λ k. types_in a (take k ys) 0 ++ types_of (drop k ys)) e ∙ sym (types_next a b ys)
 
--- at the end of a window only the blocks behind it are left
+-- at the end of a window only the blocks after it are unread
 pub window_over : (w : ℕ) (octets rest : List ℕ) → types_in w octets 256 ++ types_of rest ≡ types_of rest
 window_over w octets rest = ap (λ ps. map (λ q. 256 * w + q) ps ++ types_of rest) (places_none octets 256)
 

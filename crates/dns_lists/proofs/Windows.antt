@@ -35,7 +35,7 @@ window_empty types window none = window_is types [] window (λ n l. absurd (omeg
 pub has_none : (types : List ℕ) (code : ℕ) → All (λ t. t ≢ code) types → has types code ≡ false
 has_none types code h = list_any_none (λ t. t == code) types (All-weaker (λ t. t ≢ code) (λ t. (t == code) ≡ false) (λ t n. ne_eqb t code n) types h)
 
--- windows in which no type is have no blocks
+-- windows without types have no blocks
 pub skipped : (types : List ℕ) (a b : ℕ) → a ≤ b → All (λ t. (t / 256 < a) ⊎ (b ≤ t / 256)) types
     → window_blocks (window_of types) 0 b ≡ window_blocks (window_of types) 0 a
 skipped types a b l h =

@@ -1,4 +1,4 @@
--- The bitmap of a list of types (RFC 4034 section 4.1.2).
+-- The type bitmap of a list of types (RFC 4034 section 4.1.2).
 use Rattle.std.specs.Prelude.{ℕ, zero, suc, ◌+◌, ◌-◌, ◌*◌, ◌/◌, ◌%◌, ◌==◌, ◌<◌, ◌≤◌, ◌≡◌, ◌≢◌, ◌⊎◌, All, Bool, cond, List, [], ◌∷◌, ◌++◌, length, map, take, drop, slice_index}
 use Rattle.std.specs.Int.{bit_at}
 use Rattle.std.specs.List.{list_any, flat_map, range_with_len, AllPairs}
@@ -22,7 +22,7 @@ types_octet types first =
 unfoldable pub window_octets_of : List ℕ → ℕ → List ℕ
 window_octets_of types window = map (λ k. types_octet types (256 * window + 8 * k)) (range_with_len 0 32)
 
--- an octet in front of others: a zero is left out where nothing follows
+-- an octet before others: a zero is omitted if nothing follows
 abbrev pub in_front : ℕ → List ℕ → List ℕ
 in_front zero [] = []
 in_front octet octets = octet ∷ octets
@@ -32,12 +32,12 @@ unfoldable pub trimmed : List ℕ → List ℕ
 trimmed [] = []
 trimmed (x ∷ xs) = in_front x (trimmed xs)
 
--- a block: the window's number, how many octets, and these; of no octets there is no block
+-- a block: the window's number, the number of octets, and these; without octets there is no block
 abbrev pub window_block : ℕ → List ℕ → List ℕ
 window_block window [] = []
 window_block window (x ∷ xs) = window ∷ length (x ∷ xs) ∷ x ∷ xs
 
--- the blocks of so many windows from the first on
+-- the blocks of `count` windows from the first on
 unfoldable pub window_blocks : (ℕ → List ℕ) → ℕ → ℕ → List ℕ
 window_blocks octets first count = flat_map (λ w. window_block w (octets w)) (range_with_len first count)
 
@@ -45,7 +45,7 @@ window_blocks octets first count = flat_map (λ w. window_block w (octets w)) (r
 abbrev pub bitmap : List ℕ → List ℕ
 bitmap types = window_blocks (λ w. trimmed (window_octets_of types w)) 0 256
 
--- the bit at a place of octets, counted from the left; 0 behind their end
+-- the bit at an index of octets, counted from the left; 0 after their end
 abbrev pub bit_in : List ℕ → ℕ → ℕ
 bit_in octets place = bit_at (slice_index octets (place / 8)) (7 - place % 8)
 
@@ -68,15 +68,15 @@ IsBitmap octets = (types : List ℕ) × (bitmap types ≡ octets)
 abbrev pub SameTypes : List ℕ → List ℕ → Type 0
 SameTypes a b = (code : ℕ) → code < 65536 → has a code ≡ has b code
 
--- the places whose bits are set, of so many from the first on
+-- the indices of the set bits, of `count` bits from the first on
 unfoldable pub set_places : List ℕ → ℕ → ℕ → List ℕ
 set_places octets first count = flat_map (λ place. cond (bit_in octets place == 1) (place ∷ []) []) (range_with_len first count)
 
--- the types of a window from a place on
+-- the types of a window from a bit on
 abbrev pub types_in : ℕ → List ℕ → ℕ → List ℕ
 types_in window octets place = map (λ p. 256 * window + p) (set_places octets place (256 - place))
 
--- the types of so many blocks or fewer: of each its window's number, how many octets, and these
+-- the types of at most `count` blocks; each block is its window's number, the number of octets, and these
 unfoldable pub block_types : ℕ → List ℕ → List ℕ
 block_types (suc count) (window ∷ size ∷ octets) = types_in window (take size octets) 0 ++ block_types count (drop size octets)
 block_types zero octets = []
@@ -87,16 +87,16 @@ block_types (suc count) (window ∷ []) = []
 abbrev pub types_of : List ℕ → List ℕ
 types_of octets = block_types (length octets) octets
 
--- a bitmap, and such octets after it
+-- octets that are a bitmap and then these octets
 abbrev pub GoesWrong : (List ℕ → Type 0) → List ℕ → Type 0
 GoesWrong Is octets = (types rest : List ℕ) × (octets ≡ bitmap types ++ rest) × Is rest
 
--- how many octets a block has
+-- a number of octets that a block may have
 abbrev pub IsBlockSize : ℕ → Type 0
 IsBlockSize size = (0 < size) × (size ≤ 32)
 
--- what stands in front, with its error: two blocks of which the second is not above the first; a size of none or
--- too many octets; a last octet of zero; no size, or fewer octets than it says
+-- what the octets begin with, by the error: two blocks whose numbers do not ascend; a size of none
+-- or too many octets; a last octet of zero; no size, or fewer octets than the size
 abbrev pub IsWrongBlock : BitmapError → List ℕ → Type 0
 IsWrongBlock Order octets = (a b : ℕ) × (xs ys after : List ℕ) × (octets ≡ window_block a xs ++ (window_block b ys ++ after)) × IsData xs × IsData ys × (b ≤ a)
 IsWrongBlock Length octets = (2 ≤ length octets) × ¬ IsBlockSize (slice_index octets 1)

@@ -6,12 +6,12 @@ use Rattle.dns_lists.specs.Bitmap.{bit_in, has, set_places}
 abbrev pub members : List ℕ → List ℕ
 members octets = set_places octets 0 65536
 
--- where the last window ends that has a code, or 0 where none has
+-- the end of the last window that has a code, or 0 if none has one
 pub record EndsCodes (types : List ℕ) (end : ℕ) : Type 0 where
   pub whole : end % 256 ≡ 0
   pub last : end ≢ 0 → (code : ℕ) × (code < end) × (end ≤ code + 256) × (has types code ≡ true)
 
--- the first windows, of this count, have all codes, and the last of them has one
+-- the first `windows` windows have all codes, and the last of them has one
 pub record CoversCodes (octets : List ℕ) (windows : ℕ) : Type 0 where
   pub high : windows ≤ 256
   pub above : (code : ℕ) → code < 65536 → 256 * windows ≤ code → bit_in octets code ≡ 0

@@ -13,7 +13,7 @@ pair p = (p.key, p.value.now)
 abbrev pub value_at : List (ℕ × List ℕ) → ℕ → Option (List ℕ)
 value_at params key = lookup (λ k. k == key) params
 
--- a parameter: its key, how many octets, and these
+-- a parameter: its key, the length of its value, and the value
 unfoldable pub param : ℕ → List ℕ → List ℕ
 param key value = to_be_bytes w16 key ++ to_be_bytes w16 (length value) ++ value
 
@@ -21,7 +21,7 @@ abbrev pub param_if : ℕ → Option (List ℕ) → List ℕ
 param_if key None = []
 param_if key (Some value) = param key value
 
--- of so many keys from the first on, those with a value
+-- the parameters with a value, of `count` keys from the first on
 unfoldable pub params_from : (ℕ → Option (List ℕ)) → ℕ → ℕ → List ℕ
 params_from value first count = flat_map (λ key. param_if key (value key)) (range_with_len first count)
 
@@ -33,18 +33,18 @@ params_wire params = params_from (value_at params) 0 65536
 abbrev pub HasAscendingKeys : List (ℕ × List ℕ) → Type 0
 HasAscendingKeys params = AllPairs (λ p q. p.0 < q.0) params
 
--- no value is longer than its length can say
+-- each value is short enough for a length of two octets
 abbrev pub HasFittingValues : List (ℕ × List ℕ) → Type 0
 HasFittingValues params = All (λ p. length p.1 < 65536) params
 
--- octets that are the wire form of parameters, which then stand in order
+-- octets that are the wire format of parameters, in the order of their keys
 abbrev pub IsParams : List ℕ → Type 0
 IsParams octets = (params : List (ℕ × List ℕ)) × HasAscendingKeys params × HasFittingValues params × All (λ p. p.0 < 65536) params × (params_wire params ≡ octets)
 
 abbrev pub param_first : ℕ → ℕ → List ℕ → List (ℕ × List ℕ) → List (ℕ × List ℕ)
 param_first key size octets later = cond (nat_lt (length octets) size) [] ((key, take size octets) ∷ later)
 
--- so many parameters or fewer, up to one that is cut off
+-- at most `count` parameters, up to one that is truncated
 unfoldable pub param_list : ℕ → List ℕ → List (ℕ × List ℕ)
 param_list (suc count) (a ∷ b ∷ c ∷ d ∷ octets) =
     param_first (from_be_bytes w16 (a ∷ b ∷ [])) (from_be_bytes w16 (c ∷ d ∷ [])) octets (param_list count (drop (from_be_bytes w16 (c ∷ d ∷ [])) octets))
@@ -54,26 +54,26 @@ param_list (suc count) (a ∷ []) = []
 param_list (suc count) (a ∷ b ∷ []) = []
 param_list (suc count) (a ∷ b ∷ c ∷ []) = []
 
--- the parameters whose wire form octets are
+-- the parameters whose wire format the octets are
 abbrev pub params_of : List ℕ → List (ℕ × List ℕ)
 params_of octets = param_list (length octets) octets
 
--- no parameter stands in front
+-- the octets do not begin with a parameter
 abbrev pub BeginsNoParam : List ℕ → Type 0
 BeginsNoParam octets = (key : ℕ) (value rest : List ℕ) → length value < 65536 → octets ≢ param key value ++ rest
 
--- no parameters have this wire form
+-- no parameters have this wire format
 abbrev pub IsNoParams : List ℕ → Type 0
 IsNoParams octets = (others : List (ℕ × List ℕ)) → HasFittingValues others → params_wire others ≢ octets
 
--- the octets are in no wire form: behind some parameters stands what is none
+-- the octets are not a wire format: after some parameters come octets that do not begin with one
 abbrev pub IsCutOff : List ℕ → Type 0
 IsCutOff octets = (params : List (ℕ × List ℕ)) × (rest : List ℕ) × HasFittingValues params × (octets ≡ params_wire params ++ rest) × (rest ≢ []) × BeginsNoParam rest
 
--- behind some parameters stands one whose key is not above each of theirs
+-- after some parameters comes one whose key is not above each of theirs
 abbrev pub StandsOutOfOrder : ℕ → List ℕ → Type 0
 StandsOutOfOrder key octets = (params : List (ℕ × List ℕ)) × (value after : List ℕ) × HasFittingValues params × (octets ≡ params_wire params ++ (param key value ++ after)) × Any (λ p. key ≤ p.0) params
 
--- behind the wire form of parameters stands one more, whose two length octets say nothing yet
+-- after the wire format of parameters comes one more, whose two octets of length may have any value
 abbrev pub IsUnsettled : List (ℕ × List ℕ) → ℕ → List ℕ → List ℕ → Type 0
 IsUnsettled params key value octets = (size : List ℕ) × (length size ≡ 2) × (octets ≡ params_wire params ++ (to_be_bytes w16 key ++ (size ++ value)))

@@ -1,4 +1,4 @@
--- Why octets are no service parameters, and why one can't be added.
+-- Why octets are not service parameters, and why one can't be added.
 use Rattle.std.specs.Prelude.{◌≡◌, ◌==◌, if◌then◌else◌, ℕ, ◌+◌, ◌-◌, ◌<◌, ◌≤◌, All, None, IsSome, List, [], ◌∷◌, ◌++◌, length, take, drop, Result, Ok, Err}
 use Rattle.std.specs.Option.{option_map_or}
 use Rattle.dns_lists.specs.Params.{value_at, params_from, params_wire, params_of, IsParams, IsNoParams, IsCutOff, StandsOutOfOrder}
@@ -6,13 +6,13 @@ use Rattle.dns_lists.specs.Values.{IsParamValue, first_missing}
 use Rattle.dns_kinds.specs.declared.error.ErrorKind.{ErrorKind}
 use Rattle.dns_kinds.specs.declared.error.ErrorKind.TheVariants.{ShortParams, ParamOrder, ParamValue, MissingParam, LongValue, RepeatedParam}
 
--- why octets are no wire form of parameters
+-- why octets are not the wire format of parameters
 abbrev pub IsFormFault : ErrorKind → List ℕ → Type 0
 IsFormFault ShortParams octets = IsNoParams octets × IsCutOff octets
 IsFormFault (ParamOrder key) octets = IsNoParams octets × StandsOutOfOrder key octets
 IsFormFault other octets = ⊥
 
--- a value that is right beside these parameters
+-- a value that its key allows beside these parameters
 abbrev pub IsRight : List (ℕ × List ℕ) → ℕ × List ℕ → Type 0
 IsRight params p = IsParamValue params p.0 p.1
 
@@ -26,7 +26,7 @@ IsFirstWrongParam key value params = (front back : List (ℕ × List ℕ)) × (p
 abbrev pub IsFirstWrong : ℕ → List (ℕ × List ℕ) → Type 0
 IsFirstWrong key params = (value : List ℕ) × IsFirstWrongParam key value params
 
--- what is wrong with a value: that of `mandatory` lists a key that is missing, of several the first; or anything else
+-- the error of a value: `mandatory` lists a key that is missing, and the error has the first such key; or any other error
 abbrev pub value_fault : List (ℕ × List ℕ) → ℕ → List ℕ → ErrorKind
 value_fault params key value = if key == 0 then option_map_or (λ missing. MissingParam missing) (first_missing params value) (ParamValue 0) else ParamValue key
 
@@ -39,7 +39,7 @@ HasValueFault fault octets =
 abbrev pub AreRightParams : List ℕ → Type 0
 AreRightParams octets = IsParams octets × AreAllRight (params_of octets)
 
--- why octets are no parameters with right values
+-- why octets are not parameters with right values
 abbrev pub IsParamsFault : ErrorKind → List ℕ → Type 0
 IsParamsFault ShortParams octets = IsNoParams octets × IsCutOff octets
 IsParamsFault (ParamOrder key) octets = IsNoParams octets × StandsOutOfOrder key octets
@@ -47,7 +47,7 @@ IsParamsFault (ParamValue key) octets = HasValueFault (ParamValue key) octets
 IsParamsFault (MissingParam key) octets = HasValueFault (MissingParam key) octets
 IsParamsFault other octets = ⊥
 
--- where a key belongs among parameters, if it is not there
+-- the offset at which a key belongs among parameters, if they don't have it
 abbrev pub FindsPlace : List (ℕ × List ℕ) → ℕ → List ℕ → Result ℕ ErrorKind → Type 0
 FindsPlace params key octets (Ok place) =
     (value_at params key ≡ None) × (take place octets ≡ params_from (value_at params) 0 key)

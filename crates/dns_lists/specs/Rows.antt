@@ -26,7 +26,7 @@ empty_window : window_block 7 (trimmed (window_octets_of [] 7)) ≡ []
 unfolding types_octet window_octets_of trimmed
 empty_window = refl
 
--- and read back
+-- the types of the bitmap
 types : types_of (0 ∷ 6 ∷ 64 ∷ 1 ∷ 0 ∷ 0 ∷ 0 ∷ 3 ∷ 4 ∷ 27 ∷ 0 ∷ 0 ∷ 0 ∷ 0 ∷ 0 ∷ 0 ∷ 0 ∷ 0 ∷ 0 ∷ 0 ∷ 0 ∷ 0 ∷ 0 ∷ 0 ∷ 0 ∷ 0 ∷ 0 ∷ 0 ∷ 0 ∷ 0 ∷ 0 ∷ 0 ∷ 0 ∷ 0 ∷ 0 ∷ 0 ∷ 32 ∷ []) ≡ listed
 unfolding set_places block_types
 types = refl
@@ -36,12 +36,12 @@ port : param 3 (0 ∷ 53 ∷ []) ≡ 0 ∷ 3 ∷ 0 ∷ 2 ∷ 0 ∷ 53 ∷ []
 unfolding param
 port = refl
 
--- no-default-alpn and port 53; the last is cut off
+-- no-default-alpn and port 53; the last is truncated
 read_params : params_of (0 ∷ 2 ∷ 0 ∷ 0 ∷ 0 ∷ 3 ∷ 0 ∷ 2 ∷ 0 ∷ 53 ∷ 0 ∷ 4 ∷ 0 ∷ 4 ∷ 1 ∷ []) ≡ (2, []) ∷ (3, 0 ∷ 53 ∷ []) ∷ []
 unfolding param_list
 read_params = refl
 
--- the example of RFC 9460 appendix D.2, behind the escapes of its character string
+-- the example of RFC 9460 appendix D.2, after the character string is unescaped
 list : list_text (codes "f\\oo,bar" ∷ codes "h2" ∷ []) ≡ codes "f\\\\oo\\,bar,h2"
 unfolding item_octet
 list = refl

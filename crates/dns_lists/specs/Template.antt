@@ -18,26 +18,26 @@ begins_escape (a ∷ b ∷ []) = false
 begins_escape (a ∷ []) = false
 begins_escape [] = false
 
--- such octets and escapes
+-- letters, digits, underscores and escapes
 unfoldable pub are_variable_octets : List ℕ → Bool
 are_variable_octets [] = true
 are_variable_octets (a ∷ []) = is_variable_octet a
 are_variable_octets (a ∷ b ∷ []) = is_variable_octet a && is_variable_octet b
 are_variable_octets (a ∷ b ∷ c ∷ rest) = if is_variable_octet a then are_variable_octets (b ∷ c ∷ rest) else (begins_escape (a ∷ b ∷ c ∷ rest) && are_variable_octets rest)
 
--- some of them
+-- one or more of them
 abbrev pub are_some_variable_octets : List ℕ → Bool
 are_some_variable_octets [] = false
 are_some_variable_octets (o ∷ rest) = are_variable_octets (o ∷ rest)
 
--- the name of a variable: some of them, and again some after each dot
+-- the name of a variable: one or more of them, and one or more after each dot
 abbrev pub is_variable_name : List ℕ → Bool
 is_variable_name name = list_all are_some_variable_octets (slice_split (λ o. o == 46) name)
 
 abbrev pub is_limit_digit : ℕ → Bool
 is_limit_digit o = nat_le 48 o && nat_le o 57
 
--- a number from 1 to 9999: one to four digits, the first no zero
+-- a number from 1 to 9999: one to four digits, the first not zero
 abbrev pub is_length_limit : List ℕ → Bool
 is_length_limit [] = false
 is_length_limit (d ∷ digits) = nat_le (length digits) 3 && not (d == 48) && list_all is_limit_digit (d ∷ digits)
@@ -66,7 +66,7 @@ abbrev pub without_operator : List ℕ → List ℕ
 without_operator [] = []
 without_operator (o ∷ rest) = if is_operator o then rest else o ∷ rest
 
--- the variables of the expression before a text, which goes up to a closing brace: apart by commas, after an operator if there is one
+-- the variables of the expression before a text, up to a closing brace: separated by commas, after an operator if there is one
 abbrev pub variables_in_front : List ℕ → List (List ℕ)
 variables_in_front text = slice_split (λ o. o == 44) (without_operator (before_first (λ o. o == 125) text))
 
@@ -76,7 +76,7 @@ begins_expression text = list_any (λ o. o == 125) text && list_all is_variable 
 abbrev pub begins_query : List ℕ → Bool
 begins_query text = list_any is_named_dns (variables_in_front text)
 
--- what is after each opening brace, up to the next
+-- the text after each opening brace, up to the next
 abbrev pub behind_braces : List ℕ → List (List ℕ)
 behind_braces text = drop 1 (slice_split (λ o. o == 123) text)
 

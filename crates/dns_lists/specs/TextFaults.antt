@@ -1,4 +1,4 @@
--- Why a list of strings is refused, as text and as octets.
+-- Why a list of strings is rejected, in presentation format and in wire format.
 use Rattle.std.specs.Prelude.{◌≡◌, ◌≢◌, ◌⊎◌, ℕ, ◌+◌, ◌<◌, List, [], ◌∷◌, ◌++◌, length, All, slice_index}
 use Rattle.dns_octets.specs.Room.{Room}
 use Rattle.dns_octets.specs.Appending.{LacksRoom}
@@ -13,20 +13,20 @@ IsItemFault room old text ListString = (item rest : List ℕ) × SplitsItem text
 IsItemFault room old text ShortBuf = (item rest : List ℕ) × SplitsItem text item rest × IsItem item × (room.fits < length old + length (length item ∷ item))
 IsItemFault room old text other = ⊥
 
--- the first reason in a text: after items and their commas comes one that is not appended; after a list comes a backslash that is no escape
+-- the first error in a text: after items and their commas comes an item that is not appended; or after a list comes a backslash that is not an escape
 abbrev pub IsListFault : Room → List ℕ → List ℕ → ErrorKind → Type 0
 IsListFault room old text ListString = (front : List (List ℕ)) × (rest : List ℕ) × All IsItem front × (text ≡ front_text front ++ rest) × IsItemFault room (old ++ wire_strings front) rest ListString
 IsListFault room old text ShortBuf = (front : List (List ℕ)) × (rest : List ℕ) × All IsItem front × (text ≡ front_text front ++ rest) × IsItemFault room (old ++ wire_strings front) rest ShortBuf
 IsListFault room old text ListEscape = (items : List (List ℕ)) × (rest : List ℕ) × IsList items × (text ≡ list_text items ++ rest) × EndsItem rest × (rest ≢ []) × (slice_index rest 0 ≢ 44)
 IsListFault room old text other = ⊥
 
--- the first reason in octets: after strings comes none, or there is none at all; the text of some doesn't surely fit
+-- the first error in octets: after strings come octets that do not begin with one, or there are no octets; or the text of the first strings doesn't surely fit
 abbrev pub IsStringsFault : Room → List ℕ → List ℕ → ErrorKind → Type 0
 IsStringsFault room old octets ListString = (front : List (List ℕ)) × (rest : List ℕ) × All IsItem front × (octets ≡ wire_strings front ++ rest) × BeginsNoString rest × (rest ≡ [] → front ≡ [])
 IsStringsFault room old octets ShortBuf = (items : List (List ℕ)) × (rest : List ℕ) × IsList items × (octets ≡ wire_strings items ++ rest) × (room.fits < length old + length (list_text items))
 IsStringsFault room old octets other = ⊥
 
--- why a text is not appended as a list: its wire form doesn't surely fit; or the text is that of no list
+-- why a text is not appended as a list: its wire format doesn't surely fit; or it is not the text of a list
 abbrev pub RefusesList : Room → List ℕ → List ℕ → ErrorKind → Type 0
 RefusesList room text old e = ((e ≡ ShortBuf) × LacksRoom room (SpellsList text) old) ⊎ ((items : List (List ℕ)) → IsList items → list_text items ≢ text)
 

@@ -1,4 +1,4 @@
--- A list of strings as text, after the escapes of a character string are decoded (RFC 9460 appendix A.1).
+-- A list of strings in presentation format, after a character string is unescaped (RFC 9460 appendix A.1).
 use Rattle.std.specs.Prelude.{◌≡◌, ◌≢◌, ℕ, ◌<◌, ◌==◌, ◌||◌, Bool, cond, List, [], ◌∷◌, ◌++◌, length, All}
 use Rattle.std.specs.List.{flat_map}
 
@@ -33,7 +33,7 @@ pub record IsList (items : List (List ℕ)) : Type 0 where
   pub some : items ≢ []
   pub each : All IsItem items
 
--- nothing that stands for an octet of an item is in front
+-- the text does not begin with an octet of an item
 abbrev pub EndsItem : List ℕ → Type 0
 EndsItem rest = (octet : ℕ) (more : List ℕ) → rest ≢ item_octet octet ++ more
 
@@ -44,11 +44,11 @@ SplitsItem text item rest = (text ≡ item_text item ++ rest) × EndsItem rest
 abbrev pub BeginsWithListItem : List ℕ → List ℕ → Type 0
 BeginsWithListItem text item = (rest : List ℕ) × SplitsItem text item rest
 
--- the text is that of a list, whose wire form the octets are
+-- the text is that of a list, and the octets are the wire format of the list
 abbrev pub SpellsList : List ℕ → List ℕ → Type 0
 SpellsList text octets = (items : List (List ℕ)) × IsList items × (list_text items ≡ text) × (octets ≡ wire_strings items)
 
--- the octets are the wire form of a list, whose text this is
+-- the octets are the wire format of a list, and the text is that of the list
 abbrev pub HasListText : List ℕ → List ℕ → Type 0
 HasListText octets text = (items : List (List ℕ)) × IsList items × (octets ≡ wire_strings items) × (text ≡ list_text items)
 

@@ -1,10 +1,10 @@
--- What a value of a service parameter has to be (RFC 9460 sections 7 and 8, RFC 9461 section 5).
+-- The values that keys of service parameters allow (RFC 9460 sections 7 and 8, RFC 9461 section 5).
 use Rattle.std.specs.Prelude.{◌≡◌, ◌≢◌, ℕ, ◌+◌, ◌*◌, ◌%◌, ◌<◌, if◌then◌else◌, Option, Some, None, is_some, List, [], ◌∷◌, length, All, IsSome}
 use Rattle.std.specs.List.{flat_map}
 use Rattle.dns_lists.specs.Params.{value_at}
 use Rattle.dns_lists.specs.Template.{IsQueryPath}
 
--- strings of 1 to 255 octets, each behind its length
+-- strings of 1 to 255 octets, each after its length
 abbrev pub AreWireStrings : List ℕ → Type 0
 AreWireStrings octets = (strings : List (List ℕ)) × All (λ s. (0 < length s) × (length s < 256)) strings × (octets ≡ flat_map (λ s. length s ∷ s) strings)
 
@@ -14,7 +14,7 @@ AreKeys params above [] = Unit {0}
 AreKeys params above (high ∷ []) = ⊥
 AreKeys params above (high ∷ low ∷ octets) = (above < 256 * high + low) × IsSome (value_at params (256 * high + low)) × AreKeys params (256 * high + low) octets
 
--- one group of so many octets or more
+-- one or more groups of `size` octets
 abbrev pub AreGroups : ℕ → List ℕ → Type 0
 AreGroups size octets = (0 < length octets) × (length octets % size ≡ 0)
 
@@ -24,7 +24,7 @@ first_missing params (high ∷ low ∷ octets) = if is_some (value_at params (25
 first_missing params (high ∷ []) = None
 first_missing params [] = None
 
--- what the value of a key has to be, beside the other parameters
+-- the values that a key allows, beside the other parameters
 pub record IsParamValue (params : List (ℕ × List ℕ)) (key : ℕ) (value : List ℕ) : Type 0 where
   pub mandatory : key ≡ 0 → (value ≢ []) × AreKeys params 0 value
   pub alpn : key ≡ 1 → (value ≢ []) × AreWireStrings value

@@ -1,8 +1,8 @@
-//! Lists of types as bitmaps (RFC 4034 section 4.1.2), read without memory.
+//! Type bitmaps (RFC 4034 section 4.1.2), parsed without memory.
 //!
-//! The codes from 0 to 65535 stand in 256 windows of 256. A window with a member is a block: its
-//! number, how many octets follow, and the octets, of which the first bit from the left is that of
-//! the window's first code. Octets of zeros at the end are left out.
+//! The codes from 0 to 65535 are in 256 windows of 256 codes. A window with a member has a block:
+//! the window's number, the number of octets that follow, and these octets. The first bit from the
+//! left is that of the window's first code. Octets of zeros at the end are omitted.
 ghost use Rattle.std.specs.Prelude.{◌≡◌, ◌≢◌, ℕ, ◌+◌, ◌-◌, ◌*◌, ◌/◌, ◌<◌, ◌≤◌, List, [], ◌∷◌, ◌++◌, OnOk, IfErr, MatchOption, MatchResult, length};
 ghost use Rattle.dns_lists.specs.Bitmap.{one_if, bit_in, set_places, types_of, IsBitmap, IsData, GoesWrong, IsWrongBlock};
 ghost use Rattle.dns_lists.specs.Left.{types_left, moved_on};
@@ -11,13 +11,13 @@ use dns_kinds::RecordType;
 use std::marker::Model;
 use thiserror::Error;
 
-/// The most octets that a block has.
+/// Greatest number of octets in a block.
 const WINDOW_OCTETS: usize = 32;
 
-/// Why octets are no bitmap.
+/// The reason why octets are not a type bitmap.
 #[derive(Clone, Copy, Debug, PartialEq, Eq, Error)]
 pub enum BitmapError {
-    /// A window is not above the one before it.
+    /// A window's number is not greater than that of the window before it.
     #[error("windows out of order in a type bitmap")]
     Order,
     /// A block has no octets or more than 32.
@@ -26,12 +26,12 @@ pub enum BitmapError {
     /// The last octet of a block is zero.
     #[error("a block of a type bitmap ends with a zero octet")]
     TrailingZero,
-    /// A block is cut off.
+    /// A block is truncated.
     #[error("a type bitmap is cut off")]
     Short,
 }
 
-/// A block: the window, its octets, and what stands after it.
+/// A block: the window's number, its octets, and the octets after the block.
 #[derive(Clone, Copy)]
 struct Block<'a> {
     window: u8,
@@ -39,7 +39,7 @@ struct Block<'a> {
     rest: &'a [u8],
 }
 
-/// The block in front of octets.
+/// Returns the block that octets begin with.
 fn first_block(octets: &[u8]) -> Result<Block<'_>, BitmapError>
     requires { 0 < length octets.now }
     ensures cases { MatchResult result
@@ -67,8 +67,8 @@ fn first_block(octets: &[u8]) -> Result<Block<'_>, BitmapError>
     })
 }
 
-/// Says whether octets are the bitmap of a list of types, which may be empty, and else the first
-/// reason why they aren't.
+/// Checks that octets are the bitmap of a list of types, which may be empty. Fails with the first
+/// error in the octets otherwise.
 pub fn check_bitmap(octets: &[u8]) -> Result<(), BitmapError>
     ensures ok { OnOk result (IsBitmap octets.now) }
     ensures err { IfErr result (λ _. ¬ IsBitmap octets.now) }
@@ -87,7 +87,7 @@ pub fn check_bitmap(octets: &[u8]) -> Result<(), BitmapError>
     Ok(())
 }
 
-/// Whether the bit at a place is set.
+/// Returns whether the bit at an index is set. Bits count from the left.
 pub(crate) fn is_set(octets: &[u8], place: usize) -> bool
     requires { place / 8 < length octets.now }
     ensures { one_if result ≡ bit_in octets.now place }
@@ -95,7 +95,7 @@ pub(crate) fn is_set(octets: &[u8], place: usize) -> bool
     (octets[place / 8] >> (7 - place % 8)) & 1 == 1
 }
 
-/// The first place of a window from one on whose bit is set.
+/// Returns the index of the first set bit of a window, from `from` on.
 fn next_set(octets: &[u8], from: usize) -> Option<usize>
     requires { from ≤ 256 }
     ensures { MatchOption result (set_places octets.now from (256 - from) ≡ [])
@@ -110,7 +110,8 @@ fn next_set(octets: &[u8], from: usize) -> Option<usize>
     None
 }
 
-/// Where an iterator stands: in a window, at a place of its octets, with blocks after it.
+/// State of an iterator: the window, the index of the next bit in its octets, and the blocks after
+/// it.
 #[derive(Clone, Copy)]
 struct Cursor<'a> {
     window: u8,
@@ -119,7 +120,7 @@ struct Cursor<'a> {
     rest: &'a [u8],
 }
 
-/// The first octets of a block, at whose first place the cursor then stands.
+/// Returns the cursor at the first bit of the block that octets begin with.
 fn enter_block(rest: &[u8]) -> Cursor<'_>
     requires { 2 ≤ length rest.now }
     ensures left { types_left result ≡ types_of rest.now }
@@ -135,7 +136,7 @@ fn enter_block(rest: &[u8]) -> Cursor<'_>
     }
 }
 
-/// The cursor at the next type.
+/// Returns the cursor at the next type, if there is one.
 fn find_type(from: Cursor<'_>) -> Option<Cursor<'_>>
     requires { from.place ≤ 256 }
     ensures { MatchOption result (types_left from.entry ≡ [])
@@ -154,7 +155,7 @@ fn find_type(from: Cursor<'_>) -> Option<Cursor<'_>>
     }
 }
 
-/// The types of a bitmap, in ascending order.
+/// An iterator over the types of a bitmap, in ascending order.
 #[derive(Drop)]
 pub struct BitmapTypes<'a> {
     at: Cursor<'a>,
@@ -172,7 +173,8 @@ impl<'a> Model for BitmapTypes<'a> {
 }
 
 impl<'a> BitmapTypes<'a> {
-    /// The types of a bitmap. Of octets that are none it gives what can be read.
+    /// Returns the types of a bitmap. If the octets are not a bitmap, returns the types that can be
+    /// parsed.
     pub fn new(octets: &'a [u8]) -> Self
         ensures { result ≡ types_of octets.now }
     {

@@ -1,4 +1,4 @@
-//! Sets of numbers of 16 bits, from which a bitmap is made (RFC 4034 section 4.1.2).
+//! Sets of numbers of 16 bits, which print as a bitmap (RFC 4034 section 4.1.2).
 ghost use Rattle.std.specs.Prelude.{◌≡◌, ◌≢◌, ℕ, ◌+◌, ◌<◌, ◌≤◌, false, List, [], ◌∷◌, ◌++◌, All, OnErr, OnOk, MatchBool, length, take, slice_index};
 ghost use Rattle.dns_octets.specs.Appending.{Extends, LacksRoom};
 ghost use Rattle.dns_lists.specs.Bitmap.{has, trimmed, window_octets_of, window_block, bitmap, IsAscending, SameTypes};
@@ -8,18 +8,17 @@ use crate::bitmap::is_set;
 use dns_octets::{OctetsBuilder, ShortBuf};
 use std::marker::Model;
 
-/// Octets of one window: bits by their place from the left.
+/// Number of octets of one window. Bits count from the left.
 const WINDOW_OCTETS: usize = 32;
 
-/// Octets of all windows.
+/// Number of octets of all windows.
 const SET_OCTETS: usize = 8192;
 
-/// A set of numbers of 16 bits: the codes of types, or keys. It takes 8 KiB, and no memory from a
-/// heap.
+/// A set of numbers of 16 bits: the codes of types, or keys. It has 8 KiB, and allocates no memory.
 #[derive(Drop)]
 pub struct CodeSet {
     octets: [u8; SET_OCTETS],
-    // How many windows there are up to the last with a code.
+    // Number of windows up to the last with a code.
     windows: usize,
 }
 
@@ -35,14 +34,14 @@ impl Model for CodeSet {
     ghost invariant = { λ s. CoversCodes s.octets s.windows };
 }
 
-/// So many zeros.
+/// Returns `N` zeros.
 fn zeros<const N: usize>() -> [u8; N]
     ensures { (k : ℕ) → slice_index result k ≡ 0 }
 {
     [0; N]
 }
 
-/// How many octets there are up to the last that is not zero.
+/// Returns the number of octets up to the last that is not zero.
 fn used(octets: &[u8]) -> usize
     ensures within { result ≤ length octets.now }
     ensures trimmed { take result octets.now ≡ trimmed octets.now }
@@ -54,7 +53,7 @@ fn used(octets: &[u8]) -> usize
     count
 }
 
-/// The octets of a window.
+/// Returns the octets of a window.
 fn window_part(octets: &[u8], window: usize) -> &[u8]
     requires all { length octets.now ≡ 8192 }
     requires window { window < 256 }
@@ -64,7 +63,7 @@ fn window_part(octets: &[u8], window: usize) -> &[u8]
     &octets[first..first + WINDOW_OCTETS]
 }
 
-/// Appends the block of a window, if it has a code.
+/// Appends the block of a window, if the window has a code.
 fn append_window<B: OctetsBuilder>(
     window: u8,
     octets: &[u8],
@@ -86,7 +85,7 @@ fn append_window<B: OctetsBuilder>(
 }
 
 impl CodeSet {
-    /// A set of no codes.
+    /// Returns an empty set.
     pub fn new() -> Self
         ensures { result ≡ [] }
     {
@@ -96,7 +95,7 @@ impl CodeSet {
         }
     }
 
-    /// Adds a code, which may be there already.
+    /// Adds a code. The set may already have it.
     pub fn insert(&mut self, code: u16)
         ensures { SameTypes self.new (code ∷ self.old) }
     {
@@ -105,21 +104,22 @@ impl CodeSet {
         self.windows = self.windows.max(place / 256 + 1);
     }
 
-    /// Whether a code is in the set.
+    /// Returns whether the set has a code.
     pub fn contains(&self, code: u16) -> bool
         ensures { result ≡ has self.now code }
     {
         is_set(&self.octets, usize::from(code))
     }
 
-    /// Whether no code is in the set.
+    /// Returns whether the set is empty.
     pub fn is_empty(&self) -> bool
         ensures { MatchBool result (self.now ≡ []) (self.now ≢ []) }
     {
         self.windows == 0
     }
 
-    /// Where the last window of 256 codes ends that has a code of the set, or 0: each code is below.
+    /// Returns the end of the last window of 256 codes that has a code of the set, or 0 if the set
+    /// is empty. Each code of the set is less.
     pub fn end(&self) -> u32
         ensures within { result ≤ 65536 }
         ensures above { (code : ℕ) → code < 65536 → result ≤ code
@@ -129,8 +129,8 @@ impl CodeSet {
         256 * self.windows as u32
     }
 
-    /// Appends the bitmap of the codes. Refused, the target has its old octets, and perhaps a
-    /// beginning of the bitmap after them.
+    /// Appends the bitmap of the codes. On an error, the target has its old octets, perhaps with
+    /// the beginning of the bitmap after them.
     pub(crate) fn append_to<B: OctetsBuilder>(&self, target: &mut B) -> Result<(), ShortBuf>
         ensures ok { OnOk result (B.octets target.new ≡ B.octets target.old ++ bitmap self.now) }
         ensures err { OnErr result (Extends (B.octets target.old) (B.octets target.new)) }

@@ -1,5 +1,5 @@
-//! Record data that are lists: the types of NSEC, NSEC3 and CSYNC as a bitmap, and the parameters
-//! of SVCB and HTTPS.
+//! RDATA that are lists: the type bitmap of NSEC, NSEC3 and CSYNC, and the service parameters of
+//! SVCB and HTTPS.
 #![tactic(auto)]
 
 pub mod bitmap;

@@ -1,7 +1,7 @@
-//! Service parameters as octets (RFC 9460 section 2.2), without memory.
+//! Service parameters in wire format (RFC 9460 section 2.2), parsed without memory.
 //!
 //! A parameter is a key of two octets, the length of its value in two octets, and the value. Keys
-//! ascend, so that no key is there twice.
+//! ascend, so each key occurs once.
 ghost use Rattle.std.specs.Prelude.{◌≡◌, ◌≢◌, ℕ, ◌+◌, ◌-◌, ◌<◌, ◌≤◌, List, None, [], ◌∷◌, ◌++◌, IfOk, IfErr, OnErr, OnOk, MatchOption, MatchResult, length, take, drop};
 ghost use Rattle.dns_lists.specs.Params.{pair, value_at, param, params_from, params_wire, params_of, BeginsNoParam, HasFittingValues, IsParams, IsUnsettled};
 ghost use Rattle.dns_lists.specs.ParamsFaults.{IsFormFault, SettlesLast, FindsPlace};
@@ -9,21 +9,21 @@ ghost use Rattle.dns_lists.specs.ParamsFaults.{IsFormFault, SettlesLast, FindsPl
 use dns_kinds::ErrorKind;
 use std::marker::Model;
 
-/// A key with the octets of its value.
+/// A service parameter: its key, and the octets of its value.
 #[derive(Clone, Copy)]
 pub struct Param<'a> {
     pub key: u16,
     pub value: &'a [u8],
 }
 
-/// A parameter, and the octets after it.
+/// A service parameter, and the octets after it.
 #[derive(Clone, Copy)]
 pub(crate) struct Front<'a> {
     pub(crate) param: Param<'a>,
     pub(crate) rest: &'a [u8],
 }
 
-/// The parameter that octets begin with.
+/// Returns the parameter that octets begin with.
 pub(crate) fn first_param(octets: &[u8]) -> Option<Front<'_>>
     ensures cases { MatchOption result (BeginsNoParam octets.now)
         (λ f. (octets.now ≡ param f.param.key f.param.value.now ++ f.rest.now) × (f.param.key < 65536) × (length f.param.value.now < 65536)) }
@@ -45,7 +45,7 @@ pub(crate) fn first_param(octets: &[u8]) -> Option<Front<'_>>
     })
 }
 
-/// The parameters of a wire form, one after another.
+/// An iterator over the parameters of a wire format, in their order.
 #[derive(Drop)]
 pub struct Params<'a> {
     rest: &'a [u8],
@@ -62,7 +62,8 @@ impl<'a> Model for Params<'a> {
 }
 
 impl<'a> Params<'a> {
-    /// The parameters that octets are. Of octets that are none, those that can be read.
+    /// Returns the parameters of a wire format. If the octets are not one, returns the parameters
+    /// that can be parsed.
     pub fn new(octets: &'a [u8]) -> Self
         ensures { result ≡ params_of octets.now }
     {
@@ -87,7 +88,7 @@ impl<'a> Iterator for Params<'a> {
     }
 }
 
-/// Fails if octets are not the wire form of parameters, whose values may be any.
+/// Fails if octets are not the wire format of parameters. Their values are not checked.
 pub(crate) fn check_form(octets: &[u8]) -> Result<(), ErrorKind>
     ensures ok { OnOk result (IsParams octets.now) }
     ensures err { IfErr result (λ fault. IsFormFault fault octets.now) }
@@ -108,7 +109,8 @@ pub(crate) fn check_form(octets: &[u8]) -> Result<(), ErrorKind>
     Ok(())
 }
 
-/// Where among parameters one with a key belongs.
+/// Returns the offset at which a parameter with a key belongs. Fails with `RepeatedParam` if a
+/// parameter has the key.
 fn find_place(octets: &[u8], key: u16) -> Result<usize, ErrorKind>
     ensures within { IfOk result (λ place. place ≤ length octets.now) }
     ensures place { (params : List (ℕ × List ℕ)) → HasFittingValues params
@@ -127,10 +129,12 @@ fn find_place(octets: &[u8], key: u16) -> Result<usize, ErrorKind>
     Ok(place)
 }
 
-/// Moves a parameter that was appended to others to its place by its key, and sets its length.
+/// Moves a parameter that was appended after others to its offset by key order, and sets its
+/// length.
 ///
-/// The others are the first `at` octets. After them come the key in two octets, two octets for
-/// the length, which may be any, and the value up to the end. On an error, nothing is changed.
+/// The others are the first `at` octets. After them are the key in two octets, two octets for the
+/// length, which may have any value, and the parameter's value up to the end. On an error, nothing
+/// is changed.
 pub fn settle_last(octets: &mut [u8], at: usize) -> Result<(), ErrorKind>
     requires { at + 4 ≤ length octets.old }
     ensures settled { (params : List (ℕ × List ℕ)) (key : ℕ) (value : List ℕ)

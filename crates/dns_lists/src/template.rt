@@ -7,14 +7,14 @@ ghost use Rattle.dns_lists.specs.Template.{is_limit_digit, is_length_limit, is_m
 
 use std::str;
 
-/// A text up to a mark, and what is after the mark if there is one.
+/// The text before a mark, and the text after the mark if there is one.
 #[derive(Clone, Copy)]
 struct Split<'a> {
     before: &'a [u8],
     behind: Option<&'a [u8]>,
 }
 
-/// A text up to the first such mark, and what is after it.
+/// Splits a text at the first such mark.
 fn split_first(text: &[u8], mark: u8) -> Split<'_>
     ensures before { result.before.now ≡ before_first (λ o. o == mark) text.now }
     ensures found { is_some result.behind ≡ list_any (λ o. o == mark) text.now }
@@ -37,28 +37,28 @@ fn split_first(text: &[u8], mark: u8) -> Split<'_>
     }
 }
 
-/// Whether an octet is a letter, a digit or an underscore.
+/// Returns whether an octet is a letter, a digit or an underscore.
 fn is_variable_octet(octet: u8) -> bool
     ensures { result ≡ is_variable_octet octet }
 {
     matches!(octet, b'A'..=b'Z' | b'a'..=b'z' | b'0'..=b'9' | b'_')
 }
 
-/// Whether an octet is a hexadecimal digit.
+/// Returns whether an octet is a hexadecimal digit.
 fn is_hex(octet: u8) -> bool
     ensures { result ≡ is_hex_octet octet }
 {
     matches!(octet, b'0'..=b'9' | b'A'..=b'F' | b'a'..=b'f')
 }
 
-/// Whether a percent sign and two hexadecimal digits begin a text.
+/// Returns whether a text begins with a percent sign and two hexadecimal digits.
 fn begins_escape(text: &[u8]) -> bool
     ensures { result ≡ begins_escape text.now }
 {
     text.len() > 2 && text[0] == b'%' && is_hex(text[1]) && is_hex(text[2])
 }
 
-/// Whether octets are those of which a variable's name is made.
+/// Returns whether octets are letters, digits, underscores and escapes.
 fn are_variable_octets(text: &[u8]) -> bool
     ensures { result ≡ are_variable_octets text.now }
 {
@@ -76,14 +76,14 @@ fn are_variable_octets(text: &[u8]) -> bool
     true
 }
 
-/// Whether a text is some of these octets.
+/// Returns whether octets are one or more letters, digits, underscores or escapes.
 fn are_some_variable_octets(text: &[u8]) -> bool
     ensures { result ≡ are_some_variable_octets text.now }
 {
     !text.is_empty() && are_variable_octets(text)
 }
 
-/// Whether a text is the name of a variable.
+/// Returns whether a text is the name of a variable.
 fn is_name(text: &[u8]) -> bool
     ensures { result ≡ is_variable_name text.now }
 {
@@ -98,7 +98,7 @@ fn is_name(text: &[u8]) -> bool
     true
 }
 
-/// Whether octets are decimal digits.
+/// Returns whether octets are decimal digits.
 fn are_digits(text: &[u8]) -> bool
     ensures { result ≡ list_all is_limit_digit text.now }
 {
@@ -110,14 +110,14 @@ fn are_digits(text: &[u8]) -> bool
     true
 }
 
-/// Whether digits are a number from 1 to 9999 without zeros in front.
+/// Returns whether digits are a number from 1 to 9999 without leading zeros.
 fn is_limit(digits: &[u8]) -> bool
     ensures { result ≡ is_length_limit digits.now }
 {
     !digits.is_empty() && digits.len() < 5 && digits[0] != b'0' && are_digits(digits)
 }
 
-/// Whether a text may be after the name of a variable.
+/// Returns whether a text is empty or a modifier of a variable.
 fn is_modifier(text: &[u8]) -> bool
     ensures { result ≡ is_modifier text.now }
 {
@@ -131,14 +131,14 @@ fn is_modifier(text: &[u8]) -> bool
     }
 }
 
-/// Whether an octet begins a modifier.
+/// Returns whether an octet begins a modifier.
 fn is_mark(octet: u8) -> bool
     ensures { result ≡ is_modifier_mark octet }
 {
     octet == b'*' || octet == b':'
 }
 
-/// How many octets are before an asterisk or a colon.
+/// Returns the number of octets before an asterisk or a colon.
 fn name_width(text: &[u8]) -> usize
     ensures width { result ≡ position_or_len is_modifier_mark text.now }
     ensures within { result ≤ length text.now }
@@ -151,7 +151,7 @@ fn name_width(text: &[u8]) -> usize
     text.len()
 }
 
-/// Whether a text is a variable.
+/// Returns whether a text is a variable.
 fn is_variable(text: &[u8]) -> bool
     ensures { result ≡ is_variable text.now }
 {
@@ -159,14 +159,14 @@ fn is_variable(text: &[u8]) -> bool
     is_name(&text[..width]) && is_modifier(&text[width..])
 }
 
-/// Whether the name of a variable is `dns`.
+/// Returns whether the name of a variable is `dns`.
 fn is_named_dns(text: &[u8]) -> bool
     ensures { result ≡ is_named_dns text.now }
 {
     &text[..name_width(text)] == b"dns".as_slice()
 }
 
-/// What is after the operator of an expression, if it has one.
+/// Returns the expression after its operator, if it has one.
 fn without_operator(expression: &[u8]) -> &[u8]
     ensures { result.now ≡ without_operator expression.now }
 {
@@ -179,7 +179,7 @@ fn without_operator(expression: &[u8]) -> &[u8]
     }
 }
 
-/// Whether a list is variables, with commas between them.
+/// Returns whether a list is variables with commas between them.
 fn are_variables(list: &[u8]) -> bool
     ensures { result ≡ list_all is_variable (slice_split (λ o. o == 44) list.now) }
 {
@@ -194,7 +194,7 @@ fn are_variables(list: &[u8]) -> bool
     true
 }
 
-/// Whether one of the variables of a list is `dns`.
+/// Returns whether one of the variables of a list is `dns`.
 fn has_dns(list: &[u8]) -> bool
     ensures { result ≡ list_any is_named_dns (slice_split (λ o. o == 44) list.now) }
 {
@@ -209,8 +209,7 @@ fn has_dns(list: &[u8]) -> bool
     false
 }
 
-/// Whether a text, which is after an opening brace, begins with an expression and a closing
-/// brace.
+/// Returns whether the text after an opening brace begins with an expression and a closing brace.
 fn begins_expression(text: &[u8]) -> bool
     ensures { result ≡ begins_expression text.now }
 {
@@ -218,14 +217,14 @@ fn begins_expression(text: &[u8]) -> bool
     split.behind.is_some() && are_variables(without_operator(split.before))
 }
 
-/// Whether the expression has the variable `dns`.
+/// Returns whether the expression has the variable `dns`.
 fn begins_query(text: &[u8]) -> bool
     ensures { result ≡ begins_query text.now }
 {
     has_dns(without_operator(split_first(text, b'}').before))
 }
 
-/// Whether an expression is after each opening brace, and one has the variable `dns`.
+/// Returns whether each opening brace begins an expression, and one has the variable `dns`.
 fn is_template(text: &[u8]) -> bool
     ensures { result ≡ (list_all begins_expression (behind_braces text.now)
         && list_any begins_query (behind_braces text.now)) }
@@ -245,7 +244,7 @@ fn is_template(text: &[u8]) -> bool
     has_query
 }
 
-/// Whether octets are the path of a template with the variable `dns`.
+/// Returns whether octets are the path of a template with the variable `dns`.
 pub(crate) fn is_query_path(octets: &[u8]) -> bool
     ensures { MatchBool result (IsQueryPath octets.now) (¬ IsQueryPath octets.now) }
 {

@@ -1,7 +1,7 @@
-//! Lists of strings as text, as `alpn` has them (RFC 9460 appendix A.1).
+//! Lists of strings in presentation format, as in `alpn` (RFC 9460 appendix A.1).
 //!
-//! Commas separate the items. In an item, a backslash escapes a comma and a backslash. This is the
-//! value of a character string, after its own escapes are decoded.
+//! Commas separate the items. In an item, a backslash escapes a comma or a backslash. The text is
+//! the value of a character string after unescaping.
 ghost use Rattle.std.specs.Prelude.{◌≡◌, ℕ, List, ◌∷◌, ◌++◌, IfOk, IfErr, OnErr, OnOk, MatchOption, length};
 ghost use Rattle.dns_octets.specs.Appending.{Extends, Gains, LacksRoom};
 ghost use Rattle.dns_lists.specs.Texts.{is_special, item_octet, item_text, EndsItem, SplitsItem, BeginsWithListItem, IsItem, BeginsNoString, SpellsList, HasListText};
@@ -17,14 +17,15 @@ struct Octet<'a> {
     rest: &'a [u8],
 }
 
-/// Whether a backslash escapes an octet.
+/// Returns whether an octet is escaped by a backslash.
 fn is_escaped(octet: u8) -> bool
     ensures { result ≡ is_special octet }
 {
     octet == b',' || octet == b'\\'
 }
 
-/// The octet of an item that a text begins with: none at a comma, at the end and at any other escape.
+/// Returns the first octet of the item that a text begins with. Returns `None` at a comma, at the
+/// end and at any other escape.
 fn first_octet(text: &[u8]) -> Option<Octet<'_>>
     ensures { MatchOption result (EndsItem text.now)
         (λ o. text.now ≡ item_octet o.octet ++ o.rest.now) }
@@ -55,7 +56,7 @@ fn first_octet(text: &[u8]) -> Option<Octet<'_>>
     })
 }
 
-/// How many octets the item has that a text begins with.
+/// Returns the number of octets of the item that a text begins with.
 fn count_item(text: &[u8]) -> usize
     ensures { (item rest : List ℕ) × SplitsItem text.now item rest × (result ≡ length item) }
 {
@@ -101,7 +102,7 @@ fn append_item<'a, B: OctetsBuilder>(text: &'a [u8], target: &mut B) -> Result<&
     Ok(rest)
 }
 
-/// Appends the strings of a list, each after its length.
+/// Appends the strings of a list, each after its length in one octet.
 fn append_items<B: OctetsBuilder>(text: &[u8], target: &mut B) -> Result<(), ErrorKind>
     ensures ok { OnOk result (Gains (SpellsList text.now)
         (B.octets target.old) (B.octets target.new)) }
@@ -118,8 +119,11 @@ fn append_items<B: OctetsBuilder>(text: &[u8], target: &mut B) -> Result<(), Err
     Ok(())
 }
 
-/// Appends the strings of a list, each after its length. On an error, the target has its old octets,
-/// and perhaps a beginning of the strings after them.
+/// Parses a list of strings, and appends each after its length in one octet.
+///
+/// Fails with `ListString` if a string has no octets or more than 255, with `ListEscape` if a
+/// backslash is before another octet, and with `ShortBuf` if the target fails. On an error, the
+/// target has its old octets, perhaps with the beginning of the strings after them.
 pub fn append_list<B: OctetsBuilder>(text: &[u8], target: &mut B) -> Result<(), ErrorKind>
     ensures ok { OnOk result (Gains (SpellsList text.now)
         (B.octets target.old) (B.octets target.new)) }
@@ -177,7 +181,7 @@ struct FirstString<'a> {
     rest: &'a [u8],
 }
 
-/// The string that octets begin with.
+/// Returns the string that octets begin with.
 fn first_string(octets: &[u8]) -> Option<FirstString<'_>>
     ensures { MatchOption result (BeginsNoString octets.now)
         (λ s. (octets.now ≡ length s.string.now ∷ s.string.now ++ s.rest.now) × IsItem s.string.now) }
@@ -195,7 +199,7 @@ fn first_string(octets: &[u8]) -> Option<FirstString<'_>>
     })
 }
 
-/// Appends the text of strings, each of which follows its length.
+/// Appends the text of strings, each of which is after its length.
 fn append_strings_text<B: OctetsBuilder>(octets: &[u8], target: &mut B) -> Result<(), ErrorKind>
     ensures ok { OnOk result (Gains (HasListText octets.now)
         (B.octets target.old) (B.octets target.new)) }
@@ -217,8 +221,12 @@ fn append_strings_text<B: OctetsBuilder>(octets: &[u8], target: &mut B) -> Resul
     Ok(())
 }
 
-/// Appends the text of a list of strings, each of which follows its length. On an error, the target
-/// has its old octets, and perhaps a beginning of the text after them.
+/// Appends the presentation format of a list of strings, each of which is after its length in one
+/// octet.
+///
+/// Fails with `ListString` if the octets are not one or more such strings, and with `ShortBuf` if
+/// the target fails. On an error, the target has its old octets, perhaps with the beginning of the
+/// text after them.
 pub fn append_list_text<B: OctetsBuilder>(octets: &[u8], target: &mut B) -> Result<(), ErrorKind>
     ensures ok { OnOk result (Gains (HasListText octets.now)
         (B.octets target.old) (B.octets target.new)) }

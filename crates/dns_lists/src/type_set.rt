@@ -1,4 +1,4 @@
-//! Sets of types, from which a bitmap is made (RFC 4034 section 4.1.2).
+//! Sets of types, which print as a type bitmap (RFC 4034 section 4.1.2).
 ghost use Rattle.std.specs.Prelude.{◌≡◌, ◌≢◌, [], ◌∷◌, ◌++◌, OnErr, OnOk, MatchBool};
 ghost use Rattle.dns_octets.specs.Appending.{Extends, LacksRoom};
 ghost use Rattle.dns_lists.specs.Bitmap.{has, bitmap, SameTypes};
@@ -8,7 +8,7 @@ use dns_kinds::RecordType;
 use dns_octets::{OctetsBuilder, ShortBuf};
 use std::marker::Model;
 
-/// A set of types. It takes 8 KiB, and no memory from a heap.
+/// A set of types. It has 8 KiB, and allocates no memory.
 #[derive(Drop)]
 pub struct TypeSet {
     codes: CodeSet,
@@ -24,7 +24,7 @@ impl Model for TypeSet {
 }
 
 impl TypeSet {
-    /// A set of no types.
+    /// Returns an empty set.
     pub fn new() -> Self
         ensures { result ≡ [] }
     {
@@ -33,29 +33,29 @@ impl TypeSet {
         }
     }
 
-    /// Adds a type, which may be there already.
+    /// Adds a type. The set may already have it.
     pub fn insert(&mut self, rtype: RecordType)
         ensures { SameTypes self.new (rtype ∷ self.old) }
     {
         self.codes.insert(rtype.0)
     }
 
-    /// Whether a type is in the set.
+    /// Returns whether the set has a type.
     pub fn contains(&self, rtype: RecordType) -> bool
         ensures { result ≡ has self.now rtype }
     {
         self.codes.contains(rtype.0)
     }
 
-    /// Whether no type is in the set.
+    /// Returns whether the set is empty.
     pub fn is_empty(&self) -> bool
         ensures { MatchBool result (self.now ≡ []) (self.now ≢ []) }
     {
         self.codes.is_empty()
     }
 
-    /// Appends the bitmap of the types. Refused, the target has its old octets, and perhaps a
-    /// beginning of the bitmap after them.
+    /// Appends the bitmap of the types. On an error, the target has its old octets, perhaps with
+    /// the beginning of the bitmap after them.
     pub fn append_to<B: OctetsBuilder>(&self, target: &mut B) -> Result<(), ShortBuf>
         ensures ok { OnOk result (B.octets target.new ≡ B.octets target.old ++ bitmap self.now) }
         ensures err { OnErr result (Extends (B.octets target.old) (B.octets target.new)) }

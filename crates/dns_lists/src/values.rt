@@ -24,7 +24,7 @@ pub const IPV6HINT: u16 = 6;
 
 pub const DOHPATH: u16 = 7;
 
-/// Whether octets are strings of 1 to 255 octets, each after its length.
+/// Returns whether octets are strings of 1 to 255 octets, each after its length.
 fn are_strings(octets: &[u8]) -> bool
     ensures { MatchBool result (AreWireStrings octets.now) (¬ AreWireStrings octets.now) }
 {
@@ -39,7 +39,7 @@ fn are_strings(octets: &[u8]) -> bool
     true
 }
 
-/// Whether octets are one group of so many or more.
+/// Returns whether octets are one or more groups of `size` octets.
 fn are_groups(octets: &[u8], size: usize) -> bool
     requires { size ≢ 0 }
     ensures { MatchBool result (AreGroups size octets.now) (¬ AreGroups size octets.now) }
@@ -47,7 +47,7 @@ fn are_groups(octets: &[u8], size: usize) -> bool
     !octets.is_empty() && octets.len() % size == 0
 }
 
-/// Whether one of the parameters, which are octets, has a key.
+/// Returns whether one of the parameters, in wire format, has a key.
 fn has_value(params: &[u8], key: u16) -> bool
     ensures { result ≡ is_some (value_at (params_of params.now) key) }
 {
@@ -61,8 +61,8 @@ fn has_value(params: &[u8], key: u16) -> bool
     false
 }
 
-/// Whether octets are keys of two octets, each above the one before it, and above 0, and one of
-/// the parameters.
+/// Returns whether octets are keys of two octets, each above 0, above the key before it, and the
+/// key of a parameter.
 fn are_keys(params: &[u8], octets: &[u8]) -> bool
     ensures { MatchBool result (AreKeys (params_of params.now) 0 octets.now)
         (¬ AreKeys (params_of params.now) 0 octets.now) }
@@ -83,7 +83,7 @@ fn are_keys(params: &[u8], octets: &[u8]) -> bool
     true
 }
 
-/// Whether the value of a key is what it has to be.
+/// Returns whether a value is one that its key allows.
 fn is_value(params: &[u8], key: u16, value: &[u8]) -> bool
     ensures { MatchBool result (IsParamValue (params_of params.now) key value.now)
         (¬ IsParamValue (params_of params.now) key value.now) }
@@ -101,7 +101,7 @@ fn is_value(params: &[u8], key: u16, value: &[u8]) -> bool
     }
 }
 
-/// Of octets that are parameters, the first whose value is not what it has to be.
+/// Returns the first parameter, in wire format, whose value its key does not allow.
 fn first_wrong(params: &[u8]) -> Option<Param<'_>>
     ensures { MatchOption result (AreAllRight (params_of params.now))
         (λ p. IsFirstWrongParam p.key p.value.now (params_of params.now)) }
@@ -116,7 +116,7 @@ fn first_wrong(params: &[u8]) -> Option<Param<'_>>
     None
 }
 
-/// Of octets that are parameters, the first key whose value is not what it has to be.
+/// Returns the key of the first parameter, in wire format, whose value its key does not allow.
 pub fn wrong_value(params: &[u8]) -> Option<u16>
     ensures { MatchOption result (AreAllRight (params_of params.now))
         (λ key. IsFirstWrong key (params_of params.now)) }
@@ -127,7 +127,7 @@ pub fn wrong_value(params: &[u8]) -> Option<u16>
     }
 }
 
-/// Of the keys that octets list, the first that none of the parameters has.
+/// Returns the first key of a list, in wire format, that no parameter has.
 fn first_missing(params: &[u8], octets: &[u8]) -> Option<u16>
     ensures { result ≡ first_missing (params_of params.now) octets.now }
 {
@@ -142,7 +142,7 @@ fn first_missing(params: &[u8], octets: &[u8]) -> Option<u16>
     None
 }
 
-/// What is wrong with the value of a key.
+/// Returns the error of a value that its key does not allow.
 fn value_fault(params: &[u8], key: u16, value: &[u8]) -> ErrorKind
     ensures { result ≡ value_fault (params_of params.now) key value.now }
 {
@@ -155,8 +155,11 @@ fn value_fault(params: &[u8], key: u16, value: &[u8]) -> ErrorKind
     }
 }
 
-/// Fails if octets are not the wire form of parameters, each of whose values is what its key asks
-/// for. The form is checked first.
+/// Fails if octets are not the wire format of parameters with values that their keys allow.
+///
+/// The wire format is checked first: fails with `ShortParams` if a parameter is truncated, and with
+/// `ParamOrder` if keys do not ascend. Then fails with `MissingParam` or `ParamValue` for the first
+/// value that is not allowed.
 pub fn check_params(octets: &[u8]) -> Result<(), ErrorKind>
     ensures ok { OnOk result (AreRightParams octets.now) }
     ensures fault { IfErr result (λ fault. IsParamsFault fault octets.now) }

@@ -3,7 +3,7 @@ use Rattle.std.specs.Option.{is_some}
 use Rattle.dns_lists.specs.Params.{params_of, value_at}
 use Rattle.dns_lists.proofs.values.has_value.Given as goal
 
--- the key stands in the rest, or nowhere
+-- the key is in the rest if it is anywhere
 abbrev pub invariant-loop-front : goal.invariant-loop-front
 invariant-loop-front l = is_some (value_at (params_of l.params) l.key) ≡ is_some (value_at (params_of l.rest) l.key)
 
