@@ -8,7 +8,7 @@ use Rattle.dns_octets.specs.Appending.{Gains}
 use Rattle.dns_params.specs.Items.{IsWithout, SpellsApart, with_commas, left_text}
 use Rattle.dns_params.specs.ParamValues.{SpellsValues}
 
--- the texts so far, and what is left
+-- the texts so far, and the rest
 pub record TakesApart {V : Type 0} (spells : List ℕ → V → Type 0) (text : List ℕ) (values : List V) (left : Option (List ℕ)) : Type 0 where
   pub texts : List (List ℕ)
   pub apart : All (IsWithout 44) texts

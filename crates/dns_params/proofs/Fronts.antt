@@ -1,4 +1,4 @@
--- The tokens in front are a parameter in one way.
+-- Tokens begin with one parameter only.
 use Rattle.std.proofs.Common.{ℕ, suc, ◌≡◌, ◌≢◌, ◌<◌, true≢false, List, [], ◌∷◌, ◌++◌, length, refl, sym, subst, ap, ◌∙◌, arith, inl, inr, Option, Some, None}
 use Rattle.dns_codec.specs.Base.{base64}
 use Rattle.std.specs.Int.{w16, to_be_bytes}
@@ -61,7 +61,7 @@ split_once w n v m u (x, inl a) (y, inr b) = absurd (no_mark m u (subst (IsWitho
 split_once w n v m u (x, inr a) (y, inl b) = absurd (no_mark n v (subst (IsWithout 61) (sym b.0 ∙ a) y))
 split_once w n v m u (x, inr a) (y, inr b) = first_mark 61 n m v u x y (sym a ∙ b)
 
--- where a word's name is no key, it names none
+-- if a word's name does not name a key, it names none
 pub names_no_key : (w before : List ℕ) (behind : Option (List ℕ)) → IsWithout 61 before → MatchOption behind (w ≡ before) (λ b. w ≡ before ++ 61 ∷ b)
     → ((code : ℕ) (kind : ValueKind) → NamesKey before code kind → ⊥) → NamesNoKey w
 names_no_key w before None without e none name value split key kind named = none key kind (subst (λ n. NamesKey n key kind) (split_once w name value before [] split (without, inl (e, refl))).0 named)
@@ -75,12 +75,12 @@ pub valued_closed : (w n v : List ℕ) → IsWithout 61 n → w ≡ n ++ 61 ∷ 
 valued_closed w n v h e some m o = some (ap length (first_mark 61 n m v [] h o.0 (sym e ∙ o.1)).1)
 
 module _ (t : TokenSeen) (rest : List TokenSeen) where
-  -- behind a word that is not open
+  -- after a word that is not open
   pub closed_once : (name value m u : List ℕ) (mid : List TokenSeen) → SplitsWord t.text name value → IsClosedWord t.text → SplitsValue t rest m u mid → (m ≡ name) × (u ≡ value) × (mid ≡ rest)
   closed_once name value m u mid h closed (inl k) = let same = split_once t.text name value m u h k.0 in (sym same.0, sym same.1, k.1)
   closed_once name value m u mid h closed (inr k) = absurd (closed m k.0)
 
-  -- behind an open word
+  -- after an open word
   pub open_once : (name m u : List ℕ) (mid : List TokenSeen) → IsOpenWord t.text name → SplitsValue t rest m u mid → GoesOnApart mid → (m ≡ name) × IsValueBehind rest u mid
   open_once name m u mid o (inl k) apart =
       let same = split_once t.text name [] m u (o.0, inr o.1) k.0 in
@@ -96,13 +96,13 @@ behind_once rest v u left mid (inl h) (inr k) = absurd (h.2 k.0 mid k.2 k.1)
 behind_once rest v u left mid (inr h) (inl k) = absurd (k.2 h.0 left h.2 h.1)
 behind_once rest v u left mid (inr h) (inr k) = let same = heads k.0 h.0 mid left (sym k.2 ∙ h.2) in (k.3 ∙ ap (λ (q : TokenSeen). q.text) same.0 ∙ sym h.3, same.1)
 
--- parameters go on where no token touches the one before it
+-- parameters continue if no token is adjacent to the one before it
 pub goes_on_apart : (tokens : List TokenSeen) (params : List (ℕ × List ℕ)) → SpellsFrontParams tokens params [] → GoesOnApart tokens
 goes_on_apart tokens [] h t more e = absurd (let none : t ∷ more ≡ [] = sym e ∙ h in cc)
 goes_on_apart [] (p ∷ params) h t more e = absurd cc
 goes_on_apart (u ∷ tokens) (p ∷ params) h t more e = subst StandsApart (heads u t tokens more e).0 h.1.split.0
 
--- all parameters of the tokens go on from the one in front
+-- the parameters of all tokens begin with the first
 pub front_goes_on : (tokens left : List TokenSeen) (p : ℕ × List ℕ) (all : List (ℕ × List ℕ)) → tokens ≢ [] → IsOnlyFront tokens p left → SpellsFrontParams tokens all []
     → (more : List (ℕ × List ℕ)) × (all ≡ p ∷ more) × SpellsFrontParams left more []
 front_goes_on tokens left p [] some only h = absurd (some h)

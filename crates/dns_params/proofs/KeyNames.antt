@@ -40,7 +40,7 @@ is_decimal text n plain h small =
     one (x ∷ []) some plain e = refl
     one (x ∷ y ∷ text) some plain e = absurd (plain (omega arith, e))
 
--- a text that is read as no number is not that of one in decimal
+-- a text that does not parse as a number is not a number in decimal
 pub none_decimal : (text : List ℕ) (n : ℕ) (e : ErrorKind)
     → ((e ≡ ExpectedNumber) × (IsNumeral 10 text → ⊥)) ⊎ ((e ≡ NumberOverflow (2 ^ 16 - 1)) × IsNumeral 10 text × (2 ^ 16 ≤ digits_value 10 text)) → n < 2 ^ 16 → text ≢ decimal n
 none_decimal text n e why small is =
@@ -49,7 +49,7 @@ none_decimal text n e why small is =
     let value : digits_value 10 text ≡ n = ap (digits_value 10) is ∙ d.1 in
     elim why [ inl h ↦ h.1 numeral | inr h ↦ (let large = h.2 in omega (arith, large, value, small)) ]
 
--- the row that stands at a place of a table
+-- the row at an index of a table
 module _ (table : List NamedKey) (text name : List ℕ) (i : ℕ) (d : NamedKey) (here : i < length table) (is : name ≡ (get_or table i d).1.now) (from : named_row (rows_of table) text ≡ named_row (rows_of (drop i table)) text) where
   next : (b : Bool) → bytes_eq name text ≡ b → named_row (rows_of table) text ≡ cond b (Some (record { code = (get_or table i d).0; name = (get_or table i d).1.now; kind = (get_or table i d).2 })) (named_row (rows_of (drop (i + 1) table)) text)
   next b e =

@@ -39,7 +39,7 @@ second_false : (a b : Bool) → (a || b) ≡ false → b ≡ false
 second_false true b h = cc
 second_false false b h = h
 
--- a key that a list has not is none of its keys
+-- a key that is not in a list differs from each of its keys
 pub is_none : (keys : List ℕ) (code : ℕ) → has keys code ≡ false → (k d : ℕ) → k < length keys → get_or keys k d ≢ code
 is_none [] code h k d l e = omega (arith, l)
 is_none (x ∷ xs) code h zero d l e = first_true (x == code) (has xs code) h (eq-eqb x code e)
@@ -65,7 +65,7 @@ keys_zero keys w = refl
 pub keys_begin : (keys old : List ℕ) → old ≡ old ++ keys_from keys 0 0
 keys_begin keys old = sym (append-nil old) ∙ ap (λ x. old ++ x) (sym (keys_zero keys 0))
 
--- where there are no keys there are no octets
+-- without keys there are no octets
 pub keys_none_from : (keys : List ℕ) (w n : ℕ) → ((code : ℕ) → w ≤ code → code < w + n → has keys code ≡ false) → keys_from keys w n ≡ []
 keys_none_from keys w zero none = keys_zero keys w
 keys_none_from keys w (suc n) none =

@@ -58,7 +58,7 @@ bad_is_no_end : (list : List ℕ) → BeginsBadItem list → GoesOnToItem list �
 bad_is_no_end list bad (inl e) = let j : 92 ∷ bad.0 ≡ [] = sym bad.1 ∙ e in absurd cc
 bad_is_no_end list bad (inr m) = absurd (omega (arith, heads 92 44 bad.0 m.0 (sym bad.1 ∙ m.1)))
 
--- a bad escape behind a beginning of an item
+-- a wrong escape after the beginning of an item
 pub no_item_bad : (text rest front : List ℕ) → SpellsFront text (item_text front) rest → EachList rest BeginsBadItem → EachList text BeginsNoItem
 no_item_bad text rest front h bad list s item after b =
     let on = goes_on text (item_text front) rest list h s in
@@ -96,7 +96,7 @@ no_item_empty text rest [] h ends none list s item more b =
     omega (arith, b.0.0, ap length same.0)
 no_item_empty text rest (o ∷ front) h ends none list s item more b = absurd (omega (arith, none))
 
--- the item in front of a list is this one
+-- a list begins with this item
 pub item_is : (text rest front : List ℕ) → SpellsFront text (item_text front) rest → EndsAtComma rest → EachList text (λ list. (item more : List ℕ) → BeginsItem list item more → item ≡ front)
 item_is text rest front h ends list s item more b =
     let on = goes_on text (item_text front) rest list h s in
@@ -119,7 +119,7 @@ later_goes : (items : List (List ℕ)) → GoesOnToItem (later_text items)
 later_goes [] = inl refl
 later_goes (i ∷ is) = inr (item_text i ++ later_text is, refl)
 
--- the first item is refused
+-- the first item is rejected
 pub first_refused : (room : Room) (text old : List ℕ) (e : ErrorKind) → RefusesItem room text old e → RefusesSpelled room (SpellsStrings text) StringsReason old e
 first_refused room text old e (inl lacks) = inl (lacks.0, λ octets h. by octets h.list h.items h.spelled h.is_list h.listed h.whole)
   where
@@ -140,7 +140,7 @@ front_ends : (items : List (List ℕ)) (more : List ℕ) → EndsItem (later_tex
 front_ends [] more = ends_comma more
 front_ends (i ∷ items) more = ends_comma ((item_text i ++ later_text items) ++ 44 ∷ more)
 
--- items behind commas go on to one more
+-- one more item follows items after commas
 later_on : (items all : List (List ℕ)) (more : List ℕ) → later_text items ++ 44 ∷ more ≡ later_text all → All IsItem all
     → (j : List ℕ) × (js : List (List ℕ)) × (all ≡ items ++ j ∷ js) × IsItem j × (more ≡ item_text j ++ later_text js)
 later_on [] [] more e k = absurd cc
@@ -162,7 +162,7 @@ list_on (i ∷ items) (u ∷ all) more some e k =
     let rest = later_on items all more one.1 (All-tail IsItem u all k.each) in
     (rest.0, rest.1, ap (λ z. z ∷ all) (sym one.0) ∙ ap (λ zs. i ∷ zs) rest.2, rest.3, rest.4)
 
--- the list that a text spells goes on to an item behind the comma
+-- an item follows the comma in the list that a text spells
 strings_on : (text rest tail_text old mid octets : List ℕ) (h : TakesStrings text rest old mid) → SpellsFront rest (44 ∷ []) tail_text → (s : SpellsStrings text octets)
     → (j : List ℕ) × (js : List (List ℕ)) × (s.items ≡ h.items ++ j ∷ js) × ((more : List ℕ) × SpellsOctetList tail_text more × BeginsItem more j (later_text js))
 strings_on text rest tail_text old mid octets h comma s =
@@ -171,7 +171,7 @@ strings_on text rest tail_text old mid octets h comma s =
     let found = list_on h.items s.items next.0 h.is_list.some (ap (λ x. list_text h.items ++ x) (sym next.2) ∙ sym on.2 ∙ sym s.listed) s.is_list in
     (found.0, found.1, found.2, (next.0, next.1, (found.3, later_goes found.1, found.4)))
 
--- a later item is refused
+-- a later item is rejected
 pub later_refused : (room : Room) (text rest after old mid : List ℕ) (o : ℕ) (e : ErrorKind) → TakesStrings text rest old mid → SpellsFront rest (o ∷ []) after → o ≡ 44 → RefusesItem room after mid e
     → RefusesSpelled room (SpellsStrings text) StringsReason old e
 later_refused room text rest after old mid o e h comma is (inl lacks) = inl (lacks.0, λ octets s. short octets s)

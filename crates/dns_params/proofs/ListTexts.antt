@@ -1,4 +1,4 @@
--- A list's text behind the escapes of a token.
+-- A list's text after the escapes of a token are decoded.
 use Rattle.std.proofs.Common.{ℕ, ◌≡◌, ◌≢◌, ◌<◌, Bool, true, false, cond, List, [], ◌∷◌, ◌++◌, length, map, refl, sym, subst, ap, ◌∙◌, arith, append_assoc, append-nil, inl, inr}
 use Rattle.std.proofs.lemmas.Bool.{ne_eqb}
 use Rattle.std.proofs.lemmas.List.Concat.{flat_map-append}
@@ -32,7 +32,7 @@ plain_octet : (o : ℕ) → o ≢ 44 → o ≢ 92 → item_octet o ≡ o ∷ []
 unfolding item_octet
 plain_octet o a b = ap (λ t. cond t (92 ∷ o ∷ []) (o ∷ [])) (is_plain o a b)
 
--- an octet of an item behind a backslash, and one that stands for itself
+-- an octet of an item after a backslash, and one without a backslash
 pub escaped_front : (text mid rest : List ℕ) (a o : ℕ) → SpellsFront text (a ∷ []) mid → a ≡ 92 → SpellsFront mid (o ∷ []) rest → is_special o ≡ true → SpellsFront text (item_octet o) rest
 escaped_front text mid rest a o h e k s =
     subst (λ octets. SpellsFront text octets rest) (ap (λ x. x ∷ o ∷ []) e ∙ sym (special_octet o s)) (front_join text (a ∷ []) mid (o ∷ []) rest h k)
@@ -73,7 +73,7 @@ strings_first text rest old new item is h ends e = record {
   gained = e ∙ ap (λ x. old ++ x) (sym (append-nil (length item ∷ item)));
 }
 
--- an octet is spelled in front of a text in one way
+-- a text begins with one octet, spelled in one way
 pub one_same : (text r s : List ℕ) (a b : ℕ) (xs ys : List Symbol) → AreSpellings xs → AreSpellings ys → text ≡ flat_map spell xs ++ r → text ≡ flat_map spell ys ++ s
     → a ∷ [] ≡ map octet_for xs → b ∷ [] ≡ map octet_for ys → (a ≡ b) × (r ≡ s)
 one_same text r s a b [] ys p q e f i j = absurd cc

@@ -27,7 +27,7 @@ use Rattle.dns_params.proofs.Refusals.{first_mark}
 glued : (mid rest : List TokenSeen) (q : TokenSeen) → GoesOnApart mid → mid ≡ q ∷ rest → IsGluedText q → ⊥
 glued mid rest q apart e h = true≢false (sym h.1 ∙ (apart q rest e).1)
 
--- the tokens in front are one parameter
+-- the tokens begin with one parameter
 front_once : (tokens mid end : List TokenSeen) (p q : ℕ × List ℕ) → SpellsFrontParam tokens p mid → GoesOnApart mid → SpellsFrontParam tokens q end → GoesOnApart end → (p ≡ q) × (mid ≡ end)
 front_once [] mid end p q h a k b = absurd h.split
 front_once (t ∷ ts) mid end p q h a k b = by h.split.1 k.split.1

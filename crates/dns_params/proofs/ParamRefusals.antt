@@ -1,4 +1,4 @@
--- Parameters that are refused.
+-- Parameters that are rejected.
 use Rattle.std.proofs.Common.{ℕ, ◌≡◌, ◌<◌, ◌+◌, true≢false, List, [], ◌∷◌, ◌++◌, length, refl, sym, subst, ap, ◌∙◌, arith, inl, inr, Option, Some, None, Result, Ok, Err, append_assoc}
 use Rattle.std.specs.Prelude.{IfErr, IsSome, OnOk}
 use Rattle.std.proofs.lemmas.List.{length-append}
@@ -52,13 +52,13 @@ module _ (start at : ℕ) (value old mid new : List ℕ) (gained : mid ≡ old +
   settled_err room kind text (Ok tt) spelled settles = tt
   settled_err room kind text (Err e) spelled settles = value_unsettled room kind text e spelled settles
 
--- a value that its text refuses
+-- a value whose text is rejected
 pub text_refused : (room : Room) (start at : ℕ) (kind : ValueKind) (text old : List ℕ) (e : ErrorKind) → RefusesSpelled room (SpellsValue kind text) (ValueReason kind text) old e
     → RefusesBegun room start at (SpellsValue kind text) (NewReason kind text) old e
 text_refused room start at kind text old e (inl h) base params key o = inl (h.0, λ octets s. h.1 octets s.0)
 text_refused room start at kind text old e (inr h) base params key o = inr (inl h.0, λ octets s. h.1 octets s.0)
 
--- behind parameters a key was begun
+-- after parameters a key was begun
 pub begun : (base : List ℕ) (params : List (ℕ × List ℕ)) (key start at : ℕ) (old mid : List ℕ) → StandsBehind base params start old → at ≡ length old → key < 65536 → mid ≡ old ++ param_head key
     → StandsOpen base params key start at mid
 begun base params key start at old mid h is small e = record {
@@ -96,7 +96,7 @@ module _ (room : Room) (start : ℕ) (t : TokenSeen) (old : List ℕ) where
   head_refused key lacks rest base params b =
       inl (refl, λ octets s. (let few = lacks (param_head key) refl in omega (arith, few, head_size key, ap length s.5, length-append (param_head s.0.0) s.0.1, head_size s.0.0)))
 
-  -- its value is refused
+  -- its value is rejected
   pub value_refused : (at key : ℕ) (kind : ValueKind) (name text mid : List ℕ) (e : ErrorKind) → SplitsWord t.text name text → IsClosedWord t.text → NamesKey name key kind → key < 65536 → at ≡ length old
       → mid ≡ old ++ param_head key → RefusesBegun room start at (SpellsValue kind text) (NewReason kind text) mid e → (rest : List TokenSeen) → RefusesNew room start (t ∷ rest) (FirstTokenReason t) old e
   value_refused at key kind name text mid e split closed names small is gained h rest base params b = by (h base params key (begun base params key start at old mid b is small gained))
@@ -113,12 +113,12 @@ module _ (room : Room) (start : ℕ) (t : TokenSeen) (old : List ℕ) where
       by (inl l) = inl (l.0, λ octets s. lacks_for room old mid octets s.0.1 key s.0.0 gained s.5 (l.1 s.0.1 (value_of s.0 s.1 s.2 s.4)))
       by (inr n) = inr (inr (kind, text, n.0), λ octets s. n.1 s.0.1 (value_of s.0 s.1 s.2 s.4))
 
--- the reason of a value is one of what is left
+-- the error of a value is one that the unread tokens may have
 pub fault_left : (left : List TokenSeen) (e : ErrorKind) → ValueFault e → ParamReason left e
 fault_left [] e h = h
 fault_left (t ∷ left) e h = inr h
 
--- the value behind an open word is refused
+-- the value after an open word is rejected
 pub behind_refused : (room : Room) (start at : ℕ) (kind : ValueKind) (tokens left : List TokenSeen) (value old : List ℕ) (e : ErrorKind) → IsValueBehind tokens value left
     → RefusesBegun room start at (SpellsValue kind value) (NewReason kind value) old e → RefusesBegun room start at (SpellsOpenValue kind tokens) ValueFault old e
 behind_refused room start at kind tokens left value old e is h base params key o = by (h base params key o)
@@ -148,7 +148,7 @@ module _ (start : ℕ) (t : TokenSeen) (tokens rest : List TokenSeen) (old : Lis
           let spelled : SpellsParam w.0 w.1 q = subst (λ v. SpellsParam w.0 v q) same.1 (subst (λ n. SpellsParam n f.value q) same.0 f.spelled) in
           (param_once w.0 w.1 q w.2 spelled w.5, same.2)
 
-  -- a word and what stands behind it are one
+  -- a word and the value after it are one parameter
   pub quoted_taken : (at : ℕ) (kind : ValueKind) (left : List TokenSeen) (mid new : List ℕ) → at ≡ length old → TakesParamWord start t old mid (Some kind) → TakesQuoted start at kind rest left mid new
       → (p : ℕ × List ℕ) × SpellsFrontParam tokens p left × IsOnlyFront tokens p left × GainsParam p start old new
   quoted_taken at kind left mid new place h k =

@@ -57,7 +57,7 @@ none_rest : (q : ℕ × List ℕ) (b : Bool) (rest : Option (List ℕ)) → cond
 none_rest q true rest h = cc
 none_rest q false rest h = h
 
--- a key without value is none of theirs
+-- a key without a value differs from each of their keys
 pub no_key : (ps : List (ℕ × List ℕ)) (key : ℕ) → value_at ps key ≡ None → (k : ℕ) (d : ℕ × List ℕ) → k < length ps → (get_or ps k d).0 ≢ key
 no_key [] key h k d l e = omega (arith, l)
 no_key (q ∷ qs) key h zero d l e = none_by q (q.0 == key) (value_at qs key) h (eq-eqb q.0 key e)
@@ -100,7 +100,7 @@ fewer_tokens (t ∷ tokens) left name value h = elim h.1 [
   | inr q ↦ (let e = ap length q.1.2 in omega (arith, e))
 ]
 
--- the next parameter is refused
+-- the next parameter is rejected
 pub next_refused : (room : Room) (tokens mid left : List TokenSeen) (start : ℕ) (old now : List ℕ) (e : ErrorKind) → TakesParams tokens mid old now → start ≡ length old → mid ≢ []
     → RefusesNew room start mid (ParamReason left) now e → RefusesSpelled room (SpellsParams tokens) (ParamsReason left) old e
 next_refused room tokens mid left start old now e h begins some refuses = by (refuses old h.params (record { fitting = h.fitting; begins = begins; whole = h.gained }))

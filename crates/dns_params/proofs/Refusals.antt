@@ -17,7 +17,7 @@ use Rattle.dns_params.proofs.Apart.{TakesApart, TakesEach, IsSplit, split_left}
 without_tail : (mark x : ℕ) (xs : List ℕ) → IsWithout mark (x ∷ xs) → IsWithout mark xs
 without_tail mark x xs h = λ k l. h (suc k) (omega (arith, l))
 
--- the first comma is in one place
+-- a text has one first comma
 pub first_mark : (mark : ℕ) (a b r s : List ℕ) → IsWithout mark a → IsWithout mark b → a ++ mark ∷ r ≡ b ++ mark ∷ s → (a ≡ b) × (r ≡ s)
 first_mark mark [] [] r s h k e = (refl, cc)
 first_mark mark [] (y ∷ b) r s h k e = absurd (k 0 (omega arith) (sym cc))
@@ -27,7 +27,7 @@ first_mark mark (x ∷ a) (y ∷ b) r s h k e =
     let more = first_mark mark a b r s (without_tail mark x a h) (without_tail mark y b k) rest in
     (ap (λ z. z ∷ a) first ∙ ap (λ zs. y ∷ zs) more.0, more.1)
 
--- texts in front go on to all of them
+-- all texts begin with the first ones
 pub commas_go_on : (texts all : List (List ℕ)) (rest : List ℕ) → All (IsWithout 44) texts → All (IsWithout 44) all → with_commas texts ++ rest ≡ with_commas all
     → (later : List (List ℕ)) × (all ≡ texts ++ later) × All (IsWithout 44) later × (rest ≡ with_commas later)
 commas_go_on [] all rest h k e = (all, refl, k, e)
@@ -61,7 +61,7 @@ next_value spells before left values all (t ∷ later) (v ∷ more) without k e 
     (sym (append_assoc before (44 ∷ []) left) ∙ e ∙ append_assoc t (44 ∷ []) (with_commas later)) in
     (v, more, is, subst (λ x. spells x v) (sym same.0) z.0)
 
--- what spells values goes on with one that the next text spells
+-- what spells values continues with one that the next text spells
 pub apart_goes_on : {V : Type 0} (spells : List ℕ → V → Type 0) (text rest before : List ℕ) (values all : List V) (behind : Option (List ℕ)) → SpellsOnce spells
     → TakesApart spells text values (Some rest) → IsWithout 44 before → IsSplit rest before behind → SpellsApart spells text all → (v : V) × (more : List V) × (all ≡ values ++ v ∷ more) × spells before v
 apart_goes_on spells text rest before values all behind once h without split s =
@@ -84,7 +84,7 @@ apart_once spells text a b once h k =
 pub values_once : (spells : List ℕ → List ℕ → Type 0) → SpellsOnce spells → SpellsOnce (SpellsValues spells)
 values_once spells once text a b h k = h.whole ∙ ap (flat_map (λ v. v)) (apart_once spells text h.values k.values once h.spelled k.spelled) ∙ sym k.whole
 
--- a value is refused behind others
+-- a value is rejected after others
 pub each_refused : (room : Room) (reason : List ℕ → ErrorKind → Type 0) (spells : List ℕ → List ℕ → Type 0) (text rest before old mid : List ℕ) (behind : Option (List ℕ)) (e : ErrorKind) → SpellsOnce spells
     → TakesEach spells text (Some rest) old mid → IsWithout 44 before → IsSplit rest before behind → RefusesSpelled room (spells before) (reason before) mid e → RefusesSpelled room (SpellsValues spells text) (λ e. (item : List ℕ) × reason item e) old e
 each_refused room reason spells text rest before old mid behind e once h without split (inl lacks) = inl (lacks.0, λ octets s. short octets s)

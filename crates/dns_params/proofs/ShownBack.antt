@@ -1,4 +1,4 @@
--- Parameters as they are printed spell themselves.
+-- Parameters spell themselves as they print.
 use Rattle.std.proofs.Common.{ℕ, ◌≡◌, ◌≢◌, ◌<◌, ◌≤◌, ◌⊎◌, List, [], ◌∷◌, ◌++◌, length, refl, sym, subst, ap, ◌∙◌, arith, inl, inr, append-nil}
 use Rattle.std.specs.Prelude.{All}
 use Rattle.std.specs.Int.{w16, to_be_bytes}
@@ -26,7 +26,7 @@ use Rattle.dns_params.proofs.ShownKeys.{by_key, high_named, key_no_marks, no_equ
 use Rattle.dns_params.proofs.ShownWords.{param_is_word}
 use Rattle.dns_params.proofs.ShownValues.{ipv4_back, ipv6_back, keys_back, port_back, strings_back, unquoted_spells}
 
--- the text of a value behind the equals sign, if there is one
+-- the text of a value after the equals sign, if there is one
 abbrev shown_value : ValueKind → List ℕ → List ℕ
 shown_value kind [] = []
 shown_value kind (x ∷ octets) = value_text kind (x ∷ octets)
@@ -54,7 +54,7 @@ high_kind key high =
     ) refl
 
 module _ (params : List (ℕ × List ℕ)) (octets : List ℕ) (h : AreOctetValues octets) where
-  -- a right value of a key is spelled by what the key and the value are printed as
+  -- a right value of a key is spelled by what the key and the value print as
   abbrev IsShownWell : ℕ → Type 0
   IsShownWell key = key < 65536 → IsParamValue params key octets → SpellsParam (key_text key) (shown_value (shown_kind key) octets) (key, octets)
 

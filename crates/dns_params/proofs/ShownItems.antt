@@ -1,4 +1,4 @@
--- Items of values as they are printed.
+-- Items of values as they print.
 use Rattle.std.proofs.Common.{ℕ, zero, suc, ◌≡◌, ◌<◌, ◌≤◌, ◌+◌, ◌-◌, List, [], ◌∷◌, ◌++◌, length, map, take, drop, get_or, refl, sym, ap, ◌∙◌, arith, append_assoc, append-nil}
 use Rattle.std.specs.Prelude.{All, encode_utf8_all}
 use Rattle.std.proofs.lemmas.Str.{encodes-IsAscii}
@@ -64,7 +64,7 @@ pub no_octets : (octets : List ℕ) → length octets ≡ 0 → octets ≡ []
 no_octets [] e = refl
 no_octets (x ∷ octets) e = absurd (omega (arith, e))
 
--- what is still to be printed, behind a comma or not
+-- what is still to be printed, after a comma or not
 abbrev pub later_items : List ℕ → List (List ℕ) → List ℕ
 later_items comma [] = []
 later_items comma (text ∷ texts) = comma ++ (text ++ behind_commas texts)

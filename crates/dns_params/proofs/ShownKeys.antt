@@ -1,4 +1,4 @@
--- Keys as they are printed are named by their texts, and hold no comma and no equals sign.
+-- Keys are named by the texts that they print as, which have no comma and no equals sign.
 use Rattle.std.proofs.Common.{ℕ, zero, suc, ◌≡◌, ◌≢◌, ◌<◌, ◌≤◌, ◌==◌, ◌&&◌, not, Bool, true, false, true≢false, List, [], ◌∷◌, ◌++◌, decimal, refl, sym, subst, arith}
 use Rattle.std.specs.Prelude.{All, codes}
 use Rattle.std.specs.List.{list_all}
@@ -73,7 +73,7 @@ key_no_marks = by_key (λ key. key < 65536 → All IsNoMark (key_text key))
     (λ l. all_no_marks (codes "ipv4hint") refl) (λ l. all_no_marks (codes "ech") refl) (λ l. all_no_marks (codes "ipv6hint") refl)
     (λ key high l. subst (All IsNoMark) (sym (high_key key high)) (All-append IsNoMark (codes "key") (decimal key) (all_no_marks (codes "key") refl) (decimal_no_marks key l)))
 
--- the kind of the value of a key that is spelled as it is printed
+-- the kind of the value of a key that is spelled as it prints
 pub high_named : (key : ℕ) → 7 ≤ key → key < 65536 → NamesKey (key_text key) key Octets
 high_named key high l = subst (λ text. NamesKey text key Octets) (sym (high_key key high)) ((omega (arith, l), refl), refl)
 

@@ -1,4 +1,4 @@
--- Values as they are printed spell their octets.
+-- Values spell their octets as they print.
 use Rattle.std.proofs.Common.{ℕ, zero, suc, ◌≡◌, ◌≢◌, ◌<◌, ◌≤◌, ◌+◌, ◌-◌, ◌*◌, ◌/◌, ◌%◌, ◌^◌, Bool, true, false, cond, List, [], ◌∷◌, ◌++◌, length, map, take, drop, get_or, decimal, refl, sym, subst, ap, ◌∙◌, arith, inl, inr, append_assoc, append-nil}
 use Rattle.std.specs.Prelude.{All, codes, if◌then◌else◌}
 use Rattle.std.specs.Int.{w16, to_be_bytes, from_be_bytes}
@@ -79,7 +79,7 @@ items_whole : (kind : ValueKind) (octets : List ℕ) → flat_map (λ v. v) (val
 unfolding value_items
 items_whole kind octets = fronts_whole kind (length octets) octets (omega arith)
 
--- ---- groups of so many octets
+-- ---- groups of a constant number of octets
 
 module _ (kind : ValueKind) (size : ℕ) (some : 0 < size) (wide : (octets : List ℕ) → item_width kind octets ≡ size) (more : (n : ℕ) → 0 < n → n % size ≡ 0 → (size ≤ n) × ((n - size) % size ≡ 0)) where
   fronts_sized : (n : ℕ) (octets : List ℕ) → length octets ≤ n → length octets % size ≡ 0 → AreOctetValues octets → All (AreOctetsOf size) (front_items kind n octets)

@@ -1,4 +1,4 @@
--- Parameters are printed as words of zone text.
+-- Parameters print as words.
 use Rattle.std.proofs.Common.{ℕ, zero, suc, ◌≡◌, ◌<◌, ◌≤◌, ◌-◌, ◌%◌, ◌&&◌, Bool, true, List, [], ◌∷◌, ◌++◌, length, map, take, drop, replicate, decimal, refl, sym, subst, ap, ◌∙◌, arith, inl, inr, length-append}
 use Rattle.std.specs.Prelude.{All, codes, nat_lt, slice_index}
 use Rattle.std.specs.Int.{IsInRange, w16, from_be_bytes}
@@ -35,7 +35,7 @@ use Rattle.dns_params.proofs.ShownValues.{item_text_values, octet_at, segment_at
 abbrev IsOctet : ℕ → Type 0
 IsOctet o = o < 256
 
--- symbols that may stand in a word, perhaps none
+-- symbols that may be in a word, perhaps none
 record StandsInWord (text : List ℕ) : Type 0 where
   symbols : List Symbol
   valid : list_all is_word_symbol symbols ≡ true
@@ -48,7 +48,7 @@ append_stands a b h k = record {
   spelled = ap (λ x. x ++ b) h.spelled ∙ ap (λ x. flat_map bytes h.symbols ++ x) k.spelled ∙ sym (flat_map-append bytes h.symbols k.symbols);
 }
 
--- ---- characters that stand for themselves
+-- ---- characters that print as themselves
 
 abbrev is_plain_char : ℕ → Bool
 is_plain_char c = nat_lt c 128 && is_word_symbol (Char c)
@@ -165,7 +165,7 @@ drop_first item h = All-drop IsOctet 1 item h
 nothing_stands : StandsInWord []
 nothing_stands = record { symbols = []; valid = refl; spelled = refl }
 
--- an item of so many octets as its kind has, or fewer
+-- an item of at most the number of octets that its kind has
 item_stands : (kind : ValueKind) (octets : List ℕ) → AreOctetValues octets → StandsInWord (value_item_text kind (take (item_width kind octets) octets))
 item_stands Keys octets h =
     let item = take 2 octets in plain_stands (key_text (from_be_bytes w16 item)) (key_plain (from_be_bytes w16 item) (number_small item (All-take IsOctet 2 octets h) (few octets))).plain

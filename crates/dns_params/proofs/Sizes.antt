@@ -77,7 +77,7 @@ get_front [] ys k d l = absurd (omega (arith, l))
 get_front (x ∷ xs) ys zero d l = refl
 get_front (x ∷ xs) ys (suc k) d l = get_front xs ys k d (omega (arith, l))
 
--- the key of a parameter is none of those before it
+-- the key of a parameter differs from each of those before it
 pub new_of_all : (ps more : List (ℕ × List ℕ)) (p : ℕ × List ℕ) → AllPairs (λ p q. p.0 ≢ q.0) (ps ++ p ∷ more) → value_at ps p.0 ≡ None
 new_of_all ps more p once = none_at ps p.0 (λ k d l same. once k (length ps) d l (omega (arith, length-append ps (p ∷ more)))
     (ap (λ (q : ℕ × List ℕ). q.0) (get_front ps (p ∷ more) k d l) ∙ same

@@ -1,4 +1,4 @@
--- Values that are refused, by their kinds.
+-- Values that are rejected, by their kinds.
 use Rattle.std.proofs.Common.{ℕ, ◌≡◌, List, refl, sym, ◌∙◌, Result, Ok, Err, inl, inr}
 use Rattle.std.specs.Prelude.{IfErr}
 use Rattle.dns_octets.specs.Room.{Room}

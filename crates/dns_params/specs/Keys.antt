@@ -1,4 +1,4 @@
--- Names of keys (RFC 9460 section 2.1).
+-- Names of keys of service parameters (RFC 9460 section 2.1).
 use Rattle.std.specs.Prelude.{ℕ, ◌≡◌, ◌≢◌, ◌<◌, ◌^◌, ◌++◌, List, [], ◌∷◌, codes, decimal, length, slice_index, find, map, Option, MatchOption}
 use Rattle.std.specs.Str.{bytes_eq}
 use Rattle.dns_params.specs.declared.keys.NamedKey.{NamedKey}
@@ -6,7 +6,7 @@ use Rattle.dns_params.specs.declared.keys.SpelledKey.{SpelledKey}
 use Rattle.dns_params.specs.declared.keys.ValueKind.{ValueKind}
 use Rattle.dns_params.specs.declared.keys.ValueKind.TheVariants.{Keys, Strings, Nothing, Port, Ipv4, Digits, Ipv6, Octets}
 
--- a key that has a name, and what the text of its value is
+-- a key with a name, and the form of its value
 pub record KeyRow : Type 0 where
   pub code : ℕ
   pub name : List ℕ
@@ -48,7 +48,7 @@ NamesKeyOf rows text code kind =
 abbrev pub NamesKey : List ℕ → ℕ → ValueKind → Type 0
 NamesKey = NamesKeyOf key_rows
 
--- a zero stands in front of other digits
+-- digits begin with a zero that more digits follow
 abbrev pub HasZeros : List ℕ → Type 0
 HasZeros digits = (1 < length digits) × (slice_index digits 0 ≡ 48)
 

@@ -1,4 +1,4 @@
--- A list's text behind the escapes of a token.
+-- A list's text after the escapes of a token are decoded.
 use Rattle.std.specs.Prelude.{ℕ, ◌≡◌, ◌≢◌, ◌+◌, ◌<◌, ◌⊎◌, true, List, [], ◌∷◌, ◌++◌, length, Option, MatchOption}
 use Rattle.dns_octets.specs.Room.{Room}
 use Rattle.dns_spelling.specs.Spelling.{SpellsFront, SpellsOctetList}
@@ -8,7 +8,7 @@ use Rattle.dns_kinds.specs.declared.error.ErrorKind.{ErrorKind}
 use Rattle.dns_kinds.specs.declared.error.ErrorKind.TheVariants.{ShortBuf}
 use Rattle.dns_params.specs.ParamRefusals.{StringsReason}
 
--- a text is at its end, or spells a comma in front
+-- a text is at its end, or the next octet that it spells is a comma
 abbrev pub EndsAtComma : List ℕ → Type 0
 EndsAtComma text = (text ≡ []) ⊎ ((rest : List ℕ) × SpellsFront text (44 ∷ []) rest)
 
@@ -20,23 +20,23 @@ SpellsSpecial text o = SpellsFront text (o.octet ∷ []) o.rest.now × (is_speci
 abbrev pub FindsItemOctet : List ℕ → Option ItemOctet → Type 0
 FindsItemOctet text first = MatchOption first (EndsAtComma text) (λ o. SpellsFront text (item_octet o.octet) o.rest.now)
 
--- a text begins with all of an item, and goes on with this rest
+-- a text begins with all of an item, and this rest follows
 abbrev pub SpellsFrontItem : List ℕ → List ℕ → List ℕ → Type 0
 SpellsFrontItem text item rest = IsItem item × SpellsFront text (item_text item) rest × EndsAtComma rest
 
--- octets gained the item that a text begins with, after its length
+-- the item that a text begins with was appended after its length
 abbrev pub AppendsItem : List ℕ → List ℕ → List ℕ → List ℕ → Type 0
 AppendsItem text rest old new = (item : List ℕ) × IsItem item × SpellsFront text (item_text item) rest × EndsAtComma rest × (new ≡ old ++ (length item ∷ item))
 
--- an octet that stands behind a backslash is not in front
+-- the list does not begin with an octet that needs a backslash before it
 abbrev pub BeginsUnspecial : List ℕ → Type 0
 BeginsUnspecial list = (o : ℕ) (more : List ℕ) → is_special o ≡ true → list ≢ o ∷ more
 
--- a backslash that escapes nothing is in front
+-- the list begins with a backslash that escapes nothing
 abbrev pub BeginsBadItem : List ℕ → Type 0
 BeginsBadItem list = (rest : List ℕ) × (list ≡ 92 ∷ rest) × BeginsUnspecial rest
 
--- a list goes on to its next item, or is at its end
+-- a list continues with its next item, or is at its end
 abbrev pub GoesOnToItem : List ℕ → Type 0
 GoesOnToItem rest = (rest ≡ []) ⊎ ((more : List ℕ) × (rest ≡ 44 ∷ more))
 
@@ -51,7 +51,7 @@ EachList text P = (list : List ℕ) → SpellsOctetList text list → P list
 abbrev pub BeginsNoItem : List ℕ → Type 0
 BeginsNoItem list = (item rest : List ℕ) → BeginsItem list item rest → ⊥
 
--- the item in front doesn't surely fit behind its length; or there is none
+-- the item that the text begins with doesn't surely fit after its length; or the text begins with none
 abbrev pub RefusesItem : Room → List ℕ → List ℕ → ErrorKind → Type 0
 RefusesItem room text old e =
     ((e ≡ ShortBuf) × EachList text (λ list. (item rest : List ℕ) → BeginsItem list item rest → room.fits < length old + length (length item ∷ item)))

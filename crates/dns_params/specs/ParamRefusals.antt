@@ -1,4 +1,4 @@
--- Why a value of a service parameter is refused.
+-- Why a value of a service parameter is rejected.
 use Rattle.std.specs.Prelude.{ℕ, ◌≡◌, ◌≢◌, ◌⊎◌, ◌^◌, true, List, [], ◌∷◌}
 use Rattle.std.specs.List.{AllPairs}
 use Rattle.dns_octets.specs.Room.{Room}
@@ -19,7 +19,7 @@ use Rattle.dns_params.specs.Items.{SpellsApart}
 use Rattle.dns_params.specs.declared.keys.ValueKind.{ValueKind}
 use Rattle.dns_params.specs.declared.keys.ValueKind.TheVariants.{Keys, Strings, Nothing, Port, Ipv4, Digits, Ipv6, Octets}
 
--- octets that a text spells were not appended: they don't surely fit; or there are none, and this is why
+-- octets that a text spells were not appended: they don't surely fit; or it spells none, for this reason
 abbrev pub RefusesSpelled : Room → (List ℕ → Type 0) → (ErrorKind → Type 0) → List ℕ → ErrorKind → Type 0
 RefusesSpelled room spelled reason old e = ((e ≡ ShortBuf) × LacksRoom room spelled old) ⊎ (reason e × ((octets : List ℕ) → spelled octets → ⊥))
 
@@ -47,7 +47,7 @@ ValueReason Octets text e = (e ≡ BadEscape) × SpellsToBadEscape text
 abbrev pub RefusesValue : Room → ValueKind → List ℕ → List ℕ → ErrorKind → Type 0
 RefusesValue room kind text old e = RefusesSpelled room (SpellsValue kind text) (ValueReason kind text) old e
 
--- why one of several values is refused
+-- why one of several values is rejected
 abbrev pub OfSomeItem : (List ℕ → ErrorKind → Type 0) → ErrorKind → Type 0
 OfSomeItem reason e = (item : List ℕ) × reason item e
 
@@ -55,7 +55,7 @@ OfSomeItem reason e = (item : List ℕ) × reason item e
 abbrev pub RefusesKeys : List ℕ → ErrorKind → Type 0
 RefusesKeys text e = KeysReason e × ((keys : List ℕ) → SpellsApart NamesAKey text keys → ¬ AllPairs (λ a b. a ≢ b) keys)
 
--- why no value of a kind is given to a parameter beside others
+-- why a parameter beside others gets no value of a kind
 abbrev pub NewReason : ValueKind → List ℕ → ErrorKind → Type 0
 NewReason kind text e = ValueReason kind text e ⊎ ((e ≡ LongValue) ⊎ (e ≡ RepeatedParam))
 
@@ -66,15 +66,15 @@ ValueFault e = (kind : ValueKind) × (text : List ℕ) × NewReason kind text e
 abbrev pub NamesNoKey : List ℕ → Type 0
 NamesNoKey word = (name value : List ℕ) → SplitsWord word name value → (key : ℕ) (kind : ValueKind) → NamesKey name key kind → ⊥
 
--- why a token begins no parameter
+-- why a token does not begin a parameter
 abbrev pub WordFault : TokenSeen → ErrorKind → Type 0
 WordFault t e = ((e ≡ GluedParam) × (t.is_glued ≡ true)) ⊎ (((e ≡ QuotedParam) × (t.is_quoted ≡ true)) ⊎ ((e ≡ UnknownKey) × NamesNoKey t.text))
 
--- or why its value is refused
+-- or why its value is rejected
 abbrev pub FirstTokenReason : TokenSeen → ErrorKind → Type 0
 FirstTokenReason t e = WordFault t e ⊎ ValueFault e
 
--- why the first of the tokens that are left is refused, or the value that should stand there
+-- why the first unread token is rejected, or the value that is expected there
 abbrev pub ParamReason : List TokenSeen → ErrorKind → Type 0
 ParamReason [] e = ValueFault e
 ParamReason (t ∷ left) e = FirstTokenReason t e
@@ -83,6 +83,6 @@ ParamReason (t ∷ left) e = FirstTokenReason t e
 abbrev pub ParamsReason : List TokenSeen → ErrorKind → Type 0
 ParamsReason left e = ParamReason left e ⊎ ((left ≡ []) × ((octets : List ℕ) × IsParamsFault e octets))
 
--- a token is refused, or the entry's end: the octets of the parameters don't surely fit, or the tokens spell none
+-- a token is rejected, or the entry's end: the octets of the parameters don't surely fit, or the tokens spell none
 abbrev pub RefusesParams : Room → ℕ → List TokenSeen → List ℕ → RecordError → List TokenSeen → Type 0
 RefusesParams room end tokens old r left = IsErrorAt (next_place left end) r × RefusesSpelled room (SpellsParams tokens) (ParamsReason left) old r.kind

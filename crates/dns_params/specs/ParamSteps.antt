@@ -1,4 +1,4 @@
--- Steps of reading service parameters.
+-- Steps of parsing service parameters.
 use Rattle.std.specs.Prelude.{ℕ, ◌≡◌, ◌+◌, ◌<◌, ◌⊎◌, ◌^◌, Option, Some, None, Result, MatchOption, List, [], ◌∷◌, ◌++◌, length}
 use Rattle.std.specs.Int.{w16, to_be_bytes}
 use Rattle.dns_octets.specs.Room.{Room}
@@ -17,7 +17,7 @@ use Rattle.dns_params.specs.declared.taking.ParamWord.{ParamWord}
 abbrev pub IsClosedWord : List ℕ → Type 0
 IsClosedWord word = (name : List ℕ) → IsOpenWord word name → ⊥
 
--- what a word says of a parameter
+-- the key and the value of a word that is a parameter
 abbrev pub ReadsWord : TokenSeen → ParamWord → Type 0
 ReadsWord t w = StandsApart t × ((name : List ℕ) × NamesKey name w.key.code w.key.kind × (w.key.code < 2 ^ 16)
     × MatchOption w.value (IsOpenWord t.text name) (λ value. SplitsWord t.text name value.now × IsClosedWord t.text))
@@ -26,17 +26,17 @@ ReadsWord t w = StandsApart t × ((name : List ℕ) × NamesKey name w.key.code 
 abbrev pub NamesNoParam : TokenSeen → ErrorKind → Type 0
 NamesNoParam t e = WordFault t e × ((name value : List ℕ) → StandsApart t → SplitsWord t.text name value → (key : ℕ) (kind : ValueKind) → NamesKey name key kind → ⊥)
 
--- a key, and two octets that say nothing yet
+-- a key, and two octets whose value does not matter yet
 abbrev pub param_head : ℕ → List ℕ
 param_head key = to_be_bytes w16 key ++ (0 ∷ 0 ∷ [])
 
--- behind other octets stand parameters
+-- after other octets come parameters
 pub record StandsBehind (base : List ℕ) (params : List (ℕ × List ℕ)) (start : ℕ) (octets : List ℕ) : Type 0 where
   pub fitting : HasFittingValues params
   pub begins : start ≡ length base
   pub whole : octets ≡ base ++ params_wire params
 
--- and behind these, at a place, a key and two octets that say nothing yet
+-- after other octets come parameters, and then at an offset a key and two octets whose value does not matter yet
 pub record StandsOpen (base : List ℕ) (params : List (ℕ × List ℕ)) (key start at : ℕ) (octets : List ℕ) : Type 0 where
   pub fitting : HasFittingValues params
   pub small : key < 65536
@@ -48,16 +48,16 @@ pub record StandsOpen (base : List ℕ) (params : List (ℕ × List ℕ)) (key s
 abbrev pub CanBeAdded : List (ℕ × List ℕ) → ℕ → List ℕ → Type 0
 CanBeAdded params key value = (length value < 65536) × (value_at params key ≡ None)
 
--- of octets that are others and the wire form of parameters, the latter gained one parameter
+-- of octets that are others and the wire format of parameters, the latter gained one parameter
 abbrev pub GainsParam : ℕ × List ℕ → ℕ → List ℕ → List ℕ → Type 0
 GainsParam p start old new =
     (base : List ℕ) (params : List (ℕ × List ℕ)) → StandsBehind base params start old → CanBeAdded params p.0 p.1 × (new ≡ base ++ params_wire (params ++ p ∷ []))
 
--- behind other octets, one parameter more
+-- after other octets, the parameters gained one
 abbrev pub SettlesBehind : List ℕ → List (ℕ × List ℕ) → ℕ → List ℕ → List ℕ → Result (Unit {0}) ErrorKind → Type 0
 SettlesBehind base params key value new r = (octets : List ℕ) × (new ≡ base ++ octets) × SettlesLast params key value octets r
 
--- whichever parameters stood before it, one that was begun was brought to its place among them; or it can't be
+-- whichever parameters were before it, one that was begun was moved to its offset among them; or it can't be
 abbrev pub SettlesParam : ℕ → ℕ → List ℕ → List ℕ → Result (Unit {0}) ErrorKind → Type 0
 SettlesParam start at old new r =
     (base octets : List ℕ) (params : List (ℕ × List ℕ)) (key : ℕ) (value : List ℕ) → HasFittingValues params → key < 65536 → start ≡ length base
@@ -69,32 +69,32 @@ SettlesValue start at value old new =
     (base : List ℕ) (params : List (ℕ × List ℕ)) (key : ℕ) → StandsOpen base params key start at old
     → CanBeAdded params key value × (new ≡ base ++ params_wire (params ++ (key, value) ∷ []))
 
--- a text spells a value, which was given to the parameter that was begun
+-- a text spells a value, which the parameter that was begun has now
 abbrev pub TakesValue : ℕ → ℕ → ValueKind → List ℕ → List ℕ → List ℕ → Type 0
 TakesValue start at kind text old new = (value : List ℕ) × SpellsValue kind text value × SettlesValue start at value old new
 
--- no such value is given to the parameter that was begun
+-- the parameter that was begun gets no such value
 abbrev pub RefusesBegun : Room → ℕ → ℕ → (List ℕ → Type 0) → (ErrorKind → Type 0) → List ℕ → ErrorKind → Type 0
 RefusesBegun room start at spelled reason old e =
     (base : List ℕ) (params : List (ℕ × List ℕ)) (key : ℕ) → StandsOpen base params key start at old
     → RefusesSpelled room (λ value. spelled value × CanBeAdded params key value) reason old e
 
--- octets gained a parameter that a word spells; behind an open word the value is still to come
+-- a parameter that a word spells was appended; after an open word the value is missing yet
 abbrev pub TakesParamWord : ℕ → TokenSeen → List ℕ → List ℕ → Option ValueKind → Type 0
 TakesParamWord start t old new None =
     StandsApart t × ((name value : List ℕ) × (p : ℕ × List ℕ) × SplitsWord t.text name value × IsClosedWord t.text × SpellsParam name value p × (p.0 < 2 ^ 16) × GainsParam p start old new)
 TakesParamWord start t old new (Some kind) =
     StandsApart t × ((name : List ℕ) × (key : ℕ) × IsOpenWord t.text name × NamesKey name key kind × (key < 2 ^ 16) × (new ≡ old ++ param_head key))
 
--- no quoted text in front touches the token before it
+-- tokens do not begin with a quoted string that is adjacent to the token before
 abbrev pub BeginsUnglued : List TokenSeen → Type 0
 BeginsUnglued tokens = (q : TokenSeen) (more : List TokenSeen) → tokens ≡ q ∷ more → IsGluedText q → ⊥
 
--- the value behind an open word: a quoted text that touches it, or else none
+-- the value after an open word: a quoted string adjacent to it, or an empty value
 abbrev pub IsValueBehind : List TokenSeen → List ℕ → List TokenSeen → Type 0
 IsValueBehind tokens value left = ((value ≡ []) × (left ≡ tokens) × BeginsUnglued tokens) ⊎ ((q : TokenSeen) × IsGluedText q × (tokens ≡ q ∷ left) × (value ≡ q.text))
 
--- that value was given to the parameter that was begun
+-- the parameter that was begun has this value now
 abbrev pub TakesQuoted : ℕ → ℕ → ValueKind → List TokenSeen → List TokenSeen → List ℕ → List ℕ → Type 0
 TakesQuoted start at kind tokens left old new = (value octets : List ℕ) × IsValueBehind tokens value left × SpellsValue kind value octets × SettlesValue start at octets old new
 
@@ -102,15 +102,15 @@ TakesQuoted start at kind tokens left old new = (value octets : List ℕ) × IsV
 abbrev pub SpellsOpenValue : ValueKind → List TokenSeen → List ℕ → Type 0
 SpellsOpenValue kind tokens octets = (value : List ℕ) × (left : List TokenSeen) × IsValueBehind tokens value left × SpellsValue kind value octets
 
--- nothing is left, or what begins a parameter may stand there
+-- there are no more tokens, or the next may begin a parameter
 abbrev pub GoesOnApart : List TokenSeen → Type 0
 GoesOnApart left = (t : TokenSeen) (more : List TokenSeen) → left ≡ t ∷ more → StandsApart t
 
--- the tokens in front are one parameter alone
+-- the tokens begin with one parameter only
 abbrev pub IsOnlyFront : List TokenSeen → ℕ × List ℕ → List TokenSeen → Type 0
 IsOnlyFront tokens p left = (q : ℕ × List ℕ) (rest : List TokenSeen) → SpellsFrontParam tokens q rest → GoesOnApart rest → (q ≡ p) × (rest ≡ left)
 
--- the tokens in front spell a parameter that can be added to others; its octets, whose length is not set yet
+-- the tokens begin with a parameter that can be added to others; its octets, whose length is not set yet
 abbrev pub SpellsNew : List (ℕ × List ℕ) → List TokenSeen → List ℕ → Type 0
 SpellsNew params tokens octets =
     (p : ℕ × List ℕ) × (left : List TokenSeen) × SpellsFrontParam tokens p left × GoesOnApart left × CanBeAdded params p.0 p.1 × (octets ≡ param_head p.0 ++ p.1)
@@ -120,10 +120,10 @@ abbrev pub RefusesNew : Room → ℕ → List TokenSeen → (ErrorKind → Type 
 RefusesNew room start tokens reason old e =
     (base : List ℕ) (params : List (ℕ × List ℕ)) → StandsBehind base params start old → RefusesSpelled room (SpellsNew params tokens) reason old e
 
--- nor whatever tokens follow the word that is refused
+-- no parameter is added, whichever tokens follow the rejected word
 abbrev pub RefusesParamWord : Room → ℕ → TokenSeen → List ℕ → ErrorKind → Type 0
 RefusesParamWord room start t old e = (rest : List TokenSeen) → RefusesNew room start (t ∷ rest) (FirstTokenReason t) old e
 
--- tokens begin with a parameter, and octets gained it
+-- tokens begin with a parameter, and it was appended
 abbrev pub TakesParam : ℕ → List TokenSeen → List TokenSeen → List ℕ → List ℕ → Type 0
 TakesParam start tokens left old new = (p : ℕ × List ℕ) × SpellsFrontParam tokens p left × IsOnlyFront tokens p left × GainsParam p start old new

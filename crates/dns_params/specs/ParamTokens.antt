@@ -21,21 +21,21 @@ SplitsWord word name value = IsWithout 61 name × (((word ≡ name) × (value �
 abbrev pub IsOpenWord : List ℕ → List ℕ → Type 0
 IsOpenWord word name = IsWithout 61 name × (word ≡ name ++ 61 ∷ [])
 
--- a word that does not touch the token before it
+-- a word that is not adjacent to the token before it
 abbrev pub StandsApart : TokenSeen → Type 0
 StandsApart t = (t.is_quoted ≡ false) × (t.is_glued ≡ false)
 
--- a quoted text that touches the token before it
+-- a quoted string that is adjacent to the token before it
 abbrev pub IsGluedText : TokenSeen → Type 0
 IsGluedText t = (t.is_quoted ≡ true) × (t.is_glued ≡ true)
 
--- the tokens behind a word: none of them is its value; or its value is a quoted text that touches it
+-- the tokens after a word: its value is not among them; or its value is a quoted string adjacent to it
 abbrev pub SplitsValue : TokenSeen → List TokenSeen → List ℕ → List ℕ → List TokenSeen → Type 0
 SplitsValue t tokens name value rest =
     (SplitsWord t.text name value × (rest ≡ tokens))
     ⊎ (IsOpenWord t.text name × ((q : TokenSeen) × IsGluedText q × (tokens ≡ q ∷ rest) × (value ≡ q.text)))
 
--- the tokens in front that are one parameter, and those behind it
+-- the tokens that are one parameter, and the tokens after it
 abbrev pub SplitsParam : List TokenSeen → List ℕ → List ℕ → List TokenSeen → Type 0
 SplitsParam [] name value rest = ⊥
 SplitsParam (t ∷ tokens) name value rest = StandsApart t × SplitsValue t tokens name value rest
@@ -46,13 +46,13 @@ pub record SpellsFrontParam (tokens : List TokenSeen) (p : ℕ × List ℕ) (res
   pub split : SplitsParam tokens name value rest
   pub spelled : SpellsParam name value p
 
--- the tokens in front are these parameters, one after another
+-- the tokens begin with these parameters, one after another
 abbrev pub SpellsFrontParams : List TokenSeen → List (ℕ × List ℕ) → List TokenSeen → Type 0
 SpellsFrontParams tokens [] rest = tokens ≡ rest
 SpellsFrontParams tokens (p ∷ params) rest = (middle : List TokenSeen) × SpellsFrontParam tokens p middle × SpellsFrontParams middle params rest
 
--- Tokens spell parameters in any order, each key once. On the wire they stand in the order of their
--- keys, and each value is what its key asks for beside the others.
+-- Tokens spell parameters in any order, each key once. In wire format they are in the order of
+-- their keys, and each value is one that its key allows beside the others.
 pub record SpellsParams (tokens : List TokenSeen) (octets : List ℕ) : Type 0 where
   pub params : List (ℕ × List ℕ)
   pub spelled : SpellsFrontParams tokens params []

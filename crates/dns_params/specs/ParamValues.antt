@@ -1,4 +1,4 @@
--- Values of service parameters as text (RFC 9460 sections 7 and 8, RFC 9461 section 5).
+-- Values of service parameters in presentation format (RFC 9460 sections 7 and 8, RFC 9461 section 5).
 use Rattle.std.specs.Prelude.{ℕ, ◌≡◌, ◌≢◌, ◌<◌, ◌^◌, cond, List, []}
 use Rattle.std.specs.Int.{w16, to_be_bytes}
 use Rattle.std.specs.List.{flat_map, range_with_len, AllPairs}
@@ -31,25 +31,25 @@ keys_from keys first count = flat_map (key_wire keys) (range_with_len first coun
 abbrev pub keys_wire : List ℕ → List ℕ
 keys_wire keys = keys_from keys 0 65536
 
--- names of keys apart by commas, each key once, are those of a set
+-- names of keys separated by commas, each key once, are those of a set
 abbrev pub NamesKeys : List ℕ → List ℕ → Type 0
 NamesKeys text set = (keys : List ℕ) × SpellsApart NamesAKey text keys × AllPairs (λ a b. a ≢ b) keys × SameTypes set keys
 
--- names of keys apart by commas, in any order, each key once
+-- names of keys separated by commas, in any order, each key once
 pub record SpellsKeys (text octets : List ℕ) : Type 0 where
   pub keys : List ℕ
   pub named : SpellsApart NamesAKey text keys
   pub once : AllPairs (λ a b. a ≢ b) keys
   pub whole : octets ≡ keys_wire keys
 
--- values apart by commas, whose octets are one after another
+-- values separated by commas, whose octets are one after another
 pub record SpellsValues (spells : List ℕ → List ℕ → Type 0) (text octets : List ℕ) : Type 0 where
   pub values : List (List ℕ)
   pub spelled : SpellsApart spells text values
   pub whole : octets ≡ flat_map (λ v. v) values
 
--- behind the escapes of zone text a text is that of a list, which has escapes of its own (RFC 9460
--- appendix A.1)
+-- after the escapes of a token are decoded, a text is that of a list, which has escapes of its own
+-- (RFC 9460 appendix A.1)
 pub record SpellsStrings (text octets : List ℕ) : Type 0 where
   pub list : List ℕ
   pub spelled : SpellsOctetList text list

@@ -1,4 +1,4 @@
--- What service parameters are printed as, read again.
+-- The words that service parameters print as, parsed again.
 use Rattle.std.specs.Prelude.{ℕ, ◌≡◌, ⊤, List, [], ◌∷◌}
 use Rattle.std.specs.List.{AllByRecursion}
 use Rattle.dns_lists.specs.Params.{params_of}
@@ -9,21 +9,21 @@ use Rattle.dns_split.specs.Token.{IsWord}
 use Rattle.dns_params.specs.ParamTokens.{StandsApart, SpellsParams}
 use Rattle.dns_params.specs.ShownParams.{param_text}
 
--- each token is the word that a parameter is printed as
+-- each token is the word that a parameter prints as
 abbrev pub AreShownParams : List (ℕ × List ℕ) → List TokenSeen → Type 0
 AreShownParams [] [] = ⊤
 AreShownParams [] (t ∷ ts) = ⊥
 AreShownParams (p ∷ ps) [] = ⊥
 AreShownParams (p ∷ ps) (t ∷ ts) = StandsApart t × (t.text ≡ param_text p) × AreShownParams ps ts
 
--- the words that parameters are printed as spell these again
+-- the words that parameters print as spell these again
 abbrev pub AreParamsReadBack : Type 0
 AreParamsReadBack = (octets : List ℕ) (tokens : List TokenSeen) → AreOctetValues octets → AreRightParams octets → AreShownParams (params_of octets) tokens → SpellsParams tokens octets
 
--- and each of them is a word of zone text
+-- each of them is a word
 abbrev pub AreParamsWords : Type 0
 AreParamsWords = (octets : List ℕ) → AreOctetValues octets → AreRightParams octets → AllByRecursion (λ p. IsWord (param_text p)) (params_of octets)
 
--- tokens spell parameters in one way
+-- tokens spell one list of parameters
 abbrev pub AreParamsOnce : Type 0
 AreParamsOnce = (tokens : List TokenSeen) (a b : List ℕ) → SpellsParams tokens a → SpellsParams tokens b → a ≡ b

@@ -1,4 +1,4 @@
--- Service parameters as they are printed (RFC 9460 section 2.1), one word each.
+-- Service parameters as they print (RFC 9460 section 2.1), one word each.
 use Rattle.std.specs.Prelude.{ℕ, zero, suc, ◌+◌, ◌==◌, if◌then◌else◌, Bool, true, false, List, [], ◌∷◌, ◌++◌, length, map, take, drop, slice_index, codes, decimal}
 use Rattle.std.specs.Int.{w16, from_be_bytes}
 use Rattle.std.specs.List.{flat_map}
@@ -19,12 +19,12 @@ key_text key =
     if key == 0 then codes "mandatory" else (if key == 1 then codes "alpn" else (if key == 2 then codes "no-default-alpn" else (if key == 3 then codes "port"
     else (if key == 4 then codes "ipv4hint" else (if key == 5 then codes "ech" else (if key == 6 then codes "ipv6hint" else codes "key" ++ decimal key))))))
 
--- what its value is printed as
+-- the form in which its value prints
 abbrev pub shown_kind : ℕ → ValueKind
 shown_kind key =
     if key == 0 then Keys else (if key == 1 then Strings else (if key == 3 then Port else (if key == 4 then Ipv4 else (if key == 5 then Digits else (if key == 6 then Ipv6 else Octets)))))
 
--- how many octets the item in front of a value has
+-- the length in octets of the item that a value begins with
 abbrev pub item_width : ValueKind → List ℕ → ℕ
 item_width Keys octets = 2
 item_width Strings octets = 1 + slice_index octets 0
@@ -35,7 +35,7 @@ item_width Digits octets = 2
 item_width Ipv6 octets = 16
 item_width Octets octets = 2
 
--- so many items in front of a value, or fewer
+-- at most `n` items that a value begins with
 abbrev pub front_items : ValueKind → ℕ → List ℕ → List (List ℕ)
 front_items kind zero octets = []
 front_items kind (suc n) [] = []
@@ -45,11 +45,11 @@ front_items kind (suc n) (x ∷ octets) = take (item_width kind (x ∷ octets)) 
 unfoldable pub value_items : ValueKind → List ℕ → List (List ℕ)
 value_items kind octets = front_items kind (length octets) octets
 
--- octets of a word, with the escapes of zone text
+-- octets of a word, with the escapes of a token
 abbrev pub octets_word : List ℕ → List ℕ
 octets_word = text_of is_unquoted_escape
 
--- an item: a key; a string, with the escapes of a list and of zone text; a port; an address
+-- an item: a key; a string, with the escapes of a list and of a token; a port; an address
 abbrev pub value_item_text : ValueKind → List ℕ → List ℕ
 value_item_text Keys item = key_text (from_be_bytes w16 item)
 value_item_text Strings item = octets_word (item_text (drop 1 item))
@@ -60,7 +60,7 @@ value_item_text Nothing item = []
 value_item_text Digits item = []
 value_item_text Octets item = []
 
--- each text behind a comma
+-- each text after a comma
 abbrev pub behind_commas : List (List ℕ) → List ℕ
 behind_commas = flat_map (λ text. 44 ∷ text)
 
@@ -81,7 +81,7 @@ between_commas (text ∷ texts) = text ++ behind_commas texts
 abbrev pub items_text : ValueKind → List ℕ → List ℕ
 items_text kind octets = between_commas (map (value_item_text kind) (value_items kind octets))
 
--- a value: base 64; octets with the escapes of zone text; or items
+-- a value: base 64; octets with the escapes of a token; or items
 abbrev pub value_text : ValueKind → List ℕ → List ℕ
 value_text Digits octets = encoded base64 octets
 value_text Octets octets = octets_word octets
@@ -92,7 +92,7 @@ value_text Port octets = items_text Port octets
 value_text Ipv4 octets = items_text Ipv4 octets
 value_text Ipv6 octets = items_text Ipv6 octets
 
--- a key, and behind an equals sign its value, if it is not empty
+-- a key, and after an equals sign its value, if it is not empty
 abbrev pub value_behind : ValueKind → List ℕ → List ℕ
 value_behind kind [] = []
 value_behind kind (x ∷ octets) = 61 ∷ value_text kind (x ∷ octets)

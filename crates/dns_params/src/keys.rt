@@ -1,14 +1,14 @@
-//! Names of keys (RFC 9460 section 2.1).
+//! Names of keys of service parameters (RFC 9460 section 2.1).
 ghost use Rattle.std.specs.Prelude.{◌≡◌, MatchBool};
 ghost use Rattle.dns_params.specs.Keys.{rows_of, FindsKey, FindsKeyNumber, HasZeros, IsNumberedKey, NamesKey, NamesKeyOf};
 ghost use Rattle.dns_params.specs.declared.keys.ValueKind.TheVariants.{Octets as AnyOctets};
 
 use dns_kinds::numbers::u16_from_text;
 
-/// What the text of a value is.
+/// The form of a value in presentation format.
 #[derive(Clone, Copy, Debug, PartialEq, Eq)]
 pub enum ValueKind {
-    /// Names of keys, apart by commas.
+    /// Names of keys, separated by commas.
     Keys,
     /// A list of strings.
     Strings,
@@ -16,17 +16,17 @@ pub enum ValueKind {
     Nothing,
     /// A number of 16 bits.
     Port,
-    /// IPv4 addresses, apart by commas.
+    /// IPv4 addresses, separated by commas.
     Ipv4,
     /// Octets in base 64.
     Digits,
-    /// IPv6 addresses, apart by commas.
+    /// IPv6 addresses, separated by commas.
     Ipv6,
     /// Octets.
     Octets,
 }
 
-/// A key that has a name: its number, its name, and what the text of its value is.
+/// A key with a name: its number, its name, and the form of its value.
 pub(crate) struct NamedKey(
     pub(crate) u16,
     pub(crate) &'static str,
@@ -46,21 +46,21 @@ static KEYS: [NamedKey; 9] = [
     NamedKey(8, "ohttp", ValueKind::Nothing),
 ];
 
-/// A key as it is spelled: its number, and what the text of its value is.
+/// A key that was parsed: its number, and the form of its value.
 #[derive(Clone, Copy)]
 pub(crate) struct SpelledKey {
     pub(crate) code: u16,
     pub(crate) kind: ValueKind,
 }
 
-/// Whether digits have a zero in front.
+/// Returns whether digits begin with a zero that more digits follow.
 fn has_zeros(digits: &[u8]) -> bool
     ensures { MatchBool result (HasZeros digits.now) (¬ HasZeros digits.now) }
 {
     digits.len() > 1 && digits[0] == b'0'
 }
 
-/// The number of decimal digits without zeros in front.
+/// Returns the number of decimal digits without leading zeros.
 fn number_of(digits: &[u8]) -> Option<u16>
     ensures { FindsKeyNumber digits.now result }
 {
@@ -73,7 +73,7 @@ fn number_of(digits: &[u8]) -> Option<u16>
     }
 }
 
-/// The key that `key` and a number name. Its value is any octets.
+/// Returns the key that `key` and a number name. Its value is any octets.
 fn numbered_key(text: &[u8]) -> Option<SpelledKey>
     ensures { FindsKey (λ code kind. IsNumberedKey text.now code × (kind ≡ AnyOctets)) result }
 {
@@ -85,7 +85,7 @@ fn numbered_key(text: &[u8]) -> Option<SpelledKey>
     })
 }
 
-/// The key that a text names, by a row of a table or by its number.
+/// Returns the key that a text names, by a row of a table or by its number.
 fn find_key(table: &[NamedKey], text: &[u8]) -> Option<SpelledKey>
     ensures { FindsKey (NamesKeyOf (rows_of table.now) text.now) result }
 {
@@ -100,7 +100,7 @@ fn find_key(table: &[NamedKey], text: &[u8]) -> Option<SpelledKey>
     numbered_key(text)
 }
 
-/// The key that a text names.
+/// Returns the key that a text names.
 pub(crate) fn key_from_text(text: &[u8]) -> Option<SpelledKey>
     ensures { FindsKey (NamesKey text.now) result }
 {

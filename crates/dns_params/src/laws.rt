@@ -1,8 +1,8 @@
-//! What holds of all service parameters.
+//! Laws of all service parameters.
 ghost use Rattle.dns_params.specs.ParamsBack.{AreParamsOnce, AreParamsReadBack, AreParamsWords};
 
-/// States that tokens spell service parameters in one way, and that what right parameters are printed
-/// as, each a word of zone text, spells them again. It does nothing else.
+/// States that tokens spell one list of service parameters, and that right parameters print as
+/// words which spell them again. Does nothing.
 pub fn parameters_are_spelled()
     ensures once { AreParamsOnce }
     ensures back { AreParamsReadBack }

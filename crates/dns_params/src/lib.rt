@@ -1,5 +1,5 @@
 //! The service parameters of SVCB and HTTPS records (RFC 9460 sections 2.1, 7 and 8, RFC 9461
-//! section 5): from the tokens of an entry to octets on the wire, and back to text.
+//! section 5): parses the tokens of an entry to wire format, and prints wire format.
 #![tactic(auto)]
 
 mod items;

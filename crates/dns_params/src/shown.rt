@@ -1,4 +1,4 @@
-//! Parameters as they are printed: one word each, without quotes.
+//! Prints service parameters, each as one word without quotes.
 ghost use Rattle.std.specs.Prelude.{◌≡◌, ◌<◌, Some, length};
 ghost use Rattle.std.specs.Fmt.{WritesOnOk};
 ghost use Rattle.dns_lists.specs.Texts.{item_text, item_octet};
@@ -16,7 +16,7 @@ use std::net::Ipv4Addr;
 
 /// A key, which prints as its name, or as `key` and its number.
 ///
-/// Keys above 6 print by their number: servers that know no name of 7 read it so.
+/// Keys above 6 print by their number, which servers without a name for key 7 parse too.
 #[derive(Clone, Copy)]
 pub struct KeyText(pub u16);
 
@@ -37,7 +37,7 @@ impl fmt::Display for KeyText {
     }
 }
 
-/// What the value of a key is printed as.
+/// Returns the form in which the value of a key prints.
 fn kind_of(key: u16) -> ValueKind
     ensures { result ≡ shown_kind key }
 {
@@ -52,7 +52,7 @@ fn kind_of(key: u16) -> ValueKind
     }
 }
 
-/// Prints octets of a word.
+/// Prints octets of a word with escapes.
 fn write_unquoted<W: fmt::Write>(octets: &[u8], f: &mut fmt::Formatter<W>) -> fmt::Result
     ensures { WritesOnOk W.write_str_gives f.old result (octets_word octets.now) f.new }
 {
@@ -60,7 +60,7 @@ fn write_unquoted<W: fmt::Write>(octets: &[u8], f: &mut fmt::Formatter<W>) -> fm
     write_octets::<Unquoted, W>(octets, f)
 }
 
-/// Prints an octet of a list's item.
+/// Prints an octet of a list's item with escapes.
 fn write_item_octet<W: fmt::Write>(octet: u8, f: &mut fmt::Formatter<W>) -> fmt::Result
     ensures { WritesOnOk W.write_str_gives f.old result (octets_word (item_octet octet)) f.new }
 {
@@ -82,7 +82,7 @@ fn write_string<W: fmt::Write>(string: &[u8], f: &mut fmt::Formatter<W>) -> fmt:
     Ok(())
 }
 
-/// How many octets the item in front of a value has, which is not empty.
+/// Returns the length in octets of the item that a value begins with. The value must not be empty.
 fn width_of(kind: ValueKind, octets: &[u8]) -> usize
     requires { 0 < length octets.now }
     ensures width { result ≡ item_width kind octets.now }
@@ -96,7 +96,7 @@ fn width_of(kind: ValueKind, octets: &[u8]) -> usize
     }
 }
 
-/// Prints an item of a value, which is not empty.
+/// Prints an item of a value. The item must not be empty.
 fn write_item<W: fmt::Write>(kind: ValueKind, item: &[u8], f: &mut fmt::Formatter<W>) -> fmt::Result
     requires { 0 < length item.now }
     ensures { WritesOnOk W.write_str_gives f.old result (value_item_text kind item.now) f.new }
@@ -115,7 +115,7 @@ fn write_item<W: fmt::Write>(kind: ValueKind, item: &[u8], f: &mut fmt::Formatte
     }
 }
 
-/// Prints an item of a value, behind a comma if it is a later one.
+/// Prints an item of a value, after a comma if it is not the first.
 fn write_next<W: fmt::Write>(
     kind: ValueKind,
     item: &[u8],
@@ -132,7 +132,7 @@ fn write_next<W: fmt::Write>(
     write_item(kind, item, f)
 }
 
-/// Prints the items of a value, with commas between them.
+/// Prints the items of a value with commas between them.
 fn write_items<W: fmt::Write>(
     kind: ValueKind,
     value: &[u8],
@@ -169,10 +169,10 @@ fn write_value<W: fmt::Write>(
     }
 }
 
-/// A parameter, which prints as one word without quotes: its key, and behind an equals sign its
-/// value, if that is not empty.
+/// A service parameter, which prints as one word without quotes: its key, and after an equals sign
+/// its value, if it is not empty.
 ///
-/// Where the value is not what its key asks for, printing may fail.
+/// Printing may fail if the value is not one that its key allows.
 #[derive(Clone, Copy)]
 pub struct ParamText<'a> {
     pub key: u16,

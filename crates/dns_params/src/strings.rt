@@ -1,8 +1,9 @@
-//! The list of strings that `alpn` holds (RFC 9460 appendix A.1), behind the escapes of a token.
+//! Parses the list of strings of `alpn` (RFC 9460 appendix A.1), which has escapes of its own
+//! inside a token.
 //!
-//! A text is read in both layers at once: each octet that the token spells is a comma, a backslash
-//! or another octet of the list's text. So what is kept is one item, of at most 255 octets, and
-//! the target has room for nothing but the list on the wire.
+//! Both layers of escapes are decoded at once: each octet that the token spells is a comma, a
+//! backslash or another octet of the list's text. So only one item of at most 255 octets is stored,
+//! and the target needs room only for the list in wire format.
 ghost use Rattle.std.specs.Prelude.{◌≡◌, [], IfOk, IfErr, OnOk, OnErr};
 ghost use Rattle.dns_octets.specs.Appending.{Extends, Gains};
 ghost use Rattle.dns_lists.specs.Texts.{is_special};
@@ -16,7 +17,7 @@ use dns_kinds::ErrorKind;
 use dns_octets::OctetsBuilder;
 use dns_spelling::first_spelled;
 
-/// The most octets of an item.
+/// Greatest length of an item, in octets.
 const MOST: usize = 255;
 
 /// An octet of an item, and the text after it.
@@ -26,14 +27,14 @@ struct ItemOctet<'a> {
     rest: &'a [u8],
 }
 
-/// Whether an octet stands behind a backslash in an item.
+/// Returns whether an octet has a backslash before it in an item.
 pub(crate) fn is_escaped(octet: u8) -> bool
     ensures { result ≡ is_special octet }
 {
     octet == b',' || octet == b'\\'
 }
 
-/// The octet of an item behind a backslash in front of it.
+/// Returns the octet of an item after the backslash that the text begins with.
 fn behind_backslash(text: &[u8]) -> Result<ItemOctet<'_>, ErrorKind>
     ensures ok { IfOk result (SpellsSpecial text.now) }
     ensures err { IfErr result (λ e. StringsReason e × EachList text.now BeginsUnspecial) }
@@ -51,7 +52,7 @@ fn behind_backslash(text: &[u8]) -> Result<ItemOctet<'_>, ErrorKind>
     })
 }
 
-/// The octet of an item in front of a text: none at a comma and at the end.
+/// Returns the octet of an item that a text begins with. Returns `None` at a comma and at the end.
 fn first_of_item(text: &[u8]) -> Result<Option<ItemOctet<'_>>, ErrorKind>
     ensures ok { IfOk result (FindsItemOctet text.now) }
     ensures err { IfErr result (λ e. StringsReason e × EachList text.now BeginsBadItem) }
@@ -73,7 +74,7 @@ fn first_of_item(text: &[u8]) -> Result<Option<ItemOctet<'_>>, ErrorKind>
     }))
 }
 
-/// Reads the item in front of a text, and gives what stands after it.
+/// Parses the item that a text begins with. Returns the text after it.
 fn read_item<'a>(text: &'a [u8], item: &mut ArrayVec<u8, MOST>) -> Result<&'a [u8], ErrorKind>
     requires { item.old.items ≡ [] }
     ensures ok { IfOk result (λ rest. SpellsFrontItem text.now item.new.items rest.now) }
@@ -93,7 +94,8 @@ fn read_item<'a>(text: &'a [u8], item: &mut ArrayVec<u8, MOST>) -> Result<&'a [u
     Ok(rest)
 }
 
-/// Appends the item in front of a text behind its length, and gives what stands after it.
+/// Parses the item that a text begins with, and appends its length and its octets. Returns the text
+/// after it.
 fn append_item<'a, B: OctetsBuilder>(text: &'a [u8], target: &mut B) -> Result<&'a [u8], ErrorKind>
     ensures ok { IfOk result (λ rest.
         AppendsItem text.now rest.now (B.octets target.old) (B.octets target.new)) }
@@ -107,7 +109,7 @@ fn append_item<'a, B: OctetsBuilder>(text: &'a [u8], target: &mut B) -> Result<&
     Ok(rest)
 }
 
-/// Appends the strings of a list, each behind its length.
+/// Parses a list, and appends its strings, each after its length.
 pub(crate) fn append_strings<B: OctetsBuilder>(text: &[u8], target: &mut B) -> Result<(), ErrorKind>
     ensures ok { OnOk result (Gains (SpellsStrings text.now)
         (B.octets target.old) (B.octets target.new)) }

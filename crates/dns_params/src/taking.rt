@@ -1,4 +1,4 @@
-//! Parameters of the tokens of an entry.
+//! Parses service parameters from the tokens of an entry.
 ghost use Rattle.std.specs.Prelude.{◌≡◌, ◌≢◌, ◌+◌, ◌≤◌, [], ◌++◌, IfOk, IfErr, OnOk, OnErr, length};
 ghost use Rattle.dns_octets.specs.Appending.{Extends, Gains, LacksRoom};
 ghost use Rattle.dns_split.specs.EntryTokens.{token_seen};
@@ -16,15 +16,15 @@ use dns_lists::{check_params, settle_last};
 use dns_octets::{AsOctetsMut, OctetsBuilder, ShortBuf};
 use dns_split::entry_tokens::EntryToken;
 
-/// What a word says of a parameter: its key, and the text of its value, or none where the word ends
-/// in the equals sign.
+/// A word parsed as a parameter: its key, and the text of its value, or `None` if the word ends
+/// with the equals sign.
 #[derive(Clone, Copy)]
 pub(crate) struct ParamWord<'a> {
     pub(crate) key: SpelledKey,
     pub(crate) value: Option<&'a [u8]>,
 }
 
-/// What a word says of a parameter.
+/// Parses a word as a parameter.
 fn read_word<'a>(token: &EntryToken<'a>) -> Result<ParamWord<'a>, ErrorKind>
     ensures ok { IfOk result (ReadsWord (token_seen token.now)) }
     ensures err { IfErr result (NamesNoParam (token_seen token.now)) }
@@ -65,8 +65,8 @@ fn append_head<B: OctetsBuilder>(key: u16, target: &mut B) -> Result<(), ShortBu
     target.append_slice(&[high, low, 0, 0])
 }
 
-/// Brings the parameter at a place to its place among those that begin at `start`, and sets its
-/// length.
+/// Moves the parameter at `at` to its offset by key order among those that begin at `start`, and
+/// sets its length.
 fn settle<B: OctetsBuilder + AsOctetsMut>(
     start: usize,
     at: usize,
@@ -81,8 +81,8 @@ fn settle<B: OctetsBuilder + AsOctetsMut>(
     settle_last(&mut octets[start..], at - start)
 }
 
-/// Appends the value of the parameter whose key stands at a place, and settles the parameter among
-/// those that begin at `start`.
+/// Appends the value of the parameter whose key is at `at`, and moves the parameter to its offset
+/// among those that begin at `start`.
 fn take_value<B: OctetsBuilder + AsOctetsMut>(
     start: usize,
     at: usize,
@@ -102,8 +102,8 @@ fn take_value<B: OctetsBuilder + AsOctetsMut>(
     settle(start, at, target)
 }
 
-/// Takes the parameter of a word among those that begin at `start`. Where the word ends in the equals
-/// sign, it appends its key and two octets, and gives what its value is.
+/// Parses the parameter of a word, and inserts it among those that begin at `start`. If the word
+/// ends with the equals sign, appends its key and two octets, and returns the form of its value.
 fn take_word<B: OctetsBuilder + AsOctetsMut>(
     start: usize,
     token: &EntryToken<'_>,
@@ -128,8 +128,8 @@ fn take_word<B: OctetsBuilder + AsOctetsMut>(
     Ok(None)
 }
 
-/// Takes the value behind a word that ends in the equals sign: the quoted text that touches it, or
-/// else none.
+/// Parses the value after a word that ends with the equals sign: the quoted string adjacent to the
+/// word, or an empty value if there is none.
 fn take_quoted<S: TokenSource, B: OctetsBuilder + AsOctetsMut>(
     start: usize,
     at: usize,
@@ -156,8 +156,8 @@ fn take_quoted<S: TokenSource, B: OctetsBuilder + AsOctetsMut>(
     Ok(())
 }
 
-/// Takes the tokens of a parameter, and settles it among those that begin at `start`. The token that
-/// is refused is left.
+/// Parses the tokens of a parameter, and inserts it among those that begin at `start`. A rejected
+/// token is not skipped.
 fn take_param<S: TokenSource, B: OctetsBuilder + AsOctetsMut>(
     start: usize,
     source: &mut S,
@@ -184,11 +184,11 @@ fn take_param<S: TokenSource, B: OctetsBuilder + AsOctetsMut>(
     Ok(())
 }
 
-/// Takes the parameters that the tokens that are left spell, and appends their octets, in ascending
-/// order of keys. Refused, the target has its old octets, and perhaps more after them.
+/// Parses the unread tokens as service parameters, and appends them in wire format, in ascending
+/// order of keys. On an error, the target has its old octets, perhaps with more after them.
 ///
-/// The error's offset is that of the token that is refused. Where the value after an equals sign is
-/// missing, it is where the value is due. Where the parameters together are refused, it is the
+/// The error's offset is that of the rejected token. If the value after an equals sign is missing,
+/// it is the offset where the value is expected. If the parameters are rejected together, it is the
 /// entry's end.
 pub fn take_params<S: TokenSource, B: OctetsBuilder + AsOctetsMut>(
     source: &mut S,

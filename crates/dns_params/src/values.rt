@@ -1,4 +1,4 @@
-//! Values of parameters (RFC 9460 sections 7 and 8).
+//! Parses values of service parameters (RFC 9460 sections 7 and 8).
 ghost use Rattle.std.specs.Prelude.{◌≡◌, ◌≢◌, ◌++◌, [], IfErr, OnOk, OnErr};
 ghost use Rattle.dns_octets.specs.Appending.{Extends, Gains, LacksRoom};
 ghost use Rattle.dns_fields.specs.Words.{SpellsAs};
@@ -34,7 +34,7 @@ fn append_one<W: Word + Drop, B: OctetsBuilder>(
     Ok(())
 }
 
-/// Appends the values that words apart by commas spell.
+/// Appends the values that words spell. Commas separate the words.
 fn append_each<W: Word + Drop, B: OctetsBuilder>(
     text: &[u8],
     target: &mut B,
@@ -55,7 +55,7 @@ fn append_each<W: Word + Drop, B: OctetsBuilder>(
     Ok(())
 }
 
-/// Adds the keys that names apart by commas spell to a set of none.
+/// Adds the keys that names spell to an empty set. Commas separate the names.
 fn read_keys(text: &[u8], keys: &mut CodeSet) -> Result<(), ErrorKind>
     requires { keys.old ≡ [] }
     ensures ok { OnOk result (NamesKeys text.now keys.new) }
@@ -102,7 +102,7 @@ fn append_set<B: OctetsBuilder>(keys: &CodeSet, target: &mut B) -> Result<(), Sh
     Ok(())
 }
 
-/// Appends the keys that names apart by commas spell, in ascending order.
+/// Appends the keys that names spell, in ascending order. Commas separate the names.
 fn append_keys<B: OctetsBuilder>(text: &[u8], target: &mut B) -> Result<(), ErrorKind>
     ensures ok { OnOk result (Gains (SpellsKeys text.now)
         (B.octets target.old) (B.octets target.new)) }
@@ -115,7 +115,7 @@ fn append_keys<B: OctetsBuilder>(text: &[u8], target: &mut B) -> Result<(), Erro
     Ok(())
 }
 
-/// Refuses a value.
+/// Rejects a value that is not empty.
 fn take_nothing(text: &[u8]) -> Result<(), ErrorKind>
     ensures ok { OnOk result (text.now ≡ []) }
     ensures err { IfErr result (λ e. (e ≡ UnexpectedValue) × (text.now ≢ [])) }
@@ -127,7 +127,7 @@ fn take_nothing(text: &[u8]) -> Result<(), ErrorKind>
     }
 }
 
-/// Appends the octets of a value.
+/// Parses a value, and appends it in wire format.
 pub(crate) fn append_value<B: OctetsBuilder>(
     kind: ValueKind,
     text: &[u8],
