@@ -1,4 +1,4 @@
--- The words of an angle are read in one way.
+-- The words of an angle parse to one angle.
 use Rattle.std.proofs.Common.{ℕ, ◌≡◌, ◌<◌, ◌≤◌, ◌+◌, ◌*◌, ◌^◌, Option, Some, None, List, [], ◌∷◌, ◌++◌, get_or, sym, subst, arith, ap, ◌∙◌, inl, inr, append_assoc, append-nil}
 use Rattle.std.specs.Prelude.{SomeIff}
 use Rattle.std.specs.Char.{digit_value}
@@ -58,7 +58,7 @@ side_letter Latitude angle text n (inr h) digit = let own = subst BeginsWithDigi
 side_letter Longitude angle text n (inl h) digit = let own = subst BeginsWithDigit h.0 digit in omega (arith, own)
 side_letter Longitude angle text n (inr h) digit = let own = subst BeginsWithDigit h.0 digit in omega (arith, own)
 
--- a side is no number and no decimal
+-- a side is not a number or a decimal
 pub side_no_number : (axis : Axis) (angle : ℕ) (text : List ℕ) (n m : ℕ) → SpellsSide axis angle text n → SpellsNumber text m → ⊥
 side_no_number axis angle text n m h k = side_letter axis angle text n h (subst BeginsWithDigit (append-nil text) (number_digit text [] m k))
 

@@ -1,4 +1,4 @@
--- Decimals are read in one way.
+-- Decimals parse to one number.
 use Rattle.std.proofs.Common.{ℕ, zero, suc, Option, Some, None, lit<, ◌≡◌, ◌<◌, ◌≤◌, ◌+◌, ◌-◌, ◌*◌, ◌^◌, List, [], ◌∷◌, ◌++◌, length, refl, sym, subst, arith, ap, ◌∙◌, inl, inr}
 use Rattle.std.proofs.Math.Nat.{lt_of_mul-lt-mul_right, pow-le-pow_right}
 use Rattle.std.proofs.lemmas.Int.Digits.{digits_value-lt}

@@ -1,4 +1,4 @@
--- Gateways are read as they are printed and as they are written in octets.
+-- Gateways parse as they print, and decode as they are appended.
 use Rattle.std.proofs.Common.{ℕ, ◌≡◌, ◌<◌, ◌*◌, ◌++◌, List, length, take, drop, ◌≤◌, ◌+◌, refl, sym, arith, ap, ◌∙◌, take_at, take-append-drop, length-take-le, length-append}
 use Rattle.std.proofs.lemmas.List.{take_all}
 use Rattle.std.specs.Net.Addr.{ipv4_octets, ipv6_octets, ipv6_segments, segments_of}
@@ -48,7 +48,7 @@ one_front number octets (Ipv6 a) (Ipv4 b) g h = absurd (omega (arith, g.1, h.1))
 pub gateways_are_read : GatewaysAreRead
 gateways_are_read = record { spelled = spelled; once = once; one_front = one_front }
 
--- octets that are too few have no gateway in front
+-- octets that are too few don't begin with a gateway
 pub too_few4 : (octets : List ℕ) → length octets < 4 → (g : Gateway) → FrontGateway 1 octets g → ⊥
 too_few4 octets few Nothing h = omega (arith, h.1)
 too_few4 octets few (Ipv4 a) h = let long : length octets ≡ length (ipv4_octets a) + length h.2 = ap length h.3 ∙ length-append (ipv4_octets a) h.2 in omega (arith, few, long, h.0.0)

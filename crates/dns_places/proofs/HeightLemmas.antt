@@ -1,4 +1,4 @@
--- The words of an altitude and of sizes are read in one way.
+-- The words of an altitude and of sizes parse to one number.
 use Rattle.std.proofs.Common.{ℕ, lit<, ◌≡◌, ◌<◌, ◌≤◌, ◌+◌, ◌-◌, ◌*◌, ◌/◌, ◌^◌, ◌⊎◌, Option, Some, None, List, [], ◌∷◌, length, get_or, take, drop, refl, sym, subst, arith, ap, ◌∙◌, inl, inr, append-nil, add-one, ⊎_elim}
 use Rattle.std.proofs.Math.Nat.{pow-le-pow_right, pow-suc, mul-le-mul_right}
 use Rattle.std.proofs.lemmas.Bool.{cases_lt}
@@ -102,7 +102,7 @@ one_altitude text n m h (small, inr (rest, inr k)) = signed h
 
 -- ---- sizes
 
--- so many of a number's last digits are left out
+-- `digits` are those of a number without its last `behind` digits
 pub record FirstDigits (number digits behind : ℕ) : Type 0 where
   pub least : digits * 10 ^ behind ≤ number
   pub most : number < (digits + 1) * 10 ^ behind

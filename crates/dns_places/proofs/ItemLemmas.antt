@@ -26,7 +26,7 @@ pub not_sixteen : (part : List ℕ) (a : IpAddr) → 16 < length part → HasAdd
 not_sixteen part (V4 a) long h = absurd (omega (arith, h.1))
 not_sixteen part (V6 a) long h = let whole = address_length (V6 a) h.0 in let least = part_length part (address_octets (V6 a)) h.2 in omega (arith, long, whole, least)
 
--- what an item in front of octets makes of them
+-- how an item that octets begin with splits them
 pub record SplitsItem (octets : List ℕ) (p : Prefix) : Type 0 where
   pub part : List ℕ
   pub has_part : HasPart octets part

@@ -1,4 +1,4 @@
--- Locations are read as they are printed, and octets are those of one.
+-- Locations parse as they print, and octets are those of one location.
 use Rattle.std.proofs.Common.{ℕ, suc, lit<, ◌≡◌, ◌<◌, ◌≤◌, ◌+◌, ◌-◌, ◌*◌, ◌/◌, ◌%◌, ◌^◌, ◌⊎◌, Bool, false, Option, Some, None, if◌then◌else◌, List, [], ◌∷◌, ◌++◌, length, map, get_or, take, drop, refl, sym, subst, arith, ap, ◌∙◌, inl, inr, append_assoc, decimal}
 use Rattle.std.proofs.Math.Nat.{pow-suc, pow-le-pow_right, mul-le-mul_right}
 use Rattle.std.proofs.lemmas.Bool.{cases_lt, lt-ltb, le-ltb}
@@ -104,7 +104,7 @@ by_less P n m x y less more = elim (cases_lt n m) [
   | inr h ↦ rw (le-ltb n m h) (more h)
 ]
 
--- ---- words that spell what they are printed of
+-- ---- words spell the values that print as them
 
 side_spelled : (axis : Axis) (number : ℕ) → SpellsSide axis (angle_from number) (side_word axis number) number
 side_spelled axis number = by_less (λ text. SpellsSide axis (angle_from number) text number) number (2 ^ 31) (lower_side axis) (upper_side axis) (λ less. inr (refl, omega (arith, less))) (λ more. inl (refl, omega (arith, more)))
@@ -206,7 +206,7 @@ are_location l valid a b c d e f g h i j k m (a0, a1, (b0, b1, (c0, c1, (d0, d1,
   };
 }
 
--- as many tokens as words
+-- the number of tokens is that of words
 as_many : (tokens : List TokenSeen) (words : List (List ℕ)) → AreWords tokens words → length tokens ≡ length words
 as_many [] [] h = refl
 as_many [] (w ∷ ws) h = absurd h
@@ -259,7 +259,7 @@ possible tokens l h = record {
 
 -- ---- octets
 
--- a number of four octets at a place
+-- a number of four octets at an offset
 number_from : ℕ → List ℕ → ℕ
 number_from at octets = from_be_bytes w32 (take 4 (drop at octets))
 
@@ -308,7 +308,7 @@ locations_are_read = record { spelled = spelled; once = one_octets; valid = λ t
 
 -- ---- what is printed
 
--- the text of the word at each place
+-- the text of the word at each index
 four_words : (words : List LocationWord) (d : LocationWord) (texts : List (List ℕ)) → map word_text words ≡ texts → length texts ≡ 4 → (k : ℕ) → k < 4 → word_text (get_or words k d) ≡ get_or texts k []
 four_words words d texts is four k here =
     let long : length (map word_text words) ≡ length words = length-map words word_text in

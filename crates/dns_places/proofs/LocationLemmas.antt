@@ -1,4 +1,4 @@
--- Parts of a location are taken one after another.
+-- Parts of a location are parsed one after another.
 use Rattle.std.proofs.Common.{ℕ, ◌≡◌, true, false, true≢false, Option, Some, None, List, [], ◌∷◌, length, get_or, drop, refl, sym, subst, arith, ap, ◌∙◌, inl, inr}
 use Rattle.std.specs.Prelude.{slice_get, is_some, is_none, option_map}
 use Rattle.std.proofs.lemmas.Option.{none-some}
@@ -47,12 +47,12 @@ angle_taken axis tokens more middle left angle None h k s = inr (angle, more, h,
 
 -- ---- sizes
 
--- a size stands where tokens are left behind it
+-- if tokens follow a size, the size is a token
 stands : (usual octet : ℕ) (tokens rest : List TokenSeen) → BeginsWithSize usual tokens octet rest → (rest ≡ [] → ⊥) → BeginsWithWord SpellsSize tokens octet rest
 stands usual octet tokens rest (inl h) some = h
 stands usual octet tokens rest (inr h) some = absurd (some h.1)
 
--- tokens are left before a size that stands
+-- if tokens follow a size, the tokens don't end before it
 some_before : (usual octet : ℕ) (tokens rest : List TokenSeen) → BeginsWithSize usual tokens octet rest → (rest ≡ [] → ⊥) → tokens ≡ [] → ⊥
 some_before usual octet tokens rest (inl h) some none = let e : 0 ≡ length (h.0 ∷ rest) = ap length (sym none ∙ h.1) in omega (arith, e)
 some_before usual octet tokens rest (inr h) some none = some h.1

@@ -1,4 +1,4 @@
--- Tokens spell one location, and where they are refused none.
+-- Tokens spell one location at most, and none if they are rejected.
 use Rattle.std.proofs.Common.{ℕ, ◌≡◌, ◌⊎◌, List, [], ◌∷◌, length, drop, sym, subst, arith, ap, ◌∙◌, inl, inr}
 use Rattle.dns_split.specs.EntryTokens.{TokenSeen}
 use Rattle.dns_places.specs.declared.angles.Axis.{Axis}
@@ -27,7 +27,7 @@ apart : (Spells Others : List ℕ → ℕ → Type 0) → ((text : List ℕ) (n 
     → BeginsWithWord Spells tokens n rest → BeginsWithWord Others tokens m other → ⊥
 apart Spells Others never tokens n m rest other h k = never k.0.text n m (subst (λ t. Spells t.text n) (same_token h.0 k.0 tokens rest other h.1 k.1) h.3) k.3
 
--- a side behind one angle stands behind the same
+-- a side after one angle is a side after the same angle
 side_at : (axis : Axis) (angle other n : ℕ) (tokens more rest : List TokenSeen) → Same angle other tokens more → BeginsWithWord (SpellsSide axis angle) tokens n rest → BeginsWithWord (SpellsSide axis other) more n rest
 side_at axis angle other n tokens more rest same h = subst (λ ts. BeginsWithWord (SpellsSide axis other) ts n rest) same.1 (subst (λ a. BeginsWithWord (SpellsSide axis a) tokens n rest) same.0 h)
 
@@ -136,7 +136,7 @@ stops_at_size : (tokens : List TokenSeen) → StopsAtSize tokens → (usual n : 
 stops_at_size tokens h usual n rest (inl k) = h.1 n rest k
 stops_at_size tokens h usual n rest (inr k) = h.0 k.0
 
--- sizes, and then what is none
+-- sizes, and then a token that is not a size
 stops_sizes : (tokens left : List TokenSeen) (s : Sizes) → StopsInSizes tokens left → AreSizes tokens s → ⊥
 stops_sizes tokens left s (at, inl is) k = stops_at_size left at _ s.size k.behind_size (subst (λ ts. BeginsWithSize 0x12 ts s.size k.behind_size) (sym is) k.size)
 stops_sizes tokens left s (at, inr (size, more, h, inl is)) k =
@@ -175,7 +175,7 @@ behind_point tokens more l h k =
     let third = one_next SpellsAltitude one_altitude k.behind_longitude h.0 l.altitude more k.behind_altitude (subst (λ ts. BeginsWithWord SpellsAltitude ts h.0 more) at h.3) k.altitude in
     third.1
 
--- tokens that are refused are no location
+-- tokens that are rejected are not a location
 pub refused_none : (e : ErrorKind) (tokens left : List TokenSeen) → RefusesTokens e tokens left → (l : Location) → AreLocation tokens l → ⊥
 refused_none ExpectedLatitude tokens left h l k = stops_angle Latitude tokens left h l.latitude k.behind_latitude k.latitude
 refused_none ExpectedLongitude tokens left h l k =

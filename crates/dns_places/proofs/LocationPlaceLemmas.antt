@@ -1,4 +1,4 @@
--- The token that is refused is the first that is wrong.
+-- The rejected token is the first that is wrong.
 use Rattle.std.proofs.Common.{ℕ, lit<, ◌≡◌, ◌+◌, ◌^◌, false, List, [], ◌∷◌, ◌++◌, length, get_or, refl, sym, subst, arith, ap, ◌∙◌, inl, inr, append_assoc, append-nil}
 use Rattle.std.specs.Prelude.{codes}
 use Rattle.dns_kinds.specs.Numbers.{SpellsNumber}
@@ -14,7 +14,7 @@ use Rattle.dns_places.specs.LocationPlaces.{BeginsLocation, NoLocationGoesOn, Is
 use Rattle.dns_places.specs.LocationTaking.{LacksWord, StopsInSeconds, StopsInMinutes, StopsInAngle, StopsAtSize, StopsInSizes, BeginsWithAngles, BeginsWithPoint, RefusesTokens}
 use Rattle.dns_places.proofs.LocationOnce.{BehindMinutes, BehindDegrees, refused_none}
 
--- ---- what is taken in front, whatever follows
+-- ---- what is read at the beginning, whatever follows
 
 record Front (P : List TokenSeen → ℕ → List TokenSeen → Type 0) (tokens : List TokenSeen) (n : ℕ) (rest : List TokenSeen) : Type 0 where
   taken : List TokenSeen
@@ -99,7 +99,7 @@ zero_angle : (axis : Axis) (more : List TokenSeen) → BeginsWithAngle axis (pla
 unfolding plain
 zero_angle axis more = (0, upper axis ∷ more, (plain (codes "0"), refl, refl, zero_degrees axis), inl (goes_to_side axis 0 more))
 
--- a latitude and a longitude go on to a location
+-- tokens that begin with a latitude and a longitude continue to a location
 of_angles : (tokens : List TokenSeen) → BeginsWithAngles tokens (plain (codes "0") ∷ []) → BeginsWithPoint tokens []
 unfolding plain
 of_angles tokens h = (10000000, plain (codes "0") ∷ [], h, (plain (codes "0"), refl, refl, zero_altitude))
@@ -118,7 +118,7 @@ no_sizes = record { behind_size = []; behind_horizontal = []; size = inr (refl, 
 of_point : (taken more : List TokenSeen) → BeginsWithPoint (taken ++ more) [] → BeginsLocation taken
 of_point taken more h = of_sizes taken more [] _ h no_sizes
 
--- ---- where an angle stops
+-- ---- the part of an angle that is wrong
 
 -- what lacks a word lacks it whatever follows the first token
 lacks_same : (Spells : List ℕ → ℕ → Type 0) (tokens : List TokenSeen) (u : TokenSeen) (ts more : List TokenSeen) → LacksWord Spells tokens → tokens ≡ u ∷ ts → LacksWord Spells (u ∷ more)
@@ -247,7 +247,7 @@ some_left u more e = let none : length (u ∷ more) ≡ 0 = ap length e in omega
 still_stops : (left : List TokenSeen) (u : TokenSeen) (ts more : List TokenSeen) → StopsAtSize left → left ≡ u ∷ ts → StopsAtSize (u ∷ more)
 still_stops left u ts more h is = (some_left u more, lacks_same SpellsSize left u ts more h.1 is)
 
--- behind the sizes that are taken
+-- what follows the sizes that are read
 record SizesTaken (middle left : List TokenSeen) : Type 0 where
   taken : List TokenSeen
   whole : middle ≡ taken ++ left
@@ -326,6 +326,6 @@ wrong_at e tokens left p h = (p.taken, p.whole, p.begins, by left p.whole p.agai
     by [] whole again h = λ octets k. refused_none e tokens [] h k.0 (subst (λ ts. AreLocation ts k.0) (sym (append-nil p.taken) ∙ sym whole) k.1)
     by (t ∷ ts) whole again h = λ k. refused_none e (p.taken ++ t ∷ k.0) (t ∷ k.0) (again t ts k.0 refl) k.2.0 (subst (λ l. AreLocation l k.2.0) (append_assoc p.taken (t ∷ []) k.0) k.2.1)
 
--- a token that is refused is the first that is wrong
+-- a rejected token is the first that is wrong
 pub first_refused : (e : ErrorKind) (tokens left : List TokenSeen) → RefusesTokens e tokens left → IsFirstRefused tokens left
 first_refused e tokens left h = wrong_at e tokens left (placed e tokens left h) h

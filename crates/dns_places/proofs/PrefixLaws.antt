@@ -1,4 +1,4 @@
--- Items are read as they are printed and as they are written in octets.
+-- Items parse as they print, and decode as they are appended.
 use Rattle.std.proofs.Common.{ℕ, zero, suc, lit≤, ◌≡◌, ◌≢◌, ◌<◌, ◌≤◌, ◌+◌, ◌-◌, ◌*◌, ◌/◌, ◌%◌, ◌⊎◌, Bool, true, false, List, [], ◌∷◌, ◌++◌, length, get_or, take, refl, sym, subst, arith, ap, ◌∙◌, inl, inr, ext_get_or, decimal}
 use Rattle.std.proofs.lemmas.Bool.{cases_lt, cases_eq}
 use Rattle.std.proofs.lemmas.Fmt.{decimal_is_IsNumeral}

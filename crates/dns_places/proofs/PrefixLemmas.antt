@@ -1,4 +1,4 @@
--- Items are read as they are written, and in one way.
+-- Items parse as they print, and to one item.
 use Rattle.std.proofs.Common.{ℕ, ◌≡◌, ◌≢◌, ◌<◌, ◌≤◌, ◌-◌, Bool, true, false, List, [], ◌∷◌, ◌++◌, length, get_or, take, drop, refl, sym, subst, arith, ap, ◌∙◌, inl, inr, Option, Some, None, Result, Ok, Err}
 use Rattle.std.specs.Char.{digit_value}
 use Rattle.std.specs.Option.{ok_or}
@@ -34,7 +34,7 @@ same_bits (V6 a) (V6 b) is = refl
 pub no_colon : (text : List ℕ) (p : Prefix) → LacksMark 58 text → IsPlainPrefix text p → ⊥
 no_colon text p lacks h = at_mark h.family (h.address ++ 47 ∷ h.bits) 58 (subst (LacksMark 58) h.written lacks)
 
--- what stands before the first colon and behind it
+-- the text before the first colon, and the text after it
 behind_colon : (text family after : List ℕ) (p : Prefix) → text ≡ family ++ 58 ∷ after → LacksMark 58 family → (h : IsPlainPrefix text p) → (h.family ≡ family) × (h.address ++ 47 ∷ h.bits ≡ after)
 behind_colon text family after p is lacks h = one_first h.family (h.address ++ 47 ∷ h.bits) family after 58 (digits_lack h.family 58 (omega arith) h.address_is.1.0.1) lacks (sym h.written ∙ is)
 

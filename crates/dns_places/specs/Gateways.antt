@@ -1,4 +1,4 @@
--- Gateways of IPSECKEY that are no names (RFC 4025 section 2.5).
+-- Gateways of IPSECKEY that are not names (RFC 4025 section 2.5).
 use Rattle.std.specs.Prelude.{ℕ, ◌≡◌, ◌≤◌, ◌-◌, ◌++◌, List, [], codes, length, Option, MatchOption}
 use Rattle.std.specs.Net.Addr.{ipv4_octets, ipv6_octets, ipv6_segments, IsIpv4Addr, IsIpv6Addr}
 use Rattle.std.specs.Net.Grammar.{IsIpv4Text, IsIpv6Text}
@@ -18,7 +18,7 @@ gateway_type Nothing = 0
 gateway_type (Ipv4 a) = 1
 gateway_type (Ipv6 a) = 2
 
--- a dot for none, or an address
+-- a dot for no gateway, or an address
 abbrev pub IsGatewayText : List ℕ → Gateway → Type 0
 IsGatewayText text Nothing = text ≡ codes "."
 IsGatewayText text (Ipv4 a) = IsIpv4Text text a
@@ -52,8 +52,8 @@ FrontGateway number octets g = IsGateway g × (gateway_type g ≡ number) × (re
 abbrev pub FindsGateway : ℕ → List ℕ → Option Gateway → Type 0
 FindsGateway number octets r = MatchOption r ((g : Gateway) → FrontGateway number octets g → ⊥) (FrontGateway number octets)
 
--- What a gateway is printed as spells it, and a text spells one of a type. Octets begin with one of a
--- type.
+-- What a gateway prints as spells it, and a text spells one of a type. Octets begin with one of a
+-- type at most.
 pub record GatewaysAreRead : Type 0 where
   pub spelled : (g : Gateway) → IsGateway g → SpellsGateway (gateway_type g) (gateway_text g) g
   pub once : (number : ℕ) (text : List ℕ) (g h : Gateway) → SpellsGateway number text g → SpellsGateway number text h → g ≡ h

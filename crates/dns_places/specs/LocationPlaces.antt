@@ -1,4 +1,4 @@
--- Which of the tokens of an entry is refused as a location.
+-- The token of an entry at which a location is rejected.
 use Rattle.std.specs.Prelude.{ℕ, ◌≡◌, List, [], ◌∷◌, ◌++◌}
 use Rattle.dns_split.specs.EntryTokens.{TokenSeen}
 use Rattle.dns_places.specs.Locations.{SpellsLocation}
@@ -7,11 +7,11 @@ use Rattle.dns_places.specs.Locations.{SpellsLocation}
 abbrev pub BeginsLocation : List TokenSeen → Type 0
 BeginsLocation tokens = (more : List TokenSeen) × (octets : List ℕ) × SpellsLocation (tokens ++ more) octets
 
--- with the next token none does; or, where none is left, these are none
+-- no location begins with these tokens and the next; or, if there is no next token, these are not a location
 abbrev pub NoLocationGoesOn : List TokenSeen → List TokenSeen → Type 0
 NoLocationGoesOn taken [] = (octets : List ℕ) → SpellsLocation taken octets → ⊥
 NoLocationGoesOn taken (t ∷ ts) = BeginsLocation (taken ++ t ∷ []) → ⊥
 
--- the first token that is left, or the end, is the first that is wrong
+-- the first unread token, or the end, is the first that is wrong
 abbrev pub IsFirstRefused : List TokenSeen → List TokenSeen → Type 0
 IsFirstRefused tokens left = (taken : List TokenSeen) × (tokens ≡ taken ++ left) × BeginsLocation taken × NoLocationGoesOn taken left

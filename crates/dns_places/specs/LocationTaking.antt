@@ -1,4 +1,4 @@
--- How a location is taken of the tokens of an entry, part by part.
+-- How a location is parsed from the tokens of an entry, part by part.
 use Rattle.std.specs.Prelude.{ℕ, ◌≡◌, ◌≤◌, ◌⊎◌, List, [], Option, MatchOption, Result, Ok, Err}
 use Rattle.dns_octets.specs.Room.{Room}
 use Rattle.dns_octets.specs.Appending.{LacksRoom}
@@ -26,7 +26,7 @@ SpellsPart (Side axis angle) text n = SpellsSide axis angle text n
 SpellsPart Altitude text n = SpellsAltitude text n
 SpellsPart Size text n = SpellsSize text n
 
--- what came before is no greater than an angle can be
+-- the angle before is not greater than an angle can be
 abbrev pub IsBounded : Part → Type 0
 IsBounded (Degrees axis) = Unit {0}
 IsBounded (Minutes axis before) = before ≤ most_angle axis
@@ -35,7 +35,7 @@ IsBounded (Side axis angle) = angle ≤ most_angle axis
 IsBounded Altitude = Unit {0}
 IsBounded Size = Unit {0}
 
--- tokens don't begin with such a one
+-- tokens don't begin with such a word
 abbrev pub LacksWord : (List ℕ → ℕ → Type 0) → List TokenSeen → Type 0
 LacksWord Spells tokens = (n : ℕ) (rest : List TokenSeen) → BeginsWithWord Spells tokens n rest → ⊥
 
@@ -43,24 +43,24 @@ LacksWord Spells tokens = (n : ℕ) (rest : List TokenSeen) → BeginsWithWord S
 abbrev pub FindsNext : Part → List TokenSeen → Option ℕ → Type 0
 FindsNext part tokens r = MatchOption r (LacksWord (SpellsPart part) tokens) (λ n. (rest : List TokenSeen) × BeginsWithWord (SpellsPart part) tokens n rest)
 
--- the next token is taken as a part; or it is none, and stays
+-- the next token is a part, and is read; or it is not a part, and is not read
 abbrev pub TakesWord : Part → List TokenSeen → Option ℕ → List TokenSeen → Type 0
 TakesWord part tokens r left = MatchOption r ((left ≡ tokens) × LacksWord (SpellsPart part) tokens) (λ n. BeginsWithWord (SpellsPart part) tokens n left)
 
--- ---- where an angle goes wrong
+-- ---- the part of an angle that is wrong
 
--- at its seconds; or behind them, where no side stands
+-- at its seconds; or after them, if there is no side
 abbrev pub StopsInSeconds : Axis → ℕ → List TokenSeen → List TokenSeen → Type 0
 StopsInSeconds axis before tokens left =
     ((left ≡ tokens) × LacksWord (SpellsSeconds axis before) tokens) ⊎ ((angle : ℕ) × BeginsWithWord (SpellsSeconds axis before) tokens angle left × LacksWord (SpellsSide axis angle) left)
 
--- at its minutes; or behind them, where no side stands and no seconds go on to one
+-- at its minutes; or after them, if there is no side and no seconds with a side
 abbrev pub StopsInMinutes : Axis → ℕ → List TokenSeen → List TokenSeen → Type 0
 StopsInMinutes axis before tokens left =
     ((left ≡ tokens) × LacksWord (SpellsMinutes axis before) tokens)
     ⊎ ((angle : ℕ) × (more : List TokenSeen) × BeginsWithWord (SpellsMinutes axis before) tokens angle more × LacksWord (SpellsSide axis angle) more × StopsInSeconds axis angle more left)
 
--- at its degrees; or behind them, where no side stands and no minutes go on to one
+-- at its degrees; or after them, if there is no side and no minutes with a side
 abbrev pub StopsInAngle : Axis → List TokenSeen → List TokenSeen → Type 0
 StopsInAngle axis tokens left =
     ((left ≡ tokens) × LacksWord (SpellsDegrees axis) tokens)
@@ -77,23 +77,23 @@ TakesAngle axis tokens r left = MatchOption r (StopsInAngle axis tokens left) (�
 
 -- ---- sizes
 
--- a token is left that is no size
+-- the next token is not a size
 abbrev pub StopsAtSize : List TokenSeen → Type 0
 StopsAtSize tokens = (tokens ≡ [] → ⊥) × LacksWord SpellsSize tokens
 
 abbrev pub TakesSize : ℕ → List TokenSeen → Option ℕ → List TokenSeen → Type 0
 TakesSize usual tokens r left = MatchOption r ((left ≡ tokens) × StopsAtSize tokens) (λ n. BeginsWithSize usual tokens n left)
 
--- where sizes go wrong: none, one or two of them stand, and then a token that is none
+-- the rejected size: a token that is not a size, after none, one or two sizes
 abbrev pub StopsInSizes : List TokenSeen → List TokenSeen → Type 0
 StopsInSizes tokens left = StopsAtSize left × ((left ≡ tokens) ⊎ ((size : ℕ) × (more : List TokenSeen) × BeginsWithWord SpellsSize tokens size more × ((left ≡ more) ⊎ ((horizontal : ℕ) × BeginsWithWord SpellsSize more horizontal left))))
 
--- three sizes stand, and then more
+-- three sizes, and then more tokens
 abbrev pub GoesOnBehindSizes : List TokenSeen → List TokenSeen → Type 0
 GoesOnBehindSizes tokens left =
     (left ≡ [] → ⊥) × (size : ℕ) × (more : List TokenSeen) × (horizontal : ℕ) × (most : List TokenSeen) × (vertical : ℕ) × BeginsWithWord SpellsSize tokens size more × BeginsWithWord SpellsSize more horizontal most × BeginsWithWord SpellsSize most vertical left
 
--- why sizes are refused, and which tokens are left then
+-- why sizes are rejected, and which tokens are then unread
 abbrev pub RefusesSizes : ErrorKind → List TokenSeen → List TokenSeen → Type 0
 RefusesSizes ExpectedSize tokens left = StopsInSizes tokens left
 RefusesSizes ExpectedEnd tokens left = GoesOnBehindSizes tokens left
@@ -109,11 +109,11 @@ TakesSizes tokens (Err e) left = RefusesSizes e tokens left
 abbrev pub BeginsWithAngles : List TokenSeen → List TokenSeen → Type 0
 BeginsWithAngles tokens rest = (latitude : ℕ) × (longitude : ℕ) × (more : List TokenSeen) × BeginsWithAngle Latitude tokens latitude more × BeginsWithAngle Longitude more longitude rest
 
--- and go on with an altitude
+-- tokens begin with these and an altitude
 abbrev pub BeginsWithPoint : List TokenSeen → List TokenSeen → Type 0
 BeginsWithPoint tokens rest = (altitude : ℕ) × (more : List TokenSeen) × BeginsWithAngles tokens more × BeginsWithWord SpellsAltitude more altitude rest
 
--- Why tokens are refused as a location, and which are left then: the first part that goes wrong.
+-- Why tokens are rejected as a location, and which are then unread: the first part that is wrong.
 abbrev pub RefusesTokens : ErrorKind → List TokenSeen → List TokenSeen → Type 0
 RefusesTokens ExpectedLatitude tokens left = StopsInAngle Latitude tokens left
 RefusesTokens ExpectedLongitude tokens left = (latitude : ℕ) × (more : List TokenSeen) × BeginsWithAngle Latitude tokens latitude more × StopsInAngle Longitude more left
@@ -122,19 +122,19 @@ RefusesTokens ExpectedSize tokens left = (more : List TokenSeen) × BeginsWithPo
 RefusesTokens ExpectedEnd tokens left = (more : List TokenSeen) × BeginsWithPoint tokens more × GoesOnBehindSizes more left
 RefusesTokens _ tokens left = ⊥
 
--- all tokens are taken as a location; or they are refused
+-- all tokens are parsed as a location; or they are rejected
 abbrev pub TakesLocation : List TokenSeen → Result Location ErrorKind → List TokenSeen → Type 0
 TakesLocation tokens (Ok l) left = (left ≡ []) × AreLocation tokens l
 TakesLocation tokens (Err e) left = RefusesTokens e tokens left
 
--- Why the octets of a location were not appended. Either the tokens spell none: the first that is
--- left, or the entry's end, is the first that is wrong, for this reason. Or the octets of theirs don't
+-- Why the octets of a location were not appended. Either the tokens spell none: the first unread
+-- token, or the entry's end, is the first that is wrong, for this reason. Or their octets don't
 -- surely fit.
 abbrev pub RefusesAll : Room → List TokenSeen → List TokenSeen → List ℕ → ErrorKind → Type 0
 RefusesAll room tokens left old e =
     (RefusesTokens e tokens left × IsFirstRefused tokens left × ((octets : List ℕ) → SpellsLocation tokens octets → ⊥))
     ⊎ ((e ≡ ShortBuf) × (left ≡ []) × ((octets : List ℕ) × SpellsLocation tokens octets) × LacksRoom room (SpellsLocation tokens) old)
 
--- a refusal is at the first token that is left, or at the entry's end
+-- the error's offset is that of the first unread token, or of the entry's end
 abbrev pub RefusesLocation : Room → ℕ → List TokenSeen → List TokenSeen → List ℕ → RecordError → Type 0
 RefusesLocation room end tokens left old r = IsErrorAt (next_place left end) r × RefusesAll room tokens left old r.kind

@@ -1,4 +1,4 @@
--- The octets that a location can have, and the words that it is printed as.
+-- The octets that a location can have, and the words that it prints as.
 use Rattle.std.specs.Prelude.{ℕ, ◌≡◌, ◌<◌, ◌≤◌, ◌+◌, ◌-◌, ◌*◌, ◌/◌, ◌%◌, ◌^◌, nat_lt, false, if◌then◌else◌, List, [], ◌∷◌, ◌++◌, codes, decimal, map, Option, MatchOption}
 use Rattle.dns_split.specs.EntryTokens.{TokenSeen}
 use Rattle.dns_places.specs.declared.angles.Axis.{Axis}
@@ -11,11 +11,11 @@ use Rattle.dns_places.specs.Locations.{most_angle, upper_side, lower_side, locat
 
 -- ---- octets
 
--- at most so many degrees on either side
+-- an angle that is not too great on either side
 abbrev pub IsAngleNumber : Axis → ℕ → Type 0
 IsAngleNumber axis number = (2 ^ 31 ≤ number + most_angle axis) × (number ≤ 2 ^ 31 + most_angle axis)
 
--- a digit, and how many follow it, none of which follow a 0
+-- a digit, and the number of digits after it, which is 0 after a 0
 abbrev pub IsSize : ℕ → Type 0
 IsSize octet = (octet / 16 ≤ 9) × (octet % 16 ≤ 9) × (octet / 16 ≡ 0 → octet % 16 ≡ 0)
 
@@ -43,7 +43,7 @@ angle_from number = (number - 2 ^ 31) + (2 ^ 31 - number)
 abbrev pub side_word : Axis → ℕ → List ℕ
 side_word axis number = if nat_lt number (2 ^ 31) then lower_side axis else upper_side axis
 
--- hundredths or thousandths of something, behind its point
+-- hundredths or thousandths after the point
 abbrev pub two_places : ℕ → List ℕ
 two_places n = decimal (n / 10) ++ decimal (n % 10)
 
@@ -59,7 +59,7 @@ metres_word n = decimal (n / 100) ++ 46 ∷ (two_places (n % 100) ++ 109 ∷ [])
 abbrev pub altitude_word : ℕ → List ℕ
 altitude_word number = if nat_lt number 10000000 then 45 ∷ metres_word (10000000 - number) else metres_word (number - 10000000)
 
--- whole metres without a point, unless there are none
+-- whole metres without a point, and less than a metre with one
 abbrev pub size_word : ℕ → List ℕ
 size_word octet = if nat_lt (octet % 16) 2 then metres_word (octet / 16 * 10 ^ (octet % 16)) else decimal (octet / 16 * 10 ^ (octet % 16 - 2)) ++ 109 ∷ []
 
@@ -82,7 +82,7 @@ word_text West = codes "W"
 word_text (Altitude n) = altitude_word n
 word_text (Size o) = size_word o
 
--- octets are those of a location; or of none
+-- octets are a location; or are not one
 abbrev pub HasLocation : List ℕ → Type 0
 HasLocation octets = (l : Location) × IsLocation octets l
 
@@ -113,7 +113,7 @@ AreWords (t ∷ ts) (w ∷ ws) = (t.is_quoted ≡ false) × (t.text ≡ w) × Ar
 AreWords [] (w ∷ ws) = ⊥
 AreWords (t ∷ ts) [] = ⊥
 
--- What a location is printed as spells it, and tokens spell the octets of one location alone. Those
+-- What a location prints as spells it, and tokens spell the octets of one location at most. Those
 -- are octets that a location can have.
 pub record LocationsAreRead : Type 0 where
   pub spelled : (octets : List ℕ) (l : Location) (tokens : List TokenSeen) → IsLocation octets l → AreWords tokens (location_words l) → SpellsLocation tokens octets

@@ -28,7 +28,7 @@ abbrev pub lower_side : Axis → List ℕ
 lower_side Latitude = codes "S"
 lower_side Longitude = codes "W"
 
--- degrees in decimal, at most so many
+-- degrees in decimal, up to the greatest of the axis
 abbrev pub SpellsDegrees : Axis → List ℕ → ℕ → Type 0
 SpellsDegrees axis text angle = (degrees : ℕ) × SpellsNumber text degrees × (angle ≡ degrees * 3600000) × (angle ≤ most_angle axis)
 
@@ -36,7 +36,7 @@ SpellsDegrees axis text angle = (degrees : ℕ) × SpellsNumber text degrees × 
 abbrev pub SpellsMinutes : Axis → ℕ → List ℕ → ℕ → Type 0
 SpellsMinutes axis before text angle = (minutes : ℕ) × SpellsNumber text minutes × (minutes < 60) × (angle ≡ before + minutes * 60000) × (angle ≤ most_angle axis)
 
--- seconds below 60, of three places, with the degrees and minutes before them
+-- seconds below 60, with at most three digits after the point, and the degrees and minutes before them
 abbrev pub SpellsSeconds : Axis → ℕ → List ℕ → ℕ → Type 0
 SpellsSeconds axis before text angle = (seconds : ℕ) × SpellsDecimal 3 text seconds × (seconds < 60000) × (angle ≡ before + seconds) × (angle ≤ most_angle axis)
 
@@ -44,8 +44,8 @@ SpellsSeconds axis before text angle = (seconds : ℕ) × SpellsDecimal 3 text s
 abbrev pub SpellsSide : Axis → ℕ → List ℕ → ℕ → Type 0
 SpellsSide axis angle text number = ((text ≡ upper_side axis) × (number ≡ 2 ^ 31 + angle)) ⊎ ((text ≡ lower_side axis) × (number + angle ≡ 2 ^ 31))
 
--- An altitude is in centimetres from 100000 m below the reference spheroid. It is written in metres above
--- that, or below it behind a `-`.
+-- An altitude is in centimetres from 100000 m below the reference spheroid. It is written in metres
+-- above that, or below it after a `-`.
 abbrev pub SpellsHeight : List ℕ → ℕ → Type 0
 SpellsHeight text number = (above : ℕ) × SpellsLength text above × (number ≡ 10000000 + above)
 
@@ -72,17 +72,17 @@ SpellsSize text octet = (n : ℕ) × SpellsLength text n × (n < 9000000100) × 
 
 -- ---- tokens
 
--- tokens begin with one without quotes that spells a number, and go on with others
+-- tokens begin with one without quotes that spells a number, and these others follow
 abbrev pub BeginsWithWord : (List ℕ → ℕ → Type 0) → List TokenSeen → ℕ → List TokenSeen → Type 0
 BeginsWithWord Spells tokens number rest = (t : TokenSeen) × (tokens ≡ t ∷ rest) × (t.is_quoted ≡ false) × Spells t.text number
 
--- An angle is `d1 [m1 [s1]] {"N"|"S"}` or `d2 [m2 [s2]] {"E"|"W"}`. So behind minutes may come seconds and
--- a side,
+-- An angle is `d1 [m1 [s1]] {"N"|"S"}` or `d2 [m2 [s2]] {"E"|"W"}`. So after minutes may come
+-- seconds and a side,
 abbrev pub GoesOnWithSeconds : Axis → ℕ → List TokenSeen → ℕ → List TokenSeen → Type 0
 GoesOnWithSeconds axis before tokens number rest =
     (angle : ℕ) × (side : List TokenSeen) × BeginsWithWord (SpellsSeconds axis before) tokens angle side × BeginsWithWord (SpellsSide axis angle) side number rest
 
--- behind degrees minutes, and a side or those seconds,
+-- after degrees may come minutes and a side, or minutes and those seconds,
 abbrev pub GoesOnWithMinutes : Axis → ℕ → List TokenSeen → ℕ → List TokenSeen → Type 0
 GoesOnWithMinutes axis before tokens number rest =
     (angle : ℕ) × (more : List TokenSeen) × BeginsWithWord (SpellsMinutes axis before) tokens angle more × (BeginsWithWord (SpellsSide axis angle) more number rest ⊎ GoesOnWithSeconds axis angle more number rest)
@@ -92,7 +92,7 @@ abbrev pub BeginsWithAngle : Axis → List TokenSeen → ℕ → List TokenSeen 
 BeginsWithAngle axis tokens number rest =
     (angle : ℕ) × (more : List TokenSeen) × BeginsWithWord (SpellsDegrees axis) tokens angle more × (BeginsWithWord (SpellsSide axis angle) more number rest ⊎ GoesOnWithMinutes axis angle more number rest)
 
--- tokens begin with a size; or none is left, and this is the usual one
+-- tokens begin with a size; or there are none, and this is the usual size
 abbrev pub BeginsWithSize : ℕ → List TokenSeen → ℕ → List TokenSeen → Type 0
 BeginsWithSize usual tokens octet rest = BeginsWithWord SpellsSize tokens octet rest ⊎ ((tokens ≡ []) × (rest ≡ []) × (octet ≡ usual))
 
@@ -106,7 +106,7 @@ usual_horizontal = 0x16
 abbrev pub usual_vertical : ℕ
 usual_vertical = 0x13
 
--- tokens are sizes, and no more are left
+-- tokens are sizes, and no more follow
 pub record AreSizes (tokens : List TokenSeen) (s : Sizes) : Type 0 where
   pub behind_size : List TokenSeen
   pub behind_horizontal : List TokenSeen
@@ -136,10 +136,10 @@ SpellsLocation tokens octets = (l : Location) × AreLocation tokens l × (octets
 
 -- ---- what is found
 
--- a number that the text spells, or there is none
+-- a number that the text spells, or it spells none
 abbrev pub Finds : (List ℕ → ℕ → Type 0) → List ℕ → Option ℕ → Type 0
 Finds Spells text r = MatchOption r ((n : ℕ) → Spells text n → ⊥) (Spells text)
 
--- the same of a number of 32 bits
+-- a number below 2^32 that the text spells, or it spells none
 abbrev pub FindsBelow : (List ℕ → ℕ → Type 0) → List ℕ → Option ℕ → Type 0
 FindsBelow Spells text r = MatchOption r ((n : ℕ) → n < 2 ^ 32 → Spells text n → ⊥) (λ n. (n < 2 ^ 32) × Spells text n)

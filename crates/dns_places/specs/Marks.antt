@@ -6,7 +6,7 @@ use Rattle.dns_places.specs.declared.marks.Parts.{Parts}
 abbrev pub LacksMark : ℕ → List ℕ → Type 0
 LacksMark mark text = (k : ℕ) → k < length text → slice_index text k ≢ mark
 
--- the parts of a text around such a mark
+-- the parts of a text before and after such a mark
 abbrev pub ArePartsOf : ℕ → List ℕ → Parts → Type 0
 ArePartsOf mark text p = text ≡ p.before.now ++ mark ∷ p.after.now
 

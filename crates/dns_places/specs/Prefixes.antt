@@ -61,7 +61,7 @@ pub record IsPlainPrefix (text : List ℕ) (p : Prefix) : Type 0 where
 abbrev pub FindsPlain : Bool → List ℕ → Option Prefix → Type 0
 FindsPlain negated text r = MatchOption r ((p : Prefix) → IsPlainPrefix text p → ⊥) (λ p. (p.negated ≡ negated) × IsPlainPrefix text p)
 
--- an exclusion has an exclamation mark in front
+-- an exclusion begins with an exclamation mark
 abbrev pub exclusion : Bool → List ℕ
 exclusion true = 33 ∷ []
 exclusion false = []
@@ -87,7 +87,7 @@ pub record IsAddressPart (part octets : List ℕ) : Type 0 where
   pub zeros : (k : ℕ) → length part ≤ k → slice_index octets k ≡ 0
   pub end : HasNoZeroAtEnd part
 
--- the bit in front of the number of octets
+-- the bit before the number of octets
 abbrev pub exclusion_bit : Bool → ℕ
 exclusion_bit true = 128
 exclusion_bit false = 0
@@ -98,7 +98,7 @@ pub record IsPrefixWire (p : Prefix) (octets : List ℕ) : Type 0 where
   pub is_part : IsAddressPart part (address_octets p.address)
   pub written : octets ≡ 0 ∷ family_of p.address ∷ p.bits ∷ (exclusion_bit p.negated + length part) ∷ part
 
--- octets gained those of an item; or they don't surely fit
+-- octets of an item were appended; or they don't surely fit
 abbrev pub AddsPrefix : Prefix → List ℕ → List ℕ → Type 0
 AddsPrefix p old new = Gains (IsPrefixWire p) old new
 
@@ -131,7 +131,7 @@ HasAddressPart family part a = IsAddress a × (family_of a ≡ family) × IsAddr
 abbrev pub FindsAddressOf : ℕ → List ℕ → Option IpAddr → Type 0
 FindsAddressOf family part r = MatchOption r ((a : IpAddr) → HasAddressPart family part a → ⊥) (HasAddressPart family part)
 
--- octets have the part of an address behind four others, the last of which counts it
+-- octets have the part of an address after four others, the last of which has its length
 pub record HasPart (octets part : List ℕ) : Type 0 where
   pub front : slice_index octets 0 ≡ 0
   pub within : 4 + length part ≤ length octets
@@ -142,11 +142,11 @@ pub record HasPart (octets part : List ℕ) : Type 0 where
 abbrev pub LacksPart : List ℕ → Type 0
 LacksPart octets = (part : List ℕ) → HasPart octets part → ⊥
 
--- the item that octets begin with, and how many of them are its own
+-- the item that octets begin with, and its length in octets
 abbrev pub IsItemOf : List ℕ → Prefix → ℕ → Type 0
 IsItemOf octets p width = IsPrefix p × (width ≤ length octets) × IsPrefixWire p (take width octets)
 
--- octets begin with no item
+-- octets don't begin with an item
 abbrev pub LacksItem : List ℕ → Type 0
 LacksItem octets = (p : Prefix) → BeginsWithItem octets p → ⊥
 
@@ -156,8 +156,8 @@ FindsItem octets r = MatchOption r (LacksItem octets) (λ i. IsItemOf octets i.p
 abbrev pub FindsItemWidth : List ℕ → Option ℕ → Type 0
 FindsItemWidth octets r = MatchOption r (LacksItem octets) (λ width. (p : Prefix) × IsItemOf octets p width)
 
--- What an item is printed as spells it, and a text spells one. An item has one wire form, and octets
--- begin with one item.
+-- What an item prints as spells it, and a text spells one. An item has one wire format, and octets
+-- begin with one item at most.
 pub record PrefixesAreRead : Type 0 where
   pub spelled : (p : Prefix) → IsPrefix p → SpellsPrefix (prefix_text p) p
   pub once : (text : List ℕ) (p q : Prefix) → SpellsPrefix text p → SpellsPrefix text q → p ≡ q

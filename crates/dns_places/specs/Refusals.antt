@@ -5,6 +5,6 @@ use Rattle.dns_octets.specs.Appending.{LacksRoom}
 use Rattle.dns_kinds.specs.declared.error.ErrorKind.{ErrorKind}
 use Rattle.dns_kinds.specs.declared.error.ErrorKind.TheVariants.{ShortBuf}
 
--- no octets are such, as this error says, or they don't surely fit after old ones
+-- no octets are these, with this error, or they don't surely fit after old ones
 abbrev pub WhyNot : Room → (List ℕ → Type 0) → ErrorKind → List ℕ → ErrorKind → Type 0
 WhyNot room Is why old e = ((e ≡ why) × ((octets : List ℕ) → Is octets → ⊥)) ⊎ ((e ≡ ShortBuf) × LacksRoom room Is old)

@@ -61,6 +61,6 @@ decimal_spelled = inr (record {
   value = refl;
 })
 
--- 99 m are 9 and three zeros in centimetres
+-- 99 m are the digit 9 and three zeros in centimetres
 first_digit : HasFirstDigit 9900 9 3
 first_digit = record { is_digit = lit≤ tt; least = lit≤ tt; most = lit< tt; zero = λ none. absurd (suc-ne-zero 8 none) }

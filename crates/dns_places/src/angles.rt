@@ -1,4 +1,4 @@
-//! The words of an angle of a location: degrees, minutes, seconds and a side.
+//! The words of a location's angle: degrees, minutes, seconds and a side (RFC 1876 section 3).
 ghost use Rattle.std.specs.Prelude.{◌≡◌, ◌<◌, ◌≤◌, ◌+◌, ◌^◌, SomeIff};
 ghost use Rattle.dns_places.specs.Locations.{most_degrees, most_angle, upper_side, lower_side, Finds, SpellsDegrees, SpellsMinutes, SpellsSeconds, SpellsSide};
 
@@ -11,16 +11,16 @@ pub(crate) enum Axis {
     Longitude,
 }
 
-/// The number of the equator and of the prime meridian.
+/// The number of the equator and of the prime meridian in wire format, 2^31.
 pub(crate) const ZERO_ANGLE: u32 = 2_147_483_648;
 
-/// The thousandths of a second in a degree.
+/// Thousandths of a second in a degree.
 pub(crate) const DEGREE: u32 = 3_600_000;
 
-/// The thousandths of a second in a minute.
+/// Thousandths of a second in a minute.
 pub(crate) const MINUTE: u32 = 60_000;
 
-/// The most degrees of an angle.
+/// Returns the greatest number of degrees of an angle.
 pub(crate) fn most_degrees(axis: Axis) -> u32
     ensures { result ≡ most_degrees axis }
 {
@@ -30,7 +30,7 @@ pub(crate) fn most_degrees(axis: Axis) -> u32
     }
 }
 
-/// The angle of degrees that a word writes.
+/// Parses degrees. Returns the angle in thousandths of a second.
 pub(crate) fn degrees_from_text(axis: Axis, text: &[u8]) -> Option<u32>
     ensures { Finds (SpellsDegrees axis) text.now result }
 {
@@ -41,7 +41,7 @@ pub(crate) fn degrees_from_text(axis: Axis, text: &[u8]) -> Option<u32>
     Some(degrees * DEGREE)
 }
 
-/// An angle with more, if it is not too great.
+/// Returns the sum of an angle and more, if it is not too great.
 fn bounded(axis: Axis, before: u32, more: u32) -> Option<u32>
     requires before { before ≤ most_angle axis }
     requires more { more < 2 ^ 24 }
@@ -54,7 +54,7 @@ fn bounded(axis: Axis, before: u32, more: u32) -> Option<u32>
     Some(angle)
 }
 
-/// The angle of degrees, and of minutes that a word writes.
+/// Parses minutes. Returns the angle of the degrees before them and of the minutes.
 pub(crate) fn minutes_from_text(axis: Axis, before: u32, text: &[u8]) -> Option<u32>
     requires { before ≤ most_angle axis }
     ensures { Finds (SpellsMinutes axis before) text.now result }
@@ -66,7 +66,7 @@ pub(crate) fn minutes_from_text(axis: Axis, before: u32, text: &[u8]) -> Option<
     bounded(axis, before, minutes * MINUTE)
 }
 
-/// The angle of degrees and minutes, and of seconds that a word writes.
+/// Parses seconds. Returns the angle of the degrees and minutes before them and of the seconds.
 pub(crate) fn seconds_from_text(axis: Axis, before: u32, text: &[u8]) -> Option<u32>
     requires { before ≤ most_angle axis }
     ensures { Finds (SpellsSeconds axis before) text.now result }
@@ -78,7 +78,7 @@ pub(crate) fn seconds_from_text(axis: Axis, before: u32, text: &[u8]) -> Option<
     bounded(axis, before, seconds as u32)
 }
 
-/// The word of the side on which an angle is added.
+/// Returns the word of the side on which an angle is added.
 fn upper_side(axis: Axis) -> &'static str
     ensures { result.now ≡ upper_side axis }
 {
@@ -88,7 +88,7 @@ fn upper_side(axis: Axis) -> &'static str
     }
 }
 
-/// The word of the side on which an angle is subtracted.
+/// Returns the word of the side on which an angle is subtracted.
 fn lower_side(axis: Axis) -> &'static str
     ensures { result.now ≡ lower_side axis }
 {
@@ -98,7 +98,7 @@ fn lower_side(axis: Axis) -> &'static str
     }
 }
 
-/// The number of an angle on the side that a word names.
+/// Parses a side. Returns the number of an angle on this side.
 pub(crate) fn side_from_text(axis: Axis, angle: u32, text: &[u8]) -> Option<u32>
     requires { angle ≤ most_angle axis }
     ensures { Finds (SpellsSide axis angle) text.now result }

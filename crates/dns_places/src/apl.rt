@@ -16,7 +16,8 @@ use dns_octets::{OctetsBuilder, ShortBuf};
 use std::fmt;
 use std::net::{IpAddr, Ipv4Addr, Ipv6Addr};
 
-/// An item: an address, how many bits of it are the prefix, and whether the item is an exclusion.
+/// An item of an address prefix list: an address, the number of bits of its prefix, and whether the
+/// item is an exclusion.
 #[derive(Clone, Copy)]
 pub struct Prefix {
     pub negated: bool,
@@ -24,21 +25,21 @@ pub struct Prefix {
     pub bits: u8,
 }
 
-/// The number of 16 bits that a text writes.
+/// Parses a decimal number of 16 bits.
 fn number16(text: &[u8]) -> Option<u16>
     ensures { FindsNumber (2 ^ 16) text.now result }
 {
     u16_from_text(text).ok()
 }
 
-/// The number of 8 bits that a text writes.
+/// Parses a decimal number of 8 bits.
 fn number8(text: &[u8]) -> Option<u8>
     ensures { FindsNumber (2 ^ 8) text.now result }
 {
     u8_from_text(text).ok()
 }
 
-/// How many bits an address has.
+/// Returns the number of bits of an address.
 fn bits_of(address: &IpAddr) -> u8
     ensures { result ≡ address_bits address.now }
 {
@@ -48,7 +49,7 @@ fn bits_of(address: &IpAddr) -> u8
     }
 }
 
-/// The number of an address's family.
+/// Returns the number of an address's family.
 fn family_number(address: &IpAddr) -> u8
     ensures { result ≡ family_of address.now }
 {
@@ -58,7 +59,7 @@ fn family_number(address: &IpAddr) -> u8
     }
 }
 
-/// An IPv6 address as one of either family.
+/// Returns an IPv6 address as an address of either family.
 fn from_ipv6(address: Ipv6Addr) -> IpAddr
     ensures value { result ≡ V6 address }
     ensures valid { IsIpv6Addr address }
@@ -66,7 +67,7 @@ fn from_ipv6(address: Ipv6Addr) -> IpAddr
     IpAddr::V6(address)
 }
 
-/// The address of a family that a text writes.
+/// Parses an address of a family.
 fn address_from_text(family: &[u8], text: &[u8]) -> Option<IpAddr>
     ensures { FindsAddress family.now text.now result }
 {
@@ -77,7 +78,7 @@ fn address_from_text(family: &[u8], text: &[u8]) -> Option<IpAddr>
     }
 }
 
-/// The item without exclusion that a text writes.
+/// Parses an item without its exclamation mark.
 fn plain_from_text(negated: bool, text: &[u8]) -> Option<Prefix>
     ensures { FindsPlain negated text.now result }
 {
@@ -95,14 +96,14 @@ fn plain_from_text(negated: bool, text: &[u8]) -> Option<Prefix>
     })
 }
 
-/// Whether a text is that of an exclusion.
+/// Returns whether a text is that of an exclusion.
 fn has_exclusion(text: &[u8]) -> bool
     ensures { MatchBool result (slice_index text.now 0 ≡ 33) (slice_index text.now 0 ≢ 33) }
 {
     !text.is_empty() && text[0] == b'!'
 }
 
-/// The bit of an exclusion, in front of the number of octets.
+/// Returns the bit of an exclusion, which is the highest of the octet with the address's length.
 fn exclusion_octet(negated: bool) -> u8
     ensures value { result ≡ exclusion_bit negated }
     ensures few { result ≤ 128 }
@@ -110,7 +111,7 @@ fn exclusion_octet(negated: bool) -> u8
     if negated { 128 } else { 0 }
 }
 
-/// How many octets there are up to the last that is not zero.
+/// Returns the number of octets up to the last that is not zero.
 fn used(octets: &[u8]) -> usize
     ensures within { result ≤ length octets.now }
     ensures part { IsAddressPart (take result octets.now) octets.now }
@@ -126,7 +127,8 @@ fn used(octets: &[u8]) -> usize
 }
 
 impl Prefix {
-    /// The item that a text writes, as `!1:192.168.38.0/28`. Bits behind the prefix are kept.
+    /// Parses an item such as `!1:192.168.38.0/28`. Bits after the prefix are kept. Fails with
+    /// `ExpectedPrefix` for any other text.
     pub fn from_text(text: &[u8]) -> Result<Prefix, ErrorKind>
         ensures { ReadsKind SpellsPrefix ExpectedPrefix text.now result }
     {
@@ -136,7 +138,7 @@ impl Prefix {
         plain_from_text(true, &text[1..]).ok_or(ErrorKind::ExpectedPrefix)
     }
 
-    /// Appends the octets of the item, whose address has these.
+    /// Appends the item in wire format, where `octets` are those of its address.
     fn append_part<B: OctetsBuilder>(&self, octets: &[u8], target: &mut B) -> Result<(), ShortBuf>
         requires octets { octets.now ≡ address_octets self.now.address }
         requires few { length octets.now ≤ 16 }
@@ -152,8 +154,8 @@ impl Prefix {
         target.append_slice(&octets[..count])
     }
 
-    /// Appends the octets of the item. Refused, the target has its old octets, and perhaps some of
-    /// these behind them.
+    /// Appends the item in wire format. On an error, the target has its old octets, perhaps with
+    /// some of the item's after them.
     pub fn compose<B: OctetsBuilder>(&self, target: &mut B) -> Result<(), ShortBuf>
         ensures ok { OnOk result (AddsPrefix self.now (B.octets target.old) (B.octets target.new)) }
         ensures err { OnErr result (Extends (B.octets target.old) (B.octets target.new)) }
@@ -166,14 +168,14 @@ impl Prefix {
     }
 }
 
-/// An item, and how many octets it has.
+/// An item, and its length in wire format, in octets.
 #[derive(Clone, Copy)]
 struct Item {
     prefix: Prefix,
     width: usize,
 }
 
-/// At most four octets, and zeros up to four.
+/// Returns at most four octets, with zeros after them up to four.
 pub(crate) fn padded4(part: &[u8]) -> [u8; 4]
     requires { length part.now ≤ 4 }
     ensures begins { take (length part.now) result ≡ part.now }
@@ -184,7 +186,7 @@ pub(crate) fn padded4(part: &[u8]) -> [u8; 4]
     octets
 }
 
-/// At most sixteen octets, and zeros up to sixteen.
+/// Returns at most sixteen octets, with zeros after them up to sixteen.
 pub(crate) fn padded16(part: &[u8]) -> [u8; 16]
     requires { length part.now ≤ 16 }
     ensures begins { take (length part.now) result ≡ part.now }
@@ -195,7 +197,7 @@ pub(crate) fn padded16(part: &[u8]) -> [u8; 16]
     octets
 }
 
-/// The IPv4 address of four octets.
+/// Returns the IPv4 address of four octets.
 fn from_octets4(octets: [u8; 4]) -> IpAddr
     ensures valid { IsAddress result }
     ensures family { family_of result ≡ 1 }
@@ -204,7 +206,7 @@ fn from_octets4(octets: [u8; 4]) -> IpAddr
     IpAddr::V4(Ipv4Addr::from_octets(octets))
 }
 
-/// The IPv6 address of sixteen octets.
+/// Returns the IPv6 address of sixteen octets.
 fn from_octets16(octets: &[u8; 16]) -> IpAddr
     ensures valid { IsAddress result }
     ensures family { family_of result ≡ 2 }
@@ -213,7 +215,7 @@ fn from_octets16(octets: &[u8; 16]) -> IpAddr
     from_ipv6(Ipv6Addr::from_octets(*octets))
 }
 
-/// The address of a family that such a part is of.
+/// Returns the address of a family from its octets without zeros at the end.
 fn address_of_part(family: u8, part: &[u8]) -> Option<IpAddr>
     requires { HasNoZeroAtEnd part.now }
     ensures { FindsAddressOf family part.now result }
@@ -226,7 +228,7 @@ fn address_of_part(family: u8, part: &[u8]) -> Option<IpAddr>
     }
 }
 
-/// The part of an address in the item that octets begin with.
+/// Returns the octets of the address in the item that octets begin with.
 fn part_of(octets: &[u8]) -> Option<&[u8]>
     ensures { MatchOption result (LacksPart octets.now) (λ part. HasPart octets.now part.now) }
 {
@@ -247,7 +249,7 @@ fn part_of(octets: &[u8]) -> Option<&[u8]>
     Some(part)
 }
 
-/// The item that octets begin with.
+/// Returns the item that octets begin with.
 fn first_item(octets: &[u8]) -> Option<Item>
     ensures { FindsItem octets.now result }
 {
@@ -269,7 +271,8 @@ fn first_item(octets: &[u8]) -> Option<Item>
 }
 
 impl Prefix {
-    /// The item that octets begin with, if they do, in the one form that an item has.
+    /// Returns the item that octets begin with. Returns `None` if they don't begin with one in the
+    /// only wire format that an item has.
     pub fn from_octets(octets: &[u8]) -> Option<Prefix>
         ensures { MatchOption result (LacksItem octets.now) (BeginsWithItem octets.now) }
     {
@@ -277,15 +280,18 @@ impl Prefix {
     }
 }
 
-/// How many octets the item has that octets begin with, if they begin with one.
+/// Returns the length in octets of the item that octets begin with. Returns `None` if they don't
+/// begin with one.
 pub fn item_width(octets: &[u8]) -> Option<usize>
     ensures { FindsItemWidth octets.now result }
 {
     Some(first_item(octets)?.width)
 }
 
-/// Appends the octets of the item that a text writes. Refused, the target has its old octets, and
-/// perhaps some of these behind them.
+/// Parses an item, and appends it in wire format.
+///
+/// Fails with `ExpectedPrefix` if the text is not an item, and with `ShortBuf` if the target fails.
+/// On an error, the target has its old octets, perhaps with some of the item's after them.
 pub fn append_prefix<B: OctetsBuilder>(text: &[u8], target: &mut B) -> Result<(), ErrorKind>
     ensures ok { OnOk result (GainsItem text.now (B.octets target.old) (B.octets target.new)) }
     ensures err { OnErr result (Extends (B.octets target.old) (B.octets target.new)) }
@@ -296,7 +302,7 @@ pub fn append_prefix<B: OctetsBuilder>(text: &[u8], target: &mut B) -> Result<()
     Ok(())
 }
 
-/// The mark of an exclusion.
+/// Returns the mark of an exclusion.
 fn exclusion_text(negated: bool) -> &'static str
     ensures { result.now ≡ exclusion negated }
 {
@@ -316,8 +322,8 @@ impl fmt::Display for Prefix {
     }
 }
 
-/// States that items are read as they are printed and as they are written in octets, and does
-/// nothing else.
+/// States that an item that is printed and parsed, or appended and decoded, is the same item. Does
+/// nothing.
 pub fn prefixes_are_read_back()
     ensures { PrefixesAreRead }
 {}

@@ -1,4 +1,4 @@
-//! Decimals with few places behind the point.
+//! Decimals with few digits after the point.
 ghost use Rattle.std.specs.Prelude.{◌≡◌, ◌<◌, ◌≤◌, ◌*◌, ◌^◌, IfSome};
 ghost use Rattle.dns_places.specs.Decimals.{FindsDecimal, FindsLength, FindsPart};
 ghost use Rattle.dns_places.specs.Prefixes.{FindsNumber};
@@ -6,14 +6,14 @@ ghost use Rattle.dns_places.specs.Prefixes.{FindsNumber};
 use crate::marks::around_first;
 use dns_kinds::numbers::u32_from_text;
 
-/// The number of 32 bits that a text writes.
+/// Parses a decimal number of 32 bits.
 pub(crate) fn number32(text: &[u8]) -> Option<u32>
     ensures { FindsNumber (2 ^ 32) text.now result }
 {
     u32_from_text(text).ok()
 }
 
-/// A number with so many zeros behind it.
+/// Returns a number with `zeros` zeros after it.
 fn scaled(number: u32, zeros: usize) -> u64
     requires { zeros ≤ 3 }
     ensures value { result ≡ number * 10 ^ zeros }
@@ -28,7 +28,7 @@ fn scaled(number: u32, zeros: usize) -> u64
     }
 }
 
-/// The places behind the point, in units of the last of so many.
+/// Parses the digits after the point. Returns them in units of the last of `places` digits.
 fn part_from_text(places: usize, text: &[u8]) -> Option<u64>
     requires { places ≤ 3 }
     ensures part { FindsPart places text.now result }
@@ -41,7 +41,8 @@ fn part_from_text(places: usize, text: &[u8]) -> Option<u64>
     Some(scaled(part, places - text.len()))
 }
 
-/// The decimal of at most so many places that a text writes, in units of the last of them.
+/// Parses a decimal with at most `places` digits after the point. Returns it in units of the last
+/// of them.
 pub(crate) fn decimal_from_text(places: usize, text: &[u8]) -> Option<u64>
     requires { places ≤ 3 }
     ensures found { FindsDecimal places text.now result }
@@ -56,7 +57,7 @@ pub(crate) fn decimal_from_text(places: usize, text: &[u8]) -> Option<u64>
     Some(scaled(whole, places) + part)
 }
 
-/// The centimetres of the metres that a text writes.
+/// Parses a length in metres. Returns it in centimetres.
 pub(crate) fn length_from_text(text: &[u8]) -> Option<u64>
     ensures found { FindsLength text.now result }
     ensures few { IfSome result (λ n. n < 2 ^ 43) }

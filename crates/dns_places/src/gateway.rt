@@ -1,4 +1,4 @@
-//! Gateways of IPSECKEY that are no names (RFC 4025 section 2.5).
+//! Gateways of IPSECKEY that are not names (RFC 4025 section 2.5).
 ghost use Rattle.std.specs.Prelude.{◌≡◌, OnOk, OnErr, IsOk, Some};
 ghost use Rattle.std.specs.Net.Addr.{IsIpv6Addr};
 ghost use Rattle.dns_kinds.specs.Kind.{ReadsKind};
@@ -13,7 +13,7 @@ use dns_octets::{OctetsBuilder, ShortBuf};
 use std::fmt;
 use std::net::{Ipv4Addr, Ipv6Addr};
 
-/// A gateway of the types 0 to 2. One of type 3 is a name, which the caller reads.
+/// A gateway of type 0, 1 or 2. A gateway of type 3 is a name, which the caller parses.
 #[derive(Clone, Copy)]
 pub enum Gateway {
     Nothing,
@@ -21,7 +21,7 @@ pub enum Gateway {
     Ipv6(Ipv6Addr),
 }
 
-/// An IPv6 address as a gateway.
+/// Returns an IPv6 address as a gateway.
 fn at_ipv6(address: Ipv6Addr) -> Gateway
     ensures value { result ≡ Ipv6 address }
     ensures valid { IsIpv6Addr address }
@@ -29,7 +29,7 @@ fn at_ipv6(address: Ipv6Addr) -> Gateway
     Gateway::Ipv6(address)
 }
 
-/// An IPv4 address of four octets as a gateway.
+/// Returns the IPv4 address of four octets as a gateway.
 fn at_octets4(octets: &[u8; 4]) -> Gateway
     ensures valid { IsGateway result }
     ensures number { gateway_type result ≡ 1 }
@@ -38,7 +38,7 @@ fn at_octets4(octets: &[u8; 4]) -> Gateway
     Gateway::Ipv4(Ipv4Addr::from_octets(*octets))
 }
 
-/// The IPv4 address that octets begin with.
+/// Returns the IPv4 address that octets begin with.
 fn front4(octets: &[u8]) -> Option<Gateway>
     ensures { FindsGateway 1 octets.now result }
 {
@@ -49,7 +49,7 @@ fn front4(octets: &[u8]) -> Option<Gateway>
     Some(at_octets4(&front))
 }
 
-/// An IPv6 address of sixteen octets as a gateway.
+/// Returns the IPv6 address of sixteen octets as a gateway.
 fn at_octets16(octets: &[u8; 16]) -> Gateway
     ensures valid { IsGateway result }
     ensures number { gateway_type result ≡ 2 }
@@ -58,7 +58,7 @@ fn at_octets16(octets: &[u8; 16]) -> Gateway
     at_ipv6(Ipv6Addr::from_octets(*octets))
 }
 
-/// The IPv6 address that octets begin with.
+/// Returns the IPv6 address that octets begin with.
 fn front16(octets: &[u8]) -> Option<Gateway>
     ensures { FindsGateway 2 octets.now result }
 {
@@ -70,8 +70,8 @@ fn front16(octets: &[u8]) -> Option<Gateway>
 }
 
 impl Gateway {
-    /// The gateway of a type that a text writes: `.` of type 0, an IPv4 address of type 1, and an
-    /// IPv6 address of type 2.
+    /// Parses a gateway of a type: `.` of type 0, an IPv4 address of type 1, and an IPv6 address of
+    /// type 2. Fails with `ExpectedGateway` for any other text.
     pub fn from_text(number: u8, text: &[u8]) -> Result<Gateway, ErrorKind>
         ensures { ReadsKind (SpellsGateway number) ExpectedGateway text.now result }
     {
@@ -89,7 +89,7 @@ impl Gateway {
         }
     }
 
-    /// The gateway of a type that octets begin with.
+    /// Returns the gateway of a type that octets begin with.
     pub fn from_octets(number: u8, octets: &[u8]) -> Option<Gateway>
         ensures { FindsGateway number octets.now result }
     {
@@ -101,7 +101,7 @@ impl Gateway {
         }
     }
 
-    /// The type of the gateway.
+    /// Returns the type of the gateway.
     pub fn number(&self) -> u8
         ensures { result ≡ gateway_type self.now }
     {
@@ -112,7 +112,7 @@ impl Gateway {
         }
     }
 
-    /// Appends the octets of the gateway, or changes nothing.
+    /// Appends the gateway in wire format. On an error, the target is unchanged.
     pub fn compose<B: OctetsBuilder>(&self, target: &mut B) -> Result<(), ShortBuf>
         ensures ok { OnOk result (Composes self.now (B.octets target.old) (B.octets target.new)) }
         ensures err { OnErr result (B.octets target.new ≡ B.octets target.old) }
@@ -138,8 +138,8 @@ impl fmt::Display for Gateway {
     }
 }
 
-/// States that gateways are read as they are printed and as they are written in octets, and does
-/// nothing else.
+/// States that a gateway that is printed and parsed, or appended and decoded, is the same gateway.
+/// Does nothing.
 pub fn gateways_are_read_back()
     ensures { GatewaysAreRead }
 {}

@@ -1,13 +1,13 @@
-//! The words of an altitude and of sizes.
+//! The words of an altitude and of sizes (RFC 1876 section 3).
 ghost use Rattle.std.specs.Prelude.{◌≡◌, ◌<◌};
 ghost use Rattle.dns_places.specs.Locations.{Finds, FindsBelow, SpellsAltitude, SpellsHeight, SpellsDepth, SpellsSize, IsSizeOctet};
 
 use crate::decimal::length_from_text;
 
-/// The centimetres of the reference spheroid above the lowest altitude.
+/// Centimetres from the lowest altitude to the reference spheroid.
 pub(crate) const ZERO_ALTITUDE: u32 = 10_000_000;
 
-/// The number of an altitude above the reference spheroid.
+/// Parses an altitude above the reference spheroid. Returns its number in wire format.
 fn height_from_text(text: &[u8]) -> Option<u32>
     ensures { FindsBelow SpellsHeight text.now result }
 {
@@ -19,7 +19,7 @@ fn height_from_text(text: &[u8]) -> Option<u32>
     Some(number as u32)
 }
 
-/// The number of an altitude below the reference spheroid.
+/// Parses an altitude below the reference spheroid. Returns its number in wire format.
 fn depth_from_text(text: &[u8]) -> Option<u32>
     ensures { FindsBelow SpellsDepth text.now result }
 {
@@ -30,7 +30,7 @@ fn depth_from_text(text: &[u8]) -> Option<u32>
     Some(ZERO_ALTITUDE - below as u32)
 }
 
-/// The number of the altitude that a word writes.
+/// Parses an altitude. Returns its number in wire format.
 pub(crate) fn altitude_from_text(text: &[u8]) -> Option<u32>
     ensures { Finds SpellsAltitude text.now result }
 {
@@ -44,7 +44,8 @@ pub(crate) fn altitude_from_text(text: &[u8]) -> Option<u32>
     }
 }
 
-/// The first digit of a number in decimal and how many follow it, in half an octet each.
+/// Returns the first digit of a number in decimal and the number of digits after it, in half an
+/// octet each.
 fn size_octet(number: u64) -> u8
     requires { number < 9000000100 }
     ensures { IsSizeOctet number result }
@@ -58,7 +59,7 @@ fn size_octet(number: u64) -> u8
     digit as u8 * 16 + behind
 }
 
-/// The octet of the size that a word writes.
+/// Parses a size. Returns its octet in wire format.
 pub(crate) fn size_from_text(text: &[u8]) -> Option<u32>
     ensures { Finds SpellsSize text.now result }
 {

@@ -1,7 +1,7 @@
-//! Fields of record data that are no single word of one kind: items of address prefix lists (APL),
-//! gateways (IPSECKEY) and locations (LOC), as texts and as octets.
+//! Fields of RDATA that are more than a word of one kind, in presentation format and wire format:
+//! items of address prefix lists (APL), gateways (IPSECKEY) and locations (LOC).
 //!
-//! Each is read from the octets of words, as they stand: no word has quotes or escapes.
+//! Each is parsed from the octets of words without unescaping: no such word has quotes or escapes.
 #![tactic(auto)]
 
 mod angles;

@@ -1,4 +1,4 @@
-//! Locations (RFC 1876), read of the tokens of an entry.
+//! Parses locations (RFC 1876) from the tokens of an entry.
 ghost use Rattle.std.specs.Prelude.{◌≡◌, ◌≤◌, [], OnOk, OnErr, IfErr};
 ghost use Rattle.dns_octets.specs.Appending.{Gains};
 ghost use Rattle.dns_places.specs.Locations.{most_angle, Finds, SpellsLocation, location_octets};
@@ -12,7 +12,8 @@ use dns_fields::{RecordError, TokenSource};
 use dns_kinds::ErrorKind;
 use dns_octets::OctetsBuilder;
 
-/// The sizes of a location: its diameter, and its horizontal and vertical precision, each as an octet.
+/// The sizes of a location: its diameter, and its horizontal and vertical precision, each as its
+/// octet in wire format.
 #[derive(Clone, Copy)]
 pub struct Sizes {
     pub size: u8,
@@ -20,7 +21,7 @@ pub struct Sizes {
     pub vertical: u8,
 }
 
-/// A location, by the numbers of its octets.
+/// A location, by its numbers in wire format.
 #[derive(Clone, Copy)]
 pub struct Location {
     pub sizes: Sizes,
@@ -29,16 +30,16 @@ pub struct Location {
     pub altitude: u32,
 }
 
-/// The size that is not said, 1 m.
+/// The size if none is written, 1 m.
 const SIZE: u8 = 0x12;
 
-/// The horizontal precision that is not said, 10000 m.
+/// The horizontal precision if none is written, 10000 m.
 const HORIZONTAL: u8 = 0x16;
 
-/// The vertical precision that is not said, 10 m.
+/// The vertical precision if none is written, 10 m.
 const VERTICAL: u8 = 0x13;
 
-/// The octets of a location.
+/// Returns the octets of a location.
 fn octets_of(location: &Location) -> [u8; 16]
     ensures { result ≡ location_octets location.now }
 {
@@ -66,7 +67,7 @@ fn octets_of(location: &Location) -> [u8; 16]
     ]
 }
 
-/// What a word of a location can be, with the angle before it.
+/// The kind of a word of a location, with the angle before it.
 #[derive(Clone, Copy)]
 enum Part {
     Degrees(Axis),
@@ -77,7 +78,7 @@ enum Part {
     Size,
 }
 
-/// The number of a part that a word writes.
+/// Parses a word as a part. Returns its number.
 fn part_from_text(part: Part, text: &[u8]) -> Option<u32>
     requires { IsBounded part }
     ensures { Finds (SpellsPart part) text.now result }
@@ -92,7 +93,7 @@ fn part_from_text(part: Part, text: &[u8]) -> Option<u32>
     }
 }
 
-/// The number of a part that the next token writes.
+/// Parses the next token as a part. Returns its number. Doesn't skip the token.
 fn next_part<S: TokenSource>(part: Part, source: &S) -> Option<u32>
     requires { IsBounded part }
     ensures { FindsNext part (S.left source.now) result }
@@ -104,7 +105,7 @@ fn next_part<S: TokenSource>(part: Part, source: &S) -> Option<u32>
     part_from_text(part, token.text)
 }
 
-/// Takes the next token as a part, if it is one.
+/// Parses the next token as a part, and skips it if it is one.
 fn take_part<S: TokenSource>(part: Part, source: &mut S) -> Option<u32>
     requires { IsBounded part }
     ensures takes { TakesWord part (S.left source.old) result (S.left source.new) }
@@ -115,7 +116,7 @@ fn take_part<S: TokenSource>(part: Part, source: &mut S) -> Option<u32>
     Some(number)
 }
 
-/// Takes the tokens of an angle. Refused, the source stands at the token that goes wrong.
+/// Parses the tokens of an angle. On an error, the source is at the rejected token.
 fn take_angle<S: TokenSource>(axis: Axis, source: &mut S) -> Option<u32>
     ensures takes { TakesAngle axis (S.left source.old) result (S.left source.new) }
     ensures end { S.end source.new ≡ S.end source.old }
@@ -127,7 +128,7 @@ fn take_angle<S: TokenSource>(axis: Axis, source: &mut S) -> Option<u32>
     take_minutes(axis, degrees, source)
 }
 
-/// Takes the tokens of an angle behind its degrees, of which the next is no side.
+/// Parses the tokens of an angle after its degrees, if the next is not a side.
 fn take_minutes<S: TokenSource>(axis: Axis, degrees: u32, source: &mut S) -> Option<u32>
     requires { degrees ≤ most_angle axis }
     ensures takes { TakesMinutes axis degrees (S.left source.old) result (S.left source.new) }
@@ -140,7 +141,7 @@ fn take_minutes<S: TokenSource>(axis: Axis, degrees: u32, source: &mut S) -> Opt
     take_seconds(axis, minutes, source)
 }
 
-/// Takes the tokens of an angle behind its minutes, of which the next is no side.
+/// Parses the tokens of an angle after its minutes, if the next is not a side.
 fn take_seconds<S: TokenSource>(axis: Axis, minutes: u32, source: &mut S) -> Option<u32>
     requires { minutes ≤ most_angle axis }
     ensures takes { TakesSeconds axis minutes (S.left source.old) result (S.left source.new) }
@@ -150,7 +151,7 @@ fn take_seconds<S: TokenSource>(axis: Axis, minutes: u32, source: &mut S) -> Opt
     take_part(Part::Side(axis, seconds), source)
 }
 
-/// Takes the next token as a size; or, where none is left, the usual one.
+/// Parses the next token as a size. Returns `usual` if there is no token.
 fn take_size<S: TokenSource>(usual: u8, source: &mut S) -> Option<u8>
     ensures takes { TakesSize usual (S.left source.old) result (S.left source.new) }
     ensures end { S.end source.new ≡ S.end source.old }
@@ -162,7 +163,7 @@ fn take_size<S: TokenSource>(usual: u8, source: &mut S) -> Option<u8>
     Some(octet as u8)
 }
 
-/// Takes the tokens that are left as sizes.
+/// Parses the unread tokens as sizes.
 fn take_sizes<S: TokenSource>(source: &mut S) -> Result<Sizes, ErrorKind>
     ensures takes { TakesSizes (S.left source.old) result (S.left source.new) }
     ensures end { S.end source.new ≡ S.end source.old }
@@ -186,7 +187,7 @@ fn take_sizes<S: TokenSource>(source: &mut S) -> Result<Sizes, ErrorKind>
     })
 }
 
-/// Takes the tokens that are left as a location.
+/// Parses the unread tokens as a location.
 fn read_location<S: TokenSource>(source: &mut S) -> Result<Location, ErrorKind>
     ensures takes { TakesLocation (S.left source.old) result (S.left source.new) }
     ensures end { S.end source.new ≡ S.end source.old }
@@ -212,9 +213,10 @@ fn read_location<S: TokenSource>(source: &mut S) -> Result<Location, ErrorKind>
     })
 }
 
-/// Takes the tokens of a location that are left, and appends its octets. Refused, the target is as
-/// it was, and the source is at the token that is refused, or at the entry's end. The error's
-/// offset is that place.
+/// Parses the unread tokens as a location, and appends it in wire format.
+///
+/// On an error, the target is unchanged, and the source is at the rejected token or at the entry's
+/// end. The error has the offset of this token or of the end.
 pub fn take_location<S: TokenSource, B: OctetsBuilder>(
     source: &mut S,
     target: &mut B,

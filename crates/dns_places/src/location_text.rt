@@ -1,4 +1,4 @@
-//! The words that locations print as.
+//! Prints locations as words.
 ghost use Rattle.std.specs.Prelude.{◌≡◌, ◌≤◌, ◌*◌, ◌^◌, Some, MatchOption, map};
 ghost use Rattle.std.specs.Fmt.{WritesOnOk};
 ghost use Rattle.dns_places.specs.LocationWords.{LacksLocation, AreWordsOf, angle_from, angle_words, side_word, seconds_word, metres_word, altitude_word, size_word, word_text, LocationsAreRead};
@@ -8,25 +8,25 @@ use crate::heights::ZERO_ALTITUDE;
 use crate::location_wire::location_of;
 use std::fmt;
 
-/// A word of a location. Name servers print each location in twelve: the degrees, minutes, seconds
-/// and side of the latitude, those of the longitude, the altitude, and three sizes.
+/// A word of a location. Name servers print a location as twelve words: the degrees, minutes,
+/// seconds and side of the latitude, those of the longitude, the altitude, and three sizes.
 #[derive(Clone, Copy)]
 pub enum LocationWord {
     /// Degrees or minutes.
     Number(u32),
-    /// Seconds, by their thousandths.
+    /// Seconds, in thousandths.
     Seconds(u32),
     North,
     South,
     East,
     West,
-    /// Metres above the reference spheroid, by the number of the wire.
+    /// An altitude, by its number in wire format. It prints as metres above the reference spheroid.
     Altitude(u32),
-    /// Metres, by the octet of the wire.
+    /// A size, by its octet in wire format. It prints as metres.
     Size(u8),
 }
 
-/// Writes centimetres as metres with two places.
+/// Prints centimetres as metres with two digits after the point.
 fn write_metres<W: fmt::Write>(number: u32, f: &mut fmt::Formatter<W>) -> fmt::Result
     ensures { WritesOnOk W.write_str_gives f.old result (metres_word number) f.new }
 {
@@ -36,7 +36,7 @@ fn write_metres<W: fmt::Write>(number: u32, f: &mut fmt::Formatter<W>) -> fmt::R
     write!(f, "{whole}.{tens}{ones}m")
 }
 
-/// Writes the seconds of so many thousandths.
+/// Prints thousandths of a second as seconds.
 fn write_seconds<W: fmt::Write>(number: u32, f: &mut fmt::Formatter<W>) -> fmt::Result
     ensures { WritesOnOk W.write_str_gives f.old result (seconds_word number) f.new }
 {
@@ -47,7 +47,7 @@ fn write_seconds<W: fmt::Write>(number: u32, f: &mut fmt::Formatter<W>) -> fmt::
     write!(f, "{whole}.{hundreds}{tens}{ones}")
 }
 
-/// Writes the metres of the number of an altitude.
+/// Prints the number of an altitude as metres.
 fn write_altitude<W: fmt::Write>(number: u32, f: &mut fmt::Formatter<W>) -> fmt::Result
     ensures { WritesOnOk W.write_str_gives f.old result (altitude_word number) f.new }
 {
@@ -58,7 +58,7 @@ fn write_altitude<W: fmt::Write>(number: u32, f: &mut fmt::Formatter<W>) -> fmt:
     write_metres(number - ZERO_ALTITUDE, f)
 }
 
-/// A digit with so many zeros behind it.
+/// Returns a digit with `zeros` zeros after it.
 fn with_zeros(digit: u8, zeros: u8) -> u64
     requires { zeros ≤ 15 }
     ensures { result ≡ digit * 10 ^ zeros }
@@ -66,7 +66,7 @@ fn with_zeros(digit: u8, zeros: u8) -> u64
     u64::from(digit) * 10u64.pow(u32::from(zeros))
 }
 
-/// Writes the metres of the octet of a size.
+/// Prints the octet of a size as metres.
 fn write_size<W: fmt::Write>(octet: u8, f: &mut fmt::Formatter<W>) -> fmt::Result
     ensures { WritesOnOk W.write_str_gives f.old result (size_word octet) f.new }
 {
@@ -96,7 +96,7 @@ impl fmt::Display for LocationWord {
     }
 }
 
-/// The angle of a number, on either side.
+/// Returns the angle of a number, on either side.
 fn angle_from(number: u32) -> u32
     ensures { result ≡ angle_from number }
 {
@@ -107,7 +107,7 @@ fn angle_from(number: u32) -> u32
     }
 }
 
-/// The side of the angle of a number.
+/// Returns the side of the angle of a number.
 fn side_of(axis: Axis, number: u32) -> LocationWord
     ensures { word_text result ≡ side_word axis number }
 {
@@ -119,7 +119,7 @@ fn side_of(axis: Axis, number: u32) -> LocationWord
     }
 }
 
-/// The words of an angle.
+/// Returns the words of an angle.
 fn angle_words(axis: Axis, number: u32) -> [LocationWord; 4]
     ensures { map word_text result ≡ angle_words axis number }
 {
@@ -132,8 +132,9 @@ fn angle_words(axis: Axis, number: u32) -> [LocationWord; 4]
     ]
 }
 
-/// The words that the location of these octets is printed as, if they are those of one: `52`, `22`,
-/// `23.000`, `N`, `4`, `53`, `32.000`, `E`, `-2.00m`, `0.00m`, `10000m` and `10m`.
+/// Returns the words that a location in wire format prints as: `52`, `22`, `23.000`, `N`, `4`,
+/// `53`, `32.000`, `E`, `-2.00m`, `0.00m`, `10000m` and `10m`. Returns `None` if the octets are not
+/// a location.
 pub fn location_words(octets: &[u8]) -> Option<[LocationWord; 12]>
     ensures { MatchOption result (LacksLocation octets.now) (AreWordsOf octets.now) }
 {
@@ -157,8 +158,8 @@ pub fn location_words(octets: &[u8]) -> Option<[LocationWord; 12]>
     ])
 }
 
-/// States that locations are read as they are printed and as they are written in octets, and does
-/// nothing else.
+/// States that a location that is printed and parsed, or appended and decoded, is the same
+/// location. Does nothing.
 pub fn locations_are_read_back()
     ensures { LocationsAreRead }
 {}

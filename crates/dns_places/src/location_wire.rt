@@ -1,4 +1,4 @@
-//! Locations as octets.
+//! Locations in wire format (RFC 1876 section 2).
 ghost use Rattle.std.specs.Prelude.{◌≡◌, ◌<◌, ◌≤◌, ◌+◌, ◌^◌, IfSome, MatchBool, MatchOption, length, take, drop};
 ghost use Rattle.std.specs.Int.{to_be_bytes, w32};
 ghost use Rattle.dns_places.specs.LocationWords.{IsAngleNumber, IsSize, ArePossible, IsPossible, IsLocation, HasLocation, LacksLocation, FindsNumbers, IsSpelledLocation, IsUnspelled};
@@ -6,7 +6,7 @@ ghost use Rattle.dns_places.specs.LocationWords.{IsAngleNumber, IsSize, ArePossi
 use crate::angles::{Axis, DEGREE, ZERO_ANGLE, most_degrees};
 use crate::location::{Location, Sizes};
 
-/// The number of four octets at a place.
+/// Returns the number of four octets at an offset.
 fn number_at(octets: &[u8], at: usize) -> u32
     requires { at + 4 ≤ length octets.now }
     ensures { to_be_bytes w32 result ≡ take 4 (drop at octets.now) }
@@ -14,7 +14,7 @@ fn number_at(octets: &[u8], at: usize) -> u32
     u32::from_be_bytes([octets[at], octets[at + 1], octets[at + 2], octets[at + 3]])
 }
 
-/// The numbers of sixteen octets that begin with a version of 0.
+/// Returns the numbers of sixteen octets that begin with a version of 0.
 fn numbers_of(octets: &[u8]) -> Option<Location>
     ensures found { FindsNumbers octets.now result }
     ensures altitude { IfSome result (λ l. l.altitude < 2 ^ 32) }
@@ -34,14 +34,14 @@ fn numbers_of(octets: &[u8]) -> Option<Location>
     })
 }
 
-/// Whether an octet is a size.
+/// Returns whether an octet is a size.
 fn is_size(octet: u8) -> bool
     ensures { MatchBool result (IsSize octet) (IsSize octet → ⊥) }
 {
     octet <= 0x99 && octet % 16 <= 9 && (octet >= 16 || octet == 0)
 }
 
-/// Whether a number is that of an angle.
+/// Returns whether a number is that of an angle.
 fn is_angle(axis: Axis, number: u32) -> bool
     ensures { MatchBool result (IsAngleNumber axis number) (IsAngleNumber axis number → ⊥) }
 {
@@ -49,14 +49,14 @@ fn is_angle(axis: Axis, number: u32) -> bool
     number >= ZERO_ANGLE - most && number <= ZERO_ANGLE + most
 }
 
-/// Whether these are sizes.
+/// Returns whether these are sizes.
 fn are_sizes(sizes: Sizes) -> bool
     ensures { MatchBool result (ArePossible sizes) (ArePossible sizes → ⊥) }
 {
     is_size(sizes.size) && is_size(sizes.horizontal) && is_size(sizes.vertical)
 }
 
-/// Whether a location can have these numbers.
+/// Returns whether a location can have these numbers.
 fn is_possible(location: &Location) -> bool
     requires { location.now.altitude < 2 ^ 32 }
     ensures { MatchBool result (IsPossible location.now) (IsPossible location.now → ⊥) }
@@ -70,7 +70,7 @@ fn is_possible(location: &Location) -> bool
     is_angle(Axis::Longitude, location.longitude)
 }
 
-/// The location of these octets, if they are those of one.
+/// Returns the location of these octets, if they are one.
 pub(crate) fn location_of(octets: &[u8]) -> Option<Location>
     ensures { MatchOption result (LacksLocation octets.now) (IsLocation octets.now) }
 {
@@ -82,7 +82,7 @@ pub(crate) fn location_of(octets: &[u8]) -> Option<Location>
     }
 }
 
-/// Whether these are the octets of a location, which tokens can spell: version 0, sizes of decimal
+/// Returns whether the octets are a location that tokens can spell: version 0, sizes of decimal
 /// digits, and angles within bounds.
 pub fn is_location(octets: &[u8]) -> bool
     ensures possible { MatchBool result (HasLocation octets.now) (LacksLocation octets.now) }

@@ -1,14 +1,14 @@
 //! Texts around a mark.
 ghost use Rattle.dns_places.specs.Marks.{FindsFirst, FindsLast};
 
-/// A text before a mark and behind it.
+/// The text before a mark, and the text after it.
 #[derive(Clone, Copy)]
 pub(crate) struct Parts<'a> {
     pub(crate) before: &'a [u8],
     pub(crate) after: &'a [u8],
 }
 
-/// A text around the first such mark in it.
+/// Returns the text before the first such mark, and the text after it.
 pub(crate) fn around_first(text: &[u8], mark: u8) -> Option<Parts<'_>>
     ensures { FindsFirst mark text.now result }
 {
@@ -23,7 +23,7 @@ pub(crate) fn around_first(text: &[u8], mark: u8) -> Option<Parts<'_>>
     None
 }
 
-/// A text around the last such mark in it.
+/// Returns the text before the last such mark, and the text after it.
 pub(crate) fn around_last(text: &[u8], mark: u8) -> Option<Parts<'_>>
     ensures { FindsLast mark text.now result }
 {
