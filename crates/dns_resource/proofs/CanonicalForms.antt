@@ -63,7 +63,7 @@ fields_kept rtype octets h = by (list_any (λ t. t == rtype) lowered_types) refl
 
 -- ---- one form
 
--- the field in front by its size, and what is behind it
+-- the first field by its size, and what follows it
 pub front_cut : (f : Field) (octets part rest : List ℕ) → IsFieldWire f part → octets ≡ part ++ rest → (take (field_size f octets) octets ≡ part) × (drop (field_size f octets) octets ≡ rest)
 front_cut f octets part rest h is =
     let sized : field_size f octets ≡ length part = ap (field_size f) is ∙ field_sized f part rest h in (
@@ -119,7 +119,7 @@ untexted_form_is rtype octets is h none =
 pub form_gained : (rtype : ℕ) (fields : List Field) (octets old new : List ℕ) → fields ≡ fields_to_lower rtype octets → Gains (CanonicalFields fields octets) old new → new ≡ old ++ canonical_data rtype octets
 form_gained rtype fields octets old new same h = h.2 ∙ ap (λ o. old ++ o) (form_is fields octets h.0 h.1 ∙ ap (λ fs. lowered_in fs octets) same)
 
--- data of a type has a form, which doesn't surely fit where that is refused
+-- RDATA of a type has a canonical form, which doesn't surely fit if it is not appended
 pub form_lacks : (room : Room) (rtype : ℕ) (octets old : List ℕ) (e : CanonicalError) → IsTypeData rtype octets → RefusesFields room (fields_to_lower rtype octets) octets old e → room.fits < length old + length octets
 form_lacks room rtype octets old BadData is h = absurd (h (data_starts rtype octets is))
 form_lacks room rtype octets old ShortBuf is h = let few = h (canonical_data rtype octets) (data_form rtype octets is) in omega (arith, few, data_long rtype octets is)

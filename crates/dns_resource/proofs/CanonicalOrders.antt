@@ -17,12 +17,12 @@ use Rattle.dns_data.specs.Printing.{field_size}
 use Rattle.dns_resource.specs.CanonicalData.{lowered_in}
 use Rattle.dns_resource.proofs.CanonicalForms.{front_cut}
 
--- neither of two lists goes on where the other ends
+-- neither of two lists is longer and begins with the other
 pub record AreApart (a b : List ℕ) : Type 0 where
   pub left : (more : List ℕ) → a ≡ b ++ more → more ≡ []
   pub right : (more : List ℕ) → b ≡ a ++ more → more ≡ []
 
--- such lists decide before what is behind them
+-- such lists decide before what follows them
 order_apart : (a b x y : List ℕ) → AreApart a b → octet_order (a ++ x) (b ++ y) ≡ ordering_then (octet_order a b) (octet_order x y)
 order_apart [] [] x y h = refl
 order_apart [] (c ∷ b) x y h = absurd (let none = h.right (c ∷ b) refl in omega (arith, ap length none))
@@ -41,7 +41,7 @@ canonical_is_wire : (f : Field) (octets : List ℕ) → IsFieldWire f octets →
 canonical_is_wire OfName octets h = lowered_name octets h
 canonical_is_wire f octets h = h
 
--- a field in front of octets is so in one way
+-- octets begin with one field of a kind at most
 pub front_same : (f : Field) (a b x y : List ℕ) → IsFieldWire f a → IsFieldWire f b → a ++ x ≡ b ++ y → (a ≡ b) × (x ≡ y)
 front_same f a b x y p q h =
     let cut : take (length a) (b ++ y) ≡ a =
@@ -56,7 +56,7 @@ fields_apart f a b p q = record {
   right = λ more e. sym (front_same f b a [] more q p (append-nil b ∙ e)).1;
 }
 
--- fields in front decide before what is behind them
+-- the first fields decide before what follows them
 pub order_front : (f : Field) (a b x y : List ℕ) → IsFieldWire f a → IsFieldWire f b
     → octet_order (canonical_field f a ++ x) (canonical_field f b ++ y) ≡ ordering_then (octet_order (canonical_field f a) (canonical_field f b)) (octet_order x y)
 order_front f a b x y p q =

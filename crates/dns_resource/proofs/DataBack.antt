@@ -1,4 +1,4 @@
--- What record data is printed as spells it again.
+-- What RDATA prints as spells it again.
 use Rattle.std.proofs.Common.{ℕ, ◌≡◌, ◌⊎◌, ◌≤◌, ◌^◌, Option, Some, None, List, [], ◌∷◌, refl, sym, subst, ◌∙◌, arith, inl, inr, length, append-nil, decimal}
 use Rattle.std.proofs.lemmas.Fmt.{decimal_is_IsNumeral}
 use Rattle.dns_codec.specs.Base.{base16}

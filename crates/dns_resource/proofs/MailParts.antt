@@ -24,7 +24,7 @@ mail_found : shape_of_code Rtype.mx ≡ Some mail_shape
 unfolding type_shapes
 mail_found = refl
 
--- a preference, and behind it a name
+-- a preference, and after it a name
 pub record AreMailParts (d : TypeData) : Type 0 where
   pub preference : List ℕ
   pub exchange : List ℕ

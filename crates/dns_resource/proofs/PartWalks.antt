@@ -1,4 +1,4 @@
--- The fields of record data, one after another.
+-- The fields of RDATA, one after another.
 use Rattle.std.proofs.Common.{ℕ, zero, suc, ◌≡◌, ◌≢◌, ◌<◌, ◌+◌, ◌-◌, Some, List, ◌∷◌, length, take, drop, get_or, refl, sym, ap, subst, ◌∙◌, arith}
 use Rattle.std.proofs.lemmas.List.{drop_more, take-append-drop, take_all, length-drop}
 use Rattle.dns_spelling.specs.Forms.{FindsWidth}
@@ -14,7 +14,7 @@ use Rattle.dns_resource.specs.TypeData.{IsTypeData}
 use Rattle.dns_resource.proofs.CanonicalForms.{front_cut, begins_start}
 use Rattle.dns_resource.proofs.CanonicalOrders.{front_same}
 
--- the part that is looked for is the one at a count among the fields that are left
+-- the part that is looked for is the one at an index among the fields that are left
 pub record PartWalk (fields more : List Field) (place count : ℕ) (octets rest : List ℕ) : Type 0 where
   pub starts : StartsWithFields more rest
   pub same : field_part fields place octets ≡ field_part more count rest
@@ -23,7 +23,7 @@ pub next_part : (fields : List Field) (i : ℕ) (d : Field) (place count : ℕ) 
     → PartWalk fields (get_or fields i d ∷ drop (i + 1) fields) place count octets rest
 next_part fields i d place count octets rest w lt = subst (λ l. PartWalk fields l place count octets rest) (drop_more fields i d lt) w
 
--- the field in front is the part
+-- the first field is the part
 pub part_found : (fields : List Field) (f : Field) (more : List Field) (place count : ℕ) (octets rest : List ℕ) (width : ℕ) → PartWalk fields (f ∷ more) place count octets rest → count ≡ 0 → FindsWidth (IsFieldWire f) rest (Some width)
     → field_part fields place octets ≡ Some (take width rest)
 part_found fields f more place count octets rest width w none found =

@@ -1,4 +1,4 @@
--- What records are printed as spells them again.
+-- What records print as spells them again.
 use Rattle.std.proofs.Common.{ℕ, ◌≡◌, ◌≢◌, ◌<◌, ◌^◌, Bool, true, false, true≢false, Option, List, [], ◌∷◌, ◌++◌, refl, sym, ap, subst, ◌∙◌, arith, length, append_assoc, map}
 use Rattle.std.specs.Prelude.{is_some, if◌then◌else◌, ◌&&◌, nat_lt, nat_le, All, slice_index}
 use Rattle.std.specs.List.{flat_map}
@@ -71,7 +71,7 @@ owner_word form h =
 
 -- ---- records
 
--- what a record's type is printed as spells it
+-- what a record's type prints as spells it
 type_spelled : (rtype : ℕ) → rtype < 2 ^ 16 → SpellsType (record_type_text rtype) rtype
 type_spelled rtype small = by (is_some (shape_of_code rtype))
   where

@@ -1,4 +1,4 @@
--- Records are equal in order where their canonical forms are the same.
+-- Records are equal in order if their canonical forms are the same.
 use Rattle.std.proofs.Common.{ℕ, ◌≡◌, ◌<◌, ◌^◌, ◌/◌, ◌%◌, List, ◌++◌, drop, ap, arith, get_or}
 use Rattle.std.specs.Prelude.{◌↔◌}
 use Rattle.std.specs.Cmp.{IsTotalOrder}
@@ -22,7 +22,7 @@ data_total = then_total (on_total (λ d. d.rtype) nat_cmp_total) (on_total (λ d
 same_number : (a b : ℕ) → a < 2 ^ 16 → b < 2 ^ 16 → a / 256 % 256 ≡ b / 256 % 256 → a % 256 ≡ b % 256 → a ≡ b
 same_number a b p q h k = omega (arith, p, q, h, k)
 
--- what is behind the owner is of the same numbers and data
+-- what follows the owner has the same numbers and RDATA
 record AreSame (rtype others class classes : ℕ) (form other : List ℕ) : Type 0 where
   pub codes : rtype ≡ others
   pub both : class ≡ classes

@@ -48,7 +48,7 @@ pub no_data_of_row : (rtype : ℕ) (octets : List ℕ) (row : TypeRow) (shape : 
     → (IsDataOf shape octets → ⊥) → RefusesWire rtype octets NotOfType
 no_data_of_row rtype octets row shape is short found same other = (is, short, (shape, has_shape (shape_of_code rtype) row shape found same, other))
 
--- what is refused is no data of the type
+-- what is rejected is not RDATA of the type
 pub refused_is_none : (rtype : ℕ) (octets : List ℕ) (e : WireError) → RefusesWire rtype octets e → IsTypeData rtype octets → ⊥
 refused_is_none rtype octets NoDataType h is = h is.in_zones
 refused_is_none rtype octets LongData h is = omega (arith, h.1, is.short)

@@ -1,4 +1,4 @@
--- No data is printed with the mark of the generic form in front, but in that form.
+-- No RDATA prints with the mark of the generic form at its start, except in that form.
 use Rattle.std.proofs.Common.{ℕ, zero, suc, Bool, true, false, true≢false, ◌≡◌, ◌<◌, ◌≤◌, ◌^◌, ◌==◌, ◌||◌, ◌/◌, ◌+◌, Some, None, List, [], ◌∷◌, ◌++◌, length, take, drop, map, refl, sym, ap, subst, ◌∙◌, arith, inl, inr, get_or, append_assoc, decimal}
 use Rattle.std.specs.Prelude.{codes, ◌&&◌, not, find, if◌then◌else◌, All}
 use Rattle.std.specs.Int.{from_be_bytes, w16}
@@ -171,7 +171,7 @@ no_ipv4 octets small is =
       | inr dot ↦ omega (arith, dot)
     ]
 
--- at each place stands an octet, and two of them are less than 2^16
+-- each element of octets is an octet, and two of them are less than 2^16
 octet_below : (octets : List ℕ) → All (λ o. o < 256) octets → (k : ℕ) → get_or octets k 0 < 2 ^ 8
 octet_below [] h k = omega arith
 octet_below (o ∷ os) h zero = omega (arith, All-head (λ o. o < 256) o os h)
@@ -205,7 +205,7 @@ no_ipv6 segments small = by (has_ipv4_end segments) (bytes_eq (take 6 segments) 
 
 -- ---- the first field
 
--- fields that are shown not to print the mark: those that stand first in data of some type
+-- fields that don't print the mark: those that come first in RDATA of some type
 abbrev shows_no_mark : Field → Bool
 shows_no_mark Number8 = true
 shows_no_mark Number16 = true
@@ -314,7 +314,7 @@ found_shows_no_mark (x ∷ xs) rtype s all found = by (first_shows_no_mark x.fie
     by true true shown e all found later = let same : x ≡ s = cc in subst (λ (t : TypeShape). first_shows_no_mark t.fields t.rest ≡ true) same shown
     by true false shown e all found later = later all found
 
--- data of a shape that a type has is not printed with the mark in front
+-- RDATA of a shape that a type has does not print with the mark at its start
 pub shape_unmarked : (rtype : ℕ) (s : TypeShape) (octets back : List ℕ) → find (λ (s : TypeShape). s.rtype == rtype) type_shapes ≡ Some s → BeginsWithFields s.fields octets back → (rest_form None s.rest).is_wire back
     → BeginsMarked (printed_parts s.fields s.rest octets) → ⊥
 shape_unmarked rtype s octets back found b is m = parts_unmarked s.fields s.rest octets back (found_shows_no_mark type_shapes rtype s types_show_no_mark found) b is m

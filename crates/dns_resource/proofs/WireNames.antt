@@ -26,6 +26,6 @@ makes octets h =
       (h.absolute.0, 0 ∷ [], splits octets h, (refl, h.absolute.1)),
     )
 
--- octets of a name are not refused
+-- octets of a name are not rejected
 pub never_refused : (octets : List ℕ) (e : NameError) → IsWireName octets → MakesName octets (Err e) → ⊥
 never_refused octets e h r = let same = name_same octets (Err e) (Ok h.labels) r (makes octets h) in cc

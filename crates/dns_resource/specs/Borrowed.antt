@@ -15,6 +15,6 @@ pub record IsRecordOf {N O : Type 0} (octets : RecordRef) (r : Record N O) : Typ
   pub rtype : (data_of r).rtype ≡ octets.rtype
   pub data_is : (data_of r).octets ≡ octets.«data».now
 
--- the owner is no name, or the data is not of the type
+-- the owner is not a name, or the RDATA is not of the type
 abbrev pub IsNoRecord : RecordRef → Type 0
 IsNoRecord octets = IsWireName octets.owner.now → IsTypeData octets.rtype octets.«data».now → ⊥

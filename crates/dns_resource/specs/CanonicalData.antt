@@ -1,4 +1,4 @@
--- The canonical form of record data by its type (RFC 4034 section 6.2, RFC 6840 section 5.1), and of records.
+-- The canonical form of RDATA by its type (RFC 4034 section 6.2, RFC 6840 section 5.1), and of records.
 use Rattle.std.specs.Prelude.{ℕ, ◌==◌, if◌then◌else◌, Option, Some, None, List, [], ◌∷◌, ◌++◌, length, take, drop}
 use Rattle.std.specs.Int.{to_be_bytes, w16, w32}
 use Rattle.std.specs.List.{list_any}
@@ -24,29 +24,29 @@ abbrev pub fields_of_shape : Option TypeShape → List Field
 fields_of_shape None = []
 fields_of_shape (Some s) = s.fields
 
--- the fields of a type with a text form, and of one without the octets and names with which the data begins
+-- the fields of a type with a text form, and of any other type the octets and names that the RDATA begins with
 abbrev pub fields_in_data : Option TypeShape → RecordType → List ℕ → List Field
 fields_in_data None rtype octets = untexted_front rtype octets
 fields_in_data (Some s) rtype octets = s.fields
 
--- the fields of data of a type whose names are lowered, and none of another type
+-- the fields of RDATA of a type whose names are lowered, or no fields for any other type
 abbrev pub fields_to_lower : RecordType → List ℕ → List Field
 fields_to_lower rtype octets = if list_any (λ t. t == rtype) lowered_types then fields_in_data (shape_of_code rtype) rtype octets else []
 
--- octets with each of these fields in front in canonical form, and what is behind them as it is
+-- octets with each of these first fields in canonical form, and what follows them unchanged
 abbrev pub lowered_in : List Field → List ℕ → List ℕ
 lowered_in [] octets = octets
 lowered_in (f ∷ fs) octets = canonical_field f (take (field_size f octets) octets) ++ lowered_in fs (drop (field_size f octets) octets)
 
--- data with its names in lower case where the type wants that
+-- RDATA with its names in lower case if the type requires that
 abbrev pub canonical_data : RecordType → List ℕ → List ℕ
 canonical_data rtype octets = lowered_in (fields_to_lower rtype octets) octets
 
--- type, class, time to live, the number of octets of the data, and these
+-- type, class, TTL, the length of the RDATA, and the RDATA
 abbrev pub behind_owner : RecordType → Class → ℕ → List ℕ → List ℕ
 behind_owner rtype class ttl form = to_be_bytes w16 rtype ++ (to_be_bytes w16 class ++ (to_be_bytes w32 ttl ++ (to_be_bytes w16 (length form) ++ form)))
 
--- the owner in lower case, and behind it the data in canonical form
+-- the owner in lower case, and after it the RDATA in canonical form
 abbrev pub canonical_with_ttl : {N O : Type 0} → ℕ → Record N O → List ℕ
 canonical_with_ttl ttl r = lowered (wire r.owner) ++ behind_owner (data_of r).rtype r.class ttl (canonical_data (data_of r).rtype (data_of r).octets)
 
@@ -59,6 +59,6 @@ canonical_record r = canonical_with_ttl r.ttl r
 abbrev pub data_order : TypeData → TypeData → Ordering
 data_order a b = ordering_then (nat_cmp a.rtype b.rtype) (octet_order (canonical_data a.rtype a.octets) (canonical_data b.rtype b.octets))
 
--- what a record is sorted by
+-- the parts by which a record is sorted
 abbrev pub record_key : {N O : Type 0} → Record N O → RecordKey
 record_key r = record { owner = r.owner; class = r.class; rtype = (data_of r).rtype; octets = canonical_data (data_of r).rtype (data_of r).octets }

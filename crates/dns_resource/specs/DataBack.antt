@@ -1,4 +1,4 @@
--- What record data is printed as spells it again.
+-- What RDATA prints as spells it again.
 use Rattle.std.specs.Prelude.{ℕ, Option, List}
 use Rattle.dns_kinds.specs.declared.types.RecordType.{RecordType}
 use Rattle.dns_spelling.specs.NameSpelling.{IsOrigin}
@@ -9,7 +9,7 @@ use Rattle.dns_data.specs.Rests.{ArePrinted}
 use Rattle.dns_resource.specs.DataTokens.{data_tokens}
 use Rattle.dns_resource.specs.TypeData.{IsTypeData}
 
--- whatever the origin is, the tokens that data of a type is printed as spell it
+-- whatever the origin is, the tokens that RDATA of a type prints as spell it
 abbrev pub IsTypeDataReadBack : Type 0
 IsTypeDataReadBack = (origin : Option (List (List ℕ))) (rtype : RecordType) (octets : List ℕ) (tokens : List TokenSeen) → IsOrigin origin → AreOctetValues octets → IsTypeData rtype octets
     → ArePrinted (data_tokens rtype octets) tokens → SpellsTypeData origin rtype tokens octets

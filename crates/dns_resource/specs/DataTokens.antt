@@ -1,4 +1,4 @@
--- Record data as the tokens that it is printed as.
+-- RDATA as the tokens that it prints as.
 use Rattle.std.specs.Prelude.{◌≡◌, ℕ, false, Option, Some, None, List, [], ◌∷◌, refl}
 use Rattle.dns_zone.specs.Layout.{Step}
 use Rattle.dns_zone.specs.Nesting.{IsNested, has_line}
@@ -15,7 +15,7 @@ abbrev pub tokens_of_shape : Option TypeShape → List ℕ → List PrintedToken
 tokens_of_shape None octets = generic_form.printed octets
 tokens_of_shape (Some s) octets = printed_with s.fields s.rest octets
 
--- data of a type in its text form, and in the generic form where it has none, or the type has none
+-- RDATA of a type in its text form, and in the generic form if it has none, or if the type has none
 abbrev pub data_tokens : RecordType → List ℕ → List PrintedToken
 data_tokens rtype octets = tokens_of_shape (shape_of_code rtype) octets
 

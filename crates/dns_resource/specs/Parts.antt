@@ -1,4 +1,4 @@
--- The fields of record data.
+-- The fields of RDATA.
 use Rattle.std.specs.Prelude.{ℕ, zero, suc, Option, Some, None, List, [], ◌∷◌, take, drop}
 use Rattle.dns_fields.specs.declared.field.Field.{Field}
 use Rattle.dns_data.specs.ByType.{shape_of_code}
@@ -6,7 +6,7 @@ use Rattle.dns_data.specs.Printing.{field_size}
 use Rattle.dns_resource.specs.CanonicalData.{fields_of_shape}
 use Rattle.dns_resource.specs.TypeData.{TypeData}
 
--- the octets of the field at a place, among fields in front
+-- the octets of the field at an index, among the fields that octets begin with
 abbrev pub field_part : List Field → ℕ → List ℕ → Option (List ℕ)
 field_part [] place octets = None
 field_part (f ∷ fs) zero octets = Some (take (field_size f octets) octets)

@@ -1,4 +1,4 @@
--- What holds of records that are printed and compared.
+-- Laws of records that are printed and compared.
 use Rattle.std.specs.Prelude.{ℕ, ◌≡◌, ◌≢◌, ◌↔◌, ◌<◌, ◌^◌, false, Option, List, [], ◌∷◌, slice_index}
 use Rattle.std.specs.declared.cmp.Ordering.TheVariants.{Equal}
 use Rattle.dns_canonical.specs.FieldForms.{CanonicalFields}
@@ -20,7 +20,7 @@ use Rattle.dns_resource.specs.Records.{data_of, record_tokens}
 use Rattle.dns_resource.specs.TypeData.{IsTypeData}
 use Rattle.dns_resource.specs.declared.record.Record.{Record}
 
--- the values of a record: a name, numbers of 16 bits, and data of the type
+-- the values of a record: a name, numbers of 16 bits, and RDATA of the type
 pub record AreRecordValues {N O : Type 0} (r : Record N O) : Type 0 where
   pub owner : IsWireName (wire r.owner)
   pub owner_is : IsName r.owner
@@ -29,7 +29,7 @@ pub record AreRecordValues {N O : Type 0} (r : Record N O) : Type 0 where
   pub octets : AreOctetValues (data_of r).octets
   pub typed : IsTypeData (data_of r).rtype (data_of r).octets
 
--- words spell the owner, the time to live, the class and the type
+-- words spell the owner, the TTL, the class and the type
 pub record SpellsHead {N O : Type 0} (origin : Option (List (List ℕ))) (owner ttl class type : TokenSeen) (r : Record N O) : Type 0 where
   pub unquoted : (owner.is_quoted ≡ false) × (ttl.is_quoted ≡ false) × (class.is_quoted ≡ false) × (type.is_quoted ≡ false)
   pub owner_is : SpellsName origin owner.text (wire r.owner)
@@ -37,7 +37,7 @@ pub record SpellsHead {N O : Type 0} (origin : Option (List (List ℕ))) (owner 
   pub class_is : SpellsClass class.text r.class
   pub type_is : SpellsType type.text (data_of r).rtype
 
--- the first four tokens spell these, and those behind them the data
+-- the first four tokens spell these, and those after them the RDATA
 abbrev pub SpellsRecord : {N O : Type 0} → Option (List (List ℕ)) → List TokenSeen → Record N O → Type 0
 SpellsRecord origin [] r = ⊥
 SpellsRecord origin (owner ∷ []) r = ⊥
@@ -45,11 +45,11 @@ SpellsRecord origin (owner ∷ ttl ∷ []) r = ⊥
 SpellsRecord origin (owner ∷ ttl ∷ class ∷ []) r = ⊥
 SpellsRecord origin (owner ∷ ttl ∷ class ∷ type ∷ others) r = SpellsHead origin owner ttl class type r × SpellsTypeData origin (data_of r).rtype others (data_of r).octets
 
--- the tokens that a record is printed as spell it, whatever the origin is, where its time to live is one
+-- the tokens that a record prints as spell it, whatever the origin is, if its TTL is below 2^31
 abbrev pub IsRecordReadBack : {N O : Type 0} → Record N O → Type 0
 IsRecordReadBack r = (origin : Option (List (List ℕ))) (tokens : List TokenSeen) → IsOrigin origin → r.ttl < 2 ^ 31 → ArePrinted (record_tokens r) tokens → SpellsRecord origin tokens r
 
--- a word that is neither the origin's sign nor that of a directive
+-- a word that is not the origin's sign and does not begin with that of a directive
 pub record IsOwnerWord (text : List ℕ) : Type 0 where
   pub word : IsWord text
   pub no_origin : text ≢ at_sign ∷ []
@@ -57,10 +57,10 @@ pub record IsOwnerWord (text : List ℕ) : Type 0 where
 
 -- ---- order
 
--- the order is equal exactly where the canonical forms are the same, with one time to live, whichever it is
+-- the order is equal exactly if the canonical forms are the same, with one TTL, whichever it is
 abbrev pub IsTiedByForm : {N O M P : Type 0} → Record N O → Record M P → Type 0
 IsTiedByForm a b = (ttl : ℕ) → (record_order (record_key a) (record_key b) ≡ Equal) ↔ (canonical_with_ttl ttl a ≡ canonical_with_ttl ttl b)
 
--- the names among the fields of a type are lowered, and nothing else is
+-- the names among the fields of a type are lowered, and all else is unchanged
 abbrev pub HasCanonicalForm : RecordType → List ℕ → Type 0
 HasCanonicalForm rtype octets = CanonicalFields (fields_to_lower rtype octets) octets (canonical_data rtype octets)

@@ -1,4 +1,4 @@
--- Records, and the tokens that they are printed as.
+-- Records, and the tokens that they print as.
 use Rattle.std.specs.Prelude.{ℕ, List, [], ◌∷◌, ◌++◌, decimal, is_some, if◌then◌else◌}
 use Rattle.dns_kinds.specs.Classes.{class_text}
 use Rattle.dns_kinds.specs.Types.{type_text, portable_text}
@@ -15,24 +15,24 @@ use Rattle.dns_resource.specs.DataTokens.{data_tokens, data_document, data_nests
 use Rattle.dns_resource.specs.TypeData.{TypeData}
 use Rattle.dns_resource.specs.declared.record.Record.{Record}
 
--- the type of a record: its name where data of the type is printed in text form, and before the generic form the name only if every reader knows it
+-- the type of a record: its name if RDATA of the type prints in text form, and before the generic form the name only if every reader knows it
 abbrev pub record_type_text : RecordType → List ℕ
 record_type_text rtype = if is_some (shape_of_code rtype) then type_text rtype else portable_text rtype
 
 abbrev pub data_of : {N O : Type 0} → Record N O → TypeData
 data_of r = r.«data»
 
--- the owner, the time to live, the class and the type, each a word
+-- the owner, the TTL, the class and the type, each a word
 abbrev pub head_tokens : {N O : Type 0} → Record N O → List PrintedToken
 head_tokens r =
     plain_word (wire_name_text (wire r.owner)) ∷ plain_word (decimal r.ttl) ∷ plain_word (class_text r.class)
     ∷ plain_word (record_type_text (data_of r).rtype) ∷ []
 
--- and behind them the data
+-- the owner, the TTL, the class and the type, and after them the RDATA
 abbrev pub record_tokens : {N O : Type 0} → Record N O → List PrintedToken
 record_tokens r = head_tokens r ++ data_tokens (data_of r).rtype (data_of r).octets
 
--- the data stands in a block
+-- the RDATA is in a block
 abbrev pub record_document : {N O : Type 0} → Record N O → List Step
 record_document r = token_steps (head_tokens r) ++ begin ∷ (data_document (data_of r) ++ end ∷ [])
 

@@ -19,7 +19,7 @@ use Rattle.dns_resource.specs.Records.{record_document}
 use Rattle.dns_resource.specs.TypeData.{TypeData}
 use Rattle.dns_resource.specs.declared.record.Record.{Record}
 
--- names on the wire
+-- names in wire format
 abbrev below_example : List ℕ → List (List ℕ)
 below_example label = label ∷ codes "example" ∷ [] ∷ []
 
@@ -38,7 +38,7 @@ no_octets_row : data_tokens 62347 [] ≡ plain_word (codes "\\#") ∷ plain_word
 unfolding type_shapes digits
 no_octets_row = refl
 
--- data of MX in a record
+-- RDATA of MX in a record
 abbrev mail_record : Record ℕ ℕ
 mail_record = record { owner = below_example (codes "a"); ttl = 3600; class = 1; «data» = record { rtype = Rtype.mx; octets = 0 ∷ 10 ∷ wire (below_example (codes "mail")) } }
 
@@ -46,7 +46,7 @@ simple_row : layout simple_piece (record_document mail_record) ≡ codes "a.exam
 unfolding type_shapes type_rows labels_in_octets digits
 simple_row = refl
 
--- the type is WALLET, which has a text form, and before the generic form a number, as of CLA, which has none
+-- the type is WALLET, which has a text form; and before the generic form a number, as for CLA, which has none
 abbrev other_record : RecordType → List ℕ → Record ℕ ℕ
 other_record rtype octets = record { owner = below_example (codes "a"); ttl = 3600; class = 1; «data» = record { rtype = rtype; octets = octets } }
 
@@ -71,7 +71,7 @@ multiline_row : layout multiline_piece (record_document mail_record) ≡ codes "
 unfolding type_shapes type_rows labels_in_octets digits
 multiline_row = refl
 
--- a name in data of NS is lowered, and none in data of NSEC (RFC 6840 section 5.1)
+-- names in RDATA of NS are lowered, and those in RDATA of NSEC are not (RFC 6840 section 5.1)
 lowered_row : canonical_data Rtype.ns (wire (below_example (codes "NS"))) ≡ wire (below_example (codes "ns"))
 unfolding type_shapes
 lowered_row = refl
@@ -80,12 +80,12 @@ kept_row : canonical_data Rtype.nsec (wire (below_example (codes "NS")) ++ 0 ∷
 unfolding type_shapes
 kept_row = refl
 
--- the numbers of NAPTR and its strings stay, and its name is lowered
+-- the numbers of NAPTR and its strings are unchanged, and its name is lowered
 last_name_row : canonical_data Rtype.naptr (0 ∷ 65 ∷ 0 ∷ 66 ∷ 1 ∷ 85 ∷ 0 ∷ 0 ∷ wire (below_example (codes "SIP"))) ≡ 0 ∷ 65 ∷ 0 ∷ 66 ∷ 1 ∷ 85 ∷ 0 ∷ 0 ∷ wire (below_example (codes "sip"))
 unfolding type_shapes
 last_name_row = refl
 
--- owner, type, class, time to live, length and data, as signatures cover them (RFC 4034 section 3.1.8.1)
+-- owner, type, class, TTL, length and RDATA, as signatures cover them (RFC 4034 section 3.1.8.1)
 abbrev server_record : Record ℕ ℕ
 server_record = record { owner = below_example (codes "A"); ttl = 3600; class = 1; «data» = record { rtype = Rtype.ns; octets = wire (below_example (codes "NS")) } }
 
@@ -113,7 +113,7 @@ type_row : data_order (named_data Rtype.cname (codes "a")) (named_data Rtype.ns 
 unfolding type_shapes
 type_row = refl
 
--- the names of PX are lowered (RFC 2163 section 4), and what is behind the name of NXT stays
+-- the names of PX are lowered (RFC 2163 section 4), and what follows the name of NXT is unchanged
 map_row : canonical_data Rtype.px (0 ∷ 10 ∷ (wire (below_example (codes "MAP")) ++ wire (below_example (codes "X4")))) ≡ 0 ∷ 10 ∷ (wire (below_example (codes "map")) ++ wire (below_example (codes "x4")))
 unfolding type_shapes
 map_row = refl
@@ -122,12 +122,12 @@ next_row : canonical_data Rtype.nxt (wire (below_example (codes "NXT")) ++ codes
 unfolding type_shapes
 next_row = refl
 
--- the address of A6 stays, and the name of its prefix is lowered
+-- the address of A6 is unchanged, and the name of its prefix is lowered
 prefix_row : canonical_data Rtype.a6 (120 ∷ 65 ∷ wire (below_example (codes "NET"))) ≡ 120 ∷ 65 ∷ wire (below_example (codes "net"))
 unfolding type_shapes
 prefix_row = refl
 
--- an A6 whose name is cut off stays as it is
+-- an A6 whose name is cut off is unchanged
 cut_row : canonical_data Rtype.a6 (120 ∷ 65 ∷ 3 ∷ codes "NE") ≡ 120 ∷ 65 ∷ 3 ∷ codes "NE"
 unfolding type_shapes
 cut_row = refl

@@ -1,4 +1,4 @@
--- Record data of a type.
+-- RDATA of a type.
 use Rattle.std.specs.Prelude.{ℕ, ◌≤◌, List, length}
 use Rattle.dns_kinds.specs.declared.types.RecordType.{RecordType}
 use Rattle.dns_data.specs.ByType.{IsDataType, HasShape, shape_of_code}
@@ -11,7 +11,7 @@ pub record TypeData : Type 0 where
   pub rtype : RecordType
   pub octets : List ℕ
 
--- octets are data of a type: its records can stand in a zone, the octets are not too many, and data of its shape where it has a text form
+-- octets are RDATA of a type: its records can be in a zone, there are not too many octets, and they are RDATA of its shape if it has a text form
 pub record IsTypeData (rtype : RecordType) (octets : List ℕ) : Type 0 where
   pub in_zones : IsDataType rtype
   pub short : length octets ≤ max_data

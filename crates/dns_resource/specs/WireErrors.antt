@@ -1,4 +1,4 @@
--- Why octets are no data of a type.
+-- The error of octets that are not RDATA of a type.
 use Rattle.std.specs.Prelude.{ℕ, ◌<◌, ◌≤◌, List, length, codes}
 use Rattle.dns_kinds.specs.declared.types.RecordType.{RecordType}
 use Rattle.dns_data.specs.ByType.{IsDataType, HasShape, shape_of_code}
@@ -8,7 +8,7 @@ use Rattle.dns_data.specs.declared.shape.Shape.{Shape}
 use Rattle.dns_resource.specs.declared.error.WireError.{WireError}
 use Rattle.dns_resource.specs.declared.error.WireError.TheVariants.{NoDataType, LongData, NotOfType}
 
--- of all reasons the first
+-- the first of all reasons
 abbrev pub RefusesWire : RecordType → List ℕ → WireError → Type 0
 RefusesWire rtype octets NoDataType = IsDataType rtype → ⊥
 RefusesWire rtype octets LongData = IsDataType rtype × (max_data < length octets)

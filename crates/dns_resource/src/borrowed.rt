@@ -1,4 +1,4 @@
-//! Records and their octets, borrowed.
+//! Records whose octets are borrowed or copied.
 ghost use Rattle.std.specs.Prelude.{◌≡◌, IfNone, IfOk, IfSome};
 ghost use Rattle.dns_resource.specs.Borrowed.{IsNoRecord, IsRecordOf};
 
@@ -9,8 +9,8 @@ use dns_octets::AsOctets;
 use dns_wire::Name;
 use std::alloc::{AllocError, Allocator};
 
-/// Returns the record that has these octets, or `None` if the owner is no name or the data is not of
-/// the type.
+/// Returns the record that has these octets, or `None` if the owner is not a name or the RDATA is
+/// not of the type.
 pub fn record_of<'a>(octets: &RecordRef<'a>) -> Option<Record<&'a [u8], &'a [u8]>>
     ensures found { IfSome result (IsRecordOf octets.now) }
     ensures none { IfNone result (IsNoRecord octets.now) }
@@ -44,7 +44,7 @@ impl<Owner: AsOctets, Octets: AsOctets> Record<Owner, Octets> {
     }
 }
 
-/// Copies octets.
+/// Returns a copy of octets.
 fn copied<A: Allocator>(alloc: A, octets: &[u8]) -> Result<Vec<u8, A>, AllocError>
     ensures { IfOk result (λ copy. copy.items ≡ octets.now) }
 {
@@ -53,8 +53,8 @@ fn copied<A: Allocator>(alloc: A, octets: &[u8]) -> Result<Vec<u8, A>, AllocErro
     Ok(copy)
 }
 
-/// Returns a record that holds a copy of these octets, or `None` if the owner is no name or the data
-/// is not of the type. Fails if there is no memory.
+/// Returns a record that holds a copy of these octets, or `None` if the owner is not a name or the
+/// RDATA is not of the type. Fails if there is no memory.
 pub fn owned_record<A: Allocator + Copy>(
     alloc: A,
     octets: &RecordRef<'_>,

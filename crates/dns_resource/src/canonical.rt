@@ -1,5 +1,5 @@
-//! The canonical form of record data by its type, and of records (RFC 4034 section 6.2, RFC 6840
-//! section 5.1).
+//! The canonical form of RDATA by its type, and of records (RFC 4034 section 6.2, RFC 6840 section
+//! 5.1).
 ghost use Rattle.std.specs.Prelude.{◌≡◌, ◌<◌, ◌+◌, ◌++◌, length, OnOk, OnErr, IfErr};
 ghost use Rattle.std.specs.Int.{to_be_bytes, w16, w32};
 ghost use Rattle.dns_octets.specs.Appending.{Extends};
@@ -16,7 +16,7 @@ use dns_fields::Field;
 use dns_kinds::{Class, RecordType};
 use dns_octets::{AsOctets, OctetsBuilder, ShortBuf};
 
-/// The fields of data of a type whose names are lowered, and none of another type.
+/// Returns the fields of RDATA of a type whose names are lowered, or no fields for any other type.
 fn lowered_fields(rtype: RecordType, octets: &[u8]) -> &'static [Field]
     ensures { result.now ≡ fields_to_lower rtype octets.now }
 {
@@ -29,13 +29,13 @@ fn lowered_fields(rtype: RecordType, octets: &[u8]) -> &'static [Field]
     }
 }
 
-/// Appends the canonical form of data of a type: its names in lower case where
-/// [`lowers_names`] says so, and all other octets as they stand.
+/// Appends the canonical form of RDATA of a type: its names in lower case if [`lowers_names`]
+/// returns true for the type, and all other octets unchanged.
 ///
-/// The fields are those of the type's text form. Of the types without one, data of MD, MF, NXT and
-/// A6 has names that are lowered where it begins as the type's data does; else, and of other types,
-/// it stands as it is (RFC 3597 section 7). Octets that don't begin with the fields of a text form
-/// are [`CanonicalError::BadData`]. After an error some octets may have been appended.
+/// The fields are those of the type's presentation format. MD, MF, NXT and A6 have only the generic
+/// one, and their names are lowered if the RDATA begins with the type's fields. All other RDATA is
+/// unchanged (RFC 3597 section 7). Fails with [`CanonicalError::BadData`] if the octets don't begin
+/// with the fields of the presentation format. On an error, some octets may have been appended.
 pub fn append_canonical_data<B: OctetsBuilder>(
     rtype: RecordType,
     octets: &[u8],
@@ -48,8 +48,8 @@ pub fn append_canonical_data<B: OctetsBuilder>(
     append_canonical_fields(lowered_fields(rtype, octets), octets, target)
 }
 
-/// The octets between owner and data of a record on the wire: type, class, time to live, and how
-/// many octets the data has.
+/// Returns the octets between the owner and the RDATA of a record in wire format: type, class, TTL,
+/// and the length of the RDATA.
 fn middle_octets(rtype: RecordType, class: Class, ttl: u32, count: u16) -> [u8; 10]
     ensures { result ≡ to_be_bytes w16 rtype ++ to_be_bytes w16 class ++ to_be_bytes w32 ttl ++ to_be_bytes w16 count }
 {
@@ -63,8 +63,8 @@ fn middle_octets(rtype: RecordType, class: Class, ttl: u32, count: u16) -> [u8; 
 }
 
 impl<Octets: AsOctets> Data<Octets> {
-    /// Appends the canonical form of the data, as [`append_canonical_data`] does. Where it doesn't
-    /// fit, the first octets of it may have been appended.
+    /// Appends the canonical form of the RDATA, as [`append_canonical_data`] does. Fails if the
+    /// target does. The first octets may then have been appended.
     pub fn append_canonical<B: OctetsBuilder>(&self, target: &mut B) -> Result<(), ShortBuf>
         ensures ok { OnOk result (B.octets target.new ≡ B.octets target.old ++ canonical_data self.now.rtype self.now.octets) }
         ensures err { OnErr result (B.room.fits < length (B.octets target.old) + length self.now.octets) }
@@ -79,8 +79,8 @@ impl<Octets: AsOctets> Data<Octets> {
 
 impl<Owner: AsOctets, Octets: AsOctets> Record<Owner, Octets> {
     /// Appends the record in canonical form (RFC 4034 section 6.2): the owner in lower case, type,
-    /// class, time to live, the number of octets of the data, and these in canonical form. Where
-    /// it doesn't fit, the first octets of it may have been appended.
+    /// class, TTL, the length of the RDATA, and the RDATA in canonical form. Fails if the target
+    /// does. The first octets may then have been appended.
     pub fn append_canonical<B: OctetsBuilder>(&self, target: &mut B) -> Result<(), ShortBuf>
         ensures ok { OnOk result (B.octets target.new ≡ B.octets target.old ++ canonical_record self.now) }
         ensures err { OnErr result (B.room.fits < length (B.octets target.old) + length (canonical_record self.now)) }

@@ -1,4 +1,5 @@
-//! The codes of types as constants, which an argument of [`TypedData`](crate::TypedData) has to be.
+//! The codes of types as constants, since an argument of [`TypedData`](crate::TypedData) must be a
+//! constant.
 use dns_kinds::RecordType;
 
 pub(crate) const A: u16 = RecordType::A.0;

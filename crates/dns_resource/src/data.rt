@@ -1,4 +1,4 @@
-//! Record data of a type.
+//! RDATA of a type.
 ghost use Rattle.std.specs.Prelude.{◌≡◌, ◌↔◌, ◌-◌, ◌≤◌, ◌++◌, ℕ, length, IsOk, IfOk, IfErr, OnOk, OnErr, MatchResult};
 ghost use Rattle.dns_spelling.specs.Spelling.{AreOctetValues};
 ghost use Rattle.dns_resource.specs.TypeData.{IsTypeData};
@@ -10,10 +10,10 @@ use dns_kinds::RecordType;
 use dns_octets::{AsOctets, OctetsBuilder, ShortBuf};
 use std::marker::Model;
 
-/// The data of a record: its type and its octets on the wire.
+/// The RDATA of a record: its type and its octets in wire format.
 ///
-/// The octets are at most 65,535, and the wire form of the type where the type has a text form. Of
-/// a type without one they are any octets (RFC 3597).
+/// There are at most 65,535 octets. If the type has a presentation format of its own, they are the
+/// wire format of the type. If not, they are any octets (RFC 3597).
 #[derive(Drop)]
 pub struct Data<Octets: AsOctets> {
     rtype: RecordType,
@@ -30,7 +30,7 @@ impl<Octets: AsOctets> Model for Data<Octets> {
     ghost invariant = { λ d. IsTypeData d.rtype (Octets.octets d.octets) };
 }
 
-/// Whether octets are data of a type, or why they are none.
+/// Checks that octets are RDATA of a type.
 fn check_octets(rtype: RecordType, octets: &[u8]) -> Result<(), WireError>
     ensures { MatchResult result (λ _. IsTypeData rtype octets.now) (RefusesWire rtype octets.now) }
 {
@@ -50,11 +50,13 @@ fn check_octets(rtype: RecordType, octets: &[u8]) -> Result<(), WireError>
 }
 
 impl<Octets: AsOctets> Data<Octets> {
-    /// The data of a type that has these octets on the wire, without pointers in names.
+    /// Returns the RDATA of a type with these octets in wire format, without compression pointers
+    /// in names.
     ///
-    /// A type that has no data in zones is [`WireError::NoDataType`], more than 65,535 octets are
-    /// [`WireError::LongData`], and octets that are not the wire form of the type
-    /// [`WireError::NotOfType`]; the first of these is returned.
+    /// Fails with [`WireError::NoDataType`] if records of the type cannot be in a zone, with
+    /// [`WireError::LongData`] if there are more than 65,535 octets, and with
+    /// [`WireError::NotOfType`] if the octets are not the wire format of the type. The first of
+    /// these errors is returned.
     pub fn from_octets(rtype: RecordType, octets: Octets) -> Result<Self, WireError>
     where
         Octets: Drop,
@@ -68,14 +70,14 @@ impl<Octets: AsOctets> Data<Octets> {
         }
     }
 
-    /// The type.
+    /// Returns the type.
     pub fn rtype(&self) -> RecordType
         ensures { result ≡ self.now.rtype }
     {
         self.rtype
     }
 
-    /// The octets on the wire.
+    /// Returns the octets in wire format.
     pub fn as_slice(&self) -> &[u8]
         ensures value { result.now ≡ self.now.octets }
         ensures bytes { AreOctetValues self.now.octets }
@@ -84,14 +86,14 @@ impl<Octets: AsOctets> Data<Octets> {
         self.octets.as_slice()
     }
 
-    /// The octets, in the type that holds them.
+    /// Returns the octets, in the type that holds them.
     pub fn into_octets(self) -> Octets
         ensures { Octets.octets result ≡ self.octets }
     {
         self.octets
     }
 
-    /// Appends the octets, or changes nothing.
+    /// Appends the octets. On an error, the target is unchanged.
     pub fn compose<B: OctetsBuilder>(&self, target: &mut B) -> Result<(), ShortBuf>
         ensures ok { OnOk result (B.octets target.new ≡ B.octets target.old ++ self.now.octets) }
         ensures err { OnErr result (B.octets target.new ≡ B.octets target.old) }

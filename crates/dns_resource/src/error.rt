@@ -1,23 +1,23 @@
-//! Why octets are no data of a type.
+//! The error of octets that are not RDATA of a type.
 ghost use Rattle.std.specs.Prelude.{◌≡◌, Some};
 ghost use Rattle.dns_resource.specs.WireErrors.{wire_error_text};
 
 use std::error::Error;
 use std::fmt;
 
-/// Why octets are no data of a type.
+/// The reason why octets are not RDATA of a type.
 #[derive(Clone, Copy, Debug, PartialEq, Eq)]
 pub enum WireError {
-    /// Records of the type cannot stand in a zone (RFC 6895 section 3.1).
+    /// Records of the type cannot be in a zone (RFC 6895 section 3.1).
     NoDataType,
     /// There are more than 65,535 octets.
     LongData,
-    /// The octets are not the wire form of the type.
+    /// The octets are not the wire format of the type.
     NotOfType,
 }
 
 impl WireError {
-    /// The text of the error.
+    /// Returns the error message.
     pub fn as_str(&self) -> &'static str
         ensures { result.now ≡ wire_error_text self.now }
     {

@@ -1,5 +1,4 @@
-//! Record data and records as values: made from octets or from the tokens of zone text, printed,
-//! and compared.
+//! RDATA and records as values: parsed from wire format or from tokens, printed, and compared.
 #![tactic(auto)]
 
 pub mod borrowed;

@@ -1,5 +1,4 @@
-//! The canonical order of record data and of records (RFC 4034 section 6.3, RFC 8976 section
-//! 3.3.1).
+//! The canonical order of RDATA and of records (RFC 4034 section 6.3, RFC 8976 section 3.3.1).
 ghost use Rattle.std.specs.Prelude.{◌≡◌};
 ghost use Rattle.dns_canonical.specs.FieldForms.{StartsWithFields, canonical_field};
 ghost use Rattle.dns_canonical.specs.Names.{octet_order};
@@ -18,7 +17,7 @@ use dns_octets::AsOctets;
 use dns_octets::lowered::compare_lowered;
 use std::cmp::Ordering;
 
-/// The order of the canonical forms of two fields of one kind.
+/// Compares the canonical forms of two fields of one kind.
 fn compare_field(field: Field, left: &[u8], right: &[u8]) -> Ordering
     ensures { result ≡ octet_order (canonical_field field left.now) (canonical_field field right.now) }
 {
@@ -28,7 +27,7 @@ fn compare_field(field: Field, left: &[u8], right: &[u8]) -> Ordering
     }
 }
 
-/// The order of octets that begin with fields, whose names are lowered.
+/// Compares octets that begin with fields, with the names among these in lower case.
 fn compare_in_fields(fields: &[Field], left: &[u8], right: &[u8]) -> Ordering
     requires left { StartsWithFields fields.now left.now }
     requires right { StartsWithFields fields.now right.now }
@@ -49,7 +48,7 @@ fn compare_in_fields(fields: &[Field], left: &[u8], right: &[u8]) -> Ordering
     compare_octets(left_rest, right_rest)
 }
 
-/// The order of the canonical forms of data of one type.
+/// Compares the canonical forms of RDATA of one type.
 fn compare_data(rtype: RecordType, left: &[u8], right: &[u8]) -> Ordering
     requires left { IsTypeData rtype left.now }
     requires right { IsTypeData rtype right.now }
@@ -65,8 +64,8 @@ fn compare_data(rtype: RecordType, left: &[u8], right: &[u8]) -> Ordering
 }
 
 impl<Octets: AsOctets> Data<Octets> {
-    /// The canonical order: by the number of the type, and then by the octets of the canonical form,
-    /// as unsigned numbers. It takes no memory.
+    /// Compares RDATA in canonical order: by the number of the type, and then by the octets of the
+    /// canonical form, as unsigned numbers. Allocates no memory.
     pub fn compare<Others: AsOctets>(&self, other: &Data<Others>) -> Ordering
         ensures { result ≡ data_order self.now other.now }
     {
@@ -78,8 +77,9 @@ impl<Octets: AsOctets> Data<Octets> {
 }
 
 impl<Owner: AsOctets, Octets: AsOctets> Record<Owner, Octets> {
-    /// The canonical order: by the owners, then by class and type as numbers, and then by the
-    /// octets of the data in canonical form. Times to live don't count. It takes no memory.
+    /// Compares records in canonical order: by the owners, then by class and type as numbers, and
+    /// then by the octets of the RDATA in canonical form. TTLs are not compared. Allocates no
+    /// memory.
     pub fn compare<Owners: AsOctets, Others: AsOctets>(
         &self,
         other: &Record<Owners, Others>,

@@ -1,4 +1,4 @@
-//! The fields of record data.
+//! The fields of RDATA.
 ghost use Rattle.std.specs.Prelude.{◌≡◌, Some, None, MatchOption};
 ghost use Rattle.dns_canonical.specs.FieldForms.{StartsWithFields};
 ghost use Rattle.dns_resource.specs.Parts.{data_part, field_part};
@@ -9,7 +9,7 @@ use dns_data::type_row;
 use dns_fields::Field;
 use dns_octets::AsOctets;
 
-/// The octets of the field at a place among those in front.
+/// Returns the octets of the field at an index among those that octets begin with.
 fn part_in_front<'a>(fields: &[Field], place: usize, octets: &'a [u8]) -> Option<&'a [u8]>
     requires { StartsWithFields fields.now octets.now }
     ensures { MatchOption result (field_part fields.now place octets.now ≡ None) (λ part. field_part fields.now place octets.now ≡ Some part.now) }
@@ -28,9 +28,9 @@ fn part_in_front<'a>(fields: &[Field], place: usize, octets: &'a [u8]) -> Option
 }
 
 impl<Octets: AsOctets> Data<Octets> {
-    /// The octets of the field at a place, which counts from 0: of data of MX the preference at 0,
-    /// and the exchange at 1. Behind the fields that are one token each there is none, and data of a
-    /// type without a text form has none.
+    /// Returns the octets of the field at an index, which counts from 0: in RDATA of MX the
+    /// preference at 0, and the exchange at 1. Returns `None` after the fields of one token each,
+    /// and for a type without a presentation format of its own.
     pub fn part(&self, place: usize) -> Option<&[u8]>
         ensures { MatchOption result (data_part self.now place ≡ None) (λ part. data_part self.now place ≡ Some part.now) }
     {

@@ -1,4 +1,4 @@
-//! Record data as zone text.
+//! Prints RDATA.
 ghost use Rattle.dns_resource.specs.DataTokens.{data_document, data_nests};
 
 use crate::data::Data;
@@ -6,9 +6,9 @@ use dns_data::{type_row, write_data, write_generic};
 use dns_octets::AsOctets;
 use dns_zone::zonefile_fmt::{self, FormatWriter, Formatter, ZonefileFmt};
 
-/// The tokens of the data: its text form, or where it has none `\#`, the number of octets, and these in
-/// hexadecimal. No text form have types without a row, LOC of another version than 0, and APL with a
-/// family other than 1 and 2.
+/// The RDATA prints in its own presentation format. If it has none, it prints as `\#`, the number
+/// of octets, and the octets in hexadecimal. This is so for types without a row, for LOC of a
+/// version other than 0, and for APL with a family other than 1 and 2.
 impl<Octets: AsOctets> ZonefileFmt for Data<Octets> {
     ghost document = { data_document };
 

@@ -1,4 +1,4 @@
-//! Record data of the tokens of zone text.
+//! Parses RDATA from the tokens of an entry.
 ghost use Rattle.std.specs.Prelude.{◌≡◌, ℕ, List, [], IfOk, IfErr, option_copied};
 ghost use Rattle.dns_octets.specs.Room.{within};
 ghost use Rattle.dns_spelling.specs.NameSpelling.{IsOrigin};
@@ -13,7 +13,7 @@ use dns_kinds::{ErrorKind, RecordType};
 use dns_octets::{AsOctets, AsOctetsMut, EmptyBuilder, FreezeBuilder, OctetsBuilder};
 use dns_wire::Name;
 
-/// Does nothing but to state that an origin has octets.
+/// States that the origin is octets. Does nothing.
 fn know_origin<Octets: AsOctets>(origin: Option<&Name<Octets>>)
     ensures { IsOrigin (option_copied origin.entry) }
 {
@@ -22,11 +22,10 @@ fn know_origin<Octets: AsOctets>(origin: Option<&Name<Octets>>)
     }
 }
 
-/// The data of a type that the tokens that are left spell, in the text form of the type or as `\#`.
-/// A relative name stands before the origin.
+/// Parses the unread tokens as RDATA of a type, in the type's own presentation format or as `\#`.
+/// The origin is appended to a relative name.
 ///
-/// Errors are those of [`data_of_type`], of tokens that hold octets, as those of every text
-/// do.
+/// The errors are those of [`data_of_type`] if the tokens hold octets, as those of every text do.
 pub fn data_of_tokens<S: TokenSource, Origin: AsOctets, B>(
     alloc: B::Alloc,
     rtype: RecordType,

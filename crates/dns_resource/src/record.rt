@@ -1,4 +1,4 @@
-//! Records.
+//! Records as values.
 ghost use Rattle.std.specs.Prelude.{◌≡◌, Some};
 ghost use Rattle.dns_spelling.specs.NameSpelling.{IsWireName};
 ghost use Rattle.dns_wire.specs.Wire.{wire, IsName};
@@ -13,7 +13,7 @@ use dns_wire::Name;
 use dns_zone::zonefile_fmt::{self, FormatWriter, Formatter, ZonefileFmt};
 use std::fmt;
 
-/// The octets of a name on the wire.
+/// Returns the octets of a name in wire format.
 pub(crate) fn name_octets<Octets: AsOctets>(name: &Name<Octets>) -> &[u8]
     ensures value { result.now ≡ wire name.now }
     ensures is_name { IsName name.now }
@@ -24,8 +24,9 @@ pub(crate) fn name_octets<Octets: AsOctets>(name: &Name<Octets>) -> &[u8]
     name.as_slice()
 }
 
-/// The type of a record. It prints as its name where record data of the type print in text form, and
-/// before the generic form as its name only if every reader knows that (RFC 3597 section 5).
+/// The type of a record. It prints as its name if RDATA of the type prints in its own presentation
+/// format. Before the generic form it prints as its name only if every reader knows that (RFC 3597
+/// section 5).
 #[derive(Clone, Copy)]
 struct OwnType(RecordType);
 
@@ -40,8 +41,8 @@ impl fmt::Display for OwnType {
     }
 }
 
-/// A record (RFC 1035 section 3.2): its owner, its time to live in seconds, its class,
-/// and its data, which has the type.
+/// A record (RFC 1035 section 3.2): its owner, its TTL in seconds, its class, and its RDATA, which
+/// has the type.
 #[derive(Drop)]
 pub struct Record<Owner: AsOctets, Octets: AsOctets> {
     pub owner: Name<Owner>,
@@ -50,8 +51,8 @@ pub struct Record<Owner: AsOctets, Octets: AsOctets> {
     pub data: Data<Octets>,
 }
 
-/// One entry of zone text: the owner with a dot at its end, the time to live in seconds, the class,
-/// the type, and the data in a block. There is no line end.
+/// A record prints as one entry: the owner with a dot at its end, the TTL in seconds, the class,
+/// the type, and the RDATA in a block. There is no line end.
 impl<Owner: AsOctets, Octets: AsOctets> ZonefileFmt for Record<Owner, Octets> {
     ghost document = { record_document };
 

@@ -1,4 +1,4 @@
-//! Record data whose type a program knows.
+//! RDATA whose type a program knows.
 ghost use Rattle.std.specs.Prelude.{◌≡◌, ◌↔◌, Some, IsOk, IfOk, IfErr};
 ghost use Rattle.std.specs.Int.{to_be_bytes, w16};
 ghost use Rattle.dns_kinds.specs.Rtype.{mx};
@@ -10,7 +10,7 @@ use crate::data::Data;
 use dns_octets::AsOctets;
 use std::marker::Model;
 
-/// Data of the type that has this code.
+/// RDATA of the type that has this code.
 #[derive(Drop)]
 pub struct TypedData<const CODE: u16, Octets: AsOctets> {
     data: Data<Octets>,
@@ -28,7 +28,7 @@ impl<const CODE: u16, Octets: AsOctets> Model for TypedData<CODE, Octets> {
 }
 
 impl<const CODE: u16, Octets: AsOctets> TypedData<CODE, Octets> {
-    /// The data, if it has the type. Data of another type comes back.
+    /// Returns the RDATA as RDATA of the type. Fails with the RDATA itself if it has another type.
     pub fn new(data: Data<Octets>) -> Result<Self, Data<Octets>>
         ensures ok { IfOk result (λ t. t ≡ «data») }
         ensures accepts { IsOk result ↔ («data».rtype ≡ CODE) }
@@ -40,7 +40,7 @@ impl<const CODE: u16, Octets: AsOctets> TypedData<CODE, Octets> {
         Ok(TypedData { data })
     }
 
-    /// The data.
+    /// Returns the RDATA.
     pub fn as_data(&self) -> &Data<Octets>
         ensures value { result.now ≡ self.now }
         ensures rtype { self.now.rtype ≡ CODE }
@@ -48,7 +48,7 @@ impl<const CODE: u16, Octets: AsOctets> TypedData<CODE, Octets> {
         &self.data
     }
 
-    /// The data.
+    /// Returns the RDATA, and consumes the value.
     pub fn into_data(self) -> Data<Octets>
         ensures { result ≡ self }
     {
@@ -56,30 +56,30 @@ impl<const CODE: u16, Octets: AsOctets> TypedData<CODE, Octets> {
     }
 }
 
-/// Data of A (RFC 1035 section 3.4.1).
+/// RDATA of A (RFC 1035 section 3.4.1).
 pub type A<Octets> = TypedData<{ codes::A }, Octets>;
 
-/// Data of NS (RFC 1035 section 3.3.11).
+/// RDATA of NS (RFC 1035 section 3.3.11).
 pub type Ns<Octets> = TypedData<{ codes::NS }, Octets>;
 
-/// Data of CNAME (RFC 1035 section 3.3.1).
+/// RDATA of CNAME (RFC 1035 section 3.3.1).
 pub type Cname<Octets> = TypedData<{ codes::CNAME }, Octets>;
 
-/// Data of SOA (RFC 1035 section 3.3.13).
+/// RDATA of SOA (RFC 1035 section 3.3.13).
 pub type Soa<Octets> = TypedData<{ codes::SOA }, Octets>;
 
-/// Data of PTR (RFC 1035 section 3.3.12).
+/// RDATA of PTR (RFC 1035 section 3.3.12).
 pub type Ptr<Octets> = TypedData<{ codes::PTR }, Octets>;
 
-/// Data of MX (RFC 1035 section 3.3.9).
+/// RDATA of MX (RFC 1035 section 3.3.9).
 pub type Mx<Octets> = TypedData<{ codes::MX }, Octets>;
 
-/// The preference in data of MX.
+/// Returns the preference in RDATA of MX.
 fn preference_of<Octets: AsOctets>(mail: &Data<Octets>) -> u16
     requires { mail.now.rtype ≡ mx }
     ensures { data_part mail.now 0 ≡ Some (to_be_bytes w16 result) }
 {
-    // No effect at run time: the proof reads that the octets are data of the type.
+    // No effect at run time: the proof reads that the octets are RDATA of the type.
     let _octets = mail.as_slice();
     match mail.part(0) {
         Some(octets) => u16::from_be_bytes([octets[0], octets[1]]),
@@ -87,7 +87,7 @@ fn preference_of<Octets: AsOctets>(mail: &Data<Octets>) -> u16
     }
 }
 
-/// The host in data of MX.
+/// Returns the exchange in RDATA of MX.
 fn exchange_of<Octets: AsOctets>(mail: &Data<Octets>) -> &[u8]
     requires { mail.now.rtype ≡ mx }
     ensures part { data_part mail.now 1 ≡ Some result.now }
@@ -101,14 +101,14 @@ fn exchange_of<Octets: AsOctets>(mail: &Data<Octets>) -> &[u8]
 }
 
 impl<Octets: AsOctets> Mx<Octets> {
-    /// The preference among the hosts that take mail: the lowest comes first.
+    /// Returns the preference among mail exchanges. The lowest comes first.
     pub fn preference(&self) -> u16
         ensures { data_part self.now 0 ≡ Some (to_be_bytes w16 result) }
     {
         preference_of(&self.data)
     }
 
-    /// The host that takes mail, as a name on the wire.
+    /// Returns the mail exchange, as a name in wire format.
     pub fn exchange(&self) -> &[u8]
         ensures part { data_part self.now 1 ≡ Some result.now }
         ensures name { IsWireName result.now }
@@ -117,32 +117,32 @@ impl<Octets: AsOctets> Mx<Octets> {
     }
 }
 
-/// Data of TXT (RFC 1035 section 3.3.14).
+/// RDATA of TXT (RFC 1035 section 3.3.14).
 pub type Txt<Octets> = TypedData<{ codes::TXT }, Octets>;
 
-/// Data of AAAA (RFC 3596 section 2.2).
+/// RDATA of AAAA (RFC 3596 section 2.2).
 pub type Aaaa<Octets> = TypedData<{ codes::AAAA }, Octets>;
 
-/// Data of SRV (RFC 2782).
+/// RDATA of SRV (RFC 2782).
 pub type Srv<Octets> = TypedData<{ codes::SRV }, Octets>;
 
-/// Data of DNAME (RFC 6672 section 2.1).
+/// RDATA of DNAME (RFC 6672 section 2.1).
 pub type Dname<Octets> = TypedData<{ codes::DNAME }, Octets>;
 
-/// Data of DS (RFC 4034 section 5.1).
+/// RDATA of DS (RFC 4034 section 5.1).
 pub type Ds<Octets> = TypedData<{ codes::DS }, Octets>;
 
-/// Data of RRSIG (RFC 4034 section 3.1).
+/// RDATA of RRSIG (RFC 4034 section 3.1).
 pub type Rrsig<Octets> = TypedData<{ codes::RRSIG }, Octets>;
 
-/// Data of NSEC (RFC 4034 section 4.1).
+/// RDATA of NSEC (RFC 4034 section 4.1).
 pub type Nsec<Octets> = TypedData<{ codes::NSEC }, Octets>;
 
-/// Data of DNSKEY (RFC 4034 section 2.1).
+/// RDATA of DNSKEY (RFC 4034 section 2.1).
 pub type Dnskey<Octets> = TypedData<{ codes::DNSKEY }, Octets>;
 
-/// Data of NSEC3 (RFC 5155 section 3.2).
+/// RDATA of NSEC3 (RFC 5155 section 3.2).
 pub type Nsec3<Octets> = TypedData<{ codes::NSEC3 }, Octets>;
 
-/// Data of CAA (RFC 8659 section 4.1).
+/// RDATA of CAA (RFC 8659 section 4.1).
 pub type Caa<Octets> = TypedData<{ codes::CAA }, Octets>;
