@@ -101,9 +101,9 @@ octets_spelled = record {
   once = spelled_once;
 }
 
--- ---- forms behind their length
+-- ---- forms after their length
 
--- the wire form of the octets that are told behind their length
+-- the wire format of octets after their length
 counted_width : (xs form rest ys front : List ℕ) (width : ℕ) → form ≡ length xs ∷ xs → width ≤ length (form ++ rest) → take width (form ++ rest) ≡ length ys ∷ ys → width ≡ length form
 counted_width xs form rest ys front width e fits k =
     let whole : take width (form ++ rest) ++ drop width (form ++ rest) ≡ form ++ rest = take-append-drop width (form ++ rest) in
@@ -171,7 +171,7 @@ string_gained text octets form count s n short k =
       whole = k.whole ∙ ap (λ m. m ∷ k.octets) (n ∙ ap length (sym same));
     }
 
--- octets split behind the length octet
+-- octets are split after the length octet
 pub counted_split : (octets : List ℕ) (width : ℕ) → 0 < length octets → width ≡ 1 + get_or octets 0 0 → width ≤ length octets
     → take width octets ≡ length (take (width - 1) (drop 1 octets)) ∷ take (width - 1) (drop 1 octets)
 counted_split [] width some e fits = absurd (omega arith)
@@ -181,7 +181,7 @@ counted_split (x ∷ xs) width some e fits =
     let off : suc x - 1 ≡ x = omega arith in
     rw (n, off, long) refl
 
--- ---- quoted text
+-- ---- quoted strings
 
 pub quoted_bytes : (shown octets : List ℕ) → shown ≡ octets → AreOctetValues octets → ((34 ∷ []) ++ encode_utf8_all (text_in_quotes shown)) ++ (34 ∷ []) ≡ octets_in_quotes octets
 quoted_bytes shown octets e h = ap (λ o. ((34 ∷ []) ++ encode_utf8_all (text_in_quotes o)) ++ (34 ∷ [])) e ∙ rw (encodes-IsAscii (text_in_quotes octets) (printed_ascii is_quoted_escape octets h)) refl

@@ -60,7 +60,7 @@ run_front text n h fits =
       octets_are = run.3;
     }
 
--- an octet takes one octet of the text at least
+-- an octet is spelled by at least one octet of the text
 spellings_length : (symbols : List Symbol) → length (map octet_for symbols) ≤ length (flat_map spell symbols)
 spellings_length [] = omega arith
 spellings_length (s ∷ ss) = omega (arith, spellings_length ss, spell_some s, length-append (spell s) (flat_map spell ss))
@@ -80,7 +80,7 @@ pub appended_more : (text old front rest run after middle new : List ℕ) → Sp
 appended_more text old front rest run after middle new h e k f =
     (front ++ run, front_join text front rest run after h k, f ∙ ap (λ x. x ++ run) e ∙ append_assoc old front run)
 
--- where some of the octets don't fit, they don't fit all together
+-- if some of the octets don't fit, they don't fit all together
 pub lacks_some : (room : Room) (text old front rest run after middle : List ℕ) → SpellsFront text front rest → middle ≡ old ++ front
     → SpellsFront rest run after → (length run ≤ room.fits - length middle → IsTrue false) → LacksRoom room (SpellsOctetList text) old
 lacks_some room text old front rest run after middle h e k short = λ octets spelled.

@@ -44,7 +44,7 @@ no_dot (Char o) rest more h e = let is : o ≡ 46 = cc in grind (arith, nat_test
 no_dot (SimpleEscape o) rest more h e = absurd (omega (arith, ap (λ r. get_or r 0 0) e))
 no_dot (DecimalEscape o) rest more h e = absurd (omega (arith, ap (λ r. get_or r 0 0) e))
 
--- symbols of a label in front of a dot
+-- no symbols of a label begin with a dot
 no_dots : (ss : List Symbol) (rest more : List ℕ) → AreLabelSpellings ss → flat_map spell ss ++ rest ≡ 46 ∷ more → 0 < length ss → ⊥
 no_dots [] rest more h e some = omega arith
 no_dots (s ∷ ss) rest more h e some = no_dot s (flat_map spell ss ++ rest) more (label_head s ss h) (sym (append_assoc (spell s) (flat_map spell ss) rest) ∙ e)
@@ -54,7 +54,7 @@ empty_symbols [] rest h = (refl, sym h)
 empty_symbols (s ∷ ss) rest h =
     absurd (omega (arith, spell_some s, ap length h, length-append (spell s ++ flat_map spell ss) rest, length-append (spell s) (flat_map spell ss)))
 
--- a beginning of a label in front of a dot
+-- a beginning of a label that a dot follows
 open_within : (part label : List Symbol) (rest after : List ℕ) → AreLabelSpellings part → AreLabelSpellings label
     → flat_map spell part ++ rest ≡ flat_map spell label ++ 46 ∷ after
     → (more : List Symbol) × (label ≡ part ++ more) × AreLabelSpellings more × (rest ≡ flat_map spell more ++ 46 ∷ after)
@@ -76,7 +76,7 @@ dotted_same part label rest after p q h =
     same [] e g f = (e ∙ append-nil part, cc)
     same (s ∷ ss) e g f = absurd (no_dots (s ∷ ss) (46 ∷ after) rest g (sym f) (omega arith))
 
--- no label with its dot is in front of a label without one
+-- a label without a dot does not begin with a label and its dot
 no_dot_behind : (part last : List Symbol) (rest : List ℕ) → AreLabelSpellings part → AreLabelSpellings last → flat_map spell part ++ 46 ∷ rest ≡ flat_map spell last → ⊥
 no_dot_behind [] last rest p q h = begins last q h
   where
@@ -152,7 +152,7 @@ appended_none text old = record {
   fits = omega arith;
 }
 
--- the symbol that is spelled in front, where no dot is
+-- the symbol that a text begins with, if it is not a dot
 pub label_octet : (rest after : List ℕ) (o : ℕ) → SpellsFront rest (o ∷ []) after → (get_or rest 0 0 ≡ 46 → ⊥)
     → (s : Symbol) × (is_label_spelling s ≡ true) × (rest ≡ spell s ++ after)
 label_octet rest after o h n = one h.symbols h.each h.whole h.octets_are
@@ -238,7 +238,7 @@ within_long parts part rest all last (in_last more is end own after) some =
 
 -- ---- the next label
 
--- a label behind those that were appended, with its octets
+-- a label after those that were appended, with its octets
 pub record NextLabel (text old new after : List ℕ) (count : ℕ) : Type 0 where
   pub parts : List (List Symbol)
   pub part : List Symbol
@@ -276,7 +276,7 @@ next_label text old rest middle new own_text after count own_count part i opens 
       fits = omega (arith, n, fits, i.fits);
     }
 
--- the octets of the label behind the others
+-- the octets of the label after the others
 next_wire : (parts : List (List Symbol)) (part : List Symbol)
     → wire (part_labels parts []) ++ wire_label (map octet_for part) ≡ wire (map (map octet_for) parts ++ map octet_for part ∷ [])
 next_wire parts part = ap (λ l. wire l ++ wire_label (map octet_for part)) (labels_nil parts) ∙ sym (wire_push (map (map octet_for) parts) (map octet_for part))
@@ -299,7 +299,7 @@ ends_open text old new after count n e =
       ends = let some = n.part_is.some in grind (arith, nat_tests);
     }
 
--- with a dot behind it
+-- a dot follows the label
 dot_behind : (text old new after more : List ℕ) (count : ℕ) (n : NextLabel text old new after count) → after ≡ 46 ∷ more
     → HasParts text (n.parts ++ n.part ∷ []) more
 dot_behind text old new after more count n e = record {
@@ -333,7 +333,7 @@ goes_on_dotted text old new after more count n e some =
       fits = n.fits;
     }
 
--- what is behind a label, if it is not the end
+-- what follows a label, if it is not the end
 pub behind_dot : (after : List ℕ) → EndsLabel after → 0 < length after → after ≡ 46 ∷ take (length after - 1) (drop 1 after)
 behind_dot after (inl none) some = absurd (omega (arith, ap length none))
 behind_dot [] (inr dotted) some = absurd (omega arith)
@@ -353,7 +353,7 @@ some_behind (x ∷ xs) some more =
     let off : length (x ∷ xs) - 1 ≡ length xs = omega arith in
     let long : length (take (length (x ∷ xs) - 1) xs) ≡ length (x ∷ xs) - 1 = length-take-le (length (x ∷ xs) - 1) xs (omega arith) in omega (arith, long, off)
 
--- where a label doesn't fit, the labels don't fit all together
+-- if a label doesn't fit, the labels don't fit all together
 pub lacks_labels : (room : Room) (text old rest middle own_text after : List ℕ) (count own_count : ℕ) (part : List Symbol) → Appended text old rest middle count
     → OpensLabel rest (254 - count) part after → own_text ≡ flat_map spell part → own_count ≡ length part → 0 < own_count
     → LacksRoom room (SpellsBehind own_count own_text) middle → LacksRoomForLabels room text old

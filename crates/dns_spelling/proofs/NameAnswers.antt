@@ -56,7 +56,7 @@ last_some : (last : List Symbol) (is_absolute : Bool) → is_absolute ≡ (lengt
 last_some [] is_absolute e h = absurd (let f : true ≡ false = sym e ∙ h in cc)
 last_some (s ∷ ss) is_absolute e h = omega arith
 
--- what is behind the labels that were appended
+-- what follows the labels that were appended
 pub record Ended (origin : Option (List (List ℕ))) (text old middle end : List ℕ) : Type 0 where
   pub front : List ℕ
   pub is : middle ≡ old ++ front
@@ -119,7 +119,7 @@ alone origin text old end h = record { front = []; is = sym (append-nil old); sp
 
 -- ---- texts that spell no name
 
--- labels and what is behind them, of a name that is spelled
+-- labels and what follows them, of a name that is spelled
 pub record FittingName (text form : List ℕ) : Type 0 where
   pub fitting : Fitting text
   pub long : wire_length (part_labels fitting.all fitting.last) ≤ length form

@@ -1,4 +1,4 @@
--- Names in front of octets.
+-- Names at the start of octets.
 use Rattle.std.proofs.Common.{ℕ, suc, ◌≡◌, ◌+◌, ◌-◌, ◌<◌, ◌≤◌, List, [], ◌∷◌, ◌++◌, length, take, drop, get_or, refl, sym, ap, subst, ◌∙◌, arith, append_assoc, length-append, Option, Some, None}
 use Rattle.std.specs.Prelude.{All}
 use Rattle.std.proofs.lemmas.List.{take_all, length-take-le, take-append-drop, take-append-le, length-drop}
@@ -11,7 +11,7 @@ use Rattle.dns_spelling.specs.Forms.{FindsWidth, StandInFront}
 use Rattle.dns_spelling.specs.NameSpelling.{IsWireName}
 use Rattle.dns_spelling.proofs.LabelParts.{wire_push, wire_length_push, wire_length_cons}
 
--- labels in front of octets, so many octets of them, and then the rest
+-- octets begin with labels of `width` octets, and then comes the rest
 pub record Counted (octets rest : List ℕ) (width : ℕ) : Type 0 where
   pub labels : List (List ℕ)
   pub plain : All IsPlain labels
@@ -22,7 +22,7 @@ pub record Counted (octets rest : List ℕ) (width : ℕ) : Type 0 where
 pub counted_none : (octets : List ℕ) → Counted octets octets 0
 counted_none octets = record { labels = []; plain = λ k d lt. absurd (omega arith); whole = refl; width_is = refl; fits = omega arith }
 
--- the label behind a length octet
+-- the label after a length octet
 front_split : (rest : List ℕ) (count : ℕ) → count ≡ get_or rest 0 0 → 1 + count ≤ length rest
     → (rest ≡ wire_label (take count (drop 1 rest)) ++ drop (1 + count) rest) × (length (take count (drop 1 rest)) ≡ count)
 front_split [] count e h = absurd (omega arith)
@@ -45,7 +45,7 @@ counted_more octets rest width count h e long some short fits =
       fits = omega arith;
     }
 
--- labels that no root ends are the first of a name in front of the same octets
+-- labels without a root are the first of a name that the same octets begin with
 pub name_within : (labels name : List (List ℕ)) (rest after : List ℕ) → All IsPlain labels → EndsInRoot name → wire labels ++ rest ≡ wire name ++ after
     → (next : List ℕ) × (others : List (List ℕ)) × (name ≡ labels ++ next ∷ others) × (rest ≡ wire_label next ++ (wire others ++ after))
 name_within [] [] rest after p q h = absurd (let l = ap length q.1 in omega (arith, l, length-append q.0 ([] ∷ [])))
@@ -69,7 +69,7 @@ at_middle P (y ∷ a) x b h = at_middle P a x b (All-tail P y (a ++ x ∷ b) h)
 abbrev IsShortLabel : List ℕ → Type 0
 IsShortLabel label = length label ≤ 63
 
--- what the next label of a name in front of octets is like
+-- the next label of a name that octets begin with
 pub record NextOfName (rest : List ℕ) (width : ℕ) : Type 0 where
   pub some : 0 < length rest
   pub short : get_or rest 0 0 ≤ 63
@@ -130,7 +130,7 @@ no_octets : (label : List ℕ) → length label ≡ 0 → label ≡ []
 no_octets [] h = refl
 no_octets (x ∷ xs) h = absurd (omega arith)
 
--- a name is in front of octets in one way
+-- octets begin with one name at most
 pub names_same : (a b : List (List ℕ)) (x y : List ℕ) → IsName a → EndsInRoot a → IsName b → EndsInRoot b → wire a ++ x ≡ wire b ++ y → a ≡ b
 names_same a b x y na ra nb rb h =
     let whole : wire ra.0 ++ ((0 ∷ []) ++ x) ≡ wire b ++ y =
@@ -155,7 +155,7 @@ name_at form rest (Some width) h k =
 pub names_in_front : StandInFront IsWireName
 names_in_front = record { width = name_at }
 
--- the rest of a slice behind a label
+-- the rest of a slice after a label
 pub counted_next : (octets rest : List ℕ) (width count left : ℕ) → Counted octets rest width → count ≡ get_or rest 0 0 → 1 + count ≤ length rest → (count ≡ 0 → ⊥) → count ≤ 63
     → width + 1 + count ≤ 255 → left ≡ length rest - (1 + count) → Counted octets (take left (drop (1 + count) rest)) (width + (1 + count))
 counted_next octets rest width count left h e long some short fits l =

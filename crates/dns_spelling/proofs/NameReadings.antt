@@ -1,4 +1,4 @@
--- A text spells one name, and none where a label of it is refused.
+-- A text spells one name, and none if a label of it is rejected.
 use Rattle.std.proofs.Common.{ℕ, ◌≡◌, ◌+◌, ◌<◌, ◌≤◌, List, [], ◌∷◌, ◌++◌, length, get_or, refl, sym, ap, subst, ◌∙◌, arith, append_assoc, append-nil, length-append, inl, inr, Option, Some}
 use Rattle.std.specs.Prelude.{All}
 use Rattle.std.specs.List.{flat_map}
@@ -44,7 +44,7 @@ part_long (s ∷ ss) parts rest h =
       length-append (spell s) (flat_map spell ss),
     )
 
--- the root's dot is no label
+-- the root's dot is not a label
 pub root_no_parts : (text : List ℕ) (parts : List (List Symbol)) (last : List Symbol) → text ≡ 46 ∷ [] → SpellsParts text parts last → 0 < length parts + length last → ⊥
 root_no_parts text [] [] e h some = omega arith
 root_no_parts text [] (s ∷ ss) e h some = no_dot s (flat_map spell ss) [] (label_head s ss h.last_each) (sym h.front.whole ∙ e)
@@ -89,7 +89,7 @@ labels_once origin text a b (relative parts part others some h no_at o is) (rela
 pub name_once : (origin : Option (List (List ℕ))) (text a b : List ℕ) → SpellsName origin text a → SpellsName origin text b → a ≡ b
 name_once origin text a b h k = h.whole ∙ ap wire (labels_once origin text h.labels k.labels h.spelled k.spelled) ∙ sym k.whole
 
--- ---- labels that are refused
+-- ---- labels that are rejected
 
 -- a text that is labels with room for the root, at least one
 pub record Fitting (text : List ℕ) : Type 0 where
@@ -99,7 +99,7 @@ pub record Fitting (text : List ℕ) : Type 0 where
   pub some : 0 < length all + length last
   pub fits : wire_length (part_labels all last) ≤ 254
 
--- behind a bad escape there are no labels
+-- no labels follow a bad escape
 bad_within : (parts : List (List Symbol)) (part : List Symbol) (rest : List ℕ) (all : List (List Symbol)) (last : List Symbol) → BeginsBadEscape rest → Within parts part rest all last → ⊥
 bad_within parts part rest all last bad (in_part [] others is own after) = bad.none (Char 46) (dotted_parts others ++ flat_map spell last) refl after
 bad_within parts part rest all last bad (in_part (s ∷ ss) others is own after) =
@@ -107,7 +107,7 @@ bad_within parts part rest all last bad (in_part (s ∷ ss) others is own after)
 bad_within parts part rest all last bad (in_last [] is whole own after) = omega (arith, bad.some, ap length after)
 bad_within parts part rest all last bad (in_last (s ∷ ss) is whole own after) = bad.none s (flat_map spell ss) (label_is_spelling s (label_head s ss own)) after
 
--- nor where a label has no octets
+-- nor if a label has no octets
 empty_within : (parts : List (List Symbol)) (rest : List ℕ) (all : List (List Symbol)) (last : List Symbol) → EndsLabel rest → (rest ≡ [] → parts ≡ []) → All IsLabelPart all
     → 0 < length all + length last → Within parts [] rest all last → ⊥
 empty_within parts rest all last (inl none) no_end each some (in_part more others is own after) = nothing_follows more (dotted_parts others ++ flat_map spell last) (sym none ∙ after)
@@ -125,7 +125,7 @@ empty_within parts rest all last (inr dotted) no_end each some (in_part (s ∷ s
 empty_within parts rest all last (inr dotted) no_end each some (in_last [] is whole own after) = omega (arith, ap length after, ap length dotted.1)
 empty_within parts rest all last (inr dotted) no_end each some (in_last (s ∷ ss) is whole own after) = no_dot s (flat_map spell ss) dotted.0 (label_head s ss own) (sym after ∙ dotted.1)
 
--- where an octet comes next, the label goes on
+-- if an octet comes next, the label continues
 pub record Longer (parts : List (List Symbol)) (part : List Symbol) (all : List (List Symbol)) (last : List Symbol) : Type 0 where
   pub octet : Symbol
   pub others : List Symbol
@@ -149,7 +149,7 @@ longer parts part rest all last next (in_last (s ∷ ss) is whole own after) = r
   is = in_last ss is (whole ∙ sym (append_assoc part (s ∷ []) ss)) (label_tail s ss own) refl;
 }
 
--- a label within labels of at most 63 octets is no longer
+-- a label within labels of at most 63 octets has at most 63 octets
 within_short : (parts : List (List Symbol)) (part : List Symbol) (rest : List ℕ) (all : List (List Symbol)) (last : List Symbol) → All IsLabelPart all → length last ≤ 63
     → Within parts part rest all last → length part ≤ 63
 within_short parts part rest all last each short (in_part more others is own after) = below parts (subst (All IsLabelPart) is each)

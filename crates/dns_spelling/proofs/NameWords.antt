@@ -1,4 +1,4 @@
--- A name is printed as one word of zone text.
+-- A name prints as one word.
 use Rattle.std.proofs.Common.{ℕ, ◌≡◌, ◌<◌, Bool, true, false, List, [], ◌∷◌, ◌++◌, length, map, refl, sym, ap, subst, ◌∙◌, arith, append-nil}
 use Rattle.std.specs.Prelude.{All, if◌then◌else◌, ◌&&◌, nat_lt, nat_le}
 use Rattle.std.specs.List.{flat_map, list_all}
@@ -49,7 +49,7 @@ dot_bytes = encodes-IsAscii (46 ∷ []) (IsAscii-from_all (46 ∷ []) (λ k d lt
 dot_word : is_word_symbol (Char 46) ≡ true
 dot_word = refl
 
--- the symbols of labels, each with a dot behind it
+-- the symbols of labels, each with a dot after it
 abbrev dotted_symbols : List (List Symbol) → List Symbol
 dotted_symbols parts = flat_map (λ part. part ++ Char 46 ∷ []) parts
 

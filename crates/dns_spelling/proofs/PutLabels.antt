@@ -1,4 +1,4 @@
--- The labels of a text that are put in front of octets.
+-- The labels of a text that are written at the start of octets.
 use Rattle.std.proofs.Common.{ℕ, zero, suc, ◌≡◌, ◌+◌, ◌-◌, ◌<◌, ◌≤◌, Bool, true, false, List, [], ◌∷◌, ◌++◌, length, take, drop, get_or, refl, sym, ap, subst, ◌∙◌, arith}
 use Rattle.std.specs.Prelude.{set, IsTrue}
 use Rattle.std.proofs.lemmas.List.{length-drop, drop-drop, drop-set, drop-set-lt, take-set, take-append-le, drop-append-le, get_or_append_left}
@@ -11,7 +11,7 @@ use Rattle.dns_spelling.specs.NameSpelling.{OpensLabel, part_labels, GainsLabels
 use Rattle.dns_spelling.proofs.LabelParts.{Appended, NextLabel, plain_opens, next_label, part_spells, rest_is, ends_open, ends_dotted, goes_on_dotted}
 use Rattle.dns_spelling.proofs.NameReadings.{parts_once}
 
--- the labels before a place are on the wire, and behind one octet stands the text from there on
+-- the labels before an index are in wire format, and after one octet comes the text from there on
 pub record LabelsPut (text wire : List ℕ) (start : ℕ) : Type 0 where
   pub done : Appended text [] (drop start text) (take start wire) start
   pub more : start < length text
@@ -64,7 +64,7 @@ label_put text wire start count i l =
       label_wire text wire start count i l,
     )
 
--- a list that has an element in front
+-- a list that begins with an element
 begins : (xs : List ℕ) (o : ℕ) → 0 < length xs → get_or xs 0 0 ≡ o → xs ≡ o ∷ drop 1 xs
 begins [] o some h = absurd (omega (arith, some))
 begins (x ∷ xs) o some h = ap (λ y. y ∷ xs) h
@@ -85,7 +85,7 @@ behind text start count =
     let same : start + (count + 1) ≡ start + (1 + count) = omega arith in
     drop-drop (count + 1) start text ∙ ap (λ n. drop n text) same
 
--- a dot is behind the label
+-- a dot follows the label
 dot_at : (text own : List ℕ) (start count : ℕ) → own ≡ drop start text → count < length own → get_or own count 0 ≡ 46
     → drop count (drop start text) ≡ 46 ∷ drop (start + (1 + count)) text
 dot_at text own start count e within h =
@@ -132,7 +132,7 @@ put_more text own wire start count e i l within dot on long =
           ∙ ap (λ r. r ++ i.tail) (behind text start count);
     }
 
--- where they don't fit, the text spells no labels that fit
+-- if they don't fit, the text spells no labels that fit
 pub labels_lack : (room : Room) (text old put : List ℕ) (count : ℕ) (is_absolute : Bool) → GainsLabels text [] put count is_absolute
     → (length put ≤ room.fits - length old → IsTrue false) → LacksRoomForLabels room text old
 labels_lack room text old put count is_absolute g short = λ all last spelled.

@@ -23,7 +23,7 @@ spellings_tail s ss h = (and_parts (is_spelling s) (list_all is_spelling ss) h).
 pub spellings_append : (xs ys : List Symbol) → AreSpellings xs → AreSpellings ys → AreSpellings (xs ++ ys)
 spellings_append xs ys h k = rw (list_all-append, h, k) refl
 
--- symbols that spell a text go on behind those that spell its front
+-- symbols that spell a text begin with those that spell its first part
 pub symbols_go_on : (xs ys : List Symbol) (rest : List ℕ) → AreSpellings xs → AreSpellings ys → flat_map spell xs ++ rest ≡ flat_map spell ys
     → (zs : List Symbol) × AreSpellings zs × (ys ≡ xs ++ zs) × (rest ≡ flat_map spell zs)
 symbols_go_on [] ys rest p q h = (ys, q, refl, h)
@@ -35,7 +35,7 @@ symbols_go_on (x ∷ xs) (y ∷ ys) rest p q h =
     let more = symbols_go_on xs ys rest (spellings_tail x xs p) (spellings_tail y ys q) e.1 in
     (more.0, more.1, (let f = e.0 in let g = more.2 in cc), more.3)
 
--- what a text spells goes on behind what its front spells
+-- the octets that a text spells begin with those that its first part spells
 pub goes_on : (text front rest octets : List ℕ) → SpellsFront text front rest → SpellsOctetList text octets
     → (more : List ℕ) × SpellsOctetList rest more × (octets ≡ front ++ more)
 goes_on text front rest octets h k =
@@ -45,7 +45,7 @@ goes_on text front rest octets h k =
       k.octets_are ∙ ap (map octet_for) all.2 ∙ map-append octet_for h.symbols all.0 ∙ ap (λ x. x ++ map octet_for all.0) (sym h.octets_are),
     )
 
--- two fronts, one behind the other
+-- two first parts, one after the other
 pub front_join : (text front rest octets after : List ℕ) → SpellsFront text front rest → SpellsFront rest octets after → SpellsFront text (front ++ octets) after
 front_join text front rest octets after h k = record {
   symbols = h.symbols ++ k.symbols;
@@ -79,7 +79,7 @@ pub spelled_once : (text a b : List ℕ) → SpellsOctetList text a → SpellsOc
 spelled_once text a b h k =
     let on = goes_on text a [] b h k in sym (on.2 ∙ ap (λ x. a ++ x) (none_more on.0 on.1) ∙ append-nil a)
 
--- behind a bad escape a text spells nothing as a whole
+-- a text with a bad escape spells no octets
 pub none_spelled : (text front rest octets : List ℕ) → SpellsFront text front rest → BeginsBadEscape rest → SpellsOctetList text octets → ⊥
 none_spelled text front rest octets h bad k =
     let on = goes_on text front rest octets h k in none on.1.symbols on.1.each on.1.whole

@@ -1,4 +1,4 @@
--- The text of a name in a zone file: of its labels and of its octets alike, and read back with an origin or without.
+-- The text of a name in a zone file: by its labels and by its octets alike, and parsed with an origin or without.
 use Rattle.std.proofs.Common.{ℕ, ◌≡◌, ◌≢◌, Bool, true, false, true≢false, List, [], ◌∷◌, ◌++◌, length, map, refl, sym, ap, subst, ◌∙◌, arith, append_assoc, append-nil, Option, Some}
 use Rattle.std.specs.Prelude.{All, if◌then◌else◌, ◌&&◌, nat_lt, nat_le, slice_index}
 use Rattle.std.specs.List.{flat_map}

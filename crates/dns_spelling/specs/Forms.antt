@@ -1,4 +1,4 @@
--- Wire forms: which octets are one, how wide the one in front of octets is, and what texts of them say.
+-- Wire formats of strings and tags: which octets are one, the length of the one that octets begin with, and what texts of them spell.
 use Rattle.std.specs.Prelude.{ℕ, ◌≡◌, ◌≢◌, ◌<◌, ◌≤◌, true, List, ◌∷◌, ◌++◌, length, take, Option, Some, None}
 use Rattle.std.specs.List.{list_all}
 use Rattle.std.specs.Char.{is_ascii_alphanumeric}
@@ -8,7 +8,7 @@ use Rattle.dns_spelling.specs.Spelling.{SpellsOctetList, AreOctetValues, SpellsT
 use Rattle.dns_kinds.specs.declared.error.ErrorKind.{ErrorKind}
 use Rattle.dns_kinds.specs.declared.error.ErrorKind.TheVariants.{BadEscape, LongString, BadTag, ShortBuf}
 
--- a character string on the wire: its length octet, and at most 255 octets
+-- a character string in wire format: its length octet, and at most 255 octets
 pub record IsWireString (form : List ℕ) : Type 0 where
   pub octets : List ℕ
   pub values : AreOctetValues octets
@@ -28,7 +28,7 @@ pub record IsTag (tag : List ℕ) : Type 0 where
   pub short : length tag ≤ 255
   pub letters : list_all is_ascii_alphanumeric tag ≡ true
 
--- a tag on the wire: its length octet, and its letters and digits
+-- a tag in wire format: its length octet, and its letters and digits
 pub record IsWireTag (form : List ℕ) : Type 0 where
   pub tag : List ℕ
   pub is_tag : IsTag tag
@@ -38,13 +38,13 @@ pub record IsWireTag (form : List ℕ) : Type 0 where
 abbrev pub SpellsTag : List ℕ → List ℕ → Type 0
 SpellsTag text form = IsTag text × (form ≡ length text ∷ text)
 
--- so many octets are the form in front, or none is in front
+-- octets begin with the form of this width, or do not begin with one
 abbrev pub FindsWidth : (List ℕ → Type 0) → List ℕ → Option ℕ → Type 0
 FindsWidth Is octets (Some width) = (width ≤ length octets) × Is (take width octets)
 FindsWidth Is octets None = (form rest : List ℕ) → Is form → octets ≢ form ++ rest
 
--- What a text spells is a form; the text that is printed of a form spells it; a text spells one form;
--- and in front of octets a form stands in one way.
+-- What a text spells is a form; the text that a form prints as spells it; a text spells one form;
+-- and octets begin with one form at most.
 pub record AreSpelled (Is : List ℕ → Type 0) (Spells : List ℕ → List ℕ → Type 0) (printed : List ℕ → List ℕ) : Type 0 where
   pub spelled : (text form : List ℕ) → AreOctetValues text → Spells text form → Is form
   pub back : (form : List ℕ) → Is form → Spells (printed form) form

@@ -1,4 +1,4 @@
--- Names as text (RFC 1035 section 5.1): labels, joined by dots that stand unescaped.
+-- Names in presentation format (RFC 1035 section 5.1): labels with dots between them that are not escaped.
 use Rattle.std.specs.Prelude.{ℕ, ⊤, ◌≡◌, ◌≢◌, ◌⊎◌, ◌<◌, ◌≤◌, ◌+◌, ◌-◌, ◌==◌, ◌&&◌, not, Bool, true, false, List, [], ◌∷◌, ◌++◌, length, map, All, Option, Some, None}
 use Rattle.std.specs.List.{flat_map, list_all}
 use Rattle.dns_octets.specs.Room.{Room}
@@ -18,7 +18,7 @@ use Rattle.dns_kinds.specs.declared.error.ErrorKind.TheVariants.{BadEscape, Empt
 abbrev pub at_sign : ℕ
 at_sign = 64
 
--- the symbol is a dot that stands unescaped
+-- the symbol is a dot that is not escaped
 abbrev pub is_plain_dot : Symbol → Bool
 is_plain_dot (Char o) = o == dot
 is_plain_dot (SimpleEscape o) = false
@@ -37,7 +37,7 @@ pub record IsLabelPart (part : List Symbol) : Type 0 where
   pub some : 0 < length part
   pub short : length part ≤ max_label
 
--- the text of labels, each with a dot behind it
+-- the text of labels, each with a dot after it
 abbrev pub dotted_parts : List (List Symbol) → List ℕ
 dotted_parts parts = flat_map (λ part. flat_map spell part ++ dot ∷ []) parts
 
@@ -45,18 +45,18 @@ dotted_parts parts = flat_map (λ part. flat_map spell part ++ dot ∷ []) parts
 abbrev pub part_labels : List (List Symbol) → List Symbol → List (List ℕ)
 part_labels parts last = map (map octet_for) parts ++ closed (map octet_for last)
 
--- a text is labels, each with a dot behind it, and then a rest
+-- a text is labels, each with a dot after it, and then a rest
 pub record HasParts (text : List ℕ) (parts : List (List Symbol)) (rest : List ℕ) : Type 0 where
   pub each : All IsLabelPart parts
   pub whole : text ≡ dotted_parts parts ++ rest
 
--- a text is labels joined by dots: the last one has no dot behind it, or there is nothing behind the last dot
+-- a text is labels with dots between them: no dot follows the last one, or the text ends with a dot
 pub record SpellsParts (text : List ℕ) (parts : List (List Symbol)) (last : List Symbol) : Type 0 where
   pub front : HasParts text parts (flat_map spell last)
   pub last_each : AreLabelSpellings last
   pub last_short : length last ≤ max_label
 
--- the labels of a text: of `.` the root alone, and of `@` the origin's; with a dot at the end the labels and the root, and else the labels and the origin's
+-- the labels of a text: of `.` the root alone, and of `@` the origin's; of a text with a dot at its end its labels and the root, and of any other its labels and the origin's
 pub data SpellsLabels (origin : Option (List (List ℕ))) (text : List ℕ) (labels : List (List ℕ)) : Type 0 where
   root_alone : text ≡ dot ∷ [] → labels ≡ [] ∷ [] → SpellsLabels origin text labels
   origin_alone : text ≡ at_sign ∷ [] → origin ≡ Some labels → SpellsLabels origin text labels
@@ -64,7 +64,7 @@ pub data SpellsLabels (origin : Option (List (List ℕ))) (text : List ℕ) (lab
   relative : (parts : List (List Symbol)) (last : List Symbol) (others : List (List ℕ)) → 0 < length last → SpellsParts text parts last → text ≢ at_sign ∷ []
       → origin ≡ Some others → labels ≡ part_labels parts last ++ others → SpellsLabels origin text labels
 
--- a text spells the wire form of an absolute name
+-- a text spells the wire format of an absolute name
 pub record SpellsName (origin : Option (List (List ℕ))) (text form : List ℕ) : Type 0 where
   pub labels : List (List ℕ)
   pub spelled : SpellsLabels origin text labels
@@ -85,7 +85,7 @@ abbrev pub IsOrigin : Option (List (List ℕ)) → Type 0
 IsOrigin None = ⊤
 IsOrigin (Some labels) = AreOctetValues (wire labels)
 
--- symbols that begin a text stand for a beginning of a label, for which there is room in a name
+-- the symbols that a text begins with are the beginning of a label, which fits in a name
 pub record OpensLabel (text : List ℕ) (room : ℕ) (open_part : List Symbol) (rest : List ℕ) : Type 0 where
   pub each : AreLabelSpellings open_part
   pub whole : text ≡ flat_map spell open_part ++ rest
@@ -100,7 +100,7 @@ GoesOnWithOctet rest = (s : Symbol) × (more : List ℕ) × (is_label_spelling s
 abbrev pub EndsLabel : List ℕ → Type 0
 EndsLabel rest = (rest ≡ []) ⊎ ((more : List ℕ) × (rest ≡ dot ∷ more))
 
--- why no label is in front of a text, in a name that has room for so many octets: of all reasons the first
+-- why a text does not begin with a label, in a name in which `room` more octets fit: the first of all reasons
 abbrev pub RefusesFrontLabel : ℕ → List ℕ → ErrorKind → Type 0
 RefusesFrontLabel room text BadEscape = (open_part : List Symbol) × (rest : List ℕ) × OpensLabel text room open_part rest × BeginsBadEscape rest
 RefusesFrontLabel room text EmptyLabel = EndsLabel text
@@ -108,7 +108,7 @@ RefusesFrontLabel room text LongLabel = (open_part : List Symbol) × (rest : Lis
 RefusesFrontLabel room text LongName = (open_part : List Symbol) × (rest : List ℕ) × OpensLabel text room open_part rest × (room < length open_part + 2) × GoesOnWithOctet rest
 RefusesFrontLabel room text other = ⊥
 
--- behind labels for which there is room in a name one is refused; nothing behind a dot is no label that is refused
+-- after labels that fit in a name comes one that is rejected; nothing after a dot is not a label that is rejected
 pub record HasBadLabel (text : List ℕ) (why : ErrorKind) : Type 0 where
   pub parts : List (List Symbol)
   pub rest : List ℕ
@@ -117,16 +117,16 @@ pub record HasBadLabel (text : List ℕ) (why : ErrorKind) : Type 0 where
   pub no_end : rest ≡ [] → parts ≡ []
   pub refused : RefusesFrontLabel (max_relative - wire_length (part_labels parts [])) rest why
 
--- a relative name: the origin's labels are to follow
+-- a relative name: the origin's labels follow
 abbrev pub IsRelative : List ℕ → Type 0
 IsRelative text = (text ≡ at_sign ∷ []) ⊎ ((parts : List (List Symbol)) × (last : List Symbol) × SpellsParts text parts last × (0 < length last))
 
--- with the origin's labels the name is too long
+-- the name is too long with the origin's labels
 abbrev pub IsLongWithOrigin : Option (List (List ℕ)) → List ℕ → Type 0
 IsLongWithOrigin origin text = (text ≢ at_sign ∷ []) × (parts : List (List Symbol)) × (last : List Symbol) × (others : List (List ℕ)) × SpellsParts text parts last × (0 < length last)
     × (origin ≡ Some others) × (max_name < wire_length (part_labels parts last) + wire_length others)
 
--- why a text spells no name: of all reasons the first in the text
+-- why a text does not spell a name: the first of all reasons in the text
 abbrev pub WhyNoName : Option (List (List ℕ)) → List ℕ → ErrorKind → Type 0
 WhyNoName origin text BadEscape = HasBadLabel text BadEscape
 WhyNoName origin text EmptyLabel = HasBadLabel text EmptyLabel × (text ≢ dot ∷ [])
@@ -140,7 +140,7 @@ abbrev pub RefusesName : Room → Option (List (List ℕ)) → List ℕ → List
 RefusesName room origin text old why =
     ((why ≡ ShortBuf) × LacksRoom room (SpellsName origin text) old) ⊎ (WhyNoName origin text why × ((form : List ℕ) → ¬ SpellsName origin text form))
 
--- the labels of a text were appended, so many octets of them, and the last had a dot behind it or not
+-- the labels of a text were appended, in `count` octets, and a dot followed the last label or not
 pub record GainsLabels (text old new : List ℕ) (count : ℕ) (is_absolute : Bool) : Type 0 where
   pub parts : List (List Symbol)
   pub last : List Symbol
@@ -151,6 +151,6 @@ pub record GainsLabels (text old new : List ℕ) (count : ℕ) (is_absolute : Bo
   pub fits : count ≤ max_relative
   pub ends : is_absolute ≡ (length last == 0)
 
--- the octets of labels that a text spells don't surely fit behind old ones
+-- the octets of labels that a text spells don't surely fit after old ones
 abbrev pub LacksRoomForLabels : Room → List ℕ → List ℕ → Type 0
 LacksRoomForLabels room text old = (parts : List (List Symbol)) (last : List Symbol) → SpellsParts text parts last → room.fits < length old + wire_length (part_labels parts last)

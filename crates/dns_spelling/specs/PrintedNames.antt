@@ -1,4 +1,4 @@
--- Names as zone files have them, printed from their octets on the wire.
+-- Names as zone files have them, printed from wire format.
 use Rattle.std.specs.Prelude.{ℕ, zero, suc, Bool, true, false, List, [], ◌∷◌, ◌++◌, length, take, drop}
 use Rattle.dns_symbol.specs.Characters.{dot}
 use Rattle.dns_wire.specs.Printed.{dotted_by}
@@ -14,7 +14,7 @@ abbrev pub label_and_dot : List ℕ → Bool → List ℕ
 label_and_dot label true = zone_label label
 label_and_dot label false = zone_label label ++ dot ∷ []
 
--- so many labels in front of octets, each behind its length octet
+-- the first labels of octets, each after its length octet
 abbrev pub front_labels : ℕ → List ℕ → List (List ℕ)
 front_labels zero octets = []
 front_labels (suc n) [] = []
@@ -24,7 +24,7 @@ front_labels (suc n) (count ∷ octets) = take count octets ∷ front_labels n (
 unfoldable pub labels_in_octets : List ℕ → List (List ℕ)
 labels_in_octets octets = front_labels (length octets) octets
 
--- the text of a name on the wire: its labels joined by dots, with a dot at the end; the root is one dot
+-- the text of a name in wire format: its labels with dots between them, and a dot at the end; the root is one dot
 abbrev pub wire_name_text : List ℕ → List ℕ
 wire_name_text octets = dotted_by zone_label (labels_in_octets octets)
 

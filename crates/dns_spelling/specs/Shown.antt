@@ -1,22 +1,22 @@
--- Octets between double quotes, and tags, as they are printed.
+-- Octets between double quotes, and tags, as they print.
 use Rattle.std.specs.Prelude.{ℕ, List, [], ◌∷◌, ◌++◌, drop}
 use Rattle.dns_symbol.specs.Characters.{double_quote}
 use Rattle.dns_symbol.specs.Printed.{text_of, is_quoted_escape}
 use Rattle.dns_spelling.specs.declared.quoted.QuotedOctets.{QuotedOctets}
 use Rattle.dns_spelling.specs.declared.tags.TagText.{TagText}
 
--- between the quotes the double quote and the backslash stand behind a backslash, other octets from 0x20 to 0x7E as they are, and all others by three digits
+-- between the quotes the double quote and the backslash have a backslash before them, other octets from 0x20 to 0x7E are as they are, and all others are a backslash and three digits
 abbrev pub text_in_quotes : List ℕ → List ℕ
 text_in_quotes = text_of is_quoted_escape
 
 abbrev pub octets_in_quotes : List ℕ → List ℕ
 octets_in_quotes octets = double_quote ∷ (text_in_quotes octets ++ double_quote ∷ [])
 
--- of a character string on the wire, without its length octet
+-- the text of a character string in wire format, without its length octet
 abbrev pub string_in_quotes : List ℕ → List ℕ
 string_in_quotes form = text_in_quotes (drop 1 form)
 
--- of a tag on the wire
+-- the text of a tag in wire format
 abbrev pub tag_text : List ℕ → List ℕ
 tag_text form = drop 1 form
 

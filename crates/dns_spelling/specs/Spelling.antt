@@ -1,4 +1,4 @@
--- Octets as text with escapes (RFC 1035 section 5.1).
+-- Octets in presentation format, with escapes (RFC 1035 section 5.1).
 use Rattle.std.specs.Prelude.{ℕ, ◌≡◌, ◌≢◌, ◌⊎◌, ◌<◌, true, List, [], ◌∷◌, ◌++◌, length, map, All}
 use Rattle.std.specs.List.{flat_map, list_all}
 use Rattle.dns_octets.specs.Room.{Room}
@@ -9,7 +9,7 @@ use Rattle.dns_symbol.specs.declared.symbol.Symbol.{Symbol}
 use Rattle.dns_kinds.specs.declared.error.ErrorKind.{ErrorKind}
 use Rattle.dns_kinds.specs.declared.error.ErrorKind.TheVariants.{BadEscape, ShortBuf}
 
--- a text spells octets one after another, and goes on with the rest
+-- a text spells octets one after another, and then the rest follows
 pub record SpellsFront (text octets rest : List ℕ) : Type 0 where
   pub symbols : List Symbol
   pub each : list_all is_spelling symbols ≡ true
@@ -20,7 +20,7 @@ pub record SpellsFront (text octets rest : List ℕ) : Type 0 where
 abbrev pub SpellsOctetList : List ℕ → List ℕ → Type 0
 SpellsOctetList text octets = SpellsFront text octets []
 
--- no octet is spelled in front of what is left
+-- what is left does not begin with an octet or an escape
 pub record BeginsBadEscape (rest : List ℕ) : Type 0 where
   pub some : 0 < length rest
   pub none : (s : Symbol) (more : List ℕ) → is_spelling s ≡ true → rest ≢ spell s ++ more
@@ -29,7 +29,7 @@ pub record BeginsBadEscape (rest : List ℕ) : Type 0 where
 abbrev pub SpellsToBadEscape : List ℕ → Type 0
 SpellsToBadEscape text = (octets rest : List ℕ) × SpellsFront text octets rest × BeginsBadEscape rest
 
--- octets on the wire
+-- octets in wire format
 abbrev pub AreOctetValues : List ℕ → Type 0
 AreOctetValues octets = All (λ o. o < 256) octets
 
@@ -39,7 +39,7 @@ RefusesOctets room text old BadEscape = SpellsToBadEscape text × ((octets : Lis
 RefusesOctets room text old ShortBuf = LacksRoom room (SpellsOctetList text) old
 RefusesOctets room text old other = ⊥
 
--- octets that a text spells, behind an octet that tells a count
+-- octets that a text spells, after an octet with a count
 pub record SpellsBehind (count : ℕ) (text form : List ℕ) : Type 0 where
   pub octets : List ℕ
   pub spelled : SpellsOctetList text octets

@@ -1,8 +1,8 @@
-//! Octets and names as text with escapes (RFC 1035 section 5.1): from the octets of a token to
-//! octets on the wire, and back.
+//! Octets and names in presentation format (RFC 1035 section 5.1): parses the octets of a token to
+//! wire format, and prints wire format.
 //!
-//! An octet other than the backslash spells itself. A backslash and an octet that is no digit spell
-//! that octet, and a backslash and three decimal digits spell the octet of that number.
+//! An octet other than the backslash spells itself. A backslash and an octet that is not a digit
+//! spell that octet. A backslash and three decimal digits spell the octet of that number.
 #![tactic(auto)]
 
 pub mod laws;

@@ -1,4 +1,4 @@
-//! Names as zone files have them (RFC 1035 section 5.1), printed from their octets on the wire.
+//! Prints names in wire format as zone files have them (RFC 1035 section 5.1).
 ghost use Rattle.std.specs.Prelude.{Some};
 ghost use Rattle.std.specs.Fmt.{WritesOnOk};
 ghost use Rattle.dns_wire.specs.Printed.{joined_by};
@@ -19,7 +19,7 @@ fn write_next<W: fmt::Write>(label: &[u8], is_last: bool, f: &mut fmt::Formatter
     f.write_str(".")
 }
 
-/// Prints labels joined by dots.
+/// Prints labels with dots between them.
 fn write_labels<W: fmt::Write>(octets: &[u8], f: &mut fmt::Formatter<W>) -> fmt::Result
     ensures { WritesOnOk W.write_str_gives f.old result (joined_by zone_label (labels_in_octets octets.now)) f.new }
 {
@@ -32,10 +32,11 @@ fn write_labels<W: fmt::Write>(octets: &[u8], f: &mut fmt::Formatter<W>) -> fmt:
     Ok(())
 }
 
-/// The octets of a name on the wire, which print as the name in a zone file.
+/// The octets of a name in wire format, which print as the name in a zone file.
 ///
-/// The text is that of [`ZoneName`](dns_wire::ZoneName): the labels joined by dots, with a dot at the
-/// end. The root is one dot. Of octets that are no name, those labels are printed that are there.
+/// The text is that of [`ZoneName`](dns_wire::ZoneName): the labels with dots between them, and a
+/// dot at the end. The root is one dot. If the octets are not a name, the labels that they have are
+/// printed.
 #[derive(Clone, Copy)]
 pub struct NameText<'a>(pub &'a [u8]);
 

@@ -1,4 +1,4 @@
-//! Names as text (RFC 1035 section 5.1).
+//! Parses names in presentation format (RFC 1035 section 5.1).
 ghost use Rattle.std.specs.Prelude.{ℕ, ◌≡◌, ◌≢◌, ◌⊎◌, ◌+◌, ◌<◌, ◌≤◌, List, [], ◌∷◌, length, take, drop, slice_index, MatchBool, MatchResult, IfOk, IfErr, IfSome, IsTrue, OnOk, OnErr};
 ghost use Rattle.std.specs.Option.{option_copied};
 ghost use Rattle.dns_octets.specs.Appending.{Extends, Gains};
@@ -17,7 +17,7 @@ use dns_octets::{AsOctets, OctetsBuilder};
 use dns_wire::{MAX_LABEL, MAX_NAME, MAX_RELATIVE, Name};
 use std::simd::prelude::*;
 
-/// A label in front of a text: its own text, how many octets it has, and what follows.
+/// The label that a text begins with: its own text, its length in octets, and the text after it.
 #[derive(Clone, Copy)]
 struct FrontLabel<'a> {
     text: &'a [u8],
@@ -25,10 +25,10 @@ struct FrontLabel<'a> {
     rest: &'a [u8],
 }
 
-/// The octets of one load.
+/// Number of octets of one load.
 const LANES: usize = 16;
 
-/// A bit for each octet of a load that is a dot or a backslash.
+/// Returns a bit for each octet of a load, set if the octet is a dot or a backslash.
 #[inline(always)]
 fn label_ends(load: u8x16) -> u64
     requires { length load ≡ LANES }
@@ -38,7 +38,7 @@ fn label_ends(load: u8x16) -> u64
     (dots | load.simd_eq(u8x16::splat(b'\\'))).to_bitmask()
 }
 
-/// The place of the lowest bit that is set, or 16.
+/// Returns the index of the lowest set bit, or 16.
 #[inline(always)]
 fn first_set(mask: u64) -> usize
     ensures { result ≡ first_set mask }
@@ -50,7 +50,7 @@ fn first_set(mask: u64) -> usize
     }
 }
 
-/// How many octets of one load stand before the first dot and the first backslash.
+/// Returns the number of octets of one load before the first dot or backslash.
 #[inline(always)]
 fn plain_run(octets: &[u8], at: usize) -> usize
     requires { at + LANES ≤ length octets.now }
@@ -60,7 +60,7 @@ fn plain_run(octets: &[u8], at: usize) -> usize
     first_set(label_ends(u8x16::from_slice(&octets[at..])))
 }
 
-/// How many octets stand before the first dot, the first backslash, or the end of a text.
+/// Returns the number of octets before the first dot or backslash, or up to the end of a text.
 fn plain_label_count(text: &[u8]) -> usize
     ensures within { result ≤ length text.now }
     ensures plain { (k : ℕ) → k < result → (slice_index text.now k ≢ dot) × (slice_index text.now k ≢ backslash) }
@@ -79,7 +79,7 @@ fn plain_label_count(text: &[u8]) -> usize
     place
 }
 
-/// Whether a label ends before a text: at its end, or at a dot.
+/// Returns whether a label ends before a text: at its end, or at a dot.
 fn ends_label(text: &[u8]) -> bool
     ensures { IsTrue result → EndsLabel text.now }
 {
@@ -89,7 +89,7 @@ fn ends_label(text: &[u8]) -> bool
     text[0] == b'.'
 }
 
-/// The label in front of a text, if it is spelled without escapes and there is room for it.
+/// Returns the label that a text begins with, if it has no escapes and fits in `room` octets.
 fn plain_label(text: &[u8], room: usize) -> Option<FrontLabel<'_>>
     ensures { IfSome result (λ l. (part : List Symbol) × OpensLabel text.now room part l.rest.now × EndsLabel l.rest.now
         × (l.text.now ≡ flat_map spell part) × (l.count ≡ length part) × (0 < l.count)) }
@@ -109,7 +109,7 @@ fn plain_label(text: &[u8], room: usize) -> Option<FrontLabel<'_>>
     })
 }
 
-/// The label in front of a text, in a name that has room for so many octets.
+/// Returns the label that a text begins with, in a name in which `room` more octets fit.
 fn front_label(text: &[u8], room: usize) -> Result<FrontLabel<'_>, ErrorKind>
     ensures { MatchResult result
         (λ l. (part : List Symbol) × OpensLabel text.now room part l.rest.now × EndsLabel l.rest.now
@@ -122,7 +122,7 @@ fn front_label(text: &[u8], room: usize) -> Result<FrontLabel<'_>, ErrorKind>
     }
 }
 
-/// The same, octet by octet.
+/// Returns the label that a text begins with, decoded octet by octet.
 fn spelled_label(text: &[u8], room: usize) -> Result<FrontLabel<'_>, ErrorKind>
     ensures { MatchResult result
         (λ l. (part : List Symbol) × OpensLabel text.now room part l.rest.now × EndsLabel l.rest.now
@@ -152,20 +152,22 @@ fn spelled_label(text: &[u8], room: usize) -> Result<FrontLabel<'_>, ErrorKind>
     })
 }
 
-/// How many octets the labels of a text have on the wire, and whether a dot stands behind the last.
+/// The number of octets of a text's labels in wire format, and whether a dot follows the last
+/// label.
 #[derive(Clone, Copy)]
 struct Labels {
     count: usize,
     is_absolute: bool,
 }
 
-/// The longest text whose labels are put on the wire together.
+/// Greatest length of a text whose labels are written together.
 const MOST_PUT: usize = 127;
 
-/// The octets that labels are put in, with room behind the longest text.
+/// Number of octets into which labels are written, with space after the longest text.
 const PUT: usize = 144;
 
-/// How many octets stand after one at `start` before the first dot or backslash, but at most so many.
+/// Returns the number of octets after the one at `start` and before the first dot or backslash, at
+/// most `most`.
 fn put_label_count(wire: &[u8; PUT], start: usize, most: usize) -> usize
     requires { start < PUT }
     ensures within { result ≤ most }
@@ -178,11 +180,11 @@ fn put_label_count(wire: &[u8; PUT], start: usize, most: usize) -> usize
     count
 }
 
-/// Puts the wire form of the labels of a text without escapes in front, or returns `None` where the
-/// text is long, has an escape, or has a label that is empty or long.
+/// Writes the labels of a text without escapes in wire format at the start of `wire`. Returns
+/// `None` if the text is long, has an escape, or has a label that is empty or long.
 ///
-/// The wire form is the text after one octet, with the count of each label in place of what stands
-/// before it.
+/// The wire format is the text after one octet, with the length of each label in place of the octet
+/// before the label.
 fn put_labels(text: &[u8], wire: &mut [u8; PUT]) -> Option<Labels>
     ensures { IfSome result (λ l. (l.count ≤ PUT) × GainsLabels text.now [] (take l.count wire.new) l.count l.is_absolute) }
 {
@@ -224,7 +226,7 @@ fn append_labels<B: OctetsBuilder>(text: &[u8], target: &mut B) -> Result<Labels
     ensures err { IfErr result (λ e. ((e ≡ ShortBuf) × LacksRoomForLabels B.room text.now (B.octets target.old)) ⊎ HasBadLabel text.now e) }
     ensures extends { OnErr result (Extends (B.octets target.old) (B.octets target.new)) }
 {
-    // The end of the last label is found at once: a dot stands behind it.
+    // The octets after the text are dots, which end its last label.
     let mut wire = [b'.'; PUT];
     if let Some(labels) = put_labels(text, &mut wire) {
         target.append_slice(&wire[..labels.count])?;
@@ -233,7 +235,7 @@ fn append_labels<B: OctetsBuilder>(text: &[u8], target: &mut B) -> Result<Labels
     append_each(text, target)
 }
 
-/// The same, label by label.
+/// Appends the labels of a text one by one.
 fn append_each<B: OctetsBuilder>(text: &[u8], target: &mut B) -> Result<Labels, ErrorKind>
     ensures ok { IfOk result (λ l. GainsLabels text.now (B.octets target.old) (B.octets target.new) l.count l.is_absolute) }
     ensures err { IfErr result (λ e. ((e ≡ ShortBuf) × LacksRoomForLabels B.room text.now (B.octets target.old)) ⊎ HasBadLabel text.now e) }
@@ -261,21 +263,23 @@ fn append_each<B: OctetsBuilder>(text: &[u8], target: &mut B) -> Result<Labels, 
     }
 }
 
-/// Whether a text is this octet alone.
+/// Returns whether a text is exactly this octet.
 fn is_lone(text: &[u8], octet: u8) -> bool
     ensures { MatchBool result (text.now ≡ octet ∷ []) (text.now ≢ octet ∷ []) }
 {
     text.len() == 1 && text[0] == octet
 }
 
-/// Appends the wire form of the absolute name that a word spells.
+/// Parses a word as a name, and appends the absolute name in wire format.
 ///
-/// The labels of a text without a dot at its end stand before those of the origin; `@` is the
-/// origin, and `.` the root. Of all that is wrong with a text, the first is the error:
-/// [`ErrorKind::BadEscape`], [`ErrorKind::EmptyLabel`], [`ErrorKind::LongLabel`] at the
-/// 64th octet of a label, [`ErrorKind::LongName`] at the octet that has no room before the root,
-/// or at the end where the origin's labels have none, and there [`ErrorKind::NoOrigin`]. Some
-/// labels may have been appended by then.
+/// If the text does not end with a dot, the origin's labels follow its own. `@` is the origin, and
+/// `.` the root.
+///
+/// Fails with the first error in the text: [`ErrorKind::BadEscape`], [`ErrorKind::EmptyLabel`],
+/// [`ErrorKind::LongLabel`] at the 64th octet of a label, [`ErrorKind::LongName`] at the octet
+/// after which the root does not fit, or at the end if the origin's labels do not fit, and
+/// [`ErrorKind::NoOrigin`] at the end. Fails with [`ErrorKind::ShortBuf`] if the target fails. On
+/// an error, some labels may have been appended.
 pub fn append_name<Octets: AsOctets, B: OctetsBuilder>(
     text: &[u8],
     origin: Option<&Name<Octets>>,

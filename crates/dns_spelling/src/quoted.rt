@@ -1,4 +1,4 @@
-//! Octets as quoted text.
+//! Prints octets as a quoted string.
 ghost use Rattle.std.specs.Prelude.{Some};
 ghost use Rattle.dns_spelling.specs.Shown.{quoted_shown, octets_in_quotes};
 
@@ -8,8 +8,8 @@ use std::fmt;
 
 /// Octets that print between double quotes.
 ///
-/// The double quote and the backslash stand behind a backslash, other octets from 0x20 to 0x7E as
-/// they are, and all others by their three digits behind a backslash.
+/// A double quote or a backslash has a backslash before it. Other octets from 0x20 to 0x7E print as
+/// they are. All others print as a backslash and three decimal digits.
 #[derive(Clone, Copy)]
 pub struct QuotedOctets<'a>(pub &'a [u8]);
 

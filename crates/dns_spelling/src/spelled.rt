@@ -1,4 +1,4 @@
-//! Octets that a text spells.
+//! Decodes the escapes of a text.
 ghost use Rattle.std.specs.Prelude.{ℕ, ◌≡◌, ◌≢◌, ◌<◌, ◌≤◌, List, [], ◌∷◌, length, slice_index, MatchResult, IfErr, OnOk, OnErr};
 ghost use Rattle.dns_octets.specs.Appending.{Extends, Gains};
 ghost use Rattle.dns_symbol.specs.Characters.{backslash};
@@ -9,14 +9,15 @@ use dns_kinds::ErrorKind;
 use dns_octets::OctetsBuilder;
 use dns_symbol::escape::{EscapeRule, first_escape};
 
-/// An octet that is spelled in front of a text, and the text after it.
+/// The octet that a text begins with, decoded, and the text after it.
 #[derive(Clone, Copy)]
 pub struct Spelled<'a> {
     pub octet: u8,
     pub rest: &'a [u8],
 }
 
-/// The octet that is spelled in front of a text, which is not empty.
+/// Returns the octet that a text begins with, decoded. The text must not be empty. Fails with
+/// `BadEscape` if it begins with a wrong escape.
 pub fn first_spelled(text: &[u8]) -> Result<Spelled<'_>, ErrorKind>
     requires { 0 < length text.now }
     ensures { MatchResult result (λ s. SpellsFront text.now (s.octet ∷ []) s.rest.now) (λ e. (e ≡ BadEscape) × BeginsBadEscape text.now) }
@@ -37,7 +38,7 @@ pub fn first_spelled(text: &[u8]) -> Result<Spelled<'_>, ErrorKind>
     }
 }
 
-/// How many octets a text spells.
+/// Returns the number of octets that a text spells.
 pub(crate) fn count_spelled(text: &[u8]) -> Result<usize, ErrorKind>
     ensures { MatchResult result (λ count. (octets : List ℕ) × SpellsOctetList text.now octets × (count ≡ length octets))
         (λ e. (e ≡ BadEscape) × (SpellsToBadEscape text.now × ((octets : List ℕ) → ¬ SpellsOctetList text.now octets))) }
@@ -52,7 +53,7 @@ pub(crate) fn count_spelled(text: &[u8]) -> Result<usize, ErrorKind>
     Ok(count)
 }
 
-/// How many octets stand before the first backslash.
+/// Returns the number of octets before the first backslash.
 fn plain_count(text: &[u8]) -> usize
     ensures within { result ≤ length text.now }
     ensures plain { (k : ℕ) → k < result → slice_index text.now k ≢ backslash }
@@ -67,7 +68,8 @@ fn plain_count(text: &[u8]) -> usize
 
 /// Appends the octets that a text spells, any number of them.
 ///
-/// Where the text has a bad escape, or the octets don't fit, those before may have been appended.
+/// Fails with `BadEscape` if the text has a wrong escape, and with `ShortBuf` if the octets don't
+/// fit. The octets before may then have been appended.
 pub fn append_spelled<B: OctetsBuilder>(text: &[u8], target: &mut B) -> Result<(), ErrorKind>
     ensures ok { OnOk result (Gains (SpellsOctetList text.now) (B.octets target.old) (B.octets target.new)) }
     ensures err { IfErr result (RefusesOctets B.room text.now (B.octets target.old)) }
@@ -88,7 +90,7 @@ pub fn append_spelled<B: OctetsBuilder>(text: &[u8], target: &mut B) -> Result<(
     Ok(())
 }
 
-/// Appends an octet that tells a count, and the octets that a text spells.
+/// Appends an octet with a count, and the octets that a text spells.
 pub(crate) fn append_behind<B: OctetsBuilder>(
     count: usize,
     text: &[u8],

@@ -1,4 +1,4 @@
-//! Character strings (RFC 1035 section 3.3).
+//! Parses character strings (RFC 1035 section 3.3).
 ghost use Rattle.std.specs.Prelude.{IfErr, OnOk, OnErr};
 ghost use Rattle.dns_octets.specs.Appending.{Extends, Gains};
 ghost use Rattle.dns_spelling.specs.Forms.{IsWireString, SpellsString, RefusesString, FindsWidth};
@@ -7,12 +7,13 @@ use crate::spelled::{append_behind, count_spelled};
 use dns_kinds::ErrorKind;
 use dns_octets::OctetsBuilder;
 
-/// The most octets of a character string, without its length octet.
+/// Greatest length of a character string in octets, without its length octet.
 const MOST: usize = 255;
 
 /// Appends the character string whose octets a text spells: its length octet, and its octets.
 ///
-/// More than 255 octets are [`ErrorKind::LongString`]. Where the octets don't fit, some may have
+/// Fails with `BadEscape` if the text has a wrong escape, and with [`ErrorKind::LongString`] if it
+/// spells more than 255 octets. Fails with `ShortBuf` if the octets don't fit; some may then have
 /// been appended.
 pub fn append_string<B: OctetsBuilder>(text: &[u8], target: &mut B) -> Result<(), ErrorKind>
     ensures ok { OnOk result (Gains (SpellsString text.now) (B.octets target.old) (B.octets target.new)) }
@@ -27,8 +28,8 @@ pub fn append_string<B: OctetsBuilder>(text: &[u8], target: &mut B) -> Result<()
     Ok(())
 }
 
-/// How many octets the character string in front of octets has, with its length octet, or none
-/// where it is cut off.
+/// Returns the length in octets of the character string at the start of octets, with its length
+/// octet. Returns `None` if it is truncated.
 pub fn string_width(octets: &[u8]) -> Option<usize>
     ensures { FindsWidth IsWireString octets.now result }
 {

@@ -1,4 +1,4 @@
-//! Tags of CAA records (RFC 8659 section 4.1).
+//! Parses tags of CAA records (RFC 8659 section 4.1).
 ghost use Rattle.std.specs.Prelude.{◌≡◌, Some, MatchBool, IfErr, OnOk, OnErr};
 ghost use Rattle.std.specs.List.{list_all};
 ghost use Rattle.std.specs.Char.{is_ascii_alphanumeric};
@@ -10,17 +10,17 @@ use dns_kinds::ErrorKind;
 use dns_octets::OctetsBuilder;
 use std::{fmt, str};
 
-/// The most octets of a tag, without its length octet.
+/// Greatest length of a tag in octets, without its length octet.
 const MOST: usize = 255;
 
-/// Whether octets are letters or digits.
+/// Returns whether octets are letters or digits.
 fn are_alphanumeric(octets: &[u8]) -> bool
     ensures { result ≡ list_all is_ascii_alphanumeric octets.now }
 {
     octets.iter().all(|octet| octet.is_ascii_alphanumeric())
 }
 
-/// Whether octets are a tag.
+/// Returns whether octets are a tag.
 fn is_tag(octets: &[u8]) -> bool
     ensures { MatchBool result (IsTag octets.now) (¬ IsTag octets.now) }
 {
@@ -29,7 +29,8 @@ fn is_tag(octets: &[u8]) -> bool
 
 /// Appends the tag that a text is: its length octet, and its octets as they are.
 ///
-/// A text that is not 1 to 255 letters or digits is [`ErrorKind::BadTag`].
+/// Fails with [`ErrorKind::BadTag`] if the text is not 1 to 255 letters or digits, and with
+/// `ShortBuf` if the target fails.
 pub fn append_tag<B: OctetsBuilder>(text: &[u8], target: &mut B) -> Result<(), ErrorKind>
     ensures ok { OnOk result (Gains (SpellsTag text.now) (B.octets target.old) (B.octets target.new)) }
     ensures err { IfErr result (RefusesTag B.room text.now (B.octets target.old)) }
@@ -43,8 +44,8 @@ pub fn append_tag<B: OctetsBuilder>(text: &[u8], target: &mut B) -> Result<(), E
     Ok(())
 }
 
-/// How many octets the tag in front of octets has, with its length octet, or none where none is in
-/// front.
+/// Returns the length in octets of the tag at the start of octets, with its length octet. Returns
+/// `None` if the octets don't begin with a tag.
 pub fn tag_width(octets: &[u8]) -> Option<usize>
     ensures { FindsWidth IsWireTag octets.now result }
 {
@@ -58,7 +59,7 @@ pub fn tag_width(octets: &[u8]) -> Option<usize>
     Some(width)
 }
 
-/// The text of a tag: its octets as they are.
+/// The octets of a tag, which print as they are.
 #[derive(Clone, Copy)]
 pub struct TagText<'a>(pub &'a [u8]);
 

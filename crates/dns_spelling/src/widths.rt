@@ -1,10 +1,11 @@
-//! Names in front of octets.
+//! Lengths of names in wire format.
 ghost use Rattle.dns_spelling.specs.Forms.{FindsWidth};
 ghost use Rattle.dns_spelling.specs.NameSpelling.{IsWireName};
 
 use dns_wire::{MAX_LABEL, MAX_NAME};
 
-/// How many octets the name in front of octets has, with its root, or none where none is in front.
+/// Returns the length in octets of the name at the start of octets, with its root. Returns `None`
+/// if the octets don't begin with a name.
 pub fn name_width(octets: &[u8]) -> Option<usize>
     ensures { FindsWidth IsWireName octets.now result }
 {
