@@ -1,4 +1,4 @@
--- Heads are found in one way, and an entry says one thing.
+-- The TTL, class and type of an entry are found in one way, and an entry has one meaning.
 use Rattle.std.proofs.Common.{◌≡◌, ℕ, Bool, true, false, List, [], ◌∷◌, inl, inr, Option, Some, None, Result, Ok, Err, refl, sym, ap, subst, ◌∙◌}
 use Rattle.std.specs.Prelude.{◌≢◌, is_none}
 use Rattle.dns_fields.specs.RecordErrors.{IsErrorAt, error_at}
@@ -22,7 +22,7 @@ use Rattle.dns_heads.proofs.WordLemmas.{ttl_once, class_once, type_once, apart}
 pub heads_found_once : HeadsFoundOnce
 heads_found_once = heads_once SaysTtl SaysClass ttl_once class_once apart.ttl_and_class
 
--- errors at one place and of one kind are one
+-- two errors with the same offset and the same kind are equal
 same_error : (at from : ℕ) (e f : RecordError) → IsErrorAt at e → IsErrorAt from f → at ≡ from → e.kind ≡ f.kind → e ≡ f
 same_error at from e f h k place kind = h ∙ (λ i. error_at (place i) (kind i)) ∙ sym k
 
@@ -80,7 +80,7 @@ ttl_taken_once end tokens left rest n m h k =
     let parts = same_token h.0 k.0 left rest (sym h.1 ∙ k.1) in
     (ttl_once k.0 n m (subst (λ t. SaysTtl t n) parts.0 h.2) k.2, parts.1)
 
--- one default is taken, and none is refused
+-- a default TTL is parsed, and not rejected
 not_refused : (end : ℕ) (tokens rest : List TokenSeen) (n : ℕ) (r : RecordError) → TakesTtl end tokens (Ok n) [] → TakesDefaultTtl end tokens (Err r) rest → ⊥
 not_refused end tokens rest n r h (inl k) = no_ttl end tokens [] rest n r h k
 not_refused end tokens rest n r h (inr k) = no_end rest rest r (sym (ttl_taken_once end tokens [] rest n k.0 h k.1).1) k.2
@@ -127,7 +127,7 @@ entries_say_once blank end [] m n h k = h ∙ sym k
 entries_say_once true end (t ∷ ts) m n h k = record_says_once None end (t ∷ ts) m n h k
 entries_say_once false end (t ∷ ts) m n h k = first_says_once (directive_of t) end t ts m n h k
 
--- ---- what is taken is what is said
+-- ---- what is parsed is what the tokens mean
 
 blank_says : (end : ℕ) (tokens left : List TokenSeen) (r : Result Words WordsRefusal) → tokens ≢ [] → TakesWords end tokens r left → EntrySays true end tokens (says_record None r left)
 blank_says end [] left r some h = absurd (some refl)

@@ -1,4 +1,4 @@
--- Rows of entries, and what they say.
+-- Worked examples: entries, and what they mean.
 use Rattle.std.proofs.Common.{ℕ, false, List, [], ◌∷◌, inl, inr, Some, None, Ok, Err, refl, arith}
 use Rattle.std.specs.Prelude.{codes}
 use Rattle.std.proofs.lemmas.List.Elements.{All-nil, All-cons}
@@ -13,7 +13,7 @@ use Rattle.dns_heads.specs.HeadWords.{SaysTtl, SaysClass, SaysType}
 use Rattle.dns_heads.specs.Heads.{TakesHead}
 use Rattle.dns_heads.proofs.WordLemmas.{apart}
 
--- a word at a place
+-- a word at an offset
 abbrev word_at : List ℕ → ℕ → TokenSeen
 word_at text at = record { text = text; is_quoted = false; is_glued = false; at = at }
 
@@ -79,7 +79,7 @@ units_row =
     } in
     (Ok (record { ttl = Some 5400; class = None; rtype = Rtype.a }), [], (a, head, address 8), refl)
 
--- 60 IN A: its owner is 60
+-- 60 IN A: the owner is 60
 owner_row : let owner = word_at (codes "60") 0 in EntrySays false 7 (owner ∷ word_at (codes "IN") 3 ∷ word_at (codes "A") 6 ∷ []) (says_record (Some owner) (Ok (record { ttl = None; class = Some 1; rtype = Rtype.a })) [])
 owner_row =
     let c = word_at (codes "IN") 3 in
@@ -106,7 +106,7 @@ class_first_row =
     } in
     (Ok (record { ttl = Some 5; class = Some 1; rtype = Rtype.a }), [], (a, head, address 7), refl)
 
--- w 5 IN 6 A: the second time to live is an unknown type
+-- w 5 IN 6 A: the second TTL is an unknown type
 second_ttl_row : let w = word_at (codes "w") 0 in let six = word_at (codes "6") 7 in let a = word_at (codes "A") 9 in
     EntrySays false 10 (w ∷ word_at (codes "5") 2 ∷ word_at (codes "IN") 4 ∷ six ∷ a ∷ []) (says_record (Some w) (Err (record { error = error_at 7 UnknownType; ttl = Some 5; class = Some 1 })) (six ∷ a ∷ []))
 second_ttl_row =

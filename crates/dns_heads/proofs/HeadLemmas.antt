@@ -1,4 +1,4 @@
--- A time to live and a class are taken one after the other.
+-- A TTL and a class are parsed one after the other.
 use Rattle.std.proofs.Common.{◌≡◌, ℕ, true, List, [], ◌∷◌, inl, inr, Option, Some, None, refl, sym, ap, subst, ◌∙◌}
 use Rattle.std.specs.Prelude.{is_some}
 use Rattle.dns_heads.specs.Heads.{TakesHead, TakesSaid, NoneNext}

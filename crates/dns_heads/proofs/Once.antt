@@ -1,9 +1,9 @@
--- A time to live and a class in front of other tokens are found in one way, where no token says both.
+-- A TTL and a class before other tokens are found in one way, if no token is both.
 use Rattle.std.proofs.Common.{◌≡◌, ℕ, true, List, [], ◌∷◌, ◌++◌, ◌⊎◌, inl, inr, Option, Some, None, refl, sym, ap, subst, ◌∙◌}
 use Rattle.std.specs.Prelude.{is_some}
 use Rattle.dns_heads.specs.Heads.{TakesHead, TakesSaid, NoneNext, SaysOne, EndsHead}
 
--- one token is taken in one way
+-- one token is parsed in one way
 one_once : {T : Type 0} (Says : T → ℕ → Type 0) → ((t : T) (n m : ℕ) → Says t n → Says t m → n ≡ m) → (tokens r s : List T) (v w : Option ℕ) → TakesSaid Says tokens v r → TakesSaid Says tokens w s → (v ≡ w) × (r ≡ s)
 one_once Says once tokens r s (Some n) (Some m) h k =
     let same : h.0 ∷ r ≡ k.0 ∷ s = sym h.1 ∙ k.1 in
@@ -18,14 +18,14 @@ module _ {T : Type 0} (SaysTtl SaysClass : T → ℕ → Type 0)
     (ttl_once : (t : T) (n m : ℕ) → SaysTtl t n → SaysTtl t m → n ≡ m)
     (class_once : (t : T) (n m : ℕ) → SaysClass t n → SaysClass t m → n ≡ m)
     (apart : (t : T) (n m : ℕ) → SaysTtl t n → SaysClass t m → ⊥) where
-  -- a time to live first
+  -- the TTL comes first
   record TtlFirst (tokens : List T) (ttl class : Option ℕ) (rest : List T) : Type 0 where
     middle : List T
     some : is_some ttl ≡ true
     one : TakesSaid SaysTtl tokens ttl middle
     two : TakesSaid SaysClass middle class rest
 
-  -- a class first
+  -- the class comes first
   record ClassFirst (tokens : List T) (ttl class : Option ℕ) (rest : List T) : Type 0 where
     middle : List T
     none : NoneNext SaysTtl tokens

@@ -1,4 +1,4 @@
--- What is refused, and where.
+-- What is rejected, and at which offset.
 use Rattle.std.proofs.Common.{◌≡◌, ℕ, Bool, true, false, List, [], ◌∷◌, inr, Option, Some, None, Result, Ok, Err, refl, sym, ap, subst, ◌∙◌}
 use Rattle.std.proofs.lemmas.Option.{none-some}
 use Rattle.std.specs.Prelude.{slice_get, is_none, is_some, not}
@@ -27,7 +27,7 @@ module _ (end : ℕ) (t : TokenSeen) (at : ℕ) (why : ErrorKind) where
   directive_refused false [] plain h is none = absurd (none-some t (sym h))
   directive_refused false (u ∷ us) plain h is none = let same : t ≡ u = cc h in (refl, ap directive_of (sym same) ∙ none, ap (λ n. error_at n why) is)
 
--- a time to live is taken, and the token after it is refused
+-- a TTL is parsed, and the token after it is rejected
 pub default_refused : (end : ℕ) (tokens middle left : List TokenSeen) (ttl : ℕ) (e : RecordError) (r : Result ℕ RecordError) → IsErrAnd r (λ d. d ≡ e) → TakesTtl end tokens (Ok ttl) middle → TakesEnd middle (Err e) left → TakesDefaultTtl end tokens r left
 default_refused end tokens middle left ttl e (Ok n) h taken more = absurd h
 default_refused end tokens [] left ttl e (Err d) h taken more = absurd more
@@ -39,7 +39,7 @@ none_said true (Some n) h = cc
 none_said false None h = cc
 none_said false (Some n) h = refl
 
--- a head is taken, and there is no type after it
+-- a TTL and a class are parsed, and no type comes after them
 pub words_refused : (begun end : ℕ) (tokens middle left : List TokenSeen) (ttl class : Option ℕ) (may_be_ttl : Bool) (e : RecordError) → end ≡ begun → is_some ttl ≡ not may_be_ttl → TakesHead SaysTtl SaysClass tokens ttl class middle
     → TakesType may_be_ttl end middle (Err e) left
     → TakesHead SaysTtl SaysClass tokens ttl class left × IsErrorAt (next_place left begun) e × WhyNoType (is_none ttl) left e.kind

@@ -1,4 +1,4 @@
--- No word is two of a time to live, a class and a type, and each says one thing.
+-- No word is two of a TTL, a class and a type, and each has one value.
 use Rattle.std.proofs.Common.{◌≡◌, ℕ, ◌<◌, ◌^◌, Bool, true, false, List, [], ◌∷◌, length, take, Option, Some, None, refl, sym, ap, subst, arith, ◌∙◌, ⊎_elim}
 use Rattle.std.specs.Prelude.{◌||◌, not, cond, find, codes, MatchOption}
 use Rattle.std.specs.Char.{digit_value, is_ascii_digit, is_ascii_lowercase, to_ascii_lowercase}
@@ -20,7 +20,7 @@ use Rattle.dns_octets.specs.Lowered.{lowered}
 use Rattle.dns_split.specs.EntryTokens.{TokenSeen}
 use Rattle.dns_heads.specs.HeadWords.{SaysTtl, SaysClass, SaysType, HeadWordsApart, begins_with_digit, ttl_of_seconds}
 
--- ---- each says one thing
+-- ---- each has one value
 
 pub ttl_once : (t : TokenSeen) (n m : ℕ) → SaysTtl t n → SaysTtl t m → n ≡ m
 ttl_once t n m h k = h.1.2 ∙ ap ttl_of_seconds (seconds_once t.text h.1.0 k.1.0 h.1.1.0 k.1.1.0) ∙ sym k.1.2
@@ -31,7 +31,7 @@ class_once t n m h k = classes_are_kind.once t.text n m h.1 k.1
 pub type_once : (t : TokenSeen) (n m : ℕ) → SaysType t n → SaysType t m → n ≡ m
 type_once t n m h k = types_are_kind.once t.text n m h.1 k.1
 
--- ---- below 2^31 a time to live is as it is spelled
+-- ---- below 2^31 a TTL is as it is spelled
 
 short_ttl : (n : ℕ) → n < 2 ^ 31 → n ≡ ttl_of_seconds n
 short_ttl n h = Prim.grind (arith, nat_tests)
@@ -39,7 +39,7 @@ short_ttl n h = Prim.grind (arith, nat_tests)
 pub says_short_ttl : (t : TokenSeen) (n : ℕ) → t.is_quoted ≡ false → SpellsTtl t.text n → SaysTtl t n
 says_short_ttl t n q h = (q, (n, (h.0, omega (arith, h.1)), short_ttl n h.1))
 
--- ---- a time to live begins with a digit
+-- ---- a TTL begins with a digit
 
 is_digit_value : (c : ℕ) → digit_value c < 10 → is_ascii_digit c ≡ true
 is_digit_value c h = Prim.grind (arith, nat_tests)
@@ -48,7 +48,7 @@ pub ttl_digit : (text : List ℕ) (n : ℕ) → SpellsInterval text n → begins
 ttl_digit [] n h = absurd (omega (arith, h.0.0))
 ttl_digit (c ∷ cs) n h = ⊎_elim (λ k. is_digit_value c k.0.1.0) (λ k. is_digit_value c (after_periods (c ∷ cs) n k).1) h.0.1
 
--- ---- what the small letters of a name are like
+-- ---- which lowercase names pass a test
 
 module _ (like : List ℕ → Bool) where
   abbrev all_like : List Row → Bool
@@ -106,7 +106,7 @@ digit_or_letter : (text : List ℕ) → begins_with_digit text ≡ true → begi
 digit_or_letter [] h k = cc
 digit_or_letter (c ∷ cs) h k = no_letter c h k
 
--- ---- no class is a type
+-- ---- a class is never a type
 
 abbrev is_like_class : List ℕ → Bool
 is_like_class small = bytes_eq small (codes "in") || (bytes_eq small (codes "ch") || (bytes_eq small (codes "hs") || bytes_eq (take 5 small) (codes "class")))

@@ -9,13 +9,13 @@ use Rattle.dns_octets.specs.Room.{Room}
 use Rattle.dns_split.specs.EntryTokens.{TokenSeen}
 use Rattle.dns_heads.specs.HeadWords.{SaysTtl}
 
--- no token is left, or the next is refused
+-- no token is left, or the next one is rejected
 abbrev pub TakesEnd : List TokenSeen → Result (Unit {0}) RecordError → List TokenSeen → Type 0
 TakesEnd tokens (Ok _) left = (tokens ≡ []) × (left ≡ [])
 TakesEnd [] (Err e) left = ⊥
 TakesEnd (t ∷ ts) (Err e) left = (left ≡ t ∷ ts) × (e ≡ error_at t.at TrailingArgument)
 
--- why a token is no time to live: it is a quoted text, or it spells none
+-- why a token is rejected as a TTL: it is quoted, or it doesn't spell a TTL
 abbrev pub ttl_refusal : TokenSeen → ErrorKind
 ttl_refusal t = if t.is_quoted then Quoted else ExpectedTtl
 
@@ -23,12 +23,12 @@ abbrev pub WhyNoTtl : List TokenSeen → ErrorKind → Type 0
 WhyNoTtl [] e = e ≡ EndOfEntry
 WhyNoTtl (t ∷ ts) e = (e ≡ ttl_refusal t) × ((ttl : ℕ) → SaysTtl t ttl → ⊥)
 
--- the next token is taken as a time to live; or it is refused at its place, and none is taken
+-- the next token is parsed as a TTL; or it is rejected at its offset, and no token is taken
 abbrev pub TakesTtl : ℕ → List TokenSeen → Result ℕ RecordError → List TokenSeen → Type 0
 TakesTtl end tokens (Ok ttl) left = (t : TokenSeen) × (tokens ≡ t ∷ left) × SaysTtl t ttl
 TakesTtl end tokens (Err e) left = (left ≡ tokens) × IsErrorAt (next_place tokens end) e × WhyNoTtl tokens e.kind
 
--- one token is, and no more are there; or the first is refused, or the second
+-- one token is parsed as a TTL, and it is the last; or the first is rejected, or the second
 abbrev pub TakesDefaultTtl : ℕ → List TokenSeen → Result ℕ RecordError → List TokenSeen → Type 0
 TakesDefaultTtl end tokens (Ok ttl) left = TakesTtl end tokens (Ok ttl) [] × (left ≡ [])
 TakesDefaultTtl end tokens (Err e) left = TakesTtl end tokens (Err e) left ⊎ ((ttl : ℕ) × TakesTtl end tokens (Ok ttl) left × TakesEnd left (Err e) left)
@@ -38,7 +38,7 @@ abbrev pub WhyNoFile : Room → List TokenSeen → List ℕ → ErrorKind → Ty
 WhyNoFile room [] old e = e ≡ EndOfEntry
 WhyNoFile room (t ∷ ts) old e = (e ≡ ShortBuf) × (room.fits < length old + length t.text)
 
--- the next token is taken, and the target gained what it holds, as it is written, which is counted; or nothing changed
+-- the next token is taken, and its text is appended to the target as it is written, and counted; or nothing changed
 abbrev pub TakesFile : Room → ℕ → List TokenSeen → List ℕ → Result ℕ RecordError → List TokenSeen → List ℕ → Type 0
 TakesFile room end tokens old (Ok n) left new = (t : TokenSeen) × (tokens ≡ t ∷ left) × (new ≡ old ++ t.text) × (n ≡ length t.text)
 TakesFile room end tokens old (Err e) left new = (left ≡ tokens) × (new ≡ old) × IsErrorAt (next_place tokens end) e × WhyNoFile room tokens old e.kind

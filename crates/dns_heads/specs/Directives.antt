@@ -12,7 +12,7 @@ use Rattle.dns_split.specs.EntryTokens.{TokenSeen}
 use Rattle.dns_heads.specs.declared.directive.Directive.{Directive}
 use Rattle.dns_heads.specs.declared.directive.Directive.TheVariants.{Origin, Ttl, Include}
 
--- the directive of a word, by its small letters; or why it is refused
+-- the directive that a word names, by its lowercase letters; or why it is rejected
 abbrev pub directive_named : List ℕ → Result Directive ErrorKind
 directive_named small =
     if bytes_eq small (codes "$origin") then Ok Origin
@@ -23,7 +23,7 @@ directive_named small =
 abbrev pub directive_in : List ℕ → Result Directive ErrorKind
 directive_in word = directive_named (lowered word)
 
--- a word that begins with a dollar sign is a directive's, or is refused as one
+-- a word that begins with a dollar sign names a directive, or is rejected as one
 abbrev pub directive_of_word : List ℕ → Option (Result Directive ErrorKind)
 directive_of_word [] = None
 directive_of_word (c ∷ cs) = if c == dollar then Some (directive_in (c ∷ cs)) else None
@@ -37,7 +37,7 @@ first_directive true tokens = None
 first_directive false [] = None
 first_directive false (t ∷ ts) = directive_of t
 
--- it is taken; or it is refused at its place, and left
+-- the directive is taken; or it is rejected at its offset, and not taken
 abbrev pub TakesDirective : Bool → ℕ → List TokenSeen → Result (Option Directive) RecordError → List TokenSeen → Type 0
 TakesDirective blank end tokens (Ok None) left = (left ≡ tokens) × (first_directive blank tokens ≡ None)
 TakesDirective blank end tokens (Ok (Some d)) left = (left ≡ drop 1 tokens) × (first_directive blank tokens ≡ Some (Ok d))

@@ -1,4 +1,4 @@
--- What the tokens of an entry say.
+-- What the tokens of an entry mean.
 use Rattle.std.specs.Prelude.{ℕ, ◌≡◌, Bool, true, false, List, [], ◌∷◌, Option, Some, None, Result, Ok, Err}
 use Rattle.dns_fields.specs.RecordErrors.{error_at}
 use Rattle.dns_fields.specs.declared.record_error.RecordError.{RecordError}
@@ -14,23 +14,23 @@ use Rattle.dns_heads.specs.declared.head.Words.{Words}
 use Rattle.dns_heads.specs.declared.head.WordsRefusal.{WordsRefusal}
 
 pub data EntryMeaning : Type 0 where
-  -- nothing: there are no tokens
+  -- nothing: the entry has no tokens
   says_nothing : EntryMeaning
-  -- the token of a name is the origin from here
+  -- the token is the origin from here on
   says_origin : TokenSeen → EntryMeaning
-  -- so many seconds are the time to live of records that say none, or why they are not
+  -- the default TTL in seconds (`$TTL`), or why it is rejected
   says_default_ttl : Result ℕ RecordError → EntryMeaning
-  -- a file, and the token of the origin that stands in it, if one is said
+  -- a file to include, and the token of its origin, if it has one
   says_include : List ℕ → Option TokenSeen → EntryMeaning
-  -- a record: the token of its owner, unless the entry begins with a blank; its words, or why they are refused; and the tokens that are left
+  -- a record: the token of its owner, unless the entry begins with a blank; its TTL, class and type, or why they are rejected; and the tokens of its data
   says_record : Option TokenSeen → Result Words WordsRefusal → List TokenSeen → EntryMeaning
-  -- a directive is refused
+  -- a directive is rejected
   says_refused : RecordError → EntryMeaning
 
 abbrev says_refused_at : ℕ → ErrorKind → EntryMeaning
 says_refused_at at why = says_refused (error_at at why)
 
--- the tokens behind a directive's word
+-- the tokens after a directive's word
 abbrev pub DirectiveSays : Directive → ℕ → List TokenSeen → EntryMeaning → Type 0
 DirectiveSays Origin end [] m = m ≡ says_refused_at end EndOfEntry
 DirectiveSays Origin end (name ∷ []) m = m ≡ says_origin name
@@ -41,7 +41,7 @@ DirectiveSays Include end (file ∷ []) m = m ≡ says_include file.text None
 DirectiveSays Include end (file ∷ origin ∷ []) m = m ≡ says_include file.text (Some origin)
 DirectiveSays Include end (file ∷ origin ∷ t ∷ ts) m = m ≡ says_refused_at t.at TrailingArgument
 
--- the tokens behind a record's owner
+-- the tokens after a record's owner
 abbrev pub RecordSays : Option TokenSeen → ℕ → List TokenSeen → EntryMeaning → Type 0
 RecordSays owner end tokens m = (r : Result Words WordsRefusal) × (left : List TokenSeen) × TakesWords end tokens r left × (m ≡ says_record owner r left)
 
@@ -51,7 +51,7 @@ FirstSays None end t ts m = RecordSays (Some t) end ts m
 FirstSays (Some (Ok d)) end t ts m = DirectiveSays d end ts m
 FirstSays (Some (Err why)) end t ts m = m ≡ says_refused_at t.at why
 
--- the tokens of an entry, which begins with a blank or does not, and its end
+-- the tokens of an entry, whether it begins with a blank, and the offset of its end
 abbrev pub EntrySays : Bool → ℕ → List TokenSeen → EntryMeaning → Type 0
 EntrySays blank end [] m = m ≡ says_nothing
 EntrySays true end (t ∷ ts) m = RecordSays None end (t ∷ ts) m

@@ -1,4 +1,4 @@
--- What stands in front of a record's data: a time to live and a class, each at most once and in either order, and the type.
+-- The header of a record entry after its owner: a TTL and a class, each at most once and in either order, and the type.
 use Rattle.std.specs.Prelude.{⊤, ℕ, ◌≡◌, ◌⊎◌, Bool, is_none, List, [], ◌∷◌, ◌++◌, Option, Some, None, Result, Ok, Err}
 use Rattle.dns_fields.specs.RecordErrors.{IsErrorAt}
 use Rattle.dns_fields.specs.Source.{next_place}
@@ -10,52 +10,52 @@ use Rattle.dns_heads.specs.HeadWords.{SaysTtl, SaysClass, SaysType, type_refusal
 use Rattle.dns_heads.specs.declared.head.Words.{Words}
 use Rattle.dns_heads.specs.declared.head.WordsRefusal.{WordsRefusal}
 
--- one token that says this, or none
+-- one token with this value, or no token
 abbrev pub SaysOne : {T : Type 0} → (T → ℕ → Type 0) → List T → Option ℕ → Type 0
 SaysOne Says [] v = v ≡ None
 SaysOne Says (t ∷ []) (Some n) = Says t n
 SaysOne Says _ _ = ⊥
 
--- the next token says nothing of the kind
+-- the next token is not of this kind
 abbrev pub NoneNext : {T : Type 0} → (T → ℕ → Type 0) → List T → Type 0
 NoneNext Says [] = ⊤
 NoneNext Says (t ∷ ts) = (n : ℕ) → Says t n → ⊥
 
--- the first token is taken if it says something of the kind
+-- the first token is taken if it is of this kind
 abbrev pub TakesSaid : {T : Type 0} → (T → ℕ → Type 0) → List T → Option ℕ → List T → Type 0
 TakesSaid {T} Says tokens (Some n) left = (t : T) × (tokens ≡ t ∷ left) × Says t n
 TakesSaid Says tokens None left = (left ≡ tokens) × NoneNext Says tokens
 
 module _ {T : Type 0} (SaysTtl SaysClass : T → ℕ → Type 0) where
-  -- a time to live and a class, each at most once, in either order
+  -- a TTL and a class, each at most once, in either order
   pub record IsHead (tokens : List T) (ttl class : Option ℕ) : Type 0 where
     pub front : List T
     pub back : List T
     pub whole : tokens ≡ front ++ back
     pub order : (SaysOne SaysTtl front ttl × SaysOne SaysClass back class) ⊎ (SaysOne SaysClass front class × SaysOne SaysTtl back ttl)
 
-  -- what was not said is not said by the next token
+  -- the next token is not one of those that are missing
   abbrev pub EndsHead : Option ℕ → Option ℕ → List T → Type 0
   EndsHead ttl class left = (ttl ≡ None → NoneNext SaysTtl left) × (class ≡ None → NoneNext SaysClass left)
 
-  -- these are in front of other tokens, and no more of them
+  -- a TTL and a class come before other tokens, which begin with no further one
   pub record TakesHead (tokens : List T) (ttl class : Option ℕ) (left : List T) : Type 0 where
     pub head : List T
     pub whole : tokens ≡ head ++ left
     pub is : IsHead head ttl class
     pub ends : EndsHead ttl class left
 
--- why there is no type: no token is left; or the next is none
+-- why no type is parsed: no token is left; or the next one is not a type
 abbrev pub WhyNoType : Bool → List TokenSeen → ErrorKind → Type 0
 WhyNoType may_be_ttl [] e = e ≡ EndOfEntry
 WhyNoType may_be_ttl (t ∷ ts) e = (e ≡ type_refusal may_be_ttl t) × ((rtype : ℕ) → SaysType t rtype → ⊥)
 
--- the next token is taken as a type; or it is refused at its place, and none is taken
+-- the next token is parsed as a type; or it is rejected at its offset, and not taken
 abbrev pub TakesType : Bool → ℕ → List TokenSeen → Result ℕ RecordError → List TokenSeen → Type 0
 TakesType may_be_ttl end tokens (Ok rtype) left = (t : TokenSeen) × (tokens ≡ t ∷ left) × SaysType t rtype
 TakesType may_be_ttl end tokens (Err e) left = (left ≡ tokens) × IsErrorAt (next_place tokens end) e × WhyNoType may_be_ttl tokens e.kind
 
--- behind a time to live and a class comes the type; or there is none, and this is why
+-- a type comes after a TTL and a class; or no type follows, for this reason
 abbrev pub TakesWords : ℕ → List TokenSeen → Result Words WordsRefusal → List TokenSeen → Type 0
 TakesWords end tokens (Ok w) left = (t : TokenSeen) × TakesHead SaysTtl SaysClass tokens w.ttl w.class (t ∷ left) × SaysType t w.rtype
 TakesWords end tokens (Err r) left = TakesHead SaysTtl SaysClass tokens r.ttl r.class left × IsErrorAt (next_place left end) r.error × WhyNoType (is_none r.ttl) left r.error.kind

@@ -1,4 +1,4 @@
-//! The arguments of directives.
+//! Parses the arguments of directives.
 ghost use Rattle.std.specs.Prelude.{◌≡◌};
 ghost use Rattle.dns_split.specs.EntryTokens.{token_seen};
 ghost use Rattle.dns_heads.specs.Arguments.{TakesDefaultTtl, TakesEnd, TakesFile, TakesTtl, ttl_refusal};
@@ -9,7 +9,7 @@ use dns_kinds::ErrorKind;
 use dns_octets::OctetsBuilder;
 use dns_split::entry_tokens::EntryToken;
 
-/// Sees that no token is left behind a directive's arguments.
+/// Fails if a token is left after a directive's arguments.
 pub fn take_end<S: TokenSource>(source: &mut S) -> Result<(), RecordError>
     ensures takes { TakesEnd (S.left source.old) result (S.left source.new) }
     ensures end { S.end source.new ≡ S.end source.old }
@@ -21,7 +21,7 @@ pub fn take_end<S: TokenSource>(source: &mut S) -> Result<(), RecordError>
     Ok(())
 }
 
-/// Why a token that is no time to live is refused.
+/// Returns why a token that is not a TTL is rejected.
 fn ttl_refusal(token: &EntryToken<'_>) -> ErrorKind
     ensures { result ≡ ttl_refusal (token_seen token.now) }
 {
@@ -31,7 +31,7 @@ fn ttl_refusal(token: &EntryToken<'_>) -> ErrorKind
     ErrorKind::ExpectedTtl
 }
 
-/// Takes the next token as a time to live.
+/// Parses the next token as a TTL.
 fn take_ttl_argument<S: TokenSource>(source: &mut S) -> Result<u32, RecordError>
     ensures takes { TakesTtl (S.end source.old).at (S.left source.old) result (S.left source.new) }
     ensures end { S.end source.new ≡ S.end source.old }
@@ -48,10 +48,12 @@ fn take_ttl_argument<S: TokenSource>(source: &mut S) -> Result<u32, RecordError>
     Ok(ttl)
 }
 
-/// Takes the argument of `$TTL` (RFC 2308 section 4), which is one token: seconds, as a number or as
-/// periods such as `1h30m`, below 2^32. From 2^31 on they are 0 (RFC 2181 section 8).
+/// Parses the argument of `$TTL` (RFC 2308 section 4), and returns it in seconds. The argument is
+/// one token: a number of seconds, or periods such as `1h30m`, below 2^32. Values from 2^31 on are
+/// returned as 0 (RFC 2181 section 8).
 ///
-/// A token that is no time to live is refused, and left. So is one behind it.
+/// Fails if the token is not a TTL, or if another token comes after it. The rejected token is not
+/// taken.
 pub fn take_default_ttl<S: TokenSource>(source: &mut S) -> Result<u32, RecordError>
     ensures takes { TakesDefaultTtl (S.end source.old).at (S.left source.old)
         result (S.left source.new) }
@@ -62,10 +64,11 @@ pub fn take_default_ttl<S: TokenSource>(source: &mut S) -> Result<u32, RecordErr
     Ok(ttl)
 }
 
-/// Takes the file of `$INCLUDE`, in quotes or not, and appends its octets as they are written: no
-/// backslash is an escape here. Returns how many they are. An origin may be left.
+/// Parses the file of `$INCLUDE`, in quotes or not, and appends its octets as they are written: a
+/// backslash is not an escape here. Returns the number of octets. An origin may come after the
+/// file, and is not taken.
 ///
-/// Where the octets don't fit, the target is as it was, and the token is left.
+/// If the octets don't fit, the target is unchanged and the token is not taken.
 pub fn take_file<S: TokenSource, B: OctetsBuilder>(
     source: &mut S,
     target: &mut B,

@@ -7,18 +7,18 @@ use dns_fields::{RecordError, TokenSource};
 use dns_kinds::ErrorKind;
 use dns_split::entry_tokens::EntryToken;
 
-/// What a directive sets.
+/// A directive of a zone file.
 #[derive(Clone, Copy, Debug, PartialEq, Eq)]
 pub enum Directive {
     /// `$ORIGIN name`: the origin of relative names.
     Origin,
-    /// `$TTL seconds`: the time to live of records that say none.
+    /// `$TTL seconds`: the default TTL, of records without one.
     Ttl,
     /// `$INCLUDE file [origin]`: the entries of a file, in place of this one.
     Include,
 }
 
-/// The directive that a word names, or why it is refused.
+/// Returns the directive that a word names, or why it is rejected.
 fn directive_in(word: &[u8]) -> Result<Directive, ErrorKind>
     ensures { result ≡ directive_in word.now }
 {
@@ -37,8 +37,9 @@ fn directive_in(word: &[u8]) -> Result<Directive, ErrorKind>
     Err(ErrorKind::UnknownDirective)
 }
 
-/// The directive that a token names, in any case of its letters, or why it is refused; or none where
-/// it is a quoted text, or does not begin with a dollar sign as it is spelled: `\$x` is a label.
+/// Returns the directive that a token names, in any case of its letters, or why it is rejected.
+/// Returns `None` if the token is quoted, or does not begin with a dollar sign as it is spelled:
+/// `\$x` is a label.
 pub fn directive_word(token: &EntryToken<'_>) -> Option<Result<Directive, ErrorKind>>
     ensures { result ≡ directive_of (token_seen token.now) }
 {
@@ -51,10 +52,11 @@ pub fn directive_word(token: &EntryToken<'_>) -> Option<Result<Directive, ErrorK
     }
 }
 
-/// Takes the directive with which an entry begins, if it begins with one: an entry that begins with
-/// a blank does not.
+/// Parses the directive with which an entry begins. Returns `None` if the entry does not begin with
+/// a dollar sign, or begins with a blank.
 ///
-/// `$GENERATE`, and a word with a dollar sign that names no directive, are refused, and left.
+/// Fails if the word is `$GENERATE`, or begins with a dollar sign and names no directive. The
+/// rejected token is not taken.
 pub fn take_directive<S: TokenSource>(
     begins_blank: bool,
     source: &mut S,

@@ -1,4 +1,4 @@
-//! A record's time to live, class and type, in front of its data.
+//! Parses the TTL, class and type of a record entry, which come before its data.
 ghost use Rattle.std.specs.Prelude.{◌≡◌};
 ghost use Rattle.dns_split.specs.EntryTokens.{token_seen};
 ghost use Rattle.dns_heads.specs.HeadWords.{SaysTtl, SaysClass, type_refusal};
@@ -9,36 +9,37 @@ use dns_fields::{RecordError, TokenSource};
 use dns_kinds::{Class, ErrorKind, RecordType};
 use dns_split::entry_tokens::EntryToken;
 
-/// What the words in front of a record's data say.
+/// The TTL, class and type of a record entry.
 #[derive(Clone, Copy, Debug, PartialEq, Eq)]
 pub struct Words {
-    /// Seconds, where a time to live is said.
+    /// TTL in seconds, if the entry has one.
     pub ttl: Option<u32>,
-    /// The class, where one is said.
+    /// Class, if the entry has one.
     pub class: Option<Class>,
-    /// The type.
+    /// Type.
     pub rtype: RecordType,
 }
 
-/// Why the words before a record's data are refused, and what was said before the refused token.
+/// Why the TTL, class and type of a record entry are rejected, and what came before the rejected
+/// token.
 #[derive(Clone, Copy, Debug, PartialEq, Eq)]
 pub struct WordsRefusal {
-    /// Why no type comes where one is asked for.
+    /// Why the token after the TTL and class is not a type.
     pub error: RecordError,
-    /// Seconds, where a time to live is said.
+    /// TTL in seconds, if the entry has one.
     pub ttl: Option<u32>,
-    /// The class, where one is said.
+    /// Class, if the entry has one.
     pub class: Option<Class>,
 }
 
-/// A time to live and a class, where they are said.
+/// A TTL and a class, if the entry has them.
 #[derive(Clone, Copy)]
 struct Head {
     ttl: Option<u32>,
     class: Option<Class>,
 }
 
-/// Takes the next token if it is a time to live.
+/// Parses the next token as a TTL, if it is one.
 fn take_ttl<S: TokenSource>(source: &mut S) -> Option<u32>
     ensures takes { TakesSaid SaysTtl (S.left source.old) result (S.left source.new) }
     ensures end { S.end source.new ≡ S.end source.old }
@@ -49,7 +50,7 @@ fn take_ttl<S: TokenSource>(source: &mut S) -> Option<u32>
     Some(ttl)
 }
 
-/// Takes the next token if it is a class.
+/// Parses the next token as a class, if it is one.
 fn take_class<S: TokenSource>(source: &mut S) -> Option<Class>
     ensures takes { TakesSaid SaysClass (S.left source.old) result (S.left source.new) }
     ensures end { S.end source.new ≡ S.end source.old }
@@ -60,7 +61,7 @@ fn take_class<S: TokenSource>(source: &mut S) -> Option<Class>
     Some(class)
 }
 
-/// Takes a time to live and a class, each if it is there, in either order.
+/// Parses a TTL and a class, each if it is there, in either order.
 fn take_head<S: TokenSource>(source: &mut S) -> Head
     ensures takes { TakesHead SaysTtl SaysClass (S.left source.old)
         result.ttl result.class (S.left source.new) }
@@ -81,7 +82,7 @@ fn take_head<S: TokenSource>(source: &mut S) -> Head
     Head { ttl, class }
 }
 
-/// Why a token that names no type is refused.
+/// Returns why a token that does not name a type is rejected.
 fn type_refusal(may_be_ttl: bool, token: &EntryToken<'_>) -> ErrorKind
     ensures { result ≡ type_refusal may_be_ttl (token_seen token.now) }
 {
@@ -94,7 +95,7 @@ fn type_refusal(may_be_ttl: bool, token: &EntryToken<'_>) -> ErrorKind
     ErrorKind::UnknownType
 }
 
-/// Takes the next token as a type.
+/// Parses the next token as a type.
 fn take_type<S: TokenSource>(may_be_ttl: bool, source: &mut S) -> Result<RecordType, RecordError>
     ensures takes { TakesType may_be_ttl (S.end source.old).at (S.left source.old)
         result (S.left source.new) }
@@ -112,12 +113,12 @@ fn take_type<S: TokenSource>(may_be_ttl: bool, source: &mut S) -> Result<RecordT
     Ok(rtype)
 }
 
-/// Takes the words in front of a record's data: a time to live and a class, each at most once and in
-/// either order, and then the type. The tokens of the data are left.
+/// Parses a TTL and a class, each at most once and in either order, and the type after them (RFC
+/// 1035 section 5.1). The tokens of the data are left.
 ///
-/// What comes where the type should stand is refused, if it names none: the entry's end; a quoted
-/// text; a word that begins with a digit, as no time to live where none was said before it; and any
-/// other word as an unknown type, so also a second time to live. The refused token is left.
+/// Fails if no type comes next: at the entry's end; at a quoted token; at a word that begins with a
+/// digit, as an expected TTL if none came before it; and at any other word as an unknown type. So a
+/// second TTL is an unknown type. The rejected token is not taken.
 pub fn take_words<S: TokenSource>(source: &mut S) -> Result<Words, WordsRefusal>
     ensures takes { TakesWords (S.end source.old).at (S.left source.old)
         result (S.left source.new) }

@@ -1,21 +1,21 @@
-//! What holds of the heads of entries.
+//! Laws about the header of an entry: its TTL, class and type.
 ghost use Rattle.dns_heads.specs.HeadWords.{HeadWordsApart};
 ghost use Rattle.dns_heads.specs.HeadLaws.{HeadsFoundOnce, WordsFoundOnce, EntriesSayOnce, EntriesSayTaken};
 
-/// States that no word is two of a time to live, a class and a type, and does nothing else.
+/// States that no word is two of a TTL, a class and a type, and does nothing else.
 pub fn words_are_apart()
     ensures { HeadWordsApart }
 {}
 
-/// States that what stands in front of a record's data, and why it is refused, is found in one way,
-/// and does nothing else.
+/// States that the TTL, class and type of a record entry, and why they are rejected, are found in
+/// one way, and does nothing else.
 pub fn heads_are_found_once()
     ensures heads { HeadsFoundOnce }
     ensures words { WordsFoundOnce }
 {}
 
-/// States that the tokens of an entry say one thing, and that it is what the calls of this crate
-/// take of them; and does nothing else.
+/// States that the tokens of an entry have one meaning, and that it is what the calls of this crate
+/// parse of them; and does nothing else.
 pub fn entries_say_one_thing()
     ensures once { EntriesSayOnce }
     ensures taken { EntriesSayTaken }

@@ -1,5 +1,5 @@
-//! What the tokens of an entry of a zone file are (RFC 1035 section 5.1): a directive and its
-//! arguments; or a record's owner, time to live, class, type and data.
+//! Parses the header of an entry of a zone file (RFC 1035 section 5.1): a directive and its
+//! arguments, or a record's TTL, class and type.
 #![tactic(auto)]
 
 pub mod arguments;

@@ -1,4 +1,4 @@
-//! The words in front of a record's data: a time to live, a class and a type.
+//! Parses the words before a record's data: a TTL, a class or a type.
 //!
 //! Each is a token without quotes and escapes.
 ghost use Rattle.std.specs.Prelude.{◌≡◌};
@@ -8,10 +8,10 @@ ghost use Rattle.dns_heads.specs.HeadWords.{FindsWord, SaysTtl, SaysClass, SaysT
 use dns_kinds::{Class, RecordType, interval_from_text};
 use dns_split::entry_tokens::EntryToken;
 
-/// The number of seconds from which on a time to live is 0.
+/// The number of seconds from which on a TTL is 0.
 const LONG: u32 = 0x8000_0000;
 
-/// Returns a time to live of these seconds, which is 0 if they are 2^31 or more (RFC 2181
+/// Returns the TTL of a number of seconds: the number itself, or 0 if it is 2^31 or more (RFC 2181
 /// section 8).
 pub fn ttl_of_seconds(seconds: u32) -> u32
     ensures { result ≡ ttl_of_seconds seconds }
@@ -19,8 +19,9 @@ pub fn ttl_of_seconds(seconds: u32) -> u32
     if seconds < LONG { seconds } else { 0 }
 }
 
-/// The seconds of the time to live that a token spells: a number of them, or periods such as
-/// `1h30m`, below 2^32. From 2^31 on it is 0 (RFC 2181 section 8).
+/// Parses a TTL, and returns it in seconds, or `None` if the token is not a TTL. It is a number of
+/// seconds, or periods such as `1h30m`, below 2^32. Values from 2^31 on are returned as 0 (RFC 2181
+/// section 8).
 pub fn ttl_word(token: &EntryToken<'_>) -> Option<u32>
     ensures { FindsWord SaysTtl (token_seen token.now) result }
 {
@@ -33,8 +34,8 @@ pub fn ttl_word(token: &EntryToken<'_>) -> Option<u32>
     }
 }
 
-/// The class that a token names: `IN`, `CH`, `HS`, or `CLASS` and a code, in any case of
-/// its letters.
+/// Parses a class: `IN`, `CH`, `HS`, or `CLASS` and a number, in any case of the letters. Returns
+/// `None` if the token is not a class.
 pub fn class_word(token: &EntryToken<'_>) -> Option<Class>
     ensures { FindsWord SaysClass (token_seen token.now) result }
 {
@@ -47,8 +48,8 @@ pub fn class_word(token: &EntryToken<'_>) -> Option<Class>
     }
 }
 
-/// The type that a token names: a name of IANA's registry, or `TYPE` and a code, in any
-/// case of its letters.
+/// Parses a type: a name of IANA's registry, or `TYPE` and a number, in any case of the letters.
+/// Returns `None` if the token is not a type.
 pub fn type_word(token: &EntryToken<'_>) -> Option<RecordType>
     ensures { FindsWord SaysType (token_seen token.now) result }
 {
@@ -61,7 +62,7 @@ pub fn type_word(token: &EntryToken<'_>) -> Option<RecordType>
     }
 }
 
-/// Whether a text begins with a decimal digit.
+/// Returns whether a text begins with a decimal digit.
 pub(crate) fn begins_with_digit(text: &[u8]) -> bool
     ensures { result ≡ begins_with_digit text.now }
 {
