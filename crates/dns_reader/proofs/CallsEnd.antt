@@ -1,4 +1,4 @@
--- Calls that give something come to an end.
+-- Calls that return something come to an end.
 use Rattle.std.proofs.Common.{ℕ, ◌≡◌, ◌<◌, ◌≤◌, ◌+◌, ◌-◌, Bool, true, false, List, [], ◌∷◌, ◌++◌, length, drop, refl, sym, ap, ◌∙◌, subst, arith, append_assoc, inl, inr, None, Result, Ok, Err}
 use Rattle.std.proofs.Common.{length-append}
 use Rattle.std.specs.Prelude.{if◌then◌else◌, map, nat_eq}
@@ -22,7 +22,7 @@ use Rattle.dns_reader.proofs.RestsSeen.{moved_end, rest_there, seen_alone, seen_
 use Rattle.dns_reader.proofs.StepsSeen.{GoesOn, step_seen}
 use Rattle.dns_reader.proofs.TextPieces.{calls_stop, never_empty}
 
--- ---- how many are left
+-- ---- how many parts are left
 
 some_left : (ends tokens rest : Parts) (x : Result PartSeen Fault) (n : ℕ) → left_with (ends ++ ((tokens ++ x ∷ []) ++ rest)) n ≡ n + 1
 some_left [] [] rest x n = refl
@@ -33,7 +33,7 @@ one_more_at_most : (parts : Parts) (n : ℕ) → left_with parts n ≤ n + 1
 one_more_at_most [] n = omega arith
 one_more_at_most (p ∷ parts) n = omega arith
 
--- ---- behind the octets an end alone is seen
+-- ---- after the last octet only an end is seen
 
 nothing_seen : (octets : List ℕ) (at : ℕ) (parts : Parts) → length octets ≤ at → IsSeenFrom octets at parts → (e : EndOfEntry) × (parts ≡ Ok (EndIs e) ∷ [])
 nothing_seen octets at parts h s =
@@ -47,7 +47,7 @@ end_alone [] [] rest x e h = (cc, cc)
 end_alone [] (t ∷ tokens) rest x e h = let none : (tokens ++ x ∷ []) ++ rest ≡ [] = cc in absurd (never_empty [] tokens rest x (sym none))
 end_alone (y ∷ ends) tokens rest x e h = let none : ends ++ ((tokens ++ x ∷ []) ++ rest) ≡ [] = cc in absurd (never_empty ends tokens rest x (sym none))
 
--- ---- places are behind where reading began
+-- ---- places come after the one where reading began
 
 end_behind : (octets : List ℕ) (at : ℕ) (front left : Parts) (e : EndOfEntry) → IsSeenFrom octets at (front ++ (Ok (EndIs e) ∷ left)) → at ≤ e.at
 end_behind octets at front left e s =
@@ -73,7 +73,7 @@ fault_behind : (octets : List ℕ) (at : ℕ) (front left : Parts) (f : Fault) �
 fault_behind octets at front left f s =
     let alone = seen_alone octets at (front ++ (Err f ∷ left)) s in fault_moved at alone.0 front f left (sym alone.2)
 
--- ---- a line is passed
+-- ---- a line is skipped
 
 shorter_if : (b : Bool) (xs ys : List ℕ) → length ys ≤ length xs → length (if b then xs else ys) ≤ length xs
 shorter_if true xs ys h = omega arith
@@ -92,7 +92,7 @@ line_passed octets at next began some later is =
     let lengths : length octets - next ≤ length octets - at - 1 = omega (arith, sym (length-drop next octets), ap length is, shorter_through (drop at octets), length-drop at octets) in
     omega (arith, lengths, some, later)
 
--- ---- each call leaves fewer
+-- ---- each call leaves fewer parts
 
 module _ (octets : List ℕ) (are : AreOctets octets) (ends tokens rest : Parts) (began : ℕ) (source : SourceSeen) where
   abbrev Fewer : Type 0

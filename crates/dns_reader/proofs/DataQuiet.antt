@@ -1,4 +1,4 @@
--- No data is refused for a fault of the text: of a kind of errors, `Syntax` says one.
+-- Data is never rejected with the kind `Syntax`, which is for errors of the text.
 use Rattle.std.proofs.Common.{ℕ, ◌≡◌, Bool, true, false, List, [], ◌∷◌, Option, None, Err, sym, subst, ap, ◌∙◌, inl, inr}
 use Rattle.std.specs.Prelude.{◌^◌, if◌then◌else◌, slice_index}
 use Rattle.dns_octets.specs.Room.{Room}
@@ -95,7 +95,7 @@ module _ (w : Wrong) where
   next_quiet origin room f (t ∷ ts) old (inl h) = let e = h.0 in cc
   next_quiet origin room f (t ∷ ts) old (inr h) = field_quiet origin f t.is_quoted t.text h.0
 
-  -- ---- what goes to the end of an entry
+  -- ---- fields up to the end of an entry
 
   abbrev Quiet : (List TokenSeen → List TokenSeen → ErrorKind → Type 0) → Type 0
   Quiet Why = (tokens left : List TokenSeen) → Why tokens left (Syntax w) → ⊥

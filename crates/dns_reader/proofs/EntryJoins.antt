@@ -34,7 +34,7 @@ use Rattle.std.proofs.lemmas.List.{append_assoc}
 pub same_octets : (old new : List ℕ) → new ≡ old → Extends old new
 same_octets old new is = ([], is ∙ sym (append-nil old))
 
--- what is learned first, and then
+-- what is learned first, and then what comes after it
 pub learned_both : (first then : List Said) (a b c : State) → Learns first a b → Learns then b c → Learns (first ++ then) a c
 learned_both first then a b c h k = λ start past known. subst (λ l. Knows start l c) (append_assoc past first then) (k start (past ++ first) (h start past known))
 
@@ -59,7 +59,7 @@ module _ (before : State) (known : Known) (room : Room) (at end : ℕ) (old new 
   words_before (Ok u) (Err r) tokens h = h
   words_before (Ok u) (Ok w) tokens h = (h.0, h.1, h.2, behind_before w h.0 h.3)
 
-  -- the minimum is that of the octets that were gained
+  -- the minimum is that of the octets that were appended
   pub minimum_gained : (w : Words) (begun : ℕ) (octets shown : List ℕ) (minimum : Option ℕ) → new ≡ old ++ octets → begun ≡ length old → shown ≡ new → IsMinimum w.rtype (take (length shown - begun) (drop begun shown)) minimum
       → result ≡ record_with before at w (chosen_ttl w.ttl before.default_ttl before.last_ttl minimum) → ReadsBehind before at w old (Ok tt) new result
   minimum_gained w begun octets shown minimum gained is shows h found =
@@ -90,7 +90,7 @@ record_joined before middle later after room blank at end tokens left first word
           (learned_both (own_ttl_of (ttl_of_words words)) (minimum_of_record r) middle later after (subst (λ o. Learns (own_ttl_of o) middle later) own_is own_learns) last_learns);
     }
 
--- ---- refused data
+-- ---- rejected data
 
 module _ (origin : Option (List (List ℕ))) (room : Room) (rtype : RecordType) (end : ℕ) (tokens left : List TokenSeen) (old new : List ℕ) where
   generic_extends : (found : Option TypeShape) (r : RecordError) → RefusesGeneric found room end tokens old r left new → Extends old new

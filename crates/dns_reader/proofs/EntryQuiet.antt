@@ -1,4 +1,4 @@
--- No entry is refused for a fault of the text, which so is known by its kind.
+-- No entry is rejected with the kind `Syntax`, so a syntax error of the text is known by its kind.
 use Rattle.std.proofs.Common.{ℕ, ◌≡◌, Bool, true, false, List, [], ◌∷◌, Option, None, Some, Result, Ok, Err, refl, sym, subst, ap, ◌∙◌, inl, inr}
 use Rattle.std.specs.Prelude.{⊤, ◌==◌, if◌then◌else◌, is_none}
 use Rattle.dns_octets.specs.Lowered.{lowered}
@@ -84,7 +84,7 @@ module _ (w : Wrong) where
   default_refused e end tokens left (inl h) is = ttl_quiet tokens (subst (WhyNoTtl tokens) is h.2)
   default_refused e end tokens left (inr (ttl, takes, h)) is = end_refused e left left h is
 
-  -- ---- the words before the data
+  -- ---- the TTL, class and type
 
   type_kind : (quoted digit : Bool) → Syntax w ≡ (if quoted then Quoted else (if digit then ExpectedTtl else UnknownType)) → ⊥
   type_kind true digit h = cc
@@ -98,7 +98,7 @@ module _ (w : Wrong) where
   words_refused : (r : WordsRefusal) (end : ℕ) (tokens left : List TokenSeen) → TakesWords end tokens (Err r) left → r.error.kind ≡ Syntax w → ⊥
   words_refused r end tokens left h is = type_quiet (is_none r.ttl) left (subst (WhyNoType (is_none r.ttl) left) is h.2)
 
-  -- ---- what tokens say
+  -- ---- what the tokens mean
 
   abbrev Sound : ℕ → EntryMeaning → Type 0
   Sound end says_nothing = ⊤

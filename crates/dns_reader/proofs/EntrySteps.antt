@@ -97,7 +97,7 @@ module _ (origin : Option (List (List ℕ))) (end : ℕ) where
     file_extends (t ∷ ts) left (Ok n) new h = (t.text, h.1.0)
     file_extends (t ∷ ts) left (Err e) new h = same_extends new h.1.0
 
-    -- the origin's octets behind the file's
+    -- the origin's octets after the file's
     included : (f : TokenSeen) (token : Option TokenSeen) (named : Option (List (List ℕ))) (n : ℕ) (middle new : List ℕ) (r : Result EntryRead RecordError) → AppendsFile room f old (Ok n) middle
         → IncludesOrigin origin token named → FinishesInclude room f.at n named middle r new → Extends old new × ReadsInclude origin room f.at f.text token old r new
     included f token named n middle new (Ok e) h k l =
@@ -115,7 +115,7 @@ module _ (origin : Option (List (List ℕ))) (end : ℕ) where
         included f (Some t) named n middle new r h.1 (subst (λ x. TakesIncludedOrigin origin end x (Ok named)) h.0 k) (subst (λ m. FinishesInclude room m n named middle r new) is l)
     include_finished (f ∷ t ∷ v ∷ ts) left at n named middle new r is h k l = let no = subst (λ x. TakesIncludedOrigin origin end x (Ok named)) h.0 k in cc
 
-    -- there is no room for the file
+    -- the file's octets don't fit
     lacks : (f : TokenSeen) (token : Option TokenSeen) (named : Option (List (List ℕ))) (new : List ℕ) (r : RecordError) → AppendsFile room f old (Err r) new → IncludesOrigin origin token named
         → Extends old new × ReadsInclude origin room f.at f.text token old (Err r) new
     lacks f token named new r h k = (same_extends new h.0, inr (named, k, h.1, omega (arith, h.2)))

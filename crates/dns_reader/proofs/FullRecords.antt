@@ -1,4 +1,4 @@
--- Records that don't lean on the state before them.
+-- Records that don't depend on the state before them.
 use Rattle.std.proofs.Common.{ℕ, ◌≡◌, false, List, [], Option, Some, None, Result, Ok, Err, refl, sym, subst, ap, ◌∙◌}
 use Rattle.std.specs.Prelude.{unwrap_or}
 use Rattle.dns_octets.specs.Room.{Room}

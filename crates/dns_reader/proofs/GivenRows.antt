@@ -1,4 +1,4 @@
--- Rows of calls, and that each gives something.
+-- Rows of calls, each of which returns something.
 use Rattle.std.proofs.Common.{ℕ, ◌≡◌, ◌≢◌, Bool, true, false, List, [], ◌∷◌, ◌++◌, refl, sym, ◌∙◌, subst, append_assoc, append-nil, Option, Some, None, Result, Ok, Err}
 use Rattle.dns_octets.specs.Room.{Room}
 use Rattle.dns_split.specs.declared.pieces.Fault.{Fault}
@@ -31,7 +31,7 @@ pub records_end_rows : RecordsEndRows
 records_end_rows room before after old new result h =
     (h.directives, given_next h.directives h.middle after (record { old = old; result = result; new = new; state = after.state }) h.row h.last refl)
 
--- ---- tokens say something
+-- ---- tokens mean something
 
 directive_silent : (d : Directive) (end : ℕ) (tokens : List TokenSeen) → DirectiveSays d end tokens says_nothing → ⊥
 directive_silent Origin end [] h = cc

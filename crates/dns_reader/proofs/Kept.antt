@@ -1,4 +1,4 @@
--- What an entry's end keeps of the text.
+-- Which part of the text the end of an entry keeps.
 use Rattle.std.proofs.Common.{◌≡◌, Bool, true, false, refl, ap}
 use Rattle.std.specs.Prelude.{unwrap_or}
 use Rattle.std.proofs.lemmas.Bool.{false≢true}

@@ -1,4 +1,4 @@
--- A name is taken into a buffer of its own.
+-- A name is parsed into a buffer of its own.
 use Rattle.std.proofs.Common.{ℕ, ◌≡◌, ◌≤◌, List, [], ◌∷◌, ◌++◌, length, Option, Result, Ok, Err, refl, sym, subst, ap, ◌∙◌, inl, inr, arith}
 use Rattle.std.specs.Prelude.{slice_get}
 use Rattle.dns_octets.specs.Room.{exactly}
@@ -34,7 +34,7 @@ made octets labels is name root =
       ),
     )
 
--- what was taken
+-- the name was parsed so
 abbrev pub TakenAs : Option (List (List ℕ)) → List TokenSeen → List TokenSeen → List ℕ → Type 0
 TakenAs origin tokens left octets = (t : TokenSeen) × (tokens ≡ t ∷ left) × SpellsField origin OfName t octets
 

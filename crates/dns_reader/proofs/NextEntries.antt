@@ -16,7 +16,7 @@ use Rattle.dns_reader.specs.declared.source.StartOfEntry.{StartOfEntry}
 use Rattle.dns_reader.proofs.Kept.{rest_kept}
 
 module _ (octets : List ℕ) (begun middle : SourceSeen) (same : entry_end middle ≡ entry_end begun) (is_open : begun.is_open ≡ true) where
-  -- what stands behind the tokens is finished, also where other calls took them
+  -- the end of an entry is finished after its tokens, also if other calls took these
   pub ended : (end : Option EndOfEntry) (after : SourceSeen) → FinishesEntry middle (Ok end) after → (e : EndOfEntry) × StandsAfter octets begun (Ok e) after
   ended (Some e) after h =
       let kept = rest_kept begun middle same is_open in

@@ -1,4 +1,4 @@
--- Directives are passed over.
+-- Directives are skipped.
 use Rattle.std.proofs.Common.{ℕ, ◌≡◌, ◌≢◌, ◌<◌, ◌≤◌, List, [], ◌∷◌, ◌++◌, length, refl, sym, ap, ◌∙◌, subst, arith, Option, Some, None, Result, Ok, Err}
 use Rattle.std.proofs.Common.{length-append}
 use Rattle.std.specs.List.{AllByRecursion}
@@ -27,7 +27,7 @@ use Rattle.dns_reader.proofs.TextParts.{closed_left}
 
 -- ---- a directive leaves the octets
 
--- what no record is given as is not read of one
+-- a result that `record_with` never has is not read of a record
 module _ (before : State) (room : Room) (at end : ℕ) (old new : List ℕ) (e : EntryRead) (never : (w : Words) (ttl : Option RecordTtl) → record_with before at w ttl ≡ Ok e → ⊥) where
   not_behind : (w : Words) (r : Result (Unit {0}) RecordError) → ReadsBehind before at w old r new (Ok e) → ⊥
   not_behind w (Err r) h = cc

@@ -1,4 +1,4 @@
--- What is seen up to the end of an entry that is not the last stays, whatever follows.
+-- What is seen up to the end of an entry that is not the last stays the same, whatever follows.
 use Rattle.std.proofs.Common.{ℕ, ◌≡◌, ◌<◌, ◌≤◌, ◌+◌, ◌-◌, Bool, true, false, List, [], ◌∷◌, ◌++◌, length, take, drop, refl, sym, ap, ◌∙◌, subst, arith, inl, inr, Option, Some, None, Ok}
 use Rattle.std.specs.Prelude.{⊤, IfSome, map, nat_lt}
 use Rattle.std.specs.List.{list_all}

@@ -1,4 +1,4 @@
--- Ends of entries that are passed over.
+-- Ends of entries that are skipped.
 use Rattle.std.proofs.Common.{◌≡◌, ℕ, Bool, true, false, ◌+◌, ◌*◌, List, [], ◌∷◌, ◌++◌, length, refl, sym, ap, ◌∙◌, subst, append_assoc, Option, Some, None}
 use Rattle.std.specs.Prelude.{if◌then◌else◌, map, is_some, Result, Ok, Err}
 use Rattle.std.specs.Iterator.{YieldsFirstBy}
@@ -15,7 +15,7 @@ use Rattle.dns_reader.proofs.Parts.{Next, Parts, looked_at, opens_before, with_n
 abbrev pub ends_of : List EndOfEntry → Parts
 ends_of ends = map (λ e. Ok (EndIs e)) ends
 
--- ends come first behind what was left of the open entry, and then these parts
+-- after what was left of the open entry, ends come first, and then these parts
 pub record PassesTo (old : SourceSeen) (parts : Parts) (began : ℕ) : Type 0 where
   pub ends : List EndOfEntry
   pub passed : behind_left old ≡ ends_of ends ++ parts
@@ -28,11 +28,11 @@ last_more : (began : ℕ) (ends : List EndOfEntry) (end : EndOfEntry) → last_e
 last_more began [] end = refl
 last_more began (e ∷ ends) end = last_more e.at ends end
 
--- how much is still to be passed over
+-- how much is still to be skipped
 abbrev pub still : SourceSeen → ℕ
 still s = 2 * length (behind_left s) + (if s.is_open then 0 else 1)
 
--- and what `finish` takes is one more
+-- a part that `finish` takes is one more to skip
 pub passes_more : (old now new : SourceSeen) (r : Option EndOfEntry) → PassesTo old (behind_left now) now.began → FinishesEntry now (Ok r) new → PassesTo old new.parts new.began
 passes_more old now new None p f = record {
   ends = p.ends;
@@ -50,7 +50,7 @@ passes_more old now new (Some end) p f = record {
   began_at = f.3 ∙ sym (last_more old.began p.ends end);
 }
 
--- where a token, the text's end or a fault comes, that is it
+-- if a token, the text's end or a syntax error comes next, `begin` stops there
 pub begins_at : (old new : SourceSeen) (result : Result (Option StartOfEntry) Fault) → PassesTo old new.parts new.began → IsAtStart result new → BeginsEntry old result new
 begins_at old new result p s = record { ends = p.ends; passed = p.passed; began = p.began_at; start = s }
 
@@ -58,7 +58,7 @@ pub at_token : (began : ℕ) (token : EntryToken) (b : Bool) (tokens : Parts) �
     → IsAtStart (Ok (Some (record { at = began; begins_blank = b }))) (source_seen began (Some (Ok (TokenOf token b))) None tokens)
 at_token began token b tokens o = (refl, refl, (refl, subst (λ x. IsOpen x tokens) (sym o.1.0) o.1.1), tt, refl)
 
--- a fault that `finish` finds stays
+-- a syntax error that `finish` finds stays
 pub stops_at : (old now new : SourceSeen) (f : Fault) → PassesTo old (behind_left now) now.began → FinishesEntry now (Err f) new → BeginsEntry old (Err f) new
 stops_at old now new f p h = record {
   ends = p.ends;
@@ -67,7 +67,7 @@ stops_at old now new f p h = record {
   start = (ap (λ s. s.is_open) h.2, ap (λ s. s.parts) h.2);
 }
 
--- where no entry is open and the next part is looked at
+-- no entry is open, and the next part is read ahead
 module _ (old now middle : SourceSeen) (r : Option EndOfEntry) (began : ℕ) (taken : Option ℕ) (before next : Next) (tokens later : Parts) (p : PassesTo old (behind_left now) now.began) (f : FinishesEntry now (Ok r) middle)
     (seen : source_seen began before taken tokens ≡ middle) (looks : YieldsFirstBy answer_seen (λ (left : Parts). left) tokens next later) (entries : IsInEntries tokens) where
   finished_closed : (o : Option EndOfEntry) → FinishesEntry now (Ok o) middle → middle.is_open ≡ false

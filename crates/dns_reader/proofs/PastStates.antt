@@ -1,4 +1,4 @@
--- The state that what was said leaves.
+-- The state after a text.
 use Rattle.std.proofs.Common.{ℕ, ◌≡◌, List, [], ◌∷◌, ◌++◌, Option, Some, None, refl, sym, subst, ap, ◌∙◌, inl}
 use Rattle.dns_wire.specs.Wire.{wire}
 use Rattle.dns_wire.specs.Labelled.{wire_same}
@@ -82,7 +82,7 @@ module _ (start : State) where
     class = refl;
   }
 
-  -- ---- where nothing of the kind is said later
+  -- ---- nothing of the kind comes later
 
   pub origin_then : (past later : List Said) (o : Known) → IsOriginAfter start past o → Silent origin_said later → IsOriginAfter start (past ++ later) o
   origin_then past later o (no_origin_said p q quiet is) still = no_origin_said (past ++ later) o (silent_both origin_said past later quiet still) is
@@ -94,7 +94,7 @@ module _ (start : State) where
   owner_then past later o (owner_said_last token last before was named) still =
       owner_said_last token (said_then owner_said past later token last still) before was named
 
-  -- ---- a text that goes on
+  -- ---- a text that continues
 
   module _ (middle : State) (past : List Said) (known : Knows start past middle) where
     pub origin_on : (later : List Said) (o : Known) → IsOriginAfter middle later o → IsOriginAfter start (past ++ later) o
@@ -116,7 +116,7 @@ module _ (start : State) where
       class = h.class ∙ known.class;
     }
 
-  -- ---- behind an included text
+  -- ---- after an included text
 
   no_origins : (past : List Said) → Silent origin_said (ttls_said past)
   no_origins [] = tt
@@ -142,7 +142,7 @@ module _ (start : State) where
     class = k.class;
   }
 
--- ---- owners that don't lean on what was said
+-- ---- owners that don't depend on earlier entries
 
 labels_alone : (origin : Option (List (List ℕ))) (text : List ℕ) (labels : List (List ℕ)) → SpellsLabels None text labels → SpellsLabels origin text labels
 labels_alone origin text labels (root_alone is are) = root_alone is are

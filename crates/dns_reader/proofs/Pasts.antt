@@ -1,4 +1,4 @@
--- What is said last.
+-- The last value of a kind.
 use Rattle.std.proofs.Common.{ℕ, ◌≡◌, List, [], ◌∷◌, ◌++◌, Option, Some, None, refl, sym, subst, ap, ◌∙◌, inl, inr}
 use Rattle.std.proofs.lemmas.List.{append_assoc}
 use Rattle.std.proofs.lemmas.Option.{none-some}
@@ -22,7 +22,7 @@ module _ {X : Type 0} (says : Said → Option X) where
   pub not_both : (past : List Said) (x : X) → Silent says past → SaidLast says past x → ⊥
   not_both past x h last = not_silent last.before last.after last.at x (subst (Silent says) last.whole h) last.said
 
-  -- behind what was said before
+  -- after earlier values
   abbrev pub said_behind : (past later : List Said) (x : X) → SaidLast says later x → SaidLast says (past ++ later) x
   said_behind past later x last = record {
     before = past ++ last.before;
@@ -33,7 +33,7 @@ module _ {X : Type 0} (says : Said → Option X) where
     silent = last.silent;
   }
 
-  -- and where nothing of the kind is said later
+  -- and if nothing of the kind comes later
   abbrev pub said_then : (past later : List Said) (x : X) → SaidLast says past x → Silent says later → SaidLast says (past ++ later) x
   said_then past later x last quiet = record {
     before = last.before;
@@ -69,7 +69,7 @@ module _ {X : Type 0} (says : Said → Option X) where
       let cut = cut_once last.before other.before last.after other.after last.at other.at x y (sym last.whole ∙ other.whole) last.said other.said last.silent other.silent in
       (cut.0, some_same last.at other.at x y cut.1 last.said other.said)
 
--- ---- the time to live that was said last, as it is found
+-- ---- the last TTL, as it is found
 
 abbrev pub newer : Option ℕ → Option ℕ → Option ℕ
 newer None first = first
@@ -114,13 +114,13 @@ module _ (says : Said → Option ℕ) where
   ttl_on first middle ttl past later h k =
       ttl_found first (past ++ later) ttl (ttl_is middle later ttl k ∙ ap (λ m. ttl_after says m later) (ttl_is first past middle h) ∙ sym (both_after first past later))
 
-  -- later texts in which the same is said
+  -- later texts with the same values
   pub ttl_kept : (first ttl : Option ℕ) (past later others : List Said) → ((m : Option ℕ) → ttl_after says m later ≡ ttl_after says m others) → IsTtlAfter says first (past ++ later) ttl
       → IsTtlAfter says first (past ++ others) ttl
   ttl_kept first ttl past later others same h =
       ttl_found first (past ++ others) ttl (ttl_is first (past ++ later) ttl h ∙ both_after first past later ∙ same (ttl_after says first past) ∙ sym (both_after first past others))
 
--- names that are said don't count
+-- names don't count
 pub default_stays : (first : Option ℕ) (past : List Said) → ttl_after default_ttl_said first past ≡ ttl_after default_ttl_said first (ttls_said past)
 default_stays first [] = refl
 default_stays first (SaysOrigin token ∷ past) = default_stays first past

@@ -1,4 +1,4 @@
--- What is seen behind the end of an entry that is not the last.
+-- What is seen after the end of an entry that is not the last.
 use Rattle.std.proofs.Common.{ℕ, ◌≡◌, ◌<◌, ◌+◌, ◌-◌, Bool, true, false, List, [], ◌∷◌, ◌++◌, length, take, drop, refl, sym, ap, ◌∙◌, subst, arith, inl, inr, Option, Some, None, Result, Ok, Err}
 use Rattle.std.proofs.Common.{add-zero, eq-eqb}
 use Rattle.std.proofs.lemmas.Bool.{eqb-true}
@@ -21,7 +21,7 @@ use Rattle.dns_reader.proofs.Parts.{Parts}
 abbrev pub Given : Type 0
 Given = List (Result Piece Fault)
 
--- ---- a fault is the last that is given
+-- ---- a syntax error is the last part
 
 abbrev pub FaultIsLast : Given → Type 0
 FaultIsLast [] = ⊤
@@ -54,7 +54,7 @@ later_last n [] h = tt
 later_last n (Ok p ∷ given) h = later_last n given h
 later_last n (Err f ∷ given) h = ap (later n) h
 
--- ---- where an end is seen, it is given
+-- ---- an end that is seen is one of the parts
 
 pub record EndGiven (octets : List ℕ) (began : ℕ) (ended : Option ℕ) (given : Given) (front : Parts) (e : EndOfEntry) (left : Parts) : Type 0 where
   pub found : List Piece
@@ -63,7 +63,7 @@ pub record EndGiven (octets : List ℕ) (began : ℕ) (ended : Option ℕ) (give
   pub front_is : front ≡ seen_from octets began ended (map Ok found)
   pub left_is : left ≡ seen_from octets e.at None rest
 
--- no part in front of it is a fault, since something comes behind
+-- no part before it is a syntax error, since something comes after it
 pub end_given : (octets : List ℕ) (began : ℕ) (ended : Option ℕ) (given : Given) (front : Parts) (e : EndOfEntry) (left : Parts) → FaultIsLast given → seen_from octets began ended given ≡ front ++ (Ok (EndIs e) ∷ left)
     → EndGiven octets began ended given front e left
 end_given octets began ended [] [] e left last is = cc
@@ -123,7 +123,7 @@ rest_alone octets began ended given front e left are g h some =
     let there = pieces_there octets h.found e h.rest are (subst (IsGiven octets) h.is g) (some_given octets e.at h.rest left h.left_is some) in
     (there.0, there.1, h.left_is ∙ ap (seen_from octets e.at None) there.2)
 
--- ---- what octets alone give, further on among others
+-- ---- the parts of octets alone, at later offsets among others
 
 bools_same : (a b : Bool) → (a ≡ true → b ≡ true) → (b ≡ true → a ≡ true) → a ≡ b
 bools_same true b h k = sym (h refl)
@@ -164,7 +164,7 @@ module _ (octets : List ℕ) (n : ℕ) where
   pub alone_later : (given : Given) → seen_from octets n None (later n given) ≡ map (seen_later n) (seen_from (drop n octets) 0 None given)
   alone_later given = ap (λ k. seen_from octets k None (later n given)) (sym (add-zero n)) ∙ seen_is_later 0 None given
 
--- ---- an end among what is moved
+-- ---- an end among parts that are moved
 
 pub record MovedEnd (n : ℕ) (seen : Parts) (e : EndOfEntry) (left : Parts) : Type 0 where
   pub front : Parts
@@ -188,7 +188,7 @@ moved_end n (x ∷ seen) (y ∷ front) e left is =
     let h = moved_end n seen front e left rest in
     record { front = x ∷ h.front; end = h.end; rest = h.rest; is = ap (λ l. x ∷ l) h.is; at = h.at; left_is = h.left_is }
 
--- what comes behind an end is seen from there on
+-- what comes after an end is seen from there on
 pub rest_there : (octets : List ℕ) (at : ℕ) (front left : Parts) (e : EndOfEntry) → AreOctets octets → IsSeenFrom octets at (front ++ (Ok (EndIs e) ∷ left)) → 0 < length left → IsSeenFrom octets e.at left
 rest_there octets at front left e are s some =
     let g = s.1 in

@@ -1,4 +1,4 @@
--- Worked rows of names.
+-- Worked examples of names.
 use Rattle.std.proofs.Common.{ℕ, true, false, List, [], ◌∷◌, length, map, Some, None, refl, ap, arith, true≢false}
 use Rattle.std.specs.Prelude.{codes}
 use Rattle.std.proofs.lemmas.List.Elements.{All-nil, All-cons}
@@ -32,20 +32,20 @@ sub_spelled = record {
   whole = refl;
 }
 
--- `$ORIGIN sub` is taken by the origin that stood
+-- the operand of `$ORIGIN sub` is relative to the origin before it
 relative_origin_row : IsOriginAfter in_example (SaysOrigin (Some (word (codes "sub"))) ∷ []) (Name (codes "sub" ∷ example))
 relative_origin_row =
     origin_said_last (SaysOrigin (Some (word (codes "sub"))) ∷ []) (Name (codes "sub" ∷ example)) (Some (word (codes "sub")))
     (record { before = []; at = SaysOrigin (Some (word (codes "sub"))); after = []; whole = refl; said = refl; silent = tt }) (Name example) (no_origin_said [] (Name example) tt refl) (refl, sub_spelled)
 
--- an entry that begins with a blank, behind `$ORIGIN`: the owner stays
+-- an entry that begins with a blank after `$ORIGIN`: the owner stays
 owner_behind_origin_row : IsOwnerAfter in_example (SaysOwner (Some (word (codes "sub"))) ∷ SaysOrigin (Some (word (codes "other."))) ∷ []) (Name (codes "sub" ∷ example))
 owner_behind_origin_row =
     owner_said_last (Some (word (codes "sub")))
     (record { before = []; at = SaysOwner (Some (word (codes "sub"))); after = SaysOrigin (Some (word (codes "other."))) ∷ []; whole = refl; said = refl; silent = (refl, tt) })
     (Name example) (no_origin_said [] (Name example) tt refl) (refl, sub_spelled)
 
--- `$ORIGIN "a."` is refused
+-- `$ORIGIN "a."` is rejected
 abbrev quoted : TokenSeen
 quoted = record { text = codes "a."; is_quoted = true; is_glued = false; at = 8 }
 
@@ -55,7 +55,7 @@ quoted_origin_row =
     (record { before = []; at = SaysOrigin (Some quoted); after = []; whole = refl; said = refl; silent = tt }) (Name example) (no_origin_said [] (Name example) tt refl)
     (λ octets h. true≢false h.0)
 
--- and so is one with no name behind it
+-- and so is `$ORIGIN` without a name
 no_name_row : IsOriginAfter in_example (SaysOrigin None ∷ []) Refused
 no_name_row =
     origin_said_last (SaysOrigin None ∷ []) Refused None (record { before = []; at = SaysOrigin None; after = []; whole = refl; said = refl; silent = tt }) (Name example)

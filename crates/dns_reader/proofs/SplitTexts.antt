@@ -18,7 +18,7 @@ use Rattle.dns_reader.specs.TextEntries.{GoesOnAt, IsSeenPastFaults, TextEntry, 
 use Rattle.dns_reader.specs.WholeTexts.{ReadEntriesAreSplit}
 use Rattle.dns_reader.proofs.Parts.{Parts}
 
--- no part is a fault
+-- no part is a syntax error
 abbrev HaveNoFault : Parts → Type 0
 HaveNoFault [] = ⊤
 HaveNoFault (Ok p ∷ parts) = HaveNoFault parts

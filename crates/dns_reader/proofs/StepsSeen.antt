@@ -21,7 +21,7 @@ use Rattle.dns_reader.proofs.Parts.{Parts}
 use Rattle.dns_reader.proofs.Passing.{ends_of}
 use Rattle.dns_reader.proofs.TextParts.{closed_left, open_parts, tokens_count}
 
--- behind an end the source has the rest; behind a fault it starts again
+-- after an end the source has the rest; after a syntax error it starts again
 abbrev pub GoesOn : List ℕ → Result EndOfEntry Fault → Parts → SourceSeen → Type 0
 GoesOn octets (Ok e) rest s = (s.parts ≡ rest) × (s.is_open ≡ false) × (s.began ≡ e.at) × (s.taken ≡ None)
 GoesOn octets (Err f) rest s = (rest ≡ []) × StartsBehindLine octets f.at s
@@ -59,7 +59,7 @@ end_place s = go s.is_open
     go true e h = same_last s.parts (unwrap_or s.taken s.began) 0 h
     go false e h = cc
 
--- what comes behind the tokens, and where the source stands then
+-- what comes after the tokens, and the source's state then
 stands_rest : (octets : List ℕ) (begun after : SourceSeen) (end : Result EndOfEntry Fault) → StandsAfter octets begun end after → (rest : Parts) × (behind_left begun ≡ end_seen end ∷ rest) × GoesOn octets end rest after
 stands_rest octets begun after (Ok e) h = (after.parts, h.0, (refl, h.1, h.2, h.3))
 stands_rest octets begun after (Err f) h = ([], h.0, (refl, h.1))

@@ -46,7 +46,7 @@ closed_left s = go s.is_open
     go false e = refl
     go true e = cc
 
--- ---- what is seen past faults
+-- ---- what is seen past syntax errors
 
 pub seen_from_start : (octets : List ℕ) (parts : Parts) → AreOctets octets → IsSeen octets parts → IsSeenFrom octets 0 parts
 seen_from_start octets parts o s = (s.0, entry_left octets 0 o s.0 (given_left octets s.0 o s.1), s.2)
@@ -71,7 +71,7 @@ seen_more octets seen more left s = record {
   seen_are = ap (λ l. l ++ more) s.seen_are ∙ append_assoc s.passed s.front more;
 }
 
--- reading goes on behind the line of a fault
+-- reading continues after the line of a syntax error
 pub seen_past : (octets : List ℕ) (seen more : Parts) (fault : Fault) (s : SourceSeen) → IsSeenPastFaults octets seen (more ++ Err fault ∷ []) → StartsBehindLine octets fault.at s
     → IsSeenPastFaults octets (seen ++ (more ++ Err fault ∷ [])) s.parts
 seen_past octets seen more fault s old behind =

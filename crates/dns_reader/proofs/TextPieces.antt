@@ -1,4 +1,4 @@
--- Reading that stops behind an entry goes on there.
+-- Reading that stops after an entry continues there.
 use Rattle.std.proofs.Common.{ℕ, ◌≡◌, false, List, [], ◌∷◌, ◌++◌, length, sym, ap, ◌∙◌, subst, arith, append_assoc, inl, inr, None, Result, Ok, Err}
 use Rattle.std.specs.Prelude.{◌⊎◌, map}
 use Rattle.dns_octets.specs.Room.{Room}
@@ -18,7 +18,7 @@ use Rattle.dns_reader.proofs.RestsSeen.{rest_there, seen_alone, seen_from_once}
 use Rattle.dns_reader.proofs.StepsSeen.{GoesOn, step_seen}
 use Rattle.dns_reader.proofs.TextParts.{seen_from_start}
 
--- what is left is what is seen from where the next entry begins, or nothing is left
+-- what is left is what is seen from the next entry's offset, or nothing is left
 abbrev pub IsThere : List ℕ → SourceSeen → Type 0
 IsThere octets s = (s.parts ≡ []) ⊎ IsSeenFrom octets s.began s.parts
 

@@ -37,7 +37,7 @@ seen_begin n octets began ended (Ok (CommentAt p) ∷ given) w = seen_begin n oc
 seen_begin n octets began ended (Ok (EndAt e) ∷ given) w = seen_begin n octets e.at None given w.1
 seen_begin n octets began ended (Err f ∷ given) w = seen_begin n octets began ended given w.1
 
--- a token that is as it is spelled has all its octets there
+-- the spelling of a token is contained in the octets, so it ends within them
 one_ends : (octets : List ℕ) (t : TokenSeen) → t.at ≤ length octets → between octets t.at (token_end t) ≡ spelled t → token_end t ≤ length octets
 one_ends octets t within stands =
     let n : ℕ = length (spelled t) in
@@ -54,7 +54,7 @@ each_ends octets (Err f ∷ parts) w h = each_ends octets parts w h.1
 seen_within : (octets : List ℕ) (parts : Parts) → IsSeen octets parts → EndsWithin (length octets) parts
 seen_within octets parts s = each_ends octets parts (subst (BeginsWithin (length octets)) (sym s.2) (seen_begin (length octets) octets 0 None s.0 s.1.1)) (seen_stand octets parts s)
 
--- so many octets further on
+-- this number of octets later
 later_within : (n at : ℕ) (parts : Parts) → EndsWithin n parts → EndsWithin (at + n) (map (seen_later at) parts)
 later_within n at [] w = tt
 later_within n at (Ok (TokenIs t b) ∷ parts) w = (omega (arith, w.0), later_within n at parts w.1)
@@ -67,7 +67,7 @@ fits_within n (Ok (TokenIs t b) ∷ parts) h w = (omega (arith, h, w.0), fits_wi
 fits_within n (Ok (EndIs e) ∷ parts) h w = fits_within n parts h w
 fits_within n (Err f ∷ parts) h w = fits_within n parts h w
 
--- the tokens of octets, and those from a place on
+-- the tokens of octets, and those from an offset on
 pub seen_end : (octets : List ℕ) (parts : Parts) → length octets < 2 ^ 64 → IsSeen octets parts → TokensEnd parts
 seen_end octets parts few s = fits_within (length octets) parts few (seen_within octets parts s)
 
@@ -78,7 +78,7 @@ seen_from_end octets at parts few within s =
     let all : EndsWithin (at + rest) parts = subst (EndsWithin (at + rest)) (sym a.2) (later_within rest at a.0 (seen_within (drop at octets) a.0 a.1)) in
     fits_within (at + rest) parts (omega (arith, few, within, length-drop at octets)) all
 
--- a token's text is as long as it is spelled, but for double quotes
+-- a token's text has the length of its spelling, but for double quotes
 long_spelled : (b : Bool) (text : List ℕ) → length (if b then 34 ∷ (text ++ 34 ∷ []) else text) ≡ length text + (if b then 2 else 0)
 long_spelled true text = omega (arith, length-append text (34 ∷ []))
 long_spelled false text = omega arith
@@ -97,14 +97,14 @@ pub source_starts : (parts : Parts) → TokensEnd parts → IsSourceOf None part
 source_starts parts h = record { opens = tt; ends = h }
 
 module _ (old new : Parts) (next : Next) (looks : YieldsFirstBy answer_seen (λ (left : Parts). left) old next new) where
-  -- goes on where the next part is looked at
+  -- a part that was read ahead comes first
   pub ends_before : TokensEnd old → TokensEnd (with_next next new)
   ends_before = subst TokensEnd (looked_at old new next looks)
 
   pub source_goes_on : TokensEnd old → IsInEntries old → IsSourceOf next new
   source_goes_on h i = record { opens = opens_before old new next looks i; ends = ends_before h }
 
--- what is after the next part
+-- the parts after the next one
 pub ends_behind : (next : Next) (parts : Parts) → TokensEnd (with_next next parts) → TokensEnd parts
 ends_behind None parts h = h
 ends_behind (Some (Ok (TokenOf token b))) parts h = h.1

@@ -1,4 +1,4 @@
--- Records that are said whole are read as they are said.
+-- Records with all their parts are read as they are written.
 use Rattle.std.proofs.Common.{ℕ, ◌≡◌, ◌≤◌, ◌+◌, false, List, [], ◌∷◌, ◌++◌, length, Option, Some, None, Result, Ok, Err, refl, sym, subst, ap, ◌∙◌, arith, inl, inr}
 use Rattle.std.specs.Prelude.{◌⊎◌}
 use Rattle.dns_octets.specs.Room.{Room}
@@ -78,7 +78,7 @@ module _ (origin : Option (List (List ℕ))) (tokens : List TokenSeen) where
     type_once : (a b : List ℕ) → SpellsTypeData origin rtype tokens a → SpellsTypeData origin rtype tokens b → a ≡ b
     type_once a b h k = forms_once a b h.1 k.1
 
--- ---- and they are not refused where there is room
+-- ---- and they are not rejected if they surely fit
 
 module _ (origin : Option (List (List ℕ))) (room : Room) (rtype : RecordType) (end : ℕ) (tokens : List TokenSeen) (octets old : List ℕ) (fits : length old + length octets ≤ room.fits) (r : RecordError) (left : List TokenSeen) (new : List ℕ) where
   generic_taken : (found : Option TypeShape) → SpellsGenericData found tokens octets → RefusesGeneric found room end tokens old r left new → ⊥

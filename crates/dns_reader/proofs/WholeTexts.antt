@@ -1,4 +1,4 @@
--- A whole text is read entry by entry, each behind what those before it say.
+-- A whole text is read entry by entry, each with the state that those before it leave.
 use Rattle.std.proofs.Common.{ℕ, ◌≡◌, Bool, true, false, List, [], ◌∷◌, ◌++◌, refl, sym, ap, ◌∙◌, subst, append_assoc, append-nil, inl, inr, Option, Some, None, Result, Ok, Err}
 use Rattle.std.specs.Prelude.{◌⊎◌, if◌then◌else◌, map}
 use Rattle.std.specs.List.{filter}
@@ -44,7 +44,7 @@ cut_last (a ∷ all) (y ∷ before) after last x e =
       | inr h ↦ inr (h.0, ap (λ l. a ∷ l) h.1 ∙ ap (λ b. b ∷ (before ++ (x ∷ h.0))) same)
     ]
 
--- ---- where calls have come to
+-- ---- what calls have returned so far
 
 record Stands (room : Room) (octets : List ℕ) (start : State) (given : List EntryGiven) (last : RecordReader) : Type 0 where
   octets_is : last.octets.now ≡ octets
@@ -87,7 +87,7 @@ module _ (entries : List TextEntry) (ends : List EndOfEntry) (entry : TextEntry)
       ∙ ap (λ l. filter entry_counts entries ++ l)
       (filter-append entry_counts (map empty_entry ends) (entry ∷ []) ∙ ap (λ l. l ++ filter entry_counts (entry ∷ [])) (empty_pass ends) ∙ one_counts entry h)
 
--- behind the parts of an entry reading goes on
+-- reading continues after the parts of an entry
 module _ (octets : List ℕ) (seen ends tokens rest : Parts) (source : SourceSeen) where
   seen_behind : (end : Result EndOfEntry Fault) → GoesOn octets end rest source → IsSeenPastFaults octets seen (ends ++ ((tokens ++ end_seen end ∷ []) ++ rest))
       → IsSeenPastFaults octets (seen ++ (ends ++ (tokens ++ end_seen end ∷ []))) source.parts
@@ -105,7 +105,7 @@ goes_closed : (octets : List ℕ) (end : Result EndOfEntry Fault) (rest : Parts)
 goes_closed octets (Ok e) rest source k = k.1
 goes_closed octets (Err f) rest source k = k.1.closed
 
--- ---- a call more
+-- ---- one more call
 
 module _ (room : Room) (octets : List ℕ) (start : State) (given : List EntryGiven) (middle last : RecordReader) (g : EntryGiven) (s : Stands room octets start given middle)
     (q : StepSeen room octets middle.source.parts middle.state g.old g.result last.state last.source g.new) (state_is : last.state ≡ g.state) where
@@ -169,7 +169,7 @@ texts_are_read room octets start first last given h row = (calls_stand room octe
 
 -- ---- the end
 
--- where none is given, ends of entries without tokens are left
+-- if no entry is returned, only the ends of entries without tokens are left
 nothing_left : (room : Room) (last after : RecordReader) (old new : List ℕ) → last.source.is_open ≡ false → ReadsNextEntry room last old None after new → (ends : List EndOfEntry) × (last.source.parts ≡ ends_of ends)
 nothing_left room last after old new closed h = go h.start h.begins h.reads
   where

@@ -1,4 +1,4 @@
--- What is read of an entry, by what its tokens say and the state before it.
+-- How an entry is read, by the meaning of its tokens and the state before it.
 use Rattle.std.specs.Prelude.{ℕ, ◌≡◌, ◌≢◌, ◌<◌, ◌+◌, ◌⊎◌, Bool, List, [], ◌∷◌, ◌++◌, length, drop, is_some, unwrap_or, option_map, Option, Some, None, Result, Ok, Err}
 use Rattle.std.specs.Int.{from_be_bytes, w32}
 use Rattle.dns_octets.specs.Appending.{Extends}
@@ -35,19 +35,19 @@ use Rattle.dns_reader.specs.declared.ttl.RecordTtl.TheVariants.{Own, Default, La
 
 -- ---- names
 
--- the token spells a name, or is refused at its place, for a reason that a name of at most 255 octets is refused for
+-- the token spells a name; or it is rejected at its offset, for a reason for which a name of at most 255 octets is rejected
 abbrev pub NamesOrRefuses : Option (List (List ℕ)) → TokenSeen → Result (List (List ℕ)) RecordError → Type 0
 NamesOrRefuses origin t (Ok labels) = SpellsField origin OfName t (wire labels)
 NamesOrRefuses origin t (Err e) = IsErrorAt t.at e × RefusesNext origin (exactly max_name) OfName (t ∷ []) [] e.kind
 
 -- ---- directives
 
--- the origin from here
+-- the origin from here on
 abbrev pub ReadsOrigin : Option (List (List ℕ)) → TokenSeen → Result EntryRead RecordError → Type 0
 ReadsOrigin origin t (Ok e) = (e ≡ IsDirective) × ((labels : List (List ℕ)) × NamesOrRefuses origin t (Ok labels))
 ReadsOrigin origin t (Err r) = NamesOrRefuses origin t (Err r)
 
--- a directive, if its argument is taken
+-- a directive, if its argument is parsed
 abbrev pub directive_with : Result ℕ RecordError → Result EntryRead RecordError
 directive_with (Ok ttl) = Ok IsDirective
 directive_with (Err e) = Err e
@@ -62,12 +62,12 @@ abbrev pub RefusesOrigin : Option (List (List ℕ)) → Option TokenSeen → Rec
 RefusesOrigin origin None r = ⊥
 RefusesOrigin origin (Some t) r = NamesOrRefuses origin t (Err r)
 
--- the octets of an origin behind those of a file
+-- the octets of an origin after those of a file
 abbrev pub origin_octets : Option (List (List ℕ)) → List ℕ
 origin_octets None = []
 origin_octets (Some labels) = wire labels
 
--- a file's octets are appended, and behind them those of its origin, if one is said; or that is refused; or else the octets don't surely fit
+-- a file's octets are appended, and after them those of its origin, if it has one; or the origin is rejected; or the octets don't surely fit
 abbrev pub ReadsInclude : Option (List (List ℕ)) → Room → ℕ → List ℕ → Option TokenSeen → List ℕ → Result EntryRead RecordError → List ℕ → Type 0
 ReadsInclude origin room at file token old (Ok e) new = (named : Option (List (List ℕ))) × (e ≡ Include (length file) (is_some named)) × IncludesOrigin origin token named × (new ≡ old ++ (file ++ origin_octets named))
 ReadsInclude origin room at file token old (Err r) new =
@@ -76,29 +76,29 @@ ReadsInclude origin room at file token old (Err r) new =
 
 -- ---- records
 
--- the owner that a record says by its token, or else the one before; or why it has none, at its token or at the record's place
+-- the owner that a record's token spells, or else the one before; or why it has none, at its token or at the record's offset
 abbrev pub ReadsOwner : State → ℕ → Option TokenSeen → Result (Unit {0}) RecordError → Known → Type 0
 ReadsOwner before at None (Ok _) known = (known ≡ before.owner) × ((labels : List (List ℕ)) × (known ≡ Name labels))
 ReadsOwner before at None (Err e) known = (known ≡ before.owner) × IsErrorAt at e × WhyNoOwner known e.kind
 ReadsOwner before at (Some t) (Ok _) known = (labels : List (List ℕ)) × (known ≡ Name labels) × NamesOrRefuses (known_name before.origin) t (Ok labels)
 ReadsOwner before at (Some t) (Err r) known = (known ≡ Refused) × NamesOrRefuses (known_name before.origin) t (Err r)
 
--- the number in the last four octets, if there are so many
+-- the number in the last four octets, if there are four
 abbrev pub EndsInNumber : List ℕ → Option ℕ → Type 0
 EndsInNumber octets None = length octets < 4
 EndsInNumber octets (Some n) = (front : List ℕ) × (last : List ℕ) × (octets ≡ front ++ last) × (length last ≡ 4) × (n ≡ from_be_bytes w32 last)
 
--- the minimum of an SOA, as a time to live, is that of the number at the end of its data; other records have none (RFC 1035 section 3.3.13)
+-- the minimum of an SOA, as a TTL, is the number at the end of its data; other records have none (RFC 1035 section 3.3.13)
 abbrev pub IsMinimum : RecordType → List ℕ → Option ℕ → Type 0
 IsMinimum rtype octets minimum =
     ((rtype ≡ Rtype.soa) × ((seconds : Option ℕ) × EndsInNumber octets seconds × (minimum ≡ option_map ttl_of_seconds seconds))) ⊎ ((rtype ≢ Rtype.soa) × (minimum ≡ None))
 
--- a record, whose class is its own or the state's; or the refusal of one without a time to live
+-- a record, whose class is its own or the state's; or the error of a record without a TTL
 abbrev pub record_with : State → ℕ → Words → Option RecordTtl → Result EntryRead RecordError
 record_with before at w None = Err (error_at at NoTtl)
 record_with before at w (Some ttl) = Ok (Record at ttl (unwrap_or w.class before.class) w.rtype)
 
--- what comes behind the words: the data, and then the time to live
+-- what comes after the TTL, class and type: the data, and then the record's TTL
 abbrev pub ReadsBehind : State → ℕ → Words → List ℕ → Result (Unit {0}) RecordError → List ℕ → Result EntryRead RecordError → Type 0
 ReadsBehind before at w old (Err e) new result = result ≡ Err e
 ReadsBehind before at w old (Ok _) new result =
@@ -108,7 +108,7 @@ abbrev pub ReadsRecordData : State → Room → ℕ → ℕ → Words → List T
 ReadsRecordData before room at end w tokens old result new =
     (r : Result (Unit {0}) RecordError) × (left : List TokenSeen) × ReadsType (known_name before.origin) room w.rtype end tokens old r left new × ReadsBehind before at w old r new result
 
--- what comes behind the owner: the first of owner, words and data that is refused is the refusal
+-- what comes after the owner: the error is the first one of owner, type and data
 abbrev pub ReadsWords : State → Room → ℕ → ℕ → Result (Unit {0}) RecordError → Result Words WordsRefusal → List TokenSeen → List ℕ → Result EntryRead RecordError → List ℕ → Type 0
 ReadsWords before room at end (Err r) words tokens old result new = (result ≡ Err r) × (new ≡ old)
 ReadsWords before room at end (Ok _) (Err r) tokens old result new = (result ≡ Err r.error) × (new ≡ old)
@@ -118,13 +118,13 @@ abbrev pub ReadsRecord : State → Room → ℕ → ℕ → Option TokenSeen →
 ReadsRecord before room at end owner words tokens old result known new =
     (first : Result (Unit {0}) RecordError) × ReadsOwner before at owner first known × ReadsWords before room at end first words tokens old result new
 
--- ---- what an entry says of those after it
+-- ---- what later entries inherit from an entry
 
 abbrev pub owner_of_record : Option TokenSeen → List Said
 owner_of_record None = []
 owner_of_record (Some t) = SaysOwner (Some t) ∷ []
 
--- the time to live of a record's own, also of one that is refused
+-- the TTL of a record's own, also of a rejected record
 abbrev pub ttl_of_words : Result Words WordsRefusal → Option ℕ
 ttl_of_words (Ok w) = w.ttl
 ttl_of_words (Err r) = r.ttl
@@ -133,7 +133,7 @@ abbrev pub own_ttl_of : Option ℕ → List Said
 own_ttl_of None = []
 own_ttl_of (Some ttl) = SaysTtl ttl ∷ []
 
--- the minimum of an SOA that has no other time to live
+-- the minimum of an SOA that has no other TTL
 abbrev pub minimum_of_ttl : RecordTtl → List Said
 minimum_of_ttl (Own ttl) = []
 minimum_of_ttl (Default ttl) = []
@@ -147,12 +147,12 @@ minimum_of_record _ = []
 abbrev pub said_of_record : Option TokenSeen → Result Words WordsRefusal → Result EntryRead RecordError → List Said
 said_of_record owner words result = owner_of_record owner ++ (own_ttl_of (ttl_of_words words) ++ minimum_of_record result)
 
--- a refused `$ORIGIN` says that there is none
+-- after a rejected `$ORIGIN` no origin is known
 abbrev pub said_of_refused : Option (Result Directive ErrorKind) → List Said
 said_of_refused (Some (Ok Origin)) = SaysOrigin None ∷ []
 said_of_refused _ = []
 
--- a default time to live, if it is one
+-- a default TTL, if it is parsed
 abbrev pub default_ttl_of : Result ℕ RecordError → List Said
 default_ttl_of (Ok ttl) = SaysDefaultTtl ttl ∷ []
 default_ttl_of (Err r) = []
@@ -167,7 +167,7 @@ said_of_entry first (says_refused r) result = said_of_refused first
 
 -- ---- entries
 
--- what is read of an entry that says this; but for files and records the octets stay, and these stay in front
+-- what is read of an entry with this meaning; only files and records append octets
 abbrev pub ReadsMeaning : State → Room → ℕ → List TokenSeen → EntryMeaning → List ℕ → Result EntryRead RecordError → Known → List ℕ → Type 0
 ReadsMeaning before room end tokens says_nothing old result owner new = (result ≡ Ok Nothing) × (new ≡ old)
 ReadsMeaning before room end tokens (says_origin t) old result owner new = ReadsOrigin (known_name before.origin) t result × (new ≡ old)

@@ -20,19 +20,19 @@ use Rattle.dns_reader.specs.declared.entry.EntryRead.{EntryRead}
 use Rattle.dns_reader.specs.declared.entry.EntryRead.TheVariants.{Directive as IsDirective, Include}
 use Rattle.dns_reader.specs.declared.state.State.{State}
 
--- no token is left where one is asked for; or one is left that is not
+-- no token is left if one is expected; or one is left if none is expected
 abbrev pub ends_early : ℕ → RecordError
 ends_early end = error_at end EndOfEntry
 
 abbrev pub too_many : TokenSeen → RecordError
 too_many t = error_at t.at TrailingArgument
 
--- the next token is passed over: it spells a name, or is refused
+-- the next token is skipped: it spells a name, or is rejected
 abbrev pub PassesName : Option (List (List ℕ)) → ℕ → List TokenSeen → Result (List (List ℕ)) RecordError → List TokenSeen → Type 0
 PassesName origin end [] r left = (left ≡ []) × (r ≡ Err (ends_early end))
 PassesName origin end (t ∷ ts) r left = (left ≡ ts) × NamesOrRefuses origin t r
 
--- the one token that is left spells a name, or is refused
+-- the one token that is left spells a name, or is rejected
 abbrev pub TakesLastName : Option (List (List ℕ)) → ℕ → List TokenSeen → Result (List (List ℕ)) RecordError → Type 0
 TakesLastName origin end [] r = r ≡ Err (ends_early end)
 TakesLastName origin end (t ∷ []) r = NamesOrRefuses origin t r
@@ -52,7 +52,7 @@ abbrev pub ReadsDefaultTtl : ℕ → List TokenSeen → State → Result EntryRe
 ReadsDefaultTtl end tokens before result after =
     (r : Result ℕ RecordError) × (left : List TokenSeen) × TakesDefaultTtl end tokens r left × (result ≡ directive_with r) × Learns (default_ttl_of r) before after
 
--- the next token is passed over: what it holds is appended and counted, or does not surely fit
+-- the next token is skipped: its text is appended and counted, or does not surely fit
 abbrev pub AppendsFile : Room → TokenSeen → List ℕ → Result ℕ RecordError → List ℕ → Type 0
 AppendsFile room t old (Ok n) new = (new ≡ old ++ t.text) × (n ≡ length t.text)
 AppendsFile room t old (Err r) new = (new ≡ old) × (r ≡ error_at t.at ShortBuf) × (room.fits < length old + length t.text)
@@ -61,7 +61,7 @@ abbrev pub PassesFile : Room → ℕ → List TokenSeen → List ℕ → Result 
 PassesFile room end [] old r left new = (left ≡ []) × (r ≡ Err (ends_early end)) × (new ≡ old)
 PassesFile room end (t ∷ ts) old r left new = (left ≡ ts) × AppendsFile room t old r new
 
--- an origin is included, or is refused
+-- an origin is included, or is rejected
 abbrev pub ReadsIncluded : Option (List (List ℕ)) → Option TokenSeen → Result (Option (List (List ℕ))) RecordError → Type 0
 ReadsIncluded origin token (Ok named) = IncludesOrigin origin token named
 ReadsIncluded origin token (Err r) = RefusesOrigin origin token r
@@ -76,7 +76,7 @@ abbrev pub AppendsOrigin : Room → ℕ → Option (List (List ℕ)) → List �
 AppendsOrigin room at named old (Ok has) new = (has ≡ is_some named) × (new ≡ old ++ origin_octets named)
 AppendsOrigin room at named old (Err r) new = (new ≡ old) × (r ≡ error_at at ShortBuf) × (room.fits < length old + length (origin_octets named))
 
--- a file of so many octets, behind which its origin is appended, or does not surely fit
+-- a file of a number of octets, after which its origin is appended, or does not surely fit
 abbrev pub FinishesInclude : Room → ℕ → ℕ → Option (List (List ℕ)) → List ℕ → Result EntryRead RecordError → List ℕ → Type 0
 FinishesInclude room at n named old (Ok e) new = (e ≡ Include n (is_some named)) × (new ≡ old ++ origin_octets named)
 FinishesInclude room at n named old (Err r) new = (new ≡ old) × (r ≡ error_at at ShortBuf) × (room.fits < length old + length (origin_octets named))
@@ -93,7 +93,7 @@ ReadsDirective Origin room end tokens before old r after new =
 ReadsDirective Ttl room end tokens before old r after new = ReadsDefaultTtl end tokens before r after × (new ≡ old)
 ReadsDirective OfInclude room end tokens before old r after new = ReadsLastInclude (known_name before.origin) room end tokens old r new × (after ≡ before)
 
--- the token of the owner, and the tokens behind it
+-- the token of the owner, and the tokens after it
 abbrev pub owner_token : Bool → List TokenSeen → Option TokenSeen
 owner_token true tokens = None
 owner_token false tokens = slice_get tokens 0
@@ -106,7 +106,7 @@ abbrev pub own_or_last : Option ℕ → Option ℕ → Option ℕ
 own_or_last None last = last
 own_or_last (Some ttl) last = Some ttl
 
--- the owner, the words behind it, and what comes behind these
+-- the owner, the TTL, class and type after it, and the data after these
 pub record ReadsRecordTokens (room : Room) (blank : Bool) (end : ℕ) (tokens : List TokenSeen) (before : State) (old : List ℕ) (result : Result EntryRead RecordError) (after : State) (new : List ℕ) : Type 0 where
   pub words : Result Words WordsRefusal
   pub left : List TokenSeen

@@ -1,4 +1,4 @@
--- An entry that is refused, and a fault of the text, by the kind of the error.
+-- A rejected entry and a syntax error of the text differ in the kind of the error.
 use Rattle.std.specs.Prelude.{◌≡◌, ℕ, Bool, List, Some, Err}
 use Rattle.dns_octets.specs.Room.{Room}
 use Rattle.dns_split.specs.EntryTokens.{TokenSeen}
@@ -12,12 +12,12 @@ use Rattle.dns_reader.specs.Source.{StartsBehindLine}
 use Rattle.dns_reader.specs.declared.records.RecordReader.{RecordReader}
 use Rattle.dns_reader.specs.declared.state.State.{State}
 
--- no entry is refused for a fault of the text
+-- no entry is rejected with the kind `Syntax`
 abbrev pub EntriesHaveNoFaults : Type 0
 EntriesHaveNoFaults = (room : Room) (blank : Bool) (end : ℕ) (tokens : List TokenSeen) (before after : State) (old new : List ℕ) (e : RecordError) (wrong : Wrong) → ReadsZoneEntry room blank end tokens before old (Err e) after new
     → e.kind ≡ Syntax wrong → ⊥
 
--- so an error that says one is of a fault that cuts an entry off, and reading goes on after its line
+-- so an error of the kind `Syntax` is of a syntax error that cuts an entry off, and reading continues after its line
 abbrev pub FaultsAreTold : Type 0
 FaultsAreTold = (room : Room) (before after : RecordReader) (old new : List ℕ) (e : RecordError) (wrong : Wrong) → ReadsNextEntry room before old (Some (Err e)) after new → e.kind ≡ Syntax wrong
     → (e ≡ error_of_fault (record { at = e.offset; wrong = wrong })) × StartsBehindLine before.octets.now e.offset after.source

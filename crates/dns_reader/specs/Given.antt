@@ -1,4 +1,4 @@
--- The record that was read of an entry.
+-- The record of an entry that was read.
 use Rattle.std.specs.Prelude.{◌≡◌, ℕ, List, Option, IfSome, MatchOption, None}
 use Rattle.dns_fields.specs.declared.record_ref.RecordRef.{RecordRef}
 use Rattle.dns_kinds.specs.declared.classes.Class.{Class}
@@ -11,7 +11,7 @@ use Rattle.dns_reader.specs.declared.known.Known.TheVariants.{Name}
 use Rattle.dns_reader.specs.declared.state.State.{State}
 use Rattle.dns_reader.specs.declared.ttl.RecordTtl.{RecordTtl}
 
--- a record has an owner of these labels, and what an entry says of it
+-- a record has an owner of these labels, and the TTL, class, type and data of its entry
 pub record IsRecordOfEntry (labels : List (List ℕ)) (ttl : RecordTtl) (class : Class) (rtype : RecordType) (octets : List ℕ) (r : RecordRef) : Type 0 where
   pub owner : r.owner.now ≡ wire labels
   pub ttl_is : r.ttl ≡ seconds_of ttl
@@ -19,7 +19,7 @@ pub record IsRecordOfEntry (labels : List (List ℕ)) (ttl : RecordTtl) (class :
   pub rtype_is : r.rtype ≡ rtype
   pub data_is : r.«data».now ≡ octets
 
--- the record that was read has the owner that is known, and is given unless none is; nothing else is given
+-- the record has the owner that the state knows, and is returned if the state knows one; nothing else is returned
 abbrev pub GivesRecord : State → EntryRead → List ℕ → Option RecordRef → Type 0
 GivesRecord state (Record at ttl class rtype) octets given =
     MatchOption given (known_name state.owner ≡ None) (λ r. (labels : List (List ℕ)) × (state.owner ≡ Name labels) × IsRecordOfEntry labels ttl class rtype octets r)

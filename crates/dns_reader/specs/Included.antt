@@ -7,7 +7,7 @@ use Rattle.dns_reader.specs.Records.{ReadsNextEntry}
 use Rattle.dns_reader.specs.declared.entry.EntryRead.TheVariants.{Include}
 use Rattle.dns_reader.specs.declared.records.RecordReader.{RecordReader}
 
--- it is an absolute name, if there is one
+-- the origin is an absolute name, if there is one
 abbrev pub IsAbsoluteOrigin : Option (List (List ℕ)) → Type 0
 IsAbsoluteOrigin None = ⊤
 IsAbsoluteOrigin (Some labels) = IsName labels × EndsInRoot labels
@@ -18,7 +18,7 @@ pub record OriginAppended (origin : Option (List (List ℕ))) (has_origin : Bool
   pub octets_are : octets ≡ origin_octets origin
   pub absolute : IsAbsoluteOrigin origin
 
--- so many octets name the file, and those of its origin are behind them
+-- the first octets, in this number, name the file, and those of its origin come after them
 pub record IsIncluded (file : ℕ) (has_origin : Bool) (octets : List ℕ) : Type 0 where
   pub name : List ℕ
   pub origin : Option (List (List ℕ))
@@ -27,7 +27,7 @@ pub record IsIncluded (file : ℕ) (has_origin : Bool) (octets : List ℕ) : Typ
   pub both : octets ≡ name ++ behind
   pub said : OriginAppended origin has_origin behind
 
--- A call that gives a file to include appends the octets that name it, and behind them those of its origin, if the entry says one.
+-- A call that returns a file to include appends the octets of its name, and after them those of its origin, if the entry has one.
 abbrev pub FilesAreAppended : Type 0
 FilesAreAppended = (room : Room) (before after : RecordReader) (old new : List ℕ) (file : ℕ) (has_origin : Bool) → ReadsNextEntry room before old (Some (Ok (Include file has_origin))) after new
     → (octets : List ℕ) × (new ≡ old ++ octets) × IsIncluded file has_origin octets

@@ -1,4 +1,4 @@
--- What a state learns where an entry says something.
+-- How an entry changes the state.
 use Rattle.std.specs.Prelude.{◌≡◌, ℕ, List, [], ◌∷◌, ◌++◌, slice_get, Option, Some, None, Result, Ok, Err}
 use Rattle.dns_octets.specs.Room.{exactly}
 use Rattle.dns_wire.specs.Limits.{max_name}
@@ -19,28 +19,28 @@ use Rattle.dns_reader.specs.declared.state.State.{State}
 use Rattle.dns_reader.specs.declared.ttl.RecordTtl.{RecordTtl}
 use Rattle.dns_reader.specs.declared.ttl.RecordTtl.TheVariants.{Own, Default, Last, Minimum}
 
--- what was left by the past is now left by it and by what is said now
+-- a state after some past becomes the state after that past and these values
 abbrev pub Learns : List Said → State → State → Type 0
 Learns said old new = (start : State) (past : List Said) → Knows start past old → Knows start (past ++ said) new
 
--- The next token is taken as a name; or it is refused at its place, for a reason that a name of at
--- most 255 octets is refused for, and stays, and no name is there.
+-- The next token is parsed as a name; or it is rejected at its offset, for a reason for which a
+-- name of at most 255 octets is rejected, and is not taken, and no name is stored.
 abbrev pub TakesName : Option (List (List ℕ)) → ℕ → List TokenSeen → Result (List (List ℕ)) RecordError → List TokenSeen → Type 0
 TakesName origin end tokens (Ok labels) left = (t : TokenSeen) × (tokens ≡ t ∷ left) × SpellsField origin OfName t (wire labels)
 TakesName origin end tokens (Err e) left =
     (left ≡ tokens) × IsErrorAt (next_place tokens end) e × RefusesNext origin (exactly max_name) OfName tokens [] e.kind × NamedBy origin (slice_get tokens 0) Refused
 
--- why there is no owner: none was said, or the one that was said last is refused
+-- why no owner is known: none came before, or the last one is rejected
 abbrev pub WhyNoOwner : Known → ErrorKind → Type 0
 WhyNoOwner Unsaid kind = kind ≡ NoOwner
 WhyNoOwner (Name labels) kind = ⊥
 WhyNoOwner Refused kind = kind ≡ RefusedOwner
 
--- this is the time to live of a record after all that was said
+-- the TTL of a record after all that came before it
 abbrev pub TellsTtl : Option ℕ → Option ℕ → State → Option RecordTtl → Type 0
 TellsTtl own minimum state ttl = (start : State) (past : List Said) → Knows start past state → IsRecordTtl start past own minimum ttl
 
--- the first that there is
+-- the first of these that is known
 abbrev pub chosen_ttl : Option ℕ → Option ℕ → Option ℕ → Option ℕ → Option RecordTtl
 chosen_ttl (Some ttl) default last minimum = Some (Own ttl)
 chosen_ttl None (Some ttl) last minimum = Some (Default ttl)
@@ -48,7 +48,7 @@ chosen_ttl None None (Some ttl) minimum = Some (Last ttl)
 chosen_ttl None None None (Some ttl) = Some (Minimum ttl)
 chosen_ttl None None None None = None
 
--- the names that stood after what was said
+-- the origin and owner after these values
 pub record IsMarkAfter (start : State) (past : List Said) (mark : Mark) : Type 0 where
   pub origin : IsOriginAfter start past mark.origin
   pub owner : IsOwnerAfter start past mark.owner
@@ -56,6 +56,6 @@ pub record IsMarkAfter (start : State) (past : List Said) (mark : Mark) : Type 0
 abbrev pub MarksPast : State → Mark → Type 0
 MarksPast state mark = (start : State) (past : List Said) → Knows start past state → IsMarkAfter start past mark
 
--- behind an included text, before which the mark was made, its times to live alone are known
+-- after an included text, only its TTLs stay; the names are those of the mark
 abbrev pub RestoresPast : Mark → State → State → Type 0
 RestoresPast mark old new = (start : State) (past included : List Said) → IsMarkAfter start past mark → Knows start (past ++ included) old → Knows start (past ++ ttls_said included) new

@@ -21,14 +21,14 @@ use Rattle.dns_reader.specs.declared.known.Known.TheVariants.{Name}
 use Rattle.dns_reader.specs.declared.state.State.{State}
 use Rattle.dns_reader.specs.declared.ttl.RecordTtl.TheVariants.{Own}
 
--- A record that is read, and that says an absolute owner, its time to live and its class, has these
--- whatever the state before it is.
+-- A record that is read, with an absolute owner, a TTL and a class of its own, has these in every
+-- state.
 abbrev pub FullRecordsStandAlone : Type 0
 FullRecordsStandAlone = (room : Room) (end : ℕ) (tokens left : List TokenSeen) (t : TokenSeen) (w : Words) (ttl : ℕ) (class : Class) (labels : List (List ℕ)) (before after : State) (old new : List ℕ) (e : EntryRead)
     → EntrySays false end tokens (says_record (Some t) (Ok w) left) → w.ttl ≡ Some ttl → w.class ≡ Some class → SpellsField None OfName t (wire labels) → ReadsZoneEntry room false end tokens before old (Ok e) after new
     → (e ≡ Record (next_place tokens end) (Own ttl) class w.rtype) × (after.owner ≡ Name labels)
 
--- Tokens say a record whole: an absolute owner, a time to live, a class, a type, and data of it whatever the origin is.
+-- The tokens of a record with all its parts: an absolute owner, a TTL, a class, a type, and data of that type whatever the origin is.
 pub record SaysWholeRecord (end : ℕ) (tokens : List TokenSeen) (labels : List (List ℕ)) (ttl : ℕ) (class : Class) (rtype : RecordType) (octets : List ℕ) : Type 0 where
   pub owner : TokenSeen
   pub behind : List TokenSeen
@@ -36,7 +36,7 @@ pub record SaysWholeRecord (end : ℕ) (tokens : List TokenSeen) (labels : List 
   pub owner_is : SpellsField None OfName owner (wire labels)
   pub «data» : (origin : Option (List (List ℕ))) → IsOrigin origin → SpellsTypeData origin rtype behind octets
 
--- From every state it is read as it is said, and nothing of it is refused, where the octets of its data surely fit.
+-- From every state it is read as it is written, and not rejected, if the octets of its data surely fit.
 abbrev pub WholeRecordsStandAlone : Type 0
 WholeRecordsStandAlone = (room : Room) (end : ℕ) (tokens : List TokenSeen) (labels : List (List ℕ)) (ttl : ℕ) (class : Class) (rtype : RecordType) (octets : List ℕ) → SaysWholeRecord end tokens labels ttl class rtype octets
     → (before after : State) (old new : List ℕ) (result : Result EntryRead RecordError) → IsOrigin (known_name before.origin) → length old + length octets ≤ room.fits → ReadsZoneEntry room false end tokens before old result after new

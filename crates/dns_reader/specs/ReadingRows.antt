@@ -1,4 +1,4 @@
--- Worked rows of what is read of an entry, and of what it says.
+-- Worked examples of what is read of an entry, and of what later entries inherit from it.
 use Rattle.std.specs.Prelude.{◌≡◌, false, [], ◌∷◌, Some, None, Ok, Err, codes, refl}
 use Rattle.std.proofs.Common.{inl, inr, arith}
 use Rattle.dns_split.specs.EntryTokens.{TokenSeen}
@@ -23,34 +23,34 @@ a_record = record { ttl = None; class = None; rtype = Rtype.a }
 minimum_row : IsMinimum Rtype.soa (1 ∷ 0 ∷ 0 ∷ 3 ∷ 132 ∷ []) (Some 900)
 minimum_row = inl (refl, (Some 900, (1 ∷ [], 0 ∷ 0 ∷ 3 ∷ 132 ∷ [], refl, refl, refl), refl))
 
--- 2^31 is no time to live, so it is 0
+-- 2^31 is 0 as a TTL
 long_minimum_row : IsMinimum Rtype.soa (1 ∷ 128 ∷ 0 ∷ 0 ∷ 0 ∷ []) (Some 0)
 long_minimum_row = inl (refl, (Some 2147483648, (1 ∷ [], 128 ∷ 0 ∷ 0 ∷ 0 ∷ [], refl, refl, refl), refl))
 
 no_minimum_row : IsMinimum Rtype.a (192 ∷ 0 ∷ 2 ∷ 1 ∷ []) None
 no_minimum_row = inr (λ e. omega (arith, e), refl)
 
--- a class that is not said is where reading began
+-- the class of a record without one is that where reading began
 class_row : record_with (nothing_said 1) 8 a_record (Some (Own 60)) ≡ Ok (Record 8 (Own 60) 1 Rtype.a)
 class_row = refl
 
 own_class_row : record_with (nothing_said 1) 8 (record { ttl = None; class = Some 3; rtype = Rtype.txt }) (Some (Own 60)) ≡ Ok (Record 8 (Own 60) 3 Rtype.txt)
 own_class_row = refl
 
--- `w A 192.0.2.1` where no time to live is known
+-- `w A 192.0.2.1` if no TTL is known
 no_ttl_row : record_with (nothing_said 1) 0 a_record None ≡ Err (error_at 0 NoTtl)
 no_ttl_row = refl
 
--- ` A 192.0.2.1` where no owner is known
+-- ` A 192.0.2.1` if no owner is known
 no_owner_row : ReadsOwner (nothing_said 1) 1 None (Err (error_at 1 NoOwner)) Unsaid
 no_owner_row = (refl, refl, refl)
 
--- `w 60 "A"` says its owner and its time to live
+-- `w 60 "A"` has an owner and a TTL
 refused_says_row : said_of_record (Some owner) (Err (record { error = error_at 5 Quoted; ttl = Some 60; class = None })) (Err (error_at 5 Quoted))
     ≡ SaysOwner (Some owner) ∷ SaysTtl 60 ∷ []
 refused_says_row = refl
 
--- an SOA that begins with a blank, and whose time to live is its minimum
+-- an SOA that begins with a blank, and whose TTL is its minimum
 minimum_says_row : said_of_record None (Ok (record { ttl = None; class = None; rtype = Rtype.soa })) (Ok (Record 1 (Minimum 900) 1 Rtype.soa)) ≡ SaysDefaultTtl 900 ∷ []
 minimum_says_row = refl
 

@@ -16,7 +16,7 @@ use Rattle.dns_reader.specs.declared.records.RecordReader.{RecordReader}
 use Rattle.dns_reader.specs.declared.source.StartOfEntry.{StartOfEntry}
 use Rattle.dns_reader.specs.declared.state.State.{State}
 
--- all entries of a text are left, behind a state
+-- the reader is at the start of a text, with a state
 pub record StartsText (octets : List ℕ) (state : State) (r : RecordReader) : Type 0 where
   pub are_octets : AreOctets octets
   pub octets_is : r.octets.now ≡ octets
@@ -26,21 +26,21 @@ pub record StartsText (octets : List ℕ) (state : State) (r : RecordReader) : T
   pub taken : r.source.taken ≡ None
   pub state_is : r.state ≡ state
 
--- nothing but the source has moved
+-- only the source has moved
 abbrev pub Unread : State → List ℕ → State → List ℕ → Type 0
 Unread before old after new = (after ≡ before) × (new ≡ old)
 
--- the source stands behind the end of an entry, or behind the line of the fault that cuts it off
+-- the source is after the end of an entry, or after the line of the syntax error that cuts it off
 abbrev pub StandsAfter : List ℕ → SourceSeen → Result EndOfEntry Fault → SourceSeen → Type 0
 StandsAfter octets begun (Ok end) after = (behind_left begun ≡ Ok (EndIs end) ∷ after.parts) × (after.is_open ≡ false) × (after.began ≡ end.at) × (after.taken ≡ None)
 StandsAfter octets begun (Err fault) after = (behind_left begun ≡ Err fault ∷ []) × StartsBehindLine octets fault.at after
 
--- what is given of an entry that has an end; and of one that a fault cuts off
+-- what is returned for an entry that has an end; and for one that a syntax error cuts off
 abbrev pub given_of : Result EndOfEntry Fault → Result EntryRead RecordError → Result EntryRead RecordError
 given_of (Ok end) read = read
 given_of (Err fault) read = Err (error_of_fault fault)
 
--- an entry that is begun is read by its tokens and the state, and taken to its end; or there is none; or a fault stands in front of it, and its line is passed over
+-- an open entry is read by its tokens and the state, up to its end; or no further entry comes; or a syntax error comes first, and its line is skipped
 abbrev pub ReadsBegun : Room → List ℕ → SourceSeen → Result (Option StartOfEntry) Fault → State → List ℕ → Option (Result EntryRead RecordError) → RecordReader → List ℕ → Type 0
 ReadsBegun room octets begun (Ok (Some start)) before old result after new =
     (read : Result EntryRead RecordError) × (end : Result EndOfEntry Fault) × ReadsZoneEntry room start.begins_blank (entry_end begun).at (entry_left begun) before old read after.state new
@@ -56,14 +56,14 @@ pub record ReadsNextEntry (room : Room) (before : RecordReader) (old : List ℕ)
   pub reads : ReadsBegun room before.octets.now begun start before.state old result after new
   pub octets_stay : after.octets.now ≡ before.octets.now
 
--- what a call gives: the octets in front of it, the result, the octets then, and the state that it leaves
+-- a call: the octets before it, its result, the octets after it, and the state that it leaves
 pub record EntryGiven : Type 0 where
   pub old : List ℕ
   pub result : Result EntryRead RecordError
   pub new : List ℕ
   pub state : State
 
--- calls one after another: each goes on where the one before stopped
+-- calls one after another: each begins where the one before stopped
 pub data AreGivenInARow (room : Room) (first : RecordReader) : List EntryGiven → RecordReader → Type 0 where
   none_given : AreGivenInARow room first [] first
   given_next : (given : List EntryGiven) (middle last : RecordReader) (g : EntryGiven) → AreGivenInARow room first given middle → ReadsNextEntry room middle g.old (Some g.result) last g.new → last.state ≡ g.state
@@ -73,7 +73,7 @@ pub data AreGivenInARow (room : Room) (first : RecordReader) : List EntryGiven �
 abbrev pub IsDirectiveGiven : List ℕ → EntryGiven → Type 0
 IsDirectiveGiven old g = (g.old ≡ old) × (g.result ≡ Ok Directive) × (g.new ≡ old)
 
--- directives are read, and then what is given, which is none
+-- directives are read, and then something that is not a directive
 pub record ReadsNextRecord (room : Room) (before : RecordReader) (old : List ℕ) (result : Option (Result EntryRead RecordError)) (after : RecordReader) (new : List ℕ) : Type 0 where
   pub directives : List EntryGiven
   pub middle : RecordReader

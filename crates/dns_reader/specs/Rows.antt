@@ -1,4 +1,4 @@
--- Worked rows of the definitions.
+-- Worked examples of the definitions.
 use Rattle.std.specs.Prelude.{◌≡◌, [], ◌∷◌, Some, None, refl}
 use Rattle.std.proofs.Common.{inl, inr}
 use Rattle.dns_reader.specs.Past.{SaysOrigin, SaysOwner, SaysDefaultTtl, SaysTtl, IsOwnerAfter, no_owner_said, IsRecordTtl, nothing_said, ttls_said}
@@ -6,11 +6,11 @@ use Rattle.dns_reader.specs.declared.known.Known.TheVariants.{Unsaid}
 use Rattle.dns_reader.specs.declared.state.State.{State}
 use Rattle.dns_reader.specs.declared.ttl.RecordTtl.TheVariants.{Own, Default, Last, Minimum}
 
--- where reading begins with the class IN alone
+-- the start of reading with the class IN alone
 abbrev bare : State
 bare = nothing_said 1
 
--- `$TTL 50`, and then records that say none, 77, and none
+-- after `$TTL 50`, records with no TTL, with 77, and with no TTL
 default_row : IsRecordTtl bare (SaysDefaultTtl 50 ∷ []) None None (Some (Default 50))
 default_row = (refl, inr (50, record { before = []; at = SaysDefaultTtl 50; after = []; whole = refl; said = refl; silent = tt }, refl))
 
@@ -20,15 +20,15 @@ own_row = refl
 default_again_row : IsRecordTtl bare (SaysDefaultTtl 50 ∷ SaysTtl 77 ∷ []) None None (Some (Default 50))
 default_again_row = (refl, inr (50, record { before = []; at = SaysDefaultTtl 50; after = SaysTtl 77 ∷ []; whole = refl; said = refl; silent = (refl, tt) }, refl))
 
--- without `$TTL`, and behind a record with 77
+-- without `$TTL`, after a record with 77
 last_row : IsRecordTtl bare (SaysTtl 77 ∷ []) None (Some 900) (Some (Last 77))
 last_row = (refl, inl ((refl, tt), refl), inr (77, record { before = []; at = SaysTtl 77; after = []; whole = refl; said = refl; silent = tt }, refl))
 
--- an SOA first, which says none: its minimum, and the default of those after it
+-- an SOA without a TTL comes first: its minimum, which is also the default of records after it
 minimum_row : IsRecordTtl bare [] None (Some 900) (Some (Minimum 900))
 minimum_row = (refl, inl (tt, refl), inl (tt, refl), refl)
 
--- no time to live is known
+-- no TTL is known
 no_ttl_row : IsRecordTtl bare (SaysOwner None ∷ []) None None None
 no_ttl_row = (refl, inl ((refl, tt), refl), inl ((refl, tt), refl), refl)
 

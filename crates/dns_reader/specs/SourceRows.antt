@@ -1,4 +1,4 @@
--- Worked texts: what is read of each, entry by entry.
+-- Worked examples: texts, and what is read of each, entry by entry.
 use Rattle.std.specs.Prelude.{◌≡◌, Bool, true, false, ℕ, List, [], ◌∷◌, map, codes, refl, Some, None, Result, Ok, Err}
 use Rattle.std.proofs.Common.{inl, lit≤}
 use lib.Utf8.{encode}
@@ -60,14 +60,14 @@ first_begins = record { ends = []; passed = refl; began = refl; start = (refl, r
 first_is_left : entry_left (source 0 true all_entries) ≡ word (codes "a") 0 ∷ word (codes "b") 2 ∷ []
 first_is_left = refl
 
--- after its last token, and not after its line
+-- the entry ends after its last token, and not after its line
 first_ends : entry_end (source 0 true all_entries) ≡ record { at = 3; behind = Some (Ok (EndIs (end 4 false)) ∷ later_entries) }
 first_ends = refl
 
 first_stops : stop_place (source 0 true all_entries) ≡ 4
 first_stops = refl
 
--- so also where its first token was taken, and where both were
+-- so also if its first token was taken, and if both were
 abbrev one_taken : SourceSeen
 one_taken = record { began = 0; is_open = true; taken = Some 1; parts = Ok (TokenIs (word (codes "b") 2) false) ∷ Ok (EndIs (end 4 false)) ∷ later_entries }
 
@@ -80,7 +80,7 @@ one_taken_ends = refl
 both_taken_end : entry_end both_taken ≡ entry_end (source 0 true all_entries)
 both_taken_end = refl
 
--- `a ( "b" ; c`, and a parenthesis on the next line: after the double quote
+-- `a ( "b" ; c`, and a parenthesis on the next line: the entry ends after the double quote
 quote_ends : last_token_end 0 (word (codes "a") 0 ∷ record { text = codes "b"; is_quoted = true; is_glued = false; at = 4 } ∷ []) ≡ 7
 quote_ends = refl
 
@@ -93,7 +93,7 @@ blank_line_is_passed = record { ends = end 5 false ∷ []; passed = refl; began 
 nothing_is_left : BeginsEntry (source 5 true last_entry) (Ok None) (source 7 false [])
 nothing_is_left = record { ends = end 7 true ∷ []; passed = refl; began = refl; start = (refl, refl) }
 
--- a fault cuts an entry off: `a )`
+-- a syntax error cuts an entry off: `a )`
 abbrev cut_off : List (Result PartSeen Fault)
 cut_off = Ok (TokenIs (word (codes "a") 0) false) ∷ Err (record { at = 2; wrong = Closing }) ∷ []
 
@@ -106,7 +106,7 @@ cut_ends = refl
 cut_is_refused : FinishesEntry (source 0 true cut_off) (Err (record { at = 2; wrong = Closing })) (source 0 true (Err (record { at = 2; wrong = Closing }) ∷ []))
 cut_is_refused = (refl, refl, refl)
 
--- the line behind the fault of `a )`
+-- the line after the syntax error of `a )`
 given_of_line : IsGiven (codes "b") (map Ok (word_at 0 1 ∷ end_at 1 false ∷ []))
 unfolding encode
 given_of_line = (

@@ -1,4 +1,4 @@
--- Worked rows of the entries of a text: `a )`, a blank line, and `b`.
+-- Worked examples of the entries of a text: `a )`, a blank line, and `b`.
 use Rattle.std.specs.Prelude.{◌≡◌, false, ℕ, List, [], ◌∷◌, codes, map, refl, Result, Ok, Err}
 use Rattle.std.specs.List.{filter}
 use Rattle.std.proofs.Common.{lit≤}
@@ -24,7 +24,7 @@ cut_off = entry (word (codes "a") 0 ∷ []) (Err (record { at = 2; wrong = Closi
 abbrev last : TextEntry
 last = entry (word (codes "b") 5 ∷ []) (Ok (end 6))
 
--- the fault is passed, and so is the blank line
+-- the syntax error is skipped, and so is the blank line
 parts_row : parts_of_entries (cut_off ∷ entry [] (Ok (end 5)) ∷ last ∷ [])
     ≡ Ok (TokenIs (word (codes "a") 0) false) ∷ Err (record { at = 2; wrong = Closing }) ∷ Ok (EndIs (end 5)) ∷ Ok (TokenIs (word (codes "b") 5) false) ∷ Ok (EndIs (end 6)) ∷ []
 parts_row = refl
@@ -32,7 +32,7 @@ parts_row = refl
 counts_row : filter entry_counts (cut_off ∷ entry [] (Ok (end 5)) ∷ last ∷ []) ≡ cut_off ∷ last ∷ []
 counts_row = refl
 
--- a fault in front of all tokens counts
+-- a syntax error before all tokens counts
 fault_row : filter entry_counts (entry [] (Err (record { at = 0; wrong = Closing })) ∷ []) ≡ entry [] (Err (record { at = 0; wrong = Closing })) ∷ []
 fault_row = refl
 
@@ -42,7 +42,7 @@ spelled_row = refl
 next_line_row : IsNextLine (codes "a )\n\nb") 2 4
 next_line_row = record { within = lit≤ tt; behind = refl }
 
--- where the fault is the line feed, and where none follows
+-- the syntax error is at the line feed; and no line feed follows
 feed_row : IsNextLine (codes "\"a\nb") 2 3
 feed_row = record { within = lit≤ tt; behind = refl }
 

@@ -1,4 +1,4 @@
-//! What is read of an entry: a directive, or a record.
+//! Reads an entry of a zone file: a directive, or a record.
 ghost use Rattle.std.specs.Prelude.{◌≡◌, ◌≢◌, ◌∷◌, [], None, drop, false, take};
 ghost use Rattle.std.specs.Option.{option_copied};
 ghost use Rattle.dns_octets.specs.Appending.{Extends};
@@ -20,22 +20,22 @@ use dns_heads::{
 use dns_kinds::{Class, ErrorKind, RecordType};
 use dns_octets::{AsOctetsMut, OctetsBuilder};
 
-/// What is read of an entry.
+/// The result of reading an entry.
 #[derive(Clone, Copy)]
 pub enum EntryRead {
-    /// It has no tokens.
+    /// The entry has no tokens.
     Nothing,
-    /// It is `$ORIGIN` or `$TTL`, and the state has changed.
+    /// The entry is `$ORIGIN` or `$TTL`, and the state has changed.
     Directive,
-    /// It is `$INCLUDE`. The octets that name the file are appended, as they are written: there are
-    /// `file` of them. If `has_origin`, the wire form of the origin that stands where the file begins
-    /// is appended after them ([`include_parts`]).
+    /// The entry is `$INCLUDE`. The octets that name the file are appended, as they are written:
+    /// there are `file` of them. If `has_origin`, the wire form of the included file's origin is
+    /// appended after them ([`include_parts`]).
     Include {
         file: usize,
         has_origin: bool,
     },
-    /// It is a record, whose first token stands at this place: its time to live, class and type. Its
-    /// owner is the state's, and the octets of its data are appended.
+    /// The entry is a record: the offset of its first token, its TTL, class and type. Its owner is
+    /// the state's, and the octets of its data are appended.
     Record {
         at: usize,
         ttl: RecordTtl,
@@ -44,8 +44,8 @@ pub enum EntryRead {
     },
 }
 
-/// The octets that name the file of [`EntryRead::Include`], and those of the origin behind them, of all
-/// that were appended.
+/// Returns the octets that name the file of [`EntryRead::Include`], and those of its origin after
+/// them. `appended` is all that was appended.
 pub fn include_parts(appended: &[u8], file: usize) -> (&[u8], &[u8])
     ensures file { result.0.now ≡ take file appended.now }
     ensures origin { result.1.now ≡ drop file appended.now }
@@ -54,7 +54,7 @@ pub fn include_parts(appended: &[u8], file: usize) -> (&[u8], &[u8])
     (&appended[..end], &appended[end..])
 }
 
-/// Takes the next token as a name. It is passed over also where it is refused.
+/// Parses the next token as a name. A rejected token is skipped too.
 fn pass_name<S: TokenSource>(
     origin: Option<&NameBuffer>,
     source: &mut S,
@@ -71,7 +71,8 @@ fn pass_name<S: TokenSource>(
     }
 }
 
-/// Takes the one token that is left as a name. A token behind it is refused before the name is.
+/// Parses the one token that is left as a name. Fails first if another token comes after it, and
+/// then if it is not a name.
 fn take_last_name<S: TokenSource>(
     origin: Option<&NameBuffer>,
     source: &mut S,
@@ -90,7 +91,7 @@ fn take_last_name<S: TokenSource>(
     }
 }
 
-/// Reads what stands behind `$ORIGIN`. Where it is refused there is no origin.
+/// Reads the operand of `$ORIGIN`. If it is rejected, no origin is known.
 fn read_origin<S: TokenSource>(state: &mut State, source: &mut S) -> Result<EntryRead, RecordError>
     ensures reads { ReadsLastOrigin (known_name state.old.origin) (S.end source.old).at (S.left source.old) result }
     ensures learns { Learns (SaysOrigin (only_token (S.left source.old)) ∷ []) state.old state.new }
@@ -108,7 +109,7 @@ fn read_origin<S: TokenSource>(state: &mut State, source: &mut S) -> Result<Entr
     }
 }
 
-/// Reads what stands behind `$TTL`.
+/// Reads the operand of `$TTL`.
 fn read_default_ttl<S: TokenSource>(
     state: &mut State,
     source: &mut S,
@@ -125,8 +126,8 @@ fn read_default_ttl<S: TokenSource>(
     }
 }
 
-/// Takes the file of `$INCLUDE`, and counts its octets. Its token is passed over also where these don't
-/// fit.
+/// Appends the file of `$INCLUDE`, and returns the number of its octets. Its token is skipped also
+/// if they don't fit.
 fn pass_file<S: TokenSource, B: OctetsBuilder>(
     source: &mut S,
     target: &mut B,
@@ -143,7 +144,7 @@ fn pass_file<S: TokenSource, B: OctetsBuilder>(
     }
 }
 
-/// Takes the origin behind the file of `$INCLUDE`, if a token is left.
+/// Parses the origin after the file of `$INCLUDE`, if a token is left.
 fn take_included_origin<S: TokenSource>(
     origin: Option<&NameBuffer>,
     source: &mut S,
@@ -160,7 +161,7 @@ fn take_included_origin<S: TokenSource>(
     }
 }
 
-/// Appends the origin that stands where an included file begins, if the entry says one.
+/// Appends the origin of an included file, if the entry has one.
 fn append_origin<B: OctetsBuilder>(
     at: usize,
     origin: &Option<NameBuffer>,
@@ -177,7 +178,7 @@ fn append_origin<B: OctetsBuilder>(
     }
 }
 
-/// A file of so many octets that is included, of which all but the origin is appended.
+/// Finishes a file to include, of which all but the origin is appended.
 fn finish_include<B: OctetsBuilder>(
     at: usize,
     file: usize,
@@ -192,8 +193,8 @@ fn finish_include<B: OctetsBuilder>(
     }
 }
 
-/// Reads what stands behind `$INCLUDE`. Of what is refused a token too many comes first, then the
-/// origin, and then a file and an origin for which there is no room.
+/// Reads the operands of `$INCLUDE`. Errors are found in this order: a token too many; a rejected
+/// origin; a file and an origin that don't fit.
 fn read_include<S: TokenSource, B: OctetsBuilder>(
     state: &State,
     source: &mut S,
@@ -213,9 +214,9 @@ fn read_include<S: TokenSource, B: OctetsBuilder>(
     }
 }
 
-/// Reads what stands behind the word of a directive.
+/// Reads the operands of a directive.
 ///
-/// It stands apart, since a record has no need of its room for names.
+/// It is a function of its own, since a record doesn't need its stack space for names.
 #[inline(never)]
 fn read_directive<S: TokenSource, B: OctetsBuilder>(
     directive: Directive,
@@ -233,7 +234,7 @@ fn read_directive<S: TokenSource, B: OctetsBuilder>(
     }
 }
 
-/// Whether an owner is known for a record that says none.
+/// Fails if no owner is known for a record without one.
 fn known_owner(state: &State, at: usize) -> Result<(), RecordError>
     ensures { ReadsOwner state.now at None result state.now.owner }
 {
@@ -243,7 +244,7 @@ fn known_owner(state: &State, at: usize) -> Result<(), RecordError>
     }
 }
 
-/// Takes the owner that a record says. Where it is refused, it is known as such.
+/// Parses the owner of a record. If it is rejected, the state knows it as rejected.
 fn pass_owner<S: TokenSource>(state: &mut State, source: &mut S) -> Result<(), RecordError>
     ensures reads { S.left source.old ≢ [] → ReadsOwner state.old (next_place (S.left source.old) (S.end source.old).at) (owner_token false (S.left source.old)) result state.new.owner }
     ensures left { S.left source.new ≡ tokens_behind_owner false (S.left source.old) }
@@ -263,7 +264,7 @@ fn pass_owner<S: TokenSource>(state: &mut State, source: &mut S) -> Result<(), R
     }
 }
 
-/// The owner of a record, which it says, or which was said before it.
+/// Finds the owner of a record: its own, or the last one before it.
 fn find_owner<S: TokenSource>(
     state: &mut State,
     begins_blank: bool,
@@ -281,7 +282,7 @@ fn find_owner<S: TokenSource>(
     pass_owner(state, source)
 }
 
-/// A record says this time to live of its own, if any.
+/// Stores the TTL of a record, if it has one of its own.
 fn say_own_ttl(state: &mut State, own: Option<u32>)
     ensures state { state.new ≡ record state.old { last_ttl = own_or_last own state.old.last_ttl } }
     ensures learns { Learns (own_ttl_of own) state.old state.new }
@@ -292,7 +293,7 @@ fn say_own_ttl(state: &mut State, own: Option<u32>)
     }
 }
 
-/// Where a record has its own minimum, this is the default time to live.
+/// Stores the minimum of a record as the default TTL, if its TTL is its own minimum.
 fn say_minimum(state: &mut State, ttl: RecordTtl)
     ensures owner { state.new.owner ≡ state.old.owner }
     ensures learns { Learns (minimum_of_ttl ttl) state.old state.new }
@@ -305,7 +306,7 @@ fn say_minimum(state: &mut State, ttl: RecordTtl)
     }
 }
 
-/// The time to live of a record's own, also of one whose type is refused.
+/// Returns the TTL of a record's own, also of one whose type is rejected.
 fn own_ttl(words: &Result<Words, WordsRefusal>) -> Option<u32>
     ensures { result ≡ ttl_of_words words.now }
 {
@@ -315,7 +316,7 @@ fn own_ttl(words: &Result<Words, WordsRefusal>) -> Option<u32>
     }
 }
 
-/// The number in the last four octets, if there are so many.
+/// Returns the number in the last four octets, or `None` if there are fewer.
 fn last_number(octets: &[u8]) -> Option<u32>
     ensures { EndsInNumber octets.now result }
 {
@@ -327,7 +328,7 @@ fn last_number(octets: &[u8]) -> Option<u32>
     Some(u32::from_be_bytes(last))
 }
 
-/// The minimum of a record as a time to live, if it is an SOA (RFC 1035 section 3.3.13).
+/// Returns the minimum of a record as a TTL, if it is an SOA (RFC 1035 section 3.3.13).
 fn minimum_of(rtype: RecordType, octets: &[u8]) -> Option<u32>
     ensures { IsMinimum rtype octets.now result }
 {
@@ -340,7 +341,7 @@ fn minimum_of(rtype: RecordType, octets: &[u8]) -> Option<u32>
     }
 }
 
-/// A record of which all but the time to live is read.
+/// Finishes a record of which all but the TTL is read.
 fn finish_record(
     state: &mut State,
     at: usize,
@@ -365,7 +366,7 @@ fn finish_record(
     })
 }
 
-/// Reads the data of a record, and finds its time to live.
+/// Reads the data of a record, and finds its TTL.
 fn read_record_data<S: TokenSource, B: OctetsBuilder + AsOctetsMut>(
     state: &mut State,
     at: usize,
@@ -389,7 +390,7 @@ fn read_record_data<S: TokenSource, B: OctetsBuilder + AsOctetsMut>(
     }
 }
 
-/// Reads what stands behind the words of a record, unless it is refused already.
+/// Reads what comes after the type of a record, unless the record is rejected already.
 fn read_behind<S: TokenSource, B: OctetsBuilder + AsOctetsMut>(
     state: &mut State,
     at: usize,
@@ -413,7 +414,7 @@ fn read_behind<S: TokenSource, B: OctetsBuilder + AsOctetsMut>(
     }
 }
 
-/// Reads a record. Its time to live is said also where something else of it is refused.
+/// Reads a record. Its TTL is stored also if another part of it is rejected.
 fn read_record<S: TokenSource, B: OctetsBuilder + AsOctetsMut>(
     state: &mut State,
     begins_blank: bool,
@@ -432,19 +433,17 @@ fn read_record<S: TokenSource, B: OctetsBuilder + AsOctetsMut>(
 
 /// Reads an entry by its tokens, whether it begins with a blank, and the state.
 ///
-/// A directive is looked at first. Of a record it is the owner; then the words in front of its data,
-/// which are its time to live, class and type; then the data, whose octets are appended; then the
-/// time to live, if it says none: the first of these that is refused is the refusal. The class is
-/// the record's own or the state's.
+/// If the entry is not a directive, it is a record. Its owner comes first; then its TTL, class and
+/// type; then its data, whose octets are appended. Its TTL is found last, if it has none of its
+/// own. The error is that of the first rejected part. The class is the record's own or the state's.
 ///
-/// An error has the place of the token. Where no token is left, this is where the last one ends:
-/// parentheses, comments and blanks that follow don't count. Where no owner or no time to live is
-/// known, it is the record's first token. Its kind is never [`ErrorKind::Syntax`].
+/// An error has the offset of the token. If no token is left, this is where the last one ends:
+/// parentheses, comments and blanks that follow don't count. If no owner or no TTL is known, it is
+/// that of the record's first token. Its kind is never [`ErrorKind::Syntax`].
 ///
-/// After a refusal the state has learned what can be read of it all the same. The owner is that of
-/// the entries that follow, or is refused for them; the time to live is that of the last record.
-/// After a refused `$ORIGIN` there is no origin. Tokens may be left, and `target` may have more octets
-/// than before.
+/// On an error the state has changed as far as the entry can be read. The owner is that of later
+/// entries, or is rejected for them; the TTL is that of the last record. After a rejected `$ORIGIN`
+/// no origin is known. Tokens may be left, and `target` may have more octets than before.
 pub fn read_entry<S: TokenSource, B: OctetsBuilder + AsOctetsMut>(
     state: &mut State,
     begins_blank: bool,

@@ -1,4 +1,4 @@
-//! The record that was read of an entry.
+//! Returns the record of an entry that was read.
 ghost use Rattle.dns_reader.specs.Given.{GivesRecord};
 
 use crate::entry::EntryRead;
@@ -6,8 +6,8 @@ use crate::state::State;
 use dns_fields::RecordRef;
 
 impl State {
-    /// Returns the record that was read of the last entry, whose data is `octets`, or `None` if no record
-    /// was read or no owner is known.
+    /// Returns the record of the last entry that was read, whose data is `octets`, or `None` if the
+    /// entry was not a record or no owner is known.
     pub fn record<'a>(&'a self, read: &EntryRead, octets: &'a [u8]) -> Option<RecordRef<'a>>
         ensures { GivesRecord self.now read.now octets.now result }
     {

@@ -1,4 +1,4 @@
-//! A name that later entries may leave out: the origin, or the owner.
+//! A name that later entries may omit: the origin, or the owner.
 ghost use Rattle.std.specs.Prelude.{◌≡◌};
 ghost use Rattle.std.specs.Option.{option_copied};
 ghost use Rattle.dns_reader.specs.Past.{known_name};
@@ -6,22 +6,22 @@ ghost use Rattle.dns_reader.specs.Past.{known_name};
 use arrayvec::ArrayVec;
 use dns_wire::{MAX_NAME, Name};
 
-/// An absolute name in a buffer of its own, which takes no memory.
+/// An absolute name in a buffer of its own, which needs no memory.
 pub type NameBuffer = Name<ArrayVec<u8, MAX_NAME>>;
 
-/// What is known of a name that later entries may leave out.
+/// A name that later entries may omit, if it is known.
 #[derive(Drop)]
 pub enum Known {
-    /// No entry said one.
+    /// No entry had one.
     Unsaid,
-    /// The name that was said last.
+    /// The last name.
     Name(NameBuffer),
-    /// What was said last is refused as a name.
+    /// The last name is rejected.
     Refused,
 }
 
 impl Known {
-    /// The name, if there is one.
+    /// Returns the name, or `None` if none is known.
     pub fn name(&self) -> Option<&NameBuffer>
         ensures { option_copied result ≡ known_name self.now }
     {
@@ -31,7 +31,7 @@ impl Known {
         }
     }
 
-    /// The same again. It takes no memory.
+    /// Returns a copy. It needs no memory.
     pub fn copied(&self) -> Known
         ensures { result ≡ self.now }
     {
@@ -43,7 +43,7 @@ impl Known {
     }
 }
 
-/// A copy of a name.
+/// Returns a copy of a name.
 fn copy_of(name: &NameBuffer) -> NameBuffer
     ensures { result ≡ name.now }
 {

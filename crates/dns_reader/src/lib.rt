@@ -1,5 +1,5 @@
-//! The reader of zone files: the tokens of each entry, and what the entries before it say of it (RFC
-//! 1035 section 5.1, RFC 2308 section 4).
+//! Reads the entries of zone files by their tokens and by the entries before them (RFC 1035 section
+//! 5.1, RFC 2308 section 4).
 #![tactic(auto)]
 
 pub mod entry;

@@ -1,4 +1,4 @@
-//! The entries of a text, each by what those before it say.
+//! Reads the entries of a text, each with the state that those before it leave.
 ghost use Rattle.std.specs.Prelude.{◌≡◌, ◌≤◌, ◌↔◌, IsTrue, false, length};
 ghost use Rattle.dns_fields.specs.RecordErrors.{error_of_fault};
 ghost use Rattle.dns_reader.specs.Records.{ReadsNextEntry, ReadsNextRecord, StartsText};
@@ -13,16 +13,16 @@ use dns_fields::{RecordError, TokenSource};
 use dns_octets::{AsOctetsMut, OctetsBuilder};
 use dns_split::pieces::Fault;
 
-/// The entries of a text that are left, and what those before them say.
+/// A reader of the entries of a text.
 #[derive(Drop)]
 pub struct RecordReader<'t> {
     octets: &'t [u8],
     source: EntrySource<'t>,
-    /// What the entries so far say. The owner of a record that was given last is the state's.
+    /// The state after the entries so far. The owner of the last record is the state's.
     pub state: State,
 }
 
-/// Whether what is given is a directive.
+/// Returns whether an entry is a directive.
 fn is_directive(given: &Option<Result<EntryRead, RecordError>>) -> bool
     ensures { IsTrue result ↔ (given.now ≡ Some (Ok Directive)) }
 {
@@ -30,7 +30,7 @@ fn is_directive(given: &Option<Result<EntryRead, RecordError>>) -> bool
 }
 
 impl<'t> RecordReader<'t> {
-    /// The entries of octets that need not be UTF-8, behind a state.
+    /// Returns a reader of octets, which need not be UTF-8, with a state.
     pub fn new(octets: &'t [u8], state: State) -> RecordReader<'t>
         ensures { StartsText octets.now state result }
     {
@@ -42,10 +42,11 @@ impl<'t> RecordReader<'t> {
         }
     }
 
-    /// The entries from one's beginning on, behind a state, with places among all octets.
+    /// Returns a reader from the beginning of an entry on, with a state, and with offsets among all
+    /// octets.
     ///
-    /// `at` is where another reader of them stands ([`RecordReader::place`]), behind which
-    /// something is left, and `state` is that reader's.
+    /// `at` is the offset of another reader of them ([`RecordReader::place`]) after which something
+    /// is left, and `state` is that reader's.
     pub fn starting_at(octets: &'t [u8], at: usize, state: State) -> RecordReader<'t>
         requires { at ≤ length octets.now }
         ensures { StartsAt octets.now at state result }
@@ -58,14 +59,15 @@ impl<'t> RecordReader<'t> {
         }
     }
 
-    /// Where the next entry begins: where the one before it ended, or behind a fault's line.
+    /// Returns the offset where the next entry begins: where the one before it ended, or after the
+    /// line of a syntax error.
     pub fn place(&self) -> usize
         ensures { self.now.source.is_open ≡ false → result ≡ self.now.source.began }
     {
         self.source.place()
     }
 
-    /// Passes over what is left of the line on which a fault stands, and refuses what was read.
+    /// Skips the rest of the line of a syntax error, and returns the error.
     fn pass_fault(&mut self, fault: Fault) -> RecordError
         ensures error { result ≡ error_of_fault fault }
         ensures behind { StartsBehindLine self.old.octets.now fault.at self.new.source }
@@ -76,12 +78,12 @@ impl<'t> RecordReader<'t> {
         RecordError::from(fault)
     }
 
-    /// Reads the next entry that has tokens; or returns `None` where nothing is left.
+    /// Reads the next entry that has tokens, or returns `None` if nothing is left.
     ///
-    /// After a refusal the next call goes on: at the next entry, or where a fault of the text cuts
-    /// one off, at the next line. A fault is returned once, as an error of the kind
+    /// After an error the next call continues: at the next entry, or if a syntax error of the text
+    /// cuts one off, at the next line. A syntax error is returned once, with the kind
     /// [`ErrorKind::Syntax`](dns_kinds::ErrorKind::Syntax), which no other error has. The state has
-    /// learned what the tokens before the fault say, as of each entry that is refused.
+    /// changed by the tokens before it, as by those of each rejected entry.
     pub fn next_entry<B: OctetsBuilder + AsOctetsMut>(
         &mut self,
         target: &mut B,
@@ -105,8 +107,8 @@ impl<'t> RecordReader<'t> {
         }
     }
 
-    /// Reads up to the next record or file to include, and passes over `$ORIGIN` and `$TTL`; or
-    /// returns the refusal that comes before it, or `None` where nothing is left.
+    /// Reads up to the next record or file to include, and skips `$ORIGIN` and `$TTL`. Returns the
+    /// first error before it, or `None` if nothing is left.
     pub fn next_record<B: OctetsBuilder + AsOctetsMut>(
         &mut self,
         target: &mut B,

@@ -1,4 +1,4 @@
-//! The entries of zone text, each read token by token, without memory.
+//! Splits a zone file into entries, and reads each of them token by token, without memory.
 ghost use Rattle.std.specs.Prelude.{◌≡◌, ◌≤◌, ◌<◌, ◌^◌, ◌∷◌, [], List, Result, Ok, Err, Some, drop, true, length, map};
 ghost use Rattle.std.specs.Io.BufRead.{drop_through};
 ghost use Rattle.dns_symbol.specs.Characters.{line_feed};
@@ -18,14 +18,14 @@ use std::marker::Model;
 /// The beginning of an entry.
 #[derive(Clone, Copy)]
 pub struct StartOfEntry {
-    /// Where it begins: where the entry before it ended, or the text began.
+    /// Offset where it begins: where the entry before it ended, or the text began.
     pub at: usize,
-    /// Whether it begins with a blank: a record so written takes the owner of the one before.
+    /// Whether it begins with a blank. Such a record has the owner of the one before.
     pub begins_blank: bool,
 }
 
-/// Where the next line begins: behind the first line feed at a place or after it, or at the octets'
-/// end where none is.
+/// Returns the offset where the next line begins: after the first line feed from an offset on, or
+/// the octets' end if none follows.
 fn next_line(octets: &[u8], at: usize) -> usize
     ensures within { result ≤ length octets.now }
     ensures behind { drop result octets.now ≡ drop_through line_feed (drop at octets.now) }
@@ -47,7 +47,7 @@ fn can_count(octets: &[u8])
     let _count = octets.len();
 }
 
-/// Where a token ends among the octets.
+/// Returns the offset where a token ends among the octets.
 fn token_end(token: EntryToken<'_>) -> usize
     requires { token_end (token_seen token) < 2 ^ 64 }
     ensures { result ≡ token_end (token_seen token.entry) }
@@ -59,22 +59,22 @@ fn token_end(token: EntryToken<'_>) -> usize
     end
 }
 
-/// The entries of a text that are left, and the tokens of the one that is open.
+/// A source of the entries of a text, and of the tokens of the open one.
 ///
-/// [`EntrySource::begin`] opens an entry, [`TokenSource`] gives its tokens, and
-/// [`EntrySource::finish`] takes what is left of it. A fault of the text ends the tokens of its
+/// [`EntrySource::begin`] opens an entry, [`TokenSource`] returns its tokens, and
+/// [`EntrySource::finish`] skips the rest of it. A syntax error of the text ends the tokens of its
 /// entry, and the source stays there.
 ///
-/// Its place as a [`TokenSource`], once no token is left, is where the last one ended: parentheses,
+/// Once no token is left, its place as a [`TokenSource`] is where the last one ended: parentheses,
 /// comments and blanks may follow.
 #[derive(Drop)]
 pub struct EntrySource<'t> {
     tokens: EntryTokens<'t>,
-    /// What comes next of the entry that is open.
+    /// The next part of the open entry.
     next: Option<Result<EntryPart<'t>, Fault>>,
-    /// Where the last token ended that was taken of that entry, if one was.
+    /// Offset where the last token ended that was taken of that entry, if one was.
     taken: Option<usize>,
-    /// Where that entry began, or the next one begins.
+    /// Offset where that entry began, or where the next one begins.
     began: usize,
 }
 
@@ -93,7 +93,8 @@ impl<'t> EntrySource<'t> {
     ghost use Rattle.dns_fields.specs.Source.{next_place};
     ghost use Rattle.dns_reader.specs.Source.{entry_left};
 
-    /// The entries of octets that need not be UTF-8: each octet counts as a character of its own.
+    /// Returns a source of octets, which need not be UTF-8: each octet counts as a character of its
+    /// own.
     pub fn of_octets(octets: &'t [u8]) -> EntrySource<'t>
         ensures parts { IsSeen octets.now result.parts }
         ensures closed { result.is_open ≡ false }
@@ -110,9 +111,9 @@ impl<'t> EntrySource<'t> {
         }
     }
 
-    /// The same from an entry's beginning on, with places among all octets.
+    /// Returns a source from an entry's beginning on, with offsets among all octets.
     ///
-    /// `at` is where the end of another entry was given, unless that was the last part.
+    /// `at` is the offset where another entry ended, and was not the last part.
     pub fn starting_at(octets: &'t [u8], at: usize) -> EntrySource<'t>
         requires { at ≤ length octets.now }
         ensures parts { IsSeenFrom octets.now at result.parts }
@@ -130,8 +131,8 @@ impl<'t> EntrySource<'t> {
         }
     }
 
-    /// The entries behind the line on which a fault stands, with their places among all octets.
-    /// Where no line follows, none is left.
+    /// Returns a source of the entries after the line of a syntax error, with offsets among all
+    /// octets. If no line follows, it has no entries.
     pub fn after_fault(octets: &'t [u8], fault: Fault) -> EntrySource<'t>
         ensures { StartsBehindLine octets.now fault.at result }
     {
@@ -146,9 +147,9 @@ impl<'t> EntrySource<'t> {
         }
     }
 
-    /// Opens the next entry that has tokens: what is left of the one that is open is passed over,
-    /// and entries without tokens, as blank lines, are. Returns where it begins; or `None` where
-    /// nothing is left; or the fault that comes before its tokens.
+    /// Opens the next entry that has tokens, and returns where it begins, or `None` if nothing is
+    /// left. The rest of the open entry is skipped, and so are entries without tokens, such as
+    /// blank lines. Fails if a syntax error comes before its tokens.
     pub fn begin(&mut self) -> Result<Option<StartOfEntry>, Fault>
         ensures { BeginsEntry self.old result self.new }
     {
@@ -168,8 +169,8 @@ impl<'t> EntrySource<'t> {
         }
     }
 
-    /// The place of the token that comes next, or where the entry's line ends, or of the fault that
-    /// cuts it off.
+    /// Returns the offset of the next token, or of the end of the entry's line, or of the syntax
+    /// error that cuts it off.
     pub fn stop_place(&self) -> usize
         ensures { result ≡ next_place (entry_left self.now) (stop_place self.now) }
     {
@@ -181,10 +182,9 @@ impl<'t> EntrySource<'t> {
         }
     }
 
-    /// Takes what is left of the entry that is open, and its end; or `None` where none is open.
+    /// Skips the rest of the open entry, and returns its end, or `None` if no entry is open.
     ///
-    /// Where a fault comes before the end, it is returned, and stays: it is what every later call
-    /// returns.
+    /// Fails if a syntax error comes before the end. Every later call then returns the same error.
     pub fn finish(&mut self) -> Result<Option<EndOfEntry>, Fault>
         ensures { FinishesEntry self.old result self.new }
     {
@@ -242,8 +242,8 @@ impl<'t> TokenSource for EntrySource<'t> {
     }
 }
 
-/// What keeps an entry's end, as each reader of a [`TokenSource`] does, keeps what the text has
-/// behind the tokens of the entry that is open.
+/// Keeping an entry's end, as each reader of a [`TokenSource`] does, keeps what the text has after
+/// the tokens of the open entry.
 ///
 /// The contract is the law; calling it does nothing.
 pub fn the_rest_is_kept()
@@ -251,7 +251,8 @@ pub fn the_rest_is_kept()
         → (new.is_open ≡ true) × (behind_left new ≡ behind_left old) }
 {}
 
-/// What is read of an entry, or before a fault, is what [`EntryTokens::next_entry`] gives of it.
+/// What is read of an entry, or before a syntax error, is what [`EntryTokens::next_entry`] returns
+/// of it.
 ///
 /// The contract is the law; calling it does nothing.
 pub fn entries_are_given()

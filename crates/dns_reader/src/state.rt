@@ -1,4 +1,4 @@
-//! What the entries before one say of it: the origin, the owner, the times to live and the class.
+//! The state that entries inherit from those before them: origin, owner, TTLs and class.
 ghost use Rattle.std.specs.Prelude.{◌≡◌, None, Some, [], ◌∷◌, MatchResult};
 ghost use Rattle.std.specs.Option.{option_copied};
 ghost use Rattle.dns_reader.specs.Past.{SaysDefaultTtl, nothing_said};
@@ -12,29 +12,29 @@ use dns_fields::{Field, RecordError, TokenSource, take_field};
 use dns_kinds::{Class, ErrorKind};
 use dns_wire::MAX_NAME;
 
-/// What stands for the entries that follow: what was said before them, or where reading begins.
+/// The state that later entries inherit, from the entries before them or from the start of reading.
 #[derive(Drop)]
 pub struct State {
-    /// The origin, before which relative names stand.
+    /// The origin, which is appended to relative names.
     pub origin: Known,
-    /// The owner of a record that leaves it out.
+    /// The owner of a record without one.
     pub owner: Known,
-    /// The default time to live, in seconds.
+    /// The default TTL, in seconds.
     pub default_ttl: Option<u32>,
-    /// The time to live of the last record that said one, in seconds.
+    /// The TTL of the last record with one of its own, in seconds.
     pub last_ttl: Option<u32>,
-    /// The class of a record that leaves it out.
+    /// The class of a record without one.
     pub class: Class,
 }
 
-/// The origin and the owner that stood where an included text begins.
+/// The origin and the owner before an included text.
 #[derive(Drop)]
 pub struct Mark {
     pub origin: Known,
     pub owner: Known,
 }
 
-/// Takes the next token as a name. A relative name stands before the origin.
+/// Parses the next token as a name. The origin is appended to a relative name.
 pub(crate) fn take_name<S: TokenSource>(
     origin: Option<&NameBuffer>,
     source: &mut S,
@@ -51,7 +51,7 @@ pub(crate) fn take_name<S: TokenSource>(
 }
 
 impl State {
-    /// What stands where nothing was said: a class alone.
+    /// Returns the state at the start of reading: a class alone.
     pub fn new(class: Class) -> State
         ensures { result ≡ nothing_said class }
     {
@@ -64,7 +64,7 @@ impl State {
         }
     }
 
-    /// The same, with an origin.
+    /// Returns this state with an origin.
     pub fn with_origin(self, origin: NameBuffer) -> State
         ensures { result ≡ record self { origin = known_as origin } }
     {
@@ -74,7 +74,7 @@ impl State {
         }
     }
 
-    /// The same again, as where a piece of a text is to be read by itself. It takes no memory.
+    /// Returns a copy, for reading a part of a text separately. It needs no memory.
     pub fn copied(&self) -> State
         ensures { result ≡ self.now }
     {
@@ -89,7 +89,8 @@ impl State {
         }
     }
 
-    /// The owner of a record: the name that was said last, whatever the origin is by now.
+    /// Returns the owner of a record without one: the last owner, whatever the origin is by now.
+    /// Fails if no owner is known, or if the last one is rejected.
     pub fn owner(&self) -> Result<&NameBuffer, ErrorKind>
         ensures { MatchResult result (λ name. self.now.owner ≡ known_as name.now) (λ e. WhyNoOwner self.now.owner e) }
     {
@@ -100,15 +101,15 @@ impl State {
         }
     }
 
-    /// From here on this is the default time to live, in seconds, as `$TTL` says it.
+    /// Sets the default TTL from here on, in seconds, as `$TTL` does.
     pub fn say_default_ttl(&mut self, ttl: u32)
         ensures { Learns (SaysDefaultTtl ttl ∷ []) self.old self.new }
     {
         self.default_ttl = Some(ttl);
     }
 
-    /// The time to live of a record that says this one of its own, and that has this minimum where
-    /// it is an SOA; or none, if none is known.
+    /// Returns the TTL of a record with this one of its own, and with this minimum if it is an SOA,
+    /// or `None` if no TTL is known.
     pub(crate) fn choose_ttl(&self, own: Option<u32>, minimum: Option<u32>) -> Option<RecordTtl>
         ensures { result ≡ chosen_ttl own self.now.default_ttl self.now.last_ttl minimum }
     {
@@ -125,8 +126,8 @@ impl State {
         Some(RecordTtl::Minimum(ttl))
     }
 
-    /// The origin and the owner, to be restored behind an included text (RFC 1035 section 5.1). It
-    /// takes no memory.
+    /// Returns the origin and the owner, to be restored after an included text (RFC 1035 section
+    /// 5.1). It needs no memory.
     pub fn mark(&self) -> Mark
         ensures { MarksPast self.now result }
     {
@@ -135,8 +136,8 @@ impl State {
         Mark { origin, owner }
     }
 
-    /// Goes on behind an included text: its origin and its owners are forgotten, and its times to
-    /// live stay.
+    /// Restores the names after an included text: its origin and its owners are dropped, and its
+    /// TTLs stay.
     pub fn restore(&mut self, mark: Mark)
         ensures state { self.new ≡ record self.old { origin = mark.origin; owner = mark.owner } }
         ensures past { RestoresPast mark self.old self.new }

@@ -1,4 +1,4 @@
-//! Laws of what entries say of those after them.
+//! Laws of what entries inherit from those before them.
 ghost use Rattle.dns_spelling.specs.NameSpelling.{IsOrigin};
 ghost use Rattle.dns_reader.specs.Past.{known_name};
 ghost use Rattle.dns_reader.specs.ReadingLaws.{FullRecordsStandAlone, WholeRecordsStandAlone};
@@ -7,42 +7,43 @@ ghost use Rattle.dns_reader.specs.PastLaws.{ChosenTtlsAreTold, IsReadInPieces, I
 use crate::state::State;
 use dns_octets::AsOctets;
 
-/// States that what was said leaves one state, and none else; that where nothing was said it is the
-/// one that reading began from; and that reading may go on from the state that a text leaves as if
-/// both were one text. It does nothing else.
+/// States that the values of earlier entries leave exactly one state; that without any it is the
+/// one that reading began from; and that reading may continue from the state that a text leaves as
+/// if both were one text. It does nothing else.
 pub fn past_leaves_one_state()
     ensures once { IsKnownOnce }
     ensures start { StartsAsItIs }
     ensures goes_on { IsReadInPieces }
 {}
 
-/// States that a record which says its own time to live, and whose owner is absolute, is the same
-/// wherever it stands. So is an owner as it is printed. It does nothing else.
+/// States that a record with a TTL of its own and an absolute owner has the same TTL and owner
+/// wherever it comes. So does an owner as it is printed. It does nothing else.
 pub fn full_heads_stand_alone()
     ensures owner { OwnersStandAlone }
     ensures ttl { TtlsStandAlone }
 {}
 
-/// States that the time to live that [`read_entry`](crate::read_entry) chooses by a state is that of
-/// the record after all that was said before it. It does nothing else.
+/// States that the TTL that [`read_entry`](crate::read_entry) chooses by a state is that of the
+/// record after all entries before it. It does nothing else.
 pub fn chosen_ttls_are_told()
     ensures { ChosenTtlsAreTold }
 {}
 
-/// States that a record which is read, and says an absolute owner, its time to live and its class, has
-/// these whatever the state before it is. It does nothing else.
+/// States that a record that is read, with an absolute owner, a TTL and a class of its own, has
+/// these in every state. It does nothing else.
 pub fn full_records_stand_alone()
     ensures { FullRecordsStandAlone }
 {}
 
-/// States that a record which says all of this, and data of its type whatever the origin is, is read
-/// as it says from every state, with these data, where their octets surely fit. It does nothing else.
+/// States that a record with all of these, and with data of its type whatever the origin is, is
+/// read as it is written from every state, with this data, if its octets surely fit. It does
+/// nothing else.
 pub fn whole_records_stand_alone()
     ensures { WholeRecordsStandAlone }
 {}
 
-/// States that the origin which a state knows has octets, so that what is said for every origin holds
-/// for it. It does nothing of use.
+/// States that the origin of a state has octets, so that what holds for every origin holds for it.
+/// It does nothing of use.
 pub fn known_origins_have_octets(state: &State)
     ensures { IsOrigin (known_name state.now.origin) }
 {

@@ -6,8 +6,9 @@ ghost use Rattle.dns_reader.specs.WholeTexts.{CallsEnd, ReadEntriesAreSplit, Rec
 ghost use Rattle.dns_reader.specs.WholeTexts.{TextsAreRead, TextsAreReadToTheEnd};
 
 /// States that calls of [`next_entry`](crate::RecordReader::next_entry) one after another, from a
-/// text's start on, give the entries of the text in order: each is read by its own tokens, and by
-/// what all before it say. Where the last call gives none, nothing is left. It does nothing else.
+/// text's start on, return the entries of the text in order: each is read by its own tokens, and by
+/// the state that all before it leave. If the last call returns `None`, nothing is left. It does
+/// nothing else.
 pub fn texts_are_read_entry_by_entry()
     ensures first { TextsAreRead }
     ensures all { TextsAreReadToTheEnd }
@@ -18,16 +19,16 @@ pub fn read_entries_are_split()
     ensures { ReadEntriesAreSplit }
 {}
 
-/// States that reading may stop behind an entry and go on there: a reader that starts where calls
-/// have stopped, behind the state that they left, is where they are. What is left is what the octets
-/// from there on have alone, with places further on. It does nothing else.
+/// States that reading may stop after an entry and continue there: a reader that starts where calls
+/// have stopped, with the state that they left, is in the same state as theirs. What is left is
+/// what the octets from there on have alone, with later offsets. It does nothing else.
 pub fn texts_are_read_in_pieces()
     ensures on { PiecesAreReadOn }
     ensures alone { PiecesStandAlone }
 {}
 
-/// States that the entries of octets up to one that is not the last stay, whatever octets follow. It
-/// does nothing else.
+/// States that the entries of octets up to one that is not the last stay the same, whatever octets
+/// follow. It does nothing else.
 pub fn ended_entries_stay()
     ensures { EndedEntriesStay }
 {}
@@ -40,26 +41,28 @@ pub fn rows_of_calls_join()
     ensures records { RecordsEndRows }
 {}
 
-/// States that no call gives [`EntryRead::Nothing`](crate::EntryRead::Nothing). It does nothing else.
+/// States that no call returns [`EntryRead::Nothing`](crate::EntryRead::Nothing). It does nothing
+/// else.
 pub fn something_is_given()
     ensures { SomethingIsGiven }
 {}
 
-/// States that a call which gives [`EntryRead::Include`](crate::EntryRead::Include) appends the octets
-/// that name the file and those of its origin, which are an absolute name. It does nothing else.
+/// States that a call that returns [`EntryRead::Include`](crate::EntryRead::Include) appends the
+/// octets that name the file and those of its origin, which are an absolute name. It does nothing
+/// else.
 pub fn files_are_appended()
     ensures { FilesAreAppended }
 {}
 
-/// States that each call which gives something leaves fewer that will, so that a loop over a text's
-/// entries ends. It does nothing else.
+/// States that each call that returns something leaves fewer that will, so that a loop over a
+/// text's entries ends. It does nothing else.
 pub fn calls_come_to_an_end()
     ensures { CallsEnd }
 {}
 
-/// States that no entry is refused with the kind [`ErrorKind::Syntax`](dns_kinds::ErrorKind::Syntax).
-/// So an error of this kind is a fault of the text, and reading goes on after its line. It does
-/// nothing else.
+/// States that no entry is rejected with the kind
+/// [`ErrorKind::Syntax`](dns_kinds::ErrorKind::Syntax). So an error of this kind is a syntax error
+/// of the text, and reading continues after its line. It does nothing else.
 pub fn faults_are_known_by_their_kind()
     ensures entries { EntriesHaveNoFaults }
     ensures calls { FaultsAreTold }
