@@ -1,4 +1,4 @@
--- A tape that is filled span by span: the tokens of the pieces so far, and what is left.
+-- A tape that is filled span by span: the tokens of the pieces so far, and the pieces that are left.
 use Rattle.std.proofs.Common.{◌≡◌, ℕ, ◌<◌, ◌≤◌, List, [], ◌∷◌, ◌++◌, length, refl, sym, ap, ◌∙◌, subst, append-nil, append_assoc}
 use Rattle.std.specs.Prelude.{map, Option, Some, None, Result, Ok}
 use Rattle.std.specs.List.{AllByRecursion}
@@ -40,7 +40,7 @@ all_more : (octets : List ℕ) (spans : List TokenSpan) (s : TokenSpan) → AllB
 all_more octets [] s h k = (k, tt)
 all_more octets (x ∷ spans) s h k = (h.0, all_more octets spans s h.1 k)
 
--- so many pieces of the entry are found, and its tokens are kept
+-- the pieces of the entry that are found so far, and the spans of their tokens
 pub record Filling (octets : List ℕ) (given left : List (Result Piece Fault)) (ended : Option ℕ) (spans : List TokenSpan) : Type 0 where
   pub found : List Piece
   pub is_open : HasNoEnd found
@@ -94,7 +94,7 @@ module _ (octets : List ℕ) (given left now : List (Result Piece Fault)) (ended
   unfolding ends
   ends_line end e g some = (ends end e g, some)
 
--- a span of what is left is within the octets
+-- a span among the pieces that are left is within the octets
 behind : (n : ℕ) (found : List Piece) (rest : List (Result Piece Fault)) → EachWithin n (map Ok found ++ rest) → EachWithin n rest
 behind n [] rest w = w
 behind n (p ∷ found) rest w = behind n found rest w.1
@@ -102,7 +102,7 @@ behind n (p ∷ found) rest w = behind n found rest w.1
 pub first_within : (octets : List ℕ) (given left now : List (Result Piece Fault)) (ended : Option ℕ) (spans : List TokenSpan) (p : Result Piece Fault) → Filling octets given now ended spans → now ≡ p ∷ left → EachWithin (length octets) given → IsWithin (length octets) p
 first_within octets given left now ended spans p x e w = (behind (length octets) x.found (p ∷ left) (subst (EachWithin (length octets)) (x.is ∙ ap (λ l. map Ok x.found ++ l) e) w)).0
 
--- and a quoted string has room for its double quotes
+-- a quoted string is long enough for its double quotes
 after_all : (P : Result Piece Fault → Type 0) (found : List Piece) (rest : List (Result Piece Fault)) → AllByRecursion P (map Ok found ++ rest) → AllByRecursion P rest
 after_all P [] rest a = a
 after_all P (p ∷ found) rest a = after_all P found rest a.1

@@ -14,7 +14,7 @@ use Rattle.dns_tape.specs.declared.tape.TokenSpan.{TokenSpan}
 use Rattle.dns_tape.proofs.Filling.{Filling, comment, ends_line, word}
 use Rattle.dns_tape.proofs.Outside.{blank_left, comment_left, feed_left, left_run, left_some, quote_left, return_left, return_passed, word_left}
 
--- what all octets give, and what those from a place on do
+-- the pieces of all octets, and those from an offset on
 abbrev pub all_left : List ℕ → List (Result Piece Fault)
 all_left octets = left_run octets 0 0 (first_blank octets)
 

@@ -1,4 +1,4 @@
--- What the reader by octets gives from a place where no token and no comment is open.
+-- The pieces from an offset where no token and no comment is open, as the reader by octets finds them.
 use Rattle.std.proofs.Common.{◌≡◌, ℕ, zero, suc, ◌+◌, ◌-◌, ◌<◌, ◌≤◌, arith, Bool, true, false, ◌==◌, List, [], ◌∷◌, length, drop, refl, sym, subst, ap, ◌∙◌, get_or, inl, inr, ◌⊎◌}
 use Rattle.std.specs.Prelude.{◌≢◌, if◌then◌else◌, Some, None, Result, Ok}
 use Rattle.std.proofs.lemmas.List.{drop_more}
@@ -15,12 +15,12 @@ use Rattle.dns_tape.specs.declared.parts.Part.{Part}
 use Rattle.dns_tape.specs.declared.parts.Part.TheVariants.{Word, Quote, Comment}
 use Rattle.dns_tape.specs.Parts.{AllInside, EndsWordBefore, IsAfterBlank, IsAfterReturn, IsCommentTo, IsQuoteTo, IsWordTo, is_inside}
 
--- the mode that a lemma speaks of
+-- the mode that a lemma is about
 module _ {M : Type 0} {m : M} where
   abbrev mode_in : (A : M → Type 0) → A m → M
   mode_in A a = m
 
--- from a place on, inside so many parentheses, where the token that is open began
+-- from an offset on, in parentheses of a depth, with the offset where the open token began
 abbrev pub open_run : List ℕ → ℕ → ℕ → ℕ → Bool → List (Result Piece Fault)
 open_run octets d s at b = run (mode_in (λ m. (c : ℕ) → is_inside Word c ≡ true → Still m c) word_still) d s at b (drop at octets)
 
@@ -65,7 +65,7 @@ ends_open d c (inr (inr (inr (inr (inr (inl is)))))) = subst (EndsOpen d) (sym i
 ends_open d c (inr (inr (inr (inr (inr (inr (inl is))))))) = subst (EndsOpen d) (sym is) (plain_ends d).4
 ends_open d c (inr (inr (inr (inr (inr (inr (inr is))))))) = subst (EndsOpen d) (sym is.0) (close_ends d is.1)
 
--- octets inside a part, one after the other
+-- octets inside a part, one after another
 still_run : {m : _} (k : Part) → ((c : ℕ) → is_inside k c ≡ true → Still m c) → (octets : List ℕ) (i r : ℕ) → i + r ≤ length octets → AllInside k octets i (i + r) → SameRun m octets i (i + r)
 still_run {m} k still octets i zero w all = subst (λ j. SameRun m octets i j) (omega arith) (λ d s b. refl)
 still_run {m} k still octets i (suc r) w all = λ d s b.
@@ -99,7 +99,7 @@ pub comment_left : (octets : List ℕ) (d at e : ℕ) (b : Bool) → get_or octe
 comment_left octets d at e b opens x =
     (comment_given octets (record { depth = d; at = at }) b e (omega (arith, x.some, x.within)) opens (omega (arith, x.some)) (omega (arith, x.within)) x.inside (comment_ends octets d e x.within x.ends)).same
 
--- a blank that is passed over, or none
+-- a blank that is skipped, or no blank
 turn_blank : (octets : List ℕ) (d at : ℕ) (b : Bool) → at < length octets → (get_or octets at 0 ≡ 9) ⊎ (get_or octets at 0 ≡ 32) → left_run octets d at b ≡ left_run octets d (at + 1) b
 turn_blank octets d at b w (inl is) = turn_on octets _ d at at b 9 _ w (sym is) refl (self_same at) refl
 turn_blank octets d at b w (inr is) = turn_on octets _ d at at b 32 _ w (sym is) refl (self_same at) refl

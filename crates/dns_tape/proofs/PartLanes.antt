@@ -8,7 +8,7 @@ use lib.Lanes.{chunk, mask_l, top}
 use Rattle.dns_tape.specs.declared.parts.Part.{Part}
 use Rattle.dns_tape.specs.Parts.{AllInside, MarksPart, is_inside, lowest_set}
 
--- the bits of lanes by a function of the octet, where a run over all octets shows that it marks those of no other part
+-- the bits of lanes by a function of the octet, if a check of all 256 octets shows that it marks exactly those that are not inside the part
 pub marks_by : (k j : Part) (v z : List ℕ) (f : ℕ → ℕ) → length v ≡ 16 → j ≡ k → z ≡ map f v → agree_below (is_inside k) (λ c. not (top 7 (f c))) 256 ≡ true
     → MarksPart j v (mask_l (map (top 7) z) % 2 ^ 64)
 marks_by k j v z f long same lanes all =

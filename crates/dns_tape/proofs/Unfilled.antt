@@ -1,4 +1,4 @@
--- Where a tape can't be filled: a fault comes first, nothing is left, or a token is one too many.
+-- The cases in which a tape can't be filled: a syntax error comes first, nothing is left, or a token is one too many.
 use Rattle.std.proofs.Common.{◌≡◌, ℕ, ◌≤◌, ◌<◌, List, [], ◌∷◌, ◌++◌, length, sym, ap, ◌∙◌, subst, arith}
 use Rattle.std.specs.Prelude.{⊤, map, Option, Some, None, Result, Ok, Err}
 use Rattle.std.proofs.lemmas.List.{length-map}
@@ -16,7 +16,7 @@ use Rattle.dns_tape.specs.declared.tape.TokenSpan.{TokenSpan}
 use Rattle.dns_tape.proofs.Filling.{Filling}
 use Rattle.dns_tape.proofs.Once.{alike, no_stop_first, tail_open}
 
--- no end is among pieces of one entry
+-- no end is among the pieces of one entry
 none_left : (f g : List Piece) (e : EndOfEntry) (l : List (Result Piece Fault)) → HasNoEnd f → map Ok f ++ [] ≡ map Ok g ++ Ok (EndAt e) ∷ l → ⊥
 none_left [] [] e l h eq = cc
 none_left [] (q ∷ g) e l h eq = cc

@@ -1,4 +1,4 @@
--- The first entry of octets, by the pieces of these: words, quoted strings and comments, and then the entry's end or a fault.
+-- The first entry of octets, by its pieces: words, quoted strings and comments, and then the entry's end or a syntax error.
 use Rattle.std.specs.Prelude.{ℕ, List, [], ◌∷◌, ◌++◌, map, Option, Some, None, Result, Ok, Err}
 use Rattle.dns_split.specs.EntryTokens.{TokenSeen, quote_seen, word_seen}
 use Rattle.dns_split.specs.PassedLine.{HasNoEnd}
@@ -24,12 +24,12 @@ last_ended ended (QuoteAt p ∷ ps) = last_ended (Some p.end) ps
 last_ended ended (CommentAt p ∷ ps) = last_ended ended ps
 last_ended ended (EndAt e ∷ ps) = last_ended None ps
 
--- an entry stops at its end, or at a fault before that
+-- an entry stops at its end, or at a syntax error before that
 abbrev pub piece_of_stop : Result EndOfEntry Fault → Result Piece Fault
 piece_of_stop (Ok end) = Ok (EndAt end)
 piece_of_stop (Err f) = Err f
 
--- the offset of the end or of the fault
+-- the offset of the end or of the syntax error
 abbrev pub stop_offset : Result EndOfEntry Fault → ℕ
 stop_offset (Ok end) = end.at
 stop_offset (Err f) = f.at

@@ -6,7 +6,7 @@ use Rattle.dns_symbol.specs.Characters.{tab, line_feed, carriage_return, space, 
 use Rattle.dns_tape.specs.declared.parts.Part.{Part}
 use Rattle.dns_tape.specs.declared.parts.Part.TheVariants.{Word, Quote, Comment}
 
--- not every octet that may be inside the part: those that a few comparisons find
+-- octets that don't end the part, by a few comparisons; others may be inside it too
 abbrev pub is_inside : Part → ℕ → Bool
 is_inside Word c = nat_lt close_parenthesis c && (not (c == semicolon) && not (c == backslash))
 is_inside Quote c = nat_le space c && (not (c == double_quote) && not (c == backslash))
@@ -22,36 +22,36 @@ pub record MarksPart (part : Part) (octets : List ℕ) (bits : ℕ) : Type 0 whe
   pub is : bits ≡ mask_l (map marked octets)
   pub exact : (c : ℕ) → c < 256 → is_inside part c ≡ not (marked c)
 
--- the place of the lowest bit that is set, or 16
+-- the index of the lowest bit that is set, or 16
 abbrev pub lowest_set : ℕ → ℕ
 lowest_set mask = if mask == 0 then 16 else trailing_zeros w64 mask
 
--- a word ends before this octet, inside so many parentheses
+-- a word ends before this octet, in parentheses of a depth
 abbrev pub EndsWordBefore : ℕ → ℕ → Type 0
 EndsWordBefore depth c = (c ≡ space) ⊎ (c ≡ tab) ⊎ (c ≡ line_feed) ⊎ (c ≡ carriage_return) ⊎ (c ≡ double_quote) ⊎ (c ≡ open_parenthesis) ⊎ (c ≡ semicolon) ⊎ ((c ≡ close_parenthesis) × (0 < depth))
 
--- octets of a word stand from one place to before another, where it ends
+-- the octets from one offset to before another are a word's, which ends there
 pub record IsWordTo (octets : List ℕ) (depth at end : ℕ) : Type 0 where
   pub some : at < end
   pub within : end < length octets
   pub inside : AllInside Word octets at end
   pub ends : EndsWordBefore depth (slice_index octets end)
 
--- a double quote, octets of a quoted string, and a double quote stand from one place to before another
+-- a double quote, octets of a quoted string, and a double quote, from one offset to before another
 pub record IsQuoteTo (octets : List ℕ) (at end : ℕ) : Type 0 where
   pub some : at + 2 ≤ end
   pub within : end ≤ length octets
   pub inside : AllInside Quote octets (at + 1) (end - 1)
   pub closes : slice_index octets (end - 1) ≡ double_quote
 
--- a semicolon and octets of a comment stand from one place to before a line feed or a carriage return
+-- a semicolon and octets of a comment, from one offset to before a line feed or a carriage return
 pub record IsCommentTo (octets : List ℕ) (at end : ℕ) : Type 0 where
   pub some : at < end
   pub within : end < length octets
   pub inside : AllInside Comment octets (at + 1) end
   pub ends : (slice_index octets end ≡ line_feed) ⊎ (slice_index octets end ≡ carriage_return)
 
--- after a blank, or in front of another octet
+-- after a blank, or before another octet
 abbrev pub IsAfterBlank : List ℕ → ℕ → ℕ → Type 0
 IsAfterBlank octets at after = (after ≡ at) ⊎ ((after ≡ at + 1) × ((slice_index octets at ≡ tab) ⊎ (slice_index octets at ≡ space)))
 

@@ -1,4 +1,4 @@
--- Worked octets: the spans and the end of their first entry, each computed.
+-- Worked examples: the spans and the end of the first entry of octets, each computed.
 use Rattle.std.specs.Prelude.{◌≡◌, ◌∷◌, [], true, false, codes, None, Ok, refl}
 use Rattle.std.proofs.Common.{arith, inl}
 use lib.Utf8.{encode}
@@ -55,12 +55,12 @@ key_and_value = record {
   within = ((omega arith, omega arith, omega arith), ((omega arith, omega arith, omega arith), tt));
 }
 
--- the octets go on after it
+-- more octets follow the entry
 key_and_value_line : FillsLine (codes "(k=\"v\" ;c\n)\nx") (key ∷ value ∷ []) 12
 unfolding key_and_value
 key_and_value_line = (key_and_value, omega arith)
 
--- its tokens, where the octets begin at the offset 100
+-- its tokens, if the octets begin at the offset 100
 from_hundred : tape_seen (codes "(k=\"v\" ;c\n)\nx") 100 (key ∷ value ∷ []) 12
     ≡ record {
       tokens = record { text = codes "k="; is_quoted = false; is_glued = false; at = 101 } ∷ record { text = codes "v"; is_quoted = true; is_glued = true; at = 103 } ∷ [];

@@ -6,7 +6,7 @@ use Rattle.dns_fields.specs.Source.{EntryEnd}
 use Rattle.dns_tape.specs.Tape.{IsSpanIn, span_token}
 use Rattle.dns_tape.specs.declared.tape.TokenSpan.{TokenSpan}
 
--- the same token, where its octets begin at the offset `base`
+-- the same token, if its octets begin at the offset `base`
 abbrev pub token_after : ℕ → TokenSeen → TokenSeen
 token_after base t = record { text = t.text; is_quoted = t.is_quoted; is_glued = t.is_glued; at = base + t.at }
 
@@ -18,7 +18,7 @@ pub record UnreadSeen : Type 0 where
   pub tokens : List TokenSeen
   pub end : EntryEnd
 
--- those at spans, of an entry that ends at an offset
+-- the tokens at spans, of an entry that ends at an offset
 abbrev pub tape_seen : List ℕ → ℕ → List TokenSpan → ℕ → UnreadSeen
 tape_seen octets base spans end = record { tokens = map (λ s. token_after base (span_token octets s)) spans; end = record { at = base + end; behind = None } }
 

@@ -1,4 +1,4 @@
--- What a tape holds: the spans of the tokens of the first entry of octets.
+-- A filled tape: the spans of the tokens of the first entry of octets.
 use Rattle.std.specs.Prelude.{◌≡◌, ◌≤◌, ◌<◌, ℕ, ◌+◌, ◌-◌, Bool, true, false, List, [], ◌∷◌, ◌++◌, length, map, Option, None, Result, Ok}
 use Rattle.std.specs.List.{AllByRecursion}
 use Rattle.dns_split.specs.EntryTokens.{TokenSeen, ends_at}
@@ -15,7 +15,7 @@ use Rattle.dns_tape.specs.FirstEntry.{StopsFirst, piece_tokens, stop_offset}
 abbrev pub span_token : List ℕ → TokenSpan → TokenSeen
 span_token octets s = record { text = between octets s.start s.end; is_quoted = s.is_quoted; is_glued = s.is_adjacent; at = s.offset }
 
--- its octets are among these
+-- the span's octets are among these
 abbrev pub IsSpanIn : List ℕ → TokenSpan → Type 0
 IsSpanIn octets s = (s.offset ≤ s.start) × (s.start ≤ s.end) × (s.end ≤ length octets)
 

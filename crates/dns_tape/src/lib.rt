@@ -1,5 +1,5 @@
-//! A tape of tokens: where each token of an entry begins and ends is found once, and each token is
-//! then returned without a search.
+//! A tape of tokens: the offsets of an entry's tokens are found once, and each token is then
+//! returned without a search.
 #![tactic(auto)]
 
 mod parts;

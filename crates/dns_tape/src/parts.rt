@@ -1,13 +1,13 @@
-//! Where words, quoted strings and comments without escapes end, found by loads of 16 octets.
+//! Finds the ends of words, quoted strings and comments without escapes, by loads of 16 octets.
 ghost use Rattle.std.specs.Prelude.{◌≡◌, ◌+◌, ◌<◌, ◌≤◌, IfSome, length, slice_index};
 ghost use Rattle.dns_tape.specs.Parts.{AllInside, IsAfterBlank, IsAfterReturn, IsCommentTo, IsQuoteTo, IsWordTo, MarksPart, is_inside, lowest_set};
 
 use std::simd::prelude::*;
 
-/// The octets of one load.
+/// Number of octets of one load.
 const LANES: usize = 16;
 
-/// A part of an entry, inside which a search for its end passes over octets.
+/// A part of an entry, inside which a search for its end skips octets.
 #[derive(Clone, Copy)]
 enum Part {
     Word,
@@ -15,7 +15,7 @@ enum Part {
     Comment,
 }
 
-/// Whether an octet doesn't end the part, by a few comparisons.
+/// Returns whether an octet doesn't end the part, by a few comparisons.
 #[inline(always)]
 fn is_inside(part: Part, octet: u8) -> bool
     ensures { result ≡ is_inside part octet }
@@ -27,7 +27,7 @@ fn is_inside(part: Part, octet: u8) -> bool
     }
 }
 
-/// The lowest lane whose bit is set, or the number of lanes.
+/// Returns the lowest lane whose bit is set, or the number of lanes.
 #[inline(always)]
 fn lowest_set(mask: u64) -> usize
     ensures { result ≡ lowest_set mask }
@@ -39,7 +39,7 @@ fn lowest_set(mask: u64) -> usize
     }
 }
 
-/// A bit for each octet of a load, set where the octet may end the part.
+/// Returns a bit for each octet of a load, set if the octet may end the part.
 #[inline(always)]
 fn ends(part: Part, octets: u8x16) -> u64
     requires { length octets ≡ LANES }
@@ -63,7 +63,7 @@ fn ends(part: Part, octets: u8x16) -> u64
     }
 }
 
-/// How many of the octets of one load are inside the part, from the first.
+/// Returns the number of octets of one load, from the first on, that are inside the part.
 #[inline(always)]
 fn count_inside(part: Part, octets: &[u8], at: usize) -> usize
     requires { at + LANES ≤ length octets.now }
@@ -73,7 +73,7 @@ fn count_inside(part: Part, octets: &[u8], at: usize) -> usize
     lowest_set(ends(part, u8x16::from_slice(&octets[at..])))
 }
 
-/// The offset of the first octet from `at` on that may end the part, or the length.
+/// Returns the offset of the first octet from `at` on that may end the part, or the length.
 #[inline(always)]
 fn part_end(part: Part, octets: &[u8], at: usize) -> usize
     requires { at ≤ length octets.now }
@@ -95,8 +95,8 @@ fn part_end(part: Part, octets: &[u8], at: usize) -> usize
     place
 }
 
-/// Returns where the word ends that begins at `at`, inside so many parentheses, if it has no escape
-/// and none of `!#$%&'`, and what follows ends it.
+/// Returns the offset where the word ends that begins at `at`, in parentheses of this depth, if it
+/// has no escape and none of `!#$%&'`, and what follows ends it.
 #[inline(always)]
 pub(crate) fn word_end(octets: &[u8], depth: usize, at: usize) -> Option<usize>
     requires { at < length octets.now }

@@ -43,7 +43,7 @@ fn ends_at(ended: Option<usize>, offset: usize) -> bool
     }
 }
 
-/// Returns the span of a word, where `ended` is the end of the token before it in its entry.
+/// Returns the span of a word. `ended` is the end of the token before it in its entry.
 #[inline(always)]
 fn word_span(word: Span, ended: Option<usize>) -> TokenSpan
     ensures { result ≡ word_span word ended }
@@ -57,8 +57,8 @@ fn word_span(word: Span, ended: Option<usize>) -> TokenSpan
     }
 }
 
-/// Returns the span of a quoted string, which includes its double quotes, where `ended` is the end
-/// of the token before it in its entry.
+/// Returns the span of a quoted string, which includes its double quotes. `ended` is the end of the
+/// token before it in its entry.
 #[inline(always)]
 fn quote_span(quote: Span, ended: Option<usize>) -> TokenSpan
     requires { quote.start + 2 ≤ quote.end }
@@ -89,7 +89,7 @@ fn push(tape: &mut Tape, span: TokenSpan) -> bool
 /// of that entry's end, in octets: after its line end, or the length if no line end follows.
 ///
 /// Returns `None` if a syntax error comes before the entry's end, or if the entry has more than
-/// [`TAPE_CAPACITY`] tokens. What the tape held is dropped; after `None` its contents are
+/// [`TAPE_CAPACITY`] tokens. The tape's old contents are dropped; after `None` its contents are
 /// unspecified.
 pub fn fill(octets: &[u8], tape: &mut Tape) -> Option<usize>
     ensures some { IfSome result (FillsWith octets.now tape.new.items) }
@@ -123,9 +123,9 @@ pub fn fill(octets: &[u8], tape: &mut Tape) -> Option<usize>
 /// Fills `tape` as [`fill`] does, and faster, if the first entry of `octets` ends with its line, after
 /// which no octets that follow can change it. It stops there, however many octets follow.
 ///
-/// Returns `None` for any other entry, and also where there is an escape, one of ``!#$%&'`` in a word,
-/// or a control character. Then [`fill`] may fill it. What the tape held is dropped; after `None` its
-/// contents are unspecified.
+/// Returns `None` for any other entry, and also if it has an escape, one of ``!#$%&'`` in a word,
+/// or a control character. Then [`fill`] may fill it. The tape's old contents are dropped; after
+/// `None` its contents are unspecified.
 pub fn fill_line(octets: &[u8], tape: &mut Tape) -> Option<usize>
     ensures { IfSome result (FillsLine octets.now tape.new.items) }
 {
