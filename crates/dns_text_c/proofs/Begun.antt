@@ -1,4 +1,4 @@
--- Where an entry begins that is not the first: after a line's end, before which the text splits.
+-- An entry that is not the first begins after a line end, before which the text splits.
 use Rattle.std.proofs.Common.{◌≡◌, ◌<◌, ◌≤◌, ◌+◌, ℕ, zero, suc, Bool, true, false, ◌&&◌, List, [], ◌∷◌, ◌++◌, length, take, drop, refl, sym, ap, subst, ◌∙◌, arith}
 use Rattle.std.proofs.Common.{append-nil, append_assoc, length-append, take_all, inl, inr, ◌⊎◌, Result, Ok, Err}
 use Rattle.std.specs.Prelude.{Some, None, map, encode_utf8_all}
@@ -22,7 +22,7 @@ use Rattle.dns_split.proofs.Joins.{join_bytes, last_before, split_joined}
 abbrev Given : Type 0
 Given = List (Result Piece TextFault)
 
--- lexemes that end with a line's end
+-- lexemes that end with a line end
 record EndsInLine (d : ℕ) (ls : List Lexeme) : Type 0 where
   front : List Lexeme
   has_cr : Bool
@@ -86,7 +86,7 @@ front_lexemes (l ∷ ls) more r h =
     let q = and_parts (is_lexeme l) (may_precede l (ls ++ Line r ∷ more)) p.0 in
     and_from _ _ (and_from _ _ q.0 (last_before l ls more r q.1)) (front_lexemes ls more r p.1)
 
--- a text that splits, and a line's end
+-- a text that splits, and a line end after it
 abbrev pub SplitsBeforeLine : List ℕ → Type 0
 SplitsBeforeLine text = (x : List ℕ) × (r : Bool) × (e : Entries) × (text ≡ x ++ lexeme_bytes (Line r)) × Splits x e
 
@@ -102,7 +102,7 @@ before_line text found more k t p some far =
       record { lexemes = e.front; spelled = refl; valid = v; nested = e.nested; cut = refl },
     )
 
--- pieces among what is given
+-- pieces among those of the text
 found_split : (g : ℕ → ℕ) (front : List Piece) (e : ℕ) (b : Bool) (rest : Given) (found : List Piece) → map (moved g) (map Ok front ++ Ok (end_at e b) ∷ rest) ≡ map Ok found
     → (first : List Piece) × (more : List Piece) × (found ≡ first ++ end_at (g e) b ∷ more) × (length more ≡ length rest)
 found_split g [] e b rest [] h = cc
@@ -146,7 +146,7 @@ ends_with_line octets alone left front end blank o fits is some g = go (subst (�
         let none : None ≡ Some f.fault = sym (no_fault (place_of begin) front (end_at end blank) (end_at (end + 0) false)) ∙ ap first_fault f.is ∙ last_fault f.found f.fault in
         cc
 
--- an entry begins there
+-- an entry begins at this offset
 abbrev pub Begins : List ℕ → ℕ → Type 0
 Begins text at = (at ≡ 0) ⊎ SplitsBeforeLine (encode_utf8_all (take at text))
 
@@ -178,7 +178,7 @@ module _ (text : List ℕ) (at : ℕ) (fits : at ≤ length text) where
         split_joined y x q f e t s,
       )
 
-  -- a parenthesis that is left open from there on is left open in the text
+  -- a parenthesis that is left open from this offset on is left open in the text
   pub opener_of_text : (i : ℕ) → Begins text at → IsOpener (encode_utf8_all (drop at text)) (place_of (drop at text) i) → IsOpener (encode_utf8_all text) (place_of text (at + i))
   opener_of_text i (inl z) o =
       let same : at + i ≡ i = omega (arith, z) in

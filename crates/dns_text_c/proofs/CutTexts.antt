@@ -1,10 +1,10 @@
--- Texts of which the first characters are kept.
+-- Texts that are cut to their first characters.
 use Rattle.std.proofs.Common.{◌≡◌, ℕ, ◌+◌, ◌≤◌, List, ◌++◌, length, take, sym, ap, ◌∙◌, arith, ⊎_elim, length-append}
 use Rattle.std.proofs.lemmas.Bool.{cases_lt}
 use Rattle.std.proofs.lemmas.List.{append_assoc, length-take-le, take-append-le, take_all}
 use Rattle.std.proofs.Math.Seq.{take-append-add}
 
--- what is appended to the first characters of a text, and cut, is the text with it, and cut
+-- appending to a cut text and cutting again is appending to the text and cutting
 pub cut_append : (n : ℕ) (a b : List ℕ) → take n (take n a ++ b) ≡ take n (a ++ b)
 cut_append n a b =
     ⊎_elim
@@ -18,7 +18,7 @@ cut_append n a b =
 pub cut_two : (n : ℕ) (old a b first next : List ℕ) → first ≡ take n (old ++ a) → next ≡ take n (first ++ b) → next ≡ take n (old ++ (a ++ b))
 cut_two n old a b first next is more = more ∙ ap (λ t. take n (t ++ b)) is ∙ cut_append n (old ++ a) b ∙ ap (take n) (append_assoc old a b)
 
--- as many characters as there is room for
+-- the number of characters that fit
 pub cut_room : (n room : ℕ) (old text : List ℕ) → room + length old ≡ n → old ++ take room text ≡ take n (old ++ text)
 cut_room n room old text is =
     let same : length old + room ≡ n = omega (arith, is) in sym (take-append-add old text room) ∙ ap (λ k. take k (old ++ text)) same

@@ -1,4 +1,4 @@
--- What calls one after another tell.
+-- What calls return one after another.
 use Rattle.std.proofs.Common.{◌≡◌, ◌<◌, ◌≤◌, ◌+◌, ◌-◌, ℕ, zero, suc, Bool, List, [], ◌∷◌, ◌++◌, length, take, drop, refl, sym, ap, subst, ◌∙◌, arith, drop-drop, inl, inr, ◌⊎◌, ⊎_elim, Result, Ok, Err}
 use Rattle.std.specs.Prelude.{map, min, nat_lt, encode_utf8_all}
 use Rattle.std.proofs.lemmas.Bool.{and_parts, cases_lt}
@@ -58,14 +58,14 @@ end_within n (p ∷ front) at b left w = end_within n front at b left w.1
 some_given : (octets : List ℕ) → AreOctets octets → (given : Given) × IsGiven octets given
 some_given octets o = (_, run_given octets o)
 
--- what is read at a place is what the octets from there give
+-- the pieces from an offset on are those of the octets from there
 once : (text : List ℕ) (at : ℕ) (given alone : Given) → ReadsOctetsFrom text at given → EachWithin (length text) given → IsGiven (drop at text) alone → given ≡ later at alone
 once text at given alone r w g =
     let far = within_back (length text) at r.0 (subst (EachWithin (length text)) r.2 w) in
     let here = subst (λ n. EachWithin n r.0) (sym (length-drop at text)) far in
     r.2 ∙ ap (later at) (given_once (drop at text) r.0 alone (r.1, here) g)
 
--- what follows an entry's end is what the octets from there give
+-- the pieces after an entry's end are those of the octets from there
 follows : (octets : List ℕ) (alone next left : Given) (front : List Piece) (end : ℕ) (blank : Bool) → AreOctets octets → alone ≡ map Ok front ++ Ok (end_at end blank) ∷ left → 0 < length left
     → IsGiven octets alone → IsGiven (drop end octets) next → left ≡ later end next
 follows octets alone next left front end blank o is some g h =
@@ -75,7 +75,7 @@ follows octets alone next left front end blank o is some g h =
     ap tail_of (cancel (map Ok front) (Ok (end_at end blank) ∷ left) (Ok (end_at end blank) ∷ later end next)
     (given_once octets (map Ok front ++ Ok (end_at end blank) ∷ left) (map Ok front ++ Ok (end_at end blank) ∷ later end next) here there))
 
--- the first entry ends, or a fault stops it
+-- the first entry ends, or a syntax error stops it
 record Ends (at : ℕ) (alone : Given) : Type 0 where
   front : List Piece
   end : ℕ
@@ -135,7 +135,7 @@ heads at (Ok (EndAt p) ∷ alone) =
     })
 heads at (Err f ∷ alone) = inr (inl (record { fault = moved_fault (λ i. at + i) f; stops = refl; tells = refl }))
 
--- the tokens that fit are all of them
+-- if all tokens fit, all are written
 written_take : (tokens before : List TokenAt) → length tokens ≤ length before → take (length tokens) (written_over_start tokens before) ≡ tokens
 written_take [] before h = refl
 written_take (t ∷ tokens) [] h = absurd (omega (arith, h))
@@ -151,7 +151,7 @@ same_entry : (entry : ToldEntry) (tokens : List TokenAt) (status place : ℕ) �
 same_entry entry tokens status place t s p =
     ap (λ l. told l entry.status entry.place) t ∙ ap (λ n. told tokens n entry.place) s ∙ ap (told tokens status) p
 
--- a fault has another status than what is given
+-- the status of a syntax error is not 0
 some_status : (w : Wrong) → number_of (refusal_of_wrong w) ≡ 0 → ⊥
 some_status NotClosed e = cc
 some_status NoneOpen e = cc
@@ -159,7 +159,7 @@ some_status (NotQuoted i) e = cc
 some_status NoFeed e = cc
 some_status NoEscape e = cc
 
--- the status that tells of an open parenthesis
+-- the status of an open parenthesis
 open_status : (w : Wrong) → number_of (refusal_of_wrong w) ≡ number_of OpenParenthesis → w ≡ NotClosed
 open_status NotClosed e = refl
 open_status NoneOpen e = cc
@@ -175,7 +175,7 @@ module _ (text : List ℕ) (o : AreOctets text) (last : Cursor) where
   Right entries = (cursor : Cursor) (alone : Given) → cursor.at ≤ length text → IsGiven (drop cursor.at text) alone → cursor.is_done ≡ 0 → Calls text cursor entries last
       → (entries ≡ told_entries (later cursor.at alone)) × Opened entries cursor.at
 
-  -- once the text is done no call finds an entry
+  -- once the text is done, calls find no further entry
   none_more : (cursor : Cursor) (more : List ToldEntry) → cursor.is_done ≡ 1 → Calls text cursor more last → (more ≡ []) × (cursor ≡ last)
   none_more cursor [] d c = (refl, c.1)
   none_more cursor (e ∷ more) d c = absurd (c.1.some ((c.1.answers.done (λ z. omega (arith, d, z))).0))
@@ -288,7 +288,7 @@ module _ (text : List ℕ) (o : AreOctets text) (last : Cursor) where
 later_zero : (text : List ℕ) (given : Given) → AreOctets text → IsGiven text given → later 0 given ≡ given
 later_zero text given o g = sym (given_once text given (later 0 given) g (nothing_given text given o g))
 
--- the tokens of pieces are the text between their places
+-- the tokens of pieces are the text between their offsets
 with_token_octets : (text : List ℕ) (t : TokenAt) (es : List ToldEntry) → map (token_octets text) (with_told_token t es) ≡ with_token (between text t.start t.end) (map (token_octets text) es)
 with_token_octets text t [] = refl
 with_token_octets text t (e ∷ es) = refl
@@ -302,7 +302,7 @@ told_cut text (QuoteAt p ∷ found) =
 told_cut text (CommentAt p ∷ found) = told_cut text found
 told_cut text (EndAt p ∷ found) = ap (λ l. [] ∷ l) (told_cut text found)
 
--- a text that splits gives pieces that are cut into its entries
+-- the pieces of a text that splits, cut where entries end, are its entries
 pub split_given : (text : List ℕ) (e : Entries) → AreOctets text → Splits text e → (found : List Piece) × IsGiven text (map Ok found) × (tokens_by_entry text found ≡ e)
 split_given text e o s =
     let p = split_pieces text e s in
@@ -315,16 +315,16 @@ module _ (text : List ℕ) (cursor last : Cursor) (entries : List ToldEntry) (o 
   from_start : (given : Given) → IsGiven text given → (entries ≡ told_entries (later cursor.at given)) × Opened text o last entries cursor.at
   from_start given g = right text o last entries cursor given (omega (arith, start)) (subst (λ n. IsGiven (drop n text) given) (sym start) g) going calls
 
-  -- calls from the start of a text tell all that it gives
+  -- calls from the start of a text return all its entries
   pub tell_all : (given : Given) → IsGiven text given → entries ≡ told_entries given
   tell_all given g = (from_start given g).0 ∙ ap (λ n. told_entries (later n given)) start ∙ ap told_entries (later_zero text given o g)
 
-  -- so they tell the entries of a text that splits
+  -- so they return the entries of a text that splits
   pub tell_entries : (e : Entries) → Splits text e → map (token_octets text) entries ≡ e
   tell_entries e s =
       let p = split_given text e o s in
       ap (map (token_octets text)) (tell_all (map Ok p.0) p.1) ∙ told_cut text p.0 ∙ p.2
 
-  -- and where the outermost parenthesis stands that is left open
+  -- and the offset of the outermost parenthesis that is left open
   pub tell_opener : last_status entries ≡ number_of OpenParenthesis → IsOpener (encode_utf8_all text) (place_of text last.opened)
   tell_opener h = let g = some_given text o in (from_start g.0 g.1).1 h (inl start)

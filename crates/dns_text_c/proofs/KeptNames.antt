@@ -1,4 +1,4 @@
--- Names that are kept, and where a reader stands.
+-- Names that are stored, and the position of a reader.
 use Rattle.std.proofs.Common.{◌≡◌, ◌≢◌, ℕ, ◌+◌, ◌≤◌, List, [], ◌∷◌, ◌++◌, length, take, drop, ap, ◌∙◌, refl, sym, subst, arith, Bool, true, false, true≢false, Option, Some, None, Result, Ok, Err}
 use Rattle.std.proofs.Math.Seq.{drop-append_seam, take-append_seam}
 use Rattle.dns_fields.specs.declared.record_error.RecordError.{RecordError}
@@ -25,7 +25,7 @@ use Rattle.dns_reader.proofs.NamesTaken.{made}
 use Rattle.dns_text_c.specs.Kept.{MakesOrNot, said_origin}
 use Rattle.dns_text_c.specs.Records.{HasIncluded}
 
--- the octets of a name are kept as that name
+-- the octets of a name are stored as that name
 pub held : (octets : List ℕ) (n : ℕ) (labels : List (List ℕ)) → n ≡ length (wire labels) → take (length (wire labels)) octets ≡ wire labels → length (wire labels) ≤ length octets
     → IsName labels → EndsInRoot labels → (n ≢ 0) × MakesOrNot octets n (Some (Name labels))
 held octets n labels is put few name root =
@@ -48,11 +48,11 @@ closed_begun room octets begun (Err fault) before old result after new at reads 
 pub closed : (room : Room) (before after : RecordReader) (old new : List ℕ) (result : Option (Result EntryRead RecordError)) → ReadsNextRecord room before old result after new → after.source.is_open ≡ false
 closed room before after old new result r = closed_begun room r.middle.octets.now r.last.begun r.last.start r.middle.state old result after new r.last.begins.start r.last.reads
 
--- what is given is something
+-- each call returns something
 pub something : (room : Room) (before after : RecordReader) (old new : List ℕ) (result : Option (Result EntryRead RecordError)) → ReadsNextRecord room before old result after new → result ≢ Some (Ok Nothing)
 something room before after old new result r is = something_is_given room r.middle after old new (subst (λ g. ReadsNextEntry room r.middle old g after new) is r.last)
 
--- of a file to include the octets are the file's and the origin's
+-- for a file to include the octets are the file's and the origin's
 pub included : (room : Room) (before after : RecordReader) (new : List ℕ) (result : Option (Result EntryRead RecordError)) → ReadsNextRecord room before [] result after new → HasIncluded result new
 included room before after new None r = tt
 included room before after new (Some (Err e)) r = tt
@@ -63,7 +63,7 @@ included room before after new (Some (Ok (Include file has_origin))) r =
     let h = files_are_appended room r.middle after [] new file has_origin r.last in
     subst (IsIncluded file has_origin) (sym h.1) h.2
 
--- the origin of a file is the name that its octets make
+-- the origin of a file is the name that its octets are
 pub origin_made : (octets : List ℕ) (labels : List (List ℕ)) (r : Result (List (List ℕ)) NameError) → octets ≡ wire labels → IsName labels → EndsInRoot labels → MakesName octets r → r ≡ Ok labels
 origin_made octets labels r is name root makes = sym (name_same octets (Ok labels) r (made octets labels is name root) makes)
 
@@ -81,7 +81,7 @@ pub no_origin : (origin : Option (List (List ℕ))) (has_origin : Bool) (octets 
 no_origin None has_origin octets h has = refl
 no_origin (Some named) has_origin octets h has = absurd (true≢false (sym h.has ∙ has))
 
--- what is cut of the octets is the file, and its origin behind it
+-- the octets up to the cut are the file, and those after it its origin
 pub file_told : (file : ℕ) (has_origin : Bool) (octets front behind : List ℕ) (read : IsIncluded file has_origin octets) → front ≡ take file octets → behind ≡ drop file octets
     → (front ≡ read.name) × OriginAppended read.origin has_origin behind
 file_told file has_origin octets front behind read first then = (

@@ -1,4 +1,4 @@
--- Behind the last end that is seen no octets are left.
+-- After the last end no octets are left.
 use Rattle.std.proofs.Common.{ℕ, ◌≡◌, ◌+◌, Bool, false, List, [], ◌∷◌, ◌++◌, length, take, drop, refl, sym, ap, ◌∙◌, arith, length-append, ⊎_elim, None, Result, Ok, Err}
 use Rattle.std.specs.Prelude.{map, encode_utf8, encode_utf8_all}
 use Rattle.std.proofs.lemmas.List.{take-append-drop}
@@ -34,7 +34,7 @@ last_piece : (text : List ℕ) (found : List Piece) → IsPieces text found → 
 last_piece text found p = let j = pieces_joined text [] false found (end_at 0 false ∷ []) p none_pieces in (j.0, j.1, j.2)
 
 module _ (octets : List ℕ) (f : ℕ → ℕ) where
-  -- of comments alone nothing is seen, and no end is one
+  -- the pieces of comments alone are not seen, and they have no end
   quiet_end : (began : ℕ) (rest : Given) (front : List Piece) (n : ℕ) (b : Bool) → [] ≡ seen_from octets began None rest → map (moved f) rest ≡ map Ok (front ++ end_at n b ∷ []) → ⊥
   quiet_end began [] [] n b s is = cc
   quiet_end began [] (y ∷ front) n b s is = cc
@@ -58,7 +58,7 @@ module _ (octets : List ℕ) (f : ℕ → ℕ) where
       let more : map (moved f) rest ≡ map Ok front ++ Err x ∷ [] = cc in quiet_fault began rest front x s more
 
   module _ (e : EndOfEntry) (rest : Given) (none : [] ≡ seen_from octets e.at None rest) where
-    -- an end behind which nothing is seen is the last piece
+    -- an end after which nothing is seen is the last piece
     end_place : (found front : List Piece) (n : ℕ) (b : Bool) → map (moved f) (map Ok found ++ Ok (EndAt e) ∷ rest) ≡ map Ok (front ++ end_at n b ∷ []) → f e.at ≡ n
     end_place [] [] n b is =
         let same : record { at = f e.at; begins_blank = e.begins_blank } ≡ record { at = n; begins_blank = b } = cc in ap (λ (y : EndOfEntry). y.at) same

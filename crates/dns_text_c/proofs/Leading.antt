@@ -1,4 +1,4 @@
--- The symbols before a place.
+-- The symbols before an offset.
 use Rattle.std.proofs.Common.{◌≡◌, ◌≤◌, ℕ, ◌+◌, List, [], ◌∷◌, ◌++◌, length, drop, refl, ap, ◌∙◌, arith, Some, Ok}
 use Rattle.std.specs.List.{flat_map}
 use Rattle.std.proofs.lemmas.Grind.{common_steps, flat_map-append}
@@ -13,7 +13,7 @@ use Rattle.dns_text_c.specs.Strings.{HasOctetsBefore}
 pub before_none : (text : List ℕ) → HasOctetsBefore text [] 0
 before_none text = record { symbols = []; readable = refl; octets_are = refl; spelled = refl; place_is = refl }
 
--- one symbol more
+-- one more symbol
 pub before_more : (text octets : List ℕ) (place after octet : ℕ) (x : Symbol) → HasOctetsBefore text octets place → ReadsAt text place (Ok (Some (x, after)))
     → octet_of x ≡ Ok octet → HasOctetsBefore text (octets ++ octet ∷ []) after
 before_more text octets place after octet x read next is = record {

@@ -22,7 +22,7 @@ abbrev stopped_by : TextFault → Stop → TextFault
 stopped_by f (Fault e) = e
 stopped_by f _ = f
 
--- the cause stays where places move
+-- moving offsets doesn't change the kind of an error
 open_back : (g : ℕ → ℕ) (w : Wrong) → moved_wrong g w ≡ OpenParenthesis → w ≡ OpenParenthesis
 open_back g OpenParenthesis e = refl
 open_back g Closing e = cc
@@ -30,7 +30,7 @@ open_back g (OpenQuote i) e = cc
 open_back g LoneReturn e = cc
 open_back g BadEscape e = cc
 
--- pieces alone stop by no fault
+-- pieces alone have no syntax error
 no_fault : (g : ℕ → ℕ) (at : ℕ) (alone : List (Result Piece TextFault)) (found : List Piece) (f : TextFault) → map (moved g) alone ≡ map Ok found → stop_of (later at alone) ≡ Fault f → ⊥
 no_fault g at [] found f e s = cc
 no_fault g at (Ok (WordAt p) ∷ alone) [] f e s = cc
@@ -43,7 +43,7 @@ no_fault g at (Ok (EndAt p) ∷ alone) found f e s = cc
 no_fault g at (Err k ∷ alone) [] f e s = cc
 no_fault g at (Err k ∷ alone) (q ∷ found) f e s = cc
 
--- the fault that stops the first entry is the one after the pieces
+-- the syntax error that stops the first entry is the one after the pieces
 same_wrong : (g : ℕ → ℕ) (at : ℕ) (alone : List (Result Piece TextFault)) (found : List Piece) (fault f : TextFault) → map (moved g) alone ≡ map Ok found ++ Err fault ∷ []
     → stop_of (later at alone) ≡ Fault f → f.wrong ≡ OpenParenthesis → fault.wrong ≡ OpenParenthesis
 same_wrong g at [] [] fault f e s w = cc

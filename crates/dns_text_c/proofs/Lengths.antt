@@ -1,4 +1,4 @@
--- How long texts of encodings and their values are.
+-- The lengths of encoded texts and of their values.
 use Rattle.std.proofs.Common.{◌≡◌, ◌+◌, ◌*◌, ◌/◌, ◌%◌, ℕ, zero, suc, List, [], ◌∷◌, ◌++◌, length, map, slice_index, refl, sym, ap, ◌∙◌, arith, inl, inr, length-append}
 use Rattle.dns_codec.specs.Base.{Base, base16, base32hex, base64, encoded, IsEncoding}
 use Rattle.dns_codec.specs.Bits.{digits, whole}
@@ -52,7 +52,7 @@ by_rest octets (suc (suc (suc r))) is = absurd (omega (arith, is))
 pub encoded64_length : (octets : List ℕ) → length (encoded base64 octets) ≡ (length octets + 2) / 3 * 4
 encoded64_length octets = by_rest octets (length octets % 3) refl
 
--- a value has the octets that are due
+-- a value has the number of octets that its text's length implies
 pub decoded_length : (b : Base) → IsEncoding b → (text v : List ℕ) → Decodes b text v → length v ≡ octet_count b text
 decoded_length b known text v d =
     let r = read_of b known text v d in

@@ -1,4 +1,4 @@
--- Positions that move on.
+-- Positions that advance.
 use Rattle.std.proofs.Common.{◌≡◌, ◌≢◌, ◌≤◌, ◌<◌, ◌+◌, ◌-◌, ℕ, Bool, true, List, [], ◌∷◌, ◌++◌, length, take, drop, refl, sym, ap, subst, ◌∙◌, arith, append_assoc, length-append}
 use Rattle.std.specs.Prelude.{min}
 use Rattle.std.specs.List.{flat_map, list_all}
@@ -40,7 +40,7 @@ same_line a b l c m d p q none = record {
   along = omega (arith, p.along, q.along, length-append p.last q.last);
 }
 
--- two ways to write the same
+-- two ways to write the same octets
 regrouped : (f l x n m q : List ℕ) → (f ++ l) ++ (((x ++ n) ++ m) ++ q) ≡ (f ++ (((l ++ x) ++ n) ++ m)) ++ q
 regrouped f l x n m q =
     append_assoc f l (((x ++ n) ++ m) ++ q) ∙ ap (λ t. f ++ (l ++ t)) (append_assoc (x ++ n) m q ∙ append_assoc x n (m ++ q))
@@ -84,7 +84,7 @@ joined a b l c m d line column p q few is same next = go q.lines refl
         let second : column ≡ d = next (λ one. omega (arith, one, q.counted, ap length are)) in
         subst (λ n. IsPosition (a ++ b) n column) (sym first) (subst (IsPosition (a ++ b) (l + (m - 1))) (sym second) there)
 
--- a position moves on by those of the octets between
+-- a position advances by the position of the octets between
 pub moved : (text : List ℕ) (from offset l c m d line column : ℕ) → from ≤ offset → offset ≤ length text → length text < greatest_length
     → IsPosition (take (offset - from) (take (length text - from) (drop from text))) m d → line ≡ min (l + (m - 1)) greatest_length → (m ≡ 1 → column ≡ min (c + (d - 1)) greatest_length)
     → (m ≢ 1 → column ≡ d) → IsPosition (take from text) l c → IsPosition (take offset text) line column

@@ -1,4 +1,4 @@
--- A name's text that has been read in part, and the answers that it has.
+-- A name's text that has been parsed in part, and the results that it can have.
 use Rattle.std.proofs.Common.{◌≡◌, ℕ, ◌<◌, ◌≤◌, true, false, List, [], ◌∷◌, ◌++◌, length, drop, refl, sym, ap, subst, ◌∙◌, arith, append_assoc, append-nil, inl, inr, Some, Result, Ok, Err}
 use Rattle.std.specs.Prelude.{encode_utf8_all, IsOk}
 use Rattle.std.proofs.lemmas.List.{length-drop}
@@ -27,7 +27,7 @@ use Rattle.dns_text_c.specs.declared.outcome.Outcome.{Outcome}
 use Rattle.dns_text_c.specs.declared.outcome.Refusal.{Refusal}
 use Rattle.dns_text_c.specs.declared.outcome.Refusal.TheVariants.{BadSymbol, TooLong, LongLabel, BinaryLabel}
 
--- what was read, alone
+-- the part that was parsed, alone
 alone : (text : List ℕ) (labels : List (List ℕ)) (current rest : List ℕ) (h : HasNamed text labels current rest) → HasNamed (flat_map bytes h.symbols) labels current []
 alone text labels current rest h = record { symbols = h.symbols; readable = h.readable; spelled = sym (append-nil (flat_map bytes h.symbols)); names = h.names }
 
@@ -37,7 +37,7 @@ named_start text b is = subst (λ n. HasNamed text n.labels n.current text) (sym
 goes_on : (text front piece rest more : List ℕ) → text ≡ front ++ rest → rest ≡ piece ++ more → (front ++ piece) ++ more ≡ text
 goes_on text front piece rest more is e = append_assoc front piece more ∙ ap (λ t. front ++ t) (sym e) ∙ sym is
 
--- one octet more
+-- one more octet
 pub named_more : (text : List ℕ) (b : Naming) (place after octet : ℕ) (x : Symbol) → HasNamed text b.labels b.current (drop place text)
     → ReadsAt text place (Ok (Some (x, after))) → is_dot x ≡ false → GivesOctet b x octet → wire_length (all_labels (with_octet b octet)) ≤ 254 → length b.current < 63
     → HasNamed text b.labels (b.current ++ octet ∷ []) (drop after text)
@@ -61,7 +61,7 @@ named_ended text b place after x h next dot some =
     (goes_on text (flat_map bytes h.symbols) (46 ∷ []) (drop place text) (drop after text) h.spelled (dot_stands text place after x next dot))
     (named_on (flat_map bytes h.symbols ++ 46 ∷ []) (all_labels b) [] [] (drop after text) (named_dot (flat_map bytes h.symbols) b.labels b.current (alone _ _ _ _ h) some))
 
--- where nothing was named, all is left
+-- if nothing was parsed, all is left
 nothing_read : (text : List ℕ) (b : Naming) (rest : List ℕ) → HasNamed text b.labels b.current rest → b.current ≡ [] → b.labels ≡ [] → text ≡ rest
 nothing_read text b rest h none nothing =
     h.spelled ∙ ap (λ t. t ++ rest) (named_nothing (flat_map bytes h.symbols)
@@ -101,7 +101,7 @@ module _ {O : Type 0} where
       by (x ∷ xs) [] l c = let some : b.labels ≡ [] → ⊥ = λ e. cc in read_absolute text b rest name h end c some (absolute c some)
       by (x ∷ xs) (o ∷ os) l c = let none : b.current ≡ [] → b.labels ≡ [] = λ e. absurd cc in read_relative text b rest name h end none (relative none)
 
--- a symbol that is refused
+-- a symbol is rejected
 pub name_stops : (text : List ℕ) (b new : Naming) (place after : ℕ) (x : Symbol) (why : Refusal) → HasNamed text b.labels b.current (drop place text)
     → ReadsAt text place (Ok (Some (x, after))) → is_dot x ≡ false → TakesNameSymbol b x (Err why) new → NameStops text b.labels b.current place why
 name_stops text b new place after x BinaryLabel h next no_dot t = (after, subst (λ y. ReadsAt text place (Ok (Some (y, after)))) t.1 next, t.0)
@@ -110,7 +110,7 @@ name_stops text b new place after x TooLong h next no_dot t = (t.0, ((x, after),
 name_stops text b new place after x LongLabel h next no_dot t = (t.0, ((x, after), next, no_dot, t.1.0, t.1.1), t.2, omega (arith, t.3, h.names.opened.short))
 name_stops text b new place after x other h next no_dot t = absurd t
 
--- where no symbol follows
+-- no symbol follows
 no_symbol : (text : List ℕ) (b : Naming) (place : ℕ) (e : SymbolOctetsError) → ReadsAt text place (Err e) → NameStops text b.labels b.current place (refusal_of e)
 no_symbol text b place NoUtf8 r = (NoUtf8, r, refl)
 no_symbol text b place NoEscape r = (NoEscape, r, refl)
@@ -121,14 +121,14 @@ pub name_refused : (text : List ℕ) (b : Naming) (place : ℕ) (fault : Fault) 
 name_refused text b place fault h within r =
     subst (λ f. ReadsNameText text (Err f)) (sym r.2) (b.labels, b.current, h, within, no_symbol text b place r.0 r.1)
 
--- there is room for the root
+-- the root fits
 pub root_fits : (labels : List (List ℕ)) (r : Result (List (List ℕ)) PushError) → wire_length labels ≤ 254 → AnswersRoot labels (exactly 255) r → IsOk r
 root_fits labels (Ok name) h a = refl
 root_fits labels (Err LongName) h a = absurd a
 root_fits labels (Err NoLabel) h a = absurd a
 root_fits labels (Err ShortBuf) h a = absurd (omega (arith, a, h))
 
--- what was given of other octets
+-- the result for other octets
 pub given_as : (octets want old new : List ℕ) (status : ℕ) (outcome : Outcome) → octets ≡ want → TellsOctets octets old status new outcome → TellsOctets want old status new outcome
 given_as octets want old new status outcome is g = subst (λ o. TellsOctets o old status new outcome) is g
 

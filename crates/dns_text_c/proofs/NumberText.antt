@@ -1,4 +1,4 @@
--- A number's text that has been read in part.
+-- A number's text that has been parsed in part.
 use Rattle.std.proofs.Common.{◌≡◌, ◌≤◌, ◌+◌, ℕ, List, [], ◌∷◌, ◌++◌, length, drop, refl, sym, ap, subst, ◌∙◌, arith, Some, None, Ok, Err, inr}
 use Rattle.std.specs.List.{flat_map}
 use Rattle.std.proofs.lemmas.Grind.{common_steps, flat_map-append}
@@ -19,7 +19,7 @@ pub number_before_none : (most : ℕ) (text : List ℕ) → HasNumberBefore most
 number_before_none most text =
     record { symbols = []; before = record { readable = refl; spelled = refl; place_is = refl }; number = number_none most }
 
--- one symbol more
+-- one more symbol
 symbol_more : (text : List ℕ) (symbols : List Symbol) (place after : ℕ) (x : Symbol) → HasSymbolsBefore text symbols place
     → ReadsAt text place (Ok (Some (x, after))) → HasSymbolsBefore text (symbols ++ x ∷ []) after
 symbol_more text symbols place after x read next = record {
@@ -52,7 +52,7 @@ number_before_end most text v place read h = record {
   reads = (read.number, refl);
 }
 
--- where no symbol follows
+-- no symbol follows
 pub number_refused : (most : ℕ) (text : List ℕ) (v place : ℕ) (fault : Fault) → HasNumberBefore most text v place
     → (e : SymbolOctetsError) × ReadsAt text place (Err e) × (fault ≡ record { refusal = refusal_of e; place = place }) → ReadsTextAsNumber most text (Err fault)
 number_refused most text v place fault read r = subst (λ f. ReadsTextAsNumber most text (Err f)) (sym r.2) (v, read, inr (r.0, r.1, refl))

@@ -1,4 +1,4 @@
--- What calls for pieces one after another tell.
+-- What calls for pieces return one after another.
 use Rattle.std.proofs.Common.{◌≡◌, ◌≢◌, ◌≤◌, ℕ, zero, suc, Bool, true, ◌==◌, List, [], ◌∷◌, length, refl, sym, ap, subst, ◌∙◌, arith, Result, Ok, Err}
 use Rattle.std.specs.Prelude.{map, not}
 use Rattle.std.proofs.lemmas.Bool.{ne_eqb}
@@ -22,7 +22,7 @@ use Rattle.dns_text_c.specs.declared.pieces.Standing.{Standing}
 abbrev Given : Type 0
 Given = List (Result TextPiece TextFault)
 
--- no fault is told by the status of a piece
+-- the status of a syntax error is not that of a piece
 refused : (w : Wrong) → number_of (refusal_of_wrong w) ≡ 0 → ⊥
 refused NoneOpen e = cc
 refused NotClosed e = cc
@@ -30,7 +30,7 @@ refused (NotQuoted i) e = cc
 refused NoFeed e = cc
 refused NoEscape e = cc
 
--- a standing among the octets, where what is given is left
+-- a standing among the octets, and the pieces that are left
 pub record Stands (text : List ℕ) (s : Standing) (given : Given) : Type 0 where
   pub left : IsLeft text (standing_of s) given
   pub within : s.at ≤ length text
@@ -39,11 +39,11 @@ pub record Stands (text : List ℕ) (s : Standing) (given : Given) : Type 0 wher
 done_flag : (n : ℕ) → n ≢ 0 → not (n == 0) ≡ true
 done_flag n h = ap not (ne_eqb n 0 h)
 
--- nothing is left of a text that is done
+-- a text that is done has no pieces left
 none_left : (text : List ℕ) (s : Standing) (given : Given) → s.is_done ≢ 0 → IsLeft text (standing_of s) given → given ≡ []
 none_left text s given h left = subst (λ t. LeftIf t text (standing_of s) given) (done_flag s.is_done h) left
 
--- what a call tells is of the piece or of the fault
+-- a call reports the piece or the syntax error
 told_ok : (b : Bool) (before piece : Piece) (outcome : Outcome) (x : Result TextPiece TextFault) → TellsPiece x b before piece 0 outcome → Ok piece ≡ told_piece b x
 told_ok b before piece outcome (Ok p) t = ap Ok t.2
 told_ok b before piece outcome (Err f) t = absurd (refused f.wrong (sym t.0))
@@ -57,7 +57,7 @@ is_zero : (n : ℕ) → (n ≢ 0 → ⊥) → n ≡ 0
 is_zero zero h = refl
 is_zero (suc n) h = absurd (h (λ e. cc))
 
--- a call takes what is first, and leaves the rest
+-- a call takes the first piece, and leaves the rest
 pub record Took (text : List ℕ) (s new : Standing) (told : ToldPiece) (given : Given) : Type 0 where
   pub first : Result TextPiece TextFault
   pub rest : Given
@@ -105,14 +105,14 @@ at_start s a d b i =
     ∙ ap (λ n. record { at = 0; depth = 0; began = n; is_done = not (s.is_done == 0) }) b
     ∙ ap (λ n. record { at = 0; depth = 0; began = 0; is_done = not (n == 0) }) i)
 
--- calls from the start of a text tell all that it gives
+-- calls from the start of a text return all its pieces
 pub tell_pieces : (text : List ℕ) (given : Given) (first last : Standing) (told : List ToldPiece) → AreOctets text → IsGiven text given → first.at ≡ 0 → first.depth ≡ 0 → first.began ≡ 0
     → first.is_done ≡ 0 → PieceCalls text first told last → told ≡ told_from text 0 given
 tell_pieces text given first last told o g a d b i calls =
     let left : IsLeft text (standing_of first) given = subst (λ s. IsLeft text s given) (at_start first a d b i) (given_left text given o g) in
     tell_left text told first last given (record { left = left; within = omega (arith, a); deep = omega (arith, d) }) calls ∙ ap (λ n. told_from text n given) b
 
--- so they tell the entries of a text that splits
+-- so they return the entries of a text that splits
 told_entries : (text : List ℕ) (began : ℕ) (found : List TextPiece) → entries_told text (told_from text began (map Ok found)) ≡ tokens_by_entry text found
 told_entries text began [] = refl
 told_entries text began (WordAt p ∷ found) = ap (with_token (between text p.start p.end)) (told_entries text began found)

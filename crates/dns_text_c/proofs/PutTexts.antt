@@ -1,4 +1,4 @@
--- A text that is counted, or put over octets, part by part.
+-- A text that is counted, or written over octets, part by part.
 use Rattle.std.proofs.Common.{ℕ, ◌≡◌, ◌+◌, ◌-◌, ◌≤◌, List, [], ◌∷◌, ◌++◌, length, take, drop, refl, sym, ap, subst, ◌∙◌, arith, length-append, append-nil, append_assoc, drop-drop, take_all, Result, Ok, Err}
 use Rattle.std.specs.Prelude.{OnOk}
 use Rattle.std.proofs.lemmas.List.{drop_all, length-drop, length-take-le}
@@ -18,13 +18,13 @@ module _ {S : Type 0} (took : S → List ℕ → S → Type 0) (count : S → �
   pub counted_text : (s : S) (text : List ℕ) (t : S) → WritesInCalls took s text t → count t ≡ count s + length text
   counted_text s text t calls = counted_parts s calls.parts t calls.calls ∙ ap (λ l. count s + length l) calls.whole
 
--- nothing is put
+-- nothing is written
 puts_none : (at : ℕ) (octets : List ℕ) → at ≤ length octets → PutsAt [] at octets octets
 puts_none at octets h =
     let same : at + 0 ≡ at = omega arith in
     record { fits = omega (arith, h); put = ap (λ n. take n octets) same ∙ sym (append-nil (take at octets)); rest = refl; same = refl }
 
--- one text behind the other
+-- one text after the other
 puts_both : (a b : List ℕ) (at : ℕ) (x y z : List ℕ) → PutsAt a at x y → PutsAt b (at + length a) y z → PutsAt (a ++ b) at x z
 puts_both a b at x y z p q =
     let long = length-append a b in
@@ -51,7 +51,7 @@ module _ {S N : Type 0} (took : S → List ℕ → S → Type 0) (name : S → N
   pub put_text : (s : S) (text : List ℕ) (t : S) → count s ≤ length (held s) → WritesInCalls took s text t → (name t ≡ name s) × PutsAt text (count s) (held s) (held t)
   put_text s text t h calls = let p = put_parts s calls.parts t h calls.calls in (p.0, subst (λ l. PutsAt l (count s) (held s) (held t)) calls.whole p.1)
 
-  -- what is held at the end
+  -- the octets that were written in the end
   pub put_back : (s : S) (text : List ℕ) (t : S) → WritesInCalls took s text t → count s ≤ length (held s) → (end : List ℕ) → (name t ≡ name s → end ≡ held t) → PutsAt text (count s) (held s) end
   put_back s text t calls h end back = let p = put_text s text t h calls in subst (PutsAt text (count s) (held s)) (sym (back p.0)) p.1
 
@@ -63,7 +63,7 @@ after_front : (xs ys : List ℕ) → drop (length xs) (xs ++ ys) ≡ ys
 after_front [] ys = refl
 after_front (x ∷ xs) ys = after_front xs ys
 
--- octets are put over the start of the rest from a place on
+-- octets are written over the start of the rest from an offset on
 pub puts_part : (octets over part : List ℕ) (at : ℕ) → at ≤ length over → length octets ≤ length over - at → take (length octets) part ≡ octets
     → drop (length octets) part ≡ drop (length octets) (take (length over - at) (drop at over)) → length part ≡ length (take (length over - at) (drop at over))
     → PutsAt octets at over (take at over ++ (part ++ drop (length over - at) (drop at over)))

@@ -1,4 +1,4 @@
--- What comes of a text of data, by what stands behind its tokens.
+-- The result of parsing a text of data, by what comes after its tokens.
 use Rattle.std.proofs.Common.{ℕ, ◌≡◌, true, false, List, [], ◌∷◌, ◌++◌, refl, sym, ap, ◌∙◌, Option, Some, None, Result, Ok, Err}
 use Rattle.std.specs.Prelude.{map}
 use Rattle.dns_fields.specs.Source.{next_place}
@@ -24,7 +24,7 @@ module _ (rtype : RecordType) (octets : List ℕ) (old new : SourceSeen) (closed
   behind : (result : Result (Option StartOfEntry) Fault) → BeginsEntry old result new → answer_before rtype octets old.parts ≡ answer_before rtype octets new.parts
   behind result b = ap (answer_before rtype octets) (sym (closed_left old closed) ∙ b.passed) ∙ before_ends rtype octets b.ends new.parts
 
-  -- nothing stands behind the entry; or a fault does; or a token
+  -- nothing comes after the entry; or a syntax error does; or a token
   pub behind_none : BeginsEntry old (Ok None) new → Ok octets ≡ answer_before rtype octets old.parts
   behind_none b = sym (behind (Ok None) b ∙ ap (answer_before rtype octets) b.start.1)
 
@@ -51,12 +51,12 @@ module _ (rtype : RecordType) (read : Result (Unit {0}) RecordError) (octets : L
   pub ended : (end : EndOfEntry) (after : SourceSeen) → FinishesEntry middle (Ok (Some end)) after → behind_left begun ≡ Ok (EndIs end) ∷ after.parts
   ended end after h = sym (rest_kept begun middle ends opened).1 ∙ h.1
 
--- nothing follows no entry
+-- without an entry, nothing comes after it
 pub nothing_after : (rtype : RecordType) (read : Result (Unit {0}) RecordError) (octets : List ℕ) (parts : Parts) → parts ≡ [] → answered read octets ≡ data_answer rtype read octets parts
 nothing_after rtype (Ok u) octets parts none = sym (ap (data_answer rtype (Ok u) octets) none)
 nothing_after rtype (Err e) octets parts none = sym (ap (data_answer rtype (Err e) octets) none)
 
--- where data are refused, what stands behind an entry that ended says nothing
+-- if data is rejected, what comes after an entry that ended doesn't matter
 pub refused_ended : (rtype : RecordType) (e : RecordError) (octets : List ℕ) (begun middle after : SourceSeen) → begun.is_open ≡ true → entry_end middle ≡ entry_end begun → (x : Option EndOfEntry)
     → FinishesEntry middle (Ok x) after → Err e ≡ data_answer rtype (Err e) octets (behind_left begun)
 refused_ended rtype e octets begun middle after opened ends None h = absurd (no_end rtype (Err e) octets begun middle opened ends after h)

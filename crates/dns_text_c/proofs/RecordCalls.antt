@@ -1,4 +1,4 @@
--- Calls for records one after another tell what one reader gives.
+-- Calls for records return, one after another, what one reader returns.
 use Rattle.std.proofs.Common.{ℕ, ◌≡◌, ◌≢◌, ◌≤◌, ◌+◌, Bool, true, false, List, [], ◌∷◌, ◌++◌, length, drop, refl, sym, ap, subst, ◌∙◌, arith, append_assoc, drop-drop, inl, inr, ⊎_elim, Option, Some, None, Result, Ok, Err}
 use Rattle.std.specs.Prelude.{◌⊎◌, map}
 use Rattle.std.proofs.lemmas.Bool.{cases_lt}
@@ -49,7 +49,7 @@ use Rattle.dns_text_c.proofs.LastEnds.{nothing_behind}
 abbrev room : Room
 room = exactly 65535
 
--- ---- readers that stand at one place, behind one state, read the same
+-- ---- readers at one position, with one state, read the same
 
 record SameReader (r s : RecordReader) : Type 0 where
   octets : r.octets.now ≡ s.octets.now
@@ -106,7 +106,7 @@ module _ (octets : List ℕ) (at : ℕ) (front left : Parts) (e : EndOfEntry) (s
       unmoved [] h = refl
       unmoved (p ∷ parts) h = cc
 
--- ---- where a reader stands behind calls: all is seen from there, or nothing is left
+-- ---- the reader after some calls: all parts are seen from there, or nothing is left
 
 abbrev IsThere : List ℕ → SourceSeen → Type 0
 IsThere octets s = ((s.parts ≡ []) × (drop s.began octets ≡ [])) ⊎ IsSeenFrom octets s.began s.parts
@@ -174,7 +174,7 @@ stands_row octets r last given are s (given_next before middle end g row next st
 stands_record : (octets : List ℕ) (r after : RecordReader) (old new : List ℕ) (result : Result EntryRead RecordError) → AreOctets octets → Stands octets r → ReadsNextRecord room r old (Some result) after new → Stands octets after
 stands_record octets r after old new result are s h = stands_next octets h.middle after old new result are (stands_row octets r h.middle h.directives are s h.row) h.last
 
--- ---- where nothing is left, none is given
+-- ---- if nothing is left, nothing is returned
 
 nothing_seen : (octets : List ℕ) (at : ℕ) (parts : Parts) → drop at octets ≡ [] → IsSeenFrom octets at parts → (e : EndOfEntry) × (parts ≡ Ok (EndIs e) ∷ [])
 nothing_seen octets at parts none s =
@@ -222,7 +222,7 @@ module _ (r : RecordReader) (closed : r.source.is_open ≡ false) where
     is_last = λ e. cc;
   }
 
--- ---- a zone holds one state
+-- ---- a zone has one state
 
 name_once : (kept : KeptName) (a b : Known) → HoldsName kept (Some a) → HoldsName kept (Some b) → a ≡ b
 name_once kept Unsaid Unsaid h k = refl
@@ -321,7 +321,7 @@ module _ (after : RecordReader) (octets : List ℕ) (call : RecordCall) where
 
 -- ---- a call reads what the reader reads
 
--- the zone has the state of the reader, and its place
+-- the zone has the state of the reader, and its offset
 record Held (zone : Zone) (r : RecordReader) : Type 0 where
   holds : HoldsState zone (Some r.state)
   at : zone.at ≡ r.source.began
@@ -335,7 +335,7 @@ Told r call =
     ⊎ ((after : RecordReader) × (octets : List ℕ) × ReadsNextRecord room r [] None after octets × (call.status ≡ 1))
 
 module _ (text : List ℕ) (are : AreOctets text) (r : RecordReader) (stands : Stands text r) (call : RecordCall) (held : Held call.before.zone r) where
-  -- a reader that starts where the zone says is there, or nothing is left
+  -- a reader that starts at the zone's offset is in the same state, or nothing is left
   same_there : (before : RecordReader) (state : State) → state ≡ r.state → StartsAt text call.before.zone.at state before → IsSeenFrom text r.source.began r.source.parts → SameReader before r
   same_there before state is starts from =
       let there : IsSeenFrom text r.source.began before.source.parts = subst (λ n. IsSeenFrom text n before.source.parts) held.at starts.parts in
@@ -409,7 +409,7 @@ module _ (text : List ℕ) (are : AreOctets text) where
     state_is = s.state_is;
   }
 
-  -- the first call has one
+  -- the reader of the first call
   first_reader : (state : State) (zone : Zone) (call : RecordCall) → zone.at ≡ 0 → HoldsState zone (Some state) → call.before.zone ≡ zone → NextRecord text call
       → (r : RecordReader) × StartsText text state r
   first_reader state zone call zero holds same (inl bad) =

@@ -1,4 +1,4 @@
--- What is read and not refused is read so with any room.
+-- What is read without an error is read alike with any capacity.
 use Rattle.std.proofs.Common.{ℕ, ◌≡◌, ◌++◌, Bool, List, [], ◌∷◌, Option, Some, None, Result, Ok, Err}
 use Rattle.std.specs.List.{AllByRecursion}
 use Rattle.dns_octets.specs.Room.{Room}
@@ -24,12 +24,12 @@ use Rattle.dns_reader.specs.declared.state.State.{State}
 use Rattle.dns_text_c.specs.DataText.{ReadsDataText, ReadsFirstData, ReadsTokens, data_answer}
 use Rattle.dns_text_c.specs.Records.{RefusalIsGiven}
 
--- all of a list with one more behind it
+-- all of a list with one more element at its end
 all_before : {X : Type 0} (P : X → Type 0) (xs : List X) (x : X) → AllByRecursion P (xs ++ x ∷ []) → AllByRecursion P xs × P x
 all_before P [] x h = (tt, h.0)
 all_before P (y ∷ xs) x h = let more = all_before P xs x h.1 in ((h.0, more.0), more.1)
 
--- a directive is no refusal
+-- a directive is not an error
 directive_taken : (old : List ℕ) (g : EntryGiven) → IsDirectiveGiven old g → RefusalIsGiven (Some g.result) → ⊥
 directive_taken old g h refused = let is = h.1 in let no = refused.1 in cc
 
@@ -98,7 +98,7 @@ module _ (one other : Room) where
     is_last = h.is_last;
   }
 
-  -- what is refused is no data, whatever follows it
+  -- rejected data stays rejected, whatever follows it
   never_data : (rtype : RecordType) (r : RecordError) (octets out : List ℕ) (parts : List (Result PartSeen Fault)) → Ok out ≡ data_answer rtype (Err r) octets parts → ⊥
   never_data rtype r octets out [] is = cc
   never_data rtype r octets out (Ok p ∷ parts) is = cc

@@ -12,7 +12,7 @@ use Rattle.dns_split.proofs.OctetJoins.{octet_pieces_go_on}
 use Rattle.dns_text_c.specs.Entries.{tokens_of, stop_of, is_nothing, token_between, with_first, entries_of_pieces, InARow}
 use Rattle.dns_text_c.specs.declared.tokens.Stop.TheVariants.{End}
 
--- an end of an entry is among them
+-- one of them is the end of an entry
 abbrev HasEnd : List Piece → Type 0
 HasEnd [] = ⊥
 HasEnd (WordAt p ∷ ps) = HasEnd ps
@@ -94,7 +94,7 @@ first_of f (CommentAt p ∷ ps) h =
 first_of f (EndAt e ∷ ps) h =
     record { front = []; at = e.at; blank = e.begins_blank; more = ps; is = refl; entries = refl; stops = ap (λ b. End (record { at = f e.at; begins_blank = e.begins_blank }) b) (nothing_moved f ps) }
 
--- places moved twice
+-- offsets that are moved twice
 twice : (a b : ℕ) (ps : List Piece) → map (moved_piece (λ i. a + i)) (map (moved_piece (λ i. b + i)) ps) ≡ map (moved_piece (λ i. a + b + i)) ps
 twice a b [] = refl
 twice a b (p ∷ ps) = (λ i. one p i ∷ twice a b ps i)
@@ -112,7 +112,7 @@ pub map_ok : (f : ℕ → ℕ) (ps : List Piece) → map (moved f) (map Ok ps) �
 map_ok f [] = refl
 map_ok f (p ∷ ps) = ap (λ l. Ok (moved_piece f p) ∷ l) (map_ok f ps)
 
--- places that are within
+-- offsets that are within the octets
 end_within : (n : ℕ) (front : List Piece) (at : ℕ) (b : Bool) (more : List Piece) → EachWithin n (map Ok (front ++ end_at at b ∷ more)) → (at ≤ n) × EachWithin n (map Ok more)
 end_within n [] at b more w = w
 end_within n (p ∷ ps) at b more w = end_within n ps at b more w.1
@@ -135,12 +135,12 @@ same_length : (f : ℕ → ℕ) (ps : List Piece) → length (map (moved_piece f
 same_length f [] = refl
 same_length f (p ∷ ps) = ap suc (same_length f ps)
 
--- what is given at a place
+-- the pieces from an offset on
 reads_there : (text : List ℕ) (at : ℕ) (alone : List Piece) → IsOctetPieces (drop at text) alone → ReadsOctetsFrom text at (map Ok (map (moved_piece (λ i. at + i)) alone))
 reads_there text at alone p =
     (map Ok alone, inl (record { found = map (moved_piece (place_of (drop at text))) alone; is = map_ok (place_of (drop at text)) alone; placed = p }), sym (map_ok (λ i. at + i) alone))
 
--- pieces that are at most so many are entries in a row
+-- pieces, at most in this number, are entries in a row
 abbrev Rows : ℕ → List ℕ → Type 0
 Rows n text = (at : ℕ) (alone : List Piece) → length alone ≤ n → IsOctetPieces (drop at text) alone → EachWithin (length (drop at text)) (map Ok alone)
     → InARow text at (entries_of_pieces (map (moved_piece (λ i. at + i)) alone))

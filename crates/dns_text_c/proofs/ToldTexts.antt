@@ -1,4 +1,4 @@
--- What is told of a text of an encoding that was written or read.
+-- What is reported for an encoded text that was printed or parsed.
 use Rattle.std.proofs.Common.{◌≡◌, ◌≤◌, ◌<◌, ℕ, zero, suc, List, [], ◌∷◌, ◌++◌, length, take, drop, refl, sym, ap, subst, ◌∙◌, arith, Option, Some, None, Result, Ok, Err, inl, inr}
 use Rattle.std.specs.Prelude.{IfOk, IfErr, IfSome, IfNone}
 use Rattle.std.proofs.lemmas.Grind.{common_steps}
@@ -16,7 +16,7 @@ use Rattle.dns_text_c.proofs.Lengths.{decoded_length}
 no_longer : (k : ℕ) (made new : List ℕ) → take k new ≡ made → length made ≤ length new
 no_longer k made new h = subst (λ l. length l ≤ length new) h (Prim.grind (arith, common_steps))
 
--- a text that was written is given
+-- a text that was printed is returned
 pub given : (made old new : List ℕ) (r : Result ℕ ShortBuf) (n status : ℕ) (outcome : Outcome) → IsWritten made old r new → length new ≡ length old → n ≡ length made
     → IfOk r (λ _. status ≡ 0) → IfErr r (λ _. status ≡ number_of NoRoom) → outcome ≡ record { length = n; place = 0 } → TellsOctets made old status new outcome
 given made old new (Ok k) n status outcome w kept is ok err told = record {
@@ -39,7 +39,7 @@ whole_front k [] ys h = Prim.grind (arith, common_steps)
 whole_front zero (x ∷ xs) ys h = absurd (omega (arith, h))
 whole_front (suc k) (x ∷ xs) ys h = ap (λ l. x ∷ l) (whole_front k xs ys (omega (arith, h)))
 
--- a text that was read into room for just its octets is told
+-- a text that was parsed into a buffer of exactly its length is reported
 pub told : (b : Base) → IsEncoding b → (text old part : List ℕ) (r : Option ℕ) (n m status : ℕ) (outcome : Outcome) → n ≡ octet_count b text → n ≤ length old → length part ≡ n → m ≡ n
     → IfSome r (λ k. Decodes b text (take k part) × (k ≤ length part)) → IfNone r ((v : List ℕ) → Decodes b text v → m < length v)
     → IfSome r (λ _. (status ≡ 0) × (outcome ≡ record { length = n; place = 0 })) → IfNone r (TellsFault (record { refusal = BadEncoding; place = 0 }) status outcome)

@@ -7,7 +7,7 @@ use Rattle.dns_octets.specs.Octets.{greatest_length}
 use Rattle.dns_text_c.specs.Entries.{written_over_start, counted}
 
 module _ {A : Type 0} where
-  -- one more, at the place after the others
+  -- one more, at the index after the others
   written_more : (xs old : List A) (x : A) → written_over_start (xs ++ x ∷ []) old ≡ slice_set (written_over_start xs old) (length xs) x
   written_more [] [] x = refl
   written_more [] (y ∷ ys) x = refl
@@ -23,7 +23,7 @@ module _ {A : Type 0} where
   one_more [] rest x = refl
   one_more (y ∷ ys) rest x = ap (λ l. y ∷ l) (one_more ys rest x)
 
-  -- a place that a `usize` can't name is past the end, as the greatest one is
+  -- an index that a `usize` can't hold is past the end, as the greatest one is
   set_counted : (xs : List A) (n : ℕ) (x : A) → length xs < 2 ^ 64 → slice_set xs (counted n) x ≡ slice_set xs n x
   set_counted xs n x few =
       ⊎_elim

@@ -14,7 +14,7 @@ use Rattle.dns_text_c.specs.declared.outcome.Refusal.TheVariants.{OpenParenthesi
 use Rattle.dns_text_c.specs.declared.tokens.Token.{Token as TokenAt}
 use Rattle.dns_text_c.specs.declared.tokens.Cursor.{Cursor}
 
--- what a call tells of an entry: its tokens, a status, and the place of a fault
+-- what a call returns for an entry: its tokens, a status, and the offset of a syntax error
 pub record ToldEntry : Type 0 where
   pub tokens : List TokenAt
   pub status : ℕ
@@ -28,7 +28,7 @@ abbrev pub with_told_token : TokenAt → List ToldEntry → List ToldEntry
 with_told_token t [] = told (t ∷ []) 0 0 ∷ []
 with_told_token t (e ∷ es) = told (t ∷ e.tokens) e.status e.place ∷ es
 
--- the words and quoted texts of what a text gives, cut where entries end; the last entry has the fault, if there is one
+-- the words and quoted texts of a text, cut where entries end; the last entry has the syntax error, if there is one
 abbrev pub told_entries : List (Result Piece TextFault) → List ToldEntry
 told_entries [] = []
 told_entries (Ok (WordAt p) ∷ given) = with_told_token (token_between p.start p.end 0) (told_entries given)
@@ -37,7 +37,7 @@ told_entries (Ok (CommentAt p) ∷ given) = told_entries given
 told_entries (Ok (EndAt e) ∷ given) = told [] 0 0 ∷ told_entries given
 told_entries (Err f ∷ given) = told [] (number_of (refusal_of_wrong f.wrong)) f.at ∷ []
 
--- a call that found an entry, with room for one token more than it gave where it was refused; and what it told
+-- a call that found an entry, and on an error had capacity for one token more than it returned; and what it returned
 pub record Tells (text : List ℕ) (old new : Cursor) (entry : ToldEntry) : Type 0 where
   pub before : List TokenAt
   pub after : List TokenAt
@@ -49,32 +49,32 @@ pub record Tells (text : List ℕ) (old new : Cursor) (entry : ToldEntry) : Type
   pub tokens : entry.tokens ≡ take outcome.length after
   pub place : entry.place ≡ outcome.place
 
--- such calls one after another, each from where the one before left the cursor, until the text is done; and where the cursor is then
+-- such calls one after another, each from the cursor that the one before left, until the text is done; and the cursor after them
 abbrev pub Calls : List ℕ → Cursor → List ToldEntry → Cursor → Type 0
 Calls text cursor [] last = (cursor.is_done ≢ 0) × (cursor ≡ last)
 Calls text cursor (entry ∷ more) last = (new : Cursor) × Tells text cursor new entry × Calls text new more last
 
--- the status of the last one
+-- the status of the last call
 abbrev pub last_status : List ToldEntry → ℕ
 last_status [] = 0
 last_status (entry ∷ []) = entry.status
 last_status (entry ∷ next ∷ more) = last_status (next ∷ more)
 
--- the octets of each of its tokens
+-- the octets of each token of an entry
 abbrev pub token_octets : List ℕ → ToldEntry → List (List ℕ)
 token_octets text entry = map (λ t. between text t.start t.end) entry.tokens
 
--- calls from the start of a text on, until it is done, tell its entries as they are given, or its fault
+-- calls from the start of a text on, until it is done, return its entries, or its syntax error
 abbrev pub CallsTellEntries : Type 0
 CallsTellEntries = (text : List ℕ) (given : List (Result Piece TextFault)) (first last : Cursor) (entries : List ToldEntry) → AreOctets text → IsGiven text given → first.at ≡ 0
     → first.is_done ≡ 0 → Calls text first entries last → entries ≡ told_entries given
 
--- of a text that splits they tell the octets of its entries
+-- for a text that splits they return the octets of its entries
 abbrev pub CallsTellTokens : Type 0
 CallsTellTokens = (text : List ℕ) (found : Entries) (first last : Cursor) (entries : List ToldEntry) → AreOctets text → Splits text found → first.at ≡ 0
     → first.is_done ≡ 0 → Calls text first entries last → map (token_octets text) entries ≡ found
 
--- of a text that leaves a parenthesis open they tell where the outermost one was opened
+-- for a text that leaves a parenthesis open they return the offset where the outermost one was opened
 abbrev pub CallsTellOpener : Type 0
 CallsTellOpener = (text : List ℕ) (first last : Cursor) (entries : List ToldEntry) → AreOctets text → first.at ≡ 0 → first.is_done ≡ 0 → Calls text first entries last
     → last_status entries ≡ number_of OpenParenthesis → IsOpener (encode_utf8_all text) (place_of text last.opened)

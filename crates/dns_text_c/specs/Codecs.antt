@@ -1,4 +1,4 @@
--- What reading and printing a text of an encoding answers.
+-- The results of parsing and printing an encoded text.
 use Rattle.std.specs.Prelude.{◌≡◌, ◌⊎◌, ℕ, ◌<◌, ◌≤◌, ◌^◌, List, length, take, drop}
 use Rattle.dns_codec.specs.Base.{Base, encoded}
 use Rattle.dns_codec.specs.Grammar.{Decodes}
@@ -7,19 +7,19 @@ use Rattle.dns_text_c.specs.Told.{number_of, TellsOctets, TellsFault, at_start}
 use Rattle.dns_text_c.specs.declared.outcome.Outcome.{Outcome}
 use Rattle.dns_text_c.specs.declared.outcome.Refusal.TheVariants.{NoRoom, TooLong, BadEncoding}
 
--- the text of the octets is given; more octets than any memory holds are refused
+-- the text of the octets is returned; more octets than any memory holds are rejected
 pub record PrintsOctets (b : Base) (octets old : List ℕ) (status : ℕ) (new : List ℕ) (outcome : Outcome) : Type 0 where
   pub short : length octets ≤ 2 ^ 60 → TellsOctets (encoded b octets) old status new outcome
   pub long : 2 ^ 60 < length octets → TellsFault (record { refusal = TooLong; place = 2 ^ 60 }) status outcome × (new ≡ old)
 
--- the value stands at the start; or the text has none
+-- the value is at the start of the buffer; or the text is not of the encoding
 abbrev pub TellsValue : Base → List ℕ → ℕ → List ℕ → Outcome → Type 0
 TellsValue b text status new outcome =
     ((status ≡ 0) × (outcome ≡ record { length = octet_count b text; place = 0 }) × Decodes b text (take (octet_count b text) new))
     ⊎ (TellsFault (at_start BadEncoding) status outcome × ((v : List ℕ) → Decodes b text v → ⊥))
 
--- where the octets that so many characters spell fit, the text's value is told; else their number is, whatever the text, and nothing was written.
--- What follows them is as it was
+-- if the octets of a text of this length fit, its value is returned; else their number, whatever
+-- the text is, and nothing was written. The octets after them are unchanged
 pub record DecodesText (b : Base) (text old : List ℕ) (status : ℕ) (new : List ℕ) (outcome : Outcome) : Type 0 where
   pub fits : octet_count b text ≤ length old → TellsValue b text status new outcome
   pub lacks : length old < octet_count b text → (status ≡ number_of NoRoom) × (outcome ≡ record { length = octet_count b text; place = 0 }) × (new ≡ old)

@@ -1,4 +1,4 @@
--- What printing data of a type answers, and reading its text.
+-- The results of printing data of a type, and of parsing its text.
 use Rattle.std.specs.Prelude.{◌≡◌, ◌≢◌, ◌⊎◌, ◌+◌, ◌≤◌, ℕ, false, List, [], ◌∷◌, ◌++◌, length, take, drop, Option, Result, Ok, Err}
 use Rattle.std.specs.Borrow.{Bor}
 use Rattle.std.specs.Fmt.{WritesInCalls}
@@ -38,36 +38,36 @@ data_text d = printed Simple (data_document d)
 abbrev pub PrintsOn : {S : Type 0} → (S → List ℕ → S → Type 0) → TypeData → S → S → Type 0
 PrintsOn gives d old new = WritesInCalls gives old (data_text d) new
 
--- octets are written at a place; what precedes and follows them is as it was
+-- octets are written at an offset; the octets before and after them are unchanged
 pub record PutsAt (octets : List ℕ) (at : ℕ) (old new : List ℕ) : Type 0 where
   pub fits : at + length octets ≤ length old
   pub put : take (at + length octets) new ≡ take at old ++ octets
   pub rest : drop (at + length octets) new ≡ drop (at + length octets) old
   pub same : length new ≡ length old
 
--- the text is given; or printing it failed, which it does in no test, and what follows its length is as it was
+-- the text is returned; or printing it failed, which it does in no test, and the octets after its length are unchanged
 abbrev pub TellsText : List ℕ → List ℕ → ℕ → List ℕ → Outcome → Type 0
 TellsText text old status new outcome =
     TellsOctets text old status new outcome
     ⊎ (TellsFault (at_start TooLong) status outcome × (drop (length text) new ≡ drop (length text) old))
 
--- the status and the place where octets are no data of a type
+-- the status and the offset if octets are not data of a type
 abbrev pub fault_of_wire : WireError → Fault
 fault_of_wire NoDataType = at_start BadData
 fault_of_wire LongData = record { refusal = TooLong; place = 65535 }
 fault_of_wire NotOfType = at_start BadData
 
--- octets are data of a type, and their text is given; or why they are none is reported, and nothing was written
+-- octets are data of a type, and their text is returned; or the reason why they are not is reported, and nothing was written
 abbrev pub PrintsData : RecordType → List ℕ → List ℕ → ℕ → List ℕ → Outcome → Type 0
 PrintsData rtype octets old status new outcome =
     (IsTypeData rtype octets × TellsText (data_text (record { rtype = rtype; octets = octets })) old status new outcome)
     ⊎ ((e : WireError) × RefusesWire rtype octets e × TellsFault (fault_of_wire e) status outcome × (new ≡ old))
 
--- the canonical form of data is given
+-- the canonical form of data is returned
 abbrev pub TellsForm : TypeData → List ℕ → ℕ → List ℕ → Outcome → Type 0
 TellsForm d old status new outcome = TellsOctets (canonical_data d.rtype d.octets) old status new outcome
 
--- octets are data of a type, and their canonical form is written; or why they are none is reported, and nothing is written
+-- octets are data of a type, and their canonical form is written; or the reason why they are not is reported, and nothing was written
 abbrev pub TellsCanonical : RecordType → List ℕ → List ℕ → ℕ → List ℕ → Outcome → Type 0
 TellsCanonical rtype octets old status new outcome =
     (IsTypeData rtype octets × TellsForm (record { rtype = rtype; octets = octets }) old status new outcome)
@@ -77,40 +77,40 @@ TellsCanonical rtype octets old status new outcome =
 abbrev pub trailing_token : RecordType → ℕ → RecordError
 trailing_token rtype at = error_of_type rtype (error_at at TrailingToken)
 
--- the octets of data, or why there are none
+-- the octets of data, or an error
 abbrev pub DataAnswer : Type 0
 DataAnswer = Result (List ℕ) RecordError
 
--- the octets that were read, or why not
+-- the octets that were read, or the error
 abbrev pub answered : Result (Unit {0}) RecordError → List ℕ → DataAnswer
 answered (Ok _) octets = Ok octets
 answered (Err e) octets = Err e
 
--- the result by what follows the entry of the octets: entries without tokens alone; or a token, or a fault of the text
+-- the result by what comes after the entry of the octets: only entries without tokens; or a token, or a syntax error
 abbrev pub answer_before : RecordType → List ℕ → List (Result PartSeen TextFault) → DataAnswer
 answer_before rtype octets [] = Ok octets
 answer_before rtype octets (Ok (EndIs e) ∷ parts) = answer_before rtype octets parts
 answer_before rtype octets (Ok (TokenIs t b) ∷ parts) = Err (trailing_token rtype t.at)
 answer_before rtype octets (Err f ∷ parts) = Err (error_of_fault f)
 
--- the result of an entry that was read, by what follows its tokens: a fault of the text comes first
+-- the result of an entry that was read, by what comes after its tokens: a syntax error comes first
 abbrev pub data_answer : RecordType → Result (Unit {0}) RecordError → List ℕ → List (Result PartSeen TextFault) → DataAnswer
 data_answer rtype read octets (Err f ∷ parts) = Err (error_of_fault f)
 data_answer rtype (Err e) octets parts = Err e
 data_answer rtype (Ok _) octets parts = answer_before rtype octets parts
 
--- the tokens of the entry that is open are read as data of a type, or none where none is open
+-- the tokens of the open entry are read as data of a type, or no tokens if no entry is open
 abbrev pub ReadsTokens : Room → RecordType → Option (List (List ℕ)) → SourceSeen → DataAnswer → Type 0
 ReadsTokens room rtype origin begun answer =
     (read : Result (Unit {0}) RecordError) × (left : List TokenSeen) × (octets : List ℕ)
     × ReadsType origin room rtype (entry_end begun).at (entry_left begun) [] read left octets × (answer ≡ data_answer rtype read octets (behind_left begun))
 
--- the tokens that are left of an entry are read as data of a type, and appended to the octets, with room for n
+-- the tokens that are left of an entry are read as data of a type, and appended to the octets, with capacity n
 abbrev pub ReadsLeft : ℕ → RecordType → Option (Bor (List (List ℕ))) → (old : SourceSeen × List ℕ) → Result (Unit {0}) RecordError → (new : SourceSeen × List ℕ) → Type 0
 ReadsLeft n rtype origin old result new =
     ReadsType (option_copied origin) (exactly n) rtype (entry_end old.0).at (entry_left old.0) old.1 result (entry_left new.0) new.1
 
--- the entry that is open is read, and what comes after it, with room for n octets: the octets are the data, or an error is returned
+-- the open entry is read, and what comes after it, with capacity n: the octets are the data, or an error is returned
 abbrev pub ReadsOpen : ℕ → RecordType → Option (Bor (List (List ℕ))) → SourceSeen → Result (Unit {0}) RecordError → List ℕ → Type 0
 ReadsOpen n rtype origin begun result octets = ReadsTokens (exactly n) rtype (option_copied origin) begun (answered result octets)
 
@@ -118,12 +118,12 @@ ReadsOpen n rtype origin begun result octets = ReadsTokens (exactly n) rtype (op
 abbrev pub EndsText : RecordType → Result (Unit {0}) RecordError → List (Result PartSeen TextFault) → Type 0
 EndsText rtype result parts = (octets : List ℕ) → answered result octets ≡ answer_before rtype octets parts
 
--- the first entry that has tokens is read, or that there is none; or a fault of the text comes before its tokens
+-- the first entry that has tokens is read, or no tokens if the text has no such entry; or a syntax error comes before its tokens
 abbrev pub ReadsFirstData : Room → RecordType → Option (List (List ℕ)) → Result (Option StartOfEntry) TextFault → SourceSeen → DataAnswer → Type 0
 ReadsFirstData room rtype origin (Err f) begun answer = answer ≡ Err (error_of_fault f)
 ReadsFirstData room rtype origin (Ok found) begun answer = ReadsTokens room rtype origin begun answer
 
--- a text of one entry is read as data of a type, with room for some octets
+-- a text of one entry is read as data of a type, with some capacity
 pub record ReadsDataText (room : Room) (rtype : RecordType) (origin : Option (List (List ℕ))) (text : List ℕ) (answer : DataAnswer) : Type 0 where
   pub source : SourceSeen
   pub seen : IsSeen text source.parts
@@ -134,22 +134,22 @@ pub record ReadsDataText (room : Room) (rtype : RecordType) (origin : Option (Li
   pub begins : BeginsEntry source start begun
   pub reads : ReadsFirstData room rtype origin start begun answer
 
--- the same of a text
+-- the same, as a result and octets
 abbrev pub AnswersText : ℕ → RecordType → Option (Bor (List (List ℕ))) → List ℕ → Result (Unit {0}) RecordError → List ℕ → Type 0
 AnswersText n rtype origin text result octets = ReadsDataText (exactly n) rtype (option_copied origin) text (answered result octets)
 
--- the octets are given; or the error is reported
+-- the octets are returned; or the error is reported
 abbrev pub TellsData : DataAnswer → List ℕ → ℕ → List ℕ → Outcome → Type 0
 TellsData (Ok octets) old status new outcome = TellsOctets octets old status new outcome
 TellsData (Err e) old status new outcome = TellsError e old status new outcome
 
--- the octets of data are given, with room for n; or they are refused, and nothing was written
+-- the octets of data are returned, with capacity n; or they are rejected, and nothing was written
 abbrev pub WritesData : ℕ → RecordType → Option (Bor (List (List ℕ))) → List ℕ → List ℕ → Result ℕ RecordError → List ℕ → Outcome → Type 0
 WritesData n rtype origin text old (Ok status) new outcome =
     (octets : List ℕ) × ReadsDataText (exactly n) rtype (option_copied origin) text (Ok octets) × TellsOctets octets old status new outcome
 WritesData n rtype origin text old (Err e) new outcome = ReadsDataText (exactly n) rtype (option_copied origin) text (Err e) × (new ≡ old)
 
--- a text is read, with relative names below an origin, and the result is reported
+-- a text is read, with an origin for relative names, and the result is reported
 abbrev pub TellsBelow : RecordType → List ℕ → Option (List (List ℕ)) → List ℕ → ℕ → List ℕ → Outcome → Type 0
 TellsBelow rtype text origin old status new outcome = (answer : DataAnswer) × ReadsDataText (exactly 65535) rtype origin text answer × TellsData answer old status new outcome
 
@@ -157,7 +157,7 @@ TellsBelow rtype text origin old status new outcome = (answer : DataAnswer) × R
 abbrev pub TellsRead : RecordType → List ℕ → Option (Bor (List (List ℕ))) → List ℕ → ℕ → List ℕ → Outcome → Type 0
 TellsRead rtype text origin old status new outcome = TellsBelow rtype text (option_copied origin) old status new outcome
 
--- the text is read, with relative names below the origin; or the origin is no name, which is reported with no place, and nothing was written
+-- the text is read, with the origin for relative names; or the origin is not a name, which is reported with offset 0, and nothing was written
 abbrev pub TellsReadData : RecordType → List ℕ → List ℕ → List ℕ → ℕ → List ℕ → Outcome → Type 0
 TellsReadData rtype text origin old status new outcome =
     ((known : Option (List (List ℕ))) × IsOriginOf origin known × TellsBelow rtype text known old status new outcome)

@@ -1,4 +1,4 @@
--- The tokens of an entry, and what the call that gives them says.
+-- The tokens of an entry, and the result of the call that returns them.
 use Rattle.std.specs.Prelude.{⊤, ◌≡◌, ◌≢◌, ℕ, ◌+◌, ◌<◌, ◌≤◌, Bool, true, false, List, [], ◌∷◌, length, drop, min, encode_utf8_all, Result, Ok, Err, map}
 use Rattle.dns_octets.specs.Octets.{greatest_length}
 use Rattle.dns_split.specs.Opening.{IsOpener, IsLeftOpen}
@@ -36,7 +36,7 @@ refusal_of_wrong (NotQuoted at) = OpenQuote
 refusal_of_wrong NoFeed = LoneReturn
 refusal_of_wrong NoEscape = BadEscape
 
--- where what is not closed was opened: the double quote, or the outermost parenthesis among the octets from a place on; else it stays as it was
+-- where what is not closed was opened: the double quote, or the outermost parenthesis among the octets from an offset on; else unchanged
 abbrev pub Opens : List ℕ → ℕ → Wrong → ℕ → ℕ → Type 0
 Opens text at (NotQuoted i) old new = new ≡ i
 Opens text at NotClosed old new = (i : ℕ) × (new ≡ at + i) × (new < length text) × IsOpener (encode_utf8_all (drop at text)) (place_of (drop at text) i)
@@ -44,7 +44,7 @@ Opens text at NoneOpen old new = new ≡ old
 Opens text at NoFeed old new = new ≡ old
 Opens text at NoEscape old new = new ≡ old
 
--- where parentheses are what is wrong, they are left open by the octets from a place on
+-- if the syntax error is an open parenthesis, the octets from an offset on leave it open
 abbrev pub LeavesOpen : List ℕ → ℕ → Stop → Type 0
 LeavesOpen text at (End e last) = ⊤
 LeavesOpen text at (Fault f) = f.wrong ≡ NotClosed → IsLeftOpen (encode_utf8_all (drop at text))
@@ -53,7 +53,7 @@ LeavesOpen text at Nothing = ⊤
 abbrev pub token_between : ℕ → ℕ → ℕ → TokenAt
 token_between s e quoted = record { start = s; end = e; is_quoted = quoted }
 
--- the words and quoted texts of pieces up to the first end of an entry or fault
+-- the words and quoted texts of pieces up to the first end of an entry or syntax error
 abbrev pub tokens_of : List (Result Piece TextFault) → List TokenAt
 tokens_of (Ok (WordAt p) ∷ given) = token_between p.start p.end 0 ∷ tokens_of given
 tokens_of (Ok (QuoteAt p) ∷ given) = token_between p.start p.end 1 ∷ tokens_of given
@@ -62,7 +62,7 @@ tokens_of (Ok (EndAt e) ∷ given) = []
 tokens_of (Err f ∷ given) = []
 tokens_of [] = []
 
--- that end, which is the last piece or not; or that fault
+-- the first end, which is the last piece or not; or the first syntax error
 abbrev pub stop_of : List (Result Piece TextFault) → Stop
 stop_of (Ok (WordAt p) ∷ given) = stop_of given
 stop_of (Ok (QuoteAt p) ∷ given) = stop_of given
@@ -84,45 +84,45 @@ entries_of_pieces (QuoteAt p ∷ ps) = with_first (token_between p.start p.end 1
 entries_of_pieces (CommentAt p ∷ ps) = entries_of_pieces ps
 entries_of_pieces (EndAt e ∷ ps) = [] ∷ entries_of_pieces ps
 
--- entries in a row from a place on: each is the first of what is read there, and is known as the last or not; the next one begins where it ends
+-- entries in a row from an offset on: each is the first one from there, and is flagged if it is the last; the next one begins where it ends
 abbrev pub InARow : List ℕ → ℕ → List (List TokenAt) → Type 0
 InARow text at [] = ⊥
 InARow text at (tokens ∷ more) =
     (given : List (Result Piece TextFault)) × (e : EndOfEntry) × ReadsOctetsFrom text at given × (tokens_of given ≡ tokens) × (stop_of given ≡ End e (is_nothing more))
     × (more ≢ [] → InARow text e.at more)
 
--- so are the entries of the pieces of a text
+-- the entries of the pieces of a text are in a row
 abbrev pub EntriesInARow : Type 0
 EntriesInARow = (text : List ℕ) (found : List Piece) → IsOctetPieces text found → EachWithin (length text) (map Ok found) → InARow text 0 (entries_of_pieces found)
 
--- what was taken of the pieces
+-- the step that was taken of the pieces
 abbrev pub TakesPieces : List (Result Piece TextFault) → Step → List (Result Piece TextFault) → Type 0
 TakesPieces old (Token t) new = (tokens_of old ≡ t ∷ tokens_of new) × (stop_of old ≡ stop_of new) × (length new < length old)
 TakesPieces old Comment new = (tokens_of old ≡ tokens_of new) × (stop_of old ≡ stop_of new) × (length new < length old)
 TakesPieces old (Stops stop) new = (tokens_of old ≡ []) × (stop_of old ≡ stop)
 
--- some values written over the start of others, as many as fit
+-- values written over the start of others, up to their length
 abbrev pub written_over_start : {A : Type 0} → List A → List A → List A
 written_over_start [] old = old
 written_over_start (x ∷ xs) [] = []
 written_over_start (x ∷ xs) (y ∷ ys) = x ∷ written_over_start xs ys
 
--- a number as a `usize` has it
+-- a number, limited to the range of a `usize`
 abbrev pub counted : ℕ → ℕ
 counted n = min n greatest_length
 
--- the first entry of these pieces: its tokens, as many as fit, their number, and how it stops
+-- the first entry of these pieces: the tokens of it that fit, their number, and how it stops
 pub record IsEntry (given : List (Result Piece TextFault)) (old : List TokenAt) (count : ℕ) (stop : Stop) (new : List TokenAt) : Type 0 where
   pub tokens_are : new ≡ written_over_start (tokens_of given) old
   pub count_is : count ≡ counted (length (tokens_of given))
   pub stop_is : stop ≡ stop_of given
 
--- the entry at a place of a text is found so
+-- the entry from an offset of a text on is found so
 abbrev pub NotesEntry : List ℕ → ℕ → List TokenAt → Entry → List TokenAt → Type 0
 NotesEntry text at old entry new =
     (given : List (Result Piece TextFault)) × ReadsOctetsFrom text at given × EachWithin (length text) given × IsEntry given old entry.count entry.stop new
 
--- what is said of an entry of so many tokens where there is room for some, and where the cursor goes
+-- the result for an entry of this number of tokens with this capacity, and the cursor after it
 abbrev pub TellsEntry : List ℕ → ℕ → Stop → ℕ → ℕ → Cursor → Cursor → Outcome → Type 0
 TellsEntry text count (End e last) room status old new outcome =
     (outcome ≡ record { length = count; place = 0 })
@@ -137,7 +137,7 @@ TellsEntry text count Nothing room status old new outcome =
 abbrev pub TellsStop : List ℕ → Entry → ℕ → ℕ → Cursor → Cursor → Outcome → Type 0
 TellsStop text entry room status old new outcome = TellsEntry text entry.count entry.stop room status old new outcome
 
--- the entry at a place is read, and what is said of it
+-- the entry from an offset on is read, and the result is returned
 pub record ReadsEntry (text : List ℕ) (old new : Cursor) (before after : List TokenAt) (status : ℕ) (outcome : Outcome) : Type 0 where
   pub given : List (Result Piece TextFault)
   pub reads : ReadsOctetsFrom text old.at given
@@ -147,7 +147,7 @@ pub record ReadsEntry (text : List ℕ) (old new : Cursor) (before after : List 
   pub entry : IsEntry given before count stop after
   pub told : TellsEntry text count stop (length before) status old new outcome
 
--- a text that is done has no entry; a cursor past the end is refused; and else the entry that begins there is given
+-- a text that is done has no entry; a cursor past the end is rejected; and else the entry that begins there is returned
 pub record NextEntry (text : List ℕ) (old new : Cursor) (before after : List TokenAt) (status : ℕ) (outcome : Outcome) : Type 0 where
   pub done : old.is_done ≢ 0 → (status ≡ 1) × (outcome ≡ record { length = 0; place = 0 }) × (new ≡ old) × (after ≡ before)
   pub past : old.is_done ≡ 0 → length text < old.at → TellsFault (at_start BadCursor) status outcome × (new ≡ old) × (after ≡ before)

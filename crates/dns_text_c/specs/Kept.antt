@@ -1,4 +1,4 @@
--- What is kept of a zone file between two calls.
+-- The state of a zone file between two calls.
 use Rattle.std.specs.Prelude.{◌≡◌, ◌≢◌, ◌⊎◌, ◌<◌, ◌≤◌, ◌==◌, if◌then◌else◌, ℕ, List, [], length, take, drop, Option, Some, None, Ok, Err}
 use Rattle.dns_wire.specs.FromOctets.{MakesName}
 use Rattle.dns_wire.specs.declared.error.NameError.{NameError}
@@ -11,36 +11,36 @@ use Rattle.dns_text_c.specs.declared.kept.KeptName.{KeptName}
 use Rattle.dns_text_c.specs.declared.kept.Zone.{Zone}
 use Rattle.dns_text_c.specs.declared.outcome.Outcome.{Outcome}
 
--- the name that so many octets at the start of some make; or there are less, or these are no name
+-- the name in the first octets, in this number; or there are fewer, or they are not a name
 abbrev pub MakesOrNot : List ℕ → ℕ → Option Known → Type 0
 MakesOrNot octets n (Some Unsaid) = ⊥
 MakesOrNot octets n (Some (Name labels)) = (n ≤ length octets) × MakesName (take n octets) (Ok labels)
 MakesOrNot octets n (Some Refused) = ⊥
 MakesOrNot octets n None = (length octets < n) ⊎ ((e : NameError) × MakesName (take n octets) (Err e))
 
--- what is known by what is kept: that a name is refused, or that none was said, or the name of the octets; or these are no name
+-- a stored name: rejected, or none, or the name of the octets; or these are not a name
 abbrev pub HoldsName : KeptName → Option Known → Type 0
 HoldsName kept (Some Unsaid) = (kept.is_refused ≡ 0) × (kept.length ≡ 0)
 HoldsName kept (Some (Name labels)) = (kept.is_refused ≡ 0) × (kept.length ≢ 0) × MakesOrNot kept.octets kept.length (Some (Name labels))
 HoldsName kept (Some Refused) = kept.is_refused ≢ 0
 HoldsName kept None = (kept.is_refused ≡ 0) × (kept.length ≢ 0) × MakesOrNot kept.octets kept.length None
 
--- a number that is there where its flag is not 0
+-- a number that counts if its flag is not 0
 abbrev pub flagged : ℕ → ℕ → Option ℕ
 flagged flag n = if flag == 0 then None else Some n
 
--- the state by what is kept of it; or a name that is kept is none
+-- the stored state; or a stored name is not a name
 abbrev pub HoldsState : Zone → Option State → Type 0
 HoldsState zone (Some state) =
     HoldsName zone.origin (Some state.origin) × HoldsName zone.owner (Some state.owner) × (state.default_ttl ≡ flagged zone.has_default_ttl zone.default_ttl)
     × (state.last_ttl ≡ flagged zone.has_last_ttl zone.last_ttl) × (state.class ≡ zone.class_code)
 HoldsState zone None = HoldsName zone.origin None ⊎ HoldsName zone.owner None
 
--- what is known is kept now; the octets behind it are as they were
+-- a name is stored now; the octets after it are unchanged
 abbrev pub KeepsName : Known → KeptName → KeptName → Type 0
 KeepsName known old new = HoldsName new (Some known) × (drop new.length new.octets ≡ drop new.length old.octets) × (new.is_refused ≤ 1)
 
--- the state is kept now, and where the next entry begins
+-- the state is stored now, and the offset of the next entry
 pub record KeepsState (state : State) (at : ℕ) (old new : Zone) : Type 0 where
   pub origin : KeepsName state.origin old.origin new.origin
   pub owner : KeepsName state.owner old.owner new.owner
@@ -49,17 +49,17 @@ pub record KeepsState (state : State) (at : ℕ) (old new : Zone) : Type 0 where
   pub class : state.class ≡ new.class_code
   pub at_is : new.at ≡ at
 
--- the origin that octets are: none are none, and others are the octets of a name
+-- the origin in octets: no octets mean no origin, and others are the octets of a name
 abbrev pub IsOriginOf : List ℕ → Option (List (List ℕ)) → Type 0
 IsOriginOf octets None = octets ≡ []
 IsOriginOf octets (Some labels) = MakesName octets (Ok labels)
 
--- the origin that is said, if one is
+-- the origin, if there is one
 abbrev pub said_origin : Option (List (List ℕ)) → Known
 said_origin None = Unsaid
 said_origin (Some labels) = Name labels
 
--- the origin that the octets are is the zone's from here on; or they are no name, which is reported, and nothing was written
+-- the octets are the zone's origin from here on; or they are not a name, which is reported, and nothing was written
 abbrev pub TakesOrigin : List ℕ → Zone → Zone → ℕ → Outcome → Type 0
 TakesOrigin name old new status outcome =
     ((origin : Option (List (List ℕ))) × IsOriginOf name origin × (status ≡ 0) × (outcome ≡ record { length = 0; place = 0 })

@@ -1,10 +1,10 @@
--- What reading a word of a kind answers.
+-- The result of parsing a word of a kind.
 use Rattle.std.specs.Prelude.{◌≡◌, ◌⊎◌, ℕ, List}
 use Rattle.dns_text_c.specs.Told.{TellsFault, at_start}
 use Rattle.dns_text_c.specs.declared.outcome.Outcome.{Outcome}
 use Rattle.dns_text_c.specs.declared.outcome.Refusal.{Refusal}
 
--- the number that the text spells is given; or it spells none, which is told, and the number stays as it was. The length is 0
+-- the number that the text spells is returned; or it doesn't spell one, which is reported, and the number is unchanged. The length is 0
 abbrev pub TellsSpelled : (List ℕ → ℕ → Type 0) → Refusal → List ℕ → ℕ → ℕ → ℕ → Outcome → Type 0
 TellsSpelled Spells refusal text old status new outcome =
     ((status ≡ 0) × (outcome ≡ record { length = 0; place = 0 }) × Spells text new)

@@ -1,4 +1,4 @@
--- What reading and printing a name answers.
+-- The results of parsing and printing a name.
 use Rattle.std.specs.Prelude.{◌≡◌, ◌≢◌, ℕ, ◌<◌, ◌≤◌, Bool, false, List, [], ◌∷◌, ◌++◌, length, drop, Some, Result, Ok, Err, encode_utf8_all}
 use Rattle.std.specs.Borrow.{Bor}
 use Rattle.arrayvec.specs.ArrayVec.{ArrayVec}
@@ -27,7 +27,7 @@ use Rattle.dns_text_c.specs.declared.outcome.Fault.{Fault}
 use Rattle.dns_text_c.specs.declared.outcome.Refusal.{Refusal}
 use Rattle.dns_text_c.specs.declared.outcome.Refusal.TheVariants.{ShortInput, BadSymbol, TooLong, EmptyLabel, LongLabel, BinaryLabel, BadLabel, Pointer, TrailingOctets}
 
--- what taking a symbol other than a plain dot answers, and what the builder then holds
+-- the result of a symbol other than a plain dot, and the builder after it
 abbrev pub TakesNameSymbol : Naming → Symbol → Result (Unit {0}) Refusal → Naming → Type 0
 TakesNameSymbol b x (Ok _) new =
     (octet : ℕ) × GivesOctet b x octet × (new ≡ with_octet b octet) × (wire_length (all_labels (with_octet b octet)) ≤ 254) × (length b.current < 63)
@@ -38,13 +38,14 @@ TakesNameSymbol b x (Err LongLabel) new =
     (octet : ℕ) × GivesOctet b x octet × (wire_length (all_labels (with_octet b octet)) ≤ 254) × (63 ≤ length b.current)
 TakesNameSymbol b x (Err other) new = ⊥
 
--- the next symbol is no plain dot and gives the open label one more octet
+-- the next symbol is not a plain dot and adds an octet to the open label
 abbrev pub GivesNext : List ℕ → List (List ℕ) → List ℕ → ℕ → ℕ → Type 0
 GivesNext text labels current place octet =
     (p : Symbol × ℕ) × ReadsAt text place (Ok (Some p)) × (is_dot p.0 ≡ false) × (octet_of p.0 ≡ Ok octet) × (current ≡ [] → p.0 ≢ bracket)
 
--- why reading goes no further after these labels and the open one: a plain dot follows no octet, and is not the whole text; a bracket is escaped first
--- in a label; a symbol has no octet; the labels get more than 254 octets, or one more than 63; or what stands there is no symbol
+-- why parsing stops after these labels and the open one: a plain dot follows no octet, and is not
+-- the whole text; an escaped bracket comes first in a label; a symbol has no octet; the labels get
+-- more than 254 octets, or one more than 63; or no symbol follows
 abbrev pub NameStops : List ℕ → List (List ℕ) → List ℕ → ℕ → Refusal → Type 0
 NameStops text labels current place EmptyLabel = (current ≡ []) × (rest : List ℕ) × (drop place text ≡ 46 ∷ rest) × (labels ≡ [] → rest ≢ [])
 NameStops text labels current place BinaryLabel = (after : ℕ) × ReadsAt text place (Ok (Some (bracket, after))) × (current ≡ [])
@@ -55,23 +56,23 @@ NameStops text labels current place LongLabel =
     (octet : ℕ) × GivesNext text labels current place octet × (wire_length (labels ++ closed (current ++ octet ∷ [])) ≤ 254) × (length current ≡ 63)
 NameStops text labels current place other = (e : SymbolOctetsError) × ReadsAt text place (Err e) × (other ≡ refusal_of e)
 
--- a name, or a fault
+-- a name, or an error with its offset
 abbrev pub NameAnswer : Type 0
 NameAnswer = Result (UncertainName (ArrayVec ℕ)) Fault
 
--- the name of labels that are read: a plain dot last makes it absolute
+-- the name of the labels that were parsed: a plain dot at the end makes it absolute
 pub record FinishesName (b : Naming) (name : UncertainName (ArrayVec ℕ)) : Type 0 where
   pub relative : (b.current ≡ [] → b.labels ≡ []) → name ≡ Relative (all_labels b)
   pub absolute : b.current ≡ [] → b.labels ≢ [] → name ≡ Absolute (all_labels b ++ [] ∷ [])
 
--- what reading a name's text answers: its name; or the first fault, with the labels before it
+-- the result of parsing a name's text: its name; or the first error, with the labels before it
 abbrev pub ReadsNameText : List ℕ → NameAnswer → Type 0
 ReadsNameText text (Ok name) = ReadsAs text name
 ReadsNameText text (Err fault) =
     (labels : List (List ℕ)) × (current : List ℕ) × HasNamed text labels current (drop fault.place text) × (fault.place ≤ length text)
     × NameStops text labels current fault.place fault.refusal
 
--- the wire octets of the name are given, and whether it is absolute; or the fault is told, and nothing was written
+-- the wire octets of the name are returned, and whether it is absolute; or the error is reported, and nothing was written
 abbrev pub TellsName : NameAnswer → List ℕ → ℕ → ℕ → List ℕ → ℕ → Outcome → Type 0
 TellsName (Ok name) old was status new is outcome = TellsOctets (wire (labels_of name)) old status new outcome × (is ≡ bit (is_absolute name))
 TellsName (Err fault) old was status new is outcome = TellsFault fault status outcome × (new ≡ old) × (is ≡ was)
@@ -86,7 +87,7 @@ undotted_octets labels = encode_utf8_all (undotted_text labels)
 abbrev pub dotted_octets : List (List ℕ) → List ℕ
 dotted_octets labels = encode_utf8_all (dotted_text labels)
 
--- the refusal of octets that are no name's
+-- the status of octets that are not a name
 abbrev pub refusal_of_octets : UncertainDnameError → Refusal
 refusal_of_octets (NoType e) = BadLabel
 refusal_of_octets CompressedName = Pointer
@@ -94,17 +95,17 @@ refusal_of_octets LongName = TooLong
 refusal_of_octets TrailingData = TrailingOctets
 refusal_of_octets CutShort = ShortInput
 
--- the text of the name is given; or the refusal is told, whose place is not, and nothing was written
+-- the text of the name is returned; or the error is reported with offset 0, and nothing was written
 abbrev pub GivesText : (List (List ℕ) → List ℕ) → Result (UncertainName (Bor (List ℕ))) UncertainDnameError → List ℕ → ℕ → List ℕ → Outcome → Type 0
 GivesText text_is (Ok name) old status new outcome = TellsOctets (text_is (labels_of name)) old status new outcome
 GivesText text_is (Err e) old status new outcome = TellsFault (at_start (refusal_of_octets e)) status outcome × (new ≡ old)
 
--- what printing the name of some octets answers
+-- the result of printing the name of some octets
 abbrev pub PrintsNameOf : (List (List ℕ) → List ℕ) → List ℕ → List ℕ → ℕ → List ℕ → Outcome → Type 0
 PrintsNameOf text_is octets old status new outcome =
     (made : Result (UncertainName (Bor (List ℕ))) UncertainDnameError) × MakesUncertain octets made × GivesText text_is made old status new outcome
 
--- no octets are the relative name of no labels, and others make a name or are refused
+-- no octets are the relative name of no labels, and others are a name or rejected
 pub record PrintsName (text_is : List (List ℕ) → List ℕ) (octets old : List ℕ) (status : ℕ) (new : List ℕ) (outcome : Outcome) : Type 0 where
   pub none : octets ≡ [] → TellsOctets (text_is []) old status new outcome
   pub some : octets ≢ [] → PrintsNameOf text_is octets old status new outcome

@@ -1,4 +1,4 @@
--- Why a text, an entry or data are refused: the status, and the text.
+-- Why a text, an entry or data is rejected: the status, and the text of the error.
 use Rattle.std.specs.Prelude.{◌≡◌, ℕ, List, [], ◌++◌, codes, take, Option, Some, None}
 use Rattle.dns_data.specs.ByType.{name_of_field, shape_of_code}
 use Rattle.dns_fields.specs.declared.record_error.FieldName.{FieldName}
@@ -19,7 +19,7 @@ use Rattle.dns_text_c.specs.declared.outcome.Refusal.{Refusal}
 use Rattle.dns_text_c.specs.declared.outcome.Refusal.TheVariants.{BadLabel, Pointer, TooLong, TrailingOctets, ShortInput, RelativeName}
 use Rattle.dns_text_c.specs.declared.outcome.Refusal.TheVariants.{BadHead, NotSupported, BadName, NoOrigin, NoOwner, RefusedOwner, BadData, NoTtl}
 
--- why octets are no absolute name
+-- why octets are not an absolute name
 abbrev pub refusal_of_name : NameError → Refusal
 refusal_of_name (NoLabel e) = BadLabel
 refusal_of_name CompressedName = Pointer
@@ -29,12 +29,12 @@ refusal_of_name CutShort = ShortInput
 refusal_of_name Relative = RelativeName
 refusal_of_name Absolute = RelativeName
 
--- what is wrong with a text that is not of the grammar of zone files
+-- the kind of a syntax error of zone files
 abbrev pub syntax_of : ErrorKind → Option Wrong
 syntax_of (Syntax wrong) = Some wrong
 syntax_of _ = None
 
--- the refusal of a directive, and of what precedes the data of a record; a relative name without an origin has its own
+-- the status of a rejected directive, or of rejected fields before a record's data; a relative name without an origin has its own
 abbrev pub refusal_of_head : ErrorKind → Refusal
 refusal_of_head QuotedName = BadName
 refusal_of_head NoEscape = BadName
@@ -52,7 +52,7 @@ abbrev pub refusal_of_data : ErrorKind → Refusal
 refusal_of_data OriginUnknown = NoOrigin
 refusal_of_data _ = BadData
 
--- the refusal of an entry, by the type where its data are refused
+-- the status of a rejected entry, by the type if its data is rejected
 abbrev pub refusal_of_entry : Option RecordType → ErrorKind → Refusal
 refusal_of_entry None kind = refusal_of_head kind
 refusal_of_entry (Some rtype) kind = refusal_of_data kind
@@ -66,7 +66,7 @@ field_name rtype (Some field) = name_of_field (shape_of_code rtype) field
 abbrev pub spaced : List ℕ → List ℕ
 spaced name = codes " " ++ name
 
--- the type and the field of its data that are refused, as in `MX preference`
+-- the type and the field of its data that is rejected, as in `MX preference`
 abbrev pub part_text : RecordType → Option (List ℕ) → List ℕ
 part_text rtype None = type_text rtype
 part_text rtype (Some name) = type_text rtype ++ spaced name
@@ -75,7 +75,7 @@ abbrev pub part_prefix : Option RecordType → Option FieldName → List ℕ
 part_prefix None field = []
 part_prefix (Some rtype) field = part_text rtype (field_name rtype field) ++ codes ": "
 
--- there is room for 65,535 octets of RDATA, so what finds none exceeds them (RFC 1035 section 3.2.1)
+-- the capacity is 65,535 octets of RDATA, so only RDATA that exceeds these doesn't fit (RFC 1035 section 3.2.1)
 abbrev pub data_error_text : ErrorKind → List ℕ
 data_error_text ShortBuf = codes "RDATA exceeds 65535 octets"
 data_error_text kind = error_kind_text kind
@@ -84,7 +84,7 @@ abbrev pub call_error_text : Option RecordType → ErrorKind → List ℕ
 call_error_text None kind = error_kind_text kind
 call_error_text (Some rtype) kind = data_error_text kind
 
--- and why
+-- the text of an error
 abbrev pub reason_text : RecordError → List ℕ
 reason_text e = part_prefix e.rtype e.field ++ call_error_text e.rtype e.kind
 
@@ -92,13 +92,13 @@ reason_text e = part_prefix e.rtype e.field ++ call_error_text e.rtype e.kind
 abbrev pub AppendsCut : List ℕ → List ℕ → List ℕ → Type 0
 AppendsCut text old new = new ≡ take 255 (old ++ text)
 
--- the status and the place of a refusal, and its text, as much of it as fits
+-- the status and the offset of an error, and the part of its text that fits
 pub record TellsReason (error : RecordError) (old : List ℕ) (told : ℕ) (new : List ℕ) (outcome : Outcome) : Type 0 where
   pub told_is : told ≡ number_of (refusal_of_entry error.rtype error.kind)
   pub place : outcome.place ≡ error.offset
   pub text : GivesCut (take 255 (reason_text error)) old new outcome.length
 
--- an error of the text has a status and a place, and nothing was written; another one has a text too
+-- a syntax error has a status and an offset, and nothing was written; another error has a text too
 abbrev pub TellsWrong : Option Wrong → RecordError → List ℕ → ℕ → List ℕ → Outcome → Type 0
 TellsWrong (Some wrong) error old told new outcome = TellsFault (record { refusal = refusal_of_wrong wrong; place = error.offset }) told outcome × (new ≡ old)
 TellsWrong None error old told new outcome = TellsReason error old told new outcome

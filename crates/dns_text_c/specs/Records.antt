@@ -1,4 +1,4 @@
--- What a call for the next record of a zone file tells.
+-- The result of a call for the next record of a zone file.
 use Rattle.std.specs.Prelude.{⊤, ◌≡◌, ◌⊎◌, ◌<◌, ◌≤◌, ℕ, List, [], length, drop, take, Option, Some, None, Result, Ok, Err}
 use Rattle.dns_fields.specs.declared.record_error.RecordError.{RecordError}
 use Rattle.dns_kinds.specs.declared.classes.Class.{Class}
@@ -22,7 +22,7 @@ use Rattle.dns_text_c.specs.declared.outcome.Refusal.TheVariants.{NoRoom, BadCur
 use Rattle.dns_text_c.specs.declared.records.Head.{Head}
 use Rattle.dns_text_c.specs.declared.records.Record.{Record}
 
--- what a call writes beside its outcome
+-- the memory that a call writes, besides its outcome
 pub record Memory : Type 0 where
   pub zone : Zone
   pub found : Record
@@ -38,7 +38,7 @@ pub record RecordCall : Type 0 where
   pub status : ℕ
   pub outcome : Outcome
 
--- what the reader knows is kept, and where it stands
+-- the reader's state is stored, and its offset
 abbrev pub KeepsReader : RecordReader → Zone → Zone → Type 0
 KeepsReader reader old new = KeepsState reader.state reader.source.began old new
 
@@ -46,7 +46,7 @@ KeepsReader reader old new = KeepsState reader.state reader.source.began old new
 abbrev pub head_of : Record → Head
 head_of found = record { place = found.place; ttl = found.ttl; class = found.class_code; rtype = found.type_code }
 
--- the octets are given with a status, a name and numbers, and the zone goes on; where they don't fit, nothing was written
+-- the octets are returned with a status, a name and numbers, and the zone advances; if they don't fit, nothing was written
 pub record TellsFound (status : ℕ) (reader : RecordReader) (octets : List ℕ) (name : Known) (head : Head) (call : RecordCall) : Type 0 where
   pub outcome_is : call.outcome ≡ record { length = length octets; place = 0 }
   pub given : length octets ≤ length call.before.octets → (call.status ≡ status) × (take (length octets) call.after.octets ≡ octets)
@@ -54,13 +54,13 @@ pub record TellsFound (status : ℕ) (reader : RecordReader) (octets : List ℕ)
       × (head_of call.after.found ≡ head) × KeepsReader reader call.before.zone call.after.zone
   pub lacks : length call.before.octets < length octets → (call.status ≡ number_of NoRoom) × (call.after ≡ call.before)
 
--- an error is reported, and the zone moves past it
+-- an error is reported, and the zone advances past it
 pub record TellsRefused (reader : RecordReader) (error : RecordError) (call : RecordCall) : Type 0 where
   pub reason : TellsError error call.before.octets call.status call.after.octets call.outcome
   pub keeps : KeepsReader reader call.before.zone call.after.zone
   pub found_stays : call.after.found ≡ call.before.found
 
--- nothing is left, and the zone goes on; nothing else was written
+-- nothing is left, and the zone advances; nothing else was written
 pub record TellsEnd (reader : RecordReader) (call : RecordCall) : Type 0 where
   pub status_is : call.status ≡ 1
   pub outcome_is : call.outcome ≡ record { length = 0; place = 0 }
@@ -75,19 +75,19 @@ head_with at ttl class rtype = record { place = at; ttl = ttl; class = class; rt
 abbrev pub no_head : Head
 no_head = head_with 0 0 0 0
 
--- the numbers of what is read, if it is a record
+-- the numbers of an entry, if it is a record
 abbrev pub head_in : EntryRead → Option Head
 head_in (RecordRead at ttl class rtype) = Some (head_with at (seconds_of ttl) class rtype)
 head_in (Include file has_origin) = None
 head_in Nothing = None
 head_in Directive = None
 
--- of a file to include, the octets are those that name it, and behind them those of its origin
+-- for a file to include, the octets are those of its name, and after them those of its origin
 abbrev pub HasIncluded : Option (Result EntryRead RecordError) → List ℕ → Type 0
 HasIncluded (Some (Ok (Include file has_origin))) octets = IsIncluded file has_origin octets
 HasIncluded _ octets = ⊤
 
--- what is reported of what the reader gives: a record with its owner; a file to include; an error; or that nothing is left
+-- the report of the reader's result: a record with its owner; a file to include; an error; or that nothing is left
 abbrev pub TellsGiven : Option (Result EntryRead RecordError) → RecordReader → List ℕ → RecordCall → Type 0
 TellsGiven None reader octets call = TellsEnd reader call
 TellsGiven (Some (Err e)) reader octets call = TellsRefused reader e call
@@ -96,11 +96,11 @@ TellsGiven (Some (Ok (Include file has_origin))) reader octets call = (read : Is
 TellsGiven (Some (Ok Nothing)) reader octets call = ⊥
 TellsGiven (Some (Ok Directive)) reader octets call = ⊥
 
--- what the reader gives is an error
+-- the reader's result is an error
 abbrev pub RefusalIsGiven : Option (Result EntryRead RecordError) → Type 0
 RefusalIsGiven given = (e : RecordError) × (given ≡ Some (Err e))
 
--- a reader at the zone's place, with the state that the zone holds, gives the next record, and this is reported
+-- a reader at the zone's offset, with the state that the zone holds, returns the next record, and this is reported
 pub record ReadsZone (text : List ℕ) (state : State) (call : RecordCall) : Type 0 where
   pub before : RecordReader
   pub after : RecordReader
@@ -110,7 +110,7 @@ pub record ReadsZone (text : List ℕ) (state : State) (call : RecordCall) : Typ
   pub reads : ReadsNextRecord (exactly 65535) before [] given after octets
   pub tells : TellsGiven given after octets call
 
--- a zone that holds no state, or a place past the end, is refused, and nothing was written; and else the next record is read
+-- a zone without a valid state, or with an offset past the end, is rejected, and nothing was written; and else the next record is read
 abbrev pub NextRecord : List ℕ → RecordCall → Type 0
 NextRecord text call =
     ((HoldsState call.before.zone None ⊎ (length text < call.before.zone.at)) × TellsFault (at_start BadCursor) call.status call.outcome × (call.after ≡ call.before))

@@ -1,4 +1,4 @@
--- Worked rows of the definitions, each computed.
+-- Worked examples of the definitions, each computed.
 use Rattle.std.specs.Prelude.{◌≡◌, [], ◌∷◌, ◌++◌, map, codes, decimal, refl, Some, None}
 use Rattle.dns_kinds.specs.Classes.{class_text}
 use Rattle.dns_kinds.specs.Rtype as Rtype
@@ -17,16 +17,16 @@ types = refl
 classes : map class_text (1 ∷ 254 ∷ []) ≡ codes "IN" ∷ (codes "CLASS" ++ decimal 254) ∷ []
 classes = refl
 
--- what refusals say
+-- the texts of statuses
 refusals : map (λ r. status_text (number_of r)) (NoRoom ∷ BadPlace ∷ BadTtl ∷ UnknownType ∷ UnknownClass ∷ [])
     ≡ codes "no room" ∷ codes "place past the end" ∷ codes "expected time to live" ∷ codes "unknown record type" ∷ codes "unknown class" ∷ []
 refusals = refl
 
--- what is refused of MX data, and of what is no data
+-- the part of MX data that is rejected, and that of no data
 places : map (λ rtype. part_prefix rtype None) (Some Rtype.mx ∷ Some 65280 ∷ None ∷ []) ≡ codes "MX: " ∷ (codes "TYPE" ++ decimal 65280 ++ codes ": ") ∷ [] ∷ []
 unfolding type_rows
 places = refl
 
--- a time to live that is not there, and those of a minute
+-- a TTL that is missing, and two of a minute
 ttls : flagged 0 60 ∷ flagged 1 60 ∷ flagged 255 60 ∷ [] ≡ None ∷ Some 60 ∷ Some 60 ∷ []
 ttls = refl

@@ -1,7 +1,7 @@
 -- The texts of statuses.
 use Rattle.std.specs.Prelude.{ℕ, ◌==◌, if◌then◌else◌, List, codes}
 
--- what a status says, by its number
+-- the text of a status, by its number
 abbrev pub status_text : ℕ → List ℕ
 status_text n =
     if n == 0 then codes "well" else (if n == 1 then codes "nothing is left" else (if n == 2 then codes "no room" else (

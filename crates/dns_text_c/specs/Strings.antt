@@ -1,4 +1,4 @@
--- What reading and printing a character string answers.
+-- The results of parsing and printing a character string.
 use Rattle.std.specs.Prelude.{◌≡◌, ℕ, ◌<◌, ◌≤◌, ◌⊎◌, Bool, true, List, [], ◌++◌, length, map, drop, Some, Result, Ok, Err, Option, IfSome}
 use Rattle.std.specs.List.{flat_map, list_all}
 use Rattle.arrayvec.specs.ArrayVec.{ArrayVec}
@@ -22,7 +22,7 @@ use Rattle.dns_text_c.specs.declared.outcome.Refusal.TheVariants.{NoRoom, BadEsc
 use Rattle.dns_text_c.specs.declared.strings.Form.{Form}
 use Rattle.dns_text_c.specs.declared.strings.Form.TheVariants.{Plain, Quoted, Unquoted}
 
--- what each form escapes simply, and its text of a character string
+-- the octets that each form escapes simply, and its text of a character string
 abbrev pub escape_of : Form → ℕ → Bool
 escape_of Plain = is_plain_escape
 escape_of Quoted = is_quoted_escape
@@ -39,26 +39,26 @@ string_text Plain octets = plain_text octets
 string_text Quoted octets = quoted_text octets
 string_text Unquoted octets = unquoted_text octets
 
--- at most 255 octets are given as their text, one octet a character; the 256th is refused
+-- at most 255 octets are returned as their text, one octet a character; the 256th is rejected
 pub record PrintsString (text_is : List ℕ → List ℕ) (octets old : List ℕ) (status : ℕ) (new : List ℕ) (outcome : Outcome) : Type 0 where
   pub short : length octets ≤ 255 → TellsOctets (text_is octets) old status new outcome
   pub long : 255 < length octets → TellsFault (record { refusal = TooLong; place = 255 }) status outcome × (new ≡ old)
 
--- the refusal of what is no symbol
+-- the status if no symbol is there
 abbrev pub refusal_of : SymbolOctetsError → Refusal
 refusal_of NoUtf8 = BadUtf8
 refusal_of NoEscape = BadEscape
 refusal_of CutShort = ShortInput
 
--- no symbol is at a place, and the fault says why
+-- no symbol is at an offset, and the error has the reason
 abbrev pub RefusesSymbol : List ℕ → ℕ → Fault → Type 0
 RefusesSymbol text place fault = (e : SymbolOctetsError) × ReadsAt text place (Err e) × (fault ≡ record { refusal = refusal_of e; place = place })
 
--- what is found at a place ends at a later place of the text
+-- what is found at an offset ends at a later offset of the text
 abbrev pub PassesSome : {X : Type 0} → List ℕ → ℕ → Option (X × ℕ) → Type 0
 PassesSome text place found = IfSome found (λ p. (place < p.1) × (p.1 ≤ length text))
 
--- the text begins with symbols that have these octets and end at a place
+-- the text begins with symbols that have these octets and end at an offset
 pub record HasOctetsBefore (text octets : List ℕ) (place : ℕ) : Type 0 where
   pub symbols : List Symbol
   pub readable : list_all is_readable symbols ≡ true
@@ -66,34 +66,34 @@ pub record HasOctetsBefore (text octets : List ℕ) (place : ℕ) : Type 0 where
   pub spelled : text ≡ flat_map bytes symbols ++ drop place text
   pub place_is : place ≡ length (flat_map bytes symbols)
 
--- why reading goes no further after these octets: what stands there is no symbol, or one too many, or one that has no octet
+-- why parsing stops after these octets: no symbol follows, or one too many, or one that has no octet
 abbrev pub StopsReading : List ℕ → List ℕ → ℕ → Refusal → Type 0
 StopsReading text octets place NoRoom = ⊥
 StopsReading text octets place TooLong = (p : Symbol × ℕ) × ReadsAt text place (Ok (Some p)) × (length octets ≡ 255)
 StopsReading text octets place BadSymbol = (p : Symbol × ℕ) × (e : WhyNone) × ReadsAt text place (Ok (Some p)) × (length octets < 255) × (octet_of p.0 ≡ Err e)
 StopsReading text octets place other = (e : SymbolOctetsError) × ReadsAt text place (Err e) × (length octets ≤ 255) × (other ≡ refusal_of e)
 
--- what reading a text answers: the octets of all its symbols, or the first fault
+-- the result of parsing a text: the octets of all its symbols, or the first error
 abbrev pub ReadsString : List ℕ → Result (List ℕ) Fault → Type 0
 ReadsString text (Ok octets) = HasOctets text octets × (length octets ≤ 255)
 ReadsString text (Err fault) = (octets : List ℕ) × HasOctetsBefore text octets fault.place × StopsReading text octets fault.place fault.refusal
 
--- the refusal of what spells no octet
+-- the status if no octet is spelled
 abbrev pub refusal_of_escape : SymbolCharsError → Refusal
 refusal_of_escape BadOne = BadEscape
 refusal_of_escape ShortOne = ShortInput
 
--- no octet is spelled at a place, and the fault says why
+-- no octet is spelled at an offset, and the error has the reason
 abbrev pub RefusesOctet : List ℕ → ℕ → Fault → Type 0
 RefusesOctet text place fault = (e : SymbolCharsError) × OctetAt text place (Err e) × (fault ≡ record { refusal = refusal_of_escape e; place = place })
 
--- why reading octets goes no further, though more stands there: 255 octets have been read and another one is spelled, or none is
+-- why parsing octets stops before the end: 255 octets have been parsed and another one is spelled, or none is
 abbrev pub StopsOctets : List ℕ → List ℕ → Refusal → Type 0
 StopsOctets octets rest refusal =
     ((next : ℕ) × (after : List ℕ) × SpellsOctet rest next after × (length octets ≡ 255) × (refusal ≡ TooLong))
     ⊎ ((e : SymbolCharsError) × SpellsNone rest e × (length octets ≤ 255) × (refusal ≡ refusal_of_escape e))
 
--- what reading a text of octets answers: the octets that it spells, or the first fault, with the octets before it
+-- the result of parsing a text of octets: the octets that it spells, or the first error, with the octets before it
 abbrev pub ReadsOctetString : List ℕ → Result (List ℕ) Fault → Type 0
 ReadsOctetString text (Ok octets) = SpellsOctets text octets [] × (length octets ≤ 255)
 ReadsOctetString text (Err fault) =

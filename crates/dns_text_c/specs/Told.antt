@@ -1,4 +1,4 @@
--- What a call says by its status, its length and its place, and what it leaves in the caller's memory.
+-- The result of a call: its status, its length and its place, and the caller's memory after it.
 use Rattle.std.specs.Prelude.{◌≡◌, ℕ, ◌<◌, ◌≤◌, List, length, take, drop, min, Result, Ok, Err}
 use Rattle.dns_text_c.specs.declared.outcome.Outcome.{Outcome}
 use Rattle.dns_text_c.specs.declared.outcome.Fault.{Fault}
@@ -8,7 +8,7 @@ use Rattle.dns_text_c.specs.declared.outcome.Refusal.TheVariants.{LoneReturn, Ba
 use Rattle.dns_text_c.specs.declared.outcome.Refusal.TheVariants.{BadPlace, BadTtl, UnknownType, UnknownClass}
 use Rattle.dns_text_c.specs.declared.outcome.Refusal.TheVariants.{BadHead, NotSupported, BadName, NoOrigin, NoOwner, RefusedOwner, BadData, NoTtl, RelativeName}
 
--- the status of each refusal, as the header has it
+-- the status of each error, as in the header
 abbrev pub number_of : Refusal → ℕ
 number_of NoRoom = 2
 number_of BadEscape = 3
@@ -44,31 +44,31 @@ number_of BadData = 33
 number_of NoTtl = 34
 number_of RelativeName = 35
 
--- the octets fit and stand at the start of the buffer, and what follows them is as it was; or they don't fit and nothing was written. The length is theirs
+-- the octets fit and are at the start of the buffer, and those after them are unchanged; or they don't fit and nothing was written. The length is their number
 pub record TellsOctets (octets old : List ℕ) (status : ℕ) (new : List ℕ) (outcome : Outcome) : Type 0 where
   pub told : outcome ≡ record { length = length octets; place = 0 }
   pub fits : length octets ≤ length old → (status ≡ 0) × (take (length octets) new ≡ octets) × (drop (length octets) new ≡ drop (length octets) old)
   pub lacks : length old < length octets → (status ≡ number_of NoRoom) × (new ≡ old)
 
--- the octets, cut to the buffer, are at its start, and what follows them is as it was
+-- the octets, cut to the buffer's length, are at its start, and those after them are unchanged
 pub record GivesCut (octets old new : List ℕ) (count : ℕ) : Type 0 where
   pub count_is : count ≡ min (length octets) (length old)
   pub put : take count new ≡ take count octets
   pub rest : drop count new ≡ drop count old
 
--- a refusal of the whole, which has no place
+-- an error of the whole input, with offset 0
 abbrev pub at_start : Refusal → Fault
 at_start refusal = record { refusal = refusal; place = 0 }
 
--- all went well, and this is the length
+-- success, with this length
 abbrev pub TellsLength : ℕ → ℕ → Outcome → Type 0
 TellsLength n status outcome = (status ≡ 0) × (outcome ≡ record { length = n; place = 0 })
 
--- the status and the place are the fault's
+-- the status and the offset are the error's
 abbrev pub TellsFault : Fault → ℕ → Outcome → Type 0
 TellsFault fault status outcome = (status ≡ number_of fault.refusal) × (outcome ≡ record { length = 0; place = fault.place })
 
--- the octets are given; or the fault is told, and nothing was written
+-- the octets are returned; or the error is reported, and nothing was written
 abbrev pub IsTold : Result (List ℕ) Fault → List ℕ → ℕ → List ℕ → Outcome → Type 0
 IsTold (Ok octets) old status new outcome = TellsOctets octets old status new outcome
 IsTold (Err fault) old status new outcome = TellsFault fault status outcome × (new ≡ old)

@@ -1,4 +1,4 @@
-//! Record data in canonical form (RFC 4034 section 6.2).
+//! Converts record data to canonical form (RFC 4034 section 6.2).
 ghost use Rattle.std.specs.Prelude.{◌≤◌, length};
 ghost use Rattle.dns_text_c.specs.DataText.{TellsCanonical, TellsForm};
 
@@ -8,13 +8,13 @@ use arrayvec::ArrayVec;
 use dns_kinds::RecordType;
 use dns_resource::Data;
 
-/// The most octets of record data (RFC 1035 section 3.2.1).
+/// Greatest number of octets of record data (RFC 1035 section 3.2.1).
 const MOST: usize = 65535;
 
-/// Octets of record data that are enough for most records.
+/// Number of octets that suffices for most record data.
 const FEW: usize = 1024;
 
-/// Gives the canonical form of data of few octets.
+/// Writes the canonical form of short data.
 fn give_short_form(content: &Data<&[u8]>, form: &mut [u8], outcome: &mut Outcome) -> u32
     requires { length content.now.octets ≤ FEW }
     ensures { TellsForm content.now form.old result form.new outcome.new }
@@ -26,9 +26,9 @@ fn give_short_form(content: &Data<&[u8]>, form: &mut [u8], outcome: &mut Outcome
     }
 }
 
-/// Gives the canonical form of data of any length.
+/// Writes the canonical form of data of any length.
 ///
-/// A function of its own, since the compiler fills its 64 KB with zeros at each call.
+/// It is a function of its own, since the compiler fills its 64 KB with zeros at each call.
 #[cold]
 #[inline(never)]
 fn give_long_form(content: &Data<&[u8]>, form: &mut [u8], outcome: &mut Outcome) -> u32
@@ -42,7 +42,7 @@ fn give_long_form(content: &Data<&[u8]>, form: &mut [u8], outcome: &mut Outcome)
     }
 }
 
-/// Gives the canonical form of data.
+/// Writes the canonical form of data.
 fn give_form(content: &Data<&[u8]>, form: &mut [u8], outcome: &mut Outcome) -> u32
     ensures { TellsForm content.now form.old result form.new outcome.new }
 {
@@ -52,12 +52,13 @@ fn give_form(content: &Data<&[u8]>, form: &mut [u8], outcome: &mut Outcome) -> u
     give_short_form(content, form, outcome)
 }
 
-/// Gives data of a type in canonical form (RFC 4034 section 6.2, RFC 6840 section 5.1): the names in
-/// it in lower case where the type wants that, and all other octets as they are. So two data of one
-/// type are equal where their canonical forms are, and ordered as these (RFC 4034 section 6.3).
+/// Writes data of a type in canonical form (RFC 4034 section 6.2, RFC 6840 section 5.1): the names
+/// in it in lower case if the type requires that, and all other octets unchanged. So two data of
+/// one type are equal if their canonical forms are, and ordered as these (RFC 4034 section 6.3).
 ///
-/// There are as many octets as in the data. A type that has no data in zones, and octets that are no
-/// data of it, are refused with no place; more than 65,535 octets with that place.
+/// The form has the same number of octets as the data. Fails with place 0 if the type has no data
+/// in zones, or if the octets are not data of the type. Fails with place 65,535 if there are more
+/// octets than that.
 #[unsafe(no_mangle)]
 pub extern "C" fn dnstext_data_canonical(
     code: u16,

@@ -1,4 +1,5 @@
-//! The encodings of RFC 4648 sections 8, 7 and 4, read and printed.
+//! Parses and prints the encodings of RFC 4648: base 16, base32hex and base 64 (sections 8, 7 and
+//! 4).
 ghost use Rattle.std.specs.Prelude.{◌≡◌, ◌≤◌, ◌^◌, length, IfOk, IfErr, IfSome, IfNone};
 ghost use Rattle.dns_codec.specs.Base.{base16, base32hex, base64};
 ghost use Rattle.dns_codec.specs.Outcome.{pad_count};
@@ -10,10 +11,10 @@ use crate::outcome::{Fault, OK, Outcome, Refusal, number_of, refuse};
 use dns_codec::{base16, base32, base64};
 use dns_octets::ShortBuf;
 
-/// The most octets that are printed; no memory holds as many.
+/// Greatest number of octets that are printed; no memory holds more.
 const MOST: usize = 1 << 60;
 
-/// Tells whether a text was written, and how many characters it has.
+/// Reports whether a text was written, and its number of characters.
 fn tell_written(written: Result<usize, ShortBuf>, length: usize, outcome: &mut Outcome) -> u32
     ensures ok { IfOk written (λ _. result ≡ 0) }
     ensures short { IfErr written (λ _. result ≡ number_of NoRoom) }
@@ -26,7 +27,7 @@ fn tell_written(written: Result<usize, ShortBuf>, length: usize, outcome: &mut O
     }
 }
 
-/// Refuses octets that no memory holds.
+/// Rejects octets that no memory holds.
 fn refuse_length(outcome: &mut Outcome) -> u32
     ensures { TellsFault (record { refusal = TooLong; place = 2 ^ 60 }) result outcome.new }
 {
@@ -77,7 +78,7 @@ pub extern "C" fn dnstext_base64_print(octets: &[u8], text: &mut [u8], outcome: 
     tell_written(base64::encode_slice(octets, text), length, outcome)
 }
 
-/// Tells that there is no room for `length` octets.
+/// Reports that `length` octets don't fit.
 fn refuse_room(length: usize, outcome: &mut Outcome) -> u32
     ensures { (result ≡ number_of NoRoom) × (outcome.new ≡ record { length = length; place = 0 }) }
 {
@@ -85,7 +86,7 @@ fn refuse_room(length: usize, outcome: &mut Outcome) -> u32
     number_of(Refusal::NoRoom)
 }
 
-/// Tells whether the text was one of the encoding.
+/// Reports whether the text was one of the encoding.
 fn tell_read(read: Option<usize>, length: usize, outcome: &mut Outcome) -> u32
     ensures some { IfSome read (λ _. TellsLength length result outcome.new) }
     ensures none { IfNone read (TellsFault (at_start BadEncoding) result outcome.new) }
@@ -105,7 +106,7 @@ fn tell_read(read: Option<usize>, length: usize, outcome: &mut Outcome) -> u32
     }
 }
 
-/// How many `=` a text has.
+/// Returns the number of `=` in a text.
 fn count_marks(text: &[u8]) -> usize
     ensures value { result ≡ pad_count base64 text.now }
     ensures few { result ≤ length text.now }
@@ -119,7 +120,7 @@ fn count_marks(text: &[u8]) -> usize
     count
 }
 
-/// Reads a text of base 16, in either case.
+/// Parses a text of base 16, in either case.
 #[unsafe(no_mangle)]
 pub extern "C" fn dnstext_base16_read(text: &[u8], octets: &mut [u8], outcome: &mut Outcome) -> u32
     ensures { DecodesText base16 text.now octets.old result octets.new outcome.new }
@@ -132,7 +133,7 @@ pub extern "C" fn dnstext_base16_read(text: &[u8], octets: &mut [u8], outcome: &
     tell_read(read, length, outcome)
 }
 
-/// Reads a text of base32hex, in either case and without padding.
+/// Parses a text of base32hex, in either case and without padding.
 #[unsafe(no_mangle)]
 pub extern "C" fn dnstext_base32hex_read(
     text: &[u8],
@@ -149,7 +150,7 @@ pub extern "C" fn dnstext_base32hex_read(
     tell_read(read, length, outcome)
 }
 
-/// Reads a text of base 64, with its padding.
+/// Parses a text of base 64, with its padding.
 #[unsafe(no_mangle)]
 pub extern "C" fn dnstext_base64_read(text: &[u8], octets: &mut [u8], outcome: &mut Outcome) -> u32
     ensures { DecodesText base64 text.now octets.old result octets.new outcome.new }

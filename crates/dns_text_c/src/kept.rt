@@ -1,4 +1,4 @@
-//! What is kept of a zone file between two calls, in plain numbers and octets.
+//! The state of a zone file between two calls, in plain numbers and octets.
 ghost use Rattle.std.specs.Prelude.{◌≡◌, ◌≤◌, drop, length, take};
 ghost use Rattle.dns_wire.specs.FromOctets.{MakesName};
 ghost use Rattle.dns_text_c.specs.Kept.{HoldsName, HoldsState, KeepsName, KeepsState, MakesOrNot, TakesOrigin, flagged};
@@ -13,36 +13,36 @@ use dns_wire::{MAX_NAME, Name, NameError};
 /// An absolute name in wire form (RFC 1035 section 3.1), if there is one.
 #[repr(C)]
 pub struct KeptName {
-    /// How many octets it has, at most 255; 0 where there is none.
+    /// Number of its octets, at most 255; 0 without a name.
     pub length: usize,
-    /// 1 where what was said last is refused as a name.
+    /// 1 if the last name was rejected.
     pub is_refused: u8,
-    /// Its octets, the root last. What follows them says nothing.
+    /// Its octets, the root last. The octets after them have no meaning.
     pub octets: [u8; 255],
 }
 
-/// What the entries of a zone file say of those that follow, and where these begin.
+/// The state that the entries of a zone file leave for those that follow, and where these begin.
 #[repr(C)]
 pub struct Zone {
-    /// The class of records that leave it out.
+    /// Class of records without one.
     pub class_code: u16,
-    /// 1 where there is a default time to live.
+    /// 1 if a default TTL is known.
     pub has_default_ttl: u8,
-    /// 1 where a record said a time to live.
+    /// 1 if a record had a TTL of its own.
     pub has_last_ttl: u8,
-    /// The default time to live, in seconds.
+    /// Default TTL, in seconds.
     pub default_ttl: u32,
-    /// The time to live that a record said last, in seconds.
+    /// TTL of the last record with one of its own, in seconds.
     pub last_ttl: u32,
-    /// How many octets of the text stand before the next entry.
+    /// Offset of the next entry in the text.
     pub at: usize,
-    /// The origin, before which relative names stand.
+    /// The origin, which is appended to relative names.
     pub origin: KeptName,
-    /// The owner of records that leave it out.
+    /// The owner of records without one.
     pub owner: KeptName,
 }
 
-/// The name of some octets.
+/// Returns the name that some octets are, or why they are not a name.
 pub(crate) fn name_of(octets: &[u8]) -> Result<NameBuffer, NameError>
     ensures { MakesName octets.now result }
 {
@@ -53,7 +53,7 @@ pub(crate) fn name_of(octets: &[u8]) -> Result<NameBuffer, NameError>
     }
 }
 
-/// The name that is kept in so many octets, if they are a name.
+/// Returns the name in the first `length` octets, or `None` if they are not a name.
 fn name_among(octets: &[u8], length: usize) -> Option<Known>
     ensures { MakesOrNot octets.now length result }
 {
@@ -66,7 +66,7 @@ fn name_among(octets: &[u8], length: usize) -> Option<Known>
     }
 }
 
-/// What is known by what is kept of a name; or `None` where that is no name.
+/// Returns what is known of a stored name, or `None` if it is not a name.
 fn known_of(kept: &KeptName) -> Option<Known>
     ensures { HoldsName kept.now result }
 {
@@ -79,14 +79,14 @@ fn known_of(kept: &KeptName) -> Option<Known>
     name_among(&kept.octets, kept.length)
 }
 
-/// A time to live, if there is one.
+/// Returns a TTL, if there is one.
 fn ttl_of(has_ttl: u8, seconds: u32) -> Option<u32>
     ensures { result ≡ flagged has_ttl seconds }
 {
     if has_ttl == 0 { None } else { Some(seconds) }
 }
 
-/// The state by what is kept of it; or `None` where that is no state.
+/// Returns the stored state, or `None` if a stored name is not a name.
 pub(crate) fn state_of(zone: &Zone) -> Option<State>
     ensures { HoldsState zone.now result }
 {
@@ -101,7 +101,7 @@ pub(crate) fn state_of(zone: &Zone) -> Option<State>
     })
 }
 
-/// Puts octets at the start of others, which are as many or more.
+/// Copies octets to the start of others, which are at least as long.
 pub(crate) fn put_over(octets: &[u8], over: &mut [u8])
     requires { length octets.now ≤ length over.old }
     ensures put { take (length octets.now) over.new ≡ octets.now }
@@ -110,7 +110,7 @@ pub(crate) fn put_over(octets: &[u8], over: &mut [u8])
     over[..octets.len()].copy_from_slice(octets);
 }
 
-/// Keeps what is known of a name.
+/// Stores what is known of a name.
 pub(crate) fn keep_name(known: &Known, kept: &mut KeptName)
     ensures { KeepsName known.now kept.old kept.new }
 {
@@ -127,7 +127,7 @@ pub(crate) fn keep_name(known: &Known, kept: &mut KeptName)
     }
 }
 
-/// Keeps a time to live, if there is one.
+/// Stores a TTL, if there is one.
 fn keep_ttl(ttl: Option<u32>, has_ttl: &mut u8, seconds: &mut u32)
     ensures { ttl ≡ flagged has_ttl.new seconds.new }
 {
@@ -140,7 +140,7 @@ fn keep_ttl(ttl: Option<u32>, has_ttl: &mut u8, seconds: &mut u32)
     }
 }
 
-/// Keeps a state, and where the next entry begins.
+/// Stores a state, and the offset of the next entry.
 pub(crate) fn keep_state(state: &State, at: usize, zone: &mut Zone)
     ensures { KeepsState state.now at zone.old zone.new }
 {
@@ -156,7 +156,7 @@ pub(crate) fn keep_state(state: &State, at: usize, zone: &mut Zone)
     keep_name(&state.owner, &mut zone.owner);
 }
 
-/// Why octets are no absolute name.
+/// Returns the status of octets that are not an absolute name.
 pub(crate) fn refusal_of_name(error: NameError) -> Refusal
     ensures { result ≡ refusal_of_name error }
 {
@@ -170,10 +170,10 @@ pub(crate) fn refusal_of_name(error: NameError) -> Refusal
     }
 }
 
-/// Sets the origin of the entries that follow to an absolute name in wire form, or with no octets to
-/// none.
+/// Sets the origin of the entries that follow to an absolute name in wire form. No octets mean no
+/// origin.
 ///
-/// Octets that are no such name are refused, with no place, and then the zone stays as it was.
+/// Fails with place 0 if the octets are not such a name; then the zone is unchanged.
 #[unsafe(no_mangle)]
 pub extern "C" fn dnstext_zone_origin(zone: &mut Zone, name: &[u8], outcome: &mut Outcome) -> u32
     ensures { TakesOrigin name.now zone.old zone.new result outcome.new }

@@ -1,4 +1,4 @@
-//! Times to live, types and classes of records, each one word of zone text.
+//! Parses and prints TTLs, types and classes of records, each of which is one word of a zone file.
 ghost use Rattle.std.specs.Prelude.{◌≡◌, ◌+◌, ◌≤◌, ◌++◌, decimal, length};
 ghost use Rattle.dns_kinds.specs.Classes.{SpellsClass, class_text};
 ghost use Rattle.dns_kinds.specs.Ttl.{SpellsTtl};
@@ -11,21 +11,21 @@ use crate::outcome::{Fault, Outcome, Refusal, accept, give, refuse};
 use arrayvec::ArrayVec;
 use dns_kinds::{Class, RecordType, ttl_from_text};
 
-/// The most characters of a prefix and a code, as in `CLASS65535`.
+/// Greatest number of characters of a prefix and a number, as in `CLASS65535`.
 const TEXT: usize = 10;
 
-/// Refuses a whole word.
+/// Rejects a whole word.
 fn refuse_word(refusal: Refusal, outcome: &mut Outcome) -> u32
     ensures { TellsFault (at_start refusal) result outcome.new }
 {
     refuse(Fault { refusal, place: 0 }, outcome)
 }
 
-/// Reads a time to live in seconds, below 2^31 (RFC 2181 section 8): a number of them, or periods
-/// such as `1h30m` with the units `w`, `d`, `h`, `m` and `s` in either case.
+/// Parses a TTL in seconds, below 2^31 (RFC 2181 section 8): a number of seconds, or periods such
+/// as `1h30m` with the units `w`, `d`, `h`, `m` and `s` in either case.
 ///
-/// The text is a word as it stands, without escapes. What is no time to live is refused at its
-/// start, and then the seconds stay as they were.
+/// The text is a word without escapes. Fails with place 0 if it is not a TTL; then `seconds` is
+/// unchanged.
 #[unsafe(no_mangle)]
 pub extern "C" fn dnstext_ttl_read(text: &[u8], seconds: &mut u32, outcome: &mut Outcome) -> u32
     ensures { TellsSpelled SpellsTtl BadTtl text.now seconds.old result seconds.new outcome.new }
@@ -39,11 +39,11 @@ pub extern "C" fn dnstext_ttl_read(text: &[u8], seconds: &mut u32, outcome: &mut
     }
 }
 
-/// Reads the code of a type of records in any case of its letters: its name in IANA's registry, or
-/// `TYPE` and the code (RFC 3597 section 5).
+/// Parses a record type in any case of its letters, and writes its number: its name in IANA's
+/// registry, or `TYPE` and the number (RFC 3597 section 5).
 ///
-/// The text is a word as it stands, without escapes. What names no type is refused at its start,
-/// and then the code stays as it was.
+/// The text is a word without escapes. Fails with place 0 if it doesn't name a type; then `code` is
+/// unchanged.
 #[unsafe(no_mangle)]
 pub extern "C" fn dnstext_type_read(text: &[u8], code: &mut u16, outcome: &mut Outcome) -> u32
     ensures { TellsSpelled SpellsType UnknownType text.now code.old result code.new outcome.new }
@@ -57,11 +57,11 @@ pub extern "C" fn dnstext_type_read(text: &[u8], code: &mut u16, outcome: &mut O
     }
 }
 
-/// Reads the code of a class in any case of its letters: `IN`, `CH`, `HS`, or `CLASS` and the code
-/// (RFC 3597 section 5).
+/// Parses a class in any case of its letters, and writes its number: `IN`, `CH`, `HS`, or `CLASS`
+/// and the number (RFC 3597 section 5).
 ///
-/// The text is a word as it stands, without escapes. What names no class is refused at its start,
-/// and then the code stays as it was.
+/// The text is a word without escapes. Fails with place 0 if it doesn't name a class; then `code`
+/// is unchanged.
 #[unsafe(no_mangle)]
 pub extern "C" fn dnstext_class_read(text: &[u8], code: &mut u16, outcome: &mut Outcome) -> u32
     ensures { TellsSpelled SpellsClass UnknownClass text.now code.old result code.new outcome.new }
@@ -88,7 +88,7 @@ fn push_decimal(number: u16, text: &mut ArrayVec<u8, TEXT>)
     }
 }
 
-/// A prefix and a number after it.
+/// Returns a prefix and a number after it.
 pub(crate) fn numbered(prefix: &str, number: u16) -> ArrayVec<u8, TEXT>
     requires { length prefix.now ≤ 5 }
     ensures { result.items ≡ prefix.now ++ decimal number }
@@ -101,7 +101,7 @@ pub(crate) fn numbered(prefix: &str, number: u16) -> ArrayVec<u8, TEXT>
     text
 }
 
-/// Prints a type of records: its name, or without one `TYPE` and the code.
+/// Prints a record type: its name, or if it has no name `TYPE` and the number.
 #[unsafe(no_mangle)]
 pub extern "C" fn dnstext_type_print(code: u16, text: &mut [u8], outcome: &mut Outcome) -> u32
     ensures { TellsOctets (type_text code) text.old result text.new outcome.new }
@@ -112,7 +112,7 @@ pub extern "C" fn dnstext_type_print(code: u16, text: &mut [u8], outcome: &mut O
     }
 }
 
-/// Prints a class: its name, or without one `CLASS` and the code.
+/// Prints a class: its name, or if it has no name `CLASS` and the number.
 #[unsafe(no_mangle)]
 pub extern "C" fn dnstext_class_print(code: u16, text: &mut [u8], outcome: &mut Outcome) -> u32
     ensures { TellsOctets (class_text code) text.old result text.new outcome.new }

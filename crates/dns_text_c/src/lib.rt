@@ -1,9 +1,9 @@
-//! The text layer of DNS, for C and other languages, as a static library.
+//! Parses and prints DNS presentation format, for C and other languages, as a static library.
 //!
 //! `c/include/dnstext.h` declares the functions. Octets and texts are passed as a pointer and a
 //! length, a text as its characters, one octet each. A call returns a status and writes an
-//! [`Outcome`](outcome::Outcome); what it gives stands at the start of the memory that it was
-//! passed, and what follows there stays as it was. None of these calls takes memory.
+//! [`Outcome`](outcome::Outcome). Its value is at the start of the memory that was passed, and the
+//! octets after it are unchanged. None of these calls allocates memory.
 #![tactic(auto)]
 
 pub mod canonical;

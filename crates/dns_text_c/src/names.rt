@@ -1,7 +1,7 @@
-//! Names, read and printed.
+//! Parses and prints names.
 //!
 //! A name's octets are its wire form (RFC 1035 section 3.1): each label's length and its octets,
-//! and the root last where the name is absolute. No octets are the relative name of no labels.
+//! and the root last if the name is absolute. No octets are the relative name of no labels.
 ghost use Rattle.std.specs.Prelude.{◌≡◌, ◌≤◌, ◌++◌, [], ◌∷◌};
 ghost use Rattle.dns_wire.specs.Building.{all_labels};
 ghost use Rattle.dns_wire.specs.Wire.{wire_length};
@@ -20,20 +20,20 @@ use dns_name::name::{UncertainDnameError, UncertainName};
 use dns_symbol::symbol::Symbol;
 use dns_wire::{Form, NameBuilder, NameIter, PushError, labels_in};
 
-/// The most octets of a name.
+/// Greatest number of octets of a name.
 const MOST: usize = 255;
 
-/// The most characters of a name's text: four of each octet.
+/// Greatest number of characters of a name's text: four for each octet.
 const TEXT: usize = 1020;
 
-/// Whether a symbol is a plain dot, which ends a label.
+/// Returns whether a symbol is a plain dot, which ends a label.
 fn is_dot(symbol: Symbol) -> bool
     ensures { result ≡ is_dot symbol }
 {
     matches!(symbol, Symbol::Char('.'))
 }
 
-/// Takes a symbol other than a plain dot.
+/// Appends a symbol other than a plain dot to the open label.
 fn push_symbol(builder: &mut NameBuilder<ArrayVec<u8, MOST>>, symbol: Symbol) -> Result<(), Refusal>
     ensures { TakesNameSymbol builder.old symbol result builder.new }
 {
@@ -51,7 +51,7 @@ fn push_symbol(builder: &mut NameBuilder<ArrayVec<u8, MOST>>, symbol: Symbol) ->
     }
 }
 
-/// The labels with the root after them.
+/// Returns the labels with the root after them, as an absolute name.
 fn absolute(builder: NameBuilder<ArrayVec<u8, MOST>>) -> UncertainName<ArrayVec<u8, MOST>>
     requires { wire_length (all_labels builder) ≤ max_relative }
     ensures { result ≡ Absolute (all_labels builder ++ [] ∷ []) }
@@ -59,7 +59,8 @@ fn absolute(builder: NameBuilder<ArrayVec<u8, MOST>>) -> UncertainName<ArrayVec<
     UncertainName::Absolute(builder.into_name().unwrap())
 }
 
-/// The name of a text: a plain dot last makes it absolute.
+/// Returns the name of the labels that were parsed. It is absolute if the text ended with a plain
+/// dot.
 fn finish(builder: NameBuilder<ArrayVec<u8, MOST>>) -> UncertainName<ArrayVec<u8, MOST>>
     requires { wire_length (all_labels builder) ≤ max_relative }
     ensures { FinishesName builder result }
@@ -70,7 +71,7 @@ fn finish(builder: NameBuilder<ArrayVec<u8, MOST>>) -> UncertainName<ArrayVec<u8
     absolute(builder)
 }
 
-/// The name of a text, or the first fault.
+/// Parses a name, and returns it or the first error.
 fn read_name(text: &[u8]) -> Result<UncertainName<ArrayVec<u8, MOST>>, Fault>
     ensures { ReadsNameText text.now result }
 {
@@ -95,13 +96,13 @@ fn read_name(text: &[u8]) -> Result<UncertainName<ArrayVec<u8, MOST>>, Fault>
     Ok(finish(builder))
 }
 
-/// Reads the text of a name (RFC 1035 section 5.1), and tells whether it is absolute.
+/// Parses a name (RFC 1035 section 5.1), and writes its octets and whether it is absolute.
 ///
-/// The labels are the symbols between plain dots. No text is the relative name of no labels, and a
-/// dot alone the root. Another name is absolute where a plain dot ends it. Symbols are handled in
-/// order. What is no symbol is refused first, then a plain dot after no octet, an escaped opening
-/// bracket that begins a label, a symbol without an octet, more than 254 octets before the root,
-/// more than 63 in a label. The first fault is told, with its place.
+/// The labels are the symbols between plain dots. An empty text is the relative name of no labels,
+/// and a dot alone the root. Another name is absolute if a plain dot ends it. Symbols are parsed in
+/// order. At each, these are checked in this order: no symbol; a plain dot after no octet; an
+/// escaped opening bracket that begins a label; a symbol without an octet; more than 254 octets
+/// before the root; more than 63 in a label. The first error is reported, with its place.
 #[unsafe(no_mangle)]
 pub extern "C" fn dnstext_name_read(
     text: &[u8],
@@ -121,7 +122,7 @@ pub extern "C" fn dnstext_name_read(
     }
 }
 
-/// Gives the text of labels; `dot` tells whether one stands before a root at their end.
+/// Writes the text of labels. `dot` says whether a dot comes before a root at their end.
 fn give_text(
     labels: NameIter<'_>,
     form: Form,
@@ -137,7 +138,7 @@ fn give_text(
     give(shown.as_bytes(), text, outcome)
 }
 
-/// Why octets are no name.
+/// Returns the status of octets that are not a name.
 fn refusal_of_octets(error: UncertainDnameError) -> Refusal
     ensures { result ≡ refusal_of_octets error }
 {
@@ -176,8 +177,8 @@ fn print_name(octets: &[u8], form: Form, dot: bool, text: &mut [u8], outcome: &m
 /// Prints a name's labels joined by dots, without a dot at the end. The root alone is one dot.
 ///
 /// This is the form of `domain`: labels escape the space, the dot and the backslash, and octets
-/// outside 0x20 to 0x7E by their decimal value. Octets that are no name's are refused, in the order of
-/// [`UncertainName::from_octets`]; no place is told.
+/// outside 0x20 to 0x7E by their decimal value. Fails with place 0 if the octets are not a name, in
+/// the order of [`UncertainName::from_octets`].
 #[unsafe(no_mangle)]
 pub extern "C" fn dnstext_name_print(name: &[u8], text: &mut [u8], outcome: &mut Outcome) -> u32
     ensures { PrintsName undotted_octets name.now text.old result text.new outcome.new }
@@ -185,7 +186,7 @@ pub extern "C" fn dnstext_name_print(name: &[u8], text: &mut [u8], outcome: &mut
     print_name(name, Form::Label, false, text, outcome)
 }
 
-/// Prints the same with a dot at the end of an absolute name.
+/// Prints a name as [`dnstext_name_print`] does, with a dot at the end of an absolute name.
 #[unsafe(no_mangle)]
 pub extern "C" fn dnstext_name_print_dotted(
     name: &[u8],
@@ -197,10 +198,10 @@ pub extern "C" fn dnstext_name_print_dotted(
     print_name(name, Form::Label, true, text, outcome)
 }
 
-/// Prints a name as zone files have it, with a dot at the end of an absolute name. A backslash
-/// precedes `"`, `$`, `(`, `)`, `.`, `;`, `@` and the backslash. Other octets from 0x21 to 0x7E are
+/// Prints a name as in zone files, with a dot at the end of an absolute name. A backslash comes
+/// before `"`, `$`, `(`, `)`, `.`, `;`, `@` and the backslash. Other octets from 0x21 to 0x7E are
 /// plain, and the rest are printed by their decimal value. So a name of one label or more is one
-/// word, which reads as that name.
+/// word, which is parsed as that name.
 #[unsafe(no_mangle)]
 pub extern "C" fn dnstext_name_print_zone(
     name: &[u8],

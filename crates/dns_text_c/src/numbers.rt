@@ -1,4 +1,4 @@
-//! Decimal numbers.
+//! Parses decimal numbers.
 ghost use Rattle.std.specs.Prelude.{◌≡◌, ◌<◌, IfSome};
 ghost use Rattle.dns_scan.specs.Numbers.{plain_digit_of};
 ghost use Rattle.dns_text_c.specs.Numbers.{AppendsDigit, ReadsTextAsNumber, TellsNumber};
@@ -7,7 +7,7 @@ use crate::outcome::{Fault, OK, Outcome, Refusal, refuse};
 use crate::strings::symbol_at;
 use dns_symbol::symbol::Symbol;
 
-/// The value of a plain digit.
+/// Returns the value of a plain digit.
 fn plain_digit(symbol: Symbol) -> Option<u64>
     ensures value { result ≡ plain_digit_of symbol }
     ensures small { IfSome result (λ d. d < 10) }
@@ -18,7 +18,7 @@ fn plain_digit(symbol: Symbol) -> Option<u64>
     }
 }
 
-/// A symbol more of a number of at most `greatest`.
+/// Returns a number of at most `greatest` with one more symbol.
 fn with_digit(greatest: u64, value: u64, symbol: Symbol) -> Result<u64, Refusal>
     ensures { AppendsDigit greatest value symbol result }
 {
@@ -35,7 +35,7 @@ fn with_digit(greatest: u64, value: u64, symbol: Symbol) -> Result<u64, Refusal>
     Ok(tens + digit)
 }
 
-/// The number of a text's symbols, or the first fault.
+/// Parses a number, and returns it or the first error.
 fn read_number(text: &[u8], greatest: u64) -> Result<u64, Fault>
     ensures { ReadsTextAsNumber greatest text.now result }
 {
@@ -51,12 +51,12 @@ fn read_number(text: &[u8], greatest: u64) -> Result<u64, Fault>
     Ok(value)
 }
 
-/// Reads a token as an unsigned decimal number of at most `greatest`. No text is 0.
+/// Parses a token as an unsigned decimal number of at most `greatest`. An empty text is 0.
 ///
-/// Its symbols are plain digits. They are handled in order: what is no symbol is refused first,
-/// then a number too great already for any digit after it, then a symbol that is no plain digit,
-/// then a number that its digit makes too great. The first fault is told, with its place, and then
-/// the number stays as it was.
+/// Its symbols are plain digits. They are parsed in order. At each, these are checked in this
+/// order: no symbol; any symbol once ten times the value exceeds `greatest`; a symbol that is not a
+/// plain digit; a digit that makes the number exceed `greatest`. The first error is reported, with
+/// its place, and then the number is unchanged.
 #[unsafe(no_mangle)]
 pub extern "C" fn dnstext_number_read(
     text: &[u8],

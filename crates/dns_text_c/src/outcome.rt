@@ -1,35 +1,35 @@
-//! What a call says: a status, a length and a place.
+//! The result of a call: a status, a length and a place.
 ghost use Rattle.std.specs.Prelude.{◌≡◌};
 ghost use Rattle.dns_text_c.specs.Told.{number_of, GivesCut, TellsOctets, TellsFault};
 
-/// What a call says beside its status.
+/// The result of a call, besides its status.
 #[repr(C)]
 #[derive(Clone, Copy, Debug, PartialEq, Eq)]
 pub struct Outcome {
-    /// How many octets were written; or with [`Refusal::NoRoom`] how many there are to write.
+    /// Number of octets that were written; or with [`Refusal::NoRoom`] the number to write.
     pub length: usize,
-    /// How many octets stand before a fault; 0 where there is none.
+    /// Offset of an error in octets; 0 without an error.
     pub place: usize,
 }
 
-/// Why a call gives no value.
+/// Why a call has no value.
 #[derive(Clone, Copy, Debug, PartialEq, Eq)]
 pub enum Refusal {
     /// The value doesn't fit into the memory that was passed.
     NoRoom,
-    /// A backslash with what makes no escape.
+    /// A backslash that doesn't begin an escape.
     BadEscape,
     /// The octets end inside an escape or a character.
     ShortInput,
-    /// The octets are no UTF-8.
+    /// The octets are not UTF-8.
     BadUtf8,
-    /// A plain character outside printable ASCII, which stands for no octet.
+    /// A plain character outside printable ASCII, which has no octet.
     BadSymbol,
     /// More octets than a value may have.
     TooLong,
-    /// No text of the encoding.
+    /// The text is not of the encoding.
     BadEncoding,
-    /// A closing parenthesis, and none is open.
+    /// A closing parenthesis without an open one.
     Closing,
     /// The text ends inside parentheses.
     OpenParenthesis,
@@ -37,8 +37,7 @@ pub enum Refusal {
     OpenQuote,
     /// A CR without its LF.
     LoneReturn,
-    /// A cursor that stands past the end of the text, or with more parentheses open than octets
-    /// before it.
+    /// A cursor past the end of the text, or with more open parentheses than octets before it.
     BadCursor,
     /// A plain dot after no octet of a label.
     EmptyLabel,
@@ -46,52 +45,52 @@ pub enum Refusal {
     LongLabel,
     /// A label that begins with an escaped opening bracket (RFC 2673).
     BinaryLabel,
-    /// A lead octet of no known type of label.
+    /// A length octet of an unknown label type.
     BadLabel,
     /// A pointer to another name in place of a label.
     Pointer,
     /// Octets after the root.
     TrailingOctets,
-    /// A symbol that is no plain decimal digit.
+    /// A symbol that is not a plain decimal digit.
     NoDigit,
-    /// A number greater than the greatest one asked for.
+    /// A number that exceeds the limit.
     TooGreat,
-    /// A place past the end of the text.
+    /// An offset past the end of the text.
     BadPlace,
-    /// No time to live.
+    /// The text is not a TTL.
     BadTtl,
-    /// No type of records.
+    /// The text is not a record type.
     UnknownType,
-    /// No class.
+    /// The text is not a class.
     UnknownClass,
-    /// A directive or the words in front of a record's data.
+    /// A directive, or the TTL, class and type of a record, is rejected.
     BadHead,
     /// A directive that is not supported: `$GENERATE`.
     NotSupported,
-    /// A token that is no name of an owner or an origin.
+    /// A token that is not the name of an owner or an origin.
     BadName,
-    /// A relative name where there is no origin.
+    /// A relative name without an origin.
     NoOrigin,
-    /// A record without an owner, and none was said before.
+    /// A record without an owner, and no record before it has one.
     NoOwner,
-    /// A record without an owner, and the one before it is refused.
+    /// A record without an owner, and the last owner was rejected.
     RefusedOwner,
-    /// Tokens that are no data of their type.
+    /// Tokens that are not data of their type.
     BadData,
-    /// A record without a time to live, and none is known.
+    /// A record without a TTL, and no TTL is known.
     NoTtl,
     /// A name without the root at its end.
     RelativeName,
 }
 
-/// A refusal, and the octets before what is refused.
+/// An error, and its offset in octets.
 #[derive(Clone, Copy, Debug, PartialEq, Eq)]
 pub struct Fault {
     pub refusal: Refusal,
     pub place: usize,
 }
 
-/// The status of a call that did what it says.
+/// The status of success.
 pub const OK: u32 = 0;
 
 /// The status of a call that finds nothing left.
@@ -100,7 +99,7 @@ pub const END: u32 = 1;
 /// The status of a call that finds a file to include.
 pub const INCLUDE: u32 = 26;
 
-/// The status of a refusal.
+/// Returns the status of an error.
 pub fn number_of(refusal: Refusal) -> u32
     ensures { result ≡ number_of refusal }
 {
@@ -141,7 +140,7 @@ pub fn number_of(refusal: Refusal) -> u32
     }
 }
 
-/// Tells of a fault.
+/// Reports an error.
 pub(crate) fn refuse(fault: Fault, outcome: &mut Outcome) -> u32
     ensures { TellsFault fault result outcome.new }
 {
@@ -152,7 +151,7 @@ pub(crate) fn refuse(fault: Fault, outcome: &mut Outcome) -> u32
     number_of(fault.refusal)
 }
 
-/// Tells that all went well, of a call that gives no octets.
+/// Reports success of a call that writes no octets.
 pub(crate) fn accept(outcome: &mut Outcome) -> u32
     ensures { (result ≡ 0) × (outcome.new ≡ record { length = 0; place = 0 }) }
 {
@@ -163,7 +162,7 @@ pub(crate) fn accept(outcome: &mut Outcome) -> u32
     OK
 }
 
-/// Puts octets at the start of a buffer, if they fit.
+/// Copies octets to the start of a buffer, if they fit, and reports that.
 pub(crate) fn give(octets: &[u8], buffer: &mut [u8], outcome: &mut Outcome) -> u32
     ensures { TellsOctets octets.now buffer.old result buffer.new outcome.new }
 {

@@ -1,4 +1,4 @@
-//! Zone text, piece by piece and with no memory (RFC 1035 section 5.1).
+//! Splits a zone file piece by piece, without allocating memory (RFC 1035 section 5.1).
 //!
 //! An octet of 0x80 or more counts as a character of its own, so that comments needn't be UTF-8.
 ghost use Rattle.std.specs.Prelude.{◌≡◌};
@@ -9,36 +9,35 @@ use crate::tokens::{bit, refusal_of_wrong};
 use dns_split::pieces::{Fault as TextFault, Piece as TextPiece};
 use dns_split::standing::{Standing as TextStanding, next_of_octets};
 
-/// A piece of zone text: the octets from `start` to before `end`.
+/// A piece of a zone file: the octets from `start` to before `end`.
 #[repr(C)]
 #[derive(Clone, Copy, Debug, PartialEq, Eq)]
 pub struct Piece {
     /// 0 for a word, 1 for a quoted text with its double quotes, 2 for a comment with its
-    /// semicolon, and 3 for the end of an entry, which has no octets and stands where the next
-    /// entry begins.
+    /// semicolon, and 3 for the end of an entry, which has no octets and is at the offset of the
+    /// next entry.
     pub kind: usize,
     pub start: usize,
     pub end: usize,
-    /// 1 where the piece's entry begins with a blank: such a record takes the owner of the one
-    /// before.
+    /// 1 if the piece's entry begins with a blank. Such a record has the owner of the one before.
     pub begins_blank: u8,
 }
 
-/// Where a zone text is read on, with no piece begun.
+/// The position where splitting a zone file continues, before the next piece.
 #[repr(C)]
 #[derive(Clone, Copy, Debug, PartialEq, Eq)]
 pub struct Standing {
-    /// How many octets stand before it. It is 0 at first.
+    /// Offset of the next octet. It is 0 at first.
     pub at: usize,
-    /// How many parentheses are open. It is 0 at first.
+    /// Number of open parentheses. It is 0 at first.
     pub depth: usize,
-    /// Where the entry begins that is open. It is 0 at first.
+    /// Offset of the open entry. It is 0 at first.
     pub began: usize,
     /// 1 once nothing is left. It is 0 at first.
     pub is_done: u8,
 }
 
-/// The standing that a caller passed.
+/// Returns the standing that a caller passed.
 fn standing_of(cursor: Standing) -> TextStanding
     ensures { result ≡ standing_of cursor }
 {
@@ -50,7 +49,7 @@ fn standing_of(cursor: Standing) -> TextStanding
     }
 }
 
-/// The standing that a caller gets.
+/// Returns the standing for a caller.
 fn cursor_of(standing: TextStanding) -> Standing
     ensures { result ≡ cursor_of standing }
 {
@@ -62,7 +61,7 @@ fn cursor_of(standing: TextStanding) -> Standing
     }
 }
 
-/// The piece that a caller gets, of an entry that begins with a blank or doesn't.
+/// Returns the piece for a caller, of an entry that begins with a blank or doesn't.
 fn piece_of(piece: TextPiece, begins_blank: bool) -> Piece
     ensures { result ≡ numbered_piece piece begins_blank }
 {
@@ -80,7 +79,7 @@ fn piece_of(piece: TextPiece, begins_blank: bool) -> Piece
     }
 }
 
-/// Tells of a piece or a fault.
+/// Reports a piece or a syntax error.
 fn tell_piece(
     given: Result<TextPiece, TextFault>,
     begins_blank: bool,
@@ -108,12 +107,12 @@ fn tell_piece(
     }
 }
 
-/// Gives the next piece of a zone text, and moves the standing on.
+/// Writes the next piece of a zone file, and advances the standing.
 ///
-/// A fault is told with its place, after the pieces before it, and then the text is done. Once
-/// nothing is left the status is [`END`]. A standing past the end of the text, or with more
-/// parentheses open than octets before it, is refused and stays. The piece is written with the
-/// status [`OK`] alone.
+/// A syntax error is reported with its place, after the pieces before it, and then the text is
+/// done. Once nothing is left the status is [`END`]. A standing past the end of the text, or with
+/// more open parentheses than octets before it, is rejected and unchanged. The piece is written
+/// only with the status [`OK`].
 #[unsafe(no_mangle)]
 pub extern "C" fn dnstext_tokens_next(
     text: &[u8],

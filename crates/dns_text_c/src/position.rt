@@ -1,4 +1,4 @@
-//! Lines and columns.
+//! Finds lines and columns.
 ghost use Rattle.std.specs.Prelude.{◌≡◌, ◌≢◌, ◌+◌, ◌-◌, ◌<◌, ◌≤◌, length};
 ghost use Rattle.dns_text_c.specs.Entries.{counted};
 ghost use Rattle.dns_text_c.specs.Places.{IsPositionIn, MovesPosition, TellsPosition};
@@ -6,15 +6,15 @@ ghost use Rattle.dns_text_c.specs.Places.{IsPositionIn, MovesPosition, TellsPosi
 use crate::outcome::{OK, Refusal, number_of};
 use dns_split::position::{Position as Passed, line_and_column_of_octets};
 
-/// A place of a text, with its line and column.
+/// An offset of a text, with its line and column.
 #[repr(C)]
 #[derive(Clone, Copy, Debug, PartialEq, Eq)]
 pub struct Position {
     /// The number of octets before it. It is 0 at first.
     pub offset: usize,
-    /// The line, from 1. Each LF ends one.
+    /// Line, from 1. Each LF ends one.
     pub line: usize,
-    /// The octet of the line, from 1.
+    /// Column in octets, from 1.
     pub column: usize,
 }
 
@@ -25,9 +25,9 @@ const START: Position = Position {
     column: 1,
 };
 
-/// Gives the line and the column of a place in a text, each from 1. An LF ends a line, and each
-/// octet counts as a character of its own. The place may be the text's length; one past it is
-/// refused, and nothing is written.
+/// Writes the line and the column of an offset of a text, each from 1. An LF ends a line, and each
+/// octet counts as a character of its own. The offset may be the text's length. Fails with
+/// `BadPlace` if it is greater; then nothing is written.
 #[unsafe(no_mangle)]
 pub extern "C" fn dnstext_position(
     text: &[u8],
@@ -46,7 +46,8 @@ pub extern "C" fn dnstext_position(
     OK
 }
 
-/// Returns the column after octets that follow a column, by the position after these alone.
+/// Returns the column after a column and the octets that follow it, by the position after these
+/// alone.
 fn column_behind(column: usize, passed: Passed) -> usize
     requires { 1 ≤ passed.column }
     ensures same { passed.line ≡ 1 → result ≡ counted (column + (passed.column - 1)) }
@@ -58,7 +59,7 @@ fn column_behind(column: usize, passed: Passed) -> usize
     passed.column
 }
 
-/// The position of a place that is not before another one.
+/// Returns the position of an offset that is not before another one.
 fn moved_on(text: &[u8], from: Position, offset: usize) -> Position
     requires ahead { from.offset ≤ offset }
     requires within { offset ≤ length text.now }
@@ -73,7 +74,8 @@ fn moved_on(text: &[u8], from: Position, offset: usize) -> Position
     }
 }
 
-/// The position of another place: from the start of the text, where that place is before the first.
+/// Returns the position of another offset. It is counted from the start of the text if that offset
+/// comes before the position.
 fn moved(text: &[u8], from: Position, offset: usize) -> Position
     requires { offset ≤ length text.now }
     ensures offset { result.offset ≡ offset }
@@ -86,12 +88,12 @@ fn moved(text: &[u8], from: Position, offset: usize) -> Position
     moved_on(text, from, offset)
 }
 
-/// Moves a position of a text to another place of it, which may be the text's length. One past that
-/// is refused, and the position stays.
+/// Moves a position of a text to another offset of it, which may be the text's length. Fails with
+/// `BadPlace` if it is greater; then the position is unchanged.
 ///
-/// The time is linear in the octets between; or, where the place is before the position, in the
-/// place. So places in order take the time of the text, however many there are. Of a position that is
-/// none of the text only the offset is right.
+/// The time is linear in the octets between; or, if the offset comes before the position, in the
+/// offset. So the positions of ascending offsets take time linear in the text, however many there
+/// are. If the position is not one of the text, only the offset of the result is right.
 #[unsafe(no_mangle)]
 pub extern "C" fn dnstext_position_move(text: &[u8], position: &mut Position, offset: usize) -> u32
     ensures { MovesPosition text.now offset result position.old position.new }

@@ -1,4 +1,4 @@
-//! Record data as zone text.
+//! Prints record data.
 ghost use Rattle.std.specs.Prelude.{◌≡◌, ◌+◌, length, IsTrue, IfOk, OnOk};
 ghost use Rattle.dns_text_c.specs.DataText.{PrintsData, PrintsOn, PutsAt, TellsText, data_text, fault_of_wire};
 ghost use Rattle.dns_text_c.specs.Told.{TellsFault, at_start};
@@ -12,7 +12,7 @@ use dns_zone::zonefile_fmt::{DisplayKind, ZonefileFmt};
 use std::fmt;
 use std::fmt::Write;
 
-/// The most octets of record data (RFC 1035 section 3.2.1).
+/// Greatest number of octets of record data (RFC 1035 section 3.2.1).
 const MOST: usize = 65535;
 
 /// A sink that counts octets.
@@ -35,7 +35,7 @@ impl fmt::Write for Count {
     }
 }
 
-/// Puts octets at a place among others, if they fit.
+/// Copies octets to an offset of others, if they fit, and returns whether they do.
 fn put_at(octets: &[u8], at: usize, over: &mut [u8]) -> bool
     ensures { IsTrue result → PutsAt octets.now at over.old over.new }
 {
@@ -46,7 +46,7 @@ fn put_at(octets: &[u8], at: usize, over: &mut [u8]) -> bool
     true
 }
 
-/// A sink that puts octets after those that it has put over others.
+/// A sink that copies octets to the end of those that it has copied before.
 #[derive(Drop)]
 pub(crate) struct Over<'a> {
     octets: &'a mut [u8],
@@ -73,7 +73,7 @@ fn print_on<W: Write>(content: &Data<&[u8]>, sink: &mut W) -> fmt::Result
     write!(sink, "{}", content.display_zonefile(DisplayKind::Simple))
 }
 
-/// How many octets the text of data has.
+/// Returns the number of octets of the text of data.
 fn count_text(content: &Data<&[u8]>) -> Result<usize, fmt::Error>
     ensures { IfOk result (λ count. count ≡ length (data_text content.now)) }
 {
@@ -82,7 +82,7 @@ fn count_text(content: &Data<&[u8]>) -> Result<usize, fmt::Error>
     Ok(count.length)
 }
 
-/// Puts the text of data at the start of octets.
+/// Copies the text of data to the start of octets.
 fn write_text(content: &Data<&[u8]>, over: &mut [u8]) -> fmt::Result
     ensures { OnOk result (PutsAt (data_text content.now) 0 over.old over.new) }
 {
@@ -96,7 +96,7 @@ fn write_text(content: &Data<&[u8]>, over: &mut [u8]) -> fmt::Result
     result
 }
 
-/// Tells that data have no text.
+/// Reports that data has no text.
 fn refuse_text(outcome: &mut Outcome) -> u32
     ensures { TellsFault (at_start TooLong) result outcome.new }
 {
@@ -104,7 +104,7 @@ fn refuse_text(outcome: &mut Outcome) -> u32
     refuse(Fault { refusal, place: 0 }, outcome)
 }
 
-/// Gives the text of data.
+/// Writes the text of data.
 fn give_text(content: &Data<&[u8]>, text: &mut [u8], outcome: &mut Outcome) -> u32
     ensures { TellsText (data_text content.now) text.old result text.new outcome.new }
 {
@@ -121,7 +121,7 @@ fn give_text(content: &Data<&[u8]>, text: &mut [u8], outcome: &mut Outcome) -> u
     }
 }
 
-/// Why octets are no data of a type.
+/// Returns why octets are not data of a type.
 pub(crate) fn fault_of_wire(error: WireError) -> Fault
     ensures { result ≡ fault_of_wire error }
 {
@@ -137,12 +137,12 @@ pub(crate) fn fault_of_wire(error: WireError) -> Fault
     }
 }
 
-/// Prints data of a type on one line: its tokens with a space between, in the text form of the type,
-/// or without one `\#`, the number of octets, and these in hexadecimal (RFC 3597 section 5). Names
-/// are absolute.
+/// Prints data of a type on one line: its tokens with a space between, in the presentation format
+/// of the type, or if it has none `\#`, the number of octets, and these in hexadecimal (RFC 3597
+/// section 5). Names are absolute.
 ///
-/// A type that has no data in zones, and octets that are no data of it, are refused with no place;
-/// more than 65,535 octets with that place.
+/// Fails with place 0 if the type has no data in zones, or if the octets are not data of the type.
+/// Fails with place 65,535 if there are more octets than that.
 #[unsafe(no_mangle)]
 pub extern "C" fn dnstext_data_print(
     code: u16,

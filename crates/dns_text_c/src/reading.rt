@@ -1,4 +1,4 @@
-//! The text of record data.
+//! Parses record data.
 ghost use Rattle.std.specs.Prelude.{◌≡◌, ◌≤◌, [], false, true};
 ghost use Rattle.dns_reader.specs.Source.{entry_end};
 ghost use Rattle.dns_text_c.specs.DataText.{EndsText, ReadsLeft, ReadsOpen, AnswersText, TellsRead, TellsReadData, WritesData, trailing_token};
@@ -12,20 +12,20 @@ use dns_fields::{RecordError, TokenSource};
 use dns_kinds::{ErrorKind, RecordType};
 use dns_reader::{EntrySource, NameBuffer};
 
-/// The most octets of record data (RFC 1035 section 3.2.1).
+/// Greatest number of octets of record data (RFC 1035 section 3.2.1).
 const MOST: usize = 65535;
 
-/// Octets of record data that are enough for most records.
+/// Number of octets that suffices for most record data.
 const FEW: usize = 1024;
 
-/// The error of a token after the entry of the data.
+/// Returns the error of a token after the entry of the data.
 fn trailing_token(rtype: RecordType, at: usize) -> RecordError
     ensures { result ≡ trailing_token rtype at }
 {
     RecordError::at(at, ErrorKind::TrailingToken).of_type(rtype)
 }
 
-/// Takes what comes after the entry of data that were read: entries without tokens alone.
+/// Fails if anything but entries without tokens comes after the entry of the data.
 fn end_text(rtype: RecordType, source: &mut EntrySource) -> Result<(), RecordError>
     requires { source.old.is_open ≡ false }
     ensures { EndsText rtype result source.old.parts }
@@ -37,7 +37,7 @@ fn end_text(rtype: RecordType, source: &mut EntrySource) -> Result<(), RecordErr
     }
 }
 
-/// Reads the tokens that are left as data of a type.
+/// Parses the tokens that are left as data of a type.
 fn read_tokens<const N: usize>(
     rtype: RecordType,
     origin: Option<&NameBuffer>,
@@ -51,7 +51,7 @@ fn read_tokens<const N: usize>(
     read_type(rtype, origin, source, target)
 }
 
-/// Reads the entry that is open as data of a type, up to the end of the text.
+/// Parses the open entry as data of a type, up to the end of the text.
 fn read_open<const N: usize>(
     rtype: RecordType,
     origin: Option<&NameBuffer>,
@@ -72,7 +72,7 @@ fn read_open<const N: usize>(
     }
 }
 
-/// Reads no tokens as data of a type.
+/// Parses no tokens as data of a type.
 fn read_nothing<const N: usize>(
     rtype: RecordType,
     origin: Option<&NameBuffer>,
@@ -87,7 +87,7 @@ fn read_nothing<const N: usize>(
     read_tokens(rtype, origin, source, target)
 }
 
-/// Reads a text as data of a type.
+/// Parses a text as data of a type.
 fn read_text<const N: usize>(
     rtype: RecordType,
     text: &[u8],
@@ -105,10 +105,10 @@ fn read_text<const N: usize>(
     }
 }
 
-/// Reads data of a type below an origin into room for `N` octets, and writes them. Where they are
-/// refused, it writes nothing.
+/// Parses data of a type, with an origin for relative names and a capacity of `N` octets, and
+/// writes it. If it is rejected, nothing is written.
 ///
-/// It is not inlined, since the compiler fills that room with zeros at each call.
+/// It is not inlined, since the compiler fills the buffer with zeros at each call.
 #[inline(never)]
 fn read_in_room<const N: usize>(
     rtype: RecordType,
@@ -127,8 +127,8 @@ fn read_in_room<const N: usize>(
     }
 }
 
-/// Reads data of a type below an origin, with room for the most octets that there can be only where
-/// those of most records are not enough.
+/// Parses data of a type, with an origin for relative names. A buffer for the longest data is used
+/// only if that for most records does not suffice.
 fn read_behind(
     rtype: RecordType,
     text: &[u8],
@@ -147,14 +147,14 @@ fn read_behind(
     }
 }
 
-/// Reads the text of data of a type, in the type's text form or as `\#`, the number of octets, and
-/// these in hexadecimal (RFC 3597 section 5). The text is one entry of zone text, which may have
+/// Parses data of a type, in the type's presentation format or as `\#`, the number of octets, and
+/// these in hexadecimal (RFC 3597 section 5). The text is one entry of a zone file, which may have
 /// parentheses and comments. The origin is the octets of an absolute name, which is appended to
-/// relative names, or no octets, and then a relative name is refused.
+/// relative names, or no octets, and then relative names are rejected.
 ///
-/// The octets are the data in wire form, at most 65,535; or the text of a refusal, at most 255 of
-/// them, cut to the room. A refusal and a fault of the text are reported with their place; an origin
-/// that is no name is refused with none.
+/// The octets are the data in wire form, at most 65,535; or the text of an error, at most 255 of
+/// them, cut to the buffer's length. Errors are reported with their place. An origin that is not a
+/// name is rejected with place 0.
 #[unsafe(no_mangle)]
 pub extern "C" fn dnstext_data_read(
     code: u16,

@@ -1,4 +1,4 @@
-//! Why a text, an entry or data are refused: the status, and the text.
+//! Reports why a text, an entry or data is rejected: by the status, and by the text of the error.
 ghost use Rattle.std.specs.Prelude.{◌≡◌, ◌+◌, ◌≤◌, ◌++◌, codes, length, take, option_copied};
 ghost use Rattle.dns_kinds.specs.Types.{type_text};
 ghost use Rattle.dns_text_c.specs.Reasons.{AppendsCut, TellsError, TellsReason, call_error_text, data_error_text, field_name, part_prefix, part_text, reason_text, refusal_of_data, refusal_of_entry, refusal_of_head, spaced, syntax_of};
@@ -12,10 +12,10 @@ use dns_fields::{FieldName, RecordError};
 use dns_kinds::{ErrorKind, RecordType};
 use dns_split::pieces::Wrong;
 
-/// The most characters of a reason.
+/// Greatest number of characters of an error's text.
 const REASON: usize = 255;
 
-/// What is wrong with a text that is not of the grammar of zone files.
+/// Returns the kind of a syntax error of zone files.
 fn syntax_of(kind: ErrorKind) -> Option<Wrong>
     ensures { result ≡ syntax_of kind }
 {
@@ -25,7 +25,7 @@ fn syntax_of(kind: ErrorKind) -> Option<Wrong>
     }
 }
 
-/// The refusal of a directive, and of what precedes the data of a record.
+/// Returns the status of a rejected directive, or of rejected fields before a record's data.
 fn refusal_of_head(kind: ErrorKind) -> Refusal
     ensures { result ≡ refusal_of_head kind }
 {
@@ -44,7 +44,7 @@ fn refusal_of_head(kind: ErrorKind) -> Refusal
     }
 }
 
-/// The refusal of data.
+/// Returns the status of rejected data.
 fn refusal_of_data(kind: ErrorKind) -> Refusal
     ensures { result ≡ refusal_of_data kind }
 {
@@ -54,7 +54,7 @@ fn refusal_of_data(kind: ErrorKind) -> Refusal
     }
 }
 
-/// The refusal of an entry, by the type where its data are refused.
+/// Returns the status of a rejected entry, by the type if its data is rejected.
 fn refusal_of_entry(rtype: Option<RecordType>, kind: ErrorKind) -> Refusal
     ensures { result ≡ refusal_of_entry rtype kind }
 {
@@ -75,7 +75,7 @@ fn put_all(text: &[u8], reason: &mut ArrayVec<u8, REASON>)
     }
 }
 
-/// Appends as many characters as there is room for.
+/// Appends the characters that fit.
 fn put_text(text: &[u8], reason: &mut ArrayVec<u8, REASON>)
     ensures { AppendsCut text.now reason.old.items reason.new.items }
 {
@@ -113,14 +113,14 @@ fn put_type_and_name(rtype: RecordType, name: &str, reason: &mut ArrayVec<u8, RE
     put_name(name, reason);
 }
 
-/// The name of a field of a type's data, if there is one.
+/// Returns the name of a field of a type's data, if there is one.
 fn field_name(rtype: RecordType, field: Option<FieldName>) -> Option<&'static str>
     ensures { option_copied result ≡ field_name rtype field }
 {
     field_text(rtype, field?)
 }
 
-/// Appends what is refused: a type, and a field of its data.
+/// Appends the part that is rejected: a type, and a field of its data.
 fn put_part(rtype: RecordType, name: Option<&'static str>, reason: &mut ArrayVec<u8, REASON>)
     ensures { AppendsCut (part_text rtype (option_copied name.entry)) reason.old.items
         reason.new.items }
@@ -131,7 +131,7 @@ fn put_part(rtype: RecordType, name: Option<&'static str>, reason: &mut ArrayVec
     }
 }
 
-/// Appends what is refused, and a colon.
+/// Appends the part that is rejected, and a colon.
 fn put_place(rtype: RecordType, name: Option<&'static str>, reason: &mut ArrayVec<u8, REASON>)
     ensures { AppendsCut (part_text rtype (option_copied name.entry) ++ codes ": ") reason.old.items
         reason.new.items }
@@ -140,7 +140,7 @@ fn put_place(rtype: RecordType, name: Option<&'static str>, reason: &mut ArrayVe
     put_text(b": ", reason);
 }
 
-/// Appends what is refused, if it is data.
+/// Appends the part that is rejected, if it is data.
 fn put_what(rtype: Option<RecordType>, field: Option<FieldName>, reason: &mut ArrayVec<u8, REASON>)
     ensures { AppendsCut (part_prefix rtype field) reason.old.items reason.new.items }
 {
@@ -150,8 +150,8 @@ fn put_what(rtype: Option<RecordType>, field: Option<FieldName>, reason: &mut Ar
     }
 }
 
-/// The text of an error of data. RDATA is read into room for 65,535 octets, so it lacks room only if it
-/// exceeds these (RFC 1035 section 3.2.1).
+/// Returns the text of an error of data. RDATA is parsed with a capacity of 65,535 octets, so it
+/// doesn't fit only if it exceeds these (RFC 1035 section 3.2.1).
 fn data_error_text(kind: ErrorKind) -> &'static str
     ensures { result.now ≡ data_error_text kind }
 {
@@ -161,7 +161,7 @@ fn data_error_text(kind: ErrorKind) -> &'static str
     }
 }
 
-/// The text of an error, of data or of what precedes them.
+/// Returns the text of an error, of data or of the fields before it.
 fn call_error_text(rtype: Option<RecordType>, kind: ErrorKind) -> &'static str
     ensures { result.now ≡ call_error_text rtype kind }
 {
@@ -171,7 +171,7 @@ fn call_error_text(rtype: Option<RecordType>, kind: ErrorKind) -> &'static str
     }
 }
 
-/// Why an entry is refused, in at most 255 characters.
+/// Returns why an entry is rejected, in at most 255 characters.
 fn reason_of(error: &RecordError) -> ArrayVec<u8, REASON>
     ensures { result.items ≡ take REASON (reason_text error.now) }
 {
@@ -182,7 +182,8 @@ fn reason_of(error: &RecordError) -> ArrayVec<u8, REASON>
     reason
 }
 
-/// Tells why an entry is refused: its status, its place, and as many characters of its text as fit.
+/// Reports why an entry is rejected: its status, its place, and the characters of its text that
+/// fit.
 fn tell_reason(error: &RecordError, octets: &mut [u8], outcome: &mut Outcome) -> u32
     ensures { TellsReason error.now octets.old result octets.new outcome.new }
 {
@@ -194,8 +195,8 @@ fn tell_reason(error: &RecordError, octets: &mut [u8], outcome: &mut Outcome) ->
     number_of(refusal_of_entry(error.rtype, error.kind))
 }
 
-/// Tells of an error: what is wrong with the text by the status and the place, and why an entry is
-/// refused by its text too.
+/// Reports an error: a syntax error by the status and the place, and a rejected entry by its text
+/// too.
 pub(crate) fn tell_error(error: &RecordError, octets: &mut [u8], outcome: &mut Outcome) -> u32
     ensures { TellsError error.now octets.old result octets.new outcome.new }
 {

@@ -1,4 +1,5 @@
-//! The records of a zone file, one by one and with no memory (RFC 1035 section 5.1).
+//! Reads the records of a zone file, one by one and without allocating memory (RFC 1035 section
+//! 5.1).
 ghost use Rattle.std.specs.Prelude.{◌≡◌, ◌≢◌, ◌↔◌, ℕ, IsTrue, List, Ok, Option, Some, false};
 ghost use Rattle.dns_reader.specs.Included.{OriginAppended};
 ghost use Rattle.dns_reader.specs.declared.entry.EntryRead.TheVariants.{Nothing, Directive};
@@ -16,24 +17,24 @@ use dns_fields::RecordError;
 use dns_kinds::{Class, RecordType};
 use dns_reader::{EntryRead, Known, RecordReader, include_parts};
 
-/// The most octets of record data (RFC 1035 section 3.2.1).
+/// Greatest number of octets of record data (RFC 1035 section 3.2.1).
 const MOST: usize = 65535;
 
-/// Octets of record data that are enough for most records.
+/// Number of octets that suffices for most record data.
 const FEW: usize = 1024;
 
-/// A record of a zone file, whose data stand elsewhere; or a file to include.
+/// A record of a zone file, whose data is in another buffer; or a file to include.
 #[repr(C)]
 pub struct Record {
-    /// How many octets stand before the record's first token; 0 for a file.
+    /// Offset of the record's first token; 0 for a file.
     pub place: usize,
-    /// The time to live, in seconds; 0 for a file.
+    /// TTL, in seconds; 0 for a file.
     pub ttl: u32,
-    /// The class; 0 for a file.
+    /// Class; 0 for a file.
     pub class_code: u16,
-    /// The type; 0 for a file.
+    /// Type; 0 for a file.
     pub type_code: u16,
-    /// The owner; or the origin that is said for the file, if there is one.
+    /// The owner; or the origin of the file, if the entry has one.
     pub name: KeptName,
 }
 
@@ -46,7 +47,7 @@ pub(crate) struct Head {
     rtype: RecordType,
 }
 
-/// The numbers of a record that was read; of what is no record there are none.
+/// Returns the numbers of a record that was read, or `None` for other entries.
 fn head_in(read: &EntryRead) -> Option<Head>
     ensures { result ≡ head_in read.now }
 {
@@ -66,7 +67,7 @@ fn head_in(read: &EntryRead) -> Option<Head>
     }
 }
 
-/// Keeps what a reader knows, and where it stands.
+/// Stores a reader's state, and its offset.
 fn keep_reader(reader: &RecordReader, zone: &mut Zone)
     requires { reader.now.source.is_open ≡ false }
     ensures { KeepsReader reader.now zone.old zone.new }
@@ -86,7 +87,7 @@ fn write_record(head: Head, name: &Known, found: &mut Record)
     keep_name(name, &mut found.name);
 }
 
-/// Tells of a record or a file, with a status of its own.
+/// Reports a record or a file, with a status of its own.
 fn tell_found(
     status: u32,
     reader: &RecordReader,
@@ -119,7 +120,7 @@ fn tell_found(
     status
 }
 
-/// Tells why an entry is refused, or what is wrong with the text.
+/// Reports why an entry is rejected, or a syntax error of the text.
 fn tell_refused(
     reader: &RecordReader,
     error: &RecordError,
@@ -139,7 +140,7 @@ fn tell_refused(
     tell_error(error, octets, outcome)
 }
 
-/// The origin that is said for a file to include, by its octets, if one is.
+/// Returns the origin of a file to include, by its octets, if the entry has one.
 fn included_origin(has_origin: bool, octets: &[u8]) -> Known
     ensures { (origin : Option (List (List ℕ))) → OriginAppended origin has_origin octets.now → result ≡ said_origin origin }
 {
@@ -152,8 +153,8 @@ fn included_origin(has_origin: bool, octets: &[u8]) -> Known
     }
 }
 
-/// Tells what a reader gave: a record with its owner, a file to include, an error, or that nothing is
-/// left.
+/// Reports what a reader returned: a record with its owner, a file to include, an error, or that
+/// nothing is left.
 fn tell_given(
     given: Option<Result<EntryRead, RecordError>>,
     reader: &RecordReader,
@@ -209,7 +210,7 @@ fn tell_given(
     }
 }
 
-/// Tells that a zone is none that a call left.
+/// Reports that a zone was not left by a call.
 fn refuse_zone(outcome: &mut Outcome) -> u32
     ensures { TellsFault (at_start BadCursor) result outcome.new }
 {
@@ -217,16 +218,16 @@ fn refuse_zone(outcome: &mut Outcome) -> u32
     refuse(Fault { refusal, place: 0 }, outcome)
 }
 
-/// Whether what a reader gave is an error.
+/// Returns whether a reader's result is an error.
 fn is_refused(given: &Option<Result<EntryRead, RecordError>>) -> bool
     ensures { IsTrue result ↔ RefusalIsGiven given.now }
 {
     matches!(given, Some(Err(_)))
 }
 
-/// Gives the next record as [`dnstext_record_next`] does, with room for the most data that there can be.
+/// Reads the next record as [`dnstext_record_next`] does, with capacity for the longest data.
 ///
-/// It stands apart, since the compiler fills so much room with zeros at each call.
+/// It is a function of its own, since the compiler fills its buffer with zeros at each call.
 #[cold]
 #[inline(never)]
 fn next_with_all_room(
@@ -263,14 +264,14 @@ fn next_with_all_room(
     )
 }
 
-/// Gives the next record of a zone file, and moves the zone on (RFC 1035 section 5.1, RFC 2308
-/// section 4). `$ORIGIN` and `$TTL` are taken on the way.
+/// Reads the next record of a zone file, and advances the zone (RFC 1035 section 5.1, RFC 2308
+/// section 4). `$ORIGIN` and `$TTL` are processed on the way.
 ///
-/// The octets are the record's data; or with [`INCLUDE`] those that name a file; or the text of an
-/// entry's refusal, at most 255 of them, cut to the room. A refusal is reported with its place, as a
-/// fault of the text is, and reading continues at the next entry, or after the line of the fault.
-/// Where data don't fit, nothing is written, and the zone stays. Once nothing is left the status is
-/// [`END`]. A zone past the end of the text, or with a name that is none, is refused.
+/// The octets are the record's data; or with [`INCLUDE`] the name of a file; or the text of an
+/// entry's error, at most 255 of them, cut to the buffer's length. Errors are reported with their
+/// place, and reading continues at the next entry, or after the line of a syntax error. If data
+/// doesn't fit, nothing is written, and the zone is unchanged. Once nothing is left the status is
+/// [`END`]. A zone past the end of the text, or with a name that is not valid, is rejected.
 #[unsafe(no_mangle)]
 pub extern "C" fn dnstext_record_next(
     text: &[u8],

@@ -5,7 +5,7 @@ ghost use Rattle.dns_text_c.specs.Status.{status_text};
 
 use crate::outcome::{Outcome, give};
 
-/// What a status says, in a few words.
+/// Returns the text of a status, in a few words.
 pub fn status_text(status: u32) -> &'static str
     ensures { result.now ≡ status_text status }
 {
@@ -50,7 +50,7 @@ pub fn status_text(status: u32) -> &'static str
     }
 }
 
-/// Gives the text of a status, also of an unknown one.
+/// Writes the text of a status, also of an unknown one.
 #[unsafe(no_mangle)]
 pub extern "C" fn dnstext_status_text(status: u32, text: &mut [u8], outcome: &mut Outcome) -> u32
     ensures { TellsOctets (status_text status) text.old result text.new outcome.new }

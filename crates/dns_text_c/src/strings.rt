@@ -1,4 +1,4 @@
-//! Character strings, read and printed.
+//! Parses and prints character strings.
 ghost use Rattle.std.specs.Prelude.{◌≡◌, ◌*◌, ◌+◌, ◌≤◌, ◌++◌, Ok, length, IfOk, IfErr};
 ghost use Rattle.dns_symbol.specs.Symbol.{spell};
 ghost use Rattle.dns_symbol.specs.Index.{ReadsAt};
@@ -13,10 +13,10 @@ use arrayvec::ArrayVec;
 use dns_charstr::octet_text::octet_at;
 use dns_symbol::symbol::{Symbol, SymbolCharsError, SymbolOctetsError};
 
-/// The most octets of a character string.
+/// Greatest number of octets of a character string.
 const MOST: usize = 255;
 
-/// The most characters of a text: four of each octet, and two double quotes.
+/// Greatest number of characters of a text: four for each octet, and two double quotes.
 const TEXT: usize = 1022;
 
 /// A printed form of character strings.
@@ -30,7 +30,7 @@ pub(crate) enum Form {
     Unquoted,
 }
 
-/// The symbol of an octet in a form.
+/// Returns the symbol of an octet in a form.
 fn symbol_in(form: Form, octet: u8) -> Symbol
     ensures { result ≡ symbol_of (escape_of form) octet }
 {
@@ -73,7 +73,7 @@ fn put_octets(form: Form, octets: &[u8], text: &mut ArrayVec<u8, TEXT>)
     }
 }
 
-/// The text of a character string in a form.
+/// Returns the text of a character string in a form.
 fn text_in(form: Form, octets: &[u8]) -> ArrayVec<u8, TEXT>
     requires { length octets.now ≤ max_string }
     ensures { result.items ≡ string_text form octets.now }
@@ -129,7 +129,8 @@ pub extern "C" fn dnstext_charstr_print_quoted(
     print_string(Form::Quoted, octets, text, outcome)
 }
 
-/// Prints a character string as a word of zone text. No octets print nothing, which is no word.
+/// Prints a character string as a word of a zone file. No octets print an empty text, which is not
+/// a word.
 #[unsafe(no_mangle)]
 pub extern "C" fn dnstext_charstr_print_unquoted(
     octets: &[u8],
@@ -141,7 +142,7 @@ pub extern "C" fn dnstext_charstr_print_unquoted(
     print_string(Form::Unquoted, octets, text, outcome)
 }
 
-/// Why no symbol stands among octets.
+/// Returns why octets don't begin with a symbol.
 fn refusal_of(error: SymbolOctetsError) -> Refusal
     ensures { result ≡ refusal_of error }
 {
@@ -152,7 +153,7 @@ fn refusal_of(error: SymbolOctetsError) -> Refusal
     }
 }
 
-/// The symbol at a place, if the octets go on there, and the place after it.
+/// Returns the symbol at an offset and the offset after it, or `None` at the end of the octets.
 pub(crate) fn symbol_at(text: &[u8], place: usize) -> Result<Option<(Symbol, usize)>, Fault>
     ensures reads { IfOk result (λ found. ReadsAt text.now place (Ok found)) }
     ensures refused { IfErr result (RefusesSymbol text.now place) }
@@ -167,7 +168,7 @@ pub(crate) fn symbol_at(text: &[u8], place: usize) -> Result<Option<(Symbol, usi
     }
 }
 
-/// The octets of a text's symbols, or the first fault.
+/// Parses a text, and returns the octets of its symbols or the first error.
 fn read_string(text: &[u8]) -> Result<ArrayVec<u8, MOST>, Fault>
     ensures { ReadsString text.now (string_octets result) }
 {
@@ -188,10 +189,10 @@ fn read_string(text: &[u8]) -> Result<ArrayVec<u8, MOST>, Fault>
     Ok(octets)
 }
 
-/// Reads the text of a character string: the octets of its symbols (RFC 1035 section 5.1).
+/// Parses the text of a character string: the octets of its symbols (RFC 1035 section 5.1).
 ///
-/// Symbols are handled in order. What is no symbol is refused first, then a symbol after 255
-/// octets, then one that has no octet. The first fault is told, with its place.
+/// Symbols are parsed in order. At each, these are checked in this order: no symbol; a symbol after
+/// 255 octets; a symbol that has no octet. The first error is reported, with its place.
 #[unsafe(no_mangle)]
 pub extern "C" fn dnstext_charstr_read(text: &[u8], octets: &mut [u8], outcome: &mut Outcome) -> u32
     ensures { TellsString text.now octets.old result octets.new outcome.new }
@@ -202,7 +203,7 @@ pub extern "C" fn dnstext_charstr_read(text: &[u8], octets: &mut [u8], outcome: 
     }
 }
 
-/// Why no octet is spelled in a text.
+/// Returns why a text doesn't spell an octet.
 fn refusal_of_escape(error: SymbolCharsError) -> Refusal
     ensures { result ≡ refusal_of_escape error }
 {
@@ -212,7 +213,8 @@ fn refusal_of_escape(error: SymbolCharsError) -> Refusal
     }
 }
 
-/// The octet that is spelled at a place, if the text goes on there, and the place after it.
+/// Returns the octet that is spelled at an offset and the offset after it, or `None` at the end of
+/// the text.
 fn spelled_at(text: &[u8], place: usize) -> Result<Option<(u8, usize)>, Fault>
     ensures reads { IfOk result (λ found. OctetAt text.now place (Ok found)) }
     ensures refused { IfErr result (RefusesOctet text.now place) }
@@ -227,7 +229,7 @@ fn spelled_at(text: &[u8], place: usize) -> Result<Option<(u8, usize)>, Fault>
     }
 }
 
-/// The octets that a text spells, or the first fault.
+/// Returns the octets that a text spells, or the first error.
 fn read_octets(text: &[u8]) -> Result<ArrayVec<u8, MOST>, Fault>
     ensures { ReadsOctetString text.now (string_octets result) }
 {
@@ -244,12 +246,12 @@ fn read_octets(text: &[u8]) -> Result<ArrayVec<u8, MOST>, Fault>
     Ok(octets)
 }
 
-/// Reads a text of a character string in which each octet but the backslash stands for itself: a
-/// tab and the octets from 0x80 to 0xFF too, as name servers read it (RFC 1035 section 5.1).
+/// Parses a text of a character string in which each octet but the backslash is itself: a tab and
+/// the octets from 0x80 to 0xFF too, as name servers parse it (RFC 1035 section 5.1).
 ///
-/// A backslash and three digits are the octet of that number, and a backslash and an octet that is
-/// no digit are that octet, whichever it is. What is no escape, or is cut short, is refused first,
-/// then an octet after 255 others. The first fault is told, with its place.
+/// A backslash and three digits are the octet of that number, and a backslash and an octet other
+/// than a digit are that octet, whichever it is. An escape that is not valid, or is cut short, is
+/// checked first, then an octet after 255 others. The first error is reported, with its place.
 #[unsafe(no_mangle)]
 pub extern "C" fn dnstext_charstr_read_octets(
     text: &[u8],

@@ -1,4 +1,4 @@
-//! Zone text, entry by entry (RFC 1035 section 5.1).
+//! Splits a zone file entry by entry (RFC 1035 section 5.1).
 //!
 //! An octet of 0x80 or more counts as a character of its own, so that comments needn't be UTF-8.
 //! Flags are octets, which C declares as `bool`: one of Rattle would ask for memory that C has set.
@@ -11,7 +11,7 @@ use crate::outcome::{END, Fault, OK, Outcome, Refusal, number_of, refuse};
 use dns_split::opening::outermost_open_of_octets;
 use dns_split::pieces::{EndOfEntry, Fault as TextFault, Piece, Pieces, Wrong};
 
-/// A token of zone text: the octets from `start` to before `end`.
+/// A token of a zone file: the octets from `start` to before `end`.
 #[repr(C)]
 #[derive(Clone, Copy, Debug, PartialEq, Eq)]
 pub struct Token {
@@ -21,19 +21,18 @@ pub struct Token {
     pub is_quoted: u8,
 }
 
-/// Where a zone text is read on.
+/// The position where splitting a zone file continues.
 #[repr(C)]
 #[derive(Clone, Copy, Debug, PartialEq, Eq)]
 pub struct Cursor {
-    /// Where the next entry begins. It is 0 at first.
+    /// Offset of the next entry. It is 0 at first.
     pub at: usize,
-    /// 1 where the entry given last began with a blank: such a record takes the owner of the one
-    /// before.
+    /// 1 if the last entry began with a blank. Such a record has the owner of the one before.
     pub begins_blank: u8,
     /// 1 once nothing is left. It is 0 at first.
     pub is_done: u8,
-    /// Where the double quote stands that isn't closed, or the outermost parenthesis, after these
-    /// faults; else it stays as it was.
+    /// After an error of an open double quote or parenthesis, the offset of the double quote or of
+    /// the outermost parenthesis; else unchanged.
     pub opened: usize,
 }
 
@@ -42,13 +41,13 @@ pub struct Cursor {
 pub(crate) enum Stop {
     /// It ends, and is the text's last one or not.
     End(EndOfEntry, bool),
-    /// The text goes wrong.
+    /// A syntax error stops it.
     Fault(TextFault),
-    /// There is no entry.
+    /// The text has no further entry.
     Nothing,
 }
 
-/// What comes next in an entry.
+/// The next part of an entry.
 #[derive(Clone, Copy)]
 pub(crate) enum Step {
     Token(Token),
@@ -56,14 +55,14 @@ pub(crate) enum Step {
     Stop(Stop),
 }
 
-/// The octet of a truth value, as C has it.
+/// Returns the octet of a truth value, as C has it.
 pub(crate) fn bit(is_so: bool) -> u8
     ensures { result ≡ bit is_so }
 {
     if is_so { 1 } else { 0 }
 }
 
-/// The refusal of what is wrong in a text.
+/// Returns the status of a syntax error.
 pub(crate) fn refusal_of_wrong(wrong: Wrong) -> Refusal
     ensures { result ≡ refusal_of_wrong wrong }
 {
@@ -76,7 +75,8 @@ pub(crate) fn refusal_of_wrong(wrong: Wrong) -> Refusal
     }
 }
 
-/// Where what isn't closed was opened, in the octets from `at` on, if that is wrong.
+/// Returns the offset where what isn't closed was opened, in the octets from `at` on, if that is
+/// the error.
 fn opened_by(text: &[u8], at: usize, wrong: Wrong, otherwise: usize) -> usize
     requires within { at ≤ length text.now }
     requires open { wrong ≡ OpenParenthesis → IsLeftOpen (encode_utf8_all (drop at text.now)) }
@@ -92,7 +92,7 @@ fn opened_by(text: &[u8], at: usize, wrong: Wrong, otherwise: usize) -> usize
     }
 }
 
-/// Takes what comes next.
+/// Takes the next part.
 fn next_step(pieces: &mut Pieces) -> Step
     ensures { TakesPieces pieces.old result pieces.new }
 {
@@ -117,7 +117,7 @@ fn next_step(pieces: &mut Pieces) -> Step
     }
 }
 
-/// Puts a token at a place, if there is one.
+/// Copies a token to an index, if there is such an index.
 fn put_token(token: Token, place: usize, tokens: &mut [Token])
     ensures put { tokens.new ≡ slice_set tokens.old place token }
     ensures few { length tokens.old < 2 ^ 64 }
@@ -127,14 +127,14 @@ fn put_token(token: Token, place: usize, tokens: &mut [Token])
     }
 }
 
-/// How many tokens an entry has, and how it stops.
+/// The number of an entry's tokens, and how it stops.
 #[derive(Clone, Copy)]
 pub(crate) struct Entry {
     count: usize,
     stop: Stop,
 }
 
-/// Puts the tokens of the entry at a place into a slice, as many as fit.
+/// Copies the tokens of the entry from an offset on into a slice, as far as they fit.
 fn read_entry(text: &[u8], at: usize, tokens: &mut [Token]) -> Entry
     requires { at ≤ length text.now }
     ensures entry { NotesEntry text.now at tokens.old result tokens.new }
@@ -154,7 +154,7 @@ fn read_entry(text: &[u8], at: usize, tokens: &mut [Token]) -> Entry
     }
 }
 
-/// Tells how an entry stopped, and moves the cursor on.
+/// Reports how an entry stopped, and advances the cursor.
 fn tell_stop(
     text: &[u8],
     entry: Entry,
@@ -195,11 +195,12 @@ fn tell_stop(
     }
 }
 
-/// Gives the tokens of the next entry of a zone text by their places, and moves the cursor on.
+/// Writes the tokens of the next entry of a zone file by their offsets, and advances the cursor.
 ///
-/// The length is the number of tokens. Where they don't all fit, the first ones are given, the
-/// status says so, and the cursor stays. A fault is reported with its place, after those tokens before
-/// it that fit, and then the text is done. Once nothing is left the status is [`END`].
+/// The length is the number of tokens. If they don't all fit, the first ones are written, the
+/// status is [`Refusal::NoRoom`]'s, and the cursor is unchanged. A syntax error is reported with
+/// its place, after the tokens before it that fit, and then the text is done. Once nothing is left
+/// the status is [`END`].
 #[unsafe(no_mangle)]
 pub extern "C" fn dnstext_entry_next(
     text: &[u8],
