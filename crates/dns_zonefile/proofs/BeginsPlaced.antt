@@ -23,7 +23,7 @@ Parts = List (Result PartSeen Fault)
 abbrev ends_of : List EndOfEntry → Parts
 ends_of ends = map (λ e. Ok (EndIs e)) ends
 
--- ---- places are within the octets
+-- ---- offsets are within the octets
 
 abbrev PartsWithin : ℕ → Parts → Type 0
 PartsWithin n [] = ⊤
@@ -62,7 +62,7 @@ fits_source : (base n began : ℕ) (is_open : Bool) (parts : Parts) → base + n
 fits_source base n began true parts room b w = record { tokens = fits_tokens base n parts room w; end = omega (arith, room, fits_end n began parts b w) }
 fits_source base n began false parts room b w = record { tokens = tt; end = omega (arith, room, b) }
 
--- ---- the tokens, and what is behind them
+-- ---- the tokens, and the parts after them
 
 first_tokens : (b : Bool) (tokens : List TokenSeen) (behind : Parts) → tokens_first behind ≡ [] → tokens_first (parts_of b tokens ++ behind) ≡ tokens
 first_tokens b [] behind h = h
@@ -92,7 +92,7 @@ started (Ok (Some start)) s h = (h.0, h.1, h.2, h.3, refl)
 started (Ok None) s h = h
 started (Err f) s h = h
 
--- where a token comes first, none was passed
+-- if a token comes first, no end was skipped before it
 token_begun : (began first : ℕ) (is_open : Bool) (parts behind : Parts) (ends : List EndOfEntry) (b : Bool) (t : TokenSeen) (tokens : List TokenSeen) (at : ℕ) (r : Started)
     → Ok (TokenIs t b) ∷ (parts_of b tokens ++ behind) ≡ ends_of ends ++ parts → IsAtStart r (source_of began is_open parts) → tokens_first behind ≡ []
     → end_first began (behind_tokens behind) ≡ at → HasSeen (source_of began is_open parts) (t ∷ tokens) at
@@ -101,7 +101,7 @@ token_begun began first is_open parts behind [] b t tokens at (Ok (Some start)) 
 token_begun began first is_open parts behind [] b t tokens at (Ok None) eq h none k = let no : Ok (TokenIs t b) ∷ (parts_of b tokens ++ behind) ≡ [] = eq ∙ h.1 in cc
 token_begun began first is_open parts behind [] b t tokens at (Err f) eq h none k = let no : Ok (TokenIs t b) ∷ (parts_of b tokens ++ behind) ≡ Err f ∷ [] = eq ∙ h.1 in cc
 
--- a fault comes first
+-- a syntax error comes first
 fault_begun : (began : ℕ) (is_open : Bool) (parts : Parts) (ends : List EndOfEntry) (f : Fault) (r : Started)
     → Err f ∷ [] ≡ ends_of ends ++ parts → IsAtStart r (source_of began is_open parts) → HasSeen (source_of began is_open parts) [] f.at
 fault_begun began is_open parts (e ∷ ends) f r eq h = cc
@@ -109,7 +109,7 @@ fault_begun began is_open parts [] f (Ok (Some start)) eq h = elim (subst Begins
 fault_begun began is_open parts [] f (Ok None) eq h = let no : Err f ∷ [] ≡ [] = eq ∙ h.1 in cc
 fault_begun began is_open parts [] f (Err g) eq h = open_seen began is_open parts (Err f ∷ []) false [] f.at h.0 (sym eq) refl refl
 
--- an end comes first, and nothing behind it, or the end of an entry without octets
+-- an end comes first, and nothing after it, or the end of an entry without octets
 nothing_begun : (began : ℕ) (is_open : Bool) (parts : Parts) (at : ℕ) (r : Started) → [] ≡ parts → began ≡ at → IsAtStart r (source_of began is_open parts) → HasSeen (source_of began is_open parts) [] at
 nothing_begun began is_open parts at (Ok (Some start)) eq k h = elim (subst BeginsToken (sym eq) h.3) [ ]
 nothing_begun began is_open parts at (Ok None) eq k h = closed_seen began is_open parts at h.0 k
@@ -140,7 +140,7 @@ abbrev behind_stop : List ℕ → Result EndOfEntry Fault → List (Result Piece
 behind_stop octets (Ok end) left = Ok (EndIs end) ∷ seen_from octets end.at None left
 behind_stop octets (Err f) left = Err f ∷ []
 
--- what is left of an entry, or before a fault, once it is begun
+-- once an entry is begun: the part of it that is left, up to its end or a syntax error
 begun : (octets : List ℕ) (began first n : ℕ) (is_open : Bool) (parts : Parts) (ends : List EndOfEntry) (b : Bool) (tokens : List TokenSeen) (r : Started) (stop : Result EndOfEntry Fault) (left : List (Result Piece Fault))
     → parts_of b tokens ++ behind_stop octets stop left ≡ ends_of ends ++ parts → began ≡ last_end first ends → IsAtStart r (source_of began is_open parts) → IsAllBehind n stop left
     → HasSeen (source_of began is_open parts) tokens (stop_offset stop)

@@ -1,4 +1,4 @@
--- The next token of an entry, with its place among all octets.
+-- The next token of an entry, with its offset among all octets.
 use Rattle.std.proofs.Common.{◌≡◌, ℕ, ◌+◌, ◌<◌, ◌^◌, List, [], ◌∷◌, sym, ap, ◌∙◌, subst}
 use Rattle.std.specs.Prelude.{Option, Some, option_map, slice_get}
 use Rattle.std.proofs.lemmas.Option.{slice_get-map}

@@ -1,4 +1,4 @@
--- What is given of all octets that were added.
+-- What `next_entry` returns for all octets that were added.
 use Rattle.std.proofs.Common.{◌≡◌, ◌≢◌, ℕ, ◌+◌, ◌<◌, ◌≤◌, ◌^◌, Bool, true, false, List, [], ◌∷◌, ◌++◌, length, take, drop, refl, sym, ap, ◌∙◌, subst, arith, inl, inr, append-nil, length-drop}
 use Rattle.std.specs.Prelude.{◌⊎◌, ◌↔◌, IsTrue, map, Option, Some, None, Result, Ok, Err}
 use Rattle.std.proofs.lemmas.Bool.{cases_lt, false≢true}
@@ -34,14 +34,14 @@ first_of_bad : (found : List Piece) (f : Fault) → first_fault (map Ok found ++
 first_of_bad [] f = refl
 first_of_bad (p ∷ found) f = first_of_bad found f
 
--- so many octets are within the limit
+-- this number of octets is within the limit
 pub not_long : (limit len : ℕ) (b : Bool) → (IsTrue b ↔ (limit < len)) → b ≡ false → len ≤ limit
 not_long limit len b h e = elim (cases_lt limit len) [
   | inl less ↦ let t : IsTrue false = subst IsTrue e (h.1 less) in cc
   | inr most ↦ most
 ]
 
--- ---- a stop is among what is held
+-- ---- a stop is among the octets that are held
 
 module _ (c : Blocks) (within : c.next ≤ length c.octets) (ok : AreOctets (drop c.next c.octets)) where
   pub held_stop : (stop : Result ℕ Fault) → StandsFirst (drop c.next c.octets) c.is_finished (Some stop) → IsHeldStop c stop
@@ -54,7 +54,7 @@ module _ (c : Blocks) (within : c.next ≤ length c.octets) (ok : AreOctets (dro
       let bad = fault_of (drop c.next c.octets) _ f s.0.given.0 s.0.given.1 (first_of_bad s.0.found f) in
       (omega (arith, room, bad.0), λ i is. omega (arith, room, quote_within (drop c.next c.octets) f i bad.1 is))
 
--- ---- what is left to read
+-- ---- the text that is left
 
 blank_front : (rest more : List ℕ) → rest ≢ [] → blank_at (rest ++ more) 0 ≡ blank_at rest 0
 blank_front [] more h = absurd (h refl)
@@ -68,7 +68,7 @@ no_line : (skips : Bool) → after_line_if skips [] ≡ []
 no_line true = refl
 no_line false = refl
 
--- the next entry was sought
+-- the next entry was looked for
 module _ (all : List ℕ) (b m f : Blocks) (h : HoldsLast all b) (k : SkipsLine b m) (found : Option (Result ℕ Fault)) (n : FindsEntry m found f) where
   same_f : f ≡ record b { next = m.next; skips = m.skips; left = f.left }
   same_f = n.same ∙ ap (λ (x : Blocks). with_left x f.left) k.same
@@ -91,7 +91,7 @@ module _ (all : List ℕ) (b m f : Blocks) (h : HoldsLast all b) (k : SkipsLine 
   left_f : (more : List ℕ) → text_left b (all ++ more) ≡ held_left f more
   left_f more = left_ahead all b h more within_b ∙ sym (k.ahead_is more) ∙ ap (λ (x : Blocks). held_left x more) (sym n.same)
 
-  -- a line is not left to be skipped, where something is
+  -- if something is left, no line remains to be skipped
   no_skip : drop f.next f.octets ≢ [] → f.skips ≡ false
   no_skip some = ap (λ (x : Blocks). x.skips) n.same ∙ go k.skips
     where
@@ -107,13 +107,13 @@ module _ (all : List ℕ) (b m f : Blocks) (h : HoldsLast all b) (k : SkipsLine 
   some_left : drop f.next f.octets ≢ [] → (more : List ℕ) → text_left b (all ++ more) ≡ drop (place_of_next f) (all ++ more)
   some_left some more = left_f more ∙ ap (λ s. after_line_if s (drop f.next f.octets ++ more)) (no_skip some) ∙ sym (here more)
 
-  -- and behind so many more
+  -- the text that is left after `count` more octets
   further : (c : Blocks) (count : ℕ) (more : List ℕ) → c.start ≡ f.start → c.next ≡ f.next + count → text_left c (all ++ more) ≡ after_line_if c.skips (drop count (drop (place_of_next f) (all ++ more)))
   further c count more start next =
       ap (λ i. after_line_if c.skips (drop i (all ++ more))) (omega (arith, ap (λ (p : Place). p.at) start, next))
       ∙ ap (after_line_if c.skips) (sym (drop-drop count (place_of_next f) (all ++ more)))
 
--- ---- reading was put off, or nothing was left of a text that goes on
+-- ---- reading was put off, or nothing was left of a text that may continue
 
 module _ (room : Room) (all : List ℕ) (b m f c : Blocks) (state : State) (target : List ℕ) (h : HoldsLast all b) (k : SkipsLine b m) (n : FindsEntry m None f) (short : length (drop f.next f.octets) ≤ f.limit) (g : LetsRead f c) where
   left_c : (more : List ℕ) → text_left c (all ++ more) ≡ text_left b (all ++ more)
@@ -147,7 +147,7 @@ module _ (room : Room) (all : List ℕ) (b m f c : Blocks) (state : State) (targ
     };
   }
 
--- ---- an entry, or a fault, was found
+-- ---- an entry, or a syntax error, was found
 
 module _ (all : List ℕ) (b m f : Blocks) (h : HoldsLast all b) (k : SkipsLine b m) where
   module _ (end : EndOfEntry) (left : List (Result Piece Fault)) (n : FindsEntry m (Some (Ok end.at)) f) (x : StopsFirst (drop f.next f.octets) (Ok end) left) (why : (0 < length left) ⊎ (f.is_finished ≡ true)) where
@@ -251,7 +251,7 @@ module _ (room : Room) (all : List ℕ) (b m f c : Blocks) (before after : State
           (gives_end end left (subst (λ i. FindsEntry m (Some (Ok i)) f) back n) x why (omega (arith, short, e)) (subst (λ i. ReadsPending room f (Ok i) before old read after new) back reads) (subst (λ i. c ≡ after_stop f (Ok i)) back is))
   gives_some (Err e) n short reads is = gives_fault e n n.finds.3.0 n.finds.3.1 short reads is
 
--- ---- an entry was found whose end no octets that follow change
+-- ---- an entry was found, and its end does not depend on the octets that follow
 
 module _ (b : Blocks) (within : b.next ≤ length b.octets) (spans : List TokenSpan) (at : ℕ) (fills : FillsLine (drop b.next b.octets) spans at) where
   pub held_line : IsHeldStop b (Ok at)
@@ -293,7 +293,7 @@ module _ (room : Room) (all : List ℕ) (b m f c : Blocks) (state : State) (targ
   some_octets : (l : List ℕ) (i : ℕ) → i < length l → l ≢ []
   some_octets l i less e = omega (arith, less, ap length e)
 
-  -- the same is held where the next entry was sought
+  -- the same octets are held after the search for the next entry
   sought : FindsEntry m None f → length (drop m.next m.octets) ≡ length (drop f.next f.octets)
   sought n = ap (λ (x : Blocks). length (drop x.next x.octets)) (sym n.same)
 

@@ -1,4 +1,4 @@
--- Octets that are held, and what is left of a text.
+-- The octets that are held, and the text that is left.
 use Rattle.std.proofs.Common.{◌≡◌, ℕ, ◌+◌, ◌-◌, ◌≤◌, Bool, true, false, List, [], ◌++◌, length, take, drop, refl, sym, ap, ◌∙◌, subst, arith, append-nil, append_assoc, length-append, length-drop, take_all}
 use Rattle.std.proofs.Math.Seq.{drop-append-add, take-append-add}
 use Rattle.std.proofs.lemmas.List.{drop-append-le, drop_all, take-append-drop, length-take-le}
@@ -8,12 +8,12 @@ use Rattle.dns_split.specs.declared.position.Position.{Position}
 use Rattle.dns_zonefile.specs.Adding.{LetsRead}
 use Rattle.dns_zonefile.specs.Blocks.{Blocks, HoldsLast, IsPlaceOf, after_line_if, held_left, text_left}
 
--- from a place to the end
+-- from an offset to the end
 pub all_after : (n : ℕ) (l : List ℕ) → take (length l - n) (drop n l) ≡ drop n l
 all_after n l = take_all (length l - n) (drop n l) (omega (arith, length-drop n l))
 
 module _ (all : List ℕ) (b : Blocks) (h : HoldsLast all b) where
-  -- from a place on
+  -- from an offset on
   pub dropped : (n : ℕ) (more : List ℕ) → n ≤ length b.octets → drop (b.start.at + n) (all ++ more) ≡ drop n b.octets ++ more
   dropped n more within =
       ap (λ l. drop (b.start.at + n) (l ++ more)) h.is ∙ ap (drop (b.start.at + n)) (append_assoc h.before b.octets more) ∙ ap (λ i. drop (i + n) (h.before ++ (b.octets ++ more))) h.at
@@ -39,21 +39,21 @@ module _ (all : List ℕ) (b : Blocks) (h : HoldsLast all b) where
   pub holds_more : (block : List ℕ) → HoldsLast (all ++ block) (record b { octets = b.octets ++ block })
   holds_more block = record { before = h.before; is = ap (λ l. l ++ block) h.is ∙ append_assoc h.before b.octets block; at = h.at; position = h.position }
 
-  -- the position of a place
+  -- the position of an offset
   pub position_of : (n at : ℕ) (p : Position) → b.start.at + n ≡ at → n ≤ length b.octets → ((before : List ℕ) → IsAt 0 before b.start.position → IsAt 0 (before ++ take n b.octets) p) → IsPlaceOf all at p
   position_of n at p here within behind = (
     omega (arith, here, within, held_length),
     subst (λ k. IsAt 0 (take k all) p) here (subst (λ l. IsAt 0 l p) (sym (taken n)) (behind h.before h.position)),
   )
 
-  -- the octets from a place on
+  -- the octets from an offset on
   pub octets_behind : (n at : ℕ) → b.start.at + n ≡ at → n ≤ length b.octets → (at ≤ length all) × (drop n b.octets ≡ drop at all)
   octets_behind n at here within = (
     omega (arith, here, within, held_length),
     sym (ap (λ k. drop k all) (sym here) ∙ ap (drop (b.start.at + n)) (sym (append-nil all)) ∙ dropped n [] within ∙ append-nil (drop n b.octets)),
   )
 
-  -- nothing is left behind all of them
+  -- after the last octet nothing is left
   pub none_left : b.next ≡ length b.octets → text_left b all ≡ []
   none_left over = ap (after_line_if b.skips) (drop_all (b.start.at + b.next) all (omega (arith, over, held_length))) ∙ no_line b.skips
     where
@@ -61,7 +61,7 @@ module _ (all : List ℕ) (b : Blocks) (h : HoldsLast all b) where
       no_line true = refl
       no_line false = refl
 
-  -- what was read is let go
+  -- the octets that were read are dropped
   pub holds_rest : (c : Blocks) → LetsRead b c → HoldsLast all c
   holds_rest c g =
       let split : b.octets ≡ take b.next b.octets ++ drop b.next b.octets = sym (take-append-drop b.next b.octets) in
@@ -72,6 +72,6 @@ module _ (all : List ℕ) (b : Blocks) (h : HoldsLast all b) where
         position = g.position h.before h.position;
       }
 
--- the same is left to read
+-- the text that is left is unchanged
 pub ahead_rest : (b c : Blocks) (more : List ℕ) → LetsRead b c → held_left c more ≡ held_left b more
 ahead_rest b c more g = ap (λ (x : Blocks). held_left x more) g.same

@@ -1,4 +1,4 @@
--- What is seen of a text whose tokens stand apart, in lines that begin with no blank.
+-- What is seen of a text whose tokens are not adjacent, in lines that don't begin with a blank.
 use Rattle.std.proofs.Common.{◌≡◌, ℕ, zero, suc, ◌+◌, ◌-◌, ◌<◌, ◌≤◌, Bool, true, false, true≢false, List, [], ◌∷◌, ◌++◌, length, drop, refl, sym, ap, ◌∙◌, subst, arith, append_assoc, append-nil, length-append}
 use Rattle.std.specs.Prelude.{⊤, ◌&&◌, ◌==◌, not, map, Option, Some, None, Result, Ok, Err}
 use Rattle.std.specs.List.{AllByRecursion, flat_map, list_all}
@@ -38,7 +38,7 @@ not_both x w q =
     let same = pieces_one_way x (pieces 0 0 false (Word p.0 p.1 ∷ [])) (pieces 0 0 false (Quote q.symbols ∷ [])) p.2 (quote_pieces x q) in
     cc
 
--- ---- a text begins with no blank where its lexemes don't
+-- ---- a text doesn't begin with a blank if its lexemes don't
 
 no_blank : (c : ℕ) → is_word_symbol (Char c) ≡ true → is_blank c ≡ false
 no_blank c h = by (c == 32) (c == 9) refl refl
@@ -76,13 +76,13 @@ begins_tight d (Word y ss ∷ ls) v t = word_first y ss (flat_map lexeme_bytes l
 abbrev pub IsSpelledSo : TokenSeen → Type 0
 IsSpelledSo t = (t.is_quoted ≡ false → IsWord (spelled t)) × (t.is_quoted ≡ true → IsQuote (spelled t))
 
--- a token that stands apart in an entry that begins with no blank; or an entry's end
+-- a token that is not adjacent, in an entry that doesn't begin with a blank; or an entry's end
 abbrev pub IsSound : Result PartSeen Fault → Type 0
 IsSound (Ok (TokenIs t b)) = (b ≡ false) × (t.is_glued ≡ false) × IsSpelledSo t
 IsSound (Ok (EndIs e)) = ⊤
 IsSound (Err f) = ⊥
 
--- a token has ended in front of a place, or at it where one is directly before
+-- a token has ended before an offset, or at it if one comes directly before
 abbrev EndedBefore : Option ℕ → ℕ → Bool → Type 0
 EndedBefore None at behind = ⊤
 EndedBefore (Some e) at behind = (e ≤ at) × (behind ≡ false → e < at)
@@ -111,7 +111,7 @@ blank_some true = omega (arith, ap length (blank_bytes true))
 blank_some false = omega (arith, ap length (blank_bytes false))
 
 module _ (text : List ℕ) where
-  -- these lexemes come at a place
+  -- these lexemes come at an offset
   record StandsAt (before : List ℕ) (at : ℕ) (ls : List Lexeme) : Type 0 where
     pub is : before ++ flat_map lexeme_bytes ls ≡ text
     pub place : at ≡ length before
@@ -179,7 +179,7 @@ module _ (text : List ℕ) where
         sound ls _ began _ d (Some (at + length (lexeme_bytes (Quote ss)))) false true b (on before at (Quote ss) ls s) (and_parts (is_lexeme (Quote ss) && may_precede (Quote ss) ls) (are_lexemes ls) v).1 n t first.1 clear (at_end _),
       )
 
--- of such lexemes each part that is seen is sound
+-- each part that is seen of such lexemes is sound
 pub all_sound : (text : List ℕ) (ls : List Lexeme) → flat_map lexeme_bytes ls ≡ text → are_lexemes ls ≡ true → nests 0 ls ≡ true → is_tight true 0 ls ≡ true → stands_apart false ls ≡ true
     → AllByRecursion IsSound (seen_from text 0 None (map Ok (pieces 0 0 (begins_blank ls) ls)))
 all_sound text ls s v n t a =

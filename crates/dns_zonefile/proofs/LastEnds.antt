@@ -1,4 +1,4 @@
--- What is given of whole octets ends with an entry's end, at theirs.
+-- The pieces of whole octets end with an entry's end, which is the end of the octets.
 use Rattle.std.proofs.Common.{◌≡◌, ℕ, ◌≤◌, Bool, false, List, [], ◌∷◌, ◌++◌, length, refl, sym, ap, ◌∙◌, subst, arith, inl, inr, take_all}
 use Rattle.std.specs.Prelude.{map, Result, Ok, encode_utf8_all}
 use Rattle.std.proofs.lemmas.Bool.{cases_lt}
@@ -53,7 +53,7 @@ not_end g (QuoteAt p) n b h e = cc
 not_end g (CommentAt p) n b h e = cc
 not_end g (EndAt p) n b h e = elim h [ ]
 
--- an entry that is open is not all
+-- an entry that is still open is not the last piece
 pub some_end : (octets : List ℕ) (found : List Piece) → HasNoEnd found → IsGiven octets (map Ok found) → ⊥
 some_end octets found h g =
     let e = last_end octets (word_at 0 0) found g in

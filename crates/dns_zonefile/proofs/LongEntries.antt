@@ -84,7 +84,7 @@ stops_first text blank tokens (Ok end) b =
 stops_first text blank tokens (Err f) b =
     let s = stopped text blank (Err f) [] b.0 0 None tokens b.2 in (s.left, record { found = s.found; is_open = s.is_open; given = subst (IsGiven text) s.is b.1 })
 
--- ---- a fault before the end of octets is theirs, whatever follows
+-- ---- a syntax error before the end of octets is theirs, whatever follows
 
 last_fault : (found : List Piece) (f : Fault) (left : List (Result Piece Fault)) → first_fault (map Ok found ++ Err f ∷ left) ≡ Some f
 last_fault [] f left = refl
@@ -94,7 +94,7 @@ fault_kept : (o : Option Piece) (given : List (Result Piece Fault)) → first_fa
 fault_kept None given = refl
 fault_kept (Some p) given = refl
 
--- it is not before the place from which octets are read
+-- the error is not before the offset from which octets are read
 at_end : (m : Mode) (d s at : ℕ) (b : Bool) (f : Fault) → first_fault (run m d s at b []) ≡ Some f → at ≤ f.at
 at_end m d s at b f h = go (may_end m d) h
   where
@@ -163,7 +163,7 @@ first_same : (octets more : List ℕ) → 0 < length octets → first_blank (oct
 first_same [] more h = absurd (omega (arith, h))
 first_same (c ∷ octets) more h = refl
 
--- ---- what is behind the limit
+-- ---- after the limit
 
 module _ (octets more : List ℕ) (ok : AreOctets octets) (m : AreOctets more) where
   whole : AreOctets (octets ++ more)
@@ -190,7 +190,7 @@ module _ (octets more : List ℕ) (ok : AreOctets octets) (m : AreOctets more) w
       let same : take end.at (octets ++ more) ++ rest ≡ octets = ap (λ l. l ++ rest) (take-append-le end.at octets more (omega (arith, within))) ∙ take-append-drop end.at octets in
       (later end.at alone, record { found = x.found; is_open = x.is_open; given = subst (λ l. IsGiven l (map Ok x.found ++ Ok (EndAt end) ∷ later end.at alone)) same stay })
 
-  -- octets that begin with no entry as yet: the end, and a fault, are no sooner than theirs
+  -- octets that don't begin with a finished entry yet: the end of their first entry, and its syntax error, come after all of them
   pub not_within : StandsFirst octets false None → (stop : Result EndOfEntry Fault) (left : List (Result Piece Fault)) → StopsFirst (octets ++ more) stop left → length octets ≤ stop_offset stop
   not_within s stop left x = elim (cases_lt (stop_offset stop) (length octets)) [
     | inr most ↦ most
@@ -210,7 +210,7 @@ module _ (octets more : List ℕ) (ok : AreOctets octets) (m : AreOctets more) w
       sooner (Ok end) left x less none = let own = entry_comes end left x less in against (Ok end) own.0 own.1 less none
       sooner (Err f) left x less none = against (Err f) left (fault_comes f left x less) less none
 
--- the same stop, whatever is said of the first entry
+-- one stop, whatever the tokens of the first entry are
 pub one_stop : (text : List ℕ) (a b : Bool) (s t : List TokenSeen) (x y : Result EndOfEntry Fault) → BeginsEntryWith text a s x → BeginsEntryWith text b t y → x ≡ y
 one_stop text a b s t x y h k =
     let l = stops_first text a s x h in

@@ -1,8 +1,8 @@
--- The modes of the reader, whose names its crate keeps to itself: each is where a step leads.
+-- The modes of the reader, whose names are private to its crate: each is the mode after a step.
 use Rattle.std.specs.Prelude.{⊤, Option, Some, None}
 use Rattle.dns_split.specs.Reader.{home, kind, move_to, outside_step}
 
--- a type, by a function or a value that has it
+-- a type, found from a function or a value of that type
 abbrev result_of : {A B : Type 0} → (A → B) → Type 0
 result_of {A} {B} f = B
 
@@ -12,7 +12,7 @@ third_of {A} {B} {C} {D} f = C
 abbrev item_of : {A : Type 0} → Option A → Type 0
 item_of {A} o = A
 
--- where the reader stands, where an octet leads it, and what it does there
+-- the reader's mode, the move of an octet to another, and what the reader does then
 abbrev pub Mode : Type 0
 Mode = result_of home
 
@@ -30,6 +30,6 @@ abbrev behind : (o : Option Move) → IsMove o → Mode
 behind (Some v) h = v.mode
 behind None h = elim h [ ]
 
--- behind a space no token is open
+-- after a space no token is open
 abbrev pub Outside : Mode
 Outside = behind (outside_step 0 (kind 32)) tt

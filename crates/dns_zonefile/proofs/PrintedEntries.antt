@@ -1,4 +1,4 @@
--- A text of records has an entry for each, with the tokens that the record is printed as.
+-- A text of records has an entry for each record, with the tokens of the printed record.
 use Rattle.std.proofs.Common.{◌≡◌, ℕ, ◌<◌, ◌^◌, Bool, true, false, List, [], ◌∷◌, ◌++◌, length, drop, take, refl, sym, ap, ◌∙◌, subst, arith, inl, append_assoc, append-nil, length-append}
 use Rattle.std.specs.Prelude.{⊤, if◌then◌else◌, map, None, Ok, Err}
 use Rattle.std.specs.List.{AllByRecursion, filter}
@@ -31,7 +31,7 @@ use Rattle.dns_zonefile.proofs.LaidTokens.{IsSound, all_sound, not_both}
 use Rattle.dns_zonefile.proofs.RecordWords.{IsWell, data_is_well, head_is_well, well_token}
 use Rattle.dns_zonefile.proofs.SeenEntries.{IsApart, IsSoundEntry, counted_again, regrouped, regrouped_spelled, sound_entries}
 
--- ---- a token that is spelled as one that is printed
+-- ---- a token that is spelled as a printed one
 
 snoc_cancel : (xs ys : List ℕ) (z : ℕ) → xs ++ z ∷ [] ≡ ys ++ z ∷ [] → xs ≡ ys
 snoc_cancel xs ys z e =
@@ -100,7 +100,7 @@ module _ {N O : Type 0} (r : Record N O) where
       ∙ steps_before (head_tokens r) (begin ∷ (datas ++ end ∷ newline ∷ rest)) (map token_bytes others ++ []) (document_entries rest) (steps_before others (end ∷ newline ∷ rest) [] (document_entries rest) refl)
       ∙ ap (λ l. l ∷ document_entries rest) (ap (λ l. map token_bytes (head_tokens r) ++ l) (append-nil (map token_bytes others)) ∙ sym (map-append token_bytes (head_tokens r) others))
 
-  -- its values, and its time to live
+  -- the values of a record, and its TTL
   abbrev pub IsShown : Type 0
   IsShown = AreRecordValues r × (r.ttl < 2 ^ 31)
 
@@ -124,7 +124,7 @@ module _ {N O : Type 0} where
   lines_formed : (records : List (Record N O)) → AllByRecursion IsShown records → IsWellFormed (lines_of record_document records)
   lines_formed records h = (nested_lines record_document record_nests records, lines_proper records h)
 
--- ---- an entry for each
+-- ---- one entry for each record
 
 pub record IsEntryOf {N O : Type 0} (r : Record N O) (e : TextEntry) : Type 0 where
   pub blank : e.begins_blank ≡ false
@@ -147,7 +147,7 @@ none_counts e s none = by e.begins_blank e.tokens e.end s.ends none
     by b [] (Err f) is h = cc
     by b (t ∷ ts) stop is h = cc
 
--- and one with some does
+-- and one with tokens does
 some_counts : (e : TextEntry) (entries : List TextEntry) (first : List ℕ) (rest : List (List ℕ)) → spelled_tokens e ≡ first ∷ rest → filter entry_counts (e ∷ entries) ≡ e ∷ filter entry_counts entries
 some_counts e entries first rest is = by e.begins_blank e.tokens e.end is
   where

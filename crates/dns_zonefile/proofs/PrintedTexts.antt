@@ -1,4 +1,4 @@
--- The records of a text that is printed of them are read one by one.
+-- The records of a printed text are read one by one.
 use Rattle.std.proofs.Common.{◌≡◌, ℕ, zero, suc, ◌+◌, ◌<◌, ◌≤◌, ◌^◌, false, List, [], ◌∷◌, ◌++◌, length, take, get_or, arith, refl, sym, ap, ◌∙◌, subst, append_assoc, append-nil, Some, Result, Ok, Err}
 use Rattle.std.specs.Prelude.{map}
 use Rattle.std.specs.List.{AllByRecursion}
@@ -33,7 +33,7 @@ use Rattle.dns_zonefile.specs.PrintedTexts.{AreRecordsGiven, IsRecordGiven, IsTe
 use Rattle.dns_zonefile.proofs.PrintedEntries.{AreEntriesOf, IsEntryOf, IsShown, entries_of_text, text_splits}
 use Rattle.dns_zonefile.proofs.ReadBack.{printed_read, says_whole}
 
--- ---- a record says nothing of the origin
+-- ---- a record doesn't change the origin
 
 quiet_ttl : (t : RecordTtl) → Silent origin_said (minimum_of_ttl t)
 quiet_ttl (Own ttl) = tt

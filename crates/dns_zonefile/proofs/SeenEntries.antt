@@ -13,7 +13,7 @@ use Rattle.dns_zonefile.proofs.LaidTokens.{IsSound, IsSpelledSo}
 abbrev entry_with : Bool → List TokenSeen → Result EndOfEntry Fault → TextEntry
 entry_with blank tokens end = record { begins_blank = blank; tokens = tokens; end = end }
 
--- a token before those of the first entry
+-- a token that comes before those of the first entry
 abbrev with_first : TokenSeen → Bool → List TextEntry → List TextEntry
 with_first t b [] = entry_with b (t ∷ []) (Ok (record { at = t.at; begins_blank = b })) ∷ []
 with_first t b (e ∷ entries) = entry_with b (t ∷ e.tokens) e.end ∷ entries
@@ -24,7 +24,7 @@ regrouped (Ok (TokenIs t b) ∷ parts) = with_first t b (regrouped parts)
 regrouped (Ok (EndIs e) ∷ parts) = entry_with false [] (Ok e) ∷ regrouped parts
 regrouped (Err f ∷ parts) = entry_with false [] (Err f) ∷ regrouped parts
 
--- ---- those with tokens are what they were
+-- ---- entries with tokens stay as they were
 
 abbrev blank_if : List TokenSeen → Bool → Bool
 blank_if [] b = false
@@ -55,7 +55,7 @@ counted_again (e ∷ entries) h =
     ap (filter entry_counts) (one_entry e.begins_blank e.tokens e.end rest)
     ∙ same_counted e.begins_blank e.tokens e.end (regrouped rest) entries rest h (counted_again entries (behind_entry tokens rest h))
 
--- ---- their tokens as they are spelled
+-- ---- the spellings of their tokens
 
 with_first_spelled : (t : TokenSeen) (b : Bool) (entries : List TextEntry) → map spelled_tokens (with_first t b entries) ≡ with_token (spelled t) (map spelled_tokens entries)
 with_first_spelled t b [] = refl
@@ -67,13 +67,13 @@ regrouped_spelled (Ok (TokenIs t b) ∷ parts) h = with_first_spelled t b (regro
 regrouped_spelled (Ok (EndIs e) ∷ parts) h = ap (λ l. [] ∷ l) (regrouped_spelled parts h.1)
 regrouped_spelled (Err f ∷ parts) h = absurd h.0
 
--- ---- and what each is
+-- ---- which entries these are
 
--- a token that stands apart, and is a word or a quoted text
+-- a token that is not adjacent, and is a word or quoted text
 abbrev pub IsApart : TokenSeen → Type 0
 IsApart t = (t.is_glued ≡ false) × IsSpelledSo t
 
--- an entry that begins with no blank and has an end, and whose tokens stand apart
+-- an entry that doesn't begin with a blank and has an end, and whose tokens are not adjacent
 pub record IsSoundEntry (e : TextEntry) : Type 0 where
   pub blank : e.begins_blank ≡ false
   pub tokens : AllByRecursion IsApart e.tokens

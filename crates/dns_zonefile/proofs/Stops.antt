@@ -1,4 +1,4 @@
--- The first entry of octets, and of what they begin.
+-- The first entry of octets, and of a text that begins with them.
 use Rattle.std.proofs.Common.{◌≡◌, ℕ, ◌+◌, ◌-◌, ◌<◌, ◌≤◌, Bool, true, false, List, [], ◌∷◌, ◌++◌, length, take, drop, refl, sym, ap, ◌∙◌, subst, arith, inl, inr, append-nil, append_assoc, length-drop, length-take-le, take_all}
 use Rattle.std.specs.Prelude.{◌⊎◌, ◌↔◌, IsTrue, map, Option, Some, None, Result, Ok, Err, encode_utf8_all}
 use Rattle.std.proofs.lemmas.Bool.{cases_lt}
@@ -51,7 +51,7 @@ open_on given left now p e k x = record {
 pub ends_here : (octets : List ℕ) (given left now : List (Result Piece Fault)) (end : EndOfEntry) → now ≡ Ok (EndAt end) ∷ left → IsGiven octets given → Open given now → StopsFirst octets (Ok end) left
 ends_here octets given left now end e g x = record { found = x.found; is_open = x.is_open; given = subst (IsGiven octets) (x.is ∙ ap (λ l. map Ok x.found ++ l) e) g }
 
--- a line that is passed over is the first entry
+-- a line that is skipped is the first entry
 some_left : (left : List (Result Piece Fault)) → (left ≡ [] → ⊥) → 0 < length left
 some_left [] h = absurd (h refl)
 some_left (x ∷ left) h = omega arith
@@ -61,7 +61,7 @@ pub passed_first : (octets : List ℕ) (last : Bool) (given left : List (Result 
 passed_first octets last given left at g p =
     (p.end, left, record { found = p.found; is_open = p.is_open; given = subst (IsGiven octets) p.is g }, p.ends_at, inl (some_left left p.some))
 
--- a fault comes last
+-- a syntax error comes last
 oks_no_fault : (xs ys : List Piece) (f : Fault) (l : List (Result Piece Fault)) → map Ok xs ++ Err f ∷ l ≡ map Ok ys → ⊥
 oks_no_fault [] [] f l e = cc
 oks_no_fault [] (y ∷ ys) f l e = cc
@@ -102,7 +102,7 @@ before_end at n b h e = elim (cases_lt at n) [
   | inr most ↦ let t : IsTrue false = subst IsTrue e (h.1 most) in cc
 ]
 
--- ---- what is seen of them
+-- ---- what is seen of the first entry
 
 module _ (octets : List ℕ) (began : ℕ) where
   pub seen_end : (ended : Option ℕ) (found : List Piece) (end : EndOfEntry) (left : List (Result Piece Fault)) → HasNoEnd found
@@ -121,7 +121,7 @@ module _ (octets : List ℕ) (began : ℕ) where
   seen_fault ended (CommentAt p ∷ found) f h = seen_fault ended found f h
   seen_fault ended (EndAt e ∷ found) f h = elim h [ ]
 
--- ---- tokens stand among the first octets
+-- ---- tokens are among the first octets
 
 between_front : (base extra : List ℕ) (s e : ℕ) → e ≤ length base → between (base ++ extra) s e ≡ between base s e
 between_front base extra s e h = elim (cases_lt (length base) s) [
@@ -158,7 +158,7 @@ begins_fault text base extra found f is w h g =
     let tokens : piece_tokens text None found ≡ piece_tokens base None found = ap (λ l. piece_tokens l None found) (sym is) ∙ tokens_front base extra None found w in
     (map Ok found ++ Err f ∷ [], g, ap (λ t. parts_of (blank_at text 0) t ++ Err f ∷ []) (sym tokens) ∙ sym (seen_fault text 0 None found f h))
 
--- ---- an entry stands alone, and stays whatever follows
+-- ---- an entry is read alone, and is the same whatever follows
 
 none_given : IsGiven [] (Ok (end_at 0 false) ∷ [])
 none_given = run_given [] refl
@@ -173,7 +173,7 @@ module _ (rest : List ℕ) (ok : AreOctets rest) (end : EndOfEntry) where
   all_taken : (x : StopsFirst rest (Ok end) []) → take end.at rest ≡ rest
   all_taken x = take_all end.at rest (omega (arith, ends_all rest x.found end x.given))
 
-  -- the octets up to its end are it alone
+  -- the octets up to its end are the entry alone
   pub alone : (left : List (Result Piece Fault)) (x : StopsFirst rest (Ok end) left)
       → (behind : List (Result Piece Fault)) × IsGiven (take end.at rest) (map Ok x.found ++ Ok (EndAt end) ∷ behind) × IsAllBehind (length (take end.at rest)) (Ok end) behind
   alone [] x = ([], subst (λ l. IsGiven l (map Ok x.found ++ Ok (EndAt end) ∷ [])) (sym (all_taken x)) x.given, sym (taken_length [] x))
@@ -190,7 +190,7 @@ module _ (rest : List ℕ) (ok : AreOctets rest) (end : EndOfEntry) where
   pub found_within : (left : List (Result Piece Fault)) (x : StopsFirst rest (Ok end) left) → EachWithin (length (take end.at rest)) (map Ok x.found)
   found_within left x = let a = alone left x in within_before _ x.found (Ok (EndAt end) ∷ a.0) a.1.1
 
-  -- and stay so
+  -- the entry is the same, whatever follows
   pub stays : (left : List (Result Piece Fault)) (x : StopsFirst rest (Ok end) left) (more : List ℕ) → AreOctets more → (left ≡ [] → more ≡ [])
       → BeginsEntryWith (rest ++ more) (blank_at (rest ++ more) 0) (piece_tokens (take end.at rest) None x.found) (Ok end)
   stays [] x more m none =
@@ -211,7 +211,7 @@ module _ (rest : List ℕ) (ok : AreOctets rest) (end : EndOfEntry) where
           begins_end (rest ++ more) (take end.at rest) tail x.found end (later end.at own) shape (found_within (y ∷ left) x) x.is_open
           (subst (λ l. IsGiven l (map Ok x.found ++ Ok (EndAt end) ∷ later end.at own)) shape stay)
 
--- and so does a fault
+-- and so is a syntax error
 pub fault_stays : (rest : List ℕ) (f : Fault) (x : StopsFirst rest (Err f) []) (more : List ℕ) → AreOctets rest → AreOctets more → (f.at < length rest) ⊎ (more ≡ [])
     → BeginsEntryWith (rest ++ more) (blank_at (rest ++ more) 0) (piece_tokens rest None x.found) (Err f)
 fault_stays rest f x more ok m why =
@@ -221,7 +221,7 @@ fault_stays rest f x more ok m why =
     go (inl less) = faults_stay rest more x.found f ok m x.given less
     go (inr none) = subst (λ l. IsGiven l (map Ok x.found ++ Err f ∷ [])) (sym (ap (λ l. rest ++ l) none ∙ append-nil rest)) x.given
 
--- ---- what is read of them
+-- ---- how the tokens are read
 
 pub read_same : (room : Room) (slice octets : List ℕ) (b blank : Bool) (place at : ℕ) (before : State) (old : List ℕ) (read : Result EntryRead RecordError) (after : State) (new : List ℕ)
     → slice ≡ octets → b ≡ blank → place ≡ at → ReadsStop room slice b place before old read after new → ReadsStop room octets blank at before old read after new

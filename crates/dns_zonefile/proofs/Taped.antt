@@ -21,7 +21,7 @@ spans_after : (octets : List ℕ) (base : ℕ) (spans : List TokenSpan) → map 
 spans_after octets base [] = refl
 spans_after octets base (s ∷ spans) = ap (λ l. token_after base (span_token octets s) ∷ l) (spans_after octets base spans)
 
--- what is read of them is what is read of the entry
+-- reading these tokens is reading the entry
 pub read_by : (room : Room) (octets : List ℕ) (base at : ℕ) (blank : Bool) (p : UnreadSeen) (spans : List TokenSpan) (before : State) (old : List ℕ) (read : Result EntryRead RecordError) (after : State) (new : List ℕ)
     → FillsWith octets spans at → p ≡ tape_seen octets base spans at → ReadsZoneEntry room blank p.end.at p.tokens before old read after new → ReadsStop room octets blank base before old read after new
 read_by room octets base at blank p spans before old read after new f e r stop left x a =
@@ -31,7 +31,7 @@ read_by room octets base at blank p spans before old read after new f e r stop l
     let end : p.end.at ≡ base + stop_offset stop = ap (λ (q : UnreadSeen). q.end.at) e ∙ ap (λ i. base + i) (sym once.2) in
     subst (λ i. ReadsZoneEntry room blank i own before old read after new) end (subst (λ l. ReadsZoneEntry room blank p.end.at l before old read after new) tokens r)
 
--- so it is without a tape
+-- and so without a tape
 pub read_placed : (room : Room) (octets : List ℕ) (base : ℕ) (blank : Bool) (p : UnreadSeen) (before : State) (old : List ℕ) (read : Result EntryRead RecordError) (after : State) (new : List ℕ)
     → BeginsPlaced octets base p → ReadsZoneEntry room blank p.end.at p.tokens before old read after new → ReadsStop room octets blank base before old read after new
 read_placed room octets base blank p before old read after new b r stop left x a =
@@ -39,7 +39,7 @@ read_placed room octets base blank p before old read after new b r stop left x a
     let own = tokens_after base (piece_tokens octets None x.found) in
     subst (λ i. ReadsZoneEntry room blank i own before old read after new) same.1 (subst (λ l. ReadsZoneEntry room blank p.end.at l before old read after new) same.0 r)
 
--- and so it is by a tape of octets that go on after the entry: its tokens are those of the entry alone
+-- and so with a tape of octets that continue after the entry: its tokens are those of the entry alone
 pub read_within : (room : Room) (octets : List ℕ) (base at : ℕ) (blank : Bool) (p : UnreadSeen) (spans : List TokenSpan) (before : State) (old : List ℕ) (read : Result EntryRead RecordError) (after : State) (new : List ℕ)
     → AreOctets octets → FillsWith octets spans at → p ≡ tape_seen octets base spans at → ReadsZoneEntry room blank p.end.at p.tokens before old read after new → ReadsStop room (take at octets) blank base before old read after new
 read_within room octets base at blank p spans before old read after new ok f e r = subst (λ n. ReadsStop room (take n octets) blank base before old read after new) f.ends go

@@ -1,4 +1,4 @@
--- What is done with octets that are held.
+-- Operations on the octets that a reader holds.
 use Rattle.std.specs.Prelude.{◌≡◌, ◌≢◌, ◌⊎◌, ℕ, ◌+◌, ◌*◌, ◌<◌, ◌≤◌, ◌^◌, ◌++◌, true, false, List, [], length, take, drop, Option, Some, None, Result, Ok, Err}
 use Rattle.dns_split.specs.Pieces.{AreOctets}
 use Rattle.dns_split.specs.declared.pieces.Fault.{Fault}
@@ -9,30 +9,30 @@ use Rattle.dns_zonefile.specs.First.{StandsFirst}
 use Rattle.dns_zonefile.specs.declared.error.AddError.{AddError}
 use Rattle.dns_zonefile.specs.declared.error.AddError.TheVariants.{OutOfMemory, TooLong, Finished}
 
--- a block is held too, and of all octets with it the last are; or nothing has changed
+-- a block is held too, and the last of all octets are held with it; or nothing has changed
 abbrev pub AddsOctets : {U : Type 0} → Blocks → Blocks → List ℕ → Result U AddError → Type 0
 AddsOctets old new block (Ok u) = (new ≡ record old { octets = old.octets ++ block }) × ((all : List ℕ) → HoldsLast all old → HoldsLast (all ++ block) new)
 AddsOctets old new block (Err OutOfMemory) = new ≡ old
 AddsOctets old new block (Err TooLong) = (new ≡ old) × (2 ^ 64 ≤ old.start.at + length old.octets + length block + 2)
 AddsOctets old new block (Err Finished) = (new ≡ old) × (old.is_finished ≡ true)
 
--- the octet at a place, or their end, is not held
+-- the octet at an offset, or the octets' end, is not held
 abbrev pub IsNotHeld : Blocks → ℕ → Type 0
 IsNotHeld b at = (at < b.start.at) ⊎ (b.start.at + length b.octets < at)
 
--- the position of a place, unless its octet is not held
+-- the position of an offset, unless its octet is not held
 abbrev pub HasPositionOf : Blocks → ℕ → Option Position → Type 0
 HasPositionOf b at (Some p) = (all : List ℕ) → HoldsLast all b → IsPlaceOf all at p
 HasPositionOf b at None = IsNotHeld b at
 
--- the octets from a place on, unless those are not held
+-- the octets from an offset on, unless those are not held
 abbrev pub HasOctetsFrom : Blocks → ℕ → Option (List ℕ) → Type 0
 HasOctetsFrom b at (Some octets) = (all : List ℕ) → HoldsLast all b → (at ≤ length all) × (octets ≡ drop at all)
 HasOctetsFrom b at None = IsNotHeld b at
 
 -- ---- of private functions
 
--- the rest of a line is skipped, as far as it is held: the same is left to read
+-- the rest of a line is skipped, as far as it is held; the text that is left is unchanged
 pub record SkipsLine (b c : Blocks) : Type 0 where
   pub same : c ≡ record b { next = c.next; skips = c.skips }
   pub on : b.next ≤ c.next
@@ -41,14 +41,14 @@ pub record SkipsLine (b c : Blocks) : Type 0 where
   pub skips : (c.skips ≡ false) ⊎ (c.next ≡ length b.octets)
   pub stays : b.skips ≡ false → c ≡ b
 
--- nothing is left that was held; or it is put off, and no more is left than an entry may have
+-- nothing is left of the held octets; or reading is put off, and the octets that are left are within the limit
 abbrev pub IsPutOff : Blocks → Type 0
 IsPutOff b = (drop b.next b.octets ≡ []) ⊎ ((b.is_finished ≡ false) × (length (drop b.next b.octets) < 2 * b.left) × (length (drop b.next b.octets) ≤ b.limit))
 
 abbrev pub with_left : Blocks → ℕ → Blocks
 with_left b left = record b { left = left }
 
--- the first entry is found; or it is put off, or more octets are wanted
+-- the first entry is found; or reading is put off, or more octets are needed
 abbrev pub FindsStop : Blocks → Option (Result ℕ Fault) → Blocks → Type 0
 FindsStop b None c = IsPutOff b ⊎ (AreOctets (drop c.next c.octets) × StandsFirst (drop c.next c.octets) c.is_finished None)
 FindsStop b (Some stop) c = AreOctets (drop c.next c.octets) × (c.next ≤ length c.octets) × (drop c.next c.octets ≢ []) × StandsFirst (drop c.next c.octets) c.is_finished (Some stop)
@@ -57,25 +57,25 @@ pub record FindsEntry (b : Blocks) (found : Option (Result ℕ Fault)) (c : Bloc
   pub same : c ≡ with_left b c.left
   pub finds : FindsStop b found c
 
--- the number of octets of the next entry that come before its end or its fault, or are held
+-- the number of octets of the next entry before its end or its syntax error, or of those that are held
 abbrev pub found_len : Blocks → Option (Result ℕ Fault) → ℕ
 found_len b (Some (Ok at)) = at
 found_len b (Some (Err f)) = f.at
 found_len b None = length (drop b.next b.octets)
 
--- what was read is no longer held
+-- the octets that were read are not held any more
 pub record LetsRead (b c : Blocks) : Type 0 where
   pub same : c ≡ record b { octets = drop b.next b.octets; start = c.start; next = 0 }
   pub within : b.next ≤ length b.octets
   pub at : c.start.at ≡ b.start.at + b.next
   pub position : (before : List ℕ) → IsAt 0 before b.start.position → IsAt 0 (before ++ take b.next b.octets) c.start.position
 
--- an entry's end, or a fault, is among what is held
+-- an entry's end, or a syntax error, is among the octets that are held
 abbrev pub IsHeldStop : Blocks → Result ℕ Fault → Type 0
 IsHeldStop b (Ok at) = b.next + at ≤ length b.octets
 IsHeldStop b (Err f) = b.next + f.at ≤ length b.octets
 
--- reading goes on after an entry, or after the line with a fault
+-- reading continues after an entry, or after the line with a syntax error
 abbrev pub after_stop : Blocks → Result ℕ Fault → Blocks
 after_stop b (Ok at) = record b { next = b.next + at; began = place_of_next b }
 after_stop b (Err f) = record b { next = b.next + f.at; skips = true; began = place_of_next b }
@@ -84,7 +84,7 @@ after_stop b (Err f) = record b { next = b.next + f.at; skips = true; began = pl
 abbrev pub after_long_entry : Blocks → Blocks
 after_long_entry b = record b { next = length b.octets; began = place_of_next b; is_finished = true }
 
--- the octets of an entry, or those that a fault cuts off
+-- the octets of an entry, or all that are left if a syntax error cuts it off
 abbrev pub stop_octets : Blocks → Result ℕ Fault → List ℕ
 stop_octets b (Ok at) = take at (drop b.next b.octets)
 stop_octets b (Err f) = drop b.next b.octets

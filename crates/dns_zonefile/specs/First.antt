@@ -6,18 +6,18 @@ use Rattle.dns_split.specs.declared.pieces.Fault.{Fault}
 use Rattle.dns_split.specs.declared.pieces.Piece.{Piece}
 use Rattle.dns_tape.specs.FirstEntry.{StopsFirst}
 
--- tokens of one entry, which begins with a blank or doesn't, as they are seen
+-- the parts of one entry's tokens, by whether it begins with a blank
 abbrev pub parts_of : Bool → List TokenSeen → List (Result PartSeen Fault)
 parts_of blank tokens = map (λ t. Ok (TokenIs t blank)) tokens
 
--- a text has these tokens first, and then this end of its first entry; or this fault, and nothing behind it
+-- a text has these tokens first, and then this end of its first entry; or this syntax error, and nothing after it
 abbrev pub BeginsEntryWith : List ℕ → Bool → List TokenSeen → Result EndOfEntry Fault → Type 0
 BeginsEntryWith text blank tokens (Ok end) = (left : List (Result PartSeen Fault)) × IsSeen text (parts_of blank tokens ++ Ok (EndIs end) ∷ left)
 BeginsEntryWith text blank tokens (Err f) = IsSeen text (parts_of blank tokens ++ Err f ∷ [])
 
 -- ---- by the pieces of octets
 
--- the first entry ends at a place, and something comes behind it or no octets follow; or a fault comes before its end, and before that of the octets or no octets follow; or octets that follow may change either
+-- the first entry ends at an offset, and something comes after it or no octets follow; or a syntax error comes before its end, and before that of the octets or no octets follow; or octets that follow may change either
 abbrev pub StandsFirst : List ℕ → Bool → Option (Result ℕ Fault) → Type 0
 StandsFirst octets last (Some (Ok at)) =
     (end : EndOfEntry) × (left : List (Result Piece Fault)) × StopsFirst octets (Ok end) left × (end.at ≡ at) × ((0 < length left) ⊎ (last ≡ true))

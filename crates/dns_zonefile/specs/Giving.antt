@@ -1,4 +1,4 @@
--- What is given of the entries of a file that comes in blocks.
+-- What a reader returns for the entries of a file that arrives in blocks.
 use Rattle.std.specs.Prelude.{⊤, ◌≡◌, ◌⊎◌, ◌≤◌, ℕ, ◌+◌, ◌<◌, ◌^◌, Bool, true, List, [], ◌++◌, drop, length, Option, Some, None, Result, Ok, Err}
 use Rattle.std.specs.Io.BufRead.{drop_through}
 use Rattle.dns_symbol.specs.Characters.{line_feed}
@@ -23,24 +23,24 @@ use Rattle.dns_zonefile.specs.Placed.{IsAllBehind}
 use Rattle.dns_zonefile.specs.declared.refusal.BlockRefusal.{BlockRefusal}
 use Rattle.dns_zonefile.specs.declared.refusal.BlockRefusal.TheVariants.{Text, Entry, LongEntry}
 
--- what is given of an entry that has an end; and of one that a fault cuts off
+-- the result for an entry that has an end; and for one that a syntax error cuts off
 abbrev pub given_by : {E : Type 0} → ℕ → Result E Fault → Result EntryRead RecordError → Result EntryRead BlockRefusal
 given_by at (Ok end) (Ok read) = Ok read
 given_by at (Ok end) (Err e) = Err (Entry e)
 given_by at (Err f) read = Err (Text (moved_fault (λ i. at + i) f))
 
--- what a text has after its first entry, or after the line of its fault
+-- the part of a text after its first entry, or after the line of its syntax error
 abbrev pub text_after : Result EndOfEntry Fault → List ℕ → List ℕ
 text_after (Ok end) text = drop end.at text
 text_after (Err f) text = drop_through line_feed (drop f.at text)
 
--- whatever follows the octets, the text that is left begins at a place, with these tokens and this end of its first entry, or this fault; and what is after it is left then
+-- whatever follows the octets, the text that is left begins at an offset, with these tokens and this end of its first entry, or this syntax error; and the text after it is left then
 pub record StandsNext (text : List ℕ) (b : Blocks) (at : ℕ) (blank : Bool) (tokens : List TokenSeen) (stop : Result EndOfEntry Fault) (c : Blocks) : Type 0 where
   pub left : text_left b text ≡ drop at text
   pub begins : BeginsEntryWith (drop at text) blank tokens stop
   pub behind : text_left c text ≡ text_after stop (drop at text)
 
--- the next entry of all octets that were added is read by its tokens and the state, and given with its places among all; it has no more octets than the limit
+-- the next entry of all octets that were added is read by its tokens and the state, and returned with offsets in the whole input; it has no more octets than the limit
 pub record GivesOne (room : Room) (all : List ℕ) (b : Blocks) (before : State) (old : List ℕ) (given : Result EntryRead BlockRefusal) (c : Blocks) (after : State) (new : List ℕ) : Type 0 where
   pub at : ℕ
   pub began_at : c.began ≡ at
@@ -54,12 +54,12 @@ pub record GivesOne (room : Room) (all : List ℕ) (b : Blocks) (before : State)
   pub reads : ReadsZoneEntry room blank (at + stop_offset stop) (tokens_after at tokens) before old read after new
   pub is : given ≡ given_by at stop read
 
--- whatever follows the octets, the text that is left begins at a place, and the end of its first entry, or the fault before it, is after more octets than the limit
+-- whatever follows the octets, the text that is left begins at an offset, and the end of its first entry, or the syntax error before it, comes after more octets than the limit
 pub record StandsLong (text : List ℕ) (b : Blocks) (at : ℕ) : Type 0 where
   pub left : text_left b text ≡ drop at text
   pub long : (blank : Bool) (tokens : List TokenSeen) (stop : Result EndOfEntry Fault) → BeginsEntryWith (drop at text) blank tokens stop → b.limit < stop_offset stop
 
--- the next entry is too long: nothing is left of all octets that were added, and no more are
+-- the next entry is too long: nothing is left of all octets that were added, and no more are read
 pub record EndsLong (all : List ℕ) (b : Blocks) (before : State) (old : List ℕ) (c : Blocks) (after : State) (new : List ℕ) : Type 0 where
   pub state : after ≡ before
   pub target : new ≡ old
@@ -69,7 +69,7 @@ pub record EndsLong (all : List ℕ) (b : Blocks) (before : State) (old : List �
   pub left : text_left c all ≡ []
   pub is_finished : c.is_finished ≡ true
 
--- nothing but what is held has changed; the same is left, and nothing where no octets follow; no more is held than an entry may have
+-- only the held octets have changed; the same text is left, and nothing if input is finished; the octets that are held are within the limit
 pub record GivesNone (all : List ℕ) (b : Blocks) (before : State) (old : List ℕ) (c : Blocks) (after : State) (new : List ℕ) : Type 0 where
   pub state : after ≡ before
   pub target : new ≡ old
@@ -89,16 +89,16 @@ pub record ReadsNext (room : Room) (all : List ℕ) (b : Blocks) (before : State
 
 -- ---- of private functions
 
--- a fault has a place so much further on
+-- a syntax error can be moved to a later offset
 abbrev pub CanMove : {E : Type 0} → ℕ → Result E Fault → Type 0
 CanMove at (Ok end) = ⊤
 CanMove at (Err f) = (at + f.at < 2 ^ 64) × ((i : ℕ) → f.wrong ≡ OpenQuote i → at + i < 2 ^ 64)
 
--- of octets that are one entry, or what a fault cuts off, the tokens are read by the state
+-- the tokens of octets that are one entry, or that a syntax error cuts off, are read by the state
 abbrev pub ReadsStop : Room → List ℕ → Bool → ℕ → State → List ℕ → Result EntryRead RecordError → State → List ℕ → Type 0
 ReadsStop room octets blank at before old read after new = (stop : Result EndOfEntry Fault) (left : List (Result Piece Fault)) (x : StopsFirst octets stop left) → IsAllBehind (length octets) stop left
     → ReadsZoneEntry room blank (at + stop_offset stop) (tokens_after at (piece_tokens octets None x.found)) before old read after new
 
--- so are those of the next entry that is held
+-- and so are those of the next entry that is held
 abbrev pub ReadsPending : Room → Blocks → Result ℕ Fault → State → List ℕ → Result EntryRead RecordError → State → List ℕ → Type 0
 ReadsPending room b stop before old read after new = ReadsStop room (stop_octets b stop) (blank_at (drop b.next b.octets) 0) (place_of_next b) before old read after new

@@ -1,4 +1,4 @@
--- Worked rows of texts that are printed of records.
+-- Worked examples of texts that are printed from records.
 use Rattle.std.specs.Prelude.{◌≡◌, ℕ, List, [], ◌∷◌, codes, None, refl, Ok}
 use Rattle.std.specs.Fmt.{digits}
 use Rattle.dns_kinds.specs.Rtype as Rtype
@@ -22,7 +22,7 @@ mail = 0 ∷ 10 ∷ wire (below_example (codes "mail"))
 abbrev mail_record : Record ℕ ℕ
 mail_record = record { owner = below_example (codes "a"); ttl = 3600; class = 1; «data» = record { rtype = Rtype.mx; octets = mail } }
 
--- a line's end stands behind each, also behind the last
+-- a line end comes after each record, also after the last
 lines_row : records_text Simple (mail_record ∷ mail_record ∷ []) ≡ codes "a.example. 3600 IN MX 10 mail.example.\na.example. 3600 IN MX 10 mail.example.\n"
 unfolding type_shapes type_rows labels_in_octets digits
 lines_row = refl
@@ -34,7 +34,7 @@ block_row = refl
 no_record_row : records_text {N = ℕ} {O = ℕ} Simple [] ≡ []
 no_record_row = refl
 
--- what is given of it behind one octet, where it begins at 43
+-- the result for it, if it begins at 43 and one octet is in the target before
 given_row : IsRecordGiven mail_record (record {
   old = 7 ∷ [];
   result = Ok (IsRecord 43 (Own 3600) 1 Rtype.mx);

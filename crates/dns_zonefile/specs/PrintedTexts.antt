@@ -16,25 +16,25 @@ use Rattle.dns_reader.specs.declared.records.RecordReader.{RecordReader}
 use Rattle.dns_reader.specs.declared.state.State.{State}
 use Rattle.dns_reader.specs.declared.ttl.RecordTtl.TheVariants.{Own}
 
--- the text of records in a layout, with a line's end behind each
+-- the text of records in a layout, with a line end after each
 abbrev pub records_text : {N O : Type 0} → DisplayKind → List (Record N O) → List ℕ
 records_text kind records = printed kind (lines_of record_document records)
 
--- what is given is this record: its own time to live, its class and its type, its owner, and its data behind the octets that were there
+-- the result is this record: its own TTL, its class and its type, its owner, and its data after the octets that were in the target
 pub record IsRecordGiven {N O : Type 0} (r : Record N O) (g : EntryGiven) : Type 0 where
   pub at : ℕ
   pub is : g.result ≡ Ok (IsRecord at (Own r.ttl) r.class (data_of r).rtype)
   pub owner : g.state.owner ≡ Name r.owner
   pub «data» : g.new ≡ g.old ++ (data_of r).octets
 
--- so it is of each, one by one, whose data surely fit
+-- the results are these records, one by one, if their data surely fits
 abbrev pub AreRecordsGiven : {N O : Type 0} → Room → List (Record N O) → List EntryGiven → Type 0
 AreRecordsGiven room [] [] = ⊤
 AreRecordsGiven room [] (g ∷ given) = ⊥
 AreRecordsGiven room (r ∷ records) [] = ⊥
 AreRecordsGiven room (r ∷ records) (g ∷ given) = (length g.old + length (data_of r).octets ≤ room.fits → IsRecordGiven r g) × AreRecordsGiven room records given
 
--- from every state, calls up to the one that gives none give just these records of their text, in order
+-- from every state, calls up to the first that returns `None` return exactly these records of their text, in order
 abbrev pub IsTextOfRecordsRead : {N O : Type 0} → List (Record N O) → Type 0
 IsTextOfRecordsRead records = (room : Room) (kind : DisplayKind) (start : State) (first last after : RecordReader) (given : List EntryGiven) (old new : List ℕ) → AllByRecursion (λ r. r.ttl < 2 ^ 31) records
     → IsOrigin (known_name start.origin) → StartsText (records_text kind records) start first → AreGivenInARow room first given last → ReadsNextEntry room last old None after new → AreRecordsGiven room records given

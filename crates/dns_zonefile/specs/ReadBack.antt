@@ -16,7 +16,7 @@ use Rattle.dns_reader.specs.declared.known.Known.TheVariants.{Name}
 use Rattle.dns_reader.specs.declared.state.State.{State}
 use Rattle.dns_reader.specs.declared.ttl.RecordTtl.TheVariants.{Own}
 
--- from every state the tokens that a record is printed as are read as it: with its owner, its own time to live, its class, its type and its data
+-- from every state, the tokens of a printed record are read as that record: with its owner, its own TTL, its class, its type and its data
 abbrev pub IsPrintedRecordRead : {N O : Type 0} → Record N O → Type 0
 IsPrintedRecordRead r = (room : Room) (end : ℕ) (tokens : List TokenSeen) (before after : State) (old new : List ℕ) (result : Result EntryRead RecordError) → r.ttl < 2 ^ 31 → ArePrinted (record_tokens r) tokens
     → IsOrigin (known_name before.origin) → length old + length (data_of r).octets ≤ room.fits → ReadsZoneEntry room false end tokens before old result after new

@@ -1,4 +1,4 @@
-//! Entries of a file that comes in blocks.
+//! Reads the entries of a zone file that arrives in chunks, here called blocks.
 ghost use Rattle.std.specs.Prelude.{◌≡◌, ◌≢◌, ◌↔◌, ◌+◌, ◌++◌, ◌<◌, ◌≤◌, ◌^◌, ℕ, [], List, IsTrue, Ok, drop, length, option_map, take, true, false};
 ghost use Rattle.dns_split.specs.Pieces.{AreOctets};
 ghost use Rattle.dns_split.specs.Standing.{blank_at};
@@ -25,12 +25,12 @@ use std::alloc::Allocator;
 use std::marker::Model;
 use zone_format::place::{Place, advance, moved};
 
-/// The usual limit of [`BlockReader::new`], in octets: 1 MiB. The longest data of a record, each octet
-/// as `\DDD` and quoted, take 270 KB.
+/// The usual limit of [`BlockReader::new`], in octets: 1 MiB. The longest data of a record, with
+/// each octet as `\DDD` and quoted, has 270 KB.
 pub const ENTRY_LIMIT: usize = 1 << 20;
 
-/// Reads the first entry of octets, which ends at `end`, by the state. Its tokens are at these spans,
-/// and the octets begin at a place among others.
+/// Reads the first entry of octets, which ends at `end`, by the state. Its tokens are at these
+/// spans, and `at` is the offset of the octets in the whole input.
 fn read_spans<B: OctetsBuilder + AsOctetsMut>(
     octets: &[u8],
     spans: &[TokenSpan],
@@ -49,8 +49,8 @@ fn read_spans<B: OctetsBuilder + AsOctetsMut>(
     read_entry(state, begins_blank, &mut tokens, target)
 }
 
-/// Reads the first entry of octets, or the tokens before a fault, by the state. The octets begin at a
-/// place among others. What the tape held is dropped.
+/// Reads the first entry of octets, or the tokens before a syntax error, by the state. The octets
+/// begin at an offset in the whole input. The tape's old contents are dropped.
 fn read_first<B: OctetsBuilder + AsOctetsMut>(
     octets: &[u8],
     begins_blank: bool,
@@ -70,7 +70,7 @@ fn read_first<B: OctetsBuilder + AsOctetsMut>(
     read_entry(state, begins_blank, &mut tokens, target)
 }
 
-/// Octets as they are: each is below 256.
+/// Returns the octets: each is below 256.
 fn as_octets(octets: &[u8]) -> &[u8]
     ensures same { result.now ≡ octets.now }
     ensures octets { AreOctets octets.now }
@@ -78,7 +78,8 @@ fn as_octets(octets: &[u8]) -> &[u8]
     octets
 }
 
-/// What is given of an entry that ends, or of one that a fault cuts off, with its place.
+/// Returns the result for an entry that ends, or for one that a syntax error cuts off. The error's
+/// offset is then one in the whole input.
 fn given_by(
     at: usize,
     stop: Result<usize, Fault>,
@@ -96,28 +97,28 @@ fn given_by(
     }
 }
 
-/// The entries of octets that are added block by block.
+/// A reader of the entries of a zone file, to which octets are added block by block.
 ///
-/// Octets that were read are dropped. Once [`BlockReader::next_entry`] has returned `None`, at most as
-/// many are held as an entry may have. So where no more are added before that, the reader holds that
-/// many and a block, in a buffer of at most twice the size; and a tape of 2 KB for the tokens of an
-/// entry.
+/// Octets that were read are dropped. Once [`BlockReader::next_entry`] has returned `None`, the
+/// octets that are held are within the limit of an entry. If no more are added before that, the
+/// reader holds at most the limit and a block, in a buffer of at most twice that size, and a tape
+/// of 2 KB for the tokens of an entry.
 #[derive(Drop)]
 pub struct BlockReader<A: Allocator> {
     /// The octets that are held.
     held: Vec<u8, A>,
-    /// The place of the first of them among all octets.
+    /// Place of the first of them in the whole input: offset, line and column.
     start: Place,
-    /// How many of them are read.
+    /// Number of them that were read.
     next: usize,
     /// Whether the rest of a line is skipped first.
     skips: bool,
-    /// Where the entry began that was given last, among all octets.
+    /// Offset where the last returned entry began, in the whole input.
     began: usize,
     is_finished: bool,
-    /// As many were left over when no entry had ended among them.
+    /// Number of octets that were scanned without finding an entry's end.
     left: usize,
-    /// No entry may have more octets.
+    /// Greatest number of octets of an entry.
     limit: usize,
     /// The spans of the tokens of the entry that is read.
     tape: Tape,
@@ -136,8 +137,9 @@ impl<A: Allocator> Model for BlockReader<A> {
 }
 
 impl<A: Allocator> BlockReader<A> {
-    /// No octets. No entry may have more octets than `limit`, with its comments, its blanks and its
-    /// line's end: [`ENTRY_LIMIT`], or `usize::MAX` for entries of any length.
+    /// Returns a reader without octets. `limit` is the greatest number of octets of an entry, with
+    /// its comments, its blanks and its line's end: [`ENTRY_LIMIT`], or `usize::MAX` for entries of
+    /// any length.
     pub fn new(alloc: A, limit: usize) -> BlockReader<A>
         ensures { result ≡ no_blocks limit }
     {
@@ -157,7 +159,8 @@ impl<A: Allocator> BlockReader<A> {
         }
     }
 
-    /// Adds octets after those that were added before, or changes nothing.
+    /// Adds octets after those that were added before. Fails, and changes nothing, if memory is
+    /// out, if there would be more octets than offsets can count, or if input is finished.
     pub fn add(&mut self, block: &[u8]) -> Result<(), AddError>
         ensures { AddsOctets self.old self.new block.now result }
     {
@@ -172,32 +175,33 @@ impl<A: Allocator> BlockReader<A> {
         Ok(())
     }
 
-    /// Whether no more octets follow: it was said, or an entry had too many.
+    /// Returns whether no more octets follow: after [`BlockReader::finish`], or after an entry that
+    /// is too long.
     pub fn is_finished(&self) -> bool
         ensures { result ≡ self.now.is_finished }
     {
         self.is_finished
     }
 
-    /// Says that no more octets follow.
+    /// Declares that no more octets follow.
     pub fn finish(&mut self)
         ensures { self.new ≡ record self.old { is_finished = true } }
     {
         self.is_finished = true;
     }
 
-    /// Returns how many octets an entry may have.
+    /// Returns the greatest number of octets of an entry.
     pub fn limit(&self) -> usize
         ensures { result ≡ self.now.limit }
     {
         self.limit
     }
 
-    /// The line and the column of a place among all octets that were added, if that octet is held, or
-    /// if it is the end of those that are.
+    /// Returns the line and the column of an offset in the whole input, or `None` if the octet
+    /// there is not held, and the offset is not that of the end of the octets so far.
     ///
-    /// So the places are known of what [`BlockReader::next_entry`] gave last: where it began, its tokens,
-    /// its end and its faults.
+    /// So the positions of the last result of [`BlockReader::next_entry`] are known: where it
+    /// began, its tokens, its end and its syntax errors.
     pub fn position(&self, at: usize) -> Option<Position>
         ensures { HasPositionOf self.now at result }
     {
@@ -221,10 +225,11 @@ impl<A: Allocator> BlockReader<A> {
         advance(self.start.position, &self.held.as_slice()[..count])
     }
 
-    /// The octets from a place among all octets on, as far as they were added, if that octet is held,
-    /// or if it is the end of those that are.
+    /// Returns the octets from an offset in the whole input on, as far as they were added, or
+    /// `None` if the octet there is not held, and the offset is not that of the end of the octets
+    /// so far.
     ///
-    /// Those of the entry are held that [`BlockReader::next_entry`] gave last.
+    /// The octets of the last entry that [`BlockReader::next_entry`] returned are held.
     pub fn octets_from(&self, at: usize) -> Option<&[u8]>
         ensures { HasOctetsFrom self.now at (option_map (λ s. s.now) result) }
     {
@@ -246,14 +251,14 @@ impl<A: Allocator> BlockReader<A> {
         &self.held.as_slice()[count..]
     }
 
-    /// Where the entry began that was given last, among all octets.
+    /// Returns the offset where the last returned entry began, in the whole input.
     pub fn began(&self) -> usize
         ensures { result ≡ self.now.began }
     {
         self.began
     }
 
-    /// Skips what is left of a line with a fault, as far as it is held.
+    /// Skips the rest of a line with a syntax error, as far as it is held.
     fn skip_line(&mut self)
         ensures { SkipsLine self.old self.new }
     {
@@ -269,7 +274,7 @@ impl<A: Allocator> BlockReader<A> {
         }
     }
 
-    /// The octets that are held and not read.
+    /// Returns the octets that are held and not read.
     fn rest(&self) -> &[u8]
         ensures rest { result.now ≡ drop self.now.next self.now.octets }
         ensures octets { AreOctets result.now }
@@ -278,8 +283,8 @@ impl<A: Allocator> BlockReader<A> {
         as_octets(&self.held.as_slice()[self.next..])
     }
 
-    /// Returns the place, among all octets, where reading goes on: after the entry given last, or at
-    /// the fault that cut it off, and what was skipped since.
+    /// Returns the offset, in the whole input, where reading continues: after the last returned
+    /// entry, or at the syntax error that cut it off, and after the octets that were skipped since.
     pub fn place(&self) -> usize
         ensures place { result ≡ place_of_next self.now }
         ensures room { result + length (drop self.now.next self.now.octets) + 2 < 2 ^ 64 }
@@ -287,8 +292,8 @@ impl<A: Allocator> BlockReader<A> {
         self.start.at + self.next
     }
 
-    /// Whether nothing is left of them, or reading is put off: while less is left than twice what was
-    /// left over the last time, and no more than an entry may have.
+    /// Returns whether nothing is left, or reading is put off: while fewer octets are left than
+    /// twice those of the last search without an end, and no more than the limit.
     fn is_put_off(&self) -> bool
         ensures put_off { IsTrue result → IsPutOff self.now }
         ensures some { result ≡ false → drop self.now.next self.now.octets ≢ [] }
@@ -300,15 +305,15 @@ impl<A: Allocator> BlockReader<A> {
         !self.is_finished && count / 2 < self.left && count <= self.limit
     }
 
-    /// So many are left over.
+    /// Stores the number of octets that were scanned without finding an entry's end.
     fn leave(&mut self, left: usize)
         ensures { self.new ≡ with_left self.old left }
     {
         self.left = left;
     }
 
-    /// Where the next entry ends among the octets that are left, or the fault before its end; or
-    /// `None` where more octets are wanted, or none are left.
+    /// Returns the offset where the next entry ends among the octets that are left, or the syntax
+    /// error before its end. Returns `None` if more octets are needed, or no octets are left.
     fn find_entry(&mut self) -> Option<Result<usize, Fault>>
         ensures { FindsEntry self.old result self.new }
     {
@@ -329,8 +334,8 @@ impl<A: Allocator> BlockReader<A> {
         }
     }
 
-    /// Whether the next entry has more octets than it may: before its end, before its fault, or in all
-    /// that is left.
+    /// Returns whether the next entry has more octets than the limit: before its end, before its
+    /// syntax error, or in all that is left.
     fn is_long(&self, found: Option<Result<usize, Fault>>) -> bool
         ensures { IsTrue result ↔ (self.now.limit < found_len self.now found) }
     {
@@ -342,7 +347,7 @@ impl<A: Allocator> BlockReader<A> {
         count > self.limit
     }
 
-    /// Reads no more, at an entry that is too long.
+    /// Ends reading at an entry that is too long.
     fn end_at_long(&mut self) -> BlockRefusal
         ensures refusal { result ≡ LongEntry }
         ensures ends { self.new ≡ after_long_entry self.old }
@@ -353,7 +358,7 @@ impl<A: Allocator> BlockReader<A> {
         BlockRefusal::LongEntry
     }
 
-    /// Reads the next entry, or what a fault cuts off, by the state.
+    /// Reads the next entry, or the tokens before a syntax error, by the state.
     fn read_stop<B: OctetsBuilder + AsOctetsMut>(
         &mut self,
         stop: Result<usize, Fault>,
@@ -391,7 +396,7 @@ impl<A: Allocator> BlockReader<A> {
         self.next = 0;
     }
 
-    /// Goes on after an entry, or after the line with a fault.
+    /// Advances after an entry, or to a syntax error, whose line is then skipped.
     fn pass(&mut self, stop: Result<usize, Fault>)
         requires { IsHeldStop self.old stop }
         ensures { self.new ≡ after_stop self.old stop }
@@ -406,7 +411,7 @@ impl<A: Allocator> BlockReader<A> {
         }
     }
 
-    /// Goes on after an entry that ended among the octets that are held.
+    /// Advances after an entry that ended among the octets that are held.
     fn pass_line(&mut self, count: usize)
         requires { IsHeldStop self.old (Ok count) }
         ensures { self.new ≡ after_stop (with_left self.old 0) (Ok count) }
@@ -416,17 +421,19 @@ impl<A: Allocator> BlockReader<A> {
         self.left = 0;
     }
 
-    /// Gives the next entry by what those before it say, once no octets that follow can change it;
-    /// or returns `None`, where more octets are wanted or all entries were given.
+    /// Reads the next entry by the state that those before it leave, once no octets that follow can
+    /// change it. Returns `None` if more octets are needed, or if all entries were returned.
     ///
-    /// An entry without tokens, as a blank line, is [`EntryRead::Nothing`]. The octets of a record's
-    /// data are appended to `target`, and the owner is the state's. Places are those among all octets.
+    /// An entry without tokens, such as a blank line, is [`EntryRead::Nothing`]. The octets of a
+    /// record's data are appended to `target`, and the owner is the state's. Offsets are those in
+    /// the whole input.
     ///
-    /// After a refused entry the next call goes on at the next one. A fault of the text is given once,
-    /// as soon as no octets can mend it; the state has learned what the tokens before it say, and
-    /// reading goes on after its line. An entry with more octets than the limit before its end or its
-    /// fault is [`BlockRefusal::LongEntry`]: it is given once, at the first octet too many however the
-    /// octets are cut into blocks, and no more is read, as after [`BlockReader::finish`].
+    /// After a rejected entry the next call continues at the next one. A syntax error is returned
+    /// once, as soon as no octets that follow can change it. The state has changed by the tokens
+    /// before it, and reading continues after its line. An entry with more octets than the limit
+    /// before its end or its syntax error is [`BlockRefusal::LongEntry`]. This is returned once, at
+    /// the first octet beyond the limit, however the octets are cut into blocks. Then no more is
+    /// read, as after [`BlockReader::finish`].
     pub fn next_entry<B: OctetsBuilder + AsOctetsMut>(
         &mut self,
         state: &mut State,
@@ -450,8 +457,9 @@ impl<A: Allocator> BlockReader<A> {
         Some(given_by(at, Ok(count), read))
     }
 
-    /// Does the same for any entry: of more tokens than a tape has room for, with escapes, with a fault,
-    /// with more octets than it may have; or where more octets are wanted.
+    /// Reads the next entry as [`BlockReader::next_entry`] does, of any form: with more tokens than
+    /// the tape's capacity, with escapes, with a syntax error, with more octets than the limit; or
+    /// if more octets are needed.
     #[inline(never)]
     fn next_slowly<B: OctetsBuilder + AsOctetsMut>(
         &mut self,

@@ -1,10 +1,10 @@
-//! Where the first entry of octets ends.
+//! Finds the end of the first entry of octets.
 ghost use Rattle.dns_zonefile.specs.First.{StandsFirst};
 
 use dns_split::pieces::{Fault, Piece, Pieces};
 
-/// Where the first entry of octets ends, or the fault before its end; or `None` where octets that
-/// follow might change it. Where `is_last`, none follow.
+/// Returns the offset where the first entry of octets ends, or the syntax error before its end.
+/// Returns `None` if octets that follow might change it. If `is_last`, none follow.
 pub(crate) fn first_entry(octets: &[u8], is_last: bool) -> Option<Result<usize, Fault>>
     ensures { StandsFirst octets.now is_last result }
 {

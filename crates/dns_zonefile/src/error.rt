@@ -11,14 +11,14 @@ use std::fmt;
 pub enum AddError {
     /// There was not enough memory.
     OutOfMemory,
-    /// There would be more octets than can be counted.
+    /// There would be more octets than offsets can count.
     TooLong,
-    /// It was said before that no more follow.
+    /// Input was finished before.
     Finished,
 }
 
 impl AddError {
-    /// The text of the error.
+    /// Returns the text of the error.
     pub fn as_str(&self) -> &'static str
         ensures { result.now ≡ add_error_text self.now }
     {

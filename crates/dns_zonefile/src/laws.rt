@@ -1,4 +1,4 @@
-//! What holds of records that are printed and read.
+//! Laws about records that are printed and read.
 ghost use Rattle.std.specs.List.{AllByRecursion};
 ghost use Rattle.dns_resource.specs.RecordLaws.{AreRecordValues};
 ghost use Rattle.dns_zonefile.specs.PrintedTexts.{IsTextOfRecordsRead};
@@ -10,9 +10,9 @@ use dns_reader::text_laws::texts_are_read_entry_by_entry;
 use dns_resource::Record;
 use dns_resource::laws::{printed_owners_are_owners, records_are_read_back, records_hold_values};
 
-/// States that the tokens that a record is printed as are read as that record from every state: its
-/// owner, its time to live, if that is below 2^31, its class, its type, and its data, where these
-/// surely fit. It does nothing of use.
+/// States that the tokens of a printed record are read as that record from every state: its owner,
+/// its TTL, if it is below 2^31, its class, its type, and its data, if this surely fits. It does
+/// nothing of use.
 pub fn printed_records_are_read<Owner: AsOctets, Octets: AsOctets>(one: &Record<Owner, Octets>)
     ensures { IsPrintedRecordRead one.now }
 {
@@ -31,11 +31,10 @@ fn all_hold_values<Owner: AsOctets, Octets: AsOctets>(records: &[Record<Owner, O
     }
 }
 
-/// States that a text which is printed of records, in any layout and with a line end behind each, is
-/// read as these records, in their order, and as nothing else, from every state: calls of
-/// [`next_entry`](dns_reader::RecordReader::next_entry) give each with its owner, its time to live, if
-/// all are below 2^31, its class, its type, and its data, where these surely fit. It does nothing of
-/// use.
+/// States that a text that is printed from records, in any layout and with a line end after each,
+/// is read as these records, in their order, and as nothing else, from every state: calls of
+/// [`next_entry`](dns_reader::RecordReader::next_entry) return each with its owner, its TTL, if all
+/// are below 2^31, its class, its type, and its data, if this surely fits. It does nothing of use.
 pub fn printed_texts_are_read<Owner: AsOctets, Octets: AsOctets>(records: &[Record<Owner, Octets>])
     ensures { IsTextOfRecordsRead records.now }
 {

@@ -1,9 +1,9 @@
-//! The entries of a zone file (RFC 1035 section 5.1) that comes in blocks, each read by what those
-//! before it say.
+//! Reads the entries of a zone file (RFC 1035 section 5.1) that arrives in blocks, each by the
+//! state that those before it leave.
 //!
-//! - [`blocks::BlockReader`] takes octets block by block, and gives each entry as soon as no octets
-//!   that follow can change it. An entry that is longer than a limit ends reading.
-//! - [`laws`] has that records are read as they are printed.
+//! - [`blocks::BlockReader`] reads octets block by block, and returns each entry as soon as no
+//!   octets that follow can change it. An entry that is longer than a limit ends reading.
+//! - [`laws`] states that records are read as they are printed.
 #![tactic(auto)]
 
 pub mod blocks;

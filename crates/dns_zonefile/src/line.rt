@@ -1,7 +1,7 @@
-//! What is left of a line.
+//! Finds the end of a line.
 ghost use Rattle.dns_zonefile.specs.Line.{EndsLineAt};
 
-/// Where the first line of octets ends, behind its line feed, if they have one.
+/// Returns the offset after the first line feed of octets, if they have one.
 pub(crate) fn line_end(octets: &[u8]) -> Option<usize>
     ensures { EndsLineAt octets.now result }
 {

@@ -1,4 +1,4 @@
-//! The tokens of an entry, with their places among all octets.
+//! The tokens of an entry, with their offsets in the whole input.
 ghost use Rattle.std.specs.Prelude.{◌+◌, ◌<◌, ◌^◌, length};
 ghost use Rattle.dns_zonefile.specs.Placed.{BeginsPlaced};
 
@@ -7,7 +7,7 @@ use dns_reader::EntrySource;
 use dns_split::entry_tokens::EntryToken;
 use std::marker::Model;
 
-/// The tokens that are left of an entry whose octets begin at a place among others.
+/// The tokens that are left of an entry whose octets begin at an offset in the whole input.
 #[derive(Drop)]
 pub(crate) struct PlacedTokens<'t> {
     source: EntrySource<'t>,
@@ -26,7 +26,7 @@ impl<'t> Model for PlacedTokens<'t> {
 }
 
 impl<'t> PlacedTokens<'t> {
-    /// The first entry of octets, the first of which stands at a place.
+    /// Returns the tokens of the first entry of octets, which begin at the offset `base`.
     pub(crate) fn begin(octets: &'t [u8], base: usize) -> PlacedTokens<'t>
         requires { base + length octets.now < 2 ^ 64 }
         ensures { BeginsPlaced octets.now base result }

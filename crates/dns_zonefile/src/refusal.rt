@@ -1,14 +1,14 @@
-//! Why an entry of a file that comes in blocks is not given.
+//! Why an entry of a file that arrives in blocks is rejected.
 use dns_fields::RecordError;
 use dns_split::pieces::Fault;
 
-/// Why an entry of a file that comes in blocks is not given.
+/// Why an entry of a file that arrives in blocks is rejected.
 #[derive(Clone, Copy)]
 pub enum BlockRefusal {
-    /// A fault of the text comes before its end.
+    /// A syntax error of the text comes before its end.
     Text(Fault),
-    /// It is refused.
+    /// The entry's tokens are rejected.
     Entry(RecordError),
-    /// It has more octets than the limit. No more is read.
+    /// The entry has more octets than the limit. No more is read.
     LongEntry,
 }
