@@ -1,4 +1,4 @@
-//! The calls that rows name.
+//! The calls of rows.
 mod apl;
 mod bitmap;
 mod blocks;
@@ -27,10 +27,10 @@ mod zone;
 
 use row_table::{Answer, Calls, Failure, Inputs};
 
-/// The calls of record data.
+/// The calls about record data.
 pub struct Records;
 
-/// The beginning of refusals that lack of memory brings.
+/// The beginning of the errors of an allocation that fails.
 const SHORT: &str = "buffer size exceeded";
 
 impl Calls for Records {
@@ -43,7 +43,7 @@ impl Calls for Records {
     }
 }
 
-/// Makes an answer of a call's inputs.
+/// Adds the result of a call with some inputs.
 fn call(name: &str, inputs: &Inputs, answer: &mut Answer) {
     let (group, name) = name.split_once('.').unwrap_or((name, ""));
     match group {

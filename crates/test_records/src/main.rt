@@ -1,7 +1,7 @@
-//! A program over rows: fields of record data with what is wanted of them.
+//! A test program over rows: fields of record data and their expected results.
 //!
-//! Standard input has the rows, as `row_table` says. Of each row that differs a line is printed with
-//! the answer that was found.
+//! Standard input has the rows, in the format of `row_table`. For each row whose result differs, a
+//! line with the actual result is printed.
 #![tactic(auto)]
 
 mod calls;

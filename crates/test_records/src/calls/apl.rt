@@ -13,14 +13,14 @@ pub fn call(name: &str, inputs: &Inputs, answer: &mut Answer) {
     }
 }
 
-/// The octets of an item.
+/// Adds the octets of an item.
 fn item(text: &[u8], answer: &mut Answer) {
     let mut target: Octets = Vec::new(answer.heap());
     let made = append_prefix(text, &mut target);
     tell(made, target.as_slice(), answer);
 }
 
-/// The item that octets are.
+/// Adds the item of octets.
 fn print(octets: &[u8], answer: &mut Answer) {
     match Prefix::from_octets(octets) {
         Some(item) if item_width(octets) == Some(octets.len()) => answer.add_shown(&item),

@@ -12,7 +12,7 @@ pub fn call(name: &str, inputs: &Inputs, answer: &mut Answer) {
     }
 }
 
-/// Puts types into a set, between which there are commas.
+/// Inserts types, which are separated by commas, into a set.
 fn insert(types: &mut TypeSet, numbers: &[u8], answer: &mut Answer) {
     for digits in numbers.split(|octet| *octet == b',') {
         let rtype = RecordType(number16(digits, answer));
@@ -21,7 +21,7 @@ fn insert(types: &mut TypeSet, numbers: &[u8], answer: &mut Answer) {
     }
 }
 
-/// The bitmap of types, which are inserted in their order.
+/// Adds the bitmap of types, which are inserted in their order.
 fn compose(numbers: &[u8], answer: &mut Answer) {
     let mut types = TypeSet::new();
     if !numbers.is_empty() {
@@ -33,7 +33,7 @@ fn compose(numbers: &[u8], answer: &mut Answer) {
     tell(made, target.as_slice(), answer);
 }
 
-/// The types of a bitmap with commas between, or why it is none.
+/// Adds the types of a bitmap, separated by commas, or why octets are not a bitmap.
 fn parse(octets: &[u8], answer: &mut Answer) {
     if let Err(error) = check_bitmap(octets) {
         return answer.refuse(&error);

@@ -1,4 +1,4 @@
-//! Entries of zone text that comes in blocks.
+//! Entries of zone files that arrive in blocks.
 use super::tell::Octets;
 use super::zone::{state_of, tell_not_given, tell_read};
 use dns_fields::RecordError;
@@ -7,14 +7,14 @@ use dns_zonefile::{AddError, BlockReader, BlockRefusal};
 use row_table::input::number_of;
 use row_table::{Answer, Failure, Heap, Inputs};
 
-/// The blocks of a text: the first is cut off, and the others have each as many octets.
+/// The blocks of a text: the length of the first, and of each of the others.
 #[derive(Clone, Copy)]
 struct Cut {
     first: usize,
     each: usize,
 }
 
-/// A text, its origin, and how many octets an entry may have.
+/// A text, its origin, and the greatest number of octets of an entry.
 #[derive(Clone, Copy)]
 struct Zone<'z> {
     text: &'z [u8],
@@ -22,10 +22,10 @@ struct Zone<'z> {
     limit: usize,
 }
 
-/// The sizes of blocks that are tried beside those of one octet.
+/// The lengths of blocks that are tried besides that of one octet.
 const SIZES: [usize; 3] = [2, 3, 7];
 
-/// The entries of a text that comes in blocks of one octet, which may be of any length.
+/// Adds the entries of a text that arrives in blocks of one octet. Entries may have any length.
 pub fn blocks(inputs: &Inputs, answer: &mut Answer) {
     let [text, origin @ ..] = inputs.all() else {
         return answer.fail(Failure::BadInputs);
@@ -38,7 +38,7 @@ pub fn blocks(inputs: &Inputs, answer: &mut Answer) {
     check_cuts(zone, answer);
 }
 
-/// The same, where no entry may have more octets than the first input.
+/// Adds the same. The first input is the greatest number of octets of an entry.
 pub fn limit(inputs: &Inputs, answer: &mut Answer) {
     let [limit, text, origin @ ..] = inputs.all() else {
         return answer.fail(Failure::BadInputs);
@@ -54,7 +54,7 @@ pub fn limit(inputs: &Inputs, answer: &mut Answer) {
     check_cuts(zone, answer);
 }
 
-/// The entries of a text in blocks of one octet. However it is cut, they are the same.
+/// Adds the entries of a text in blocks of one octet. However it is cut, they are the same.
 fn check_cuts(zone: Zone<'_>, answer: &mut Answer) {
     entries(zone, Cut { first: 0, each: 1 }, answer);
     for each in &SIZES {
@@ -79,14 +79,14 @@ fn check_cuts(zone: Zone<'_>, answer: &mut Answer) {
     }
 }
 
-/// Cut so, the entries are those of the answer.
+/// Checks that the entries are those of the answer if the text is cut so.
 fn check_cut(zone: Zone<'_>, cut: Cut, answer: &mut Answer) {
     let mut other = answer.another();
     entries(zone, cut, &mut other);
     answer.check_same(&other);
 }
 
-/// The entries of a text that is cut so, up to one that is too long.
+/// Adds the entries of a text that is cut so, up to one that is too long.
 fn entries(zone: Zone<'_>, cut: Cut, answer: &mut Answer) {
     let mut state = state_of(zone.origin, answer);
     let mut reader = BlockReader::new(answer.heap(), zone.limit);
@@ -103,7 +103,8 @@ fn entries(zone: Zone<'_>, cut: Cut, answer: &mut Answer) {
     let _whole = tell_given(&mut reader, &mut state, answer);
 }
 
-/// Adds a block, and tells the entries that are given. Returns whether more may be added.
+/// Adds a block to the reader, and the entries to the answer. Returns whether another block may
+/// follow.
 fn tell_block(
     reader: &mut BlockReader<&Heap>,
     block: &[u8],
@@ -123,7 +124,8 @@ fn tell_block(
     }
 }
 
-/// An entry that is too long, and that nothing is given after it, nor added.
+/// Adds an entry that is too long, and checks that no entry is returned after it, and no octets are
+/// accepted.
 fn tell_long(reader: &mut BlockReader<&Heap>, state: &mut State, answer: &mut Answer) {
     answer.refuse_text("long");
     answer.add_text("|");
@@ -133,7 +135,7 @@ fn tell_long(reader: &mut BlockReader<&Heap>, state: &mut State, answer: &mut An
     answer.check(is_over && reader.add(b"a").is_err());
 }
 
-/// Why an entry is not given that is not too long.
+/// Returns why an entry is rejected, unless it is too long.
 pub fn record_error(refusal: BlockRefusal) -> Option<RecordError> {
     match refusal {
         BlockRefusal::Text(fault) => Some(RecordError::from(fault)),
@@ -142,7 +144,7 @@ pub fn record_error(refusal: BlockRefusal) -> Option<RecordError> {
     }
 }
 
-/// Tells an entry that is not given. Returns whether others may follow.
+/// Adds a rejected entry. Returns whether others may follow.
 fn tell_refused(
     reader: &mut BlockReader<&Heap>,
     state: &mut State,
@@ -158,7 +160,7 @@ fn tell_refused(
     }
 }
 
-/// Tells the entries that are given. Returns whether more may be added.
+/// Adds the entries that the reader returns. Returns whether another block may follow.
 fn tell_given(reader: &mut BlockReader<&Heap>, state: &mut State, answer: &mut Answer) -> bool {
     for _ in 0..u64::MAX {
         let mut target: Octets = Vec::new(answer.heap());

@@ -30,7 +30,7 @@ pub fn call(name: &str, inputs: &Inputs, answer: &mut Answer) {
     }
 }
 
-/// What an order is told as.
+/// Adds an order.
 pub fn tell_order(order: Ordering, answer: &mut Answer) {
     answer.add_text(match order {
         Ordering::Less => "less",
@@ -39,7 +39,7 @@ pub fn tell_order(order: Ordering, answer: &mut Answer) {
     });
 }
 
-/// The name that octets are.
+/// Returns the name in octets.
 fn name_of(octets: &[u8]) -> Option<&[u8]>
     ensures { IfSome result (λ name. IsWireName name.now) }
 {
@@ -50,7 +50,7 @@ fn name_of(octets: &[u8]) -> Option<&[u8]>
     Some(&octets[..width])
 }
 
-/// The order of two names.
+/// Adds the order of two names.
 fn names((left, right): (&[u8], &[u8]), answer: &mut Answer) {
     let Some(left) = name_of(left) else {
         return answer.fail(Failure::BadInputs);
@@ -61,7 +61,7 @@ fn names((left, right): (&[u8], &[u8]), answer: &mut Answer) {
     tell_order(compare_names(left, right), answer);
 }
 
-/// Returns the order key of a name. If there is none, the answer says why.
+/// Returns the order key of a name. If it has none, the reason is added to the answer.
 fn key_of<'a>(octets: &[u8], answer: &mut Answer<'a>) -> Option<Octets<'a>> {
     let Some(name) = name_of(octets) else {
         answer.fail(Failure::BadInputs);
@@ -110,19 +110,19 @@ fn within((name, top): (&[u8], &[u8]), answer: &mut Answer) {
     answer.add_bool(name.as_slice().starts_with(top.as_slice()));
 }
 
-/// Octets in lower case.
+/// Adds octets in lower case.
 fn lower(octets: &[u8], answer: &mut Answer) {
     let mut target: Octets = Vec::new(answer.heap());
     let made = append_lowered(octets, &mut target);
     tell(made, target.as_slice(), answer);
 }
 
-/// The order of data of one type.
+/// Adds the order of data of one type.
 fn octets((left, right): (&[u8], &[u8]), answer: &mut Answer) {
     tell_order(compare_octets(left, right), answer);
 }
 
-/// The canonical form of data that begins with fields, which are named with commas between.
+/// Adds the canonical form of data that begins with fields, whose kinds are separated by commas.
 fn data((kinds, octets): (&[u8], &[u8]), answer: &mut Answer) {
     let fields = fields_of(kinds, answer);
     let mut target: Octets = Vec::new(answer.heap());
@@ -130,13 +130,13 @@ fn data((kinds, octets): (&[u8], &[u8]), answer: &mut Answer) {
     tell(made, target.as_slice(), answer);
 }
 
-/// Whether the names in data of a type are lowered.
+/// Adds whether the names in data of a type are lowered.
 fn lowers(digits: &[u8], answer: &mut Answer) {
     let rtype = RecordType(number16(digits, answer));
     answer.add_text(if lowers_names(rtype) { "yes" } else { "no" });
 }
 
-/// The order of two records, each an owner, a class, a type and data.
+/// Adds the order of two records, each an owner, a class, a type and data.
 fn records(inputs: &[Vec<u8>], answer: &mut Answer) {
     let [a, b, c, d, e, f, g, h] = inputs else {
         return answer.fail(Failure::BadInputs);

@@ -1,4 +1,4 @@
-//! Classes, which stand in no field.
+//! Classes, which no field has.
 use super::tell::number16;
 use dns_kinds::Class;
 use row_table::{Answer, Failure, Inputs};
@@ -10,7 +10,7 @@ pub fn call(name: &str, inputs: &Inputs, answer: &mut Answer) {
     }
 }
 
-/// The class of a number.
+/// Adds the class of a number.
 fn print(digits: &[u8], answer: &mut Answer) {
     let class = Class(number16(digits, answer));
     answer.add_shown(&class);

@@ -1,4 +1,4 @@
-//! Zone text that is cut into parts.
+//! Zone files that are cut into parts.
 use super::blocks::record_error;
 use super::tell::Octets;
 use super::zone::{state_of, tell_not_given};
@@ -10,21 +10,21 @@ use row_table::input::number_of;
 use row_table::{Answer, Failure, Heap, Inputs};
 use zone_cut::{CutError, Cutter};
 
-/// What is said where memory is refused.
+/// The error of an allocation that fails.
 const SHORT: &str = "buffer size exceeded";
 
-/// Parts of a text, with a bar in front of each.
+/// Parts of a text, without separators.
 #[derive(Drop)]
 struct Parts<'a> {
     octets: Octets<'a>,
-    /// Where each begins.
+    /// Offset where each begins.
     starts: Vec<usize, &'a Heap>,
-    /// Where what belongs to the last part begins in the text.
+    /// Offset in the text where the rest of the last part begins.
     behind: usize,
 }
 
-/// The parts of a text, of which the numbers of parts, `soa` where this is repeated, the text, and
-/// perhaps the origin are given. Their records in a row are those of the text.
+/// Adds the parts of a text. The inputs are the number of parts, `soa` if it is repeated, the text,
+/// and perhaps the origin. The records of the parts, one after another, are those of the text.
 pub fn cut(inputs: &Inputs, answer: &mut Answer) {
     let [count, soa, text, origin @ ..] = inputs.all() else {
         return answer.fail(Failure::BadInputs);
@@ -50,18 +50,18 @@ pub fn cut(inputs: &Inputs, answer: &mut Answer) {
     }
 }
 
-/// Whether the word says that the SOA is repeated.
+/// Returns whether the word is `soa`, by which the SOA is repeated.
 fn repeats_soa(word: &[u8]) -> bool {
     word == b"soa".as_slice()
 }
 
-/// Tells that memory was refused.
+/// Adds the error of an allocation that fails.
 fn tell_short(answer: &mut Answer) -> bool {
     answer.refuse_text(SHORT);
     false
 }
 
-/// Why a part can't begin. Returns false.
+/// Adds why a part can't begin. Returns false.
 fn tell_cut_error(error: CutError, answer: &mut Answer) -> bool {
     match error {
         CutError::OutOfMemory => tell_short(answer),
@@ -73,7 +73,7 @@ fn tell_cut_error(error: CutError, answer: &mut Answer) -> bool {
 }
 
 impl<'a> Parts<'a> {
-    /// Appends what the last part has of a text up to a place.
+    /// Appends the rest of the last part up to an offset of the text.
     fn fill_up(&mut self, text: &[u8], to: usize) -> bool {
         if self.starts.is_empty() {
             return true;
@@ -82,14 +82,14 @@ impl<'a> Parts<'a> {
         self.octets.extend_from_slice(rest).is_ok()
     }
 
-    /// Begins another with these lines, to which the text from a place on belongs.
+    /// Begins another part with these lines, and with the text from an offset on.
     fn begin(&mut self, lines: &str, behind: usize) -> bool {
         self.behind = behind;
         self.starts.push(self.octets.len()).is_ok()
             && self.octets.extend_from_slice(lines.as_bytes()).is_ok()
     }
 
-    /// The parts, one after another.
+    /// Returns a part by its index.
     fn part(&self, number: usize) -> &[u8] {
         let start = self.starts.get(number).copied().unwrap_or(0);
         let end = self.starts.get(number.saturating_add(1)).copied();
@@ -98,7 +98,7 @@ impl<'a> Parts<'a> {
     }
 }
 
-/// Cuts a text. Returns whether nothing was refused.
+/// Cuts a text. Returns whether nothing was rejected.
 fn fill<'a>(
     parts: &mut Parts<'a>,
     mut cutter: Cutter<&'a Heap>,
@@ -151,7 +151,7 @@ fn fill<'a>(
     tell_short(answer)
 }
 
-/// The parts, with a bar in front of each.
+/// Adds the parts, each after a bar.
 fn tell_parts(parts: &Parts<'_>, answer: &mut Answer) {
     for number in 0..parts.starts.len() {
         answer.add_text("|");
@@ -159,7 +159,7 @@ fn tell_parts(parts: &Parts<'_>, answer: &mut Answer) {
     }
 }
 
-/// A record, in full.
+/// Adds a record in full.
 fn tell_record(record: &RecordRef<'_>, answer: &mut Answer) {
     answer.add(record.owner);
     answer.add_number(usize::try_from(record.ttl).unwrap_or(0));
@@ -171,7 +171,7 @@ fn tell_record(record: &RecordRef<'_>, answer: &mut Answer) {
     answer.add(record.data);
 }
 
-/// The records of a text, in full. Returns whether memory sufficed.
+/// Adds the records of a text in full. Returns whether memory sufficed.
 fn tell_records(text: &[u8], state: State, answer: &mut Answer) -> bool {
     let mut reader = RecordReader::new(text, state);
     for _ in 0..=text.len() {
@@ -196,7 +196,7 @@ fn tell_records(text: &[u8], state: State, answer: &mut Answer) -> bool {
     true
 }
 
-/// The records of the parts, each read by itself, are those of the text.
+/// Checks that the records of the parts, each read separately, are those of the text.
 fn check_records(parts: &Parts<'_>, text: &[u8], origin: &[Vec<u8>], answer: &mut Answer) {
     let mut whole = answer.another();
     let mut row = answer.another();

@@ -9,11 +9,11 @@ use dns_zone::zonefile_fmt::SimpleWriter;
 use row_table::{Answer, Failure, Inputs};
 use std::fmt;
 
-/// The origin of rows that name none: `example.`.
+/// The origin of rows without one: `example.`.
 const ORIGIN: &[u8] = b"\x07example\x00";
 
-/// What is asked of a text: the octets of data; the same, or why there are none; or the text that
-/// they print as.
+/// The result of a row: the octets of data; or why it is rejected; or the text as which it is
+/// printed.
 #[derive(Clone, Copy)]
 enum Wanted {
     Octets,
@@ -30,7 +30,7 @@ pub fn call(name: &str, inputs: &Inputs, answer: &mut Answer) {
     }
 }
 
-/// Data that print as tokens with a blank between.
+/// Data that is printed as tokens with a blank between.
 #[derive(Drop)]
 struct Shown<'a> {
     shape: Shape,
@@ -50,7 +50,7 @@ impl fmt::Display for Shown<'_> {
     }
 }
 
-/// The text that data of a type print as.
+/// Adds the text as which data of a type is printed.
 fn tell_printed(rtype: RecordType, octets: &[u8], answer: &mut Answer) {
     match type_row(rtype) {
         Some(row) => answer.add_shown(&Shown {
@@ -61,7 +61,7 @@ fn tell_printed(rtype: RecordType, octets: &[u8], answer: &mut Answer) {
     }
 }
 
-/// What is wanted of data that were read.
+/// Adds the result for data that was parsed.
 fn tell_read(wanted: Wanted, rtype: RecordType, octets: &[u8], answer: &mut Answer) {
     match wanted {
         Wanted::Text => tell_printed(rtype, octets, answer),
@@ -69,7 +69,7 @@ fn tell_read(wanted: Wanted, rtype: RecordType, octets: &[u8], answer: &mut Answ
     }
 }
 
-/// What is wanted of a refusal.
+/// Adds the result for an error.
 fn tell_refusal(wanted: Wanted, error: RecordError, answer: &mut Answer) {
     match wanted {
         Wanted::Why => tell_why(error, answer),
@@ -77,7 +77,7 @@ fn tell_refusal(wanted: Wanted, error: RecordError, answer: &mut Answer) {
     }
 }
 
-/// Says of a refusal that it is one, or that memory was lacking.
+/// Adds that an entry is rejected, or that memory is out.
 pub fn tell_refused(error: RecordError, answer: &mut Answer) {
     match error.kind {
         ErrorKind::ShortBuf => answer.refuse(&error),
@@ -85,12 +85,12 @@ pub fn tell_refused(error: RecordError, answer: &mut Answer) {
     }
 }
 
-/// The name of a field of a type's data, if the field is known and has one.
+/// Returns the name of a field of a type's data, if the field is known and has one.
 fn named(rtype: RecordType, field: Option<FieldName>) -> Option<&'static str> {
     field_text(rtype, field?)
 }
 
-/// The type, the field, and why it is refused.
+/// The type, the field, and why it is rejected.
 #[derive(Drop)]
 pub struct Why(pub RecordError);
 
@@ -107,7 +107,7 @@ impl fmt::Display for Why {
     }
 }
 
-/// Why data are refused, and the place, or that memory was lacking.
+/// Adds why data is rejected, and the offset, or that memory is out.
 fn tell_why(error: RecordError, answer: &mut Answer) {
     match error.kind {
         ErrorKind::ShortBuf => answer.refuse(&error),
@@ -120,7 +120,7 @@ fn tell_why(error: RecordError, answer: &mut Answer) {
     }
 }
 
-/// Reads the text of data of a type.
+/// Adds the result of parsing data of a type.
 fn read(inputs: &[Vec<u8>], wanted: Wanted, answer: &mut Answer) {
     let [name, text, origin @ ..] = inputs else {
         return answer.fail(Failure::BadInputs);

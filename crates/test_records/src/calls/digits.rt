@@ -1,4 +1,4 @@
-//! Octets in digits, and how long hashes, salts and digests are.
+//! Octets in digits, and the lengths of hashes, salts and digests.
 use super::tell::{Octets, number8, tell, tell_width};
 use dns_digits::{
     Digests, DigitsKind, DigitsReader, append_base32hex, append_base64, append_hex, hash_width,
@@ -20,7 +20,7 @@ pub fn call(name: &str, inputs: &Inputs, answer: &mut Answer) {
     }
 }
 
-/// Takes pieces one by one.
+/// Parses pieces one by one.
 fn take(kind: DigitsKind, pieces: &[Vec<u8>], target: &mut Octets<'_>) -> Result<(), ErrorKind> {
     let mut reader = DigitsReader::new(kind);
     for piece in pieces {
@@ -29,7 +29,7 @@ fn take(kind: DigitsKind, pieces: &[Vec<u8>], target: &mut Octets<'_>) -> Result
     reader.finish()
 }
 
-/// The octets that pieces have, which a piece alone has as a token too.
+/// Adds the octets of pieces. A single piece has the same octets as a token.
 fn pieces(kind: DigitsKind, pieces: &[Vec<u8>], answer: &mut Answer) {
     let mut target: Octets = Vec::new(answer.heap());
     let made = take(kind, pieces, &mut target);
@@ -41,7 +41,7 @@ fn pieces(kind: DigitsKind, pieces: &[Vec<u8>], answer: &mut Answer) {
     }
 }
 
-/// The octets that a token has.
+/// Adds the octets of a token.
 fn token(kind: DigitsKind, text: &[u8], answer: &mut Answer) {
     let mut target: Octets = Vec::new(answer.heap());
     let made = match kind {
@@ -51,14 +51,14 @@ fn token(kind: DigitsKind, text: &[u8], answer: &mut Answer) {
     tell(made, target.as_slice(), answer);
 }
 
-/// The octets of a hash behind its length.
+/// Adds the octets of a hash after its length.
 fn hash(text: &[u8], answer: &mut Answer) {
     let mut target: Octets = Vec::new(answer.heap());
     let made = append_base32hex(text, &mut target);
     tell(made, target.as_slice(), answer);
 }
 
-/// The list of digests with a name.
+/// Returns the list of digests with a name.
 fn digests_of(name: &[u8]) -> Option<Digests> {
     match name {
         b"ds" => Some(Digests::Ds),
@@ -68,7 +68,7 @@ fn digests_of(name: &[u8]) -> Option<Digests> {
     }
 }
 
-/// Whether a digest of such a number may have so many octets.
+/// Adds whether a digest of an algorithm may have a number of octets.
 fn digest(inputs: &[Vec<u8>], answer: &mut Answer) {
     let [name, number, length] = inputs else {
         return answer.fail(Failure::BadInputs);

@@ -16,7 +16,7 @@ pub fn call(name: &str, inputs: &Inputs, answer: &mut Answer) {
     }
 }
 
-/// The octets of the field that a token spells.
+/// Adds the octets of the field that a token spells.
 fn read(is_quoted: bool, inputs: &[Vec<u8>], answer: &mut Answer) {
     let [kind, text, origin @ ..] = inputs else {
         return answer.fail(Failure::BadInputs);
@@ -34,13 +34,13 @@ fn read(is_quoted: bool, inputs: &[Vec<u8>], answer: &mut Answer) {
     tell(made, target.as_slice(), answer);
 }
 
-/// How many octets in front are a field.
+/// Adds the number of octets of the field with which octets begin.
 fn width((kind, octets): (&[u8], &[u8]), answer: &mut Answer) {
     let field = field_of(kind, answer);
     tell_width(field_width(field, octets), answer);
 }
 
-/// A field in front of octets, which prints as its token.
+/// The field with which octets begin, printed as its token.
 #[derive(Clone, Copy)]
 struct Shown<'a> {
     field: Field,
@@ -56,7 +56,7 @@ impl fmt::Display for Shown<'_> {
     }
 }
 
-/// The token that a field prints as, or `none`.
+/// Adds the token as which a field is printed, or `none`.
 fn print((kind, octets): (&[u8], &[u8]), answer: &mut Answer) {
     let field = field_of(kind, answer);
     answer.add_shown(&Shown { field, octets });

@@ -13,7 +13,7 @@ pub fn call(name: &str, inputs: &Inputs, answer: &mut Answer) {
     }
 }
 
-/// The kinds with names, between which there are commas.
+/// Returns the kinds with these names, which are separated by commas.
 pub fn fields_of(names: &[u8], answer: &mut Answer) -> Vec<Field> {
     let mut fields = Vec::new(answer.alloc());
     if names.is_empty() {
@@ -28,7 +28,7 @@ pub fn fields_of(names: &[u8], answer: &mut Answer) -> Vec<Field> {
     fields
 }
 
-/// The tokens of the entry that a text is.
+/// Returns the tokens of the entry in a text.
 pub fn tokens_of<'t>(text: &'t [u8], answer: &mut Answer) -> Vec<EntryToken<'t>> {
     let mut tokens = Vec::new(answer.alloc());
     let mut entries = EntryTokens::of_octets(text);
@@ -38,22 +38,21 @@ pub fn tokens_of<'t>(text: &'t [u8], answer: &mut Answer) -> Vec<EntryToken<'t>>
     tokens
 }
 
-/// The octets of fields, a bar, and the place of the token that comes next or of the end.
+/// Adds the octets of fields, a bar, and the offset of the next token or of the end.
 fn tell_taken(target: &[u8], place: usize, answer: &mut Answer) {
     answer.add(target);
     answer.add_text("|");
     answer.add_number(place);
 }
 
-/// Why a token is refused, a bar, and its place.
+/// Adds why a token is rejected, a bar, and its offset.
 fn tell_refusal(error: RecordError, answer: &mut Answer) {
     answer.refuse(&error);
     answer.add_text("|");
     answer.add_number(error.offset);
 }
 
-/// Takes fields of the kinds that are named first; of a field that is refused the answer has its
-/// number too.
+/// Parses fields of the kinds in the first input. If a field is rejected, its index is added too.
 fn take(inputs: &[Vec<u8>], answer: &mut Answer) {
     let [kinds, text, origin @ ..] = inputs else {
         return answer.fail(Failure::BadInputs);
@@ -76,7 +75,7 @@ fn take(inputs: &[Vec<u8>], answer: &mut Answer) {
     }
 }
 
-/// Takes all tokens as fields of one kind.
+/// Parses all tokens as fields of one kind.
 fn each(inputs: &[Vec<u8>], answer: &mut Answer) {
     let [kind, text, origin @ ..] = inputs else {
         return answer.fail(Failure::BadInputs);

@@ -1,4 +1,4 @@
-//! Gateways that are no names.
+//! Gateways that are not names.
 use super::tell::{Octets, number8, tell};
 use dns_kinds::ErrorKind;
 use dns_places::Gateway;
@@ -14,7 +14,7 @@ pub fn call(name: &str, inputs: &Inputs, answer: &mut Answer) {
     }
 }
 
-/// Appends the octets of the gateway that a text writes.
+/// Appends the octets of the gateway that a text spells.
 fn append(number: u8, text: &[u8], target: &mut Octets<'_>) -> Result<(), ErrorKind> {
     let gateway = Gateway::from_text(number, text)?;
     gateway.compose(target)?;
@@ -27,7 +27,7 @@ fn octets(number: u8, text: &[u8], answer: &mut Answer) {
     tell(made, target.as_slice(), answer);
 }
 
-/// The gateway that octets begin with.
+/// Adds the gateway with which octets begin.
 fn print(number: u8, octets: &[u8], answer: &mut Answer) {
     match Gateway::from_octets(number, octets) {
         Some(gateway) => {

@@ -1,4 +1,4 @@
-//! Heads of entries: what the tokens of an entry are.
+//! Headers of entries: the meaning of an entry's first tokens.
 use super::tell::Octets;
 use dns_fields::{RecordError, TokenList, TokenSource};
 use dns_heads::{Directive, take_default_ttl, take_directive, take_end, take_file, take_words};
@@ -13,7 +13,7 @@ pub fn call(name: &str, inputs: &Inputs, answer: &mut Answer) {
     }
 }
 
-/// A number, or `none`.
+/// Adds a number, or `none`.
 fn tell_said(said: Option<usize>, answer: &mut Answer) {
     match said {
         Some(number) => answer.add_number(number),
@@ -21,7 +21,7 @@ fn tell_said(said: Option<usize>, answer: &mut Answer) {
     }
 }
 
-/// The text of a token, or `none`.
+/// Adds the text of a token, or `none`.
 fn tell_token(token: Option<EntryToken<'_>>, answer: &mut Answer) {
     match token {
         Some(token) => answer.add(token.text),
@@ -29,7 +29,7 @@ fn tell_token(token: Option<EntryToken<'_>>, answer: &mut Answer) {
     }
 }
 
-/// A time to live and a class.
+/// Adds a TTL and a class.
 fn tell_head(ttl: Option<u32>, class: Option<Class>, answer: &mut Answer) {
     answer.add_text("|");
     match ttl {
@@ -43,14 +43,14 @@ fn tell_head(ttl: Option<u32>, class: Option<Class>, answer: &mut Answer) {
     }
 }
 
-/// Why a token is refused, and its place.
+/// Adds why a token is rejected, and its offset.
 fn tell_refusal(error: &RecordError, answer: &mut Answer) {
     answer.refuse(error);
     answer.add_text("|");
     answer.add_number(error.offset);
 }
 
-/// A record: its owner, time to live, class and type, and where its data begins.
+/// Adds a record: its owner, TTL, class and type, and the offset of its data.
 fn record(owner: Option<EntryToken<'_>>, source: &mut TokenList<'_>, answer: &mut Answer) {
     match take_words(source) {
         Ok(words) => {
@@ -68,7 +68,7 @@ fn record(owner: Option<EntryToken<'_>>, source: &mut TokenList<'_>, answer: &mu
     }
 }
 
-/// `$TTL`, and the seconds.
+/// Adds `$TTL`, and the seconds.
 fn default_ttl(source: &mut TokenList<'_>, answer: &mut Answer) {
     match take_default_ttl(source) {
         Ok(ttl) => {
@@ -79,7 +79,7 @@ fn default_ttl(source: &mut TokenList<'_>, answer: &mut Answer) {
     }
 }
 
-/// `$ORIGIN`, and the token of its name.
+/// Adds `$ORIGIN`, and the token of its name.
 fn origin(name: Option<EntryToken<'_>>, source: &mut TokenList<'_>, answer: &mut Answer) {
     if name.is_some() {
         source.advance();
@@ -93,7 +93,7 @@ fn origin(name: Option<EntryToken<'_>>, source: &mut TokenList<'_>, answer: &mut
     }
 }
 
-/// `$INCLUDE`, its file, and the token of an origin.
+/// Adds `$INCLUDE`, its file, and the token of an origin.
 fn include(origin: Option<EntryToken<'_>>, source: &mut TokenList<'_>, answer: &mut Answer) {
     let mut file: Octets = Vec::new(answer.heap());
     if let Err(error) = take_file(source, &mut file) {
@@ -113,7 +113,7 @@ fn include(origin: Option<EntryToken<'_>>, source: &mut TokenList<'_>, answer: &
     }
 }
 
-/// What the tokens of an entry are, with bars between.
+/// Adds the meaning of the tokens of an entry, separated by bars.
 fn read(text: &[u8], answer: &mut Answer) {
     let mut tokens = Vec::new(answer.alloc());
     let mut entries = EntryTokens::of_octets(text);

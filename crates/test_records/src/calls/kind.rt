@@ -1,8 +1,8 @@
-//! The names that rows have for kinds of fields.
+//! The names of kinds of fields in rows.
 use dns_fields::Field;
 use row_table::{Answer, Failure};
 
-/// The kind of a word of digits or an address.
+/// Returns the kind of a number or an address with a name.
 fn number_kind(name: &[u8]) -> Option<Field> {
     match name {
         b"u8" => Some(Field::Number8),
@@ -19,7 +19,7 @@ fn number_kind(name: &[u8]) -> Option<Field> {
     }
 }
 
-/// The kind with a name.
+/// Returns the kind with a name.
 fn kind_of(name: &[u8]) -> Option<Field> {
     match name {
         b"type" => Some(Field::RecordType),
@@ -36,7 +36,7 @@ fn kind_of(name: &[u8]) -> Option<Field> {
     }
 }
 
-/// The kind with a name, of a row that is not run where there is none.
+/// Returns the kind with a name. A row with another name is not run.
 pub fn field_of(name: &[u8], answer: &mut Answer) -> Field {
     let found = kind_of(name);
     if found.is_none() {

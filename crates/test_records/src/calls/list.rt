@@ -11,14 +11,14 @@ pub fn call(name: &str, inputs: &Inputs, answer: &mut Answer) {
     }
 }
 
-/// The strings of a text, each behind its length.
+/// Adds the strings of a text, each after its length.
 fn read(text: &[u8], answer: &mut Answer) {
     let mut target: Octets = Vec::new(answer.heap());
     let made = append_list(text, &mut target);
     tell(made, target.as_slice(), answer);
 }
 
-/// The text of strings.
+/// Adds the text of strings.
 fn print(octets: &[u8], answer: &mut Answer) {
     let mut target: Octets = Vec::new(answer.heap());
     let made = append_list_text(octets, &mut target);

@@ -26,7 +26,8 @@ fn take<B: OctetsBuilder>(
     take_location(&mut source, target)
 }
 
-/// The octets of the location that a text spells; or why it spells none, a bar, and the place.
+/// Adds the octets of the location that a text spells; or why it doesn't spell one, a bar, and the
+/// offset.
 fn octets(text: &[u8], answer: &mut Answer) {
     let tokens = tokens_of(text, answer);
     let mut target: Octets = Vec::new(answer.heap());
@@ -40,7 +41,7 @@ fn octets(text: &[u8], answer: &mut Answer) {
     }
 }
 
-/// The words of a location, with blanks between.
+/// The words of a location, separated by blanks.
 #[derive(Drop)]
 struct Shown<'a>(&'a [LocationWord]);
 
@@ -56,7 +57,7 @@ impl fmt::Display for Shown<'_> {
     }
 }
 
-/// Whether a text spells the location of octets.
+/// Returns whether a text spells the location of octets.
 fn spells(text: &[u8], octets: &[u8], answer: &mut Answer) -> bool {
     let tokens = tokens_of(text, answer);
     let mut target: Vec<u8> = Vec::new(answer.alloc());
@@ -64,7 +65,7 @@ fn spells(text: &[u8], octets: &[u8], answer: &mut Answer) -> bool {
     made.is_ok() && target.as_slice() == octets
 }
 
-/// The text of the words of a location, which spells it again.
+/// Adds the text of the words of a location, and checks that it spells the location.
 fn tell_words(words: &[LocationWord], octets: &[u8], answer: &mut Answer) {
     let shown = Shown(words);
     answer.add_shown(&shown);
@@ -77,7 +78,7 @@ fn tell_words(words: &[LocationWord], octets: &[u8], answer: &mut Answer) {
     }
 }
 
-/// The text of the location that octets are, or `none`.
+/// Adds the text of the location in octets, or `none`.
 fn print(octets: &[u8], answer: &mut Answer) {
     let words = location_words(octets);
     answer.hold(is_location(octets) == words.is_some());

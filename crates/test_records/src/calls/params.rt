@@ -18,7 +18,8 @@ pub fn call(name: &str, inputs: &Inputs, answer: &mut Answer) {
     }
 }
 
-/// What is wrong with parameters, with the key that is meant. The text of the kind has none.
+/// What is wrong with parameters, with the key that it is about. The text of the error kind has no
+/// key.
 #[derive(Clone, Copy)]
 struct KeyFault(ErrorKind);
 
@@ -39,12 +40,12 @@ impl fmt::Display for KeyFault {
     }
 }
 
-/// Whether octets are parameters.
+/// Adds whether octets are parameters.
 fn check(octets: &[u8], answer: &mut Answer) {
     tell(check_params(octets).map_err(KeyFault), b"ok", answer);
 }
 
-/// Parameters as `KEY=VALUE` with commas between.
+/// Adds parameters as `KEY=VALUE`, separated by commas.
 fn parse(octets: &[u8], answer: &mut Answer) {
     let mut is_first = true;
     for param in Params::new(octets) {
@@ -56,7 +57,7 @@ fn parse(octets: &[u8], answer: &mut Answer) {
     }
 }
 
-/// A parameter `KEY=VALUE`, in its parts.
+/// Returns the key and the value of a parameter `KEY=VALUE`.
 fn parts_of<'a>(param: &'a [u8], answer: &mut Answer) -> (u16, &'a [u8]) {
     let Some(at) = param.iter().position(|octet| *octet == b'=') else {
         answer.fail(Failure::BadInputs);
@@ -66,14 +67,14 @@ fn parts_of<'a>(param: &'a [u8], answer: &mut Answer) -> (u16, &'a [u8]) {
     (key, param.get(at + 1..).unwrap_or_default())
 }
 
-/// Appends a parameter behind others, with no length yet.
+/// Appends a parameter after others, without its length.
 fn append(key: u16, value: &[u8], target: &mut Octets<'_>) -> Result<(), ShortBuf> {
     target.append_slice(&key.to_be_bytes())?;
     target.append_slice(&[0, 0])?;
     target.append_slice(value)
 }
 
-/// Adds a parameter in its place. Returns whether it was added.
+/// Inserts a parameter in order. Returns whether it was inserted.
 fn add(param: &[u8], target: &mut Octets<'_>, answer: &mut Answer) -> bool {
     let (key, value) = parts_of(param, answer);
     let at = target.len();
@@ -94,7 +95,7 @@ fn add(param: &[u8], target: &mut Octets<'_>, answer: &mut Answer) -> bool {
     }
 }
 
-/// The octets of parameters, which are added in their order.
+/// Adds the octets of parameters, which are inserted in their order.
 fn settle(inputs: &[Vec<u8>], answer: &mut Answer) {
     let mut target: Octets = Vec::new(answer.heap());
     for param in inputs {

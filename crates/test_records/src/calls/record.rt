@@ -25,7 +25,7 @@ pub fn call(name: &str, inputs: &Inputs, answer: &mut Answer) {
     }
 }
 
-/// The type that a text names.
+/// Returns the type with a name.
 fn rtype_of(text: &[u8], answer: &mut Answer) -> RecordType {
     match RecordType::from_text(text) {
         Ok(rtype) => rtype,
@@ -36,7 +36,7 @@ fn rtype_of(text: &[u8], answer: &mut Answer) -> RecordType {
     }
 }
 
-/// The data that a text spells.
+/// Returns the data that a text spells.
 fn data_of<'a>(kind: &[u8], text: &[u8], answer: &mut Answer<'a>) -> Option<Data<Octets<'a>>> {
     let rtype = rtype_of(kind, answer);
     let mut tokens: Vec<EntryToken<'_>> = Vec::new(answer.alloc());
@@ -56,7 +56,7 @@ fn data_of<'a>(kind: &[u8], text: &[u8], answer: &mut Answer<'a>) -> Option<Data
     }
 }
 
-/// The record of an owner, a time to live, a class, a type and the text of its data.
+/// Returns the record of an owner, a TTL, a class, a type and the text of its data.
 fn record_of<'r, 'a>(
     fields: &'r [Vec<u8>],
     answer: &mut Answer<'a>,
@@ -80,7 +80,7 @@ fn record_of<'r, 'a>(
     })
 }
 
-/// The text of a record in a layout.
+/// Adds the text of a record in a layout.
 fn print(inputs: &[Vec<u8>], answer: &mut Answer) {
     let [layout, fields @ ..] = inputs else {
         return answer.fail(Failure::BadInputs);
@@ -96,7 +96,7 @@ fn print(inputs: &[Vec<u8>], answer: &mut Answer) {
     }
 }
 
-/// The octets of a record in canonical form.
+/// Adds the octets of a record in canonical form.
 fn canonical(inputs: &[Vec<u8>], answer: &mut Answer) {
     let Some(record) = record_of(inputs, answer) else {
         return;
@@ -108,7 +108,7 @@ fn canonical(inputs: &[Vec<u8>], answer: &mut Answer) {
     }
 }
 
-/// The order of two records.
+/// Adds the order of two records.
 fn compare(inputs: &[Vec<u8>], answer: &mut Answer) {
     if inputs.len() != 10 {
         return answer.fail(Failure::BadInputs);
@@ -126,7 +126,7 @@ fn compare(inputs: &[Vec<u8>], answer: &mut Answer) {
     });
 }
 
-/// Octets as data of a type, and back.
+/// Adds octets as data of a type, and back.
 fn wire((kind, octets): (&[u8], &[u8]), answer: &mut Answer) {
     let rtype = rtype_of(kind, answer);
     match Data::from_octets(rtype, octets) {
@@ -141,7 +141,7 @@ fn wire((kind, octets): (&[u8], &[u8]), answer: &mut Answer) {
     }
 }
 
-/// The octets of a field of data, or `none`.
+/// Adds the octets of a field of data, or `none`.
 fn part(inputs: &[Vec<u8>], answer: &mut Answer) {
     let [kind, text, place] = inputs else {
         return answer.fail(Failure::BadInputs);

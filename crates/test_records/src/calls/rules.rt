@@ -1,4 +1,4 @@
-//! What is found in zones.
+//! Findings of zones.
 use super::tell::{Octets, number16, origin_of};
 use super::zone::state_of;
 use dns_fields::RecordError;
@@ -16,10 +16,10 @@ use zone_dnssec::{SecurityFinding, Times, check_signed};
 use zone_rules::names::view;
 use zone_rules::{Finding, RrsetName, SortedRecords, SortedSets, check_zone};
 
-/// A record in memory of which one growth may be refused.
+/// A record in memory of which one allocation may fail.
 type HeapRecord<'a> = Record<Octets<'a>, Octets<'a>>;
 
-/// The record of the state's owner, a time to live, a class, and data of a type.
+/// Returns the record of the state's owner, a TTL, a class, and data of a type.
 fn record_of<'a>(
     state: &State,
     ttl: u32,
@@ -45,7 +45,7 @@ fn record_of<'a>(
     }
 }
 
-/// Adds the record of an entry that was read, if it is one. Returns whether reading goes on.
+/// Appends the record of an entry that was read, if it is one. Returns whether reading continues.
 fn add_record<'a>(
     state: &State,
     read: EntryRead,
@@ -76,7 +76,7 @@ fn add_record<'a>(
     true
 }
 
-/// Why an entry is refused. A row is not run where its text is not of the grammar.
+/// Adds why an entry is rejected. A row is not run if its text has a syntax error.
 fn tell_error(error: RecordError, answer: &mut Answer) {
     match error.kind {
         ErrorKind::Syntax(_) => answer.fail(Failure::BadInputs),
@@ -84,7 +84,7 @@ fn tell_error(error: RecordError, answer: &mut Answer) {
     }
 }
 
-/// The records of a text.
+/// Returns the records of a text.
 fn read_records<'a>(
     text: &[u8],
     state: State,
@@ -110,7 +110,7 @@ fn read_records<'a>(
     records
 }
 
-/// A rule, and owner and type of the record that breaks it.
+/// Adds a rule, and owner and type of the record that breaks it.
 fn tell_broken(rule: &str, place: Option<usize>, records: &[HeapRecord<'_>], answer: &mut Answer) {
     answer.add_text(rule);
     if let Some(place) = place {
@@ -124,18 +124,18 @@ fn tell_broken(rule: &str, place: Option<usize>, records: &[HeapRecord<'_>], ans
     answer.add_text(";");
 }
 
-/// What a zone breaks, by rule and record.
+/// Adds a finding of a zone, by rule and record.
 fn tell_finding(finding: &Finding, records: &[HeapRecord<'_>], answer: &mut Answer) {
     tell_broken(finding.rule.name(), finding.record, records, answer);
 }
 
-/// What a signed zone breaks, by rule and record.
+/// Adds a finding of a signed zone, by rule and record.
 fn tell_insecure(finding: &SecurityFinding, records: &[HeapRecord<'_>], answer: &mut Answer) {
     let place = Some(finding.record);
     tell_broken(finding.rule.name(), place, records, answer);
 }
 
-/// What is found in a zone of sorted records, beside RRsets of which an entry was refused.
+/// Adds the findings of a zone of sorted records, with RRsets that have a rejected entry.
 fn tell_found(
     records: &[HeapRecord<'_>],
     refused: &SortedSets<'_>,
@@ -155,7 +155,7 @@ fn tell_found(
     }
 }
 
-/// What is found in a zone: its text, and its origin.
+/// Adds the findings of a zone. The inputs are its text and its origin.
 pub fn rules(inputs: &[Vec<u8>], answer: &mut Answer) {
     let [text, origin @ ..] = inputs else {
         return answer.fail(Failure::BadInputs);
@@ -171,7 +171,7 @@ pub fn rules(inputs: &[Vec<u8>], answer: &mut Answer) {
     tell_found(records.as_slice(), &SortedSets::none(), &name, answer);
 }
 
-/// The RRsets of records, in canonical order.
+/// Returns the RRsets of records, in canonical order.
 fn sets_of<'r, A: Allocator + Copy>(
     records: &'r [HeapRecord<'_>],
     alloc: A,
@@ -188,8 +188,8 @@ fn sets_of<'r, A: Allocator + Copy>(
     Ok(sets)
 }
 
-/// What is found in a zone of which entries were refused: its text, its origin, and a text of records
-/// whose owners and types are those of the refused entries.
+/// Adds the findings of a zone with rejected entries. The inputs are its text, its origin, and a
+/// text of records with the owners and types of the rejected entries.
 pub fn refused(inputs: &[Vec<u8>], answer: &mut Answer) {
     let [text, origin, others] = inputs else {
         return answer.fail(Failure::BadInputs);
@@ -214,12 +214,13 @@ pub fn refused(inputs: &[Vec<u8>], answer: &mut Answer) {
     tell_found(records.as_slice(), &sets, &name, answer);
 }
 
-/// The seconds that a text spells.
+/// Returns the seconds that a text spells.
 fn seconds_of(text: &[u8]) -> Option<u32> {
     str::from_utf8(text).ok()?.parse::<u32>().ok()
 }
 
-/// What is found in a signed zone: its text, its origin, an instant and a margin.
+/// Adds the findings of a signed zone. The inputs are its text, its origin, an instant and a
+/// margin.
 pub fn dnssec(inputs: &[Vec<u8>], answer: &mut Answer) {
     let [text, origin, instant, margin] = inputs else {
         return answer.fail(Failure::BadInputs);
@@ -249,7 +250,8 @@ pub fn dnssec(inputs: &[Vec<u8>], answer: &mut Answer) {
     }
 }
 
-/// The owner of the NSEC3 that matches a name: the name, salt and iterations, and the origin.
+/// Adds the owner of the NSEC3 that matches a name. The inputs are the name, salt and iterations,
+/// and the origin.
 pub fn hash(inputs: &[Vec<u8>], answer: &mut Answer) {
     let [name, salt, iterations, origin] = inputs else {
         return answer.fail(Failure::BadInputs);

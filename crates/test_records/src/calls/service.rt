@@ -18,7 +18,8 @@ fn take<B: OctetsBuilder + AsOctetsMut>(
     take_params(&mut source, target)
 }
 
-/// The octets of the parameters that a text spells, or why it is no zone text or spells none.
+/// Adds the octets of the parameters that a text spells, or why it has a syntax error or doesn't
+/// spell any.
 pub fn read(text: &[u8], answer: &mut Answer) {
     let mut tokens: Vec<EntryToken<'_>> = Vec::new(answer.alloc());
     let mut entries = EntryTokens::of_octets(text);
@@ -32,7 +33,7 @@ pub fn read(text: &[u8], answer: &mut Answer) {
     }
 }
 
-/// Octets, whose parameters print with blanks between.
+/// Octets, whose parameters are printed with blanks between.
 #[derive(Drop)]
 struct Shown<'a>(&'a [u8]);
 
@@ -52,7 +53,7 @@ impl fmt::Display for Shown<'_> {
     }
 }
 
-/// Whether a text spells the parameters of octets.
+/// Returns whether a text spells the parameters of octets.
 fn spells(text: &[u8], octets: &[u8], answer: &Answer) -> bool {
     let mut tokens: Vec<EntryToken<'_>> = Vec::new(answer.alloc());
     let mut entries = EntryTokens::of_octets(text);
@@ -64,7 +65,7 @@ fn spells(text: &[u8], octets: &[u8], answer: &Answer) -> bool {
     made.is_ok() && target.as_slice() == octets
 }
 
-/// The text of parameters, which spells them again.
+/// Adds the text of parameters, and checks that it spells them.
 pub fn print(octets: &[u8], answer: &mut Answer) {
     let shown = Shown(octets);
     answer.add_shown(&shown);

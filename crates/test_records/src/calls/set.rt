@@ -34,12 +34,12 @@ pub fn call(name: &str, inputs: &Inputs, answer: &mut Answer) {
     }
 }
 
-/// Says that memory was lacking.
+/// Adds that memory is out.
 fn lack(answer: &mut Answer) {
     answer.refuse_text(super::SHORT);
 }
 
-/// Says that an entry is refused, or that memory was lacking.
+/// Adds that an entry is rejected, or that memory is out.
 fn tell_refusal(error: RecordError, answer: &mut Answer) {
     match error.kind {
         ErrorKind::ShortBuf => lack(answer),
@@ -47,7 +47,7 @@ fn tell_refusal(error: RecordError, answer: &mut Answer) {
     }
 }
 
-/// The record of an entry, whose owner is the state's.
+/// Returns the record of an entry, whose owner is the state's.
 fn record_of<'a>(
     state: &State,
     ttl: u32,
@@ -65,7 +65,8 @@ fn record_of<'a>(
     })
 }
 
-/// The records of a zone's text, in their order; or none, which the answer says why.
+/// Returns the records of a zone's text, in their order, or `None` after adding the reason to the
+/// answer.
 fn read<'a>(text: &[u8], state: State, answer: &mut Answer<'a>) -> Option<Records<'a>> {
     let mut records: Records<'a> = ZoneSet::new(answer.heap());
     let mut reader = RecordReader::new(text, state);
@@ -102,7 +103,7 @@ fn read<'a>(text: &[u8], state: State, answer: &mut Answer<'a>) -> Option<Record
     Some(records)
 }
 
-/// The state where a zone's text begins.
+/// Returns the state at the start of a zone's text.
 fn state_of(origin: Option<&Name<&[u8]>>) -> State {
     let state = State::new(Class::IN);
     match origin {
@@ -114,7 +115,8 @@ fn state_of(origin: Option<&Name<&[u8]>>) -> State {
     }
 }
 
-/// The records of a zone's text in canonical order, and how many duplicates went.
+/// Returns the records of a zone's text in canonical order, and the number of duplicates that were
+/// removed.
 fn canonical<'a>(
     text: &[u8],
     origin: Option<&Name<&[u8]>>,
@@ -130,13 +132,13 @@ fn canonical<'a>(
     }
 }
 
-/// A record as one line, a semicolon behind it.
+/// Adds a record as one line, and a semicolon after it.
 fn tell_record(record: &OneRecord<'_>, answer: &mut Answer) {
     answer.add_shown(&record.display_zonefile(DisplayKind::Simple));
     answer.add_text(";");
 }
 
-/// The records of a text, sorted.
+/// Adds the records of a text, sorted.
 fn sort(inputs: &[Vec<u8>], answer: &mut Answer) {
     let [text, origin @ ..] = inputs else {
         return answer.fail(Failure::BadInputs);
@@ -153,7 +155,7 @@ fn sort(inputs: &[Vec<u8>], answer: &mut Answer) {
     }
 }
 
-/// How many duplicates went, and the records that are left.
+/// Adds the number of duplicates that were removed, and the records that are left.
 fn unique(inputs: &[Vec<u8>], answer: &mut Answer) {
     let [text, origin @ ..] = inputs else {
         return answer.fail(Failure::BadInputs);
@@ -169,7 +171,7 @@ fn unique(inputs: &[Vec<u8>], answer: &mut Answer) {
     }
 }
 
-/// A change: `-`, `+` or `~` and the time to live that was, in front of the record.
+/// Adds a change: `-` or `+` before the record, or `~` and the old TTL before it.
 fn tell_change(change: &Change<'_, Owner, Octets<'_>>, answer: &mut Answer) {
     match change {
         Change::Removed(record) => {
@@ -189,7 +191,7 @@ fn tell_change(change: &Change<'_, Owner, Octets<'_>>, answer: &mut Answer) {
     }
 }
 
-/// What two texts differ in.
+/// Adds the differences between two texts.
 fn diff((old, new): (&[u8], &[u8]), answer: &mut Answer) {
     let Some((old, _)) = canonical(old, None, answer) else {
         return;
@@ -207,7 +209,7 @@ fn diff((old, new): (&[u8], &[u8]), answer: &mut Answer) {
     }
 }
 
-/// The digest of a zone by a hash algorithm.
+/// Adds the digest of a zone by a hash algorithm.
 fn digest(inputs: &[Vec<u8>], answer: &mut Answer) {
     let [hash, text, origin @ ..] = inputs else {
         return answer.fail(Failure::BadInputs);
@@ -232,7 +234,7 @@ fn digest(inputs: &[Vec<u8>], answer: &mut Answer) {
     }
 }
 
-/// What came of the check of a ZONEMD record.
+/// Returns the text of a verdict on a ZONEMD record.
 fn verdict_text(verdict: Verdict) -> &'static str {
     match verdict {
         Verdict::Matches => "matches",
@@ -244,7 +246,7 @@ fn verdict_text(verdict: Verdict) -> &'static str {
     }
 }
 
-/// The verdicts of the ZONEMD records of a zone.
+/// Adds the verdicts on the ZONEMD records of a zone.
 fn check(inputs: &[Vec<u8>], answer: &mut Answer) {
     let [text, origin @ ..] = inputs else {
         return answer.fail(Failure::BadInputs);
@@ -267,7 +269,7 @@ fn check(inputs: &[Vec<u8>], answer: &mut Answer) {
     }
 }
 
-/// A number of 32 bits in decimal digits.
+/// Returns a number of 32 bits, from decimal digits.
 fn number32(digits: &[u8], answer: &mut Answer) -> u32 {
     match u32::try_from(number_of(digits).unwrap_or(usize::MAX)) {
         Ok(number) => number,
@@ -278,14 +280,14 @@ fn number32(digits: &[u8], answer: &mut Answer) -> u32 {
     }
 }
 
-/// Whether a serial number rises to another.
+/// Adds whether a serial is less than another.
 fn rises((old, new): (&[u8], &[u8]), answer: &mut Answer) {
     let old = number32(old, answer);
     let new = number32(new, answer);
     answer.add_bool(serial_rises(old, new));
 }
 
-/// Whether the signing of a zone adds records of a type.
+/// Adds whether signing a zone adds records of a type.
 fn signing(digits: &[u8], answer: &mut Answer) {
     let rtype = RecordType(number16(digits, answer));
     answer.add_bool(is_dnssec(rtype));

@@ -41,7 +41,7 @@ pub fn octets(name: &str, inputs: &Inputs, answer: &mut Answer) {
     }
 }
 
-/// The octets of the name that a text spells, before an origin if there is one.
+/// Adds the octets of the name that a text spells, with an origin after it if there is one.
 fn spell_name(inputs: &[Vec<u8>], answer: &mut Answer) {
     let [text, origin @ ..] = inputs else {
         return answer.fail(Failure::BadInputs);
@@ -70,7 +70,7 @@ fn spell_octets(text: &[u8], answer: &mut Answer) {
     tell(made, target.as_slice(), answer);
 }
 
-/// The octets of a character string or a tag behind its length.
+/// Returns the octets of a character string or a tag after its length.
 fn behind_length<'a>(width: Option<usize>, octets: &'a [u8], answer: &mut Answer) -> &'a [u8] {
     if width != Some(octets.len()) {
         answer.fail(Failure::BadInputs);

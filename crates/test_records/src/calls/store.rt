@@ -13,10 +13,10 @@ use zone_store::{
     split_counted, split_stored,
 };
 
-/// Groups in memory of which one growth may be refused.
+/// Groups in memory of which one allocation may fail.
 type Groups<'a> = Vec<Group, &'a Heap>;
 
-/// Offsets in memory of which one growth may be refused.
+/// Offsets in memory of which one allocation may fail.
 type Offsets<'a> = Vec<usize, &'a Heap>;
 
 pub fn call(name: &str, inputs: &Inputs, answer: &mut Answer) {
@@ -162,7 +162,7 @@ fn add_counted<'a>(count: usize, answer: &mut Answer<'a>) -> Result<(), AllocErr
     Ok(())
 }
 
-/// Adds the length of as many octets as its input says, as it is stored.
+/// Adds the length of octets as it is stored. The input is their number.
 fn counted(digits: &[u8], answer: &mut Answer) {
     let Some(count) = number_of(digits) else {
         return answer.fail(Failure::BadInputs);

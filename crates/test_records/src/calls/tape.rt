@@ -4,7 +4,7 @@ use dns_split::entry_tokens::{EntryPart, EntryToken, EntryTokens};
 use dns_tape::{TAPE_CAPACITY, Tape, TapeTokens, TokenSpan, fill};
 use row_table::{Answer, Failure, Inputs};
 
-/// The base of offsets that is tried beside 0.
+/// The base of offsets that is tried besides 0.
 const BASE: usize = 100;
 
 pub fn call(name: &str, inputs: &Inputs, answer: &mut Answer) {
@@ -14,8 +14,8 @@ pub fn call(name: &str, inputs: &Inputs, answer: &mut Answer) {
     }
 }
 
-/// Adds the tokens of the first entry and the offset of its end, or `none`. What the tape held
-/// before doesn't count.
+/// Adds the tokens of the first entry and the offset of its end, or `none`. The tape's old contents
+/// don't count.
 fn add_filled(octets: &[u8], answer: &mut Answer) {
     let mut tape = Tape::new();
     let _other = fill(b"other (tokens", &mut tape);
@@ -64,7 +64,7 @@ fn add_tokens(mut tokens: TapeTokens, mut reader: EntryTokens, answer: &mut Answ
     answer.fail(Failure::Unlike);
 }
 
-/// Whether the tokens and the end have their offsets after the base.
+/// Returns whether the tokens and the end have their offsets after the base.
 fn is_moved(mut tokens: TapeTokens, spans: &[TokenSpan], end: usize) -> bool {
     let mut holds = true;
     for span in spans {

@@ -1,13 +1,13 @@
-//! What calls take and what they made, as rows spell it.
+//! Inputs and results of calls, as they are spelled in rows.
 use dns_wire::Name;
 use row_table::input::number_of;
 use row_table::{Answer, Failure, Heap};
 use std::fmt;
 
-/// Octets in memory of which one growth may be refused.
+/// Octets in memory of which one allocation may fail.
 pub type Octets<'a> = Vec<u8, &'a Heap>;
 
-/// What was appended, or the refusal.
+/// Adds the octets that were appended, or the error.
 pub fn tell<E: fmt::Display + Drop>(made: Result<(), E>, target: &[u8], answer: &mut Answer) {
     match made {
         Ok(()) => answer.add(target),
@@ -15,7 +15,7 @@ pub fn tell<E: fmt::Display + Drop>(made: Result<(), E>, target: &[u8], answer: 
     }
 }
 
-/// How many octets stand in front, or `none`.
+/// Adds the number of octets, or `none`.
 pub fn tell_width(width: Option<usize>, answer: &mut Answer) {
     match width {
         Some(width) => answer.add_number(width),
@@ -23,12 +23,12 @@ pub fn tell_width(width: Option<usize>, answer: &mut Answer) {
     }
 }
 
-/// A comma, but not in front of what is first.
+/// Adds a comma, unless the next item is the first.
 pub fn add_comma(is_first: bool, answer: &mut Answer) {
     answer.add_text(if is_first { "" } else { "," });
 }
 
-/// A number of 16 bits in decimal digits.
+/// Returns a number of 16 bits, from decimal digits.
 pub fn number16(digits: &[u8], answer: &mut Answer) -> u16 {
     let number = number_of(digits).unwrap_or(usize::MAX);
     let made = u16::try_from(number);
@@ -38,7 +38,7 @@ pub fn number16(digits: &[u8], answer: &mut Answer) -> u16 {
     made.unwrap_or(0)
 }
 
-/// A number of 8 bits in decimal digits.
+/// Returns a number of 8 bits, from decimal digits.
 pub fn number8(digits: &[u8], answer: &mut Answer) -> u8 {
     let made = u8::try_from(number16(digits, answer));
     if made.is_err() {
@@ -47,7 +47,7 @@ pub fn number8(digits: &[u8], answer: &mut Answer) -> u8 {
     made.unwrap_or(0)
 }
 
-/// The origin, if a row has one.
+/// Returns the origin, if a row has one.
 pub fn origin_of<'a>(inputs: &'a [Vec<u8>], answer: &mut Answer) -> Option<Name<&'a [u8]>> {
     match inputs {
         [] => None,

@@ -1,4 +1,4 @@
-//! Entries of zone text, each by the state before it.
+//! Entries of zone files, each by the state before it.
 use super::blocks::{blocks, limit};
 use super::cut::cut;
 use super::data::Why;
@@ -10,8 +10,8 @@ use dns_reader::{EntryRead, NameBuffer, RecordReader, RecordTtl, State, include_
 use dns_split::pieces::Wrong;
 use row_table::{Answer, Failure, Inputs};
 
-/// What is asked for in turn: each entry; the same, of another reader each time, which starts where
-/// the one before stands; or records and files alone.
+/// The steps of a row: each entry; or each entry from a new reader, which starts where the one
+/// before stopped; or only records and files.
 #[derive(Clone, Copy)]
 enum Step {
     Entry,
@@ -35,7 +35,7 @@ pub fn call(name: &str, inputs: &Inputs, answer: &mut Answer) {
     }
 }
 
-/// Where a time to live comes from.
+/// Returns where a TTL comes from.
 fn ttl_kind(ttl: RecordTtl) -> &'static str {
     match ttl {
         RecordTtl::Own(_) => "own",
@@ -45,7 +45,7 @@ fn ttl_kind(ttl: RecordTtl) -> &'static str {
     }
 }
 
-/// A time to live, and where it comes from.
+/// Adds a TTL, and where it comes from.
 fn tell_ttl(ttl: RecordTtl, answer: &mut Answer) {
     answer.add_text(ttl_kind(ttl));
     answer.add_text(" ");
@@ -53,7 +53,7 @@ fn tell_ttl(ttl: RecordTtl, answer: &mut Answer) {
     answer.add_text("|");
 }
 
-/// The owner of a record.
+/// Adds the owner of a record.
 fn tell_owner(state: &State, answer: &mut Answer) {
     match state.owner() {
         Ok(owner) => answer.add(owner.as_slice()),
@@ -62,7 +62,7 @@ fn tell_owner(state: &State, answer: &mut Answer) {
     answer.add_text("|");
 }
 
-/// What is read of an entry: of a record its place, owner, time to live, class, type and data.
+/// Adds an entry: of a record its offset, owner, TTL, class, type and data.
 pub fn tell_read(state: &State, read: EntryRead, octets: &[u8], answer: &mut Answer) {
     match read {
         EntryRead::Nothing => answer.add_text("nothing"),
@@ -95,7 +95,7 @@ pub fn tell_read(state: &State, read: EntryRead, octets: &[u8], answer: &mut Ans
     }
 }
 
-/// Why an entry is refused, and the place.
+/// Adds why an entry is rejected, and the offset.
 fn tell_refusal(error: RecordError, answer: &mut Answer) {
     let offset = error.offset;
     answer.refuse(&Why(error));
@@ -103,7 +103,7 @@ fn tell_refusal(error: RecordError, answer: &mut Answer) {
     answer.add_number(offset);
 }
 
-/// What is wrong with a text.
+/// Returns the name of a syntax error.
 fn wrong_name(wrong: Wrong) -> &'static str {
     match wrong {
         Wrong::Closing => "closing",
@@ -114,14 +114,14 @@ fn wrong_name(wrong: Wrong) -> &'static str {
     }
 }
 
-/// A fault of the text, and its place.
+/// Adds a syntax error of the text, and its offset.
 fn tell_fault(offset: usize, wrong: Wrong, answer: &mut Answer) {
     answer.refuse_text(wrong_name(wrong));
     answer.add_text("|");
     answer.add_number(offset);
 }
 
-/// Why an entry is not given. Returns whether memory sufficed.
+/// Adds why an entry is rejected. Returns whether memory sufficed.
 pub fn tell_not_given(error: RecordError, answer: &mut Answer) -> bool {
     match error.kind {
         ErrorKind::ShortBuf => {
@@ -134,7 +134,7 @@ pub fn tell_not_given(error: RecordError, answer: &mut Answer) -> bool {
     true
 }
 
-/// Takes one step. Returns whether there are more.
+/// Reads one step. Returns whether more follow.
 fn tell_step(reader: &mut RecordReader<'_>, step: Step, answer: &mut Answer) -> bool {
     let mut target: Octets = Vec::new(answer.heap());
     let given = match step {
@@ -155,7 +155,7 @@ fn tell_step(reader: &mut RecordReader<'_>, step: Step, answer: &mut Answer) -> 
     goes_on
 }
 
-/// The state where reading begins: with an origin, or without.
+/// Returns the state at the start of reading: with an origin, or without.
 pub fn state_of(origin: &[Vec<u8>], answer: &mut Answer) -> State {
     let state = State::new(Class::IN);
     match origin_of(origin, answer) {
@@ -167,7 +167,7 @@ pub fn state_of(origin: &[Vec<u8>], answer: &mut Answer) -> State {
     }
 }
 
-/// A reader that starts where another stands.
+/// Returns a reader that starts where another stopped.
 fn started_again<'t>(
     text: &'t [u8],
     reader: RecordReader<'t>,
@@ -181,7 +181,7 @@ fn started_again<'t>(
     RecordReader::starting_at(text, at, reader.state.copied())
 }
 
-/// The entries of a text, one after another.
+/// Adds the entries of a text, one after another.
 fn zone(inputs: &[Vec<u8>], step: Step, answer: &mut Answer) {
     let [text, origin @ ..] = inputs else {
         return answer.fail(Failure::BadInputs);
