@@ -1,9 +1,9 @@
-//! The calls that rows name.
+//! The calls of rows.
 use crate::near::damaged;
 use crate::short::short;
 use row_table::{Answer, Calls, Failure, Inputs};
 
-/// The calls of octets that may be data.
+/// The calls about octets that may be data.
 pub struct Wire;
 
 impl Calls for Wire {

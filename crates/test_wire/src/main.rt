@@ -1,7 +1,8 @@
-//! A program over rows: octets that may be data of a type, with how many of them are wanted to be.
+//! A test program over rows: octets that may be data of a type, and the expected number of those
+//! that are.
 //!
-//! Standard input has the rows, as `row_table` says. Of each row that differs a line is printed with
-//! the answer that was found.
+//! Standard input has the rows, in the format of `row_table`. For each row whose result differs, a
+//! line with the actual result is printed.
 #![tactic(auto)]
 
 mod calls;

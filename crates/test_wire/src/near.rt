@@ -1,9 +1,9 @@
-//! Octets that are near given ones.
+//! Octets that differ a little from given ones.
 use crate::trial::Trial;
 use row_table::{Answer, Failure};
 use std::alloc::{AllocError, Global};
 
-/// Tries octets with each other value of the one at a place.
+/// Tries octets with each other value of the octet at an index.
 fn try_values(trial: &mut Trial, octets: &[u8], place: usize, answer: &mut Answer) {
     let Ok(mut changed) = octets.to_vec(answer.alloc()) else {
         return answer.fail_for_memory();
@@ -16,7 +16,7 @@ fn try_values(trial: &mut Trial, octets: &[u8], place: usize, answer: &mut Answe
     }
 }
 
-/// How many of the lists in which one octet has another value are data.
+/// Adds the number of lists with one octet changed that are data.
 fn tell_changed(mut trial: Trial, octets: &[u8], answer: &mut Answer) {
     for place in 0..octets.len() {
         try_values(&mut trial, octets, place, answer);
@@ -24,7 +24,7 @@ fn tell_changed(mut trial: Trial, octets: &[u8], answer: &mut Answer) {
     answer.add_number(trial.count());
 }
 
-/// How many of the beginnings, which are shorter, are data.
+/// Adds the number of shorter beginnings that are data.
 fn tell_cut(mut trial: Trial, octets: &[u8], answer: &mut Answer) {
     for length in 0..octets.len() {
         trial.take(&octets[..length], answer);
@@ -32,14 +32,14 @@ fn tell_cut(mut trial: Trial, octets: &[u8], answer: &mut Answer) {
     answer.add_number(trial.count());
 }
 
-/// Octets of which the one at a place stands twice.
+/// Returns octets with the one at an index doubled.
 fn doubled(octets: &[u8], place: usize, alloc: Global) -> Result<Vec<u8>, AllocError> {
     let mut made = octets.get(..=place).unwrap_or_default().to_vec(alloc)?;
     made.extend_from_slice(octets.get(place..).unwrap_or_default())?;
     Ok(made)
 }
 
-/// How many of the lists in which one octet stands twice are data.
+/// Adds the number of lists with one octet doubled that are data.
 fn tell_doubled(mut trial: Trial, octets: &[u8], answer: &mut Answer) {
     for place in 0..octets.len() {
         match doubled(octets, place, answer.alloc()) {
@@ -50,9 +50,9 @@ fn tell_doubled(mut trial: Trial, octets: &[u8], answer: &mut Answer) {
     answer.add_number(trial.count());
 }
 
-/// How many of the octets near given ones are data: of those in which one octet has another value,
-/// of those that are cut off, and of those in which one octet stands twice, with commas between.
-/// The inputs are the type and the octets.
+/// Adds how many of the octets near given ones are data: of those with one octet changed, of those
+/// that are cut off, and of those with one octet doubled, separated by commas. The inputs are the
+/// type and the octets.
 pub fn damaged(inputs: &[Vec<u8>], answer: &mut Answer) {
     let [name, octets] = inputs else {
         return answer.fail(Failure::BadInputs);

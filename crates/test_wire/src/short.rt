@@ -3,7 +3,7 @@ use crate::trial::Trial;
 use row_table::input::number_of;
 use row_table::{Answer, Failure};
 
-/// How many lists of octets have a length, which is at most 3.
+/// Returns the number of lists of octets with a length, which is at most 3.
 fn lists_of(length: usize) -> Option<u32> {
     match length {
         0 => Some(1),
@@ -14,7 +14,7 @@ fn lists_of(length: usize) -> Option<u32> {
     }
 }
 
-/// How many of the lists of a length are data.
+/// Adds the number of lists of a length that are data.
 fn tell_length(mut trial: Trial, length: usize, answer: &mut Answer) {
     let Some(count) = lists_of(length) else {
         return answer.fail(Failure::BadInputs);
@@ -27,9 +27,9 @@ fn tell_length(mut trial: Trial, length: usize, answer: &mut Answer) {
     answer.add_number(trial.count());
 }
 
-/// How many of the lists of no octets, of one, and so on up to a length of at most 3, are data, with
-/// commas between. The inputs are the type, the length, and of how many data of three octets one is
-/// read again; shorter data all are.
+/// Adds how many of the lists of no octets, of one, and so on up to a length of at most 3, are
+/// data, separated by commas. The inputs are the type, the length, and the step by which data of
+/// three octets is parsed again; all shorter data is.
 pub fn short(inputs: &[Vec<u8>], answer: &mut Answer) {
     let [name, greatest, step] = inputs else {
         return answer.fail(Failure::BadInputs);

@@ -1,4 +1,4 @@
-//! Octets that are tried as data of a type.
+//! Tries octets as data of a type.
 use dns_data::{Shape, check_data, read_type, type_row, write_data};
 use dns_fields::TokenList;
 use dns_kinds::RecordType;
@@ -9,7 +9,7 @@ use row_table::Answer;
 use std::alloc::Global;
 use std::fmt;
 
-/// Data of a shape, which print as their tokens with a blank between.
+/// Data of a shape, which is printed as tokens with a blank between.
 #[derive(Drop)]
 struct Shown<'a> {
     shape: Shape,
@@ -29,8 +29,8 @@ impl fmt::Display for Shown<'_> {
     }
 }
 
-/// A type, how many of the octets that were tried are data of it, and whether all of these that
-/// were read again are the same.
+/// A type, the number of lists tried so far that are data of it, and whether all of these that were
+/// parsed again are the same.
 #[derive(Clone, Copy)]
 pub struct Trial {
     /// The number of the type. (A struct with a [`RecordType`] isn't passed on by value.)
@@ -42,8 +42,8 @@ pub struct Trial {
 }
 
 impl Trial {
-    /// That of the type with a name, with nothing tried. Of the data that is found, each whose
-    /// number is a multiple of the step is read again.
+    /// Returns the trial of the type with a name, with nothing tried. Of the data that is found,
+    /// each whose index is a multiple of the step is parsed again.
     pub fn new(name: &[u8], step: usize) -> Option<Trial> {
         let rtype = RecordType::from_text(name).ok()?;
         let shape = type_row(rtype)?.shape();
@@ -56,12 +56,12 @@ impl Trial {
         })
     }
 
-    /// How many of the octets that were tried are data.
+    /// Returns the number of lists tried so far that are data.
     pub fn count(&self) -> usize {
         self.count
     }
 
-    /// Whether data print as the text of one entry, which is read as the same data.
+    /// Returns whether data is printed as the text of one entry, which is parsed as the same data.
     fn reads_again(&self, octets: &[u8], alloc: Global) -> bool {
         let shown = Shown {
             shape: self.shape,
@@ -83,7 +83,7 @@ impl Trial {
         made.is_ok() && target.as_slice() == octets
     }
 
-    /// Tries octets, and tells of the first data that are not read again as the same.
+    /// Tries octets, and adds the first data that is not parsed again as the same.
     pub fn take(&mut self, octets: &[u8], answer: &mut Answer) {
         if !self.are_same || !check_data(&self.shape, octets) {
             return;
