@@ -1,4 +1,4 @@
--- Readers that stand alike give alike.
+-- Readers in alike states return the same.
 use Rattle.std.proofs.Common.{◌≡◌, ℕ, List, [], ◌∷◌, ◌++◌, Option, Some, None, Result, Ok, Err, refl, sym, subst, ◌∙◌}
 use Rattle.dns_octets.specs.Room.{Room}
 use Rattle.dns_split.specs.declared.pieces.Fault.{Fault}
@@ -13,7 +13,7 @@ use Rattle.zone_cut.specs.Alike.{AreAlike, AreGivenAlike, IsGivenAlike, StandAli
 use Rattle.zone_cut.specs.CutLaws.{AlikeReadersGiveAlike}
 use Rattle.zone_cut.proofs.AlikeStates.{read_alike}
 
--- a reader of the same octets that stands where another does, behind a state
+-- a reader of the same octets at the position of another, with a given state
 abbrev at_source : RecordReader → State → RecordReader
 at_source r state = record { octets = r.octets; source = r.source; state = state }
 

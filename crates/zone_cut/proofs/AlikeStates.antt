@@ -25,7 +25,7 @@ use Rattle.dns_reader.proofs.Pasts.{newer, ttl_after, ttl_found, ttl_is}
 use Rattle.zone_cut.specs.Alike.{AreAlike}
 use Rattle.zone_cut.specs.CutLaws.{AlikeStatesReadAlike}
 
--- ---- what is said leaves states that are alike
+-- ---- the same values leave states that are alike
 
 origin_same : (a b : State) → a.origin ≡ b.origin → (past : List Said) (o : Known) → IsOriginAfter a past o → IsOriginAfter b past o
 origin_same a b e past o (no_origin_said p q quiet is) = no_origin_said past o quiet (is ∙ e)
@@ -53,7 +53,7 @@ same_record a b at w None e = refl
 same_record a b at w (Some ttl) e = ap (λ k. Ok (Record at ttl (unwrap_or w.class k) w.rtype)) e
 
 module _ (a b : State) (alike : AreAlike a b) where
-  -- what an entry that leaves a state behind one leaves behind the other
+  -- the state that an entry leaves after the one state, moved to the other
   abbrev left_by : List Said → State → State
   left_by said after = record { origin = after.origin; owner = after.owner; default_ttl = after.default_ttl; last_ttl = ttl_after ttl_said b.last_ttl said; class = after.class }
 

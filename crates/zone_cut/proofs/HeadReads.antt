@@ -1,4 +1,4 @@
--- What the lines of a head leave.
+-- The state after the lines of a head.
 use Rattle.std.proofs.Common.{◌≡◌, ◌≢◌, ◌<◌, ◌≤◌, ◌+◌, ◌^◌, ℕ, false, List, [], ◌∷◌, ◌++◌, length, map, Option, Some, None, Result, Ok, refl, sym, subst, ap, ◌∙◌, arith}
 use Rattle.std.specs.Prelude.{codes, decimal, if◌then◌else◌, unwrap_or}
 use Rattle.std.specs.List.{AllByRecursion}
@@ -80,7 +80,7 @@ module _ (room : Room) where
   read_parts [] ys first last h = (first, refl, h)
   read_parts (x ∷ xs) ys first last h = let more = read_parts xs ys h.0 last h.2 in (more.0, (h.0, h.1, more.1), more.2)
 
-  -- the name of an origin, if it is one
+  -- the name of an origin is a name on the wire, if it is known
   abbrev pub IsNameOf : Known → Type 0
   IsNameOf origin = (labels : List (List ℕ)) → known_name origin ≡ Some labels → IsWireName (wire labels)
 
@@ -95,7 +95,7 @@ module _ (room : Room) where
   ttls_read (Some ttl) first last small none h =
       let l : ReadsLine room first _ h.0 = h.1 in h.2 ∙ ttl_read room l.end first h.0 l.old l.new l.result ttl l.tokens small l.printed l.reads
 
-  -- behind a record
+  -- after a record
   record Behind {N O : Type 0} (r : Record N O) (before after : State) : Type 0 where
     origin : after.origin ≡ before.origin
     owner : after.owner ≡ Name r.owner
@@ -112,7 +112,7 @@ module _ (room : Room) where
         let leaves = record_leaves room false l.end l.tokens before after l.old l.new _ (Own r.ttl) r.class own.rtype (subst (λ e. ReadsZoneEntry room false l.end l.tokens before l.old e after l.new) is.0 l.reads) in
         record { origin = leaves.origin; owner = is.1; default_ttl = leaves.ttls.0; last_ttl = leaves.ttls.1; class = leaves.class }
 
-    -- behind records the names and the times to live are those of the last
+    -- after records, the names and the TTLs are those of the last
     records_read : (repeated : Option (Record N O)) (r : Record N O) (first last : State) → AllByRecursion IsKnownRecord (option_to_list repeated) → IsKnownRecord r → AllByRecursion (λ x. x.ttl < 2 ^ 31) (option_to_list repeated ++ r ∷ [])
         → IsOrigin (known_name first.origin) → AreReadInTurn room first (map record_tokens (option_to_list repeated ++ r ∷ [])) last → Behind r first last
     records_read None r first last others known small origin h =
@@ -122,9 +122,9 @@ module _ (room : Room) where
         let two = record_read r h.0 h.2.0 known small.1.0 (subst (λ o. IsOrigin (known_name o)) (sym one.origin) origin) h.2.1 in
         subst (Behind r first) (sym h.2.2) (record { origin = two.origin ∙ one.origin; owner = two.owner; default_ttl = two.default_ttl ∙ one.default_ttl; last_ttl = two.last_ttl; class = two.class ∙ one.class })
 
--- ---- the state for which a head stands
+-- ---- the state that a head describes
 
--- the last time to live counts only where it is that of the record
+-- if no default is known, the last TTL is that of the record
 last_is : (before after : State) (ttl : RecordTtl) → LeavesTtls ttl before after → after.default_ttl ≡ None → after.last_ttl ≡ Some (seconds_of ttl)
 last_is before after (Own n) h none = h.1
 last_is before after (Default n) h none = absurd (none-some n (sym none ∙ h))

@@ -26,6 +26,6 @@ head_has_line h =
     line_behind (lines_of token_steps (origin_lines (state_of h).origin)) (default ++ records)
     (line_behind default records (line_behind (repeated_document h.repeated) (line_of h.first) (line_behind (record_document h.first) (newline ∷ []) refl)))
 
--- the lines of a head that were appended begin a part
+-- the lines of a head that were appended are the beginning of a part
 pub part_begins : (state : State) (read : RecordRef) (old new : List ℕ) (head : PartHead (Bor (List ℕ)) (Bor (List ℕ))) → state_of head ≡ state → IsRecordOf read head.first → PushesHead head old new → BeginsPart state read old new
 part_begins state read old new head same first pushes = record { head = head; state_is = same; first = first; pushes = pushes }

@@ -1,4 +1,4 @@
--- What a record that is read leaves.
+-- The state that a record leaves after it is read.
 use Rattle.std.proofs.Common.{◌≡◌, ℕ, Bool, List, [], ◌++◌, Option, Some, None, Result, Ok, Err, refl, subst, ap, ◌∙◌}
 use Rattle.std.specs.Prelude.{⊤}
 use Rattle.dns_octets.specs.Room.{Room}
@@ -24,7 +24,7 @@ use Rattle.dns_reader.specs.declared.ttl.RecordTtl.TheVariants.{Own, Default, La
 use Rattle.dns_reader.proofs.PastStates.{starts}
 use Rattle.dns_reader.proofs.Pasts.{newer, not_both, silent_both, ttl_after, ttl_is}
 
--- the times to live behind a record, by where its own comes from
+-- the TTLs after a record, by where its own comes from
 abbrev pub LeavesTtls : RecordTtl → State → State → Type 0
 LeavesTtls (Own ttl) before after = (after.default_ttl ≡ before.default_ttl) × (after.last_ttl ≡ Some ttl)
 LeavesTtls (Default ttl) before after = after.default_ttl ≡ Some ttl
@@ -36,7 +36,7 @@ pub record RecordLeaves (before : State) (ttl : RecordTtl) (after : State) : Typ
   pub class : after.class ≡ before.class
   pub ttls : LeavesTtls ttl before after
 
--- ---- where a time to live comes from
+-- ---- where a TTL comes from
 
 abbrev IsFrom : RecordTtl → Option ℕ → Option ℕ → Option ℕ → Type 0
 IsFrom (Own ttl) own default last = own ≡ Some ttl
@@ -55,7 +55,7 @@ from_chosen None None (Some ttl) minimum = (refl, refl)
 from_chosen None None None (Some ttl) = tt
 from_chosen None None None None = tt
 
--- ---- what a record says
+-- ---- what later entries inherit from a record
 
 abbrev said_by : Option TokenSeen → Option ℕ → RecordTtl → List Said
 said_by token own ttl = owner_of_record token ++ (own_ttl_of own ++ minimum_of_ttl ttl)

@@ -1,4 +1,4 @@
--- States behind which entries are read alike.
+-- States from which entries are read alike.
 use Rattle.std.specs.Prelude.{⊤, ◌≡◌, ◌≤◌, ◌+◌, ℕ, false, List, [], ◌∷◌, length, None, Result}
 use Rattle.dns_data.specs.Limits.{max_data}
 use Rattle.dns_data.specs.Rests.{ArePrinted}
@@ -12,7 +12,7 @@ use Rattle.dns_reader.specs.declared.records.RecordReader.{RecordReader}
 use Rattle.dns_reader.specs.declared.state.State.{State}
 use Rattle.zone_cut.specs.Heads.{Line}
 
--- the same but for the last time to live, which counts only where no default is known
+-- equal but for the last TTL, which matters only if no default is known
 pub record AreAlike (a b : State) : Type 0 where
   pub origin : a.origin ≡ b.origin
   pub owner : a.owner ≡ b.owner
@@ -20,13 +20,13 @@ pub record AreAlike (a b : State) : Type 0 where
   pub last_ttl : a.default_ttl ≡ None → a.last_ttl ≡ b.last_ttl
   pub class : a.class ≡ b.class
 
--- readers that stand at one place of the same octets, behind states that are alike
+-- readers at the same position of the same octets, with states that are alike
 pub record StandAlike (a b : RecordReader) : Type 0 where
   pub octets : a.octets.now ≡ b.octets.now
   pub source : a.source ≡ b.source
   pub state : AreAlike a.state b.state
 
--- calls that give the same, and leave states that are alike
+-- calls that return the same, and leave states that are alike
 pub record IsGivenAlike (g h : EntryGiven) : Type 0 where
   pub old : g.old ≡ h.old
   pub result : g.result ≡ h.result
@@ -39,7 +39,7 @@ AreGivenAlike [] (h ∷ hs) = ⊥
 AreGivenAlike (g ∷ gs) [] = ⊥
 AreGivenAlike (g ∷ gs) (h ∷ hs) = IsGivenAlike g h × AreGivenAlike gs hs
 
--- a line that is printed so is read, where the data of any record surely fit
+-- a line, if printed so, is read, and the data of any record surely fits
 pub record ReadsLine (room : Room) (before : State) (line : Line) (after : State) : Type 0 where
   pub end : ℕ
   pub tokens : List TokenSeen
@@ -50,7 +50,7 @@ pub record ReadsLine (room : Room) (before : State) (line : Line) (after : State
   pub result : Result EntryRead RecordError
   pub reads : ReadsZoneEntry room false end tokens before old result after new
 
--- lines one after another, each from the state that the one before left
+-- lines one after another, each read from the state that the one before left
 abbrev pub AreReadInTurn : Room → State → List Line → State → Type 0
 AreReadInTurn room before [] last = last ≡ before
 AreReadInTurn room before (line ∷ lines) last = (middle : State) × ReadsLine room before line middle × AreReadInTurn room middle lines last

@@ -18,19 +18,19 @@ use Rattle.zone_cut.specs.Alike.{AreAlike, AreGivenAlike, AreReadInTurn, StandAl
 use Rattle.zone_cut.specs.Heads.{HasShortTtls, head_lines, state_of}
 use Rattle.zone_cut.specs.declared.head.PartHead.{PartHead}
 
--- What may be read of an entry from a state may be read of it from one that is alike, with the same
--- octets; and the states that this leaves are alike.
+-- Any result of reading an entry from a state is also one of reading it from an alike state, with
+-- the same octets; and the states after that are alike.
 abbrev pub AlikeStatesReadAlike : Type 0
 AlikeStatesReadAlike = (room : Room) (blank : Bool) (end : ℕ) (tokens : List TokenSeen) (a b after : State) (old new : List ℕ) (result : Result EntryRead RecordError) → AreAlike a b → ReadsZoneEntry room blank end tokens a old result after new
     → (other : State) × ReadsZoneEntry room blank end tokens b old result other new × AreAlike after other
 
--- So in rows of calls: what the reader of a whole may give from one state on, it may give from the other.
+-- The same holds of rows of calls: what the reader of the whole file may return from one state on, it may return from the other.
 abbrev pub AlikeReadersGiveAlike : Type 0
 AlikeReadersGiveAlike = (room : Room) (first other last : RecordReader) (given : List EntryGiven) → StandAlike first other → AreGivenInARow room first given last
     → (same : List EntryGiven) × (end : RecordReader) × AreGivenInARow room other same end × AreGivenAlike given same × StandAlike last end
 
--- A record was read, and this state is what it left; it is the first of the head, with the time to
--- live that was found for it, and no origin was refused before it.
+-- A record was read, and left this state; it is the first record of the head, with the TTL that was
+-- found for it, and no origin was rejected before it.
 pub record StandsBehindFirst {N O : Type 0} (h : PartHead N O) : Type 0 where
   pub room : Room
   pub blank : Bool
@@ -48,7 +48,6 @@ pub record StandsBehindFirst {N O : Type 0} (h : PartHead N O) : Type 0 where
   pub ttl_is : h.first.ttl ≡ seconds_of ttl
   pub origin : before.origin ≢ Refused
 
--- The lines of a head, read from a class alone, leave a state that is alike to the one for which the
--- head stands.
+-- The lines of a head, read from a class alone, leave a state that is alike to the head's state.
 abbrev pub HeadLeadsThere : {N O : Type 0} → PartHead N O → Type 0
 HeadLeadsThere h = (room : Room) (last : State) → HasShortTtls h → StandsBehindFirst h → AreReadInTurn room (nothing_said (state_of h).class) (head_lines h) last → AreAlike (state_of h) last

@@ -1,4 +1,4 @@
--- With which records parts begin.
+-- The records with which parts begin.
 use Rattle.std.specs.Prelude.{◌≡◌, ℕ, Bool, true, false, not, IsTrue}
 use Rattle.dns_reader.specs.declared.known.Known.{Known}
 use Rattle.dns_reader.specs.declared.known.Known.TheVariants.{Name}
@@ -15,7 +15,7 @@ owner_changes _ _ = true
 abbrev pub BeginsHere : {A : Type 0} → Cutter A → State → ℕ → Type 0
 BeginsHere c state at = MayBegin c.shares at × IsTrue (owner_changes c.owner state.owner)
 
--- behind a record its owner is the one before, and a share is taken where a part begins
+-- after a record, its owner is the last one; and if a part begins with it, the record's share has begun one
 abbrev pub PassesRecord : {A : Type 0} → Cutter A → State → ℕ → Bool → Cutter A → Type 0
 PassesRecord old state at true new = (new.owner ≡ state.owner) × BeginsShare old.shares at new.shares
 PassesRecord old state at false new = (new.owner ≡ state.owner) × (new.shares ≡ old.shares)

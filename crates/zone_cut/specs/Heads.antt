@@ -41,7 +41,7 @@ state_of h = h.state.now
 abbrev pub directive_lines : State → List Line
 directive_lines s = origin_lines s.origin ++ default_ttl_lines s.default_ttl
 
--- the record that is repeated, if there is one, and the first of the part
+-- the repeated record, if there is one, and the first of the part
 abbrev pub head_records : {N O : Type 0} → PartHead N O → List (Record N O)
 head_records h = option_to_list h.repeated ++ h.first ∷ []
 
@@ -61,15 +61,15 @@ abbrev pub head_document : {N O : Type 0} → PartHead N O → List Step
 head_document h =
     lines_of token_steps (origin_lines (state_of h).origin) ++ (lines_of token_steps (default_ttl_lines (state_of h).default_ttl) ++ (repeated_document h.repeated ++ line_of h.first))
 
--- each time to live is one that zone text can say
+-- each TTL is below 2^31, as zone files require
 abbrev pub HasShortTtls : {N O : Type 0} → PartHead N O → Type 0
 HasShortTtls h = (unwrap_or (state_of h).default_ttl 0 < 2 ^ 31) × AllByRecursion (λ r. r.ttl < 2 ^ 31) (head_records h)
 
--- the head's lines are appended, and zone text can say each time to live in them
+-- the head's lines are appended, and each TTL in them is below 2^31
 abbrev pub PushesHead : {N O : Type 0} → PartHead N O → List ℕ → List ℕ → Type 0
 PushesHead h old new = HasShortTtls h × (new ≡ old ++ printed Simple (head_document h))
 
--- the lines of a head are appended whose first record is the one that was read last
+-- the lines of a head are appended whose first record is the last one that was read
 pub record BeginsPart (state : State) (read : RecordRef) (old new : List ℕ) : Type 0 where
   pub head : PartHead (Bor (List ℕ)) (Bor (List ℕ))
   pub state_is : state_of head ≡ state

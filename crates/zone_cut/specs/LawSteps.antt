@@ -1,4 +1,4 @@
--- What laws of parts use of records.
+-- What the laws of parts use about records.
 use Rattle.dns_resource.specs.RecordLaws.{AreRecordValues}
 use Rattle.dns_resource.specs.declared.record.Record.{Record}
 use Rattle.dns_zonefile.specs.ReadBack.{IsPrintedRecordRead}

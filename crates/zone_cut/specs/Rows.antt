@@ -1,4 +1,4 @@
--- Worked rows: shares, owners, and the lines of a head.
+-- Worked examples: shares, owners, and the lines of a head.
 use Rattle.std.specs.Prelude.{◌≡◌, true, false, [], ◌∷◌, codes, decimal, Some, None, refl}
 use Rattle.std.proofs.Common.{arith}
 use Rattle.dns_data.specs.GatewayKeys.{plain_word}
@@ -37,7 +37,7 @@ owner_row = (refl, refl)
 first_row : owner_changes Unsaid (Name (codes "a" ∷ [] ∷ [])) ≡ true
 first_row = refl
 
--- nothing is known; and `$TTL 60`
+-- an empty state has no lines; and `$TTL 60`
 ttl_row : directive_lines (record (nothing_said 1) { default_ttl = Some 60; last_ttl = Some 5 }) ≡ (plain_word (codes "$TTL") ∷ plain_word (decimal 60) ∷ []) ∷ []
 ttl_row = refl
 

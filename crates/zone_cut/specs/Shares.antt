@@ -2,25 +2,25 @@
 use Rattle.std.specs.Prelude.{⊤, ◌≡◌, ◌≤◌, ◌<◌, ℕ, ◌+◌, ◌-◌, ◌/◌, min, max, Option, Some, None}
 
 pub record SharesSeen : Type 0 where
-  -- how many there are, and how many octets each has
+  -- the number of shares, and the number of octets of each
   pub count : ℕ
   pub size : ℕ
-  -- the share in which the last part began, and how many parts have begun
+  -- the share in which the last part began, and the number of parts that have begun
   pub last : Option ℕ
   pub begun : ℕ
 
 abbrev pub shares_seen : ℕ → ℕ → Option ℕ → ℕ → SharesSeen
 shares_seen count size last begun = record { count = count; size = size; last = last; begun = begun }
 
--- shares of equal size, of which the last has what is left too, before any part has begun
+-- shares of equal size, the last of which includes the remainder, before any part has begun
 abbrev pub no_shares : ℕ → ℕ → SharesSeen
 no_shares octets count = record { count = max count 1; size = max (octets / max count 1) 1; last = None; begun = 0 }
 
--- the share of an octet; octets behind the last share count to it
+-- the share of an octet; octets after the last share count as the last one's
 abbrev pub share_of : SharesSeen → ℕ → ℕ
 share_of s at = min (at / s.size) (s.count - 1)
 
--- none has begun, or the last did in a share before
+-- no part has begun, or the last one began in an earlier share
 abbrev pub IsBefore : Option ℕ → ℕ → Type 0
 IsBefore None share = ⊤
 IsBefore (Some last) share = last < share
@@ -28,11 +28,11 @@ IsBefore (Some last) share = last < share
 abbrev pub MayBegin : SharesSeen → ℕ → Type 0
 MayBegin s at = IsBefore s.last (share_of s at)
 
--- one more has begun, in the octet's share
+-- one more part has begun, in the octet's share
 abbrev pub BeginsShare : SharesSeen → ℕ → SharesSeen → Type 0
 BeginsShare s at t = t ≡ record { count = s.count; size = s.size; last = Some (share_of s at); begun = s.begun + 1 }
 
--- no more have begun than shares up to the last in which one has
+-- at most one part has begun for each share up to that of the last part
 abbrev pub IsWithinLast : ℕ → ℕ → Option ℕ → Type 0
 IsWithinLast begun count None = begun ≡ 0
 IsWithinLast begun count (Some last) = (begun ≤ last + 1) × (last < count)

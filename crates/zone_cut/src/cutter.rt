@@ -1,4 +1,4 @@
-//! With which records of a zone file parts begin.
+//! Decides with which records of a zone file parts begin.
 ghost use Rattle.std.specs.Prelude.{◌≡◌, ◌↔◌, IfOk, IsTrue, OnOk, false, true};
 ghost use Rattle.std.specs.String.{string_bytes};
 ghost use Rattle.dns_resource.specs.Borrowed.{IsRecordOf};
@@ -18,21 +18,21 @@ use dns_resource::{Record, owned_record, record_of};
 use dns_zone::zonefile_fmt::{DisplayKind, ZonefileFmt};
 use std::alloc::Allocator;
 
-/// Tells with which records of a file parts begin: with the first, and with each whose owner is
-/// another than that of the record before, and that stands in another share of the file than the
-/// part so far begins in.
+/// Decides with which records of a file parts begin. A part begins with the first record. It also
+/// begins with a record if its owner is not that of the record before, and it is in a later share
+/// of the file than the beginning of the current part.
 #[derive(Drop)]
 pub struct Cutter<A: Allocator> {
     alloc: A,
     shares: Shares,
     /// The owner of the record before.
     owner: Known,
-    /// Whether parts behind the first SOA begin with it.
+    /// Whether parts after the first SOA begin with it.
     repeats_soa: bool,
     soa: Option<Record<Vec<u8, A>, Vec<u8, A>>>,
 }
 
-/// Returns the record that was read.
+/// Returns the record that was read, or fails with `NoRecord`.
 fn checked<'a>(given: &RecordRef<'a>) -> Result<Record<&'a [u8], &'a [u8]>, CutError>
     ensures { IfOk result (IsRecordOf given.now) }
 {
@@ -64,8 +64,9 @@ fn push_head<Owner: AsOctets, Octets: AsOctets, A: Allocator>(
 }
 
 impl<A: Allocator + Copy> Cutter<A> {
-    /// Before the first record of a file of so many octets, which is to have so many parts at most,
-    /// and at least one.
+    /// Returns a cutter for a file of this number of octets, before its first record. The file is
+    /// cut into at most `count` parts, and at least one. If `repeats_soa`, each part after the
+    /// first SOA begins with it.
     pub fn new(alloc: A, octets: usize, count: usize, repeats_soa: bool) -> Cutter<A>
         ensures shares { result.shares ≡ no_shares octets count }
         ensures owner { result.owner ≡ Unsaid }
@@ -79,7 +80,7 @@ impl<A: Allocator + Copy> Cutter<A> {
         }
     }
 
-    /// Whether a record has another owner than the one before. Upper and lower case are one.
+    /// Returns whether a record's owner differs from the one before. Letter case doesn't count.
     fn changes_owner(&self, state: &State) -> bool
         ensures { result ≡ owner_changes self.now.owner state.now.owner }
     {
@@ -89,14 +90,14 @@ impl<A: Allocator + Copy> Cutter<A> {
         }
     }
 
-    /// Whether a part begins with a record whose entry begins at this octet.
+    /// Returns whether a part begins with a record whose entry begins at this offset.
     fn begins(&self, state: &State, at: usize) -> bool
         ensures { IsTrue result ↔ BeginsHere self.now state.now at }
     {
         self.shares.may_begin(at) && self.changes_owner(state)
     }
 
-    /// The record that is repeated in front of a part.
+    /// Returns the record that is repeated before the first one of a part.
     fn repeated(&self) -> Result<Option<Record<&[u8], &[u8]>>, CutError> {
         match &self.soa {
             Some(soa) => Ok(Some(checked(&soa.borrowed())?)),
@@ -124,7 +125,7 @@ impl<A: Allocator + Copy> Cutter<A> {
         push_head(lines, &head)
     }
 
-    /// Keeps the first SOA, if it is to be repeated.
+    /// Stores the first SOA, if it is to be repeated.
     fn keep_soa(&mut self, given: &RecordRef<'_>) -> Result<(), CutError>
         ensures shares { self.new.shares ≡ self.old.shares }
         ensures owner { self.new.owner ≡ self.old.owner }
@@ -138,12 +139,12 @@ impl<A: Allocator + Copy> Cutter<A> {
         Ok(())
     }
 
-    /// Takes the record that was read last, behind which a reader knows the state, and whose entry
-    /// begins at this octet. Returns whether a part begins with it: then the lines with which the part
-    /// begins, up to and with this record, are appended, and behind them belongs what stands behind
-    /// its entry.
+    /// Processes the last record that was read. `state` is the reader's state after it, and `at` is
+    /// the offset of its entry. Returns whether a part begins with it. If so, the lines with which
+    /// the part begins are appended, up to and with this record, and the part continues with the
+    /// text after its entry.
     ///
-    /// After an error no further record is to be taken.
+    /// After an error no further record may be processed.
     pub fn take(
         &mut self,
         state: &State,

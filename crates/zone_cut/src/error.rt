@@ -11,14 +11,14 @@ use std::fmt;
 pub enum CutError {
     /// There was not enough memory.
     OutOfMemory,
-    /// A time to live of 2^31 seconds or more, which zone text can't say (RFC 2181 section 8).
+    /// A TTL of 2^31 seconds or more, which zone files can't hold (RFC 2181 section 8).
     LongTtl,
-    /// No owner, or data that are not of the type: no reader of zone files gives these.
+    /// No owner, or RDATA that is not of the type: readers of zone files don't return these.
     NoRecord,
 }
 
 impl CutError {
-    /// The text of the error.
+    /// Returns the text of the error.
     pub fn as_str(&self) -> &'static str
         ensures { result.now ≡ cut_error_text self.now }
     {

@@ -11,28 +11,28 @@ use dns_resource::Record;
 use dns_spelling::NameText;
 use dns_zone::zonefile_fmt::{self, FormatWriter, Formatter, ZonefileFmt};
 
-/// The least time to live, in seconds, that zone text can't say (RFC 2181 section 8).
+/// The least TTL, in seconds, that zone files can't hold (RFC 2181 section 8).
 const LONG: u32 = 1 << 31;
 
-/// The text with which a part begins: it stands for all of a zone file up to the end of a record, and
-/// what stands behind that record follows it.
+/// The text with which a part begins: it replaces the zone file up to the end of a record, and the
+/// text after that record follows it.
 ///
-/// It is `$ORIGIN` and `$TTL`, where these are known, and the record in full; perhaps another record,
-/// as the zone's SOA, in front of it.
+/// It consists of `$ORIGIN` and `$TTL`, if these are known, and the record in full. Another record,
+/// such as the zone's SOA, may come before it.
 #[derive(Drop)]
 pub struct PartHead<'a, Owner: AsOctets, Octets: AsOctets> {
-    /// What a reader of the whole file knows behind the record.
+    /// The state of a reader of the whole file after the record.
     pub state: &'a State,
-    /// A record that is repeated.
+    /// A record that is repeated, before the first.
     pub repeated: Option<Record<Owner, Octets>>,
-    /// The record, with the owner that the state has.
+    /// The first record of the part, with the owner that the state has.
     pub first: Record<Owner, Octets>,
 }
 
 impl<'a, Owner: AsOctets, Octets: AsOctets> PartHead<'a, Owner, Octets> {
-    /// Whether zone text can say each time to live in it: all are below 2^31.
+    /// Returns whether zone files can hold each TTL in it: all are below 2^31.
     ///
-    /// The minimum of an SOA, which may stand for one, can be longer.
+    /// The minimum of an SOA, which may be used as a TTL, can be longer.
     pub fn can_be_read(&self) -> bool
         ensures { IsTrue result ↔ HasShortTtls self.now }
     {
@@ -59,7 +59,7 @@ fn write_origin<F: FormatWriter>(origin: &Known, p: &mut F) -> zonefile_fmt::Res
     p.newline()
 }
 
-/// Prints `$TTL` and the default time to live, if one is known.
+/// Prints `$TTL` and the default TTL, if one is known.
 fn write_default_ttl<F: FormatWriter>(default: Option<u32>, p: &mut F) -> zonefile_fmt::Result
     requires { F.blocks p.old ≡ 0 }
     ensures { OnOk result (WritesSteps F.blocks F.step_gives p.old
@@ -100,7 +100,7 @@ fn write_repeated<Owner: AsOctets, Octets: AsOctets, F: FormatWriter>(
     }
 }
 
-/// A line for each directive and each record.
+/// Prints a line for each directive and each record.
 impl<Owner: AsOctets, Octets: AsOctets> ZonefileFmt for PartHead<'_, Owner, Octets> {
     ghost document = { head_document };
 

@@ -16,15 +16,15 @@ use dns_resource::Record;
 use dns_resource::laws::records_hold_values;
 use dns_zonefile::laws::printed_records_are_read;
 
-/// States that entries are read alike from states that differ at most in a time to live that does not
-/// count, and leave such states; and that so do all calls of readers that stand behind such states. It
-/// does nothing else.
+/// States that entries are read alike from states that differ at most in a TTL that does not
+/// matter, and leave such states; and that so do all calls of readers with such states. It does
+/// nothing else.
 pub fn alike_states_read_alike()
     ensures entry { AlikeStatesReadAlike }
     ensures row { AlikeReadersGiveAlike }
 {}
 
-/// States that a name is one on the wire.
+/// States that a name is a name on the wire.
 fn know_name(name: &NameBuffer)
     ensures { IsWireName (wire name.now) }
 {
@@ -33,7 +33,7 @@ fn know_name(name: &NameBuffer)
     let _wire = name.as_slice();
 }
 
-/// States that a name that is known is one on the wire.
+/// States that a known name is a name on the wire.
 fn know_origin(origin: &Known)
     ensures { (labels : List (List ℕ)) → known_name origin.now ≡ Some labels
         → IsWireName (wire labels) }
@@ -51,7 +51,7 @@ fn know_record<Owner: AsOctets, Octets: AsOctets>(one: &Record<Owner, Octets>)
     printed_records_are_read(one);
 }
 
-/// States the same of one that is repeated.
+/// States the same of a repeated record.
 fn know_repeated<Owner: AsOctets, Octets: AsOctets>(one: &Option<Record<Owner, Octets>>)
     ensures { AllByRecursion IsKnownRecord (option_to_list one.now) }
 {
@@ -61,7 +61,7 @@ fn know_repeated<Owner: AsOctets, Octets: AsOctets>(one: &Option<Record<Owner, O
 }
 
 /// States that a part's lines, read from a class alone, leave a state from which all is read as in
-/// the whole file from behind the part's first record. It does nothing of use.
+/// the whole file after the part's first record. It does nothing of use.
 pub fn heads_lead_there<Owner: AsOctets, Octets: AsOctets>(head: &PartHead<'_, Owner, Octets>)
     ensures { HeadLeadsThere head.now }
 {

@@ -1,8 +1,9 @@
-//! Parts of a zone file (RFC 1035 section 5.1) that are read apart, each as it is read in the whole.
+//! Cuts a zone file (RFC 1035 section 5.1) into parts that are read separately, each as it is read
+//! in the whole file.
 //!
-//! - [`cutter::Cutter`] tells with which records parts begin, and writes their first lines.
-//! - [`head::PartHead`] are these lines.
-//! - [`laws`] has that what stands behind them is read as in the whole file.
+//! - [`cutter::Cutter`] decides with which records parts begin, and writes their first lines.
+//! - [`head::PartHead`] holds these lines.
+//! - [`laws`] states that the text after them is read as in the whole file.
 #![tactic(auto)]
 
 pub mod cutter;

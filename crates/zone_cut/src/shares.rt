@@ -4,14 +4,15 @@ ghost use Rattle.zone_cut.specs.Shares.{BeginsShare, MayBegin, no_shares, share_
 
 use std::marker::Model;
 
-/// Shares of a file, all of one size but for the last, which has what is left too, and those in which a part has begun.
+/// Shares of a file and the parts that have begun in them. All have one size but for the last,
+/// which includes the remainder.
 #[derive(Drop)]
 pub struct Shares {
     count: usize,
     size: usize,
-    /// The share in which the last part began.
+    /// Index of the share in which the last part began.
     last: Option<usize>,
-    /// How many parts have begun.
+    /// Number of parts that have begun.
     begun: usize,
 }
 
@@ -26,7 +27,8 @@ impl Model for Shares {
 }
 
 impl Shares {
-    /// So many shares of so many octets, one at least. No part has begun.
+    /// Returns this number of shares, and at least one, of a file of this number of octets. No part
+    /// has begun.
     pub fn new(octets: usize, count: usize) -> Shares
         ensures { result ≡ no_shares octets count }
     {
@@ -39,7 +41,7 @@ impl Shares {
         }
     }
 
-    /// How many parts have begun: at most as many as there are shares.
+    /// Returns the number of parts that have begun, which is at most the number of shares.
     pub fn begun(&self) -> usize
         ensures is { result ≡ self.now.begun }
         ensures most { result ≤ self.now.count }
@@ -47,8 +49,8 @@ impl Shares {
         self.begun
     }
 
-    /// Whether a part may begin at an octet: none has begun, or the last did in a share before this
-    /// octet's.
+    /// Returns whether a part may begin at an octet: no part has begun, or the last one began in a
+    /// share before this octet's.
     pub fn may_begin(&self, at: usize) -> bool
         ensures { IsTrue result ↔ MayBegin self.now at }
     {
@@ -58,7 +60,7 @@ impl Shares {
         }
     }
 
-    /// A part begins at an octet, at which it may.
+    /// Counts a part that begins at an octet, where it may begin.
     pub fn begin(&mut self, at: usize)
         requires { MayBegin self.old at }
         ensures { BeginsShare self.old at self.new }
@@ -67,7 +69,7 @@ impl Shares {
         self.begun += 1;
     }
 
-    /// The share of an octet. Octets behind the last share count to it.
+    /// Returns the share of an octet. Octets after the last share count as the last one's.
     fn share_of(&self, at: usize) -> usize
         ensures { result ≡ share_of self.now at }
     {
