@@ -15,7 +15,7 @@ use Rattle.zone_digest.specs.declared.verdict.Verdict.{Verdict}
 use Rattle.zone_digest.specs.declared.zonemd.Zonemd.{Zonemd}
 use Rattle.zone_digest.proofs.HashedRecords.{filter_next}
 
--- one more of these is counted where it passes
+-- one more of these is counted if it passes
 count-push : (p : TypeData → Bool) (ds : List TypeData) (d : TypeData) → count_by p (ds ++ d ∷ []) ≡ count_by p ds + cond (p d) 1 0
 count-push p ds d = sum_by-append (λ x. cond (p x) 1 0) ds (d ∷ []) ∙ ap (λ n. count_by p ds + n) (last (p d)) where
   last : (b : Bool) → count_by (λ (x : TypeData). b) (d ∷ []) ≡ cond b 1 0
@@ -63,7 +63,7 @@ module _ {N O : Type 0} (apex : List (List ℕ)) (records : List (Record N O)) w
       ap (apex_data rtype apex) (sym (take-append-drop n records)) ∙ ap (map data_of) (filter-append (is_at_apex rtype apex) (take n records) (drop n records))
       ∙ map-append data_of (filter (is_at_apex rtype apex) (take n records)) (filter (is_at_apex rtype apex) (drop n records))
 
-  -- two are not one
+  -- a list of two is not a list of one
   pub not_single : (n : ℕ) (ds : List TypeData) (d : TypeData) → 0 < length ds → apex_data Rtype.soa apex (take n records) ≡ ds ++ d ∷ [] → (serial : ℕ) → HasSerial apex records serial → ⊥
   not_single n ds d some e serial has =
       omega (
@@ -82,13 +82,13 @@ module _ {N O : Type 0} (apex : List (List ℕ)) (records : List (Record N O)) w
   only_same : (d e : TypeData) → d ∷ [] ≡ e ∷ [] → d ≡ e
   only_same d e h = cc
 
-  -- the serial number of the one SOA
+  -- the serial of the one SOA
   pub serial_found : (d : TypeData) (r : Option ℕ) → apex_data Rtype.soa apex records ≡ d ∷ [] → r ≡ soa_serial d
       → MatchOption r ((serial : ℕ) → HasSerial apex records serial → ⊥) (HasSerial apex records)
   serial_found d None e h = λ serial has. none_here (soa_serial d) serial (sym h) (ap soa_serial (only_same d has.0 (sym e ∙ has.1)) ∙ has.2)
   serial_found d (Some serial) e h = (d, e, sym h)
 
-  -- and without an SOA there is none
+  -- without an SOA the apex has no serial
   pub serial_absent : apex_data Rtype.soa apex records ≡ [] → (serial : ℕ) → HasSerial apex records serial → ⊥
   serial_absent e serial has = omega (arith, ap length (sym e ∙ has.1))
 

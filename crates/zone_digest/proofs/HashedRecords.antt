@@ -8,19 +8,19 @@ use Rattle.dns_resource.specs.CanonicalData.{canonical_record}
 use Rattle.dns_resource.specs.declared.record.Record.{Record}
 use Rattle.zone_digest.specs.Hashed.{hashed_octets, is_hashed}
 
--- the element at a place is kept by a filter that it passes
+-- a filter keeps an element that passes it
 pub filter_next : {X : Type 0} (p : X → Bool) (xs : List X) (i : ℕ) (x : X) (b : Bool) → i < length xs → x ≡ get_or xs i x → p x ≡ b
     → filter p (take (i + 1) xs) ≡ filter p (take i xs) ++ cond b (x ∷ []) []
 filter_next p xs i x b lt at h =
     filter_more p xs i x lt ∙ ap (λ y. filter p (take i xs) ++ cond (p y) (y ∷ []) []) (sym at) ∙ ap (λ t. filter p (take i xs) ++ cond t (x ∷ []) []) h
 
 module _ {N O : Type 0} (apex : List (List ℕ)) (records : List (Record N O)) (i : ℕ) (r : Record N O) (lt : i < length records) (at : r ≡ get_or records i r) where
-  -- a record that is hashed adds its canonical form
+  -- a record that is hashed appends its canonical form
   pub hashed_more : is_hashed apex r ≡ true → hashed_octets apex (take (i + 1) records) ≡ hashed_octets apex (take i records) ++ canonical_record r
   hashed_more h =
       ap (flat_map canonical_record) (filter_next (is_hashed apex) records i r true lt at h) ∙ flat_map-append canonical_record (filter (is_hashed apex) (take i records)) (r ∷ [])
       ∙ ap (λ l. hashed_octets apex (take i records) ++ l) (append-nil (canonical_record r))
 
-  -- and any other adds nothing
+  -- any other record appends nothing
   pub hashed_same : is_hashed apex r ≡ false → hashed_octets apex (take (i + 1) records) ≡ hashed_octets apex (take i records)
   hashed_same h = ap (flat_map canonical_record) (filter_next (is_hashed apex) records i r false lt at h ∙ append-nil (filter (is_hashed apex) (take i records)))

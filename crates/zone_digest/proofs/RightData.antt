@@ -1,4 +1,4 @@
--- The data of the ZONEMD that is right for a zone.
+-- The ZONEMD data that is right for a zone.
 use Rattle.std.proofs.Common.{ℕ, ◌≡◌, ◌⊎◌, inl, inr, List, [], ◌∷◌, ◌++◌, refl, ap, ◌∙◌, append_assoc, arith}
 use Rattle.std.specs.Int.{to_be_bytes, w32}
 use Rattle.dns_resource.specs.declared.record.Record.{Record}
@@ -10,7 +10,7 @@ known_of : (hash : ℕ) (octets digest : List ℕ) → IsDigest hash octets dige
 known_of hash octets digest (inl is) = inl is.0
 known_of hash octets digest (inr is) = inr is.0
 
--- a digest behind what stands before it
+-- a digest after the fields before it
 pub right_made : {N O : Type 0} (apex : List (List ℕ)) (records : List (Record N O)) (serial hash : ℕ) (front made : List ℕ) → HasSerial apex records serial
     → front ≡ to_be_bytes w32 serial ++ 1 ∷ hash ∷ [] → AppendsDigest apex records hash front made → IsRightData apex records hash made
 right_made apex records serial hash front made has is behind = (

@@ -1,4 +1,4 @@
--- The parts of data of ZONEMD.
+-- The fields of ZONEMD data.
 use Rattle.std.proofs.Common.{ℕ, zero, suc, ◌≡◌, ◌<◌, ◌≤◌, ◌+◌, Some, List, [], ◌∷◌, ◌++◌, length, take, drop, get_or, refl, sym, ap, subst, ◌∙◌, arith, length-append}
 use Rattle.std.specs.Prelude.{All, codes}
 use Rattle.std.specs.Int.{from_be_bytes, to_be_bytes, w32}
@@ -32,7 +32,7 @@ long_of octets is =
     let third : length scheme.1 ≡ length hash.0 + length hash.1 = ap length hash.2 ∙ length-append hash.0 hash.1 in
     omega (arith, first, second, third, serial.3.0, scheme.3.0, hash.3.0)
 
--- a serial number, a scheme and a hash algorithm stand in front
+-- a serial, a scheme and a hash algorithm come first
 pub zonemd_long : (d : TypeData) → d.rtype ≡ Rtype.zonemd → IsTypeData d.rtype d.octets → 6 ≤ length d.octets
 zonemd_long d same is = long_of d.octets (subst (λ c. IsTypeData c d.octets) same is)
 
@@ -49,7 +49,7 @@ whole a b c d e f digest serial small is =
     let values = recursion_from_All (λ o. o < 256) (a ∷ b ∷ c ∷ d ∷ e ∷ f ∷ digest) small in
     ap (λ l. l ++ e ∷ f ∷ digest) (sym (be_bytes_4 (a ∷ b ∷ c ∷ d ∷ []) serial refl (four a b c d values.0 values.1.0 values.1.1.0 values.1.1.1.0) is))
 
--- data of ZONEMD by its parts
+-- ZONEMD data by its fields
 pub zonemd_whole : (octets : List ℕ) (front digest : List ℕ) (serial : ℕ) → 6 ≤ length octets → front ≡ take 6 octets → digest ≡ drop 6 octets → All (λ o. o < 256) octets
     → serial ≡ from_be_bytes w32 (get_or front 0 0 ∷ get_or front 1 0 ∷ get_or front 2 0 ∷ get_or front 3 0 ∷ []) → octets ≡ to_be_bytes w32 serial ++ get_or front 4 0 ∷ get_or front 5 0 ∷ digest
 zonemd_whole [] front digest serial long p q small is = absurd (omega (arith, long))

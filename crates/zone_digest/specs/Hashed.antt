@@ -10,23 +10,23 @@ use Rattle.dns_resource.specs.Records.{data_of}
 use Rattle.dns_resource.specs.TypeData.{TypeData}
 use Rattle.dns_resource.specs.declared.record.Record.{Record}
 
--- a name is the apex, but for the case of letters
+-- a name is the apex, ignoring letter case
 abbrev pub is_apex : List (List ℕ) → List (List ℕ) → Bool
 is_apex apex name = same_lowered (wire name) (wire apex)
 
--- a name, or one above it, is the apex
+-- a name, or one of its ancestors, is the apex
 abbrev pub is_in_zone : List (List ℕ) → List (List ℕ) → Bool
 is_in_zone apex [] = false
 is_in_zone apex (label ∷ above) = is_apex apex (label ∷ above) || is_in_zone apex above
 
--- data of ZONEMD, or an RRSIG whose first field, the type that it covers, is ZONEMD
+-- ZONEMD data, or an RRSIG whose first field, the type covered, is ZONEMD
 abbrev pub is_of_digest : TypeData → Bool
 is_of_digest d = (d.rtype == Rtype.zonemd) || ((d.rtype == Rtype.rrsig) && starts_with nat_eq d.octets (to_be_bytes w16 Rtype.zonemd))
 
--- every record of the zone is hashed, but at the apex ZONEMD and the RRSIG that covers it
+-- every record of the zone is hashed, except at the apex ZONEMD and the RRSIG that covers it
 abbrev pub is_hashed : {N O : Type 0} → List (List ℕ) → Record N O → Bool
 is_hashed apex r = is_in_zone apex r.owner && not (is_apex apex r.owner && is_of_digest (data_of r))
 
--- their canonical forms, one after another
+-- the canonical forms of these records, one after another
 abbrev pub hashed_octets : {N O : Type 0} → List (List ℕ) → List (Record N O) → List ℕ
 hashed_octets apex records = flat_map canonical_record (filter (is_hashed apex) records)

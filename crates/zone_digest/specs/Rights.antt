@@ -15,11 +15,11 @@ abbrev pub hash_code : HashAlgorithm → ℕ
 hash_code Sha384 = 1
 hash_code Sha512 = 2
 
--- the digest of a zone by a hash algorithm of this number stands behind octets
+-- the digest of a zone by the hash algorithm of this number is appended to octets
 abbrev pub AppendsDigest : {N O : Type 0} → List (List ℕ) → List (Record N O) → ℕ → List ℕ → List ℕ → Type 0
 AppendsDigest apex records hash front «data» = (digest : List ℕ) × IsDigest hash (hashed_octets apex records) digest × («data» ≡ front ++ digest)
 
--- data of a ZONEMD with a hash algorithm of this number, of which the check of the zone says that it matches if it is the only one of its scheme and algorithm
+-- ZONEMD data with the hash algorithm of this number, which matches in a check of the zone if it is the only one of its scheme and algorithm
 abbrev pub IsRightData : {N O : Type 0} → List (List ℕ) → List (Record N O) → ℕ → List ℕ → Type 0
 IsRightData apex records hash «data» = (serial : ℕ) × HasSerial apex records serial × (z : Zonemd) × IsZonemd (record { rtype = Rtype.zonemd; octets = «data» }) z × (z.hash ≡ hash)
     × IsVerdict serial (hashed_octets apex records) 1 z Matches

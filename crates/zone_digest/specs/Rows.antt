@@ -1,4 +1,4 @@
--- Worked rows of the definitions.
+-- Worked examples of the definitions.
 use Rattle.std.specs.Prelude.{◌≡◌, ℕ, true, false, List, [], ◌∷◌, ◌++◌, codes, refl}
 use Rattle.dns_kinds.specs.Rtype as Rtype
 use Rattle.dns_kinds.specs.declared.types.RecordType.{RecordType}
@@ -22,7 +22,7 @@ above_row = refl
 other_row : is_in_zone apex (codes "a" ∷ codes "test" ∷ [] ∷ []) ≡ false
 other_row = refl
 
--- a label that ends in the octets of the apex is no name below it
+-- a label that ends in the octets of the apex does not make a name below it
 within_row : is_in_zone apex ((97 ∷ 7 ∷ codes "example") ∷ [] ∷ []) ≡ false
 within_row = refl
 
@@ -33,7 +33,7 @@ one owner rtype octets = record { owner = owner; ttl = 60; class = 1; «data» =
 abbrev below : List (List ℕ)
 below = codes "a" ∷ apex
 
--- of the digest's types only what stands at the apex is left out
+-- of the digest's types only records at the apex are omitted
 digest_row : is_hashed apex (one apex Rtype.zonemd []) ≡ false
 digest_row = refl
 

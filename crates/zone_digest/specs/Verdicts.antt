@@ -1,4 +1,4 @@
--- What a ZONEMD record says of a zone (RFC 8976 sections 2.2 and 4).
+-- The verdict on a ZONEMD record of a zone (RFC 8976 sections 2.2 and 4).
 use Rattle.std.specs.Prelude.{◌≡◌, ◌≢◌, ◌<◌, ◌≤◌, ℕ, ◌⊎◌, List, ◌∷◌, ◌++◌}
 use Rattle.std.specs.Int.{to_be_bytes, w32}
 use Rattle.sha2.specs.Sha512.{sha384, sha512}
@@ -8,7 +8,7 @@ use Rattle.zone_digest.specs.declared.verdict.Verdict.{Verdict}
 use Rattle.zone_digest.specs.declared.verdict.Verdict.TheVariants.{Matches, Differs, OtherSerial, UnknownScheme, UnknownHash, Repeated}
 use Rattle.zone_digest.specs.declared.zonemd.Zonemd.{Zonemd}
 
--- data of ZONEMD: a serial number, a scheme, a hash algorithm, and the digest (RFC 8976 section 2.2)
+-- ZONEMD data: a serial, a scheme, a hash algorithm, and the digest (RFC 8976 section 2.2)
 abbrev pub IsZonemd : TypeData → Zonemd → Type 0
 IsZonemd d z = (d.rtype ≡ Rtype.zonemd) × (d.octets ≡ to_be_bytes w32 z.serial ++ z.scheme ∷ z.hash ∷ z.digest.now)
 
@@ -16,14 +16,14 @@ IsZonemd d z = (d.rtype ≡ Rtype.zonemd) × (d.octets ≡ to_be_bytes w32 z.ser
 abbrev pub IsDigest : ℕ → List ℕ → List ℕ → Type 0
 IsDigest hash octets digest = ((hash ≡ 1) × (digest ≡ sha384 octets)) ⊎ ((hash ≡ 2) × (digest ≡ sha512 octets))
 
--- its serial number is that of the SOA, its scheme is SIMPLE, its algorithm is known, and it is the only one of both
+-- the serial is that of the SOA, the scheme is SIMPLE, the algorithm is known, and no other ZONEMD has both
 pub record IsUsable (serial count : ℕ) (z : Zonemd) : Type 0 where
   pub serial_is : z.serial ≡ serial
   pub scheme_is : z.scheme ≡ 1
   pub hash_is : (z.hash ≡ 1) ⊎ (z.hash ≡ 2)
   pub single : count ≤ 1
 
--- a ZONEMD of a zone whose SOA has this serial number, whose octets these are, and which has so many ZONEMD of this scheme and algorithm
+-- the verdict on a ZONEMD, by the serial of the zone's SOA, the octets that are hashed, and the number of ZONEMD records with this scheme and algorithm
 abbrev pub IsVerdict : ℕ → List ℕ → ℕ → Zonemd → Verdict → Type 0
 IsVerdict serial octets count z Matches = IsUsable serial count z × IsDigest z.hash octets z.digest.now
 IsVerdict serial octets count z Differs = IsUsable serial count z × (IsDigest z.hash octets z.digest.now → ⊥)

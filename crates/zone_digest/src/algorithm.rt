@@ -1,4 +1,4 @@
-//! Hash algorithms of digests.
+//! Hash algorithms of zone digests.
 ghost use Rattle.std.specs.Prelude.{◌≡◌, ◌≢◌, IfNone, IfSome};
 ghost use Rattle.zone_digest.specs.Rights.{hash_code};
 
@@ -10,7 +10,7 @@ pub enum HashAlgorithm {
 }
 
 impl HashAlgorithm {
-    /// Its number in data of ZONEMD.
+    /// Returns its number in ZONEMD data.
     pub fn code(self) -> u8
         ensures { result ≡ hash_code self }
     {
@@ -20,7 +20,7 @@ impl HashAlgorithm {
         }
     }
 
-    /// The algorithm that has a number, and none for any other number.
+    /// Returns the algorithm with a number, or `None` for any other number.
     pub fn of_code(code: u8) -> Option<HashAlgorithm>
         ensures known { IfSome result (λ algorithm. hash_code algorithm ≡ code) }
         ensures unknown { IfNone result ((code ≢ 1) × (code ≢ 2)) }

@@ -1,11 +1,11 @@
-//! Why the digests of a zone are not checked.
+//! Why the digests of a zone can't be checked.
 
 use thiserror::Error;
 
-/// Why the digests of a zone are not checked.
+/// Why the digests of a zone can't be checked.
 #[derive(Clone, Copy, Debug, Error)]
 pub enum CheckError {
-    /// There was no memory.
+    /// Memory is out.
     #[error("buffer size exceeded")]
     ShortBuf,
     /// The apex has no SOA, or more than one.

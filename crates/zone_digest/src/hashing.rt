@@ -1,4 +1,4 @@
-//! The digest of a zone.
+//! Computes the digest of a zone.
 ghost use Rattle.std.specs.Prelude.{◌≡◌, IfOk};
 ghost use Rattle.sha2.specs.Sha512.{sha384, sha512};
 ghost use Rattle.zone_digest.specs.Hashed.{hashed_octets};
@@ -10,9 +10,9 @@ use sha2::{Digest, Sha384, Sha512};
 use std::alloc::Allocator;
 use zone_set::CanonicalSet;
 
-/// The digest of a zone by a hash function, over the canonical forms of its records (RFC 8976
-/// section 3.3, the scheme SIMPLE). Records outside of the zone don't count. Memory is taken for one
-/// record; without it the digest is refused.
+/// Computes the digest of a zone by a hash function, over the canonical forms of its records (RFC
+/// 8976 section 3.3, the scheme SIMPLE). Records outside of the zone don't count. It allocates
+/// memory for one record, and fails if that is out.
 pub fn hash_zone<
     D: Digest,
     Owner: AsOctets,
@@ -40,7 +40,7 @@ pub fn hash_zone<
     Ok(hasher.finalize())
 }
 
-/// The digest of a zone by SHA-384, which is hash algorithm 1.
+/// Returns the digest of a zone by SHA-384, which is hash algorithm 1.
 pub fn sha384_digest<Owner: AsOctets, Octets: AsOctets, Apex: AsOctets, A: Allocator, B: Allocator>(
     alloc: B,
     apex: &Name<Apex>,
@@ -51,7 +51,7 @@ pub fn sha384_digest<Owner: AsOctets, Octets: AsOctets, Apex: AsOctets, A: Alloc
     hash_zone::<Sha384, Owner, Octets, Apex, A, B>(alloc, apex, records)
 }
 
-/// The digest of a zone by SHA-512, which is hash algorithm 2.
+/// Returns the digest of a zone by SHA-512, which is hash algorithm 2.
 pub fn sha512_digest<Owner: AsOctets, Octets: AsOctets, Apex: AsOctets, A: Allocator, B: Allocator>(
     alloc: B,
     apex: &Name<Apex>,

@@ -1,4 +1,4 @@
-//! Digests of zones (RFC 8976).
+//! Computes and checks digests of zones (ZONEMD, RFC 8976).
 #![tactic(auto)]
 
 pub mod algorithm;

@@ -1,4 +1,4 @@
-//! The data of the ZONEMD that is right for a zone.
+//! Computes the ZONEMD data of a zone.
 ghost use Rattle.std.specs.Prelude.{◌≡◌, ◌++◌, ◌∷◌, [], IfOk, IfErr, OnOk};
 ghost use Rattle.std.specs.Int.{to_be_bytes, w32};
 ghost use Rattle.zone_digest.specs.Checks.{IsCheckError};
@@ -13,8 +13,8 @@ use dns_wire::Name;
 use std::alloc::Allocator;
 use zone_set::CanonicalSet;
 
-/// Appends what stands before the digest in data of ZONEMD: a serial number, the scheme SIMPLE, and
-/// a hash algorithm.
+/// Appends the fields before the digest in ZONEMD data: a serial, the scheme SIMPLE, and a hash
+/// algorithm.
 fn push_front<B: Allocator>(
     data: &mut Vec<u8, B>,
     serial: u32,
@@ -54,7 +54,7 @@ fn push_digest<
     }
 }
 
-/// Data of ZONEMD with a serial number, and the digest of a zone by a hash algorithm.
+/// Returns ZONEMD data with a serial, and the digest of a zone by a hash algorithm.
 fn make_data<Owner: AsOctets, Octets: AsOctets, Apex: AsOctets, A: Allocator, B: Allocator + Copy>(
     alloc: B,
     apex: &Name<Apex>,
@@ -70,9 +70,9 @@ fn make_data<Owner: AsOctets, Octets: AsOctets, Apex: AsOctets, A: Allocator, B:
     Ok(data)
 }
 
-/// The data of the ZONEMD that is right for a zone by the scheme SIMPLE and a hash algorithm (RFC
-/// 8976 section 3): the serial number of the SOA at the apex, and the digest. The zone is to have
-/// one SOA at the apex. Memory is taken for the data and one record.
+/// Returns the ZONEMD data that is right for a zone, by the scheme SIMPLE and a hash algorithm (RFC
+/// 8976 section 3): the serial of the SOA at the apex, and the digest. Fails if the zone doesn't
+/// have exactly one SOA at the apex, or if memory for the data and one record is out.
 pub fn right_data<
     Owner: AsOctets,
     Octets: AsOctets,

@@ -1,4 +1,4 @@
-//! Which records of a zone are hashed.
+//! Decides which records of a zone are hashed.
 ghost use Rattle.std.specs.Prelude.{◌≡◌};
 ghost use Rattle.zone_digest.specs.Hashed.{is_apex, is_hashed, is_in_zone, is_of_digest};
 
@@ -8,14 +8,14 @@ use dns_octets::lowered::same_octets;
 use dns_resource::{Data, Record};
 use dns_wire::Name;
 
-/// Whether a name is the apex of a zone, but for the case of letters.
+/// Returns whether a name is the apex of a zone, ignoring letter case.
 pub fn is_apex<Owner: AsOctets, Apex: AsOctets>(name: &Name<Owner>, apex: &Name<Apex>) -> bool
     ensures { result ≡ is_apex apex.now name.now }
 {
     same_octets(name.as_slice(), apex.as_slice())
 }
 
-/// Whether a name is at or below the apex of a zone.
+/// Returns whether a name is at or below the apex of a zone.
 pub fn is_in_zone<Owner: AsOctets, Apex: AsOctets>(name: &Name<Owner>, apex: &Name<Apex>) -> bool
     ensures { result ≡ is_in_zone apex.now name.now }
 {
@@ -29,7 +29,7 @@ pub fn is_in_zone<Owner: AsOctets, Apex: AsOctets>(name: &Name<Owner>, apex: &Na
     true
 }
 
-/// Whether data is that of ZONEMD, or of an RRSIG that covers ZONEMD.
+/// Returns whether data is of type ZONEMD, or of an RRSIG that covers ZONEMD.
 fn is_of_digest<Octets: AsOctets>(data: &Data<Octets>) -> bool
     ensures { result ≡ is_of_digest «data».now }
 {
@@ -42,8 +42,8 @@ fn is_of_digest<Octets: AsOctets>(data: &Data<Octets>) -> bool
     }
 }
 
-/// Whether a record is hashed: it is at or below the apex of the zone, and at the apex neither
-/// ZONEMD nor the RRSIG that covers it (RFC 8976 section 3.3.1).
+/// Returns whether a record is hashed: it is at or below the apex of the zone, and at the apex
+/// neither ZONEMD nor the RRSIG that covers it (RFC 8976 section 3.3.1).
 pub fn is_hashed<Owner: AsOctets, Octets: AsOctets, Apex: AsOctets>(
     record: &Record<Owner, Octets>,
     apex: &Name<Apex>,

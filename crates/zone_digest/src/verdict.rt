@@ -1,4 +1,4 @@
-//! Whether the digest of a ZONEMD record is that of its zone.
+//! Checks whether the digest of a ZONEMD record is that of its zone.
 ghost use Rattle.std.specs.Prelude.{◌↔◌, IfOk, IsTrue};
 ghost use Rattle.zone_digest.specs.Hashed.{hashed_octets};
 ghost use Rattle.zone_digest.specs.Verdicts.{IsDigest, IsVerdict};
@@ -10,14 +10,14 @@ use dns_wire::Name;
 use std::alloc::Allocator;
 use zone_set::CanonicalSet;
 
-/// What comes of the check of a ZONEMD record (RFC 8976 section 4).
+/// The result of checking a ZONEMD record (RFC 8976 section 4).
 #[derive(Clone, Copy, PartialEq, Eq)]
 pub enum Verdict {
     /// The digest is that of the zone.
     Matches,
     /// The digest is not that of the zone.
     Differs,
-    /// The serial number is not that of the SOA.
+    /// The serial is not that of the SOA.
     OtherSerial,
     /// The scheme is not SIMPLE.
     UnknownScheme,
@@ -27,7 +27,8 @@ pub enum Verdict {
     Repeated,
 }
 
-/// Whether the digest of a ZONEMD record is that of the zone, by the algorithm that it names.
+/// Returns whether the digest of a ZONEMD record is that of the zone, by the algorithm that it
+/// names.
 fn is_digest<Owner: AsOctets, Octets: AsOctets, Apex: AsOctets, A: Allocator, B: Allocator>(
     alloc: B,
     apex: &Name<Apex>,
@@ -49,9 +50,9 @@ fn is_digest<Owner: AsOctets, Octets: AsOctets, Apex: AsOctets, A: Allocator, B:
     }
 }
 
-/// Whether a ZONEMD record, at the apex of a zone whose SOA has a serial number, and which has
-/// `count` ZONEMD records of this scheme and hash algorithm, has the digest of the zone. Memory is
-/// taken for one record; without it the check is refused.
+/// Checks whether a ZONEMD record has the digest of its zone. The record is at the zone's apex.
+/// `serial` is that of the zone's SOA, and `count` is the number of its ZONEMD records with this
+/// scheme and hash algorithm. Fails if memory for one record is out.
 pub fn check_zonemd<Owner: AsOctets, Octets: AsOctets, Apex: AsOctets, A: Allocator, B: Allocator>(
     alloc: B,
     apex: &Name<Apex>,

@@ -1,4 +1,4 @@
-//! The check of all digests of a zone.
+//! Checks all digests of a zone.
 ghost use Rattle.std.specs.Prelude.{◌≡◌, ◌&&◌, IfOk, IfErr, MatchOption};
 ghost use Rattle.dns_kinds.specs.Rtype as Rtype;
 ghost use Rattle.dns_resource.specs.Records.{data_of};
@@ -16,7 +16,7 @@ use dns_wire::Name;
 use std::alloc::Allocator;
 use zone_set::{CanonicalSet, serial_of};
 
-/// Whether a record has a type, and stands at the apex of a zone.
+/// Returns whether a record has a type, and is at the apex of a zone.
 fn is_at_apex<Owner: AsOctets, Octets: AsOctets, Apex: AsOctets>(
     one: &Record<Owner, Octets>,
     rtype: RecordType,
@@ -27,7 +27,7 @@ fn is_at_apex<Owner: AsOctets, Octets: AsOctets, Apex: AsOctets>(
     one.data.rtype() == rtype && is_apex(&one.owner, apex)
 }
 
-/// The serial number of the SOA at the apex, if there is one SOA.
+/// Returns the serial of the SOA at the apex, or `None` unless the apex has exactly one SOA.
 pub(crate) fn apex_serial<Owner: AsOctets, Octets: AsOctets, Apex: AsOctets>(
     apex: &Name<Apex>,
     records: &[Record<Owner, Octets>],
@@ -49,7 +49,8 @@ pub(crate) fn apex_serial<Owner: AsOctets, Octets: AsOctets, Apex: AsOctets>(
     }
 }
 
-/// Whether a record is a ZONEMD at the apex, with the scheme and the hash algorithm of another.
+/// Returns whether a record is a ZONEMD at the apex, with the scheme and the hash algorithm of
+/// another.
 fn is_alike_at_apex<Owner: AsOctets, Octets: AsOctets, Apex: AsOctets>(
     one: &Record<Owner, Octets>,
     zonemd: &Zonemd<'_>,
@@ -60,7 +61,7 @@ fn is_alike_at_apex<Owner: AsOctets, Octets: AsOctets, Apex: AsOctets>(
     is_at_apex(one, RecordType::ZONEMD, apex) && zonemd.is_alike(&one.data)
 }
 
-/// How many ZONEMD records at the apex have the scheme and the hash algorithm of one.
+/// Returns the number of ZONEMD records at the apex with the scheme and the hash algorithm of one.
 fn count_alike<Owner: AsOctets, Octets: AsOctets, Apex: AsOctets>(
     zonemd: &Zonemd<'_>,
     apex: &Name<Apex>,
@@ -77,7 +78,7 @@ fn count_alike<Owner: AsOctets, Octets: AsOctets, Apex: AsOctets>(
     count
 }
 
-/// The verdict of data of ZONEMD.
+/// Returns the verdict on ZONEMD data.
 fn check_data<Owner: AsOctets, Octets: AsOctets, Apex: AsOctets, A: Allocator, B: Allocator>(
     alloc: B,
     apex: &Name<Apex>,
@@ -99,9 +100,9 @@ fn check_data<Owner: AsOctets, Octets: AsOctets, Apex: AsOctets, A: Allocator, B
     }
 }
 
-/// Whether each ZONEMD record at the apex of a zone has the digest of the zone (RFC 8976 section 4),
-/// in their order. The zone is to have one SOA at the apex. Memory is taken for one record and for
-/// the verdicts.
+/// Checks whether each ZONEMD record at the apex of a zone has the digest of the zone (RFC 8976
+/// section 4), and returns the verdicts in their order. Fails if the zone doesn't have exactly one
+/// SOA at the apex, or if memory for one record and the verdicts is out.
 pub fn check_zone<
     Owner: AsOctets,
     Octets: AsOctets,

@@ -1,4 +1,4 @@
-//! Data of ZONEMD.
+//! The fields of ZONEMD data.
 ghost use Rattle.std.specs.Prelude.{◌≡◌, ◌≢◌, MatchOption};
 ghost use Rattle.dns_kinds.specs.Rtype as Rtype;
 ghost use Rattle.zone_digest.specs.Checks.{is_alike};
@@ -8,21 +8,21 @@ use dns_kinds::RecordType;
 use dns_octets::AsOctets;
 use dns_resource::Data;
 
-/// Data of ZONEMD (RFC 8976 section 2.2).
+/// ZONEMD data (RFC 8976 section 2.2).
 #[derive(Clone, Copy)]
 pub struct Zonemd<'a> {
-    /// The serial number of the zone's SOA.
+    /// Serial of the zone's SOA.
     pub serial: u32,
-    /// How records are collated: 1 is SIMPLE.
+    /// Scheme, by which records are collated: 1 is SIMPLE.
     pub scheme: u8,
-    /// The hash algorithm: 1 is SHA-384, 2 is SHA-512.
+    /// Hash algorithm: 1 is SHA-384, 2 is SHA-512.
     pub hash: u8,
-    /// The digest.
+    /// Digest.
     pub digest: &'a [u8],
 }
 
 impl<'a> Zonemd<'a> {
-    /// The parts of data of ZONEMD, and none of other data.
+    /// Returns the fields of ZONEMD data, or `None` for other data.
     pub fn of_data<Octets: AsOctets>(data: &'a Data<Octets>) -> Option<Zonemd<'a>>
         ensures { MatchOption result («data».now.rtype ≢ Rtype.zonemd) (IsZonemd «data».now) }
     {
@@ -39,7 +39,7 @@ impl<'a> Zonemd<'a> {
         })
     }
 
-    /// Whether data of ZONEMD has the same scheme and hash algorithm.
+    /// Returns whether ZONEMD data has the same scheme and hash algorithm.
     pub(crate) fn is_alike<Octets: AsOctets>(&self, data: &Data<Octets>) -> bool
         requires { «data».now.rtype ≡ Rtype.zonemd }
         ensures { result ≡ is_alike self.now «data».now }
