@@ -1,4 +1,4 @@
--- A search among the chains of a zone, in a loop.
+-- A loop that searches the chains of a zone.
 use Rattle.std.proofs.Common.{ℕ, ◌≡◌, ◌+◌, ◌<◌, Bool, false, true, List, [], ◌∷◌, length, take, get_or, refl, ap, ◌∙◌}
 use Rattle.std.specs.Prelude.{◌||◌}
 use Rattle.std.specs.List.{list_any}

@@ -1,4 +1,4 @@
--- Labels of hashes in base 32 hex.
+-- Labels of hashes in base32hex.
 use Rattle.std.proofs.Common.{ℕ, ◌≡◌, ◌+◌, ◌*◌, ◌%◌, ◌<◌, ◌≤◌, inl, inr, List, [], ◌∷◌, ◌++◌, length, map, slice_index, Result, Ok, Err, refl, sym, ap, ◌∙◌, arith, length-append, length-drop}
 use Rattle.std.specs.Result.{IsOk}
 use Rattle.std.proofs.lemmas.List.{length-map, take_all}
@@ -28,7 +28,7 @@ label_length hash e =
       whole_digits 5 hash (omega arith) (ap (λ n. n * 8 % 5) e),
     )
 
--- they stand in an array of as many
+-- these fit an array of the same length
 pub fits_label : (text old new : List ℕ) (r : Result ℕ ShortBuf) → IsWritten text old r new → length text ≡ length old → IsOk r
 fits_label text old new (Ok n) w e = refl
 fits_label text old new (Err x) w e = absurd (omega (arith, w.0, e))
@@ -38,7 +38,7 @@ is_label text old new (Ok n) w e =
     sym (take_all n new (omega (arith, w.0, e, ap length w.2, length-drop n new, length-drop n old))) ∙ w.1
 is_label text old new (Err x) w e = absurd (omega (arith, w.0, e))
 
--- the octets of the label and of the apex behind it
+-- the octets of the label, and the apex after it
 pub label_octets : (label apex hash : List ℕ) (origin : List (List ℕ)) → length hash ≡ 20 → label ≡ encoded base32hex hash → apex ≡ wire origin
     → 32 ∷ (label ++ apex) ≡ wire_label (encoded base32hex hash) ++ wire origin
 label_octets label apex hash origin e f g =
@@ -51,7 +51,7 @@ label_last : (label : List ℕ) (labels front back : List (List ℕ)) → 0 < le
 label_last label labels [] back some n e = absurd (omega (arith, some, ap length (first_same label [] labels back e)))
 label_last label labels (x ∷ front) back some n e = n.root_last front back cc
 
--- a label in front of a name makes a name
+-- a label before a name makes a name
 pub label_name : (label : List ℕ) (labels : List (List ℕ)) → IsName labels → EndsInRoot labels → 0 < length label → length label ≤ 63 → length label + 1 + wire_length labels ≤ 255
     → AreOctetValues (wire_label label ++ wire labels) → IsWireName (wire_label label ++ wire labels)
 label_name label labels n a some short fits values = record {

@@ -1,4 +1,4 @@
--- How many labels a name has.
+-- The number of labels of a name.
 use Rattle.std.proofs.Common.{ℕ, ◌≡◌, ◌+◌, ◌-◌, ◌≤◌, List, [], ◌∷◌, length, refl, ap, arith, Some, None}
 use Rattle.dns_spelling.proofs.LabelParts.{wire_length_cons}
 use Rattle.dns_wire.specs.Wire.{wire_length, IsName}

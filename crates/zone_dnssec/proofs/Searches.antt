@@ -1,4 +1,4 @@
--- What is found in parts of a list.
+-- Searches in parts of a list.
 use Rattle.std.proofs.Common.{ℕ, zero, suc, ◌≡◌, Bool, true, false, cond, Some, None, List, [], ◌∷◌, length, take, drop, refl, sym, ap, ◌∙◌, arith}
 use Rattle.std.specs.Prelude.{◌&&◌, filter, reverse}
 use Rattle.std.specs.List.{AllWithin, find}
@@ -13,7 +13,7 @@ module _ {X : Type 0} (p q : X → Bool) where
       ap (λ o. cond (q x) (Some x) o) (find_all xs (λ k d low lt. h (suc k) d (omega arith) (omega arith)))
       ∙ ap (λ b. cond (b && q x) (Some x) (find (λ y. p y && q y) xs)) (sym (h 0 x (omega arith) (omega arith)))
 
-  -- behind the place from which a test passes
+  -- after the index from which on a test passes
   pub find_behind : (xs : List X) (from : ℕ) → AllWithin (λ x. p x ≡ false) xs 0 from → AllWithin (λ x. p x ≡ true) xs from (length xs)
       → find q (drop from xs) ≡ find (λ x. p x && q x) xs
   find_behind xs zero h k = find_all xs k
@@ -34,7 +34,7 @@ module _ {X : Type 0} (p q : X → Bool) where
       ∙ ap (λ o. option_or o (cond (p x && q x) (Some x) None)) (find_nothing xs (λ k d low lt. h (suc k) d (omega arith) (omega arith)))
       ∙ ap (λ b. cond (b && q x) (Some x) None) (h 0 x (omega arith) (omega arith))
 
-  -- in front of the place up to which a test passes
+  -- before the index up to which a test passes
   pub find_in_front : (xs : List X) (count : ℕ) → AllWithin (λ x. p x ≡ true) xs 0 count → AllWithin (λ x. p x ≡ false) xs count (length xs)
       → find q (reverse (take count xs)) ≡ find (λ x. p x && q x) (reverse xs)
   find_in_front xs zero h k = sym (find_nothing xs k)
@@ -45,7 +45,7 @@ module _ {X : Type 0} (p q : X → Bool) where
       ∙ ap (λ b. option_or (find (λ y. p y && q y) (reverse xs)) (cond (b && q x) (Some x) None)) (sym (h 0 x (omega arith) (omega arith)))
       ∙ sym (find_last (λ y. p y && q y) x xs)
 
-  -- ---- among what passes a test
+  -- ---- among the elements that pass a test
 
   find_step : (x : X) (xs : List X) (b : Bool) → find q (filter p xs) ≡ find (λ y. p y && q y) xs
       → find q (cond b (x ∷ filter p xs) (filter p xs)) ≡ cond (b && q x) (Some x) (find (λ y. p y && q y) xs)

@@ -13,10 +13,10 @@ abbrev pub is_delete_form : {N O : Type 0} → Record N O → Bool
 is_delete_form r =
     type_of r == Rtype.cds && pointwise nat_eq (data_of r).octets (0 ∷ 0 ∷ 0 ∷ 0 ∷ 0 ∷ []) || type_of r == Rtype.cdnskey && pointwise nat_eq (data_of r).octets (0 ∷ 0 ∷ 3 ∷ 0 ∷ 0 ∷ [])
 
--- a CDS or CDNSKEY that is none
+-- a CDS or CDNSKEY that does not ask to delete
 abbrev pub asks_for_key : {N O : Type 0} → Record N O → Bool
 asks_for_key r = (type_of r == Rtype.cds || type_of r == Rtype.cdnskey) && not (is_delete_form r)
 
--- one at the apex, where another asks for keys
+-- a delete request at the apex, where another record asks for keys
 abbrev pub deletes_beside_keys : {N O : Type 0} → List (List ℕ) → List (Record N O) → Record N O → Bool
 deletes_beside_keys origin records r = is_delete_form r && (same_name r.owner origin && list_any (λ s. same_name s.owner origin && asks_for_key s) records)

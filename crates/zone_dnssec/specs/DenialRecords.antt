@@ -15,7 +15,7 @@ use Rattle.zone_dnssec.specs.Parameters.{field_octets, names_chain}
 use Rattle.zone_dnssec.specs.SignatureTimes.{number_in}
 use Rattle.zone_dnssec.specs.SignedSets.{belongs_to_parent}
 
--- an RRSIG or NSEC below a delegation, or an RRSIG at one over what is not the parent's (RFC 4035 sections 2.2 and 2.3)
+-- an RRSIG or NSEC below a delegation, or an RRSIG at one that covers neither DS nor NSEC (RFC 4035 sections 2.2 and 2.3)
 abbrev pub is_occluded : {N O : Type 0} → List (List ℕ) → List (Record N O) → Record N O → Bool
 is_occluded origin records r =
     (type_of r == Rtype.rrsig || type_of r == Rtype.nsec) && list_any (is_zone_cut origin records) (names_above r.owner)
@@ -23,7 +23,7 @@ is_occluded origin records r =
 
 -- ---- owners of NSEC3 (RFC 5155 section 3)
 
--- a digit of base 32 hex, in any case: 0 to 9, A to V
+-- a digit of base32hex, in any case: 0 to 9, A to V
 abbrev pub is_hash_digit : ℕ → Bool
 is_hash_digit octet = nat_le 48 octet && nat_le octet 57 || (nat_le 65 octet && nat_le octet 86 || nat_le 97 octet && nat_le octet 118)
 
@@ -44,17 +44,17 @@ has_other_link_owner origin r = type_of r == Rtype.nsec3 && not (is_link_owner o
 
 -- ---- iterations (RFC 9276 section 3)
 
--- an NSEC3PARAM at the apex that names a chain, with more iterations than the first number and at most as many as the second
+-- an NSEC3PARAM at the apex that names a chain, with more iterations than the first number and not more than the second
 abbrev pub iterates_within : {N O : Type 0} → ℕ → ℕ → List (List ℕ) → Record N O → Bool
 iterates_within above most origin r =
     names_chain r && (same_name r.owner origin && (nat_lt above (iterations_of r) && nat_le (iterations_of r) most))
 
--- ---- times to live (RFC 9077 section 3)
+-- ---- TTLs (RFC 9077 section 3)
 
 -- the lesser of the SOA's TTL and its minimum, the seventh field
 abbrev pub denial_ttl : {N O : Type 0} → List (List ℕ) → List (Record N O) → Option ℕ
 denial_ttl origin records = option_map (λ r. min r.ttl (number_in (field_octets 6 r))) (find (λ r. same_name r.owner origin && type_of r == Rtype.soa) records)
 
--- an NSEC or NSEC3 has another
+-- an NSEC or NSEC3 has a different TTL
 abbrev pub has_other_denial_ttl : {N O : Type 0} → Option ℕ → Record N O → Bool
 has_other_denial_ttl wanted r = (type_of r == Rtype.nsec || type_of r == Rtype.nsec3) && option_map_or (λ ttl. not (r.ttl == ttl)) wanted false

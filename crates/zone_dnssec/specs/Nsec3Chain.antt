@@ -18,7 +18,7 @@ use Rattle.zone_dnssec.specs.ZoneViews.{ZoneView}
 
 -- ---- the fields: hash algorithm, flags, iterations, salt, and of NSEC3 the next hash (RFC 5155 sections 3.2 and 4.2)
 
--- the number that two octets spell
+-- the number in two octets
 abbrev pub short_number : List ℕ → ℕ
 short_number [] = 0
 short_number (high ∷ []) = 0
@@ -27,15 +27,15 @@ short_number (high ∷ low ∷ others) = from_be_bytes w16 (high ∷ low ∷ [])
 abbrev pub iterations_of : {N O : Type 0} → Record N O → ℕ
 iterations_of r = short_number (field_octets 2 r)
 
--- the salt, behind its length
+-- the salt, after its length
 abbrev pub salt_of : {N O : Type 0} → Record N O → List ℕ
 salt_of r = drop 1 (field_octets 3 r)
 
--- the next hash, behind its length
+-- the next hash, after its length
 abbrev pub next_hash_of : {N O : Type 0} → Record N O → List ℕ
 next_hash_of r = drop 1 (field_octets 4 r)
 
--- the bitmap of an NSEC3, behind the first three fields of four octets, the salt and the next hash
+-- the bitmap of an NSEC3, after the first three fields of four octets, the salt and the next hash
 abbrev pub hashed_bitmap : {N O : Type 0} → Record N O → List ℕ
 hashed_bitmap r = drop (length (field_octets 4 r)) (drop (length (field_octets 3 r)) (drop 4 (data_of r).octets))
 

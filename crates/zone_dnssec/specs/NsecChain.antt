@@ -15,11 +15,11 @@ use Rattle.zone_rules.specs.Zones.{type_of, has_type_at}
 use Rattle.zone_dnssec.specs.Parameters.{has_named_chain}
 use Rattle.zone_dnssec.specs.SignedSets.{is_authoritative, starts}
 
--- the records stand at one name
+-- two records have the same owner
 abbrev pub are_at_one_name : {N O : Type 0} → Record N O → Record N O → Bool
 are_at_one_name a b = same_name a.owner b.owner
 
--- the record is the first at a name with authority that has no NSEC, in a zone of which no NSEC3PARAM names a chain
+-- the record is the first at an authoritative name without NSEC, in a zone whose NSEC3PARAMs name no chain
 abbrev pub lacks_nsec : {N O : Type 0} → List (List ℕ) → List (Record N O) → ℕ → Record N O → Bool
 lacks_nsec origin records place r =
     starts are_at_one_name records place r && (not (has_named_chain origin records) && (is_authoritative origin records r.owner && not (has_type_at Rtype.nsec r.owner records)))
@@ -28,7 +28,7 @@ lacks_nsec origin records place r =
 abbrev pub comes_after : List (List ℕ) → List (List ℕ) → Bool
 comes_after later name = not (is_le (name_order later name))
 
--- the first record with authority whose owner comes after a name
+-- the first record at an authoritative name that comes after another
 abbrev pub next_record : {N O : Type 0} → List (List ℕ) → List (Record N O) → List (List ℕ) → Option (Record N O)
 next_record origin records name = find (λ r. comes_after r.owner name && is_authoritative origin records r.owner) records
 
@@ -36,7 +36,7 @@ next_record origin records name = find (λ r. comes_after r.owner name && is_aut
 abbrev pub next_name : {N O : Type 0} → List (List ℕ) → List (Record N O) → List (List ℕ) → List (List ℕ)
 next_name origin records name = option_map_or (λ r. r.owner) (next_record origin records name) origin
 
--- an NSEC with authority names another than the next name
+-- the next name of an NSEC at an authoritative name is wrong
 abbrev pub names_other_next : {N O : Type 0} → List (List ℕ) → List (Record N O) → Record N O → Bool
 names_other_next origin records r =
     type_of r == Rtype.nsec && (is_authoritative origin records r.owner && option_map_or (λ octets. not (same_lowered octets (wire (next_name origin records r.owner)))) (data_part (data_of r) 0) false)

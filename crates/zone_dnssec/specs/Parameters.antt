@@ -10,14 +10,14 @@ use Rattle.dns_resource.specs.Records.{data_of}
 use Rattle.dns_resource.specs.declared.record.Record.{Record}
 use Rattle.zone_rules.specs.Zones.{type_of}
 
--- the octets of the field at a place
+-- the octets of the field with an index
 abbrev pub field_octets : {N O : Type 0} → ℕ → Record N O → List ℕ
 field_octets place r = option_map_or (λ octets. octets) (data_part (data_of r) place) []
 
--- an NSEC3PARAM names a chain: its hash algorithm is 1, SHA-1, and with flags it doesn't count (RFC 5155 section 4.1.2)
+-- an NSEC3PARAM names a chain if its hash algorithm is 1, SHA-1, and no flags are set (RFC 5155 section 4.1.2)
 abbrev pub names_chain : {N O : Type 0} → Record N O → Bool
 names_chain r = type_of r == Rtype.nsec3param && (pointwise nat_eq (field_octets 0 r) (1 ∷ []) && pointwise nat_eq (field_octets 1 r) (0 ∷ []))
 
--- some NSEC3PARAM at the apex names one
+-- some NSEC3PARAM at the apex names a chain
 abbrev pub has_named_chain : {N O : Type 0} → List (List ℕ) → List (Record N O) → Bool
 has_named_chain origin records = list_any (λ r. same_name r.owner origin && names_chain r) records

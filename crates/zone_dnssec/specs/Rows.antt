@@ -1,4 +1,4 @@
--- Worked rows of the rules, each computed.
+-- Worked examples of the rules, each computed.
 use Rattle.std.specs.Prelude.{◌≡◌, ℕ, Some, None, true, false, List, [], ◌∷◌, codes, refl}
 use Rattle.dns_kinds.specs.Rtype as Rtype
 use Rattle.dns_kinds.specs.declared.types.RecordType.{RecordType}
@@ -80,7 +80,7 @@ after_row = refl
 not_after_row : comes_after (codes "EXAMPLE" ∷ [] ∷ []) origin ≡ false
 not_after_row = refl
 
--- what stands below a delegation is passed over, and the last names the apex
+-- names below a delegation are skipped, and the last one is followed by the apex
 next_row : next_name origin delegated origin ≡ sub
 next_row = refl
 

@@ -1,4 +1,4 @@
--- What is found in a signed zone.
+-- The findings of a signed zone.
 use Rattle.std.specs.Prelude.{ℕ, if◌then◌else◌, Bool, false, List, [], ◌∷◌, length, slice_get}
 use Rattle.std.specs.List.{flat_map, range_with_len}
 use Rattle.std.specs.Option.{option_map_or}
@@ -21,7 +21,7 @@ use Rattle.zone_dnssec.specs.declared.rule.SecurityRule.{SecurityRule}
 use Rattle.zone_dnssec.specs.declared.rule.SecurityRule.TheVariants.{Expired, ExpiresSoon, NotYetValid, TimesReversed, OtherSigner, OtherLabels, OtherOriginalTtl, OtherSignatureTtl, Unsigned, NoKey, KeyMissing, RevokedKey, SignsNothing, Occluded, NoNsec, OtherNext, OtherTypes, NoNsec3, OtherNextHash, OtherHashedTypes, OtherLinkOwner, TooManyIterations, ManyIterations, SomeIterations, OtherDenialTtl, DeleteBesideKeys}
 use Rattle.zone_dnssec.specs.declared.times.Times.{Times}
 
--- whether the record at a place breaks a rule
+-- whether the record at an index breaks a rule
 abbrev pub breaks_security : {N O : Type 0} → SecurityRule → ZoneView N O → Times → ℕ → Record N O → Bool
 breaks_security Expired zone times place r = is_expired times.instant r
 breaks_security ExpiresSoon zone times place r = expires_within times.margin times.instant r
@@ -50,28 +50,28 @@ breaks_security SomeIterations zone times place r = iterates_within 0 50 zone.or
 breaks_security OtherDenialTtl zone times place r = has_other_denial_ttl (denial_ttl zone.origin zone.records) r
 breaks_security DeleteBesideKeys zone times place r = deletes_beside_keys zone.origin zone.records r
 
--- a rule, told where it is broken
+-- a finding of a rule, if the rule is broken
 abbrev pub insecure_if : Bool → SecurityRule → ℕ → List SecurityFinding
 insecure_if is_broken rule place = if is_broken then record { rule = rule; «record» = place } ∷ [] else []
 
--- the rules, in the order in which they are told of a record
+-- the rules, in the order in which their findings are reported
 abbrev pub security_rules : List SecurityRule
 security_rules =
     Expired ∷ ExpiresSoon ∷ NotYetValid ∷ TimesReversed ∷ OtherSigner ∷ OtherLabels ∷ OtherOriginalTtl ∷ OtherSignatureTtl ∷ Unsigned ∷ NoKey ∷ KeyMissing ∷ RevokedKey ∷ SignsNothing ∷ Occluded ∷ NoNsec ∷ OtherNext ∷ OtherTypes ∷ NoNsec3 ∷ OtherNextHash ∷ OtherHashedTypes ∷ OtherLinkOwner ∷ TooManyIterations ∷ ManyIterations ∷ SomeIterations ∷ OtherDenialTtl ∷ DeleteBesideKeys ∷ []
 
--- the record at a place breaks the rule
+-- the record at an index breaks the rule
 abbrev pub breaks_security_at : {N O : Type 0} → ZoneView N O → Times → ℕ → SecurityRule → Bool
 breaks_security_at zone times place rule = option_map_or (breaks_security rule zone times place) (slice_get zone.records place) false
 
--- a rule, if the record at a place breaks it
+-- a finding of a rule, if the record at an index breaks it
 abbrev pub insecure_of : {N O : Type 0} → ZoneView N O → Times → ℕ → SecurityRule → List SecurityFinding
 insecure_of zone times place rule = insecure_if (breaks_security_at zone times place rule) rule place
 
--- the rules that the record at a place breaks
+-- findings of the rules that the record at an index breaks
 abbrev pub insecure_at : {N O : Type 0} → ZoneView N O → Times → ℕ → List SecurityFinding
 insecure_at zone times place = flat_map (insecure_of zone times place) security_rules
 
--- the rules that each record breaks, record by record, if the zone is signed: with DNSKEY at its apex
+-- findings of the rules that each record breaks, record by record, if the zone is signed: its apex has a DNSKEY
 abbrev pub insecure_in_zone : {N O : Type 0} → List (List ℕ) → Times → List (Record N O) → List SecurityFinding
 insecure_in_zone origin times records =
     if has_type_at Rtype.dnskey origin records then flat_map (insecure_at (zone_with origin records) times) (range_with_len 0 (length records)) else []

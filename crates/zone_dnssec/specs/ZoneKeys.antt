@@ -1,4 +1,4 @@
--- The keys of a zone, and which of them a signature fits (RFC 4034 sections 2.1 and 3.1, appendix B).
+-- The keys of a zone, and the keys that a signature fits (RFC 4034 sections 2.1 and 3.1, appendix B).
 use Rattle.std.specs.Prelude.{ℕ, ◌+◌, ◌-◌, ◌*◌, ◌/◌, ◌%◌, ◌==◌, ◌&&◌, not, nat_lt, nat_le, if◌then◌else◌, Bool, Option, Some, None, List, [], ◌∷◌, length, drop, filter, slice_index}
 use Rattle.std.specs.Int.{from_be_bytes, w16}
 use Rattle.std.specs.List.{flat_map, list_any}
@@ -42,7 +42,7 @@ abbrev pub modulus : List ℕ → List ℕ
 modulus [] = []
 modulus (count ∷ others) = if count == 0 then long_modulus others else drop count others
 
--- its last octets but two and but one
+-- the third last and the second last of its octets
 abbrev pub modulus_tag : List ℕ → Option ℕ
 modulus_tag octets =
     if nat_lt (length octets) 3 then None else Some (from_be_bytes w16 (slice_index octets (length octets - 3) ∷ slice_index octets (length octets - 2) ∷ []))
@@ -66,7 +66,7 @@ key_in (a ∷ b ∷ c ∷ []) = None
 key_in (high ∷ low ∷ protocol ∷ algorithm ∷ key) =
     if high % 2 == 1 && protocol == 3 then option_map (key_with algorithm (nat_le 128 low)) (key_tag algorithm (high ∷ low ∷ protocol ∷ algorithm ∷ key) key) else None
 
--- the key of a DNSKEY, if it is one that signs zones
+-- the key of a DNSKEY, if it signs zones
 abbrev pub keys_of : {N O : Type 0} → Record N O → List Key
 keys_of r = if type_of r == Rtype.dnskey then option_map_or (λ key. key ∷ []) (key_in (data_of r).octets) [] else []
 
@@ -74,7 +74,7 @@ keys_of r = if type_of r == Rtype.dnskey then option_map_or (λ key. key ∷ [])
 abbrev pub zone_keys : {N O : Type 0} → List (List ℕ) → List (Record N O) → List Key
 zone_keys origin records = flat_map keys_of (filter (λ r. same_name r.owner origin) records)
 
--- ---- which of them an RRSIG fits
+-- ---- the keys that an RRSIG fits
 
 -- the algorithm is the RRSIG's second field, the key tag its seventh
 abbrev pub is_named : {N O : Type 0} → Record N O → Key → Bool
@@ -87,17 +87,17 @@ fits_key keys r = list_any (is_named r) keys
 abbrev pub has_fitting_signature : {N O : Type 0} → List Key → RecordType → List (List ℕ) → List (Record N O) → Bool
 has_fitting_signature keys rtype name records = list_any (λ r. same_name r.owner name && (covers rtype r && fits_key keys r)) records
 
--- the record is the first of a set that is to be signed and is, but by no key
+-- the record is the first of an RRset that must be signed and is, but by no known key
 abbrev pub lacks_known_key : {N O : Type 0} → List Key → List (List ℕ) → List (Record N O) → ℕ → Record N O → Bool
 lacks_known_key keys origin records place r =
     starts is_one_set records place r
     && (must_be_signed origin records r && (has_signature (type_of r) r.owner records && not (has_fitting_signature keys (type_of r) r.owner records)))
 
--- an RRSIG fits no key, and another of the same set does
+-- an RRSIG fits no key, and another of the same RRset does
 abbrev pub misses_key : {N O : Type 0} → List Key → List (Record N O) → Record N O → Bool
 misses_key keys records r = type_of r == Rtype.rrsig && (not (fits_key keys r) && has_fitting_signature keys (set_type r) r.owner records)
 
--- an RRSIG over another set than DNSKEY fits a key, and each that it fits is revoked (RFC 5011 section 2.1)
+-- an RRSIG that does not cover DNSKEY fits a key, and each key that it fits is revoked (RFC 5011 section 2.1)
 abbrev pub is_by_revoked_key : {N O : Type 0} → List Key → Record N O → Bool
 is_by_revoked_key keys r =
     type_of r == Rtype.rrsig && (not (set_type r == Rtype.dnskey) && (fits_key keys r && not (list_any (λ key. is_named r key && not key.is_revoked) keys)))

@@ -1,4 +1,4 @@
-//! Which types an NSEC lists (RFC 4034 section 4.1.2).
+//! Compares the types that an NSEC lists with those at its owner (RFC 4034 section 4.1.2).
 ghost use Rattle.std.specs.Prelude.{◌≡◌, drop, filter};
 ghost use Rattle.std.specs.List.{list_all};
 ghost use Rattle.dns_lists.specs.Bitmap.{has, types_of};
@@ -16,7 +16,7 @@ use zone_rules::hosts::is_cut;
 use zone_rules::names::view;
 use zone_rules::sorted::{has_type, owned_by};
 
-/// The octets behind so many. Behind more than there are stand none.
+/// Returns the octets after the first `count`, or an empty slice if there are fewer.
 pub(crate) fn behind(octets: &[u8], count: usize) -> &[u8]
     ensures { result.now ≡ drop count octets.now }
 {
@@ -27,7 +27,7 @@ pub(crate) fn behind(octets: &[u8], count: usize) -> &[u8]
     }
 }
 
-/// The bitmap in data of an NSEC.
+/// Returns the bitmap in data of an NSEC.
 fn types_octets<Octets: AsOctets>(data: &Data<Octets>) -> &[u8]
     ensures { result.now ≡ bitmap_octets «data».now }
 {
@@ -38,14 +38,14 @@ fn types_octets<Octets: AsOctets>(data: &Data<Octets>) -> &[u8]
     }
 }
 
-/// Whether a bitmap lists a type.
+/// Returns whether a bitmap lists a type.
 fn lists(bitmap: &[u8], rtype: RecordType) -> bool
     ensures { result ≡ has (types_of bitmap.now) rtype }
 {
     BitmapTypes::new(bitmap).any(|listed| listed == rtype)
 }
 
-/// Whether an NSEC at a delegation lists a type, if it stands there.
+/// Returns whether an NSEC at a delegation lists a type, if a record there has it.
 fn is_for_delegation(rtype: RecordType) -> bool
     ensures { result ≡ stands_at_delegation rtype }
 {
@@ -55,7 +55,7 @@ fn is_for_delegation(rtype: RecordType) -> bool
     )
 }
 
-/// Whether an NSEC at a name lists a type, if it stands there.
+/// Returns whether an NSEC at a name lists a type, if a record there has it.
 fn is_listable<Owner: AsOctets, Octets: AsOctets>(
     origin: &Name<&[u8]>,
     records: &SortedRecords<'_, Owner, Octets>,
@@ -67,7 +67,7 @@ fn is_listable<Owner: AsOctets, Octets: AsOctets>(
     is_for_delegation(rtype) || !is_cut(origin, records, name)
 }
 
-/// Whether an NSEC at a name has to list a type.
+/// Returns whether an NSEC at a name must list a type.
 fn is_to_be_listed<Owner: AsOctets, Octets: AsOctets>(
     origin: &Name<&[u8]>,
     records: &SortedRecords<'_, Owner, Octets>,
@@ -79,7 +79,7 @@ fn is_to_be_listed<Owner: AsOctets, Octets: AsOctets>(
     has_type(records, name, rtype) && is_listable(origin, records, name, rtype)
 }
 
-/// Whether each type that a bitmap lists is to be listed at a name.
+/// Returns whether each type that a bitmap lists must be listed at a name.
 fn lists_only<Owner: AsOctets, Octets: AsOctets>(
     origin: &Name<&[u8]>,
     records: &SortedRecords<'_, Owner, Octets>,
@@ -92,7 +92,7 @@ fn lists_only<Owner: AsOctets, Octets: AsOctets>(
     BitmapTypes::new(bitmap).all(|rtype| is_to_be_listed(origin, records, name, rtype))
 }
 
-/// Whether a bitmap lists the type of a record, or needn't.
+/// Returns whether a bitmap lists the type of a record, or need not list it.
 fn is_listed<Owner: AsOctets, Octets: AsOctets>(
     origin: &Name<&[u8]>,
     records: &SortedRecords<'_, Owner, Octets>,
@@ -106,7 +106,7 @@ fn is_listed<Owner: AsOctets, Octets: AsOctets>(
     !is_listable(origin, records, name, rtype) || lists(bitmap, rtype)
 }
 
-/// Whether a bitmap lists the type of each record at a name that is to be listed.
+/// Returns whether a bitmap lists the type of each record at a name whose type must be listed.
 fn lists_each<Owner: AsOctets, Octets: AsOctets>(
     origin: &Name<&[u8]>,
     records: &SortedRecords<'_, Owner, Octets>,
@@ -121,7 +121,7 @@ fn lists_each<Owner: AsOctets, Octets: AsOctets>(
         .all(|record| is_listed(origin, records, name, bitmap, record))
 }
 
-/// Whether a bitmap lists exactly the types that are to be listed at a name.
+/// Returns whether a bitmap lists exactly the types that must be listed at a name.
 pub(crate) fn lists_types<Owner: AsOctets, Octets: AsOctets>(
     origin: &Name<&[u8]>,
     records: &SortedRecords<'_, Owner, Octets>,
@@ -133,7 +133,7 @@ pub(crate) fn lists_types<Owner: AsOctets, Octets: AsOctets>(
     lists_only(origin, records, name, bitmap) && lists_each(origin, records, name, bitmap)
 }
 
-/// Whether a record is an NSEC that lists other types than those at its owner.
+/// Returns whether a record is an NSEC whose types differ from those at its owner.
 pub fn has_wrong_types<Owner: AsOctets, Octets: AsOctets>(
     origin: &Name<&[u8]>,
     records: &SortedRecords<'_, Owner, Octets>,

@@ -1,4 +1,4 @@
-//! The chain of NSEC records (RFC 4034 section 4, RFC 4035 section 2.3).
+//! Checks the chain of NSEC records (RFC 4034 section 4, RFC 4035 section 2.3).
 ghost use Rattle.std.specs.Prelude.{◌≡◌};
 ghost use Rattle.zone_dnssec.specs.NsecChain.{are_at_one_name, lacks_nsec};
 ghost use Rattle.zone_dnssec.specs.Parameters.{has_named_chain};
@@ -15,7 +15,7 @@ use zone_rules::names::view;
 use zone_rules::pairs::{before, have_one_owner};
 use zone_rules::sorted::{has_type, owned_by};
 
-/// Whether a record is the first at its owner.
+/// Returns whether a record is the first at its owner.
 pub(crate) fn is_first_at_owner<Owner: AsOctets, Octets: AsOctets>(
     records: &SortedRecords<'_, Owner, Octets>,
     place: usize,
@@ -29,7 +29,7 @@ pub(crate) fn is_first_at_owner<Owner: AsOctets, Octets: AsOctets>(
     }
 }
 
-/// Whether an NSEC3PARAM at the apex names a chain.
+/// Returns whether an NSEC3PARAM at the apex names a chain.
 fn has_chain<Owner: AsOctets, Octets: AsOctets>(
     origin: &Name<&[u8]>,
     records: &SortedRecords<'_, Owner, Octets>,
@@ -41,7 +41,7 @@ fn has_chain<Owner: AsOctets, Octets: AsOctets>(
         .any(|record| is_chain(record))
 }
 
-/// Whether a record is the first at an owner that needs an NSEC and has none.
+/// Returns whether a record is the first at an owner that needs an NSEC and has none.
 pub fn is_without_nsec<Owner: AsOctets, Octets: AsOctets>(
     origin: &Name<&[u8]>,
     records: &SortedRecords<'_, Owner, Octets>,

@@ -1,4 +1,4 @@
-//! What is found in a signed zone.
+//! Checks a signed zone against the rules of DNSSEC.
 ghost use Rattle.std.specs.Prelude.{◌≡◌, ◌++◌, OnOk, IfOk};
 ghost use Rattle.std.specs.List.{flat_map, range_with_len};
 ghost use Rattle.zone_dnssec.specs.SecurityFindings.{breaks_security, breaks_security_at, insecure_at, insecure_if, insecure_in_zone, insecure_of};
@@ -33,7 +33,7 @@ use zone_rules::SortedRecords;
 use zone_rules::names::view;
 use zone_rules::sorted::has_type;
 
-/// The rules, in the order in which they are reported of a record.
+/// The rules, in the order in which their findings are reported.
 const SECURITY_RULES: [SecurityRule; 26] = [
     SecurityRule::Expired,
     SecurityRule::ExpiresSoon,
@@ -63,17 +63,17 @@ const SECURITY_RULES: [SecurityRule; 26] = [
     SecurityRule::DeleteBesideKeys,
 ];
 
-/// The most iterations with which older validators only don't treat a zone as unsigned.
+/// Greatest number of iterations with which newer validators, too, treat a zone as signed.
 const FEW_ITERATIONS: u16 = 50;
 
-/// What the rules ask of the zone as a whole: the keys at its apex, and the TTL of NSEC and NSEC3.
+/// Facts about the zone as a whole: the keys at its apex, and the TTL of NSEC and NSEC3.
 #[derive(Clone, Copy)]
 struct Facts<'a> {
     keys: &'a [Key],
     denial_ttl: Option<u32>,
 }
 
-/// Whether a record at a place breaks a rule.
+/// Returns whether the record at an index breaks a rule.
 fn breaks_rule<'a, Owner: AsOctets, Octets: AsOctets>(
     rule: SecurityRule,
     zone: &SignedZone<'_, 'a, Owner, Octets>,
@@ -133,7 +133,7 @@ fn breaks_rule<'a, Owner: AsOctets, Octets: AsOctets>(
     }
 }
 
-/// Whether the record at a place breaks a rule. After the last there is none.
+/// Returns whether the record at an index breaks a rule. Returns false after the last record.
 fn is_broken_at<'a, Owner: AsOctets, Octets: AsOctets>(
     rule: SecurityRule,
     zone: &SignedZone<'_, 'a, Owner, Octets>,
@@ -152,7 +152,7 @@ fn is_broken_at<'a, Owner: AsOctets, Octets: AsOctets>(
     }
 }
 
-/// Adds a rule, if it is broken.
+/// Appends a finding, if the rule is broken.
 fn add_if<A: Allocator>(
     is_broken: bool,
     rule: SecurityRule,
@@ -170,7 +170,7 @@ fn add_if<A: Allocator>(
     Ok(())
 }
 
-/// Adds those of some rules that the record at a place breaks.
+/// Appends findings of those of some rules that the record at an index breaks.
 #[tactic(auto, using(zone_rules::proofs::Steps::found_more))]
 fn add_each<'a, Owner: AsOctets, Octets: AsOctets, A: Allocator>(
     rules: &[SecurityRule],
@@ -193,7 +193,7 @@ fn add_each<'a, Owner: AsOctets, Octets: AsOctets, A: Allocator>(
     Ok(())
 }
 
-/// Adds the rules that the record at a place breaks.
+/// Appends findings of all rules that the record at an index breaks.
 fn add_broken<'a, Owner: AsOctets, Octets: AsOctets, A: Allocator>(
     zone: &SignedZone<'_, 'a, Owner, Octets>,
     times: Times,
@@ -210,11 +210,11 @@ fn add_broken<'a, Owner: AsOctets, Octets: AsOctets, A: Allocator>(
     add_each(&SECURITY_RULES, zone, times, facts, hashes, place, found)
 }
 
-/// What is found in the zone that has this origin and these records: the rules that each record
-/// breaks, record by record. Without DNSKEY at its apex the zone counts as unsigned, and nothing
-/// is found. Classes don't count.
+/// Returns the findings of the zone with this origin and these records: the rules that each record
+/// breaks, record by record. Without a DNSKEY at its apex the zone counts as unsigned, and nothing
+/// is found. The class of records doesn't matter.
 ///
-/// Where there is no memory nothing is returned.
+/// Fails if memory for the keys or the findings is out.
 pub fn check_signed<Owner: AsOctets, Octets: AsOctets, Origin: AsOctets, A: Allocator + Copy>(
     alloc: A,
     origin: &Name<Origin>,

@@ -1,5 +1,5 @@
-//! The owners of NSEC, NSEC3 and RRSIG records, the TTLs of NSEC and NSEC3, and the iterations of a
-//! chain.
+//! Checks the owners of NSEC, NSEC3 and RRSIG records, the TTLs of NSEC and NSEC3, and the
+//! iterations of a chain.
 ghost use Rattle.std.specs.Prelude.{◌≡◌, ◌&&◌, ◌==◌, ◌∷◌, [], nat_eq, take};
 ghost use Rattle.std.specs.Cmp.Lexicographic.{pointwise};
 ghost use Rattle.std.specs.List.{find, list_all};
@@ -24,14 +24,14 @@ use zone_rules::names::{is_same, octets_of, parent, view};
 use zone_rules::pairs::set_type_of;
 use zone_rules::sorted::owned_by;
 
-/// The place of the minimum among the fields of an SOA (RFC 1035 section 3.3.13).
+/// Index of the minimum among the fields of an SOA (RFC 1035 section 3.3.13).
 const MINIMUM: usize = 6;
 
-/// The number of characters of a hash of 20 octets in base 32 hex.
+/// Number of characters of a hash of 20 octets in base32hex.
 const DIGITS: usize = 32;
 
 /// Returns whether a record is an RRSIG or NSEC below a delegation, or an RRSIG at one that covers
-/// what is not the parent's.
+/// neither DS nor NSEC.
 pub fn is_out_of_place<Owner: AsOctets, Octets: AsOctets>(
     origin: &Name<&[u8]>,
     records: &SortedRecords<'_, Owner, Octets>,
@@ -47,7 +47,7 @@ pub fn is_out_of_place<Owner: AsOctets, Octets: AsOctets>(
             && is_cut(origin, records, &owner))
 }
 
-/// Returns whether an octet is a digit of base 32 hex, in any case.
+/// Returns whether an octet is a digit of base32hex, in any case.
 fn is_digit(octet: u8) -> bool
     ensures { result ≡ is_hash_digit octet }
 {
@@ -65,14 +65,14 @@ fn front(octets: &[u8], count: usize) -> &[u8]
     }
 }
 
-/// Returns whether octets are digits of base 32 hex.
+/// Returns whether octets are digits of base32hex.
 fn are_digits(octets: &[u8]) -> bool
     ensures { result ≡ list_all is_hash_digit octets.now }
 {
     octets.iter().all(|octet| is_digit(*octet))
 }
 
-/// Returns whether a name begins with a label of 32 digits of base 32 hex.
+/// Returns whether a name begins with a label of 32 digits of base32hex.
 fn is_hash_name(octets: &[u8]) -> bool
     ensures { result ≡ begins_with_hash octets.now }
 {
@@ -111,7 +111,7 @@ fn has_link_owner<Owner: AsOctets, Octets: AsOctets>(
     is_child_of(&owner, origin) && (!is_sha1(record) || is_hash_name(octets_of(&owner)))
 }
 
-/// Returns whether a record is an NSEC3 whose owner is none for it.
+/// Returns whether a record is an NSEC3 with a wrong owner.
 pub fn has_wrong_owner<Owner: AsOctets, Octets: AsOctets>(
     origin: &Name<&[u8]>,
     record: &Record<Owner, Octets>,
@@ -168,7 +168,7 @@ pub fn ttl_of_denial<Owner: AsOctets, Octets: AsOctets>(
     }
 }
 
-/// Returns whether a record is an NSEC or NSEC3 with another TTL than this.
+/// Returns whether a record is an NSEC or NSEC3 with a TTL other than this.
 pub fn has_wrong_denial_ttl<Owner: AsOctets, Octets: AsOctets>(
     wanted: Option<u32>,
     record: &Record<Owner, Octets>,

@@ -1,4 +1,4 @@
-//! What NSEC3 records say of the names of a zone (RFC 5155 section 7.1).
+//! Checks that the NSEC3 records of a zone match its names (RFC 5155 section 7.1).
 ghost use Rattle.std.specs.Prelude.{◌≡◌};
 ghost use Rattle.zone_rules.specs.Zones.{has_owner};
 ghost use Rattle.zone_dnssec.specs.HashedLinks.{breaks_named_chain, breaks_some_chain, fails_above, fails_at_or_above, fails_chain, fails_name, is_bounded, is_covered_by_opt_out, is_empty_in_zone, is_hash_of, is_opted_out, is_represented, lacks_link, lists_other_hashed_types, named_chain_fails, names_other_hash, points_to_next, some_chain_fails};
@@ -23,19 +23,20 @@ use zone_rules::hosts::is_cut;
 use zone_rules::names::{is_name_within, is_same, parent, view};
 use zone_rules::sorted::{has_type, owned_by};
 
-/// The most iterations with which validators don't treat a zone as unsigned (RFC 9276 section 3.2).
+/// Greatest number of iterations with which validators treat a zone as signed (RFC 9276 section
+/// 3.2).
 pub(crate) const MOST_ITERATIONS: u16 = 150;
 
-/// What is wrong with the NSEC3 of a name.
+/// A fault of a chain of NSEC3 records at a name.
 #[derive(Clone, Copy)]
 pub enum LinkFault {
-    /// There is none.
+    /// No NSEC3 matches the name.
     Missing,
-    /// It lists other types than those at the name.
+    /// The types of the NSEC3 that matches the name differ from those at the name.
     DifferentTypes,
 }
 
-/// Whether a hash is that of a record's owner.
+/// Returns whether a hash is that of a record's owner.
 fn is_hash_for<Owner: AsOctets, Octets: AsOctets>(
     origin: &Name<&[u8]>,
     hash: &[u8],
@@ -49,7 +50,7 @@ fn is_hash_for<Owner: AsOctets, Octets: AsOctets>(
     }
 }
 
-/// Whether an NSEC3 names the hash of the one that comes next.
+/// Returns whether the next hash of an NSEC3 is that of the next one in the chain.
 fn names_next<Owner: AsOctets, Octets: AsOctets>(
     zone: &SignedZone<'_, '_, Owner, Octets>,
     chain: &Record<Owner, Octets>,
@@ -63,8 +64,8 @@ fn names_next<Owner: AsOctets, Octets: AsOctets>(
     }
 }
 
-/// Whether an NSEC3PARAM names a chain of which a record is, and the record names another than the
-/// next hash.
+/// Returns whether an NSEC3PARAM names a chain that a record belongs to, and the record's next hash
+/// is wrong.
 fn is_out_of_order<Owner: AsOctets, Octets: AsOctets>(
     zone: &SignedZone<'_, '_, Owner, Octets>,
     chain: &Record<Owner, Octets>,
@@ -75,7 +76,7 @@ fn is_out_of_order<Owner: AsOctets, Octets: AsOctets>(
     is_chain(chain) && is_of_chain(chain, record) && !names_next(zone, chain, record)
 }
 
-/// Whether a record is of a chain, and names another than the next hash.
+/// Returns whether a record belongs to a chain, and its next hash is wrong.
 fn breaks_order<Owner: AsOctets, Octets: AsOctets>(
     zone: &SignedZone<'_, '_, Owner, Octets>,
     record: &Record<Owner, Octets>,
@@ -87,7 +88,7 @@ fn breaks_order<Owner: AsOctets, Octets: AsOctets>(
         .any(|chain| is_out_of_order(zone, chain, record))
 }
 
-/// Whether a record is an NSEC3 of a chain that names another than the next hash.
+/// Returns whether a record is an NSEC3 of a chain, and its next hash is wrong.
 pub fn has_wrong_next_hash<Owner: AsOctets, Octets: AsOctets>(
     zone: &SignedZone<'_, '_, Owner, Octets>,
     record: &Record<Owner, Octets>,
@@ -97,7 +98,7 @@ pub fn has_wrong_next_hash<Owner: AsOctets, Octets: AsOctets>(
     record.data.rtype() == RecordType::NSEC3 && breaks_order(zone, record)
 }
 
-/// Whether no NSEC3 matches a name.
+/// Returns whether no NSEC3 matches a name.
 fn is_without_link<'a, Owner: AsOctets, Octets: AsOctets>(
     hashes: &mut Hashes<'a>,
     zone: &SignedZone<'_, 'a, Owner, Octets>,
@@ -109,7 +110,7 @@ fn is_without_link<'a, Owner: AsOctets, Octets: AsOctets>(
     link_for(hashes, zone, chain, name).is_none()
 }
 
-/// Whether no NSEC3 matches a name, and the one that covers it has Opt-Out.
+/// Returns whether no NSEC3 matches a name, and the one that covers it has Opt-Out.
 fn is_in_opt_out<'a, Owner: AsOctets, Octets: AsOctets>(
     hashes: &mut Hashes<'a>,
     zone: &SignedZone<'_, 'a, Owner, Octets>,
@@ -130,7 +131,7 @@ fn is_in_opt_out<'a, Owner: AsOctets, Octets: AsOctets>(
     }
 }
 
-/// Whether a name is a delegation without DS that a chain leaves out.
+/// Returns whether a name is a delegation without DS that a chain omits.
 fn is_left_out<'a, Owner: AsOctets, Octets: AsOctets>(
     hashes: &mut Hashes<'a>,
     zone: &SignedZone<'_, 'a, Owner, Octets>,
@@ -144,7 +145,7 @@ fn is_left_out<'a, Owner: AsOctets, Octets: AsOctets>(
         && is_in_opt_out(hashes, zone, chain, name)
 }
 
-/// Whether the NSEC3 that matches a name lists other types than those at the name.
+/// Returns whether the types of the NSEC3 that matches a name differ from those at the name.
 fn has_wrong_hashed_types<'a, Owner: AsOctets, Octets: AsOctets>(
     hashes: &mut Hashes<'a>,
     zone: &SignedZone<'_, 'a, Owner, Octets>,
@@ -159,7 +160,7 @@ fn has_wrong_hashed_types<'a, Owner: AsOctets, Octets: AsOctets>(
     }
 }
 
-/// Whether a chain has a fault at a name.
+/// Returns whether a chain has a fault at a name.
 fn has_fault<'a, Owner: AsOctets, Octets: AsOctets>(
     fault: LinkFault,
     hashes: &mut Hashes<'a>,
@@ -175,7 +176,7 @@ fn has_fault<'a, Owner: AsOctets, Octets: AsOctets>(
     }
 }
 
-/// Whether a record stands at a name.
+/// Returns whether a name is the owner of a record.
 fn is_owner<Owner: AsOctets, Octets: AsOctets>(
     records: &SortedRecords<'_, Owner, Octets>,
     name: &Name<&[u8]>,
@@ -185,7 +186,7 @@ fn is_owner<Owner: AsOctets, Octets: AsOctets>(
     !owned_by(records, name).is_empty()
 }
 
-/// Whether a name is in the zone, and no record stands there.
+/// Returns whether a name is in the zone, and owns no record.
 fn is_empty_name<Owner: AsOctets, Octets: AsOctets>(
     zone: &SignedZone<'_, '_, Owner, Octets>,
     name: &Name<&[u8]>,
@@ -195,7 +196,7 @@ fn is_empty_name<Owner: AsOctets, Octets: AsOctets>(
     is_name_within(name, zone.origin) && !is_owner(zone.records, name)
 }
 
-/// Whether a chain has a fault at an empty non-terminal above a name.
+/// Returns whether a chain has a fault at an empty non-terminal above a name.
 #[tactic(auto, using(zone_rules::proofs::NameParts::above_none, zone_rules::proofs::NameParts::above_some, zone_rules::proofs::NameParts::above_fewer))]
 fn has_fault_above<'a, Owner: AsOctets, Octets: AsOctets>(
     fault: LinkFault,
@@ -215,7 +216,7 @@ fn has_fault_above<'a, Owner: AsOctets, Octets: AsOctets>(
     }
 }
 
-/// Whether a chain has a fault at a name, or at an empty non-terminal above it.
+/// Returns whether a chain has a fault at a name, or at an empty non-terminal above it.
 fn has_fault_from<'a, Owner: AsOctets, Octets: AsOctets>(
     fault: LinkFault,
     hashes: &mut Hashes<'a>,
@@ -228,7 +229,7 @@ fn has_fault_from<'a, Owner: AsOctets, Octets: AsOctets>(
     has_fault(fault, hashes, zone, chain, name) || has_fault_above(fault, hashes, zone, chain, name)
 }
 
-/// Whether a name is represented in a chain.
+/// Returns whether a name is represented in a chain.
 fn is_in_chain<'a, Owner: AsOctets, Octets: AsOctets>(
     hashes: &mut Hashes<'a>,
     zone: &SignedZone<'_, 'a, Owner, Octets>,
@@ -249,8 +250,8 @@ fn is_short<Owner: AsOctets, Octets: AsOctets>(chain: &Record<Owner, Octets>) ->
     iterations(chain) <= MOST_ITERATIONS
 }
 
-/// Whether an NSEC3PARAM names a chain of few iterations in which a name is represented, and which
-/// has a fault there.
+/// Returns whether an NSEC3PARAM names a chain of at most 150 iterations in which a name is
+/// represented, and which has a fault there.
 fn is_chain_wrong<'a, Owner: AsOctets, Octets: AsOctets>(
     fault: LinkFault,
     hashes: &mut Hashes<'a>,
@@ -266,7 +267,8 @@ fn is_chain_wrong<'a, Owner: AsOctets, Octets: AsOctets>(
         && has_fault_from(fault, hashes, zone, chain, name)
 }
 
-/// Whether a name is represented in a chain of few iterations which has a fault there.
+/// Returns whether a name is represented in a chain of at most 150 iterations that has a fault
+/// there.
 #[tactic(auto, using(crate::proofs::ChainSearch::any_more))]
 fn has_fault_in_chain<'a, Owner: AsOctets, Octets: AsOctets>(
     fault: LinkFault,
@@ -286,8 +288,8 @@ fn has_fault_in_chain<'a, Owner: AsOctets, Octets: AsOctets>(
     is_wrong
 }
 
-/// Whether a record is the first at a name that is represented in a chain of few iterations which
-/// has a fault there.
+/// Returns whether a record is the first at a name that is represented in a chain of at most 150
+/// iterations, and that chain has a fault there.
 pub fn is_link_wrong<'a, Owner: AsOctets, Octets: AsOctets>(
     fault: LinkFault,
     hashes: &mut Hashes<'a>,

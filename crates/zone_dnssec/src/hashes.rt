@@ -1,4 +1,4 @@
-//! Hashes of names that were computed before.
+//! A cache of hashed names.
 ghost use Rattle.std.specs.Prelude.{◌≡◌, IfSome};
 ghost use Rattle.dns_octets.specs.Lowered.{lowered};
 ghost use Rattle.zone_dnssec.specs.HashedNames.{iterated_hash, name_hash};
@@ -18,20 +18,20 @@ struct NameHash<'a> {
     ghost is_hash: { hash ≡ iterated_hash salt.now (lowered name.now) iterations },
 }
 
-/// Of names with each number of labels the hash that was computed last. Of names in canonical order,
-/// and of those above them, each is so computed once.
+/// For each number of labels, the hash of the last name that was hashed. Names in canonical order,
+/// and the names above them, are thus hashed once each.
 #[derive(Drop)]
 pub struct Hashes<'a> {
     last: [Option<NameHash<'a>>; 128],
 }
 
 impl<'a> Hashes<'a> {
-    /// Returns no hashes.
+    /// Returns an empty cache.
     pub fn new() -> Self {
         Hashes { last: [None; 128] }
     }
 
-    /// Returns the hash of a name, if it is the last of so many labels.
+    /// Returns the hash of a name, if it is the last one with this number of labels.
     fn find(&self, count: usize, name: &[u8], salt: &[u8], iterations: u16) -> Option<[u8; 20]>
         ensures { IfSome result (λ hash. hash ≡ iterated_hash salt.now (lowered name.now) iterations) }
     {
@@ -47,7 +47,7 @@ impl<'a> Hashes<'a> {
         }
     }
 
-    /// Returns the hash of a name.
+    /// Returns the hash of a name, computed if it is not in the cache.
     pub fn hash(&mut self, name: &Name<&'a [u8]>, salt: &'a [u8], iterations: u16) -> [u8; 20]
         ensures { result ≡ name_hash salt.now iterations name.now }
     {

@@ -1,5 +1,5 @@
-//! The keys of a zone, and which of them a signature fits (RFC 4034 sections 2.1 and 3.1, appendix
-//! B).
+//! Finds the keys of a zone, and the keys that a signature fits (RFC 4034 sections 2.1 and 3.1,
+//! appendix B).
 ghost use Rattle.std.specs.Prelude.{◌≡◌, ◌≤◌, ◌*◌, ◌++◌, ◌&&◌, not, length, IfOk, OnOk};
 ghost use Rattle.std.specs.List.{list_any};
 ghost use Rattle.zone_dnssec.specs.SignedSets.{covers};
@@ -19,7 +19,7 @@ use zone_rules::names::view;
 use zone_rules::pairs::set_type_of;
 use zone_rules::sorted::owned_by;
 
-/// The places of fields of an RRSIG (RFC 4034 section 3.1).
+/// Indexes of fields of an RRSIG (RFC 4034 section 3.1).
 const ALGORITHM: usize = 1;
 
 const KEY_TAG: usize = 6;
@@ -27,7 +27,8 @@ const KEY_TAG: usize = 6;
 /// The algorithm RSA/MD5, with key tags of its own (RFC 4034 appendix B.1).
 const RSA_MD5: u8 = 1;
 
-/// A key that signs a zone: what RRSIGs name it by, and whether it is revoked (RFC 5011 section 2.1).
+/// A key that signs a zone: the key tag and algorithm by which RRSIGs refer to it, and whether it
+/// is revoked (RFC 5011 section 2.1).
 #[derive(Clone, Copy)]
 pub struct Key {
     tag: u16,
@@ -60,7 +61,7 @@ fn weighed_sum(octets: &[u8]) -> u64
     sum
 }
 
-/// Returns the key tag of the data of a DNSKEY, if its algorithm is not RSA/MD5.
+/// Returns the key tag of DNSKEY data, if its algorithm is not RSA/MD5.
 fn sum_tag(octets: &[u8]) -> u16
     requires { length octets.now ≤ 65535 }
     ensures { result ≡ sum_tag octets.now }
@@ -95,8 +96,8 @@ fn modulus(key: &[u8]) -> &[u8]
     }
 }
 
-/// Returns the key tag of a modulus with the algorithm RSA/MD5. There is none of fewer than three
-/// octets.
+/// Returns the key tag of a modulus with the algorithm RSA/MD5, or `None` if it has fewer than
+/// three octets.
 fn modulus_tag(octets: &[u8]) -> Option<u16>
     ensures { result ≡ modulus_tag octets.now }
 {
@@ -118,7 +119,7 @@ fn key_tag(algorithm: u8, octets: &[u8], key: &[u8]) -> Option<u16>
     Some(sum_tag(octets))
 }
 
-/// Returns the key in the data of a DNSKEY: with the Zone flag, and protocol 3.
+/// Returns the key in DNSKEY data with the Zone flag and protocol 3, and else `None`.
 fn key_in(octets: &[u8]) -> Option<Key>
     requires { length octets.now ≤ 65535 }
     ensures { result ≡ key_in octets.now }
@@ -141,7 +142,7 @@ fn key_in(octets: &[u8]) -> Option<Key>
     }
 }
 
-/// Adds the key of a record, if it is a DNSKEY that signs zones.
+/// Appends the key of a record, if it is a DNSKEY that signs zones.
 fn add_key<Owner: AsOctets, Octets: AsOctets, A: Allocator>(
     record: &Record<Owner, Octets>,
     keys: &mut Vec<Key, A>,
@@ -159,7 +160,7 @@ fn add_key<Owner: AsOctets, Octets: AsOctets, A: Allocator>(
 
 /// Returns the keys of the zone: those of the DNSKEYs at its apex.
 ///
-/// Where there is no memory nothing is returned.
+/// Fails if memory for the keys is out.
 #[tactic(auto, using(zone_rules::proofs::Steps::found_more))]
 pub fn keys_at_apex<Owner: AsOctets, Octets: AsOctets, A: Allocator>(
     alloc: A,
@@ -223,7 +224,8 @@ fn has_fitting<Owner: AsOctets, Octets: AsOctets>(
         .any(|record| is_fitting(keys, record, rtype))
 }
 
-/// Returns whether a record is the first of a set that has to be signed and is, but by no key.
+/// Returns whether a record is the first of an RRset that must be signed and is, but by no known
+/// key.
 pub fn is_without_key<Owner: AsOctets, Octets: AsOctets>(
     keys: &[Key],
     origin: &Name<&[u8]>,
@@ -241,7 +243,7 @@ pub fn is_without_key<Owner: AsOctets, Octets: AsOctets>(
         && !has_fitting(keys, records, &owner, rtype)
 }
 
-/// Returns whether a record is an RRSIG that fits no key, and another of the same set does.
+/// Returns whether a record is an RRSIG that fits no key, and another of the same RRset does.
 pub fn is_of_unknown_key<Owner: AsOctets, Octets: AsOctets>(
     keys: &[Key],
     records: &SortedRecords<'_, Owner, Octets>,
@@ -254,8 +256,8 @@ pub fn is_of_unknown_key<Owner: AsOctets, Octets: AsOctets>(
         && has_fitting(keys, records, &view(&record.owner), set_type_of(record))
 }
 
-/// Returns whether a record is an RRSIG over another set than DNSKEY that fits a key, and each that
-/// it fits is revoked.
+/// Returns whether a record is an RRSIG that does not cover DNSKEY and fits a key, and each key
+/// that it fits is revoked.
 pub fn is_of_revoked_key<Owner: AsOctets, Octets: AsOctets>(
     keys: &[Key],
     record: &Record<Owner, Octets>,

@@ -1,5 +1,5 @@
-//! The rules of DNSSEC for a signed zone, over its records in canonical order: no signature is
-//! computed.
+//! Checks the rules of DNSSEC for a signed zone, over its records in canonical order. No signature
+//! is computed.
 #![tactic(auto)]
 
 pub mod bitmaps;

@@ -1,4 +1,4 @@
-//! What an NSEC says: which name comes next (RFC 4034 section 4.1.1).
+//! Checks the next name of an NSEC (RFC 4034 section 4.1.1).
 ghost use Rattle.std.specs.Prelude.{◌≡◌};
 ghost use Rattle.std.specs.Option.{option_copied};
 ghost use Rattle.dns_octets.specs.Lowered.{same_lowered};
@@ -14,7 +14,7 @@ use dns_wire::Name;
 use zone_rules::SortedRecords;
 use zone_rules::names::{octets_of, order_of, view};
 
-/// The first record at the name that comes next in the chain.
+/// Returns the first record at the name that comes next in the chain.
 fn next_link<'a, Owner: AsOctets, Octets: AsOctets>(
     origin: &Name<&[u8]>,
     records: &SortedRecords<'a, Owner, Octets>,
@@ -28,7 +28,7 @@ fn next_link<'a, Owner: AsOctets, Octets: AsOctets>(
     rest.iter().find(|record| has_authority(origin, records, &view(&record.owner)))
 }
 
-/// Whether octets are the name that comes next in the chain, but for the case of letters.
+/// Returns whether octets are the name that comes next in the chain, ignoring letter case.
 fn is_next<Owner: AsOctets, Octets: AsOctets>(
     origin: &Name<&[u8]>,
     records: &SortedRecords<'_, Owner, Octets>,
@@ -43,7 +43,7 @@ fn is_next<Owner: AsOctets, Octets: AsOctets>(
     }
 }
 
-/// Whether a record is an NSEC that names another than the next name.
+/// Returns whether a record is an NSEC with a wrong next name.
 pub fn has_wrong_next<Owner: AsOctets, Octets: AsOctets>(
     origin: &Name<&[u8]>,
     records: &SortedRecords<'_, Owner, Octets>,

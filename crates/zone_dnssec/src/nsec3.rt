@@ -1,4 +1,4 @@
-//! The chain of NSEC3 records that an NSEC3PARAM names (RFC 5155 sections 3, 4 and 7.1).
+//! Finds the NSEC3 records of the chain that an NSEC3PARAM names (RFC 5155 sections 3, 4 and 7.1).
 ghost use Rattle.std.specs.Prelude.{◌≡◌, ◌&&◌, reverse};
 ghost use Rattle.std.specs.List.{find};
 ghost use Rattle.std.specs.Option.{option_copied};
@@ -23,7 +23,7 @@ use zone_rules::SortedRecords;
 use zone_rules::names::{order_of, view};
 use zone_rules::sorted::owned_by;
 
-/// The places of fields of NSEC3 and NSEC3PARAM (RFC 5155 sections 3.2 and 4.2).
+/// Indexes of fields of NSEC3 and NSEC3PARAM (RFC 5155 sections 3.2 and 4.2).
 const ALGORITHM: usize = 0;
 
 const FLAGS: usize = 1;
@@ -34,7 +34,7 @@ const SALT: usize = 3;
 
 const NEXT_HASH: usize = 4;
 
-/// The octets of a field.
+/// Returns the octets of a field.
 pub(crate) fn field<Owner: AsOctets, Octets: AsOctets>(
     record: &Record<Owner, Octets>,
     place: usize,
@@ -47,7 +47,7 @@ pub(crate) fn field<Owner: AsOctets, Octets: AsOctets>(
     }
 }
 
-/// The number that two octets spell.
+/// Returns the number in two octets.
 pub(crate) fn short_number(octets: &[u8]) -> u16
     ensures { result ≡ short_number octets.now }
 {
@@ -57,14 +57,14 @@ pub(crate) fn short_number(octets: &[u8]) -> u16
     }
 }
 
-/// The next hash of an NSEC3.
+/// Returns the next hash of an NSEC3.
 pub fn next_hash<Owner: AsOctets, Octets: AsOctets>(record: &Record<Owner, Octets>) -> &[u8]
     ensures { result.now ≡ next_hash_of «record».now }
 {
     behind(field(record, NEXT_HASH), 1)
 }
 
-/// The bitmap of an NSEC3.
+/// Returns the bitmap of an NSEC3.
 pub fn bitmap<Owner: AsOctets, Octets: AsOctets>(record: &Record<Owner, Octets>) -> &[u8]
     ensures { result.now ≡ hashed_bitmap «record».now }
 {
@@ -73,14 +73,14 @@ pub fn bitmap<Owner: AsOctets, Octets: AsOctets>(record: &Record<Owner, Octets>)
     behind(rest, field(record, NEXT_HASH).len())
 }
 
-/// Whether an NSEC3 has the flag Opt-Out (RFC 5155 section 3.1.2.1).
+/// Returns whether an NSEC3 has the flag Opt-Out (RFC 5155 section 3.1.2.1).
 pub fn has_opt_out<Owner: AsOctets, Octets: AsOctets>(record: &Record<Owner, Octets>) -> bool
     ensures { result ≡ opts_out «record».now }
 {
     field(record, FLAGS).iter().any(|flags| flags % 2 == 1)
 }
 
-/// Whether an NSEC3PARAM names a chain.
+/// Returns whether an NSEC3PARAM names a chain.
 pub fn is_chain<Owner: AsOctets, Octets: AsOctets>(record: &Record<Owner, Octets>) -> bool
     ensures { result ≡ names_chain «record».now }
 {
@@ -96,7 +96,7 @@ pub(crate) fn iterations<Owner: AsOctets, Octets: AsOctets>(record: &Record<Owne
     short_number(field(record, ITERATIONS))
 }
 
-/// Whether a field of two records is the same.
+/// Returns whether a field of two records is the same.
 fn has_same_field<Owner: AsOctets, Octets: AsOctets>(
     place: usize,
     left: &Record<Owner, Octets>,
@@ -107,7 +107,7 @@ fn has_same_field<Owner: AsOctets, Octets: AsOctets>(
     field(left, place) == field(right, place)
 }
 
-/// Whether a record is an NSEC3 of a chain.
+/// Returns whether a record is an NSEC3 of a chain.
 pub fn is_of_chain<Owner: AsOctets, Octets: AsOctets>(
     chain: &Record<Owner, Octets>,
     record: &Record<Owner, Octets>,
@@ -120,7 +120,7 @@ pub fn is_of_chain<Owner: AsOctets, Octets: AsOctets>(
         && has_same_field(SALT, chain, record)
 }
 
-/// The owner of the NSEC3 that matches a name.
+/// Returns the owner of the NSEC3 that matches a name.
 pub fn owner_for<'a, Owner: AsOctets, Octets: AsOctets>(
     hashes: &mut Hashes<'a>,
     origin: &Name<&[u8]>,
@@ -134,7 +134,7 @@ pub fn owner_for<'a, Owner: AsOctets, Octets: AsOctets>(
     hashed_name(origin, &hash)
 }
 
-/// The NSEC3 of a chain at an owner.
+/// Returns the NSEC3 of a chain at an owner.
 fn link_owned_by<'a, Owner: AsOctets, Octets: AsOctets>(
     records: &SortedRecords<'a, Owner, Octets>,
     chain: &Record<Owner, Octets>,
@@ -148,7 +148,7 @@ fn link_owned_by<'a, Owner: AsOctets, Octets: AsOctets>(
         .find(|record| is_of_chain(chain, record))
 }
 
-/// The NSEC3 that matches a name.
+/// Returns the NSEC3 that matches a name.
 pub fn link_for<'a, Owner: AsOctets, Octets: AsOctets>(
     hashes: &mut Hashes<'a>,
     zone: &SignedZone<'_, 'a, Owner, Octets>,
@@ -163,7 +163,7 @@ pub fn link_for<'a, Owner: AsOctets, Octets: AsOctets>(
     }
 }
 
-/// The first NSEC3 of a chain.
+/// Returns the first NSEC3 of a chain.
 fn first_link<'a, Owner: AsOctets, Octets: AsOctets>(
     records: &SortedRecords<'a, Owner, Octets>,
     chain: &Record<Owner, Octets>,
@@ -176,7 +176,7 @@ fn first_link<'a, Owner: AsOctets, Octets: AsOctets>(
         .find(|record| is_of_chain(chain, record))
 }
 
-/// The last NSEC3 of a chain.
+/// Returns the last NSEC3 of a chain.
 fn last_link<'a, Owner: AsOctets, Octets: AsOctets>(
     records: &SortedRecords<'a, Owner, Octets>,
     chain: &Record<Owner, Octets>,
@@ -190,7 +190,7 @@ fn last_link<'a, Owner: AsOctets, Octets: AsOctets>(
         .find(|record| is_of_chain(chain, record))
 }
 
-/// The first NSEC3 of a chain behind a name.
+/// Returns the first NSEC3 of a chain after a name.
 fn link_behind<'a, Owner: AsOctets, Octets: AsOctets>(
     records: &SortedRecords<'a, Owner, Octets>,
     chain: &Record<Owner, Octets>,
@@ -205,7 +205,7 @@ fn link_behind<'a, Owner: AsOctets, Octets: AsOctets>(
     rest.iter().find(|record| is_of_chain(chain, record))
 }
 
-/// The last NSEC3 of a chain in front of a name.
+/// Returns the last NSEC3 of a chain before a name.
 fn link_in_front<'a, Owner: AsOctets, Octets: AsOctets>(
     records: &SortedRecords<'a, Owner, Octets>,
     chain: &Record<Owner, Octets>,
@@ -220,7 +220,7 @@ fn link_in_front<'a, Owner: AsOctets, Octets: AsOctets>(
     front.iter().rev().find(|record| is_of_chain(chain, record))
 }
 
-/// The NSEC3 that comes next after a name, and after the last one the first.
+/// Returns the NSEC3 that comes next after a name, and after the last one the first.
 pub fn next_in_chain<'a, Owner: AsOctets, Octets: AsOctets>(
     records: &SortedRecords<'a, Owner, Octets>,
     chain: &Record<Owner, Octets>,
@@ -234,8 +234,8 @@ pub fn next_in_chain<'a, Owner: AsOctets, Octets: AsOctets>(
     }
 }
 
-/// The NSEC3 that covers a name which none matches: the one before it, and before the first one
-/// the last.
+/// Returns the NSEC3 that covers a name that no NSEC3 matches: the one before it, and before the
+/// first one the last.
 pub fn covering_link<'a, Owner: AsOctets, Octets: AsOctets>(
     records: &SortedRecords<'a, Owner, Octets>,
     chain: &Record<Owner, Octets>,

@@ -1,4 +1,4 @@
-//! The hashed names of NSEC3 (RFC 5155 sections 3.3 and 5).
+//! Hashes names for NSEC3 (RFC 5155 sections 3.3 and 5).
 ghost use Rattle.std.specs.Prelude.{◌≡◌, ◌≤◌, ◌∷◌, ◌++◌, ◌==◌, ◌&&◌, length, nat_le};
 ghost use Rattle.dns_codec.specs.Base.{base32hex, encoded};
 ghost use Rattle.dns_octets.specs.Lowered.{lowered};
@@ -15,16 +15,16 @@ use dns_wire::{MAX_NAME, Name};
 use sha1::Sha1;
 use zone_rules::names::octets_of;
 
-/// How many octets a hash has.
+/// Number of octets of a hash.
 const HASH: usize = 20;
 
-/// How many characters a hash has in base 32 hex.
+/// Number of characters of a hash in base32hex.
 const LABEL: usize = 32;
 
-/// How many octets the longest apex has, below which hashed names are names.
+/// Greatest number of octets of an apex below which hashed names are names.
 const LONGEST_APEX: usize = MAX_NAME - LABEL - 1;
 
-/// The digest of octets with the salt behind them.
+/// Returns the digest of octets followed by the salt.
 fn salted_digest(octets: &[u8], salt: &[u8]) -> [u8; 20]
     ensures { result ≡ sha1 (octets.now ++ salt.now) }
 {
@@ -34,7 +34,7 @@ fn salted_digest(octets: &[u8], salt: &[u8]) -> [u8; 20]
     hasher.finalize()
 }
 
-/// The salted digest of octets, taken over again so many times.
+/// Returns the salted digest of octets, digested again `iterations` times.
 fn iterated_digest(octets: &[u8], salt: &[u8], iterations: u16) -> [u8; 20]
     ensures { result ≡ iterated_hash salt.now octets.now iterations }
 {
@@ -45,7 +45,7 @@ fn iterated_digest(octets: &[u8], salt: &[u8], iterations: u16) -> [u8; 20]
     digest
 }
 
-/// The octets of a name, letters in lower case.
+/// Returns the octets of a name, with letters in lower case.
 fn lowered_octets(octets: &[u8]) -> ArrayVec<u8, 255>
     requires { length octets.now ≤ 255 }
     ensures { result.items ≡ lowered octets.now }
@@ -55,7 +55,7 @@ fn lowered_octets(octets: &[u8]) -> ArrayVec<u8, 255>
     small
 }
 
-/// The hash of a name. The work is that of one digest, and one more for each iteration, of which
+/// Returns the hash of a name. It computes one digest, and one more for each iteration, of which
 /// there are at most 65535.
 pub fn hash_name(name: &Name<&[u8]>, salt: &[u8], iterations: u16) -> [u8; 20]
     ensures { result ≡ name_hash salt.now iterations name.now }
@@ -64,7 +64,7 @@ pub fn hash_name(name: &Name<&[u8]>, salt: &[u8], iterations: u16) -> [u8; 20]
     iterated_digest(small.as_slice(), salt, iterations)
 }
 
-/// A hash in base 32 hex.
+/// Returns a hash in base32hex.
 fn hash_label(hash: &[u8]) -> [u8; 32]
     requires { length hash.now ≡ 20 }
     ensures { result ≡ encoded base32hex hash.now }
@@ -74,7 +74,7 @@ fn hash_label(hash: &[u8]) -> [u8; 32]
     label
 }
 
-/// The octets of a label of 32 octets in front of others.
+/// Returns the octets of a label of 32 octets, followed by others.
 fn labelled_octets(label: &[u8; 32], apex: &[u8]) -> ArrayVec<u8, 255>
     requires { length apex.now ≤ 222 }
     ensures { result.items ≡ 32 ∷ label.now ++ apex.now }
@@ -86,7 +86,7 @@ fn labelled_octets(label: &[u8; 32], apex: &[u8]) -> ArrayVec<u8, 255>
     octets
 }
 
-/// The name that has these octets.
+/// Returns the name that has these octets.
 fn name_over(octets: ArrayVec<u8, 255>) -> Name<ArrayVec<u8, 255>>
     requires { IsWireName octets.items }
     ensures { octets.items ≡ wire result }
@@ -97,7 +97,7 @@ fn name_over(octets: ArrayVec<u8, 255>) -> Name<ArrayVec<u8, 255>>
     }
 }
 
-/// The name below an apex whose label is a hash.
+/// Returns the name below an apex whose label is a hash.
 fn name_below(origin: &Name<&[u8]>, hash: &[u8]) -> Name<ArrayVec<u8, 255>>
     requires hash { length hash.now ≡ 20 }
     requires apex { wire_length origin.now ≤ 222 }
@@ -110,15 +110,15 @@ fn name_below(origin: &Name<&[u8]>, hash: &[u8]) -> Name<ArrayVec<u8, 255>>
     name_over(octets)
 }
 
-/// Whether the owner of an NSEC3 with a hash is a name.
+/// Returns whether the owner of an NSEC3 with a hash is a name.
 fn fits_below(origin: &Name<&[u8]>, hash: &[u8]) -> bool
     ensures { result ≡ length hash.now == 20 && nat_le (wire_length origin.now) 222 }
 {
     hash.len() == HASH && origin.len() <= LONGEST_APEX
 }
 
-/// The owner of the NSEC3 with a hash, below an apex. `None` where the hash has other than 20
-/// octets, or the apex more than 222.
+/// Returns the owner of the NSEC3 with a hash, below an apex. Returns `None` if the hash does not
+/// have 20 octets, or the apex has more than 222.
 pub fn hashed_name(origin: &Name<&[u8]>, hash: &[u8]) -> Option<Name<ArrayVec<u8, 255>>>
     ensures { result ≡ hashed_owner origin.now hash.now }
 {

@@ -1,4 +1,4 @@
-//! Which sets have signatures.
+//! Checks which RRsets have signatures.
 ghost use Rattle.std.specs.Prelude.{◌≡◌};
 ghost use Rattle.zone_dnssec.specs.SignedSets.{belongs_to_parent, covers, has_signature, is_authoritative, is_left_unsigned, must_be_signed, signs_nothing, starts};
 ghost use Rattle.zone_rules.specs.Zones.{is_one_set};
@@ -13,7 +13,7 @@ use zone_rules::names::{is_name_within, view};
 use zone_rules::pairs::{are_one_set, before, set_type_of};
 use zone_rules::sorted::{has_type, owned_by};
 
-/// Whether a name is in the zone, and not below a delegation.
+/// Returns whether a name is in the zone, and not below a delegation.
 pub fn has_authority<Owner: AsOctets, Octets: AsOctets>(
     origin: &Name<&[u8]>,
     records: &SortedRecords<'_, Owner, Octets>,
@@ -24,14 +24,14 @@ pub fn has_authority<Owner: AsOctets, Octets: AsOctets>(
     is_name_within(name, origin) && !is_under_cut(origin, records, name)
 }
 
-/// Whether sets of a type at a delegation are the parent's.
+/// Returns whether RRsets of a type at a delegation are the parent's.
 pub(crate) fn is_of_parent(rtype: RecordType) -> bool
     ensures { result ≡ belongs_to_parent rtype }
 {
     matches!(rtype, RecordType::DS | RecordType::NSEC)
 }
 
-/// Whether the set of a record has to be signed.
+/// Returns whether the RRset of a record must be signed.
 pub(crate) fn needs_signature<Owner: AsOctets, Octets: AsOctets>(
     origin: &Name<&[u8]>,
     records: &SortedRecords<'_, Owner, Octets>,
@@ -45,7 +45,7 @@ pub(crate) fn needs_signature<Owner: AsOctets, Octets: AsOctets>(
         && (is_of_parent(record.data.rtype()) || !is_cut(origin, records, &owner))
 }
 
-/// Whether a record is an RRSIG that covers a type.
+/// Returns whether a record is an RRSIG that covers a type.
 pub(crate) fn is_signature_of<Owner: AsOctets, Octets: AsOctets>(
     record: &Record<Owner, Octets>,
     rtype: RecordType,
@@ -55,7 +55,7 @@ pub(crate) fn is_signature_of<Owner: AsOctets, Octets: AsOctets>(
     record.data.rtype() == RecordType::RRSIG && set_type_of(record) == rtype
 }
 
-/// Whether an RRSIG at a name covers a type.
+/// Returns whether an RRSIG at a name covers a type.
 pub(crate) fn is_signed<Owner: AsOctets, Octets: AsOctets>(
     records: &SortedRecords<'_, Owner, Octets>,
     name: &Name<&[u8]>,
@@ -68,7 +68,7 @@ pub(crate) fn is_signed<Owner: AsOctets, Octets: AsOctets>(
         .any(|record| is_signature_of(record, rtype))
 }
 
-/// Whether a record is the first of its set: the one before it is of another.
+/// Returns whether a record is the first of its RRset: the one before it is of another.
 pub(crate) fn is_first_of_set<Owner: AsOctets, Octets: AsOctets>(
     records: &SortedRecords<'_, Owner, Octets>,
     place: usize,
@@ -82,7 +82,7 @@ pub(crate) fn is_first_of_set<Owner: AsOctets, Octets: AsOctets>(
     }
 }
 
-/// Whether a record is the first of a set that has to be signed and isn't.
+/// Returns whether a record is the first of an RRset that must be signed and isn't.
 pub fn is_unsigned<Owner: AsOctets, Octets: AsOctets>(
     origin: &Name<&[u8]>,
     records: &SortedRecords<'_, Owner, Octets>,
@@ -96,7 +96,7 @@ pub fn is_unsigned<Owner: AsOctets, Octets: AsOctets>(
         && !is_signed(records, &view(&record.owner), record.data.rtype())
 }
 
-/// Whether a record is an RRSIG that covers a set which isn't there.
+/// Returns whether a record is an RRSIG that covers an RRset that does not exist.
 pub fn is_without_set<Owner: AsOctets, Octets: AsOctets>(
     records: &SortedRecords<'_, Owner, Octets>,
     record: &Record<Owner, Octets>,

@@ -1,4 +1,5 @@
-//! What an RRSIG says of its zone and of the set that it covers (RFC 4034 section 3.1).
+//! Checks the fields of an RRSIG about its zone and the RRset that it covers (RFC 4034 section
+//! 3.1).
 ghost use Rattle.std.specs.Prelude.{◌≡◌, ◌-◌, ◌==◌, ◌&&◌, length, slice_index};
 ghost use Rattle.zone_dnssec.specs.SignatureFields.{covers_other_ttl, has_other_labels, has_other_original_ttl, has_other_own_ttl, has_other_signer, is_ttl_in_set, label_count};
 ghost use Rattle.zone_rules.specs.Above.{is_wildcard};
@@ -16,7 +17,7 @@ use zone_rules::names::{octets_of, parent, view};
 use zone_rules::pairs::set_type_of;
 use zone_rules::sorted::{has_type, owned_by};
 
-/// The places of fields of an RRSIG (RFC 4034 section 3.1).
+/// Indexes of fields of an RRSIG (RFC 4034 section 3.1).
 const LABELS: usize = 2;
 
 const ORIGINAL_TTL: usize = 3;
@@ -59,7 +60,7 @@ fn is_asterisk(name: &Name<&[u8]>) -> bool
     matches!(octets_of(name), [1, b'*', ..])
 }
 
-/// Returns the number of labels that an RRSIG says of its owner.
+/// Returns the number of labels that an RRSIG at this owner must have.
 fn signed_labels(name: &Name<&[u8]>) -> usize
     ensures { result ≡ label_count name.now }
 {
@@ -71,7 +72,7 @@ fn signed_labels(name: &Name<&[u8]>) -> usize
     }
 }
 
-/// Returns the first of some octets, and 0 if there is none.
+/// Returns the first of some octets, or 0 if they are empty.
 pub(crate) fn first(octets: &[u8]) -> u8
     ensures { result ≡ slice_index octets.now 0 }
 {
@@ -81,7 +82,7 @@ pub(crate) fn first(octets: &[u8]) -> u8
     }
 }
 
-/// Returns whether a record is an RRSIG whose labels are not as many as those of its owner.
+/// Returns whether a record is an RRSIG whose number of labels is not that of its owner.
 pub fn has_wrong_labels<Owner: AsOctets, Octets: AsOctets>(record: &Record<Owner, Octets>) -> bool
     ensures { result ≡ has_other_labels «record».now }
 {
@@ -102,7 +103,7 @@ fn has_type_and_ttl<Owner: AsOctets, Octets: AsOctets>(
     record.data.rtype() == rtype && record.ttl == ttl
 }
 
-/// Returns whether a record of a type at a name has a TTL.
+/// Returns whether a record of a type at a name has this TTL.
 fn has_ttl_in_set<Owner: AsOctets, Octets: AsOctets>(
     ttl: u32,
     records: &SortedRecords<'_, Owner, Octets>,
@@ -116,7 +117,7 @@ fn has_ttl_in_set<Owner: AsOctets, Octets: AsOctets>(
         .any(|record| has_type_and_ttl(record, rtype, ttl))
 }
 
-/// Returns whether a record is an RRSIG that covers a set, of which no record has a TTL.
+/// Returns whether a record is an RRSIG that covers an RRset in which no record has this TTL.
 fn is_ttl_missing<Owner: AsOctets, Octets: AsOctets>(
     ttl: u32,
     records: &SortedRecords<'_, Owner, Octets>,
@@ -131,7 +132,7 @@ fn is_ttl_missing<Owner: AsOctets, Octets: AsOctets>(
         && !has_ttl_in_set(ttl, records, &owner, rtype)
 }
 
-/// Returns whether a record is an RRSIG, and no record of the set that it covers has its original
+/// Returns whether a record is an RRSIG, and no record of the RRset that it covers has its original
 /// TTL.
 pub fn has_wrong_original_ttl<Owner: AsOctets, Octets: AsOctets>(
     records: &SortedRecords<'_, Owner, Octets>,
@@ -142,7 +143,7 @@ pub fn has_wrong_original_ttl<Owner: AsOctets, Octets: AsOctets>(
     is_ttl_missing(number(field(record, ORIGINAL_TTL)), records, record)
 }
 
-/// Returns whether a record is an RRSIG, and no record of the set that it covers has its TTL.
+/// Returns whether a record is an RRSIG, and no record of the RRset that it covers has its TTL.
 pub fn has_wrong_own_ttl<Owner: AsOctets, Octets: AsOctets>(
     records: &SortedRecords<'_, Owner, Octets>,
     record: &Record<Owner, Octets>,

@@ -1,5 +1,5 @@
-//! When signatures are valid. Times count the seconds since 1970, modulo 2^32 (RFC 4034 section
-//! 3.1.5).
+//! Checks when signatures are valid. Times count the seconds since 1970, modulo 2^32 (RFC 4034
+//! section 3.1.5).
 ghost use Rattle.std.specs.Prelude.{◌≡◌};
 ghost use Rattle.std.specs.Option.{option_map_or};
 ghost use Rattle.dns_resource.specs.Parts.{data_part};
@@ -9,28 +9,28 @@ use dns_kinds::RecordType;
 use dns_octets::AsOctets;
 use dns_resource::Record;
 
-/// The place of the expiration among the fields of an RRSIG (RFC 4034 section 3.1).
+/// Index of the expiration among the fields of an RRSIG (RFC 4034 section 3.1).
 const EXPIRATION: usize = 4;
 
-/// The place of the inception among the fields of an RRSIG (RFC 4034 section 3.1).
+/// Index of the inception among the fields of an RRSIG (RFC 4034 section 3.1).
 const INCEPTION: usize = 5;
 
-/// The times that signatures are held against, in seconds: an instant, and how long before its
-/// end a signature is told of.
+/// The times with which signatures are compared, in seconds: an instant, and how long before its
+/// expiration a signature is reported.
 #[derive(Clone, Copy)]
 pub struct Times {
     pub instant: u32,
     pub margin: u32,
 }
 
-/// How many seconds a time lies after another.
+/// Returns the number of seconds by which a time is after another.
 fn seconds_after(earlier: u32, later: u32) -> u32
     ensures { result ≡ seconds_between earlier later }
 {
     later.wrapping_sub(earlier)
 }
 
-/// Whether a time lies before another (RFC 1982 section 3.2).
+/// Returns whether a time is before another (RFC 1982 section 3.2).
 fn is_before(earlier: u32, later: u32) -> bool
     ensures { result ≡ has_passed earlier later }
 {
@@ -38,7 +38,7 @@ fn is_before(earlier: u32, later: u32) -> bool
     distance != 0 && distance < 1 << 31
 }
 
-/// The number that four octets spell.
+/// Returns the number in four octets.
 pub(crate) fn number(octets: &[u8]) -> u32
     ensures { result ≡ number_in octets.now }
 {
@@ -66,7 +66,7 @@ pub fn has_reversed_times<Owner: AsOctets, Octets: AsOctets>(record: &Record<Own
     }
 }
 
-/// Whether a record is an RRSIG that has expired at an instant.
+/// Returns whether a record is an RRSIG that has expired at an instant.
 pub fn has_expired<Owner: AsOctets, Octets: AsOctets>(
     instant: u32,
     record: &Record<Owner, Octets>,
@@ -82,7 +82,8 @@ pub fn has_expired<Owner: AsOctets, Octets: AsOctets>(
     }
 }
 
-/// Whether a record is an RRSIG that has not expired at an instant, and does within a margin.
+/// Returns whether a record is an RRSIG that has not expired at an instant, and does within a
+/// margin.
 pub fn is_expiring<Owner: AsOctets, Octets: AsOctets>(
     times: Times,
     record: &Record<Owner, Octets>,
@@ -101,7 +102,7 @@ pub fn is_expiring<Owner: AsOctets, Octets: AsOctets>(
     }
 }
 
-/// Whether a record is an RRSIG that is not valid yet at an instant.
+/// Returns whether a record is an RRSIG that is not valid yet at an instant.
 pub fn is_too_early<Owner: AsOctets, Octets: AsOctets>(
     instant: u32,
     record: &Record<Owner, Octets>,
