@@ -1,4 +1,4 @@
--- Which names are within a name, by their labels from the root on: in canonical order the names within one follow it.
+-- The names within a name, by their labels from the root on: in canonical order they follow it.
 use Rattle.std.proofs.Common.{ℕ, ◌≡◌, ◌<◌, Bool, true, false, List, [], ◌∷◌, ◌++◌, length, map, refl, sym, ap, subst, ◌∙◌, arith}
 use Rattle.std.specs.Prelude.{nat_eq, reverse, ◌&&◌, ◌||◌}
 use Rattle.std.specs.Cmp.Lexicographic.{bytes_decides, pointwise, pointwise_decides, slice_cmp, lists_ties, texts_ties}
@@ -26,7 +26,7 @@ begins [] ys = true
 begins (x ∷ xs) [] = false
 begins (x ∷ xs) (y ∷ ys) = alike y x && begins xs ys
 
--- ---- a name is within another whose labels are in front, from the root on
+-- ---- a name is within another if the other's labels come first, from the root on
 
 or_true : (b : Bool) → true ≡ (b || true)
 or_true true = refl
@@ -97,7 +97,7 @@ alike_same a b h = octets_equal a b (by (octet_order a b) (sym (texts_ties a b) 
     by Equal e = refl
     by Greater e = cc
 
--- labels that begin with others are not before them
+-- labels that begin with others do not come before them
 begins_after : (p a : List (List ℕ)) → begins p a ≡ true → is_lt (slice_cmp octet_order a p) ≡ false
 begins_after [] [] h = refl
 begins_after [] (y ∷ ys) h = refl
@@ -110,7 +110,7 @@ begins_after (x ∷ xs) (y ∷ ys) h =
     by Equal e k = k
     by Greater e k = cc
 
--- what is between labels and some that begin with them begins with them
+-- labels that come between some labels and others that begin with these begin with them too
 begins_between : (p a b : List (List ℕ)) → is_lt (slice_cmp octet_order a p) ≡ false → is_le (slice_cmp octet_order a b) ≡ true → begins p b ≡ true → begins p a ≡ true
 begins_between [] a b h k t = refl
 begins_between (x ∷ xs) a [] h k t = cc
@@ -137,7 +137,7 @@ pub within_between : (name other top : List (List ℕ)) → 0 < length top → i
 within_between name other top some h k t =
     within_is name top some ∙ begins_between (labels_from_root top) (labels_from_root name) (labels_from_root other) h k (sym (within_is other top some) ∙ t)
 
--- what isn't before labels that begin with others isn't before those
+-- labels that do not come before some that begin with others do not come before the others either
 begins_with_front : (p a b : List (List ℕ)) → is_lt (slice_cmp octet_order a b) ≡ false → begins p b ≡ true → is_lt (slice_cmp octet_order a p) ≡ false
 begins_with_front [] [] b h t = refl
 begins_with_front [] (y ∷ ys) b h t = refl
@@ -157,7 +157,7 @@ pub begins_with_not_before : (name other top : List (List ℕ)) → 0 < length t
 begins_with_not_before name other top some t h =
     begins_with_front (labels_from_root top) (labels_from_root other) (labels_from_root name) h (sym (within_is name top some) ∙ t)
 
--- ---- a name is before those with more labels in front of it
+-- ---- a name comes before those with more labels
 
 itself_tied : (x : List ℕ) → octet_order x x ≡ Equal
 itself_tied x = tied_itself octets_total x
@@ -172,6 +172,6 @@ before_longer front end h =
     ap (λ l. is_lt (slice_cmp octet_order (labels_from_root end) l)) (ap reverse (map-append lowered front end) ∙ reverse-append (map lowered front) (map lowered end))
     ∙ front_before (labels_from_root end) (reverse (map lowered front)) (omega (arith, h, length-reverse (map lowered front), length-map front lowered))
 
--- a name that is the same as another is as it to a third
+-- two equal names have the same order to a third
 pub same_is_tied : (a b name : List (List ℕ)) → same_name a b ≡ true → name_order a name ≡ name_order b name
 same_is_tied a b name h = ap (λ l. slice_cmp octet_order l (labels_from_root name)) (ap reverse ((pointwise_decides bytes_decides (map lowered a) (map lowered b)).0 h))

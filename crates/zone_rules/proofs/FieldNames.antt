@@ -31,7 +31,7 @@ in_shape rtype field octets part (Some s) same k is h =
     let own = is.shaped (shape_with s) (subst (λ f. HasShape f (shape_with s)) (sym same) (refl, refl, refl)) in
     part_name s.fields field octets part (begins_start s.fields octets own.back own.fields) k h
 
--- the part of data in a field that is a name is a name
+-- the octets of a name field in data are a name
 pub field_name : (d : TypeData) (field : ℕ) (part : List ℕ) → IsNameField d.rtype field → IsTypeData d.rtype d.octets → data_part d field ≡ Some part → IsWireName part
 field_name d field part k is h = in_shape d.rtype field d.octets part (shape_of_code d.rtype) refl k is h
 

@@ -15,7 +15,7 @@ some_same x y h = cc
 field_same : (f g : Field) → Some f ≡ Some g → f ≡ g
 field_same f g h = cc
 
--- a part that is a name among the fields in front
+-- a part that is a name field among the first fields is a name
 pub part_name : (fields : List Field) (place : ℕ) (octets part : List ℕ) → StartsWithFields fields octets → slice_get fields place ≡ Some Name → field_part fields place octets ≡ Some part → IsWireName part
 part_name [] place octets part h k found = cc
 part_name (f ∷ fs) zero octets part h k found =

@@ -1,4 +1,4 @@
--- What stands at a name among records in order.
+-- The records at a name, among records in order.
 use Rattle.std.proofs.Common.{ℕ, zero, suc, ◌⊎◌, inl, inr, ◌≡◌, ◌+◌, ◌-◌, ◌*◌, ◌^◌, ◌<◌, ◌≤◌, min, Bool, true, false, cond, List, [], ◌∷◌, length, take, drop, map, get_or, refl, sym, ap, subst, ◌∙◌, arith, length-drop}
 use Rattle.std.specs.Prelude.{reverse, not, ◌==◌, ◌&&◌, ◌||◌}
 use Rattle.std.specs.Prelude.{nat_le}
@@ -23,7 +23,7 @@ use Rattle.dns_resource.specs.CanonicalData.{record_key}
 use Rattle.dns_resource.specs.declared.record.Record.{Record}
 use Rattle.zone_rules.specs.Zones.{AreInOrder, has_type_among, has_type_at, type_of}
 
--- ---- names that are equal in order are one
+-- ---- names that compare as equal are the same name
 
 same_labels : (a b : List (List ℕ)) → is_eq (name_order a b) ≡ true → same_name a b ≡ true
 same_labels a b h =
@@ -41,7 +41,7 @@ same_order a b h =
 pub same_is : (a b : List (List ℕ)) → same_name a b ≡ is_eq (name_order a b)
 same_is a b = both_ways (same_name a b) (is_eq (name_order a b)) (same_order a b) (same_labels a b)
 
--- ---- owners rise
+-- ---- owners are in ascending order
 
 not_before : (o rest back : Ordering) → back ≡ ordering_reverse o → is_le (ordering_then o rest) ≡ true → is_lt back ≡ false
 not_before Less rest back e h = ap is_lt e
@@ -108,7 +108,7 @@ module _ {X : Type 0} (p : X → Bool) where
   any_in_filter q [] = refl
   any_in_filter q (x ∷ xs) = any_step q x xs (p x) (any_in_filter q xs)
 
-  -- what passes the filter as part of a test
+  -- the elements that pass the filter, in a test that the filter is part of
   kept_step : (q : X → Bool) (x : X) (xs : List X) (b : Bool) → b ≡ p x → list_any (λ y. p y && q y) (filter p xs) ≡ list_any (λ y. p y && q y) xs
       → list_any (λ y. p y && q y) (cond b (x ∷ filter p xs) (filter p xs)) ≡ (p x && q x) || list_any (λ y. p y && q y) xs
   kept_step q x xs true e h = ap (λ v. (p x && q x) || v) h
@@ -126,7 +126,7 @@ module _ {X : Type 0} (p : X → Bool) where
   some_in_filter [] = refl
   some_in_filter (x ∷ xs) = some_step x xs (p x) (some_in_filter xs)
 
--- ---- tests that none or one of two passes
+-- ---- tests that neither or one of two passes
 
 either_step : (a b c u v w : Bool) → w ≡ (u || v) → ((a && (b || c)) || w) ≡ (((a && b) || u) || ((a && c) || v))
 either_step false b c u v w e = e
@@ -153,12 +153,12 @@ module _ {X : Type 0} (p q : X → Bool) where
   none_both [] h = refl
   none_both (x ∷ xs) h = none_step (p x) (q x) (list_any q xs) _ h (none_both xs)
 
--- where no record is of a type, none of it stands at any of these names
+-- if no record is of a type, none of these names has a record of the type
 pub none_at_names : {N O : Type 0} (rtype : ℕ) (records : List (Record N O)) (names : List (List (List ℕ))) → has_type_among rtype records ≡ false → list_any (λ name. has_type_at rtype name records) names ≡ false
 none_at_names rtype records names h =
     none_any (λ name. has_type_at rtype name records) (λ name. none_both (λ r. same_name r.owner name) (λ r. type_of r == rtype) records h) names
 
--- ---- steps that grow
+-- ---- steps that double
 
 pub reaches_further : (few long twice next : ℕ) → few < long → long < 2 ^ 64 → twice ≡ min (few * 2) (2 ^ 64 - 1) → next ≡ min (twice + 1) (2 ^ 64 - 1) → long - next < long - few
 reaches_further few long twice next less fits t n =
@@ -216,7 +216,7 @@ module _ {N O : Type 0} (name : List (List ℕ)) where
       ap (λ r. is_le (name_order r.owner name)) (get_or-take few rs i d (omega (arith, le, less)))
       ∙ parted i j d le (omega (arith, less, within)) (ap (λ r. is_le (name_order r.owner name)) (sym (get_or-take few rs j d less)) ∙ t)
 
-  -- those in front up to a place end at the same point, if all are in front or none at that place is
+  -- the point after the elements that pass is the same in a prefix as in the whole list, unless the element after the prefix passes too
   pub front_point : (rs : List (Record N O)) (few count : ℕ) → IsPartitionedBy (λ r. is_le (name_order r.owner name)) rs → few ≤ length rs → count ≤ length (take few rs)
       → ((d : Record N O) → few < length rs → is_le (name_order (get_or rs few d).owner name) ≡ false)
       → IsPartitionPoint (λ r. is_le (name_order r.owner name) ≡ true) (λ r. is_le (name_order r.owner name) ≡ false) (take few rs) count

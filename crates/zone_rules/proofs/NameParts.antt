@@ -1,4 +1,4 @@
--- Names, their octets and the names above them.
+-- Names, their octets and their ancestors.
 use Rattle.std.proofs.Common.{ℕ, ◌≡◌, ◌+◌, ◌-◌, ◌<◌, ◌≤◌, Bool, true, false, cond, List, [], ◌∷◌, ◌++◌, length, take, drop, get_or, refl, sym, ap, ◌∙◌, arith, length-append, length-drop, Some, None}
 use Rattle.std.specs.Prelude.{◌||◌}
 use Rattle.std.specs.List.{find, list_any}
@@ -15,9 +15,9 @@ use Rattle.dns_spelling.proofs.LabelParts.{wire_length_cons}
 use Rattle.zone_rules.specs.Above.{first_label_of, parent_of, names_above}
 use Rattle.zone_rules.specs.Zones.{but_root}
 
--- ---- the name above
+-- ---- the parent of a name
 
--- the root has none, and is no host
+-- the root has no parent, and names no host
 pub root_left_out : (labels : List (List ℕ)) → parent_of labels ≡ None → but_root labels ≡ None
 root_left_out [] e = refl
 root_left_out (label ∷ []) e = refl
@@ -39,14 +39,14 @@ tail_absolute : (label next : List ℕ) (labels front : List (List ℕ)) → lab
 tail_absolute label next labels [] e = absurd (let l = ap length e in omega arith)
 tail_absolute label next labels (x ∷ front) e = (front, cc)
 
--- a name has a name above it, whose octets are these
+-- a name has a parent, whose octets are these
 pub record HasParent (labels : List (List ℕ)) (rest : List ℕ) : Type 0 where
   pub above : List (List ℕ)
   pub is : parent_of labels ≡ Some above
   pub whole : rest ≡ wire above
   pub name : IsWireName rest
 
--- behind the first label stand the others
+-- the other labels come after the first one
 behind_label : (label after octets : List ℕ) → octets ≡ wire_label label ++ after → (get_or octets 0 0 ≡ length label) × (drop (1 + get_or octets 0 0) octets ≡ after)
 behind_label label after octets e =
     let count : get_or octets 0 0 ≡ length label = ap (λ o. get_or o 0 0) e in
@@ -84,7 +84,7 @@ parent_cut (label ∷ next ∷ others) octets n a v whole some =
       };
     }
 
--- nothing stands above the root
+-- the root has no parent
 pub no_parent : (labels : List (List ℕ)) (octets : List ℕ) → IsName labels → octets ≡ wire labels → get_or octets 0 0 ≡ 0 → parent_of labels ≡ None
 no_parent [] octets n whole none = refl
 no_parent (label ∷ []) octets n whole none = refl
@@ -93,7 +93,7 @@ no_parent (label ∷ next ∷ others) octets n whole none =
     let empty : label ≡ [] = is_nil label (omega (arith, first, none)) in
     absurd (let last = ap length (n.root_last [] (next ∷ others) (ap (λ l. l ∷ next ∷ others) empty)) in omega arith)
 
--- the slice behind the first label
+-- the slice after the first label
 pub parent_slice : (octets : List ℕ) (count : ℕ) → drop (1 + count) octets ≡ take (length octets - (1 + count)) (drop (1 + count) octets)
 parent_slice octets count =
     sym (take_all (length octets - (1 + count)) (drop (1 + count) octets) (omega (arith, length-drop (1 + count) octets)))
@@ -101,7 +101,7 @@ parent_slice octets count =
 pub parent_same : (labels rest : List (List ℕ)) (octets : List ℕ) → HasParent labels octets → octets ≡ wire rest → Some rest ≡ parent_of labels
 parent_same labels rest octets h e = ap (λ l. Some l) (wire_same rest h.above (sym e ∙ h.whole)) ∙ sym h.is
 
--- ---- walks up
+-- ---- walks up to the root
 
 pub above_none : (f : List (List ℕ) → Bool) (name : List (List ℕ)) → parent_of name ≡ None → list_any f (names_above name) ≡ false
 above_none f [] e = refl
@@ -120,7 +120,7 @@ above_fewer (label ∷ []) parent e = cc
 above_fewer (label ∷ next ∷ others) parent e =
     let is : next ∷ others ≡ parent = cc in omega (arith, ap length is)
 
--- the closest of the names above that passes a test
+-- the closest ancestor that passes a test
 module _ (f g : List (List ℕ) → Bool) where
   pub closest_none : (name : List (List ℕ)) → parent_of name ≡ None → option_map_or f (find g (names_above name)) false ≡ false
   closest_none [] e = refl
@@ -154,7 +154,7 @@ first_slice (label ∷ labels) octets a whole =
 
 -- ---- wildcards
 
--- above a name that isn't the root there is room for a label of one octet
+-- the parent of a name is short enough for one more label of one octet
 pub parent_short : (name parent : List (List ℕ)) → parent_of name ≡ Some parent → IsName name → wire_length parent ≤ 253
 parent_short [] parent e n = cc
 parent_short (label ∷ []) parent e n = cc

@@ -1,4 +1,4 @@
--- Owners in order: those that have the most labels in common with a name are beside it.
+-- Owners in order: those with the most labels in common with a name are next to it.
 use Rattle.std.proofs.Common.{ℕ, zero, suc, ◌≡◌, ◌-◌, ◌<◌, ◌≤◌, ◌⊎◌, inl, inr, Bool, true, false, cond, Option, Some, None, List, [], ◌∷◌, ◌++◌, length, get_or, refl, sym, ap, subst, ◌∙◌, arith, append_assoc, length-append, All}
 use Rattle.std.specs.Prelude.{◌==◌, ◌&&◌, ◌||◌, not, if◌then◌else◌, nat_lt, option_and_then, slice_get}
 use Rattle.std.specs.Cmp.{both_ways}
@@ -68,9 +68,9 @@ lt_is_le Less h = refl
 lt_is_le Equal h = absurd (false≢true h)
 lt_is_le Greater h = absurd (false≢true h)
 
--- ---- the names above a name
+-- ---- the ancestors of a name
 
--- a name above another: that has labels before it
+-- an ancestor of a name: the name has more labels before it
 pub record IsAbove (name above : List (List ℕ)) : Type 0 where
   pub within : is_within name above ≡ true
   pub before : is_lt (name_order above name) ≡ true
@@ -104,7 +104,7 @@ above_all P name h = by [] name (λ a w. h a w)
         (h (n ∷ o) (subst (λ a. IsAbove a (n ∷ o)) assoc (ends (front ++ l ∷ []) (n ∷ o) (omega (arith, length-append front (l ∷ []))) (omega arith))))
         (by (front ++ l ∷ []) (n ∷ o) (λ a w. h a (subst (λ x. IsAbove x a) assoc w)))
 
--- tests that agree at the names above find the same
+-- tests that agree at the ancestors of a name find the same one
 find_all : (f g : List (List ℕ) → Bool) (xs : List (List (List ℕ))) → All (λ x. f x ≡ g x) xs → find f xs ≡ find g xs
 find_all f g [] h = refl
 find_all f g (x ∷ xs) h =
@@ -117,7 +117,7 @@ find_nothing : (xs : List (List (List ℕ))) → find (λ _. false) xs ≡ None
 find_nothing [] = refl
 find_nothing (x ∷ xs) = find_nothing xs
 
--- what is found above a name is shorter
+-- an ancestor that is found is shorter than the name
 pub found_shorter : (f : List (List ℕ) → Bool) (name above : List (List ℕ)) → find f (names_above name) ≡ Some above → wire_length above < wire_length name
 found_shorter f [] above h = cc
 found_shorter f (l ∷ []) above h = cc
@@ -175,7 +175,7 @@ module _ (p q : List (List ℕ) → Bool) where
   pub find_either : (name : List (List ℕ)) → find (λ a. p a || q a) (name ∷ names_above name) ≡ longer_name (find p (name ∷ names_above name)) (find q (name ∷ names_above name))
   find_either name = first_of name (names_above name) (p name) (q name) (found_shorter p name) (found_shorter q name) (find_either_above name)
 
--- ---- an element at a place
+-- ---- an element at an index
 
 slice_at : {X : Type 0} (xs : List X) (k : ℕ) (x : X) → slice_get xs k ≡ Some x → get_or xs k x ≡ x
 slice_at [] k x h = refl
@@ -233,7 +233,7 @@ module _ {X : Type 0} (rrset : X → RrsetName) (xs : List X) (order : AllAdjace
   before_suc : (k : ℕ) → before (suc k) ≡ slice_get xs (suc k - 1)
   before_suc k = ap (λ b. if b then None else slice_get xs (suc k - 1)) (suc_not k)
 
-  -- the last owner before the name reaches as far as each of them
+  -- the last owner before the name is within an ancestor if any of the owners before it is
   earlier_found : (above : List (List ℕ)) → is_within name above ≡ true → 0 < length above → (place i : ℕ) (d : X) → IsPlace place → place ≤ length xs → i < place → reaches above (get_or xs i d) ≡ true
       → option_map_or (reaches above) (before place) false ≡ true
   earlier_found above in_name some zero i d point bound low h = absurd (omega (arith, low))
@@ -251,7 +251,7 @@ module _ {X : Type 0} (rrset : X → RrsetName) (xs : List X) (order : AllAdjace
   before_back above zero h = absurd (false≢true h)
   before_back above (suc k) h = at_true (reaches above) xs (suc k - 1) (ap (λ o. option_map_or (reaches above) o false) (sym (before_suc k)) ∙ h)
 
-  -- an owner is within another name exactly where one of the two beside the place of the name is
+  -- an owner is within an ancestor if and only if one of the two next to the name's index is
   beside : (above : List (List ℕ)) → is_within name above ≡ true → 0 < length above → (place : ℕ) → IsPlace place → place ≤ length xs
       → list_any (reaches above) xs ≡ (option_map_or (reaches above) (before place) false || option_map_or (reaches above) (slice_get xs place) false)
   beside above in_name some place point bound = both_ways _ _ forth back
@@ -277,7 +277,7 @@ module _ {X : Type 0} (rrset : X → RrsetName) (xs : List X) (order : AllAdjace
   abbrev test : List (List ℕ) → X → Bool
   test above x = is_lt (name_order (rrset x).owner name) && reaches above x
 
-  -- an owner before the name is within another exactly where the last of those is
+  -- an owner before the name is within an ancestor if and only if the last owner before it is
   before_at : (above : List (List ℕ)) → is_within name above ≡ true → 0 < length above → (place : ℕ) → IsPlace place → place ≤ length xs
       → is_above_earlier rrset xs name above ≡ option_map_or (reaches above) (before place) false
   before_at above in_name some place point bound = both_ways _ _ forth (back place point)
@@ -336,7 +336,7 @@ any_from : (f : List (List ℕ) → Bool) (xs : List (List (List ℕ))) → All 
 any_from f [] h = refl
 any_from f (x ∷ xs) h = λ i. All-head (λ a. f a ≡ false) x xs h i || any_from f xs (All-tail (λ a. f a ≡ false) x xs h) i
 
--- where only names that pass another test pass, the closest that passes it comes first
+-- if only names that pass a second test pass the first, the search may begin at the closest one that passes the second
 any_closest : (f g : List (List ℕ) → Bool) (name : List (List ℕ)) → All (λ a. f a ≡ true → g a ≡ true) (names_above name)
     → list_any f (names_above name) ≡ option_map_or (λ a. f a || list_any f (names_above a)) (find g (names_above name)) false
 any_closest f g [] h = refl
@@ -354,7 +354,7 @@ any_closest f g (l ∷ n ∷ o) h =
     by true k more = refl
     by false k more = ap (λ b. b || list_any f (names_above (n ∷ o))) (none (f (n ∷ o)) k) ∙ more
 
--- the closest name that passes is that, or above it
+-- the closest name that passes the first test is that one, or an ancestor of it
 find_closest : (f g : List (List ℕ) → Bool) (name : List (List ℕ)) → All (λ a. f a ≡ true → g a ≡ true) (names_above name)
     → find f (names_above name) ≡ option_and_then (λ a. cond (f a) (Some a) (find f (names_above a))) (find g (names_above name))
 find_closest f g [] h = refl
@@ -372,7 +372,7 @@ find_closest f g (l ∷ n ∷ o) h =
     by true k more = refl
     by false k more = ap (λ b. cond b (Some (n ∷ o)) (find f (names_above (n ∷ o)))) (none (f (n ∷ o)) k) ∙ more
 
--- an owner at a name above is before the name, and within that
+-- an owner that is an ancestor of a name comes before the name, and is within itself
 owner_reaches : {X : Type 0} (rrset : X → RrsetName) (t : X → Bool) (xs : List X) (name above : List (List ℕ)) → IsAbove name above → list_any (λ x. same_name (rrset x).owner above && t x) xs ≡ true → is_above_earlier rrset xs name above ≡ true
 owner_reaches rrset t [] name above w h = absurd (false≢true h)
 owner_reaches rrset t (x ∷ xs) name above w h =
@@ -386,14 +386,14 @@ owner_reaches rrset t (x ∷ xs) name above w h =
         (and_both (is_lt (name_order (rrset x).owner name)) (is_within (rrset x).owner above) (ap is_lt (same_is_tied (rrset x).owner above name same) ∙ w.before) (or_left (same_name (rrset x).owner above) (is_below (rrset x).owner above) same))
     by (inr k) more = or_right (is_lt (name_order (rrset x).owner name) && is_within (rrset x).owner above) (is_above_earlier rrset xs name above) (more k)
 
--- the walk over owners of some items
+-- the walk from owner to owner, over some items
 pub walk_one : {X : Type 0} (rrset : X → RrsetName) (xs : List X) (f : List (List ℕ) → Bool) (name : List (List ℕ))
     → ((above : List (List ℕ)) → f above ≡ true → (t : X → Bool) × (list_any (λ x. same_name (rrset x).owner above && t x) xs ≡ true))
     → list_any f (names_above name) ≡ option_map_or (λ a. f a || list_any f (names_above a)) (find (is_above_earlier rrset xs name) (names_above name)) false
 walk_one rrset xs f name h =
     any_closest f (is_above_earlier rrset xs name) name (above_all (λ a. f a ≡ true → is_above_earlier rrset xs name a ≡ true) name (λ above w e. let o = h above e in owner_reaches rrset o.0 xs name above w o.1))
 
--- and over those of two kinds
+-- and over items of two kinds
 owners_of_two : {X Y : Type 0} (rrset : X → RrsetName) (xs : List X) (other : Y → RrsetName) (ys : List Y) (f : List (List ℕ) → Bool) (name : List (List ℕ))
     → (t : X → Bool) (u : Y → Bool)
     → ((above : List (List ℕ)) → f above ≡ true → (list_any (λ x. same_name (rrset x).owner above && t x) xs || list_any (λ y. same_name (other y).owner above && u y) ys) ≡ true)
@@ -454,7 +454,7 @@ module _ {N O : Type 0} (records : List (Record N O)) (name : List (List ℕ)) w
   pub dnames_none : find (is_above_earlier rrset_of_record records name) (names_above name) ≡ None → list_any (λ b. has_type_at Rtype.dname b records) (names_above name) ≡ false
   dnames_none h = record_dnames_above ∙ ap (λ o. option_map_or (λ a. has_type_at Rtype.dname a records || list_any (λ b. has_type_at Rtype.dname b records) (names_above a)) o false) h
 
--- of a type among those that were refused
+-- of a type among the rejected entries
 module _ (refused : List RrsetName) (name : List (List ℕ)) where
   listed_dnames_above : list_any (λ a. is_listed Rtype.dname a refused) (names_above name)
       ≡ option_map_or (λ a. is_listed Rtype.dname a refused || list_any (λ b. is_listed Rtype.dname b refused) (names_above a)) (find (is_above_earlier (λ s. s) refused name) (names_above name)) false
@@ -485,7 +485,7 @@ module _ {N O : Type 0} (records : List (Record N O)) (refused : List RrsetName)
   pub dname_none : find (is_at_owner records refused name) (names_above name) ≡ None → closest_dname name records refused ≡ None
   dname_none h = dnames_above records refused name ∙ ap (option_and_then (λ a. cond (is_present Rtype.dname a records refused) (Some a) (closest_dname a records refused))) h
 
--- the first of two tests was answered
+-- the first of two tests decides
 pub first_true : (b c whole r : Bool) → whole ≡ (b || c) → r ≡ b → r ≡ true → r ≡ whole
 first_true b c whole r e is t = t ∙ sym (e ∙ ap (λ x. x || c) (sym is ∙ t))
 
@@ -494,7 +494,7 @@ first_false b c whole r s e is f more = more ∙ sym (e ∙ ap (λ x. x || c) (s
 
 -- ---- wildcards
 
--- above a name there is room for a label of one octet
+-- an ancestor of a name is short enough for one more label of one octet
 found_short : (g : List (List ℕ) → Bool) (name end : List (List ℕ)) → IsName name → find g (names_above name) ≡ Some end → wire_length end ≤ 253
 found_short g [] end n h = cc
 found_short g (l ∷ []) end n h = cc
@@ -517,7 +517,7 @@ less_is m n h = grind (arith, nat_tests)
 pub not_less_is : (m n : ℕ) → n ≤ m → nat_lt m n ≡ false
 not_less_is m n h = grind (arith, nat_tests)
 
--- the closest name that exists is above a name that doesn't
+-- the closest name that exists is an ancestor of a name that doesn't
 pub closest_above : (f g : List (List ℕ) → Bool) (name end : List (List ℕ)) → find g (name ∷ names_above name) ≡ Some end
     → (nat_lt (wire_length end) (wire_length name) && f end) ≡ (not (g name) && option_map_or f (find g (names_above name)) false)
 closest_above f g name end h = by (g name) h

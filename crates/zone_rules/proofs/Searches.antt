@@ -1,4 +1,4 @@
--- What a search among sorted owners finds.
+-- Searches among sorted owners.
 use Rattle.std.proofs.Common.{ℕ, zero, suc, ◌≡◌, ◌+◌, ◌<◌, ◌≤◌, Bool, true, false, List, [], ◌∷◌, length, get_or, refl, sym, ap, ◌∙◌, arith}
 use Rattle.std.specs.Prelude.{nat_le, ◌==◌, ◌&&◌, ◌||◌, slice_get}
 use Rattle.std.specs.List.{AllAdjacentBelow, AllWithin, list_any}
@@ -26,7 +26,7 @@ module _ {X : Type 0} (p : X → Bool) where
   none_passes [] h = refl
   none_passes (x ∷ xs) h = ap (λ b. b || list_any p xs) (h 0 x (omega arith)) ∙ none_passes xs (λ i d lt. h (suc i) d (omega arith))
 
-  -- one that passes comes with the first that is not before it
+  -- any element passes if and only if the first one that does not come before it does
   pub any_at : (xs : List X) (place : ℕ) → AllWithin (λ x. p x ≡ false) xs 0 place → ((i : ℕ) (d : X) → place ≤ i → i < length xs → p (get_or xs i d) ≡ true → p (get_or xs place d) ≡ true)
       → list_any p xs ≡ option_map_or p (slice_get xs place) false
   any_at [] place h k = refl
@@ -135,7 +135,7 @@ first_rest Equal n = none_less n
     none_less n = grind (arith, nat_tests)
 first_rest Greater n = refl
 
--- before the first RRset of a name are the RRsets of names before it
+-- the RRsets before the first one of a name are those of names before it
 pub before_first : (set : RrsetName) (name : List (List ℕ)) → is_lt (set_order set (record { owner = name; rtype = 0 })) ≡ is_lt (name_order set.owner name)
 before_first set name = first_rest (name_order set.owner name) set.rtype
 

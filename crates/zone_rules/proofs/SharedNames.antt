@@ -1,4 +1,4 @@
--- Which names two names are at or below.
+-- The names that two names are at or below.
 use Rattle.std.proofs.Common.{ℕ, ◌≡◌, ◌+◌, ◌-◌, ◌<◌, ◌≤◌, Bool, true, false, cond, Option, Some, None, List, [], ◌∷◌, ◌++◌, length, map, take, drop, refl, sym, ap, subst, ◌∙◌, arith, length-append, length-drop, All}
 use Rattle.std.specs.Prelude.{◌||◌}
 use Rattle.std.specs.Char.{to_ascii_lowercase}
@@ -19,7 +19,7 @@ use Rattle.dns_wire.proofs.Wires.{length_wire, wire_append, wire_length_append}
 use Rattle.zone_rules.specs.Above.{is_below, is_within, names_above}
 use Rattle.zone_rules.proofs.NameParts.{ends_some, one_label, tail_name}
 
--- ---- names that are the same are as long
+-- ---- equal names have equal lengths
 
 wire_lowered : (a : List (List ℕ)) → wire_length (map lowered a) ≡ wire_length a
 wire_lowered [] = refl
@@ -69,7 +69,7 @@ pub takes_rest : (l : List ℕ) (ls left : List (List ℕ)) (r : Option Label) �
 takes_rest l ls left None h = let e = h.0 in cc
 takes_rest l ls left (Some x) h = cc
 
--- what is left once a label was taken is within the same names, but for the one that was compared
+-- after a label was taken, the labels that are left are within the same names, but for the one that was compared
 pub within_next : (above left top labels : List (List ℕ)) (r : Option Label) → All (λ l. length l ≤ 63) above → is_within above top ≡ is_within labels top → same_name above top ≡ false → 0 < length top → TakesFirst above r left
     → All (λ l. length l ≤ 63) left × (is_within left top ≡ is_within labels top)
 within_next [] left top labels None short is off some t =
@@ -79,7 +79,7 @@ within_next (l ∷ ls) left top labels r short is off some t =
     subst (λ a. All (λ l. length l ≤ 63) a × (is_within a top ≡ is_within labels top)) (sym (takes_rest l ls left r t))
     (All-tail (λ l. length l ≤ 63) l ls short, sym (within_cons l ls top some ∙ ap (λ b. b || is_within ls top) off) ∙ is)
 
--- where no label was left, the name is within none
+-- if no label was left, the name is not within the other
 pub within_end : (above left top labels : List (List ℕ)) (r : Option Label) → is_within above top ≡ is_within labels top → 0 < length top → is_some r ≡ false → TakesFirst above r left → false ≡ is_within labels top
 within_end above left top labels None is some none t = sym (ap (λ a. is_within a top) t.0 ∙ within_none top some) ∙ is
 within_end above left top labels (Some x) is some none t = cc
@@ -104,7 +104,7 @@ tail_end label next labels h = record { is_name = tail_name label (next ∷ labe
 no_end : IsEnd [] → ⊥
 no_end h = let some = ends_some [] h.absolute in omega (arith, some)
 
--- a name that is no longer than the root is the root
+-- a name that is not longer than the root is the root
 lone : (labels : List (List ℕ)) → IsEnd labels → wire_length labels ≤ 1 → labels ≡ [] ∷ []
 lone [] h le = absurd (no_end h)
 lone (l ∷ []) h le = ap (λ x. x ∷ []) (one_label l h.absolute.0 h.absolute.1)
@@ -214,7 +214,7 @@ suffix_end (x ∷ xs) end some h =
       absolute = tail_root x (xs ++ end) h.absolute.0 (omega (arith, some, length-append xs end)) h.absolute.1;
     })
 
--- the last octets of a name are those of the end that is found
+-- the last octets of a name are those of the ancestor that is found
 pub record IsCut (p : List (List ℕ) → Bool) (name : List (List ℕ)) (octets : List ℕ) (count : ℕ) : Type 0 where
   pub end : List (List ℕ)
   pub found : find p (name ∷ names_above name) ≡ Some end

@@ -1,4 +1,4 @@
--- A rule is told of a record exactly where the record breaks it.
+-- A finding names a record and a rule if and only if the record breaks the rule.
 use Rattle.std.proofs.Common.{ℕ, zero, suc, ◌≡◌, ◌<◌, ◌⊎◌, ⊎_elim, inl, inr, Bool, true, false, Option, Some, None, List, [], ◌∷◌, length, get_or, refl, sym, ap, subst, ◌∙◌, arith}
 use Rattle.std.specs.Prelude.{not}
 use Rattle.std.specs.List.{Contains, flat_map, range_with_len}

@@ -1,4 +1,4 @@
--- A zone without an owner that is a wildcard synthesizes nothing.
+-- A zone without a wildcard synthesizes nothing.
 use Rattle.std.proofs.Common.{ℕ, ◌≡◌, Bool, true, false, Option, Some, None, List, [], ◌∷◌, refl, sym, ap, ◌∙◌, arith}
 use Rattle.std.specs.Prelude.{◌==◌, ◌&&◌, ◌||◌, not, nat_eq, map}
 use Rattle.std.specs.Cmp.Lexicographic.{pointwise}
@@ -32,7 +32,7 @@ star_label (c ∷ d ∷ more) h = absurd (none (nat_eq (to_ascii_lowercase c) 42
     none true h = false≢true h
     none false h = false≢true h
 
--- an owner that is no wildcard is not the one below a name
+-- an owner that is not a wildcard is not the wildcard below a name
 not_star : (owner name : List (List ℕ)) → is_wildcard owner ≡ false → same_name owner ((42 ∷ []) ∷ name) ≡ false
 not_star [] name h = refl
 not_star (label ∷ labels) name h =

@@ -1,4 +1,4 @@
--- Orders in which records and RRsets can be searched.
+-- The orders in which records and RRsets can be searched.
 use Rattle.std.proofs.Common.{ℕ, ◌≡◌, ◌+◌, ◌<◌, Bool, true, false, List, [], ◌∷◌, length, get_or, refl, sym, ap, ◌∙◌, arith}
 use Rattle.std.specs.Prelude.{◌==◌}
 use Rattle.std.specs.List.{AllAdjacentBelow, list_all}

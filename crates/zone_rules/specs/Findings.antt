@@ -1,4 +1,4 @@
--- What is found in a zone.
+-- The findings of a zone.
 use Rattle.std.specs.Prelude.{ℕ, ◌<◌, ◌↔◌, IsTrue, not, if◌then◌else◌, Bool, false, Option, Some, None, List, [], ◌∷◌, ◌++◌, length, slice_get}
 use Rattle.std.specs.List.{Contains, flat_map, range_with_len}
 use Rattle.std.specs.Option.{option_map_or}
@@ -11,11 +11,11 @@ use Rattle.zone_rules.specs.declared.rule.Finding.{Finding}
 use Rattle.zone_rules.specs.declared.rule.Rule.{Rule}
 use Rattle.zone_rules.specs.declared.rule.Rule.TheVariants.{NoSoa, NoNs, Outside, TwoSoas, NsAddress, Cname, TwoDnames, BelowDname, DsAtApex, WildcardNs, SoaNotApex, NsBesideDname, Nsec3Owner, MissingGlue, HostIsAlias, HostBelowDname, HostMissing, HostName, CdsWithoutKey, DsWithoutNs, NotAtApex, KeyProtocol, KeyAlgorithm, TtlDiffers, Duplicate}
 
--- a rule, told where it is broken
+-- a finding of a rule, if the rule is broken
 abbrev pub found_if : Bool → Rule → Option ℕ → List Finding
 found_if is_broken rule place = if is_broken then record { rule = rule; «record» = place } ∷ [] else []
 
--- what the zone lacks at its apex
+-- what is missing at the zone's apex
 abbrev pub found_at_apex : {N O : Type 0} → List (List ℕ) → List (Record N O) → List RrsetName → List Finding
 found_at_apex origin records refused = found_if (not (is_present Rtype.soa origin records refused)) NoSoa None ++ found_if (not (is_present Rtype.ns origin records refused)) NoNs None
 
@@ -25,27 +25,27 @@ record_rules =
     Outside ∷ TwoSoas ∷ NsAddress ∷ Cname ∷ TwoDnames ∷ BelowDname ∷ DsAtApex ∷ WildcardNs ∷ SoaNotApex ∷ NsBesideDname ∷ Nsec3Owner ∷ MissingGlue ∷ HostIsAlias
     ∷ HostBelowDname ∷ HostMissing ∷ HostName ∷ CdsWithoutKey ∷ DsWithoutNs ∷ NotAtApex ∷ KeyProtocol ∷ KeyAlgorithm ∷ TtlDiffers ∷ Duplicate ∷ []
 
--- the record at a place breaks the rule
+-- the record at an index breaks the rule
 abbrev pub breaks_at : {N O : Type 0} → List (List ℕ) → List (Record N O) → List RrsetName → ℕ → Rule → Bool
 breaks_at origin records refused place rule = option_map_or (breaks rule origin records refused place) (slice_get records place) false
 
--- a rule, if the record at a place breaks it
+-- a finding of a rule, if the record at an index breaks it
 abbrev pub found_of : {N O : Type 0} → List (List ℕ) → List (Record N O) → List RrsetName → ℕ → Rule → List Finding
 found_of origin records refused place rule = found_if (breaks_at origin records refused place rule) rule (Some place)
 
--- the rules that the record at a place breaks
+-- findings of the rules that the record at an index breaks
 abbrev pub found_at : {N O : Type 0} → List (List ℕ) → List (Record N O) → List RrsetName → ℕ → List Finding
 found_at origin records refused place = flat_map (found_of origin records refused place) record_rules
 
--- what the zone lacks, and then the rules that each record breaks, record by record
+-- what is missing at the apex, and then the rules that each record breaks, record by record
 abbrev pub found_in_zone : {N O : Type 0} → List (List ℕ) → List (Record N O) → List RrsetName → List Finding
 found_in_zone origin records refused = found_at_apex origin records refused ++ flat_map (found_at origin records refused) (range_with_len 0 (length records))
 
--- a rule for records is told of the record at a place exactly where that breaks it
+-- a finding names the record at an index and a rule for records if and only if the record breaks the rule
 abbrev pub TellsBrokenRules : {N O : Type 0} → List (List ℕ) → List (Record N O) → List RrsetName → List Finding → Type 0
 TellsBrokenRules origin records refused found = (rule : Rule) (place : ℕ)
     → Contains found (record { rule = rule; «record» = Some place }) ↔ (Contains record_rules rule × (place < length records) × IsTrue (breaks_at origin records refused place rule))
 
--- so it is of what is found in a zone
+-- this holds of all findings of a zone
 abbrev pub BrokenRulesAreTold : {N O : Type 0} → List (List ℕ) → List (Record N O) → List RrsetName → Type 0
 BrokenRulesAreTold origin records refused = TellsBrokenRules origin records refused (found_in_zone origin records refused)

@@ -1,4 +1,4 @@
--- Host names, and which names in records have to be some.
+-- Host names, and the names in records that must be host names.
 use Rattle.std.specs.Prelude.{◌≡◌, ℕ, ◌-◌, ◌==◌, ◌&&◌, ◌||◌, not, nat_eq, nat_le, if◌then◌else◌, Bool, true, false, Option, Some, None, List, [], ◌∷◌, length, slice_get, codes, option_and_then}
 use Rattle.std.specs.Char.{is_ascii_alphanumeric}
 use Rattle.std.specs.Cmp.Lexicographic.{pointwise}
@@ -28,11 +28,11 @@ has_hyphen_at place label = option_map_or (λ o. o == 45) (slice_get label place
 abbrev pub is_host_label : List ℕ → Bool
 is_host_label label = list_all is_host_octet label && not (has_hyphen_at 0 label || has_hyphen_at (length label - 1) label)
 
--- each label is one of a host; the root's is empty
+-- each label is one of a host name; the root's is empty
 abbrev pub is_host_name : List (List ℕ) → Bool
 is_host_name labels = list_all is_host_label labels
 
--- and so, but the first label may be an asterisk: the owner of an address
+-- a host name, or an asterisk before one: the owner of an address
 abbrev pub is_host_owner : List (List ℕ) → Bool
 is_host_owner [] = true
 is_host_owner (label ∷ labels) = (pointwise nat_eq label (42 ∷ []) || is_host_label label) && is_host_name labels
@@ -45,7 +45,7 @@ abbrev pub is_mailbox_name : List (List ℕ) → Bool
 is_mailbox_name [] = true
 is_mailbox_name (label ∷ labels) = list_all is_graphic label && is_host_name labels
 
--- `gc._msdcs.` and a host name: the addresses of global catalogs of Active Directory
+-- `gc._msdcs.` and a host name: the addresses of Active Directory's global catalogs
 abbrev pub is_catalog_name : List (List ℕ) → Bool
 is_catalog_name [] = false
 is_catalog_name (a ∷ []) = false
@@ -62,7 +62,7 @@ is_reverse_name name = is_below name (codes "in-addr" ∷ codes "arpa" ∷ [] �
 abbrev pub is_address_type : RecordType → Bool
 is_address_type rtype = rtype == Rtype.a || (rtype == Rtype.aaaa || (rtype == Rtype.wks || rtype == Rtype.a6))
 
--- the owner of A, AAAA, WKS, A6 and MX is no host name; that of A and AAAA may be one of a global catalog
+-- the owner of A, AAAA, WKS, A6 or MX is not a host name; that of A and AAAA may be one of a global catalog
 abbrev pub is_bad_owner : {N O : Type 0} → Record N O → Bool
 is_bad_owner r = (is_address_type (type_of r) || type_of r == Rtype.mx) && (not (is_host_owner r.owner) && not ((type_of r == Rtype.a || type_of r == Rtype.aaaa) && is_catalog_name r.owner))
 
@@ -80,7 +80,7 @@ target_field rtype =
     else if rtype == Rtype.https then Some 1
     else None
 
--- data of a type have a name in a field
+-- this field of a type's data is a name
 abbrev pub IsNameField : RecordType → ℕ → Type 0
 IsNameField rtype field = slice_get (fields_of_shape (shape_of_code rtype)) field ≡ Some OfName
 
@@ -88,7 +88,7 @@ IsNameField rtype field = slice_get (fields_of_shape (shape_of_code rtype)) fiel
 abbrev pub name_in : {N O : Type 0} → Record N O → Option ℕ → Option (List (List ℕ))
 name_in r field = option_map labels_in_octets (option_and_then (data_part (data_of r)) field)
 
--- a PTR names a host in the reverse trees only
+-- the target of a PTR must be a host name only in the reverse trees
 abbrev pub asks_for_host : {N O : Type 0} → Record N O → Bool
 asks_for_host r = not (type_of r == Rtype.ptr) || is_reverse_name r.owner
 
@@ -99,6 +99,6 @@ is_bad_target r = asks_for_host r && option_map_or (λ name. not (is_host_name n
 abbrev pub is_bad_mailbox : {N O : Type 0} → Record N O → Bool
 is_bad_mailbox r = type_of r == Rtype.soa && option_map_or (λ name. not (is_mailbox_name name)) (name_in r (Some 1)) false
 
--- a record names a host by what is no host name
+-- a name in a record must be a host name, and is not
 abbrev pub is_bad_host_name : {N O : Type 0} → Record N O → Bool
 is_bad_host_name r = is_bad_owner r || (is_bad_target r || is_bad_mailbox r)

@@ -1,4 +1,4 @@
--- What is in a zone: records, and RRsets of which an entry was refused, so that their data are not known.
+-- The contents of a zone: records, and RRsets with a rejected entry, whose data is unknown.
 use Rattle.std.specs.Prelude.{ℕ, ◌==◌, ◌&&◌, ◌||◌, not, Bool, IsTrue, false, Option, List, [], ◌∷◌, length}
 use Rattle.std.specs.List.{AllAdjacentBelow, find, list_any}
 use Rattle.std.specs.Option.{option_map_or}
@@ -17,7 +17,7 @@ use Rattle.zone_rules.specs.declared.refused.RrsetName.{RrsetName}
 abbrev pub rrset_of_record : {N O : Type 0} → Record N O → RrsetName
 rrset_of_record r = record { owner = r.owner; rtype = type_of r }
 
--- by the owner, then by the type
+-- the order by owner, and then by type
 abbrev pub set_order : RrsetName → RrsetName → Ordering
 set_order a b = ordering_then (name_order a.owner b.owner) (nat_cmp a.rtype b.rtype)
 
@@ -32,7 +32,7 @@ is_listed rtype name sets = list_any (λ s. same_name s.owner name && s.rtype ==
 abbrev pub is_listed_within : List (List ℕ) → List RrsetName → Bool
 is_listed_within name sets = list_any (λ s. is_within s.owner name) sets
 
--- the zone has an RRset of a type at a name: a record of it, or an entry that was refused
+-- the zone has an RRset of a type at a name: a record of it, or an entry that was rejected
 abbrev pub is_present : {N O : Type 0} → RecordType → List (List ℕ) → List (Record N O) → List RrsetName → Bool
 is_present rtype name records refused = has_type_at rtype name records || is_listed rtype name refused
 
@@ -42,19 +42,19 @@ has_address_in name records refused = is_present Rtype.a name records refused ||
 
 -- ---- wildcards
 
--- a name exists: it is an owner, or has owners below it (RFC 4592 section 2.2.3)
+-- a name exists if it is an owner, or has owners below it (RFC 4592 section 2.2.3)
 abbrev pub is_existing : {N O : Type 0} → List (List ℕ) → List (Record N O) → List RrsetName → Bool
 is_existing name records refused = has_owner_within name records || is_listed_within name refused
 
--- the closest name above this one that exists (RFC 4592 section 3.3.1)
+-- the closest ancestor that exists (RFC 4592 section 3.3.1)
 abbrev pub closest_encloser : {N O : Type 0} → List (List ℕ) → List (Record N O) → List RrsetName → Option (List (List ℕ))
 closest_encloser name records refused = find (λ above. is_existing above records refused) (names_above name)
 
--- the wildcard below it, which is the source of synthesis, has a type
+-- the wildcard below the closest encloser, which is the source of synthesis, has a type
 abbrev pub source_has : {N O : Type 0} → RecordType → List (List ℕ) → List (Record N O) → List RrsetName → Bool
 source_has rtype name records refused = option_map_or (λ encloser. is_present rtype ((42 ∷ []) ∷ encloser) records refused) (closest_encloser name records refused) false
 
--- a name that doesn't exist gets a type from a wildcard
+-- a name that doesn't exist has a type by synthesis from a wildcard
 abbrev pub is_synthesized : {N O : Type 0} → RecordType → List (List ℕ) → List (Record N O) → List RrsetName → Bool
 is_synthesized rtype name records refused = not (is_existing name records refused) && source_has rtype name records refused
 
@@ -64,33 +64,33 @@ gives_address name records refused = has_address_in name records refused || (is_
 
 -- ---- delegations and renamed subtrees
 
--- an NS is at a name below the apex
+-- a name below the apex has an NS
 abbrev pub is_cut_in : {N O : Type 0} → List (List ℕ) → List (Record N O) → List RrsetName → List (List ℕ) → Bool
 is_cut_in origin records refused name = is_below name origin && is_present Rtype.ns name records refused
 
--- a delegation is above a name
+-- an ancestor of a name is a delegation
 abbrev pub is_below_cut_in : {N O : Type 0} → List (List ℕ) → List (Record N O) → List RrsetName → List (List ℕ) → Bool
 is_below_cut_in origin records refused name = list_any (is_cut_in origin records refused) (names_above name)
 
--- a delegation is at a name or above it
+-- a name or one of its ancestors is a delegation
 abbrev pub is_delegated_in : {N O : Type 0} → List (List ℕ) → List (Record N O) → List RrsetName → List (List ℕ) → Bool
 is_delegated_in origin records refused name = is_cut_in origin records refused name || is_below_cut_in origin records refused name
 
--- the zone itself has the data of a name: it is in the zone, and neither a delegation nor below one
+-- the zone is authoritative for a name: it is in the zone, and neither a delegation nor below one
 abbrev pub is_own : {N O : Type 0} → List (List ℕ) → List (Record N O) → List RrsetName → List (List ℕ) → Bool
 is_own origin records refused name = is_within name origin && not (is_delegated_in origin records refused name)
 
--- a DNAME is above a name, of the records, or of those that were refused
+-- an ancestor of a name has a DNAME, among the records, or among the rejected entries
 abbrev pub has_dname_above : {N O : Type 0} → List (List ℕ) → List (Record N O) → Bool
 has_dname_above name records = list_any (λ above. has_type_at Rtype.dname above records) (names_above name)
 
 abbrev pub lists_dname_above : List (List ℕ) → List RrsetName → Bool
 lists_dname_above name refused = list_any (λ above. is_listed Rtype.dname above refused) (names_above name)
 
--- a DNAME is above a name (RFC 6672 section 2.3)
+-- an ancestor of a name has a DNAME (RFC 6672 section 2.3)
 abbrev pub is_renamed : {N O : Type 0} → List (List ℕ) → List (Record N O) → List RrsetName → Bool
 is_renamed name records refused = has_dname_above name records || lists_dname_above name refused
 
--- the closest DNAME above a name
+-- the closest ancestor of a name that has a DNAME
 abbrev pub closest_dname : {N O : Type 0} → List (List ℕ) → List (Record N O) → List RrsetName → Option (List (List ℕ))
 closest_dname name records refused = find (λ above. is_present Rtype.dname above records refused) (names_above name)

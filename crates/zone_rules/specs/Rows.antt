@@ -1,4 +1,4 @@
--- Worked rows of the rules, each computed.
+-- Worked examples of the rules, each computed.
 use Rattle.std.specs.Prelude.{◌≡◌, ℕ, true, false, Some, None, List, [], ◌∷◌, codes, refl}
 use Rattle.dns_kinds.specs.Rtype as Rtype
 use Rattle.dns_kinds.specs.declared.types.RecordType.{RecordType}
@@ -46,7 +46,7 @@ case_row = refl
 itself_row : is_below apex apex ≡ false
 itself_row = refl
 
--- to end alike is not to be below
+-- a name with the same last octets is not below another
 ending_row : is_within (codes "myexample" ∷ [] ∷ []) apex ≡ false
 ending_row = refl
 
@@ -56,7 +56,7 @@ wildcard_row = refl
 no_wildcard_row : is_wildcard (two_under (codes "a") (codes "*")) ≡ false
 no_wildcard_row = refl
 
--- ---- hosts: behind a preference in MX, and behind three numbers in SRV (RFC 2782)
+-- ---- hosts: after a preference in MX, and after three numbers in SRV (RFC 2782)
 
 mail_row : host_of (entry apex Rtype.mx (0 ∷ 10 ∷ wire (under (codes "mail")))) ≡ Some (under (codes "mail"))
 unfolding type_shapes labels_in_octets
@@ -75,7 +75,7 @@ alias_host_row = refl
 
 -- ---- rules
 
--- an NS at the apex whose host has an address, and none
+-- an NS at the apex whose host has an address, and one whose host has none
 abbrev server : Record ℕ ℕ
 server = entry apex Rtype.ns (wire (under (codes "ns")))
 
@@ -87,7 +87,7 @@ no_address_row : lacks_ns_address apex (server ∷ entry (under (codes "ns")) Rt
 unfolding type_shapes labels_in_octets
 no_address_row = refl
 
--- an address whose entry was refused is there
+-- an address whose entry was rejected counts
 abbrev named : List (List ℕ) → RecordType → RrsetName
 named owner rtype = record { owner = owner; rtype = rtype }
 
@@ -95,7 +95,7 @@ refused_address_row : lacks_ns_address apex (server ∷ []) (named (under (codes
 unfolding type_shapes labels_in_octets
 refused_address_row = refl
 
--- a wildcard gives an address, but not where the name or a closer one exists, and an alias is none
+-- a wildcard has an address for a name, but not if the name or a closer one exists, and not for an alias
 star_address_row : lacks_ns_address apex (server ∷ entry (under (codes "*")) Rtype.a address ∷ []) [] server ≡ false
 unfolding type_shapes labels_in_octets
 star_address_row = refl
@@ -108,7 +108,7 @@ star_alias_row : lacks_ns_address apex (server ∷ entry (under (codes "*")) Rty
 unfolding type_shapes labels_in_octets
 star_alias_row = refl
 
--- RFC 4592 section 2.2.2: `ns.b` exists by what is below it, so `*` is not the source of synthesis
+-- RFC 4592 section 2.2.2: `ns.b` exists since there are owners below it, so `*` is not the source of synthesis
 abbrev below_b : List (Record ℕ ℕ)
 below_b = entry (under (codes "*")) Rtype.a address ∷ entry (codes "x" ∷ two_under (codes "ns") (codes "b")) Rtype.a address ∷ []
 
@@ -118,7 +118,7 @@ encloser_row = refl
 closer_row : is_synthesized Rtype.a (two_under (codes "a") (codes "b")) below_b [] ≡ false
 closer_row = refl
 
--- an RRSIG and an equal alias may stand beside an alias, a TXT must not
+-- an RRSIG and an equal alias may have the same owner as an alias, but not a TXT
 abbrev alias : Record ℕ ℕ
 alias = entry (under (codes "www")) Rtype.cname (wire (under (codes "a")))
 
@@ -141,7 +141,7 @@ renaming = entry (under (codes "d")) Rtype.dname (wire (under (codes "e")))
 dname_row : is_below_dname (renaming ∷ []) renaming ≡ false
 dname_row = refl
 
--- NSEC3 and its RRSIGs are, of a DNAME at the apex; a TXT and its RRSIGs must not be
+-- NSEC3 and its RRSIGs may be below a DNAME at the apex; a TXT and its RRSIGs may not
 abbrev apex_renaming : Record ℕ ℕ
 apex_renaming = entry apex Rtype.dname (wire (codes "o" ∷ [] ∷ []))
 
@@ -167,7 +167,7 @@ lower_soa_row = refl
 outer_soa_row : is_soa_below_apex apex (entry (codes "sub" ∷ codes "test" ∷ [] ∷ []) Rtype.soa []) ≡ false
 outer_soa_row = refl
 
--- an NS beside a DNAME, at the apex and below it
+-- an NS at the same owner as a DNAME, at the apex and below it
 apex_ns_row : is_dname_at_cut apex (apex_renaming ∷ server ∷ []) apex_renaming ≡ false
 apex_ns_row = refl
 
@@ -194,7 +194,7 @@ two_row : are_two_of Rtype.soa (entry apex Rtype.soa (0 ∷ [])) (slow_entry ape
 unfolding type_shapes
 two_row = refl
 
--- a delegation, its glue, and a host beside it
+-- a delegation, its glue, and a host next to it
 abbrev delegation : Record ℕ ℕ
 delegation = entry (under (codes "sub")) Rtype.ns (wire (two_under (codes "ns") (codes "sub")))
 
@@ -225,7 +225,7 @@ under_star_row : names_missing apex (entry (under (codes "*")) Rtype.a address �
 unfolding type_shapes labels_in_octets
 under_star_row = refl
 
--- no host is asked for where the target is the root, also in the zone that has all names
+-- a target that is the root needs no address, also in a zone that has all names
 no_target_row : names_missing ([] ∷ []) [] [] (entry apex Rtype.srv (0 ∷ 0 ∷ 0 ∷ 0 ∷ 0 ∷ 0 ∷ 0 ∷ [])) ≡ false
 unfolding type_shapes labels_in_octets
 no_target_row = refl
@@ -316,7 +316,7 @@ protocol_row = refl
 algorithm_row : has_no_algorithm (entry apex Rtype.ds (0 ∷ 1 ∷ 0 ∷ 1 ∷ [])) ≡ true
 algorithm_row = refl
 
--- RRSIGs of one owner are of the set of the type that they cover
+-- RRSIGs of one owner belong to the RRset of the type that they cover
 one_set_row : is_one_set (entry apex Rtype.rrsig (0 ∷ 1 ∷ [])) (entry apex Rtype.rrsig (0 ∷ 2 ∷ [])) ≡ false
 one_set_row = refl
 

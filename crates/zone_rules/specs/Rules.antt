@@ -1,4 +1,4 @@
--- When a record breaks a rule.
+-- The rules: when a record breaks each.
 use Rattle.std.specs.Prelude.{ℕ, ◌==◌, ◌&&◌, ◌||◌, not, nat_eq, Bool, false, List, [], ◌∷◌, slice_get, Option, option_and_then}
 use Rattle.std.specs.Cmp.Lexicographic.{pointwise}
 use Rattle.std.specs.List.{list_any}
@@ -22,39 +22,39 @@ use Rattle.zone_rules.specs.declared.rule.Rule.TheVariants.{NoSoa, NoNs, Outside
 abbrev pub is_out_of_zone : {N O : Type 0} → List (List ℕ) → Record N O → Bool
 is_out_of_zone origin r = not (is_within r.owner origin)
 
--- the record has the type, and stands at the apex, whose name is the origin
+-- the record has the type, and is at the apex, whose name is the origin
 abbrev pub is_record_at_apex : {N O : Type 0} → RecordType → List (List ℕ) → Record N O → Bool
 is_record_at_apex rtype origin r = type_of r == rtype && same_name r.owner origin
 
--- both have the type and one owner, and they differ
+-- both have the type and the same owner, and they differ
 abbrev pub are_two_of : {N O : Type 0} → RecordType → Record N O → Record N O → Bool
 are_two_of rtype a b = type_of a == rtype && (type_of b == rtype && (same_name a.owner b.owner && not (is_equal_record a b)))
 
--- both are of one set, and their times to live differ
+-- both are of one RRset, and their TTLs differ
 abbrev pub have_other_ttls : {N O : Type 0} → Record N O → Record N O → Bool
 have_other_ttls a b = is_one_set a b && not (a.ttl == b.ttl)
 
--- there is a record before the place, and it and this one pass the test
+-- a record comes before the index, and it and this one pass the test
 abbrev pub follows : {N O : Type 0} → (Record N O → Record N O → Bool) → List (Record N O) → ℕ → Record N O → Bool
 follows test records place r = option_map_or (λ before. test before r) (record_before records place) false
 
--- the record stands at the owner of an alias, isn't equal to it, and is neither an RRSIG nor an NSEC
+-- the record has the same owner as an alias, isn't equal to it, and is neither an RRSIG nor an NSEC
 abbrev pub is_beside_alias : {N O : Type 0} → Record N O → Record N O → Bool
 is_beside_alias alias r = same_name r.owner alias.owner && (not (type_of r == Rtype.rrsig) && (not (type_of r == Rtype.nsec) && not (is_equal_record alias r)))
 
--- the record is an alias, and some record must not stand beside it
+-- the record is an alias, and another record must not have the same owner
 abbrev pub is_alias_in_company : {N O : Type 0} → List (Record N O) → Record N O → Bool
 is_alias_in_company records r = type_of r == Rtype.cname && list_any (is_beside_alias r) records
 
--- a DNAME stands at a name above the record
+-- an ancestor of the record's owner has a DNAME
 abbrev pub has_dname_over : {N O : Type 0} → List (Record N O) → Record N O → Bool
 has_dname_over records r = has_dname_above r.owner records
 
--- the record is an NSEC3, or an RRSIG over such
+-- the record is an NSEC3, or an RRSIG that covers NSEC3
 abbrev pub is_of_hashed_chain : {N O : Type 0} → Record N O → Bool
 is_of_hashed_chain r = type_of r == Rtype.nsec3 || set_type r == Rtype.nsec3
 
--- and so; but the chain of NSEC3 is below the apex, also where that has a DNAME (RFC 5155 section 3)
+-- the same, except for the chain of NSEC3, which is below the apex even if that has a DNAME (RFC 5155 section 3)
 abbrev pub is_below_dname : {N O : Type 0} → List (Record N O) → Record N O → Bool
 is_below_dname records r = not (is_of_hashed_chain r) && has_dname_over records r
 
@@ -66,13 +66,13 @@ is_soa_below_apex origin r = type_of r == Rtype.soa && is_below r.owner origin
 abbrev pub is_wildcard_ns : {N O : Type 0} → Record N O → Bool
 is_wildcard_ns r = type_of r == Rtype.ns && is_wildcard r.owner
 
--- the record is an NSEC3, and the first label of its owner no hash in base 32 hex
+-- the record is an NSEC3, and the first label of its owner is not a hash in base32hex
 abbrev pub is_unhashed_nsec3 : {N O : Type 0} → Record N O → Bool
 is_unhashed_nsec3 r = type_of r == Rtype.nsec3 && not (is_base32_text (first_label_of r.owner))
 
 -- ---- delegations
 
--- an NS is at a name below the apex
+-- a name below the apex has an NS
 abbrev pub is_zone_cut : {N O : Type 0} → List (List ℕ) → List (Record N O) → List (List ℕ) → Bool
 is_zone_cut origin records name = is_below name origin && has_type_at Rtype.ns name records
 
@@ -82,47 +82,47 @@ is_dname_at_cut origin records r = type_of r == Rtype.dname && is_zone_cut origi
 
 -- ---- hosts
 
--- the record names a host that passes the test
+-- the host in a record's data passes the test
 abbrev pub names_host : {N O : Type 0} → (List (List ℕ) → Bool) → Record N O → Bool
 names_host test r = option_map_or test (host_of r) false
 
--- and its class is IN, where a host has addresses
+-- it passes, and the record's class is IN, in which hosts have addresses
 abbrev pub names_internet_host : {N O : Type 0} → (List (List ℕ) → Bool) → Record N O → Bool
 names_internet_host test r = r.class == internet && names_host test r
 
--- the closest DNAME above the host that a record names
+-- the closest ancestor with a DNAME, of the host in a record's data
 abbrev pub dname_above_host : {N O : Type 0} → List (Record N O) → List RrsetName → Record N O → Option (List (List ℕ))
 dname_above_host records refused r = option_and_then (λ name. closest_dname name records refused) (host_of r)
 
--- a name has CNAME, of its own or, where the zone has its data, from a wildcard
+-- a name has a CNAME, of its own or, if the zone is authoritative for it, from a wildcard
 abbrev pub is_alias : {N O : Type 0} → List (List ℕ) → List (Record N O) → List RrsetName → List (List ℕ) → Bool
 is_alias origin records refused name = is_present Rtype.cname name records refused || (is_synthesized Rtype.cname name records refused && is_own origin records refused name)
 
--- the zone has the data of a name, and a DNAME is above it
+-- the zone is authoritative for a name, and an ancestor of it has a DNAME
 abbrev pub is_below_own_dname : {N O : Type 0} → List (List ℕ) → List (Record N O) → List RrsetName → List (List ℕ) → Bool
 is_below_own_dname origin records refused name = is_renamed name records refused && is_own origin records refused name
 
--- the zone has the data of a name, and no address for it
+-- the zone is authoritative for a name, and has no address for it
 abbrev pub lacks_address : {N O : Type 0} → List (List ℕ) → List (Record N O) → List RrsetName → List (List ℕ) → Bool
 lacks_address origin records refused name = (is_renamed name records refused || not (gives_address name records refused)) && is_own origin records refused name
 
--- an NS at the apex names a host without an address
+-- the host of an NS at the apex has no address
 abbrev pub lacks_ns_address : {N O : Type 0} → List (List ℕ) → List (Record N O) → List RrsetName → Record N O → Bool
 lacks_ns_address origin records refused r = is_record_at_apex Rtype.ns origin r && names_internet_host (lacks_address origin records refused) r
 
--- a name is at or below a delegation, and no A or AAAA is there
+-- a name is at or below a delegation, and has no A or AAAA
 abbrev pub is_without_glue : {N O : Type 0} → List (List ℕ) → List (Record N O) → List RrsetName → List (List ℕ) → Bool
 is_without_glue delegation records refused name = is_within name delegation && not (has_address_in name records refused)
 
--- an NS below the apex names a host at or below its owner without address
+-- the host of an NS below the apex is at or below its owner, and has no address
 abbrev pub lacks_glue : {N O : Type 0} → List (List ℕ) → List (Record N O) → List RrsetName → Record N O → Bool
 lacks_glue origin records refused r = type_of r == Rtype.ns && (is_below r.owner origin && names_internet_host (is_without_glue r.owner records refused) r)
 
--- an MX, SRV or NS names an alias
+-- the host of an MX, SRV or NS is an alias
 abbrev pub names_alias : {N O : Type 0} → List (List ℕ) → List (Record N O) → List RrsetName → Record N O → Bool
 names_alias origin records refused r = names_host (is_alias origin records refused) r
 
--- an MX, SRV or NS names a host below a DNAME
+-- the host of an MX, SRV or NS is below a DNAME
 abbrev pub names_renamed : {N O : Type 0} → List (List ℕ) → List (Record N O) → List RrsetName → Record N O → Bool
 names_renamed origin records refused r = names_host (is_below_own_dname origin records refused) r
 
@@ -130,7 +130,7 @@ names_renamed origin records refused r = names_host (is_below_own_dname origin r
 abbrev pub is_missing : {N O : Type 0} → List (List ℕ) → List (Record N O) → List RrsetName → List (List ℕ) → Bool
 is_missing origin records refused name = lacks_address origin records refused name && (not (is_renamed name records refused) && not (is_alias origin records refused name))
 
--- an MX, SRV or NS names a host that is missing; of an NS at the apex that is an error of its own
+-- the host of an MX, SRV or NS is missing; for an NS at the apex that is an error of its own
 abbrev pub names_missing : {N O : Type 0} → List (List ℕ) → List (Record N O) → List RrsetName → Record N O → Bool
 names_missing origin records refused r = not (is_record_at_apex Rtype.ns origin r) && names_internet_host (is_missing origin records refused) r
 
@@ -141,7 +141,7 @@ abbrev pub is_delete_request : {N O : Type 0} → Record N O → Bool
 is_delete_request r =
     (type_of r == Rtype.cds && pointwise nat_eq (data_of r).octets (0 ∷ 0 ∷ 0 ∷ 0 ∷ 0 ∷ [])) || (type_of r == Rtype.cdnskey && pointwise nat_eq (data_of r).octets (0 ∷ 0 ∷ 3 ∷ 0 ∷ 0 ∷ []))
 
--- a CDS or CDNSKEY that asks for more than to delete (RFC 8078 section 4), and no DNSKEY at the apex
+-- a CDS or CDNSKEY that is not a delete request (RFC 8078 section 4), and no DNSKEY at the apex
 abbrev pub lacks_key : {N O : Type 0} → List (List ℕ) → List (Record N O) → List RrsetName → Record N O → Bool
 lacks_key origin records refused r = (type_of r == Rtype.cds || type_of r == Rtype.cdnskey) && (not (is_delete_request r) && not (is_present Rtype.dnskey origin records refused))
 
@@ -153,15 +153,15 @@ lacks_ns origin records refused r = type_of r == Rtype.ds && (is_below r.owner o
 abbrev pub is_apex_type : RecordType → Bool
 is_apex_type rtype = rtype == Rtype.nsec3param || (rtype == Rtype.cds || (rtype == Rtype.cdnskey || (rtype == Rtype.csync || rtype == Rtype.zonemd)))
 
--- such a record below the apex, or a DNSKEY below it at no delegation
+-- a record of such a type is below the apex, or a DNSKEY below it is not at a delegation
 abbrev pub is_below_its_apex : {N O : Type 0} → List (List ℕ) → List (Record N O) → List RrsetName → Record N O → Bool
 is_below_its_apex origin records refused r = (is_apex_type (type_of r) || (type_of r == Rtype.dnskey && not (is_present Rtype.ns r.owner records refused))) && is_below r.owner origin
 
--- the octet at a place of a record's data
+-- the octet at an offset of a record's data
 abbrev pub has_octet_at : {N O : Type 0} → (ℕ → Bool) → ℕ → Record N O → Bool
 has_octet_at test place r = option_map_or test (slice_get (data_of r).octets place) false
 
--- a DNSKEY of another protocol than 3 (RFC 4034 section 2.1.2)
+-- a DNSKEY whose protocol is not 3 (RFC 4034 section 2.1.2)
 abbrev pub has_other_protocol : {N O : Type 0} → Record N O → Bool
 has_other_protocol r = type_of r == Rtype.dnskey && has_octet_at (λ o. not (o == 3)) 2 r
 
@@ -171,7 +171,7 @@ has_no_algorithm r = (type_of r == Rtype.dnskey && has_octet_at (λ o. o == 0) 3
 
 -- ---- all rules
 
--- whether the record at a place breaks a rule; what the zone lacks no record breaks
+-- whether the record at an index breaks a rule; no record breaks the rules about what is missing at the apex
 abbrev pub breaks : {N O : Type 0} → Rule → List (List ℕ) → List (Record N O) → List RrsetName → ℕ → Record N O → Bool
 breaks NoSoa origin records refused place r = false
 breaks NoNs origin records refused place r = false

@@ -1,4 +1,4 @@
--- What searches among owners in order find.
+-- Searches among owners in order.
 use Rattle.std.specs.Prelude.{ℕ, ◌≡◌, ◌-◌, ◌==◌, ◌&&◌, ◌||◌, nat_lt, if◌then◌else◌, Bool, IsTrue, true, false, Option, Some, None, List, length, slice_get}
 use Rattle.std.specs.List.{AllAdjacentBelow, find, list_any}
 use Rattle.std.specs.List.Sorted.{IsPartitionPoint}
@@ -24,11 +24,11 @@ AreRrsetsInOrder rrset items = AllAdjacentBelow (λ a b. IsTrue (is_le (set_orde
 abbrev pub is_above_earlier : {X : Type 0} → (X → RrsetName) → List X → List (List ℕ) → List (List ℕ) → Bool
 is_above_earlier rrset items name above = list_any (λ x. is_lt (name_order (rrset x).owner name) && is_within (rrset x).owner above) items
 
--- the closest name above a name for which that is so
+-- the closest ancestor of a name that has such an owner at or below it
 abbrev pub closest_above_earlier : {X : Type 0} → (X → RrsetName) → List X → List (List ℕ) → Option (List (List ℕ))
 closest_above_earlier rrset items name = find (is_above_earlier rrset items name) (names_above name)
 
--- for which it is so of records, or of RRsets that were refused
+-- the closest ancestor that has one among records, or among RRsets with a rejected entry
 abbrev pub closest_above_some : {N O : Type 0} → List (Record N O) → List RrsetName → List (List ℕ) → Option (List (List ℕ))
 closest_above_some records refused name =
     find (λ above. is_above_earlier rrset_of_record records name above || is_above_earlier (λ s. s) refused name above) (names_above name)
@@ -45,21 +45,21 @@ shared_with rrset name x = closest_from (is_within (rrset x).owner) name
 abbrev pub has_rrset : {X : Type 0} → (X → RrsetName) → RecordType → List (List ℕ) → List X → Bool
 has_rrset rrset rtype name items = list_any (λ x. same_name (rrset x).owner name && (rrset x).rtype == rtype) items
 
--- so many items have owners before a name, and no other has
+-- the number of items whose owners come before a name, which come first
 abbrev pub PartsBefore : {X : Type 0} → (X → RrsetName) → List (List ℕ) → List X → ℕ → Type 0
 PartsBefore rrset name items count =
     IsPartitionPoint (λ x. is_lt (name_order (rrset x).owner name) ≡ true) (λ x. is_lt (name_order (rrset x).owner name) ≡ false) items count
 
--- so many records have owners at a name or before it in canonical order, and no other has
+-- the number of records whose owners are a name or come before it in canonical order, which come first
 abbrev pub PartsUpTo : {N O : Type 0} → List (List ℕ) → List (Record N O) → ℕ → Type 0
 PartsUpTo name records count =
     IsPartitionPoint (λ r. is_le (name_order r.owner name) ≡ true) (λ r. is_le (name_order r.owner name) ≡ false) records count
 
--- the item before a place
+-- the item before an index
 abbrev pub before_place : {X : Type 0} → List X → ℕ → Option X
 before_place items place = if place == 0 then None else slice_get items (place - 1)
 
--- the name of more octets, and the first of two that have as many
+-- the name with more octets, and the first of two of equal length
 abbrev pub longer_name : Option (List (List ℕ)) → Option (List (List ℕ)) → Option (List (List ℕ))
 longer_name None other = other
 longer_name (Some one) None = Some one

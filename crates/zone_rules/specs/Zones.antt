@@ -1,4 +1,4 @@
--- What stands at a name, among the records of a zone.
+-- The records at a name, among the records of a zone.
 use Rattle.std.specs.Prelude.{◌≡◌, ℕ, ◌-◌, ◌==◌, ◌&&◌, if◌then◌else◌, Bool, IsTrue, true, Option, Some, None, List, [], ◌∷◌, length, slice_get, option_and_then}
 use Rattle.std.specs.Int.{from_be_bytes, w16}
 use Rattle.std.specs.List.{AllAdjacentBelow, list_all, list_any}
@@ -27,7 +27,7 @@ has_type_at rtype name records = list_any (λ r. same_name r.owner name && type_
 abbrev pub has_type_among : {N O : Type 0} → RecordType → List (Record N O) → Bool
 has_type_among rtype records = list_any (λ r. type_of r == rtype) records
 
--- some record stands at a name
+-- some record is at a name
 abbrev pub has_owner : {N O : Type 0} → List (List ℕ) → List (Record N O) → Bool
 has_owner name records = list_any (λ r. same_name r.owner name) records
 
@@ -35,11 +35,11 @@ has_owner name records = list_any (λ r. same_name r.owner name) records
 abbrev pub has_owner_within : {N O : Type 0} → List (List ℕ) → List (Record N O) → Bool
 has_owner_within name records = list_any (λ r. is_within r.owner name) records
 
--- records are equal in canonical form, whatever their times to live
+-- records are equal in canonical form, whatever their TTLs
 abbrev pub is_equal_record : {N O : Type 0} → Record N O → Record N O → Bool
 is_equal_record a b = is_eq (record_order (record_key a) (record_key b))
 
--- no record stands before the one in front of it (RFC 4034 section 6)
+-- records are in canonical order (RFC 4034 section 6)
 abbrev pub AreInOrder : {N O : Type 0} → List (Record N O) → Type 0
 AreInOrder records = AllAdjacentBelow (λ a b. IsTrue (is_le (record_order (record_key a) (record_key b)))) records (length records)
 
@@ -47,25 +47,25 @@ AreInOrder records = AllAdjacentBelow (λ a b. IsTrue (is_le (record_order (reco
 abbrev pub is_one_class : {N O : Type 0} → List (Record N O) → Bool
 is_one_class records = option_map_or (λ first. list_all (λ r. r.class == first.class) records) (slice_get records 0) true
 
--- records are in canonical order, and flags say whether one is a DNAME, whether one is at a wildcard, and whether they have one class
+-- records are in canonical order, and flags are set if one is a DNAME, if one is at a wildcard, and if all have one class
 pub record IsSortedWith {N O : Type 0} (records : List (Record N O)) (has_dname has_wildcard in_one_class : Bool) : Type 0 where
   pub in_order : AreInOrder records
   pub dname : has_dname ≡ has_type_among Rtype.dname records
   pub wildcard : has_wildcard ≡ list_any (λ r. is_wildcard r.owner) records
   pub one_class : in_one_class ≡ is_one_class records
 
--- the record before a place
+-- the record before an index
 abbrev pub record_before : {N O : Type 0} → List (Record N O) → ℕ → Option (Record N O)
 record_before records place = if place == 0 then None else slice_get records (place - 1)
 
--- the host that a record names: in data of NS the first field, of MX the second, and of SRV the fourth
+-- the host in a record's data: of NS the first field, of MX the second, and of SRV the fourth
 abbrev pub host_field : RecordType → Option ℕ
 host_field rtype = if rtype == Rtype.ns then Some 0 else (if rtype == Rtype.mx then Some 1 else (if rtype == Rtype.srv then Some 3 else None))
 
 abbrev pub host_octets : TypeData → Option (List ℕ)
 host_octets d = option_and_then (data_part d) (host_field d.rtype)
 
--- the root is no host: as a target it says that there is none (RFC 7505 section 3, RFC 2782)
+-- the root as a target means that the service has no host (RFC 7505 section 3, RFC 2782)
 abbrev pub but_root : List (List ℕ) → Option (List (List ℕ))
 but_root [] = None
 but_root (label ∷ []) = None
@@ -80,7 +80,7 @@ covered_type [] = 0
 covered_type (high ∷ []) = 0
 covered_type (high ∷ low ∷ others) = from_be_bytes w16 (high ∷ low ∷ [])
 
--- RRSIGs are of a set with those that cover the same type, others with those of their type
+-- RRSIGs belong to the set of those that cover the same type, others to the set of their type
 abbrev pub set_type : {N O : Type 0} → Record N O → RecordType
 set_type r = if type_of r == Rtype.rrsig then covered_type (data_of r).octets else 0
 

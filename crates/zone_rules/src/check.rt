@@ -1,4 +1,4 @@
-//! What is found in a zone.
+//! Checks a zone against the rules.
 ghost use Rattle.std.specs.Prelude.{◌≡◌, ◌++◌, OnOk, IfOk};
 ghost use Rattle.std.specs.List.{flat_map};
 ghost use Rattle.zone_rules.specs.Findings.{breaks_at, found_at, found_at_apex, found_if, found_in_zone, found_of};
@@ -29,7 +29,7 @@ use dns_resource::Record;
 use dns_wire::Name;
 use std::alloc::{AllocError, Allocator};
 
-/// The rules for records, in the order in which they are told of a record.
+/// The rules for records, in the order in which their findings are reported.
 const RECORD_RULES: [Rule; 23] = [
     Rule::Outside,
     Rule::TwoSoas,
@@ -56,7 +56,7 @@ const RECORD_RULES: [Rule; 23] = [
     Rule::Duplicate,
 ];
 
-/// Whether a record at a place breaks a rule.
+/// Returns whether the record at an index breaks a rule.
 fn breaks_rule<Owner: AsOctets, Octets: AsOctets>(
     rule: Rule,
     origin: &Name<&[u8]>,
@@ -95,7 +95,7 @@ fn breaks_rule<Owner: AsOctets, Octets: AsOctets>(
     }
 }
 
-/// Whether the record at a place breaks a rule. Behind the last there is none.
+/// Returns whether the record at an index breaks a rule. Returns false after the last record.
 fn is_broken_at<Owner: AsOctets, Octets: AsOctets>(
     rule: Rule,
     origin: &Name<&[u8]>,
@@ -111,7 +111,7 @@ fn is_broken_at<Owner: AsOctets, Octets: AsOctets>(
     }
 }
 
-/// Adds a rule, if it is broken.
+/// Appends a finding, if the rule is broken.
 fn add_if<A: Allocator>(
     is_broken: bool,
     rule: Rule,
@@ -129,7 +129,7 @@ fn add_if<A: Allocator>(
     Ok(())
 }
 
-/// Adds those of some rules that the record at a place breaks.
+/// Appends findings of those of some rules that the record at an index breaks.
 #[tactic(auto, using(crate::proofs::Steps::found_more))]
 fn add_each<Owner: AsOctets, Octets: AsOctets, A: Allocator>(
     rules: &[Rule],
@@ -148,7 +148,7 @@ fn add_each<Owner: AsOctets, Octets: AsOctets, A: Allocator>(
     Ok(())
 }
 
-/// Adds the rules that the record at a place breaks.
+/// Appends findings of all rules that the record at an index breaks.
 fn add_broken<Owner: AsOctets, Octets: AsOctets, A: Allocator>(
     origin: &Name<&[u8]>,
     records: &SortedRecords<'_, Owner, Octets>,
@@ -161,7 +161,7 @@ fn add_broken<Owner: AsOctets, Octets: AsOctets, A: Allocator>(
     add_each(&RECORD_RULES, origin, records, refused, place, found)
 }
 
-/// Adds what the zone lacks at its apex.
+/// Appends findings of what is missing at the zone's apex.
 fn add_lacking<Owner: AsOctets, Octets: AsOctets, A: Allocator>(
     origin: &Name<&[u8]>,
     records: &SortedRecords<'_, Owner, Octets>,
@@ -184,12 +184,12 @@ fn add_lacking<Owner: AsOctets, Octets: AsOctets, A: Allocator>(
     )
 }
 
-/// What is found in the zone that has this origin and these records: first what it lacks at its
-/// apex, and then the rules that each record breaks, record by record. Classes count in sets and hosts
-/// alone. The RRsets of which an entry was refused are in the zone, though their data are not known:
-/// they are not missed.
+/// Returns the findings of the zone with this origin and these records: first what is missing at
+/// its apex, and then the rules that each record breaks, record by record. The class of records
+/// matters only for RRsets and hosts. RRsets with a rejected entry are in the zone, though their
+/// data is unknown: they are not reported as missing.
 ///
-/// Where there is no memory nothing is returned.
+/// Fails if memory for the findings is out.
 #[tactic(auto, using(crate::proofs::Steps::zone_more))]
 pub fn check_zone<Owner: AsOctets, Octets: AsOctets, Origin: AsOctets, A: Allocator>(
     alloc: A,

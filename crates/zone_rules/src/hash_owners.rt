@@ -1,4 +1,4 @@
-//! Owners of NSEC3, which are hashes in base 32 hex (RFC 5155 section 3).
+//! Checks owners of NSEC3, which are hashes in base32hex (RFC 5155 section 3).
 ghost use Rattle.std.specs.Prelude.{◌≡◌, ◌<◌, ◌≤◌, is_some, length};
 ghost use Rattle.std.specs.List.{list_all};
 ghost use Rattle.zone_rules.specs.Base32Texts.{are_whole_octets, base32_value, ends_in_zeros, is_base32_text, last_ends_in_zeros, spare_bits};
@@ -9,7 +9,8 @@ use dns_kinds::RecordType;
 use dns_octets::AsOctets;
 use dns_resource::Record;
 
-/// What a digit of base 32 hex stands for, in either case (RFC 4648 section 7).
+/// Returns the value of a base32hex digit, in either case (RFC 4648 section 7), or `None` for other
+/// octets.
 fn base32_value(digit: u8) -> Option<u8>
     ensures { result ≡ base32_value digit }
 {
@@ -21,14 +22,14 @@ fn base32_value(digit: u8) -> Option<u8>
     }
 }
 
-/// Whether octets are digits of base 32 hex.
+/// Returns whether octets are digits of base32hex.
 fn are_base32_digits(text: &[u8]) -> bool
     ensures { result ≡ list_all (λ o. is_some (base32_value o)) text.now }
 {
     text.iter().all(|digit| base32_value(*digit).is_some())
 }
 
-/// Whether the last bits of a digit, so many, are zero.
+/// Returns whether the last `spare` bits of a digit are zero.
 fn has_zero_bits(digit: u8, spare: usize) -> bool
     requires { spare < 5 }
     ensures { result ≡ ends_in_zeros spare digit }
@@ -46,7 +47,7 @@ fn has_zero_bits(digit: u8, spare: usize) -> bool
     }
 }
 
-/// The bits of so many digits that are in no octet.
+/// Returns the number of bits that are left over after the octets of these digits.
 fn spare_of(count: usize) -> usize
     requires { count ≤ 255 }
     ensures { result ≡ spare_bits count }
@@ -54,7 +55,7 @@ fn spare_of(count: usize) -> usize
     5 * count % 8
 }
 
-/// Whether the last digit has zeros in its spare bits. Without digits there is none.
+/// Returns whether the spare bits of the last digit are zero, and false without digits.
 fn ends_in_zero_bits(text: &[u8], spare: usize) -> bool
     requires { spare < 5 }
     ensures { result ≡ last_ends_in_zeros spare text.now }
@@ -65,7 +66,7 @@ fn ends_in_zero_bits(text: &[u8], spare: usize) -> bool
     }
 }
 
-/// Whether digits have whole octets, but for spare bits that are zero.
+/// Returns whether the number of digits is that of whole octets, and the spare bits are zero.
 fn has_whole_octets(text: &[u8]) -> bool
     requires { length text.now ≤ 255 }
     ensures { result ≡ are_whole_octets text.now }
@@ -74,7 +75,7 @@ fn has_whole_octets(text: &[u8]) -> bool
     spare < 5 && ends_in_zero_bits(text, spare)
 }
 
-/// Whether octets are some in base 32 hex without padding.
+/// Returns whether octets are base32hex without padding.
 fn is_base32(text: &[u8]) -> bool
     requires { length text.now ≤ 255 }
     ensures { result ≡ is_base32_text text.now }
@@ -82,7 +83,7 @@ fn is_base32(text: &[u8]) -> bool
     are_base32_digits(text) && has_whole_octets(text)
 }
 
-/// Whether a record is an NSEC3, and the first label of its owner no hash.
+/// Returns whether a record is an NSEC3, and the first label of its owner is not a hash.
 pub(crate) fn is_nsec3_without_hash<Owner: AsOctets, Octets: AsOctets>(
     record: &Record<Owner, Octets>,
 ) -> bool

@@ -1,4 +1,5 @@
-//! Host names (RFC 952, RFC 1123 section 2.1), and which names in records have to be some.
+//! Checks host names (RFC 952, RFC 1123 section 2.1), and which names in records must be host
+//! names.
 ghost use Rattle.std.specs.Prelude.{◌≡◌, ◌-◌, ◌∷◌, [], Some, IfSome, codes, length, true};
 ghost use Rattle.std.specs.List.{list_all};
 ghost use Rattle.std.specs.Option.{option_copied, option_map_or};
@@ -77,7 +78,7 @@ fn is_host(name: &Name<&[u8]>) -> bool
     }
 }
 
-/// Returns whether the name above a name is one of a host, or there is none.
+/// Returns whether the parent of a name is one of a host, or the name has no parent.
 fn is_host_above(name: &Name<&[u8]>) -> bool
     ensures { result ≡ option_map_or is_host_name (parent_of name.now) true }
 {
@@ -155,7 +156,7 @@ fn is_reverse(name: &Name<&[u8]>) -> bool
     is_below_in_addr(name) || is_below_ip6(name)
 }
 
-/// Returns whether a type has an address of its owner.
+/// Returns whether records of a type hold an address of their owner.
 fn is_of_address(rtype: RecordType) -> bool
     ensures { result ≡ is_address_type rtype }
 {
@@ -165,7 +166,7 @@ fn is_of_address(rtype: RecordType) -> bool
     )
 }
 
-/// Returns whether the owner of a record has to be a host name, and isn't.
+/// Returns whether the owner of a record must be a host name, and isn't.
 fn has_bad_owner<Owner: AsOctets, Octets: AsOctets>(record: &Record<Owner, Octets>) -> bool
     ensures { result ≡ is_bad_owner «record».now }
 {
@@ -189,7 +190,7 @@ pub(crate) fn name_part<Octets: AsOctets>(data: &Data<Octets>, field: usize) -> 
     data.part(field)
 }
 
-/// Returns which field of data of a type names a host.
+/// Returns the index of the field that names a host, in data of a type.
 fn host_place(rtype: RecordType) -> Option<usize>
     ensures { result ≡ target_field rtype }
 {
@@ -220,7 +221,7 @@ fn named_host<Owner: AsOctets, Octets: AsOctets>(
     }
 }
 
-/// Returns whether the name of a host in the data of a record is none.
+/// Returns whether a name in the data of a record must be a host name, and isn't.
 fn has_bad_target<Owner: AsOctets, Octets: AsOctets>(record: &Record<Owner, Octets>) -> bool
     ensures { result ≡ is_bad_target «record».now }
 {
@@ -244,7 +245,7 @@ fn mailbox<Owner: AsOctets, Octets: AsOctets>(record: &Record<Owner, Octets>) ->
     }
 }
 
-/// Returns whether the name of the mailbox of an SOA is none.
+/// Returns whether the mailbox of an SOA is not a mailbox name.
 fn has_bad_mailbox<Owner: AsOctets, Octets: AsOctets>(record: &Record<Owner, Octets>) -> bool
     ensures { result ≡ is_bad_mailbox «record».now }
 {
@@ -257,7 +258,7 @@ fn has_bad_mailbox<Owner: AsOctets, Octets: AsOctets>(record: &Record<Owner, Oct
     }
 }
 
-/// Returns whether a record names a host by what is no host name.
+/// Returns whether a name in a record must be a host name, and isn't.
 pub(crate) fn is_no_host_name<Owner: AsOctets, Octets: AsOctets>(
     record: &Record<Owner, Octets>,
 ) -> bool

@@ -1,4 +1,4 @@
-//! The hosts that records name, and the rules for them.
+//! Checks the hosts in records: that they have addresses, and are not aliases.
 ghost use Rattle.std.specs.Prelude.{◌≡◌, IfSome};
 ghost use Rattle.std.specs.List.{list_any};
 ghost use Rattle.std.specs.Option.{option_copied};
@@ -22,7 +22,7 @@ use dns_octets::AsOctets;
 use dns_resource::{Data, Record};
 use dns_wire::Name;
 
-/// Returns which field of data of a type is the host that its records name.
+/// Returns the index of the field that is a host, in data of a type.
 fn place_of_host(rtype: RecordType) -> Option<usize>
     ensures { result ≡ host_field rtype }
 {
@@ -34,7 +34,7 @@ fn place_of_host(rtype: RecordType) -> Option<usize>
     }
 }
 
-/// The octets of the host that data of NS, MX or SRV names.
+/// Returns the octets of the host in data of NS, MX or SRV.
 fn host_part<Octets: AsOctets>(data: &Data<Octets>) -> Option<&[u8]>
     ensures value { option_copied result ≡ host_octets «data».now }
     ensures name { IfSome result (λ host. IsWireName host.now) }
@@ -45,8 +45,8 @@ fn host_part<Octets: AsOctets>(data: &Data<Octets>) -> Option<&[u8]>
     name_part(data, field)
 }
 
-/// A name, unless it is the root: as a target that says that there is none (RFC 7505 section 3, RFC
-/// 2782).
+/// Returns a name, or `None` if it is the root, which as a target means that the service has no host
+/// (RFC 7505 section 3, RFC 2782).
 fn but_root<'a>(name: Name<&'a [u8]>) -> Option<Name<&'a [u8]>>
     ensures { result ≡ but_root name.entry }
 {
@@ -56,7 +56,7 @@ fn but_root<'a>(name: Name<&'a [u8]>) -> Option<Name<&'a [u8]>>
     }
 }
 
-/// The host that a record names.
+/// Returns the host in a record's data.
 fn host<Owner: AsOctets, Octets: AsOctets>(record: &Record<Owner, Octets>) -> Option<Name<&[u8]>>
     ensures { result ≡ host_of «record».now }
 {
@@ -66,7 +66,7 @@ fn host<Owner: AsOctets, Octets: AsOctets>(record: &Record<Owner, Octets>) -> Op
     }
 }
 
-/// Whether a name is a delegation.
+/// Returns whether a name is a delegation.
 pub fn is_cut<Owner: AsOctets, Octets: AsOctets>(
     origin: &Name<&[u8]>,
     records: &SortedRecords<'_, Owner, Octets>,
@@ -77,7 +77,7 @@ pub fn is_cut<Owner: AsOctets, Octets: AsOctets>(
     is_name_below(name, origin) && has_type(records, name, RecordType::NS)
 }
 
-/// Whether a record is a DNAME at a delegation.
+/// Returns whether a record is a DNAME at a delegation.
 pub(crate) fn is_dname_at_delegation<Owner: AsOctets, Octets: AsOctets>(
     origin: &Name<&[u8]>,
     records: &SortedRecords<'_, Owner, Octets>,
@@ -88,7 +88,7 @@ pub(crate) fn is_dname_at_delegation<Owner: AsOctets, Octets: AsOctets>(
     record.data.rtype() == RecordType::DNAME && is_cut(origin, records, &view(&record.owner))
 }
 
-/// Whether a delegation is above a name.
+/// Returns whether an ancestor of a name is a delegation.
 #[tactic(auto, using(crate::proofs::Neighbours::zone_cuts_none, crate::proofs::Neighbours::found_fewer))]
 pub fn is_under_cut<Owner: AsOctets, Octets: AsOctets>(
     origin: &Name<&[u8]>,
@@ -103,7 +103,7 @@ pub fn is_under_cut<Owner: AsOctets, Octets: AsOctets>(
     }
 }
 
-/// Whether the zone itself has the data of a name.
+/// Returns whether the zone is authoritative for a name.
 fn is_of_zone<Owner: AsOctets, Octets: AsOctets>(
     origin: &Name<&[u8]>,
     records: &SortedRecords<'_, Owner, Octets>,
@@ -115,7 +115,7 @@ fn is_of_zone<Owner: AsOctets, Octets: AsOctets>(
     is_name_within(name, origin) && !is_delegated_name(origin, records, refused, name)
 }
 
-/// Whether a DNAME is above a name.
+/// Returns whether an ancestor of a name has a DNAME.
 fn is_name_renamed<Owner: AsOctets, Octets: AsOctets>(
     records: &SortedRecords<'_, Owner, Octets>,
     refused: &SortedSets<'_>,
@@ -126,7 +126,7 @@ fn is_name_renamed<Owner: AsOctets, Octets: AsOctets>(
     has_dname_above(records, name) || is_under_refused_dname(refused, name)
 }
 
-/// Whether a name has CNAME, of its own or from a wildcard.
+/// Returns whether a name has a CNAME, of its own or from a wildcard.
 fn is_alias_name<Owner: AsOctets, Octets: AsOctets>(
     origin: &Name<&[u8]>,
     records: &SortedRecords<'_, Owner, Octets>,
@@ -140,7 +140,7 @@ fn is_alias_name<Owner: AsOctets, Octets: AsOctets>(
             && is_of_zone(origin, records, refused, name))
 }
 
-/// Whether the zone has the data of a name, and a DNAME is above it.
+/// Returns whether the zone is authoritative for a name, and an ancestor of it has a DNAME.
 fn is_name_below_dname<Owner: AsOctets, Octets: AsOctets>(
     origin: &Name<&[u8]>,
     records: &SortedRecords<'_, Owner, Octets>,
@@ -152,7 +152,7 @@ fn is_name_below_dname<Owner: AsOctets, Octets: AsOctets>(
     is_name_renamed(records, refused, name) && is_of_zone(origin, records, refused, name)
 }
 
-/// Whether the zone has the data of a name, and no address for it.
+/// Returns whether the zone is authoritative for a name, and has no address for it.
 fn is_without_address<Owner: AsOctets, Octets: AsOctets>(
     origin: &Name<&[u8]>,
     records: &SortedRecords<'_, Owner, Octets>,
@@ -165,7 +165,7 @@ fn is_without_address<Owner: AsOctets, Octets: AsOctets>(
         && is_of_zone(origin, records, refused, name)
 }
 
-/// Whether an NS at the apex names a host without an address.
+/// Returns whether the host of an NS at the apex has no address.
 pub(crate) fn is_ns_without_address<Owner: AsOctets, Octets: AsOctets>(
     origin: &Name<&[u8]>,
     records: &SortedRecords<'_, Owner, Octets>,
@@ -183,7 +183,7 @@ pub(crate) fn is_ns_without_address<Owner: AsOctets, Octets: AsOctets>(
     }
 }
 
-/// Whether a name is at or below a delegation, and no A or AAAA is there.
+/// Returns whether a name is at or below a delegation, and has no A or AAAA.
 fn is_name_without_glue<Owner: AsOctets, Octets: AsOctets>(
     delegation: &Name<&[u8]>,
     records: &SortedRecords<'_, Owner, Octets>,
@@ -195,7 +195,7 @@ fn is_name_without_glue<Owner: AsOctets, Octets: AsOctets>(
     is_name_within(name, delegation) && !has_address_set(records, refused, name)
 }
 
-/// Whether an NS below the apex names a host at or below its owner that has no address.
+/// Returns whether the host of an NS below the apex is at or below its owner, and has no address.
 pub(crate) fn is_ns_without_glue<Owner: AsOctets, Octets: AsOctets>(
     origin: &Name<&[u8]>,
     records: &SortedRecords<'_, Owner, Octets>,
@@ -217,7 +217,7 @@ pub(crate) fn is_ns_without_glue<Owner: AsOctets, Octets: AsOctets>(
     }
 }
 
-/// Whether the host that a record names is an alias.
+/// Returns whether the host in a record's data is an alias.
 pub(crate) fn is_to_alias<Owner: AsOctets, Octets: AsOctets>(
     origin: &Name<&[u8]>,
     records: &SortedRecords<'_, Owner, Octets>,
@@ -232,7 +232,7 @@ pub(crate) fn is_to_alias<Owner: AsOctets, Octets: AsOctets>(
     }
 }
 
-/// Whether the host that a record names is below a DNAME.
+/// Returns whether the host in a record's data is below a DNAME.
 pub(crate) fn is_to_renamed<Owner: AsOctets, Octets: AsOctets>(
     origin: &Name<&[u8]>,
     records: &SortedRecords<'_, Owner, Octets>,
@@ -247,7 +247,7 @@ pub(crate) fn is_to_renamed<Owner: AsOctets, Octets: AsOctets>(
     }
 }
 
-/// Returns the name of the closest DNAME above the host that a record names.
+/// Returns the name of the closest DNAME above the host in a record's data.
 pub fn dname_over_host<'r, Owner: AsOctets, Octets: AsOctets>(
     records: &SortedRecords<'_, Owner, Octets>,
     refused: &SortedSets<'_>,
@@ -261,7 +261,7 @@ pub fn dname_over_host<'r, Owner: AsOctets, Octets: AsOctets>(
     }
 }
 
-/// Whether the zone has no address for a name, which is neither an alias nor below a DNAME.
+/// Returns whether the zone has no address for a name, which is neither an alias nor below a DNAME.
 fn is_name_missing<Owner: AsOctets, Octets: AsOctets>(
     origin: &Name<&[u8]>,
     records: &SortedRecords<'_, Owner, Octets>,
@@ -275,7 +275,8 @@ fn is_name_missing<Owner: AsOctets, Octets: AsOctets>(
         && !is_alias_name(origin, records, refused, name)
 }
 
-/// Whether the host that a record names is missing. Of an NS at the apex that is an error of its own.
+/// Returns whether the host in a record's data is missing. For an NS at the apex that is an error
+/// of its own.
 pub(crate) fn is_to_missing<Owner: AsOctets, Octets: AsOctets>(
     origin: &Name<&[u8]>,
     records: &SortedRecords<'_, Owner, Octets>,

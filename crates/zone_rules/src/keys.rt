@@ -1,4 +1,4 @@
-//! Rules for keys, and for records that belong at an apex.
+//! Checks keys, and records that belong at an apex.
 ghost use Rattle.std.specs.Prelude.{◌≡◌, ◌==◌, slice_get};
 ghost use Rattle.dns_resource.specs.Records.{data_of};
 ghost use Rattle.zone_rules.specs.Rules.{has_no_algorithm, has_octet_at, has_other_protocol, is_apex_type, is_below_its_apex, is_delete_request, lacks_key, lacks_ns};
@@ -12,7 +12,7 @@ use dns_octets::AsOctets;
 use dns_resource::Record;
 use dns_wire::Name;
 
-/// Whether a record asks the parent to delete all DS (RFC 8078 section 4).
+/// Returns whether a record asks the parent to delete all DS (RFC 8078 section 4).
 fn is_deletion<Owner: AsOctets, Octets: AsOctets>(record: &Record<Owner, Octets>) -> bool
     ensures { result ≡ is_delete_request «record».now }
 {
@@ -24,7 +24,8 @@ fn is_deletion<Owner: AsOctets, Octets: AsOctets>(record: &Record<Owner, Octets>
     }
 }
 
-/// Whether a record asks for a key at the parent, and the zone has none.
+/// Returns whether a record is a CDS or CDNSKEY other than a delete request, and the zone has no
+/// DNSKEY.
 pub(crate) fn is_without_key<Owner: AsOctets, Octets: AsOctets>(
     origin: &Name<&[u8]>,
     records: &SortedRecords<'_, Owner, Octets>,
@@ -38,7 +39,7 @@ pub(crate) fn is_without_key<Owner: AsOctets, Octets: AsOctets>(
         && !has_set(records, refused, origin, RecordType::DNSKEY)
 }
 
-/// Whether a record is a DS below the apex, and no NS is at its owner.
+/// Returns whether a record is a DS below the apex, and its owner has no NS.
 pub(crate) fn is_ds_without_ns<Owner: AsOctets, Octets: AsOctets>(
     origin: &Name<&[u8]>,
     records: &SortedRecords<'_, Owner, Octets>,
@@ -54,7 +55,7 @@ pub(crate) fn is_ds_without_ns<Owner: AsOctets, Octets: AsOctets>(
     is_name_below(&owner, origin) && !has_set(records, refused, &owner, RecordType::NS)
 }
 
-/// Whether records of a type belong at an apex.
+/// Returns whether records of a type belong at an apex.
 fn is_for_apex(rtype: RecordType) -> bool
     ensures { result ≡ is_apex_type rtype }
 {
@@ -68,7 +69,7 @@ fn is_for_apex(rtype: RecordType) -> bool
     )
 }
 
-/// Whether a record is below the apex and belongs there.
+/// Returns whether a record belongs at an apex, and is below it.
 pub(crate) fn is_not_at_apex<Owner: AsOctets, Octets: AsOctets>(
     origin: &Name<&[u8]>,
     records: &SortedRecords<'_, Owner, Octets>,
@@ -84,7 +85,7 @@ pub(crate) fn is_not_at_apex<Owner: AsOctets, Octets: AsOctets>(
         && is_name_below(&owner, origin)
 }
 
-/// The octet at a place of a record's data.
+/// Returns the octet at an offset of a record's data.
 fn octet_at<Owner: AsOctets, Octets: AsOctets>(
     record: &Record<Owner, Octets>,
     place: usize,
@@ -94,7 +95,7 @@ fn octet_at<Owner: AsOctets, Octets: AsOctets>(
     record.data.as_slice().get(place).copied()
 }
 
-/// Whether a record is a DNSKEY of another protocol than 3.
+/// Returns whether a record is a DNSKEY whose protocol is not 3.
 pub(crate) fn is_of_other_protocol<Owner: AsOctets, Octets: AsOctets>(
     record: &Record<Owner, Octets>,
 ) -> bool
@@ -109,7 +110,7 @@ pub(crate) fn is_of_other_protocol<Owner: AsOctets, Octets: AsOctets>(
     }
 }
 
-/// Whether the octet at a place of a record's data is zero.
+/// Returns whether the octet at an offset of a record's data is zero.
 fn is_zero_at<Owner: AsOctets, Octets: AsOctets>(
     record: &Record<Owner, Octets>,
     place: usize,
@@ -122,7 +123,7 @@ fn is_zero_at<Owner: AsOctets, Octets: AsOctets>(
     }
 }
 
-/// Whether a record is a DNSKEY or DS of algorithm 0.
+/// Returns whether a record is a DNSKEY or DS of algorithm 0.
 pub(crate) fn is_without_algorithm<Owner: AsOctets, Octets: AsOctets>(
     record: &Record<Owner, Octets>,
 ) -> bool

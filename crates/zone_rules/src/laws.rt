@@ -1,4 +1,4 @@
-//! What holds of all findings.
+//! Laws about findings.
 ghost use Rattle.zone_rules.specs.Findings.{BrokenRulesAreTold};
 
 use crate::refused::SortedSets;
@@ -6,7 +6,8 @@ use crate::sorted::SortedRecords;
 use dns_octets::AsOctets;
 use dns_wire::Name;
 
-/// States that a rule is told of a record exactly where the record breaks it. It does nothing else.
+/// States that a finding names a record and a rule if and only if the record breaks the rule. It
+/// does nothing else.
 pub fn broken_rules_are_told<Owner: AsOctets, Octets: AsOctets, Origin: AsOctets>(
     origin: &Name<Origin>,
     records: &SortedRecords<'_, Owner, Octets>,

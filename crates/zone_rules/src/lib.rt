@@ -1,4 +1,4 @@
-//! The rules of a zone as a whole, over its records in canonical order.
+//! Checks the rules of a zone as a whole, over its records in canonical order.
 #![tactic(auto)]
 
 pub mod check;

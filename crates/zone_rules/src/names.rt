@@ -1,4 +1,4 @@
-//! Where names stand to one another (RFC 1034 section 3.1), the case of letters apart (RFC 4343).
+//! Relations between names (RFC 1034 section 3.1), ignoring letter case (RFC 4343).
 ghost use Rattle.std.specs.Prelude.{◌≡◌, ◌≤◌, All, length, Some};
 ghost use Rattle.dns_wire.specs.Order.{same_name};
 ghost use Rattle.dns_wire.specs.Wire.{wire, wire_length, IsName, EndsInRoot};
@@ -13,7 +13,7 @@ use dns_octets::lowered::same_octets;
 use dns_wire::{Name, NameIter};
 use std::cmp::Ordering;
 
-/// The octets of a name on the wire.
+/// Returns the octets of a name on the wire.
 pub fn octets_of<Octets: AsOctets>(name: &Name<Octets>) -> &[u8]
     ensures value { result.now ≡ wire name.now }
     ensures is_name { IsName name.now }
@@ -25,7 +25,7 @@ pub fn octets_of<Octets: AsOctets>(name: &Name<Octets>) -> &[u8]
     name.as_slice()
 }
 
-/// The name that has these octets.
+/// Returns the name that has these octets.
 pub(crate) fn name_of(octets: &[u8]) -> Name<&[u8]>
     requires { IsWireName octets.now }
     ensures { octets.now ≡ wire result }
@@ -36,28 +36,28 @@ pub(crate) fn name_of(octets: &[u8]) -> Name<&[u8]>
     }
 }
 
-/// The same name, over its octets.
+/// Returns the same name, over its octets.
 pub fn view<Octets: AsOctets>(name: &Name<Octets>) -> Name<&[u8]>
     ensures { result ≡ name.now }
 {
     name_of(octets_of(name))
 }
 
-/// Whether two names are one but for the case of letters.
+/// Returns whether two names are equal, ignoring letter case.
 pub fn is_same(left: &Name<&[u8]>, right: &Name<&[u8]>) -> bool
     ensures { result ≡ same_name left.now right.now }
 {
     same_octets(left.as_slice(), right.as_slice())
 }
 
-/// The canonical order of two names.
+/// Returns the canonical order of two names.
 pub fn order_of<Octets: AsOctets>(left: &Name<Octets>, right: &Name<&[u8]>) -> Ordering
     ensures { result ≡ name_order left.now right.now }
 {
     compare_names(octets_of(left), octets_of(right))
 }
 
-/// The name above a name. There is none above the root.
+/// Returns the parent of a name. The root has no parent.
 pub fn parent<'a>(name: &Name<&'a [u8]>) -> Option<Name<&'a [u8]>>
     ensures { result ≡ parent_of name.now }
 {
@@ -80,7 +80,7 @@ pub(crate) fn first_label<'a>(name: &'a Name<&[u8]>) -> &'a [u8]
     &octets[1..end]
 }
 
-/// Returns whether a name is at or above the one that labels are.
+/// Returns whether a name, given by its labels, is another, or below it.
 fn are_within(labels: NameIter<'_>, top: &Name<&[u8]>) -> bool
     requires { All (λ label. length label ≤ 63) labels }
     ensures { result ≡ is_within labels.entry top.now }
@@ -96,7 +96,7 @@ fn are_within(labels: NameIter<'_>, top: &Name<&[u8]>) -> bool
     true
 }
 
-/// Whether a name is below another.
+/// Returns whether a name is below another.
 pub fn is_name_below(name: &Name<&[u8]>, top: &Name<&[u8]>) -> bool
     ensures { result ≡ is_below name.now top.now }
 {
@@ -106,7 +106,7 @@ pub fn is_name_below(name: &Name<&[u8]>, top: &Name<&[u8]>) -> bool
     }
 }
 
-/// Whether a name is another, or below it.
+/// Returns whether a name is another, or below it.
 pub fn is_name_within(name: &Name<&[u8]>, top: &Name<&[u8]>) -> bool
     ensures { result ≡ is_within name.now top.now }
 {
@@ -139,7 +139,7 @@ pub(crate) fn shared_name<'a>(name: &Name<&'a [u8]>, other: &Name<&[u8]>) -> Nam
     name_of(&octets[octets.len() - count..])
 }
 
-/// Whether the first label of a name is `*` (RFC 4592 section 2.1.1).
+/// Returns whether the first label of a name is `*` (RFC 4592 section 2.1.1).
 pub(crate) fn is_wildcard_name(name: &Name<&[u8]>) -> bool
     ensures { result ≡ is_wildcard name.now }
 {

@@ -1,4 +1,4 @@
-//! Rules for a record by its owner, and by what stands there.
+//! Checks records by their owner, and by the other records there.
 ghost use Rattle.std.specs.Prelude.{◌≡◌};
 ghost use Rattle.dns_kinds.specs.Rtype as Rtype;
 ghost use Rattle.zone_rules.specs.Present.{has_dname_above};
@@ -12,7 +12,7 @@ use dns_octets::AsOctets;
 use dns_resource::Record;
 use dns_wire::Name;
 
-/// Whether a record is neither at the origin nor below it.
+/// Returns whether a record is neither at the origin nor below it.
 pub(crate) fn is_outside_zone<Owner: AsOctets, Octets: AsOctets>(
     origin: &Name<&[u8]>,
     record: &Record<Owner, Octets>,
@@ -22,7 +22,7 @@ pub(crate) fn is_outside_zone<Owner: AsOctets, Octets: AsOctets>(
     !is_name_within(&view(&record.owner), origin)
 }
 
-/// Whether a record has a type and stands at the apex.
+/// Returns whether a record has a type and is at the apex.
 pub(crate) fn is_apex_record<Owner: AsOctets, Octets: AsOctets>(
     rtype: RecordType,
     origin: &Name<&[u8]>,
@@ -33,7 +33,7 @@ pub(crate) fn is_apex_record<Owner: AsOctets, Octets: AsOctets>(
     record.data.rtype() == rtype && is_same(&view(&record.owner), origin)
 }
 
-/// Whether a record stands beside an alias and must not.
+/// Returns whether a record has the same owner as an alias and must not.
 fn is_beside<Owner: AsOctets, Octets: AsOctets>(
     alias: &Record<Owner, Octets>,
     record: &Record<Owner, Octets>,
@@ -46,7 +46,7 @@ fn is_beside<Owner: AsOctets, Octets: AsOctets>(
         && !are_equal(alias, record)
 }
 
-/// Whether a record is an alias, and another one must not stand beside it.
+/// Returns whether a record is an alias, and another one must not have the same owner.
 pub(crate) fn has_company<Owner: AsOctets, Octets: AsOctets>(
     records: &SortedRecords<'_, Owner, Octets>,
     record: &Record<Owner, Octets>,
@@ -59,7 +59,7 @@ pub(crate) fn has_company<Owner: AsOctets, Octets: AsOctets>(
             .any(|other| is_beside(record, other))
 }
 
-/// Whether a DNAME is above a name, of which one is in the zone.
+/// Returns whether an ancestor of a name has a DNAME, in a zone that has one.
 #[tactic(auto, using(crate::proofs::Neighbours::dnames_none, crate::proofs::Neighbours::found_fewer))]
 fn is_below_some_dname<Owner: AsOctets, Octets: AsOctets>(
     records: &SortedRecords<'_, Owner, Octets>,
@@ -74,7 +74,7 @@ fn is_below_some_dname<Owner: AsOctets, Octets: AsOctets>(
     }
 }
 
-/// Whether a DNAME is above a name.
+/// Returns whether an ancestor of a name has a DNAME.
 pub(crate) fn has_dname_above<Owner: AsOctets, Octets: AsOctets>(
     records: &SortedRecords<'_, Owner, Octets>,
     name: &Name<&[u8]>,
@@ -84,14 +84,14 @@ pub(crate) fn has_dname_above<Owner: AsOctets, Octets: AsOctets>(
     records.has_dname() && is_below_some_dname(records, name)
 }
 
-/// Whether a record is an NSEC3, or an RRSIG over such.
+/// Returns whether a record is an NSEC3, or an RRSIG that covers NSEC3.
 fn is_of_hashed_chain<Owner: AsOctets, Octets: AsOctets>(record: &Record<Owner, Octets>) -> bool
     ensures { result ≡ is_of_hashed_chain «record».now }
 {
     record.data.rtype() == RecordType::NSEC3 || set_type_of(record) == RecordType::NSEC3
 }
 
-/// Whether a record is below a DNAME and must not.
+/// Returns whether a record is below a DNAME and must not be.
 pub(crate) fn is_under_dname<Owner: AsOctets, Octets: AsOctets>(
     records: &SortedRecords<'_, Owner, Octets>,
     record: &Record<Owner, Octets>,
@@ -101,7 +101,7 @@ pub(crate) fn is_under_dname<Owner: AsOctets, Octets: AsOctets>(
     !is_of_hashed_chain(record) && has_dname_above(records, &view(&record.owner))
 }
 
-/// Whether a record is an SOA below the apex.
+/// Returns whether a record is an SOA below the apex.
 pub(crate) fn is_soa_elsewhere<Owner: AsOctets, Octets: AsOctets>(
     origin: &Name<&[u8]>,
     record: &Record<Owner, Octets>,
@@ -111,7 +111,7 @@ pub(crate) fn is_soa_elsewhere<Owner: AsOctets, Octets: AsOctets>(
     record.data.rtype() == RecordType::SOA && is_name_below(&view(&record.owner), origin)
 }
 
-/// Whether a record is an NS at a wildcard.
+/// Returns whether a record is an NS at a wildcard.
 pub(crate) fn is_ns_at_wildcard<Owner: AsOctets, Octets: AsOctets>(
     record: &Record<Owner, Octets>,
 ) -> bool

@@ -1,4 +1,4 @@
-//! Rules for a record and the one before it.
+//! Checks a record and the one before it.
 ghost use Rattle.std.specs.Prelude.{◌≡◌};
 ghost use Rattle.std.specs.Option.{option_copied};
 ghost use Rattle.dns_wire.specs.Order.{same_name};
@@ -12,7 +12,7 @@ use dns_kinds::RecordType;
 use dns_octets::AsOctets;
 use dns_resource::Record;
 
-/// The record before a place.
+/// Returns the record before an index.
 pub fn before<'a, Owner: AsOctets, Octets: AsOctets>(
     records: &SortedRecords<'a, Owner, Octets>,
     place: usize,
@@ -22,7 +22,7 @@ pub fn before<'a, Owner: AsOctets, Octets: AsOctets>(
     item_before(records.as_slice(), place)
 }
 
-/// The type that an RRSIG with this data covers.
+/// Returns the type that an RRSIG with this data covers.
 fn covered(octets: &[u8]) -> RecordType
     ensures { result ≡ covered_type octets.now }
 {
@@ -32,7 +32,8 @@ fn covered(octets: &[u8]) -> RecordType
     }
 }
 
-/// The type by which a record is of a set: of an RRSIG the type that it covers, and else type 0.
+/// Returns the type that distinguishes RRsets of RRSIGs: of an RRSIG the type that it covers, and
+/// else type 0.
 pub fn set_type_of<Owner: AsOctets, Octets: AsOctets>(record: &Record<Owner, Octets>) -> RecordType
     ensures { result ≡ set_type «record».now }
 {
@@ -42,7 +43,7 @@ pub fn set_type_of<Owner: AsOctets, Octets: AsOctets>(record: &Record<Owner, Oct
     covered(record.data.as_slice())
 }
 
-/// Whether records have one owner.
+/// Returns whether records have the same owner.
 pub fn have_one_owner<Owner: AsOctets, Octets: AsOctets>(
     left: &Record<Owner, Octets>,
     right: &Record<Owner, Octets>,
@@ -52,7 +53,7 @@ pub fn have_one_owner<Owner: AsOctets, Octets: AsOctets>(
     is_same(&view(&left.owner), &view(&right.owner))
 }
 
-/// Whether records are equal, whatever their times to live.
+/// Returns whether records are equal, whatever their TTLs.
 pub(crate) fn are_equal<Owner: AsOctets, Octets: AsOctets>(
     left: &Record<Owner, Octets>,
     right: &Record<Owner, Octets>,
@@ -62,7 +63,7 @@ pub(crate) fn are_equal<Owner: AsOctets, Octets: AsOctets>(
     left.compare(right).is_eq()
 }
 
-/// Whether records are of one set.
+/// Returns whether records are of one RRset.
 pub fn are_one_set<Owner: AsOctets, Octets: AsOctets>(
     left: &Record<Owner, Octets>,
     right: &Record<Owner, Octets>,
@@ -75,7 +76,7 @@ pub fn are_one_set<Owner: AsOctets, Octets: AsOctets>(
         && set_type_of(left) == set_type_of(right)
 }
 
-/// Whether a record and the one before it are two of a type at one owner, and differ.
+/// Returns whether a record and the one before it have a type and the same owner, and differ.
 pub(crate) fn is_second<Owner: AsOctets, Octets: AsOctets>(
     rtype: RecordType,
     records: &SortedRecords<'_, Owner, Octets>,
@@ -95,7 +96,7 @@ pub(crate) fn is_second<Owner: AsOctets, Octets: AsOctets>(
     }
 }
 
-/// Whether a record and the one before it are of one set, and differ in their times to live.
+/// Returns whether a record and the one before it are of one RRset, and their TTLs differ.
 pub(crate) fn has_other_ttl<Owner: AsOctets, Octets: AsOctets>(
     records: &SortedRecords<'_, Owner, Octets>,
     place: usize,
@@ -109,7 +110,7 @@ pub(crate) fn has_other_ttl<Owner: AsOctets, Octets: AsOctets>(
     }
 }
 
-/// Whether a record and the one before it are equal.
+/// Returns whether a record and the one before it are equal.
 pub(crate) fn is_duplicate<Owner: AsOctets, Octets: AsOctets>(
     records: &SortedRecords<'_, Owner, Octets>,
     place: usize,

@@ -1,4 +1,4 @@
-//! What is in a zone: records, and RRsets of which an entry was refused.
+//! The contents of a zone: records, and RRsets with a rejected entry.
 ghost use Rattle.std.specs.Prelude.{◌≡◌, ◌≤◌, ◌∷◌, [], IsTrue, List, false, length, ℕ};
 ghost use Rattle.dns_kinds.specs.Rtype as Rtype;
 ghost use Rattle.dns_kinds.specs.declared.types.RecordType.{RecordType};
@@ -52,7 +52,7 @@ fn closest_existing<'a, Owner: AsOctets, Octets: AsOctets>(
     longer(records.closest(name), refused.closest(name))
 }
 
-/// The octets of the wildcard below a name.
+/// Returns the octets of the wildcard below a name.
 fn wildcard_octets(octets: &[u8]) -> ArrayVec<u8, 255>
     requires { length octets.now ≤ 253 }
     ensures { result.items ≡ 1 ∷ 42 ∷ octets.now }
@@ -89,8 +89,8 @@ fn has_no_wildcard<Owner: AsOctets, Octets: AsOctets>(
     !records.has_wildcard() && refused.is_empty()
 }
 
-/// Returns whether a name doesn't exist, and gets a type from the wildcard below the closest name
-/// above it that exists (RFC 4592 section 3.3.1).
+/// Returns whether a name doesn't exist, and has a type from the wildcard below its closest
+/// ancestor that exists (RFC 4592 section 3.3.1).
 #[tactic(auto, using(crate::proofs::Neighbours::closest_short, crate::proofs::Neighbours::closest_above, crate::proofs::Neighbours::closest_nowhere))]
 pub(crate) fn gets_by_wildcard<Owner: AsOctets, Octets: AsOctets>(
     records: &SortedRecords<'_, Owner, Octets>,
@@ -138,8 +138,8 @@ fn is_cut_name<Owner: AsOctets, Octets: AsOctets>(
     is_name_below(name, origin) && has_set(records, refused, name, RecordType::NS)
 }
 
-/// Returns the closest name above this one that is at or above an owner before it. Between them no
-/// name is an owner.
+/// Returns the closest ancestor of a name that is at or above an owner before the name. Between
+/// them no name is an owner.
 fn owner_above<'a, Owner: AsOctets, Octets: AsOctets>(
     records: &SortedRecords<'_, Owner, Octets>,
     refused: &SortedSets<'_>,
@@ -150,7 +150,7 @@ fn owner_above<'a, Owner: AsOctets, Octets: AsOctets>(
     longer(records.closest_before(name), refused.closest_before(name))
 }
 
-/// Returns whether a delegation is above a name.
+/// Returns whether an ancestor of a name is a delegation.
 #[tactic(auto, using(crate::proofs::Neighbours::cuts_none, crate::proofs::Neighbours::found_fewer))]
 fn is_below_cut<Owner: AsOctets, Octets: AsOctets>(
     origin: &Name<&[u8]>,
@@ -181,7 +181,7 @@ pub(crate) fn is_delegated_name<Owner: AsOctets, Octets: AsOctets>(
     is_cut_name(origin, records, refused, name) || is_below_cut(origin, records, refused, name)
 }
 
-/// Returns whether a DNAME of which an entry was refused is above a name.
+/// Returns whether an ancestor of a name has a DNAME with a rejected entry.
 #[tactic(auto, using(crate::proofs::Neighbours::listed_none, crate::proofs::Neighbours::found_fewer))]
 pub(crate) fn is_under_refused_dname(refused: &SortedSets<'_>, name: &Name<&[u8]>) -> bool
     ensures { result ≡ lists_dname_above name.now refused.now }
@@ -194,7 +194,7 @@ pub(crate) fn is_under_refused_dname(refused: &SortedSets<'_>, name: &Name<&[u8]
     }
 }
 
-/// Returns the closest name above this one that has a DNAME.
+/// Returns the closest ancestor of a name that has a DNAME.
 #[tactic(auto, using(crate::proofs::Neighbours::dname_none, crate::proofs::Neighbours::found_fewer))]
 pub(crate) fn dname_above<'a, Owner: AsOctets, Octets: AsOctets>(
     records: &SortedRecords<'_, Owner, Octets>,

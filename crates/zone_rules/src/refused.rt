@@ -1,4 +1,4 @@
-//! The RRsets of which an entry was refused: they are in the zone, and their data are not known.
+//! RRsets with a rejected entry: they are in the zone, and their data is unknown.
 ghost use Rattle.std.specs.Prelude.{◌≡◌, ◌↔◌, IfSome, IsSome, IsTrue, []};
 ghost use Rattle.zone_rules.specs.Above.{closest_from};
 ghost use Rattle.zone_rules.specs.Present.{AreSetsInOrder, is_listed, is_listed_within, set_order};
@@ -39,7 +39,7 @@ impl<'a> OfRrset for RrsetName<'a> {
     }
 }
 
-/// RRsets in the order of [`RrsetName::compare`]. Of equal ones there may be more than one.
+/// RRsets in the order of [`RrsetName::compare`]. Equal ones may occur more than once.
 #[derive(Drop)]
 pub struct SortedSets<'a> {
     sets: &'a [RrsetName<'a>],
@@ -58,7 +58,7 @@ impl<'a> Model for SortedSets<'a> {
 }
 
 impl<'a> SortedSets<'a> {
-    /// Returns the RRsets, if they are in order.
+    /// Returns the RRsets, or `None` if they are not in order.
     pub fn new(sets: &'a [RrsetName<'a>]) -> Option<Self>
         ensures value { IfSome result (λ s. s ≡ sets.now) }
         ensures accepts { IsSome result ↔ AreSetsInOrder sets.now }
@@ -76,7 +76,8 @@ impl<'a> SortedSets<'a> {
         SortedSets { sets: &[] }
     }
 
-    /// Returns the closest name at or above this one that has an RRset at it or below it.
+    /// Returns the closest name, of this one and its ancestors, that has an RRset at it or below
+    /// it.
     #[tactic(auto, using(crate::proofs::Within::set_owners))]
     pub(crate) fn closest<'n>(&self, name: &Name<&'n [u8]>) -> Option<Name<&'n [u8]>>
         ensures { result ≡ closest_from (λ above. is_listed_within above self.now) name.now }
@@ -84,7 +85,8 @@ impl<'a> SortedSets<'a> {
         closest(self.sets, name)
     }
 
-    /// Returns the closest name above this one that is at or above the owner of an RRset before it.
+    /// Returns the closest ancestor of this name that is at or above the owner of an RRset before
+    /// it.
     #[tactic(auto, using(crate::proofs::Within::set_owners))]
     pub(crate) fn closest_before<'n>(&self, name: &Name<&'n [u8]>) -> Option<Name<&'n [u8]>>
         ensures { result ≡ closest_above_earlier (λ s. s) self.now name.now }

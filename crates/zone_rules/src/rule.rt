@@ -1,32 +1,32 @@
-//! The rules, and what is found of them.
+//! The rules, and their findings.
 ghost use Rattle.std.specs.Prelude.{◌≡◌};
 ghost use Rattle.zone_rules.specs.RuleNames.{rule_name};
 
 /// A rule that a zone, or one of its records, breaks.
 ///
-/// Whether that is an error or a warning is for the program that reports it.
+/// The program that reports it decides whether it is an error or a warning.
 #[derive(Clone, Copy, PartialEq, Eq)]
 pub enum Rule {
-    /// No SOA stands at the apex (RFC 1034 section 4.2.1).
+    /// The apex has no SOA (RFC 1034 section 4.2.1).
     NoSoa,
-    /// No NS stands at the apex (RFC 1034 section 4.2.1).
+    /// The apex has no NS (RFC 1034 section 4.2.1).
     NoNs,
     /// The record is outside of the zone: neither at the origin nor below it.
     Outside,
-    /// The record and the one before it are two SOAs of one owner that differ.
+    /// The record and the one before it are two SOAs with the same owner that differ.
     TwoSoas,
-    /// The record is an NS of class IN at the apex, the zone has the data of its host, which is neither a
-    /// delegation nor below one, and there is no A or AAAA for it, of its own or from a wildcard (RFC
-    /// 4592 section 3.3.1).
+    /// The record is an NS of class IN at the apex, and the zone has no A or AAAA for its host, of
+    /// its own or from a wildcard (RFC 4592 section 3.3.1), though it is authoritative for that
+    /// host: this is neither a delegation nor below one.
     NsAddress,
-    /// The record is a CNAME, and at its owner stands another record that isn't equal to it, and
-    /// is neither an RRSIG nor an NSEC (RFC 1034 section 3.6.2, RFC 4034 section 4).
+    /// The record is a CNAME, and its owner has another record that isn't equal to it, and is
+    /// neither an RRSIG nor an NSEC (RFC 1034 section 3.6.2, RFC 4034 section 4).
     Cname,
-    /// The record and the one before it are two DNAMEs of one owner that differ (RFC 6672 section
-    /// 2.4).
+    /// The record and the one before it are two DNAMEs with the same owner that differ (RFC 6672
+    /// section 2.4).
     TwoDnames,
-    /// A DNAME is above the record (RFC 6672 section 2.4), which is neither an NSEC3 nor an RRSIG
-    /// over NSEC3 (RFC 5155 section 3).
+    /// An ancestor of the record's owner has a DNAME (RFC 6672 section 2.4), and the record is
+    /// neither an NSEC3 nor an RRSIG that covers NSEC3 (RFC 5155 section 3).
     BelowDname,
     /// The record is a DS at the apex (RFC 4035 section 2.4).
     DsAtApex,
@@ -34,48 +34,49 @@ pub enum Rule {
     WildcardNs,
     /// The record is an SOA below the apex (RFC 1034 section 4.2.1).
     SoaNotApex,
-    /// The record is a DNAME below the apex, and an NS is at its owner (RFC 6672 section 2.3).
+    /// The record is a DNAME below the apex, and its owner has an NS (RFC 6672 section 2.3).
     NsBesideDname,
-    /// The record is an NSEC3, and the first label of its owner is no hash in base 32 hex (RFC 5155
-    /// section 3).
+    /// The record is an NSEC3, and the first label of its owner is not a hash in base32hex (RFC
+    /// 5155 section 3).
     Nsec3Owner,
-    /// The record is an NS below the apex, its host is at or below its owner, and no A or AAAA
-    /// stands there (RFC 1034 section 4.2.1).
+    /// The record is an NS below the apex, its host is at or below its owner, and has no A or AAAA
+    /// (RFC 1034 section 4.2.1).
     MissingGlue,
     /// The record is an MX, SRV or NS, and its host has a CNAME, of its own or from a wildcard (RFC 2181
     /// section 10.3).
     HostIsAlias,
     /// The record is an MX, SRV or NS, and its host is below a DNAME of the zone (RFC 6672 section 5.1).
     HostBelowDname,
-    /// The record is an MX, SRV or NS of class IN, but no NS at the apex. The zone has the data of its
-    /// host, which is neither a delegation nor below one, and there is no A, AAAA or CNAME for it, of its
-    /// own or from a wildcard, and no DNAME above it. The root is no host (RFC 7505 section 3, RFC 2782).
+    /// The record is an MX, SRV or NS of class IN, but not an NS at the apex. The zone has no A,
+    /// AAAA or CNAME for its host, of its own or from a wildcard, and no DNAME above it, though it
+    /// is authoritative for the host: this is neither a delegation nor below one. The root as a
+    /// target means that the service has no host (RFC 7505 section 3, RFC 2782).
     HostMissing,
-    /// A name in the record has to be a host name (RFC 952, RFC 1123 section 2.1), and isn't: the owner
-    /// of A, AAAA, WKS, A6 and MX, the host or target of NS, MX, SRV, AFSDB, RT, SVCB and HTTPS, both
-    /// names of SOA, or the target of PTR in the reverse trees.
+    /// A name in the record must be a host name (RFC 952, RFC 1123 section 2.1), and isn't: the
+    /// owner of A, AAAA, WKS, A6 and MX, the host or target of NS, MX, SRV, AFSDB, RT, SVCB and
+    /// HTTPS, both names of SOA, or the target of PTR in the reverse trees.
     HostName,
-    /// The record is a CDS or CDNSKEY that asks for more than to delete (RFC 8078 section 4), and no
-    /// DNSKEY is at the apex (RFC 7344 section 4.1).
+    /// The record is a CDS or CDNSKEY other than a delete request (RFC 8078 section 4), and the
+    /// apex has no DNSKEY (RFC 7344 section 4.1).
     CdsWithoutKey,
-    /// The record is a DS below the apex, and no NS is at its owner (RFC 4035 section 2.4).
+    /// The record is a DS below the apex, and its owner has no NS (RFC 4035 section 2.4).
     DsWithoutNs,
-    /// The record is a CDS, CDNSKEY, CSYNC, ZONEMD or NSEC3PARAM below the apex, or a DNSKEY below it at
-    /// no delegation.
+    /// The record is a CDS, CDNSKEY, CSYNC, ZONEMD or NSEC3PARAM below the apex, or a DNSKEY below
+    /// the apex that is not at a delegation.
     NotAtApex,
-    /// The record is a DNSKEY of another protocol than 3 (RFC 4034 section 2.1.2).
+    /// The record is a DNSKEY whose protocol is not 3 (RFC 4034 section 2.1.2).
     KeyProtocol,
     /// The record is a DNSKEY or DS of algorithm 0 (RFC 4034 appendix A.1).
     KeyAlgorithm,
-    /// The record and the one before it are of one set, and their times to live differ (RFC 2181
-    /// section 5.2).
+    /// The record and the one before it are of one RRset, and their TTLs differ (RFC 2181 section
+    /// 5.2).
     TtlDiffers,
-    /// The record and the one before it are equal, whatever their times to live.
+    /// The record and the one before it are equal, whatever their TTLs.
     Duplicate,
 }
 
 impl Rule {
-    /// Returns a short name that stays the same. Two rules may have one.
+    /// Returns the short name of the rule, which is stable. Two rules may have the same name.
     pub fn name(&self) -> &'static str
         ensures { result.now ≡ rule_name self.now }
     {
@@ -108,8 +109,8 @@ impl Rule {
     }
 }
 
-/// A rule that is broken, and the index of the record at which that is told; what the zone lacks
-/// is told of no record.
+/// A rule that is broken, and the index of the record that breaks it, or `None` if something is
+/// missing at the apex.
 #[derive(Clone, Copy)]
 pub struct Finding {
     pub rule: Rule,

@@ -1,4 +1,4 @@
-//! Searches among what is in the order of its owners: records, and RRsets of refused entries.
+//! Searches among items in the order of their owners: records, and RRsets with a rejected entry.
 ghost use Rattle.std.specs.Prelude.{◌≡◌, ◌≤◌, length, option_and_then, slice_get};
 ghost use Rattle.std.specs.Option.{option_copied};
 ghost use Rattle.zone_rules.specs.Above.{closest_from};
@@ -10,7 +10,7 @@ use dns_kinds::RecordType;
 use dns_wire::Name;
 use std::cmp::Ordering;
 
-/// What belongs to an RRset.
+/// An item that belongs to an RRset.
 pub(crate) trait OfRrset {
     ghost use Rattle.std.specs.Prelude.{◌≡◌};
     ghost use Rattle.zone_rules.specs.Present.{set_order};
@@ -19,7 +19,7 @@ pub(crate) trait OfRrset {
     // The RRset.
     ghost rrset: { Self → RrsetName };
 
-    /// Returns the name at which the RRset is.
+    /// Returns the owner of the RRset.
     fn owner(&self) -> Name<&[u8]>
         ensures { result ≡ (rrset self.now).owner };
 
@@ -44,7 +44,7 @@ pub(crate) fn finds<T: OfRrset>(items: &[T], name: &Name<&[u8]>, rtype: RecordTy
     }
 }
 
-/// Returns the number of items whose owners are before a name.
+/// Returns the number of items whose owners come before a name.
 fn count_before<T: OfRrset>(items: &[T], name: &Name<&[u8]>) -> usize
     requires { AreOwnersInOrder T.rrset items.now }
     ensures bound { result ≤ length items.now }
@@ -57,7 +57,7 @@ fn count_before<T: OfRrset>(items: &[T], name: &Name<&[u8]>) -> usize
     items.partition_point(|item| item.compare_to(&first).is_lt())
 }
 
-/// Returns the item before a place.
+/// Returns the item before an index.
 pub(crate) fn item_before<T>(items: &[T], place: usize) -> Option<&T>
     ensures { option_copied result ≡ before_place items.now place }
 {
@@ -67,7 +67,7 @@ pub(crate) fn item_before<T>(items: &[T], place: usize) -> Option<&T>
     items.get(place - 1)
 }
 
-/// Returns the item at a place.
+/// Returns the item at an index.
 fn item_at<T>(items: &[T], place: usize) -> Option<&T>
     ensures { option_copied result ≡ slice_get items.now place }
 {
@@ -84,7 +84,7 @@ fn shared_with<'a, T: OfRrset>(item: Option<&T>, name: &Name<&'a [u8]>) -> Optio
     }
 }
 
-/// Returns the longer of two names, and the first of two that are as long.
+/// Returns the longer of two names, and the first of two of equal length.
 pub(crate) fn longer<'a>(
     left: Option<Name<&'a [u8]>>,
     right: Option<Name<&'a [u8]>>,
@@ -104,7 +104,7 @@ pub(crate) fn longer<'a>(
     }
 }
 
-/// Returns the closest name above this one that is at or above an owner before it.
+/// Returns the closest ancestor of a name that is at or above an owner before the name.
 pub(crate) fn closest_before<'a, T: OfRrset>(
     items: &[T],
     name: &Name<&'a [u8]>,
@@ -117,7 +117,7 @@ pub(crate) fn closest_before<'a, T: OfRrset>(
     shared_with(item_before(items, count_before(items, name)), name)
 }
 
-/// Returns the closest name that is at or above this one and at or above an owner: those before and
+/// Returns the closest name that is at or above both this one and an owner: the owners before and
 /// after the name have the most labels in common with it.
 pub(crate) fn closest<'a, T: OfRrset>(items: &[T], name: &Name<&'a [u8]>) -> Option<Name<&'a [u8]>>
     requires { AreOwnersInOrder T.rrset items.now }

@@ -1,4 +1,4 @@
-//! The records of a zone in canonical order, and lookups by owner and type among them.
+//! Records of a zone in canonical order, and lookups by owner and type.
 ghost use Rattle.std.specs.Prelude.{◌≡◌, ◌≤◌, ◌↔◌, ◌==◌, IfSome, IsSome, filter, length};
 ghost use Rattle.std.specs.List.{list_all, list_any};
 ghost use Rattle.std.specs.List.Sorted.{IsPartitionedBy};
@@ -41,8 +41,8 @@ fn are_of_one_class<Owner: AsOctets, Octets: AsOctets>(records: &[Record<Owner, 
     }
 }
 
-/// Records in canonical order (RFC 4034 section 6), as `Record::compare` has it. Of equal ones
-/// there may be more than one.
+/// Records in canonical order (RFC 4034 section 6), as `Record::compare` defines it. Equal ones may
+/// occur more than once.
 #[derive(Drop)]
 pub struct SortedRecords<'a, Owner: AsOctets, Octets: AsOctets> {
     records: &'a [Record<Owner, Octets>],
@@ -81,7 +81,7 @@ impl<'a, Owner: AsOctets, Octets: AsOctets> Model for SortedRecords<'a, Owner, O
 }
 
 impl<'a, Owner: AsOctets, Octets: AsOctets> SortedRecords<'a, Owner, Octets> {
-    /// The records, if they are in canonical order.
+    /// Returns the records, or `None` if they are not in canonical order.
     pub fn new(records: &'a [Record<Owner, Octets>]) -> Option<Self>
         ensures value { IfSome result (λ s. s ≡ records.now) }
         ensures accepts { IsSome result ↔ AreInOrder records.now }
@@ -124,7 +124,8 @@ impl<'a, Owner: AsOctets, Octets: AsOctets> SortedRecords<'a, Owner, Octets> {
         self.is_one_class
     }
 
-    /// Returns the closest name at or above this one that has an owner at it or below it.
+    /// Returns the closest name, of this one and its ancestors, that has an owner at it or below
+    /// it.
     #[tactic(auto, using(crate::proofs::Within::record_owners))]
     pub(crate) fn closest<'n>(&self, name: &Name<&'n [u8]>) -> Option<Name<&'n [u8]>>
         ensures { result ≡ closest_from (λ above. has_owner_within above self.now) name.now }
@@ -132,7 +133,7 @@ impl<'a, Owner: AsOctets, Octets: AsOctets> SortedRecords<'a, Owner, Octets> {
         closest(self.records, name)
     }
 
-    /// Returns the closest name above this one that is at or above an owner before it.
+    /// Returns the closest ancestor of this name that is at or above an owner before it.
     #[tactic(auto, using(crate::proofs::Within::record_owners))]
     pub(crate) fn closest_before<'n>(&self, name: &Name<&'n [u8]>) -> Option<Name<&'n [u8]>>
         ensures { result ≡ closest_above_earlier rrset_of_record self.now name.now }
@@ -140,7 +141,7 @@ impl<'a, Owner: AsOctets, Octets: AsOctets> SortedRecords<'a, Owner, Octets> {
         closest_before(self.records, name)
     }
 
-    /// The records.
+    /// Returns the records.
     pub fn as_slice(&self) -> &'a [Record<Owner, Octets>]
         ensures value { result.now ≡ self.now }
         ensures in_order { AreInOrder self.now }
@@ -149,8 +150,8 @@ impl<'a, Owner: AsOctets, Octets: AsOctets> SortedRecords<'a, Owner, Octets> {
     }
 }
 
-/// Returns the number of records whose owner is a name or before it, of records in the order of
-/// their owners.
+/// Returns the number of records whose owner is a name or comes before it, among records in the
+/// order of their owners.
 ///
 /// Looks at the records with the indexes 0, 1, 3, 7 and so on until an owner is after the name, and
 /// then searches before that record: quick if few records are not after the name.
@@ -170,7 +171,7 @@ fn count_up_to<Owner: AsOctets, Octets: AsOctets>(
     first.partition_point(|record| order_of(&record.owner, name).is_le())
 }
 
-/// Returns the records with a name as their owner, without regard to case.
+/// Returns the records whose owner is a name, ignoring letter case.
 pub fn owned_by<'a, Owner: AsOctets, Octets: AsOctets>(
     records: &SortedRecords<'a, Owner, Octets>,
     name: &Name<&[u8]>,
@@ -186,7 +187,7 @@ pub fn owned_by<'a, Owner: AsOctets, Octets: AsOctets>(
 
 /// Returns whether a name has a record of a type.
 ///
-/// Makes one binary search. Where records are of several classes, it looks at those of the owner.
+/// Makes one binary search. If records are of several classes, it scans those of the owner.
 pub fn has_type<Owner: AsOctets, Octets: AsOctets>(
     records: &SortedRecords<'_, Owner, Octets>,
     name: &Name<&[u8]>,

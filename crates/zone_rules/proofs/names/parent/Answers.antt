@@ -5,7 +5,7 @@ use Rattle.dns_spelling.specs.Spelling.{AreOctetValues}
 use Rattle.zone_rules.proofs.NameParts.{HasParent, parent_cut, no_parent, parent_slice, parent_same}
 use Rattle.zone_rules.proofs.names.parent.Goals as goal
 
--- the octets behind the first label are those of the name above
+-- the octets after the first label are those of the parent
 cut : (labels : List (List ℕ)) (octets : List ℕ) (count : ℕ) → IsName labels → EndsInRoot labels → IsWireName (wire labels) → octets ≡ wire labels → count ≡ get_or octets 0 0
     → (1 + count ≡ 1 → ⊥) → HasParent labels (take (length octets - (1 + count)) (drop (1 + count) octets))
 cut labels octets count n a w whole first some =
