@@ -1,4 +1,4 @@
--- Records that are sorted, and then rid of those that follow their like.
+-- Records that are sorted, and then deduplicated: records equal to the one before are removed.
 use Rattle.std.proofs.Common.{◌≡◌, List, refl, sym, ap, subst, ◌∙◌}
 use Rattle.std.specs.Prelude.{find}
 use Rattle.std.specs.List.{dedup}

@@ -1,4 +1,4 @@
--- How two sorted lists differ, front by front.
+-- How two sorted lists differ, found by comparing their first elements.
 use Rattle.std.proofs.Common.{ℕ, zero, suc, ◌≡◌, ◌≢◌, Bool, true, false, cond, Option, Some, None, ◌⊎◌, inl, inr, List, [], ◌∷◌, refl, sym, ap, subst, ◌∙◌, arith}
 use Rattle.std.specs.Prelude.{find, Any, option_map}
 use Rattle.std.specs.Cmp.{IsTotalOrder, Equal-is}
@@ -9,7 +9,7 @@ use Rattle.std.specs.declared.cmp.Ordering.{Ordering}
 use Rattle.std.specs.declared.cmp.Ordering.TheVariants.{Less, Equal}
 use Rattle.std.proofs.lemmas.Cmp.{alike_right, tied_itself}
 
--- what is found stands in front, or is found behind
+-- what is found is the first element, or is found after it
 found_step : {X : Type 0} (b : Bool) (x y : X) (rest : Option X) → cond b (Some x) rest ≡ Some y → ((b ≡ true) × (x ≡ y)) ⊎ ((b ≡ false) × (rest ≡ Some y))
 found_step true x y rest h = inl (refl, cc)
 found_step false x y rest h = inr (refl, h)
@@ -65,7 +65,7 @@ module _ {X : Type 0} {R : X → X → Ordering} (o : IsTotalOrder R) (ttl : X �
   agree_step false false a b u v A e t h = h
 
   module _ {C : Type 0} (key : C → X) (before after : C → Option X) where
-    -- what a change says of its key
+    -- a change has what both lists have under its key, and these differ
     abbrev pub Tells : List X → List X → C → Type 0
     Tells old new c =
         (before c ≡ find (eq_by_cmp R (key c)) old) × (after c ≡ find (eq_by_cmp R (key c)) new) × (option_map ttl (before c) ≢ option_map ttl (after c))
@@ -108,7 +108,7 @@ module _ {X : Type 0} {R : X → X → Ordering} (o : IsTotalOrder R) (ttl : X �
     unfolding IsStrictlySortedBy
     nothing = record { ordered = tt; told = tt; complete = λ r. inl refl }
 
-    -- both fronts have one key and one time to live
+    -- both first elements have one key and one TTL
     pub same_fronts : (a b : X) (old new : List X) (cs : List C) → R a b ≡ Equal → ttl a ≡ ttl b → Above a old → Above b new → Difference old new cs → Difference (a ∷ old) (b ∷ new) cs
     same_fronts a b old new cs e t p q d =
         let less = keys_behind a old new cs p (above_same a b new e q) d.told in record {
@@ -118,7 +118,7 @@ module _ {X : Type 0} {R : X → X → Ordering} (o : IsTotalOrder R) (ttl : X �
               (same_tests a b r e) t (d.complete r);
         }
 
-    -- a key is that of a change in front, or nothing is told of it there
+    -- a key is that of the first change, or the first change doesn't affect it
     named_or : (b : Bool) (r : X) (c : C) (cs : List C) (u v x y : Option X) → eq_by_cmp R r (key c) ≡ b → (b ≡ false → (x ≡ u) × (y ≡ v))
         → (option_map ttl u ≡ option_map ttl v) ⊎ Any (λ c. eq_by_cmp R r (key c) ≡ true) cs
         → (option_map ttl x ≡ option_map ttl y) ⊎ Any (λ c. eq_by_cmp R r (key c) ≡ true) (c ∷ cs)
@@ -126,7 +126,7 @@ module _ {X : Type 0} {R : X → X → Ordering} (o : IsTotalOrder R) (ttl : X �
     named_or false r c cs u v x y e at (inl h) = inl (ap (option_map ttl) (at refl).0 ∙ h ∙ sym (ap (option_map ttl) (at refl).1))
     named_or false r c cs u v x y e at (inr h) = inr (any_there (λ c. eq_by_cmp R r (key c) ≡ true) c cs h)
 
-    -- both fronts have one key, and their times to live differ
+    -- both first elements have one key, and their TTLs differ
     pub other_fronts : (a b : X) (old new : List X) (c : C) (cs : List C) → R a b ≡ Equal → ttl a ≢ ttl b → Above a old → Above b new → key c ≡ a → before c ≡ Some a → after c ≡ Some b
         → Difference old new cs → Difference (a ∷ old) (b ∷ new) (c ∷ cs)
     unfolding IsStrictlySortedBy
@@ -148,7 +148,7 @@ module _ {X : Type 0} {R : X → X → Ordering} (o : IsTotalOrder R) (ttl : X �
               (d.complete r);
         }
 
-    -- the front of the first has a key that the second lacks
+    -- the first element of the first list has a key that the second lacks
     pub removed_front : (a : X) (old new : List X) (c : C) (cs : List C) → Above a old → Above a new → key c ≡ a → before c ≡ Some a → after c ≡ None → Difference old new cs
         → Difference (a ∷ old) new (c ∷ cs)
     unfolding IsStrictlySortedBy
@@ -183,7 +183,7 @@ module _ {X : Type 0} {R : X → X → Ordering} (o : IsTotalOrder R) (ttl : X �
     }
 
   module _ {C : Type 0} (key : C → X) (before after : C → Option X) where
-    -- the front of the second has a key that the first lacks
+    -- the first element of the second list has a key that the first lacks
     pub added_front : (b : X) (old new : List X) (c : C) (cs : List C) → Above b old → Above b new → key c ≡ b → before c ≡ None → after c ≡ Some b → Difference key before after old new cs
         → Difference key before after old (b ∷ new) (c ∷ cs)
     added_front b old new c cs p q k was is d = turned key after before (b ∷ new) old (c ∷ cs) (removed_front key after before b new old c cs q p k is was (turned key before after old new cs d))

@@ -1,4 +1,4 @@
--- What no front is greater than comes first.
+-- A front that is not less than any other comes first.
 use Rattle.std.proofs.Common.{◌≡◌, false, inl, inr, List, [], ◌∷◌, refl, sym, ap, ◌∙◌, arith}
 use Rattle.std.specs.Prelude.{All}
 use Rattle.std.specs.List.{AllByRecursion}

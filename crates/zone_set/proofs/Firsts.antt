@@ -1,4 +1,4 @@
--- What stands first under each key, in a list, in the list sorted, and without those that follow their like.
+-- The first record under each key: in a list, in the sorted list, and without records equal to the one before.
 use Rattle.std.proofs.Common.{◌≡◌, Bool, true, false, cond, not, ◌&&◌, Option, Some, None, List, [], ◌∷◌, refl, sym, ap, ◌∙◌}
 use Rattle.std.specs.Prelude.{find, filter}
 use Rattle.std.specs.Cmp.{IsTotalOrder, Equal-is}
@@ -31,7 +31,7 @@ tie_is Greater Less h = refl
 tie_is Greater Equal h = cc
 tie_is Greater Greater h = cc
 
--- a second test that says the same changes nothing
+-- a second test with the same result changes nothing
 twice : {Y : Type 0} (b : Bool) (y rest : Y) (c : Bool) (z : Y) → c ≡ b → cond b y rest ≡ cond b y (cond c z rest)
 twice true y rest c z h = refl
 twice false y rest c z h = ap (λ t. cond t z rest) (sym h)

@@ -1,4 +1,4 @@
--- The front that comes first is what a merge takes.
+-- A merge takes the front that comes first.
 use Rattle.std.proofs.Common.{ℕ, suc, ◌≡◌, ◌≢◌, ◌+◌, ◌<◌, inl, inr, List, [], ◌∷◌, ◌++◌, length, refl, subst, arith}
 use Rattle.std.specs.List.{AllByRecursion}
 use Rattle.std.specs.declared.cmp.Ordering.{Ordering}
@@ -20,7 +20,7 @@ module _ {N O : Type 0} where
   abbrev pub front_at : Record N O → ℕ → Front N O
   front_at r k = record { «record» = r; run = k }
 
-  -- the first records of runs, of which the first has this number
+  -- the first records of runs, numbered from this number on
   abbrev pub fronts_of : ℕ → List (List (Record N O)) → List (Front N O)
   fronts_of k [] = []
   fronts_of k ([] ∷ runs) = fronts_of (suc k) runs
@@ -47,7 +47,7 @@ module _ {N O : Type 0} where
   later_led k n r ([] ∷ runs) all = (tt, later_led (suc k) n r runs all)
   later_led k n r ((s ∷ run) ∷ runs) all = (not_behind r s n k all.0, later_led (suc k) n r runs all.1)
 
-  -- a front that comes before all is taken, and its run goes on
+  -- the front that comes before all others is taken, and its run continues
   pub first_is_taken : (earlier : List (List (Record N O))) (r : Record N O) (run : List (Record N O)) (later : List (List (Record N O)))
       → AllByRecursion (ComesBefore (front_at r (length earlier))) (fronts_of 0 (earlier ++ (r ∷ run) ∷ later)) → TakesFromRuns (earlier ++ (r ∷ run) ∷ later) r (earlier ++ run ∷ later)
   first_is_taken earlier r run later all =

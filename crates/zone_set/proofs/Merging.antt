@@ -1,4 +1,4 @@
--- Sorted runs that are merged, and then rid of records that follow their like.
+-- Sorted runs that are merged, and then deduplicated: records equal to the one before are removed.
 use Rattle.std.proofs.Common.{zero, suc, ◌≡◌, ◌≢◌, Bool, true, false, cond, Option, Some, None, List, [], ◌∷◌, ◌++◌, ◌+◌, get_or, refl, sym, ap, subst, ◌∙◌, arith}
 use Rattle.std.specs.Prelude.{find}
 use Rattle.std.specs.Cmp.{Equal-is}
@@ -38,7 +38,7 @@ module _ {N O : Type 0} where
   abbrev Over : Record N O → Record N O → Type 0
   Over r s = canonical_order r s ≡ Less
 
-  -- ---- what is found
+  -- ---- the record that is found under a key
 
   other_key : (r s t : Record N O) → same_key s r ≡ true → canonical_order r t ≡ Less → same_key s t ≡ false
   other_key r s t same less = ap is_eq (order_total.congr s r t ((Equal-is (canonical_order s r)).0 same) ∙ less)
@@ -47,7 +47,7 @@ module _ {N O : Type 0} where
   none_found r s [] same over = refl
   none_found r s (t ∷ run) same over = ap (λ b. cond b (Some t) (find (same_key s) run)) (other_key r s t same over.0) ∙ none_found r s run same over.1
 
-  -- no record of a run that begins behind a record has its key
+  -- if a run begins with a record that comes after another, none of its records has the other's key
   none_in_run : (r s : Record N O) (run : List (Record N O)) → same_key s r ≡ true → AreCanonical run → IsLedBy (Over r) run → find (same_key s) run ≡ None
   none_in_run r s [] same sorted led = refl
   none_in_run r s (t ∷ run) same sorted led =
@@ -58,7 +58,7 @@ module _ {N O : Type 0} where
   moved r s run found sorted led true same = ap (λ o. option_or o (Some r)) (none_in_run r s run same sorted led)
   moved r s run found sorted led false same = refl
 
-  -- a record is found alike in front of all, and behind earlier runs
+  -- the first record of a run is found as if it came before the earlier runs
   found_front : (r s : Record N O) (earlier : List (List (Record N O))) (run : List (Record N O)) (later : List (List (Record N O))) → Ordered earlier → Led (Over r) earlier
       → find (same_key s) (records_of_runs (earlier ++ (r ∷ run) ∷ later)) ≡ cond (same_key s r) (Some r) (find (same_key s) (records_of_runs (earlier ++ run ∷ later)))
   found_front r s [] run later ordered led = refl
@@ -80,7 +80,7 @@ module _ {N O : Type 0} where
   joined P [] others all more = more
   joined P (run ∷ runs) others all more = (all.0, joined P runs others all.1 more)
 
-  -- what holds of the runs, at the parts of a step
+  -- the properties of the runs, for the parts of a step
   record Parted (runs : List (List (Record N O))) (r : Record N O) (left : List (List (Record N O))) (t : TakesFromRuns runs r left) : Type 0 where
     pub earlier : Ordered t.earlier
     pub front : AreCanonical (r ∷ t.run)
@@ -109,7 +109,7 @@ module _ {N O : Type 0} where
       ∙ sym (found_front r s t.earlier t.run t.later parts.earlier (recursion_from_All (IsLedBy (Over r)) t.earlier t.before))
       ∙ ap (λ l. find (same_key s) (records_of_runs l)) (sym t.was)
 
-  -- ---- the order of what is taken
+  -- ---- the order of the records that are taken
 
   abbrev NotBehind : Record N O → Record N O → Type 0
   NotBehind r s = canonical_order r s ≢ Greater
@@ -134,7 +134,7 @@ module _ {N O : Type 0} where
       (weaker r t.earlier (recursion_from_All (IsLedBy (Over r)) t.earlier t.before))
       (behind_front r t.run parts.front, recursion_from_All (IsLedBy (NotBehind r)) t.later t.not_behind))
 
-  -- what is taken first led a run
+  -- the first record that is taken was the first of a run
   leads : (P : Record N O → Type 0) (records : List (Record N O)) (runs : List (List (Record N O))) → MergesTo runs records → Led P runs → IsLedBy P records
   leads P [] runs merges led = tt
   leads P (r ∷ records) runs (left, t, rest) led = (both_parts (IsLedBy P) t.earlier ((r ∷ t.run) ∷ t.later) (subst (Led P) t.was led)).1.0
@@ -154,14 +154,14 @@ module _ {N O : Type 0} where
   sorted_merged (r ∷ records) runs ordered (left, t, rest) =
       sorted_more r records (leads (NotBehind r) records left rest (all_behind runs r left t ordered)) (sorted_merged records left (ordered_left runs r left t ordered) rest)
 
-  -- what is taken, without those that follow their like, is what the runs have under each key
+  -- the records that are taken, without those equal to the one before, are the canonical list of the runs' records
   pub merged_canonical : (records : List (Record N O)) (runs : List (List (Record N O))) → Ordered runs → MergesTo runs records → AreCanonicalOf (records_of_runs runs) (dedup same_key records)
   merged_canonical records runs ordered merges = record {
     ordered = IsStrictlySortedBy-dedup order_total (λ x y. refl) records (sorted_merged records runs ordered merges);
     firsts = λ s. find_dedup order_total s records ∙ found_merged records runs ordered merges s;
   }
 
-  -- ---- one list alone is in order and has the same under each key
+  -- ---- a list alone is in order and has the same record under each key
 
   same_itself : (r : Record N O) → same_key r r ≡ true
   same_itself r = ap is_eq (tied_itself order_total r)
@@ -227,13 +227,13 @@ module _ {N O : Type 0} where
       ∙ ap (λ o. option_or (find (same_key r) part) o) (runs_found parts runs h.1 r)
       ∙ sym (find-append (same_key r) part (records_of_runs parts))
 
-  -- runs of parts of all records, merged and without those that follow their like, are what all records have under each key
+  -- runs of parts of all records, merged and deduplicated, are the canonical list of all records
   pub merged_runs : (parts runs : List (List (Record N O))) (records : List (Record N O)) → AreRunsOf parts runs → MergesTo runs records → AreCanonicalOf (records_of_runs parts) (dedup same_key records)
   merged_runs parts runs records are merges =
       let merged = merged_canonical records runs (runs_ordered parts runs are) merges in
       record { ordered = merged.ordered; firsts = λ r. merged.firsts r ∙ runs_found parts runs are r }
 
-  -- and so the same list as the canonical one of all records, whatever the parts are
+  -- and so they are the same list, whatever the parts are
   pub merged_is_canonical : (parts runs : List (List (Record N O))) (records canonical : List (Record N O)) → AreRunsOf parts runs → MergesTo runs records → AreCanonicalOf (records_of_runs parts) canonical
       → dedup same_key records ≡ canonical
   merged_is_canonical parts runs records canonical are merges of_all =

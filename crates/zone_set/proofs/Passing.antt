@@ -1,4 +1,4 @@
--- The fronts of two sets are passed.
+-- The first records of two sets are compared and skipped.
 use Rattle.std.proofs.Common.{◌≡◌, ◌+◌, Option, Some, None, List, [], ◌∷◌, ◌++◌, length, refl, sym, ap, subst, ◌∙◌, arith, append-nil, append_assoc, MatchOption, Bor}
 use Rattle.std.specs.Cmp.{IsTotalOrder}
 use Rattle.std.specs.List.{AllByRecursion}
@@ -126,7 +126,7 @@ module _ {N O : Type 0} where
   pub turned_order : (a b : Record N O) → canonical_order a b ≡ Greater → canonical_order b a ≡ Less
   turned_order a b greater = order_total.antisymm b a ∙ ap ordering_reverse greater
 
-  -- two sets are compared up to what is left of both
+  -- two sets are compared up to the records that are left of both
   pub record Comparing (old new olds news : List (Record N O)) (done : List (Change N O)) : Type 0 where
     pub old_ordered : AreCanonical olds
     pub new_ordered : AreCanonical news

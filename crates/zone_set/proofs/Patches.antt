@@ -1,4 +1,4 @@
--- What the changes between two sets make.
+-- The changes between two sets turn one into the other.
 use Rattle.std.proofs.Common.{zero, suc, ◌≡◌, Bool, true, false, cond, Option, Some, None, ◌⊎◌, inl, inr, List, [], ◌∷◌, refl, sym, ap, subst, ◌∙◌, arith}
 use Rattle.std.specs.Prelude.{find, Any, ◌↔◌}
 use Rattle.std.specs.Cmp.{Equal-is}
@@ -24,7 +24,7 @@ some_found p (y ∷ xs) (zero, x, lt, at, h) none = none_some y (sym (ap (λ b. 
 some_found p (y ∷ xs) (suc k, x, lt, at, h) none = some_found p xs (k, x, omega (arith, lt), at, h) (behind_none (p y) y (find p xs) none)
 
 module _ {N O : Type 0} where
-  -- records of one key have the same under them
+  -- under the keys of two equal records the same is found
   under_same : (r s : Record N O) (records : List (Record N O)) → same_key r s ≡ true → record_under r records ≡ record_under s records
   under_same r s records h = ap (λ p. find p records) (λ i x. is_eq (order_total.congr r s x ((Equal-is (canonical_order r s)).0 h) i))
 

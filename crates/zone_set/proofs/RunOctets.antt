@@ -1,4 +1,4 @@
--- Octets of a run are those of one record and of one rest.
+-- The octets of a run are those of exactly one record and one rest.
 use Rattle.std.proofs.Common.{ℕ, zero, suc, ◌≡◌, ◌<◌, ◌≤◌, ◌^◌, List, [], ◌∷◌, ◌++◌, length, take, drop, get_or, refl, sym, ap, ◌∙◌, arith, append_assoc}
 use Rattle.std.specs.Int.{from_be_bytes, to_be_bytes, w16, w32}
 use Rattle.std.proofs.lemmas.Nat.{be_bytes_2, be_bytes_4, from_be_bytes-to_be_bytes_2, from_be_bytes-to_be_bytes_4}
@@ -15,7 +15,7 @@ small2 a b more small zero = small 0
 small2 a b more small (suc zero) = small 1
 small2 a b more small (suc (suc k)) = omega arith
 
--- the octets of the number with which octets begin
+-- the number with which octets begin, as octets
 pub number16_front : (octets front rest : List ℕ) (n : ℕ) → ((k : ℕ) → get_or octets k 0 < 256) → 2 ≤ length octets → front ≡ take 2 octets → rest ≡ drop 2 octets → n ≡ from_be_bytes w16 front
     → octets ≡ to_be_bytes w16 n ++ rest
 number16_front [] front rest n small long f r e = absurd (omega (arith, long))
@@ -63,7 +63,7 @@ five a b c d e xs =
     append_assoc (a ++ b ++ c ++ d) e xs ∙ append_assoc (a ++ b ++ c) d (e ++ xs) ∙ append_assoc (a ++ b) c (d ++ (e ++ xs)) ∙ append_assoc a b (c ++ (d ++ (e ++ xs)))
 
 module _ {N O M P : Type 0} where
-  -- one record alone has these octets, whatever is behind them
+  -- only one record has these octets, whatever follows them
   pub run_octets_same : (a : Record N O) (b : Record M P) (xs ys : List ℕ) → AreRecordValues a → AreRecordValues b → a.ttl < 2 ^ 32 → b.ttl < 2 ^ 32
       → run_octets a ++ xs ≡ run_octets b ++ ys → IsSameRecord a b × (xs ≡ ys)
   run_octets_same a b xs ys p q few few' h =

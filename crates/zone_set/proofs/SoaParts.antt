@@ -1,4 +1,4 @@
--- The serial number in data of SOA.
+-- The serial in the data of an SOA.
 use Rattle.std.proofs.Common.{ℕ, ◌≡◌, Some, List, [], ◌∷◌, refl, sym, ap, subst, ◌∙◌}
 use Rattle.std.specs.Prelude.{codes}
 use Rattle.dns_kinds.specs.Rtype as Rtype
@@ -23,7 +23,7 @@ soa_found : shape_of_code Rtype.soa ≡ Some soa_shape
 unfolding type_shapes
 soa_found = refl
 
--- four octets behind two names
+-- four octets after two names
 record HasSerial (d : TypeData) : Type 0 where
   pub serial : List ℕ
   pub four : AreOctetsOf 4 serial
@@ -52,6 +52,6 @@ soa_parts d same is = subst (λ c. HasSerial (record { rtype = c; octets = d.oct
 some_same : (x y : List ℕ) → Some x ≡ Some y → x ≡ y
 some_same x y h = cc
 
--- what is found there are four octets
+-- the octets at that offset are four
 pub serial_four : (d : TypeData) (octets : List ℕ) → d.rtype ≡ Rtype.soa → IsTypeData d.rtype d.octets → data_part d 2 ≡ Some octets → AreOctetsOf 4 octets
 serial_four d octets same is found = let parts = soa_parts d same is in subst (AreOctetsOf 4) (some_same parts.serial octets (sym parts.third ∙ found)) parts.four

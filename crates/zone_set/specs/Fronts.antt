@@ -1,4 +1,4 @@
--- Which of the first records of runs comes first.
+-- The order of the first records of runs.
 use Rattle.std.specs.Prelude.{◌≡◌, ◌≤◌, ◌⊎◌, Bool}
 use Rattle.std.specs.Ordering.{eq_by_cmp, flip_args, nat_cmp, on, then_cmp}
 use Rattle.std.specs.declared.cmp.Ordering.{Ordering}
@@ -6,7 +6,7 @@ use Rattle.std.specs.declared.cmp.Ordering.TheVariants.{Less, Equal}
 use Rattle.zone_set.specs.Lookups.{canonical_order}
 use Rattle.zone_set.specs.declared.fronts.Front.{Front}
 
--- a front stands before another: by its record, or by its run where both records have one key
+-- a front comes before another: by its record, or by its run if both records have one key
 abbrev pub ComesBefore : {N O : Type 0} → Front N O → Front N O → Type 0
 ComesBefore f g = (canonical_order f.record g.record ≡ Less) ⊎ ((canonical_order f.record g.record ≡ Equal) × (f.run ≤ g.run))
 

@@ -30,7 +30,7 @@ lower_hex_text octets = map to_ascii_lowercase (encoded base16 octets)
 abbrev pub hex_word : List ℕ → List ℕ
 hex_word octets = if length octets == 0 then [] else codes " " ++ lower_hex_text octets
 
--- a time to live, a class, a type by its code, and how many octets there are
+-- a TTL, a class, a type by its code, and the number of octets
 abbrev pub middle_text : ℕ → Class → RecordType → ℕ → List ℕ
 middle_text ttl class rtype count =
     codes "\t" ++ decimal ttl ++ codes "\t" ++ class_text class ++ codes "\tTYPE" ++ decimal rtype ++ codes "\t\\# " ++ decimal count
@@ -39,7 +39,7 @@ middle_text ttl class rtype count =
 abbrev pub generic_line : {N O : Type 0} → Record N O → List ℕ
 generic_line r = owner_text r ++ middle_text r.ttl r.class (data_of r).rtype (length (data_of r).octets) ++ hex_word (data_of r).octets ++ line_feed ∷ []
 
--- two times to live, and an arrow between
+-- two TTLs, with an arrow between them
 abbrev pub ttls_text : ℕ → ℕ → List ℕ
 ttls_text old new = codes "~ " ++ decimal old ++ codes " -> " ++ decimal new ++ codes " "
 

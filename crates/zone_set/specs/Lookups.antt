@@ -1,4 +1,4 @@
--- What a list of records has under a key: owner, class, type and data in canonical form.
+-- The record of a list under a key: owner, class, type and data in canonical form.
 use Rattle.std.specs.Prelude.{◌≡◌, Bool, Option, List, find}
 use Rattle.std.specs.List.Sorted.{IsStrictlySortedBy}
 use Rattle.std.specs.Ordering.{eq_by_cmp}
@@ -7,7 +7,7 @@ use Rattle.dns_canonical.specs.Records.{record_order}
 use Rattle.dns_resource.specs.CanonicalData.{record_key}
 use Rattle.dns_resource.specs.declared.record.Record.{Record}
 
--- the order of RFC 4034 section 6, in which times to live don't count
+-- the order of RFC 4034 section 6, in which TTLs don't count
 abbrev pub canonical_order : {N O : Type 0} → Record N O → Record N O → Ordering
 canonical_order a b = record_order (record_key a) (record_key b)
 
@@ -23,7 +23,7 @@ record_under r records = find (same_key r) records
 abbrev pub AreCanonical : {N O : Type 0} → List (Record N O) → Type 0
 AreCanonical records = IsStrictlySortedBy canonical_order records
 
--- in canonical order, what first stood in other records under each key
+-- the list is in canonical order, and has under each key the first record that other records have
 pub record AreCanonicalOf {N O : Type 0} (records : List (Record N O)) (canonical : List (Record N O)) : Type 0 where
   pub ordered : AreCanonical canonical
   pub firsts : (r : Record N O) → record_under r canonical ≡ record_under r records

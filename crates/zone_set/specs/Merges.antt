@@ -9,12 +9,12 @@ abbrev pub records_of_runs : {N O : Type 0} → List (List (Record N O)) → Lis
 records_of_runs [] = []
 records_of_runs (run ∷ runs) = run ++ records_of_runs runs
 
--- a run has no records, or begins with one of these
+-- a run has no records, or begins with one that has this property
 abbrev pub IsLedBy : {N O : Type 0} → (Record N O → Type 0) → List (Record N O) → Type 0
 IsLedBy P [] = ⊤
 IsLedBy P (r ∷ run) = P r
 
--- a record is taken from the front of a run: one before those that lead the earlier runs, and behind none that leads a later one
+-- the first record of a run is taken: it comes before the first ones of earlier runs, and not after the first one of a later run
 pub record TakesFromRuns {N O : Type 0} (runs : List (List (Record N O))) (r : Record N O) (left : List (List (Record N O))) : Type 0 where
   pub earlier : List (List (Record N O))
   pub run : List (Record N O)
@@ -24,12 +24,12 @@ pub record TakesFromRuns {N O : Type 0} (runs : List (List (Record N O))) (r : R
   pub before : All (IsLedBy (λ s. canonical_order r s ≡ Less)) earlier
   pub not_behind : All (IsLedBy (λ s. canonical_order r s ≢ Greater)) later
 
--- records are taken until none are left
+-- records are taken until all runs are empty
 abbrev pub MergesTo : {N O : Type 0} → List (List (Record N O)) → List (Record N O) → Type 0
 MergesTo runs [] = All (λ run. run ≡ []) runs
 MergesTo {N} {O} runs (r ∷ records) = (left : List (List (Record N O))) × TakesFromRuns runs r left × MergesTo left records
 
--- each run is what its part of all records has under each key
+-- each run is the canonical list of its part of all records
 abbrev pub AreRunsOf : {N O : Type 0} → List (List (Record N O)) → List (List (Record N O)) → Type 0
 AreRunsOf [] [] = ⊤
 AreRunsOf [] (run ∷ runs) = ⊥

@@ -1,4 +1,4 @@
--- Worked rows of the definitions.
+-- Worked examples of the definitions.
 use Rattle.std.specs.Prelude.{◌≡◌, ℕ, ◌-◌, ◌^◌, Some, None, true, false, List, [], ◌∷◌, ◌++◌, codes, refl}
 use Rattle.std.proofs.Common.{arith, inl, inr}
 use Rattle.dns_kinds.specs.Rtype as Rtype
@@ -17,7 +17,7 @@ address label ttl octets = record { owner = label ∷ codes "example" ∷ [] ∷
 abbrev two : List (Record ℕ ℕ)
 two = address (codes "a") 60 (192 ∷ 0 ∷ 2 ∷ 1 ∷ []) ∷ address (codes "A") 90 (192 ∷ 0 ∷ 2 ∷ 1 ∷ []) ∷ []
 
--- letters and times to live don't count, and the first is found
+-- letter case and TTLs don't count, and the first is found
 found_row : record_under (address (codes "A") 5 (192 ∷ 0 ∷ 2 ∷ 1 ∷ [])) two ≡ Some (address (codes "a") 60 (192 ∷ 0 ∷ 2 ∷ 1 ∷ []))
 found_row = refl
 
@@ -27,7 +27,7 @@ ttl_row = refl
 other_row : ttl_under (address (codes "a") 60 (192 ∷ 0 ∷ 2 ∷ 2 ∷ [])) two ≡ None
 other_row = refl
 
--- a serial number goes on from the greatest to 0 (RFC 1982 section 3.1)
+-- a serial continues from the greatest value to 0 (RFC 1982 section 3.1)
 wraps_row : IsSerialLess (2 ^ 32 - 1) 0
 wraps_row = inr (omega arith, omega arith)
 

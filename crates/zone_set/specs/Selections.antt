@@ -1,4 +1,4 @@
--- Which records are taken, by their types.
+-- Which records are selected, by their types.
 use Rattle.std.specs.Prelude.{◌≡◌, Bool, false, ◌==◌, ◌&&◌, ◌||◌, not, if◌then◌else◌, List, [], length}
 use Rattle.std.specs.List.{list_any}
 use Rattle.dns_kinds.specs.Rtype as Rtype
@@ -6,7 +6,7 @@ use Rattle.dns_kinds.specs.declared.types.RecordType.{RecordType}
 use Rattle.zone_set.specs.DnssecTypes.{dnssec_types}
 use Rattle.zone_set.specs.declared.selection.Selection.{Selection}
 
--- a type is listed, or there is no list
+-- a type is listed, or the list is empty
 abbrev pub is_wanted : List RecordType → RecordType → Bool
 is_wanted types rtype = length types == 0 || list_any (λ t. t == rtype) types
 

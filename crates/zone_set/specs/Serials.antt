@@ -1,4 +1,4 @@
--- Serial numbers (RFC 1982, with 32 bits).
+-- Serials (RFC 1982, with 32 bits).
 use Rattle.std.specs.Prelude.{ℕ, ◌==◌, if◌then◌else◌, ◌<◌, ◌-◌, ◌^◌, ◌⊎◌, Option, None, option_map}
 use Rattle.std.specs.Int.{from_be_bytes, w32}
 use Rattle.dns_kinds.specs.Rtype as Rtype

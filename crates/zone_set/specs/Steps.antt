@@ -1,4 +1,4 @@
--- How two sets are compared, front by front.
+-- How two sets are compared, by their first records.
 use Rattle.std.specs.Prelude.{◌≡◌, ◌≢◌, ◌<◌, ◌+◌, Some, List, ◌++◌, length}
 use Rattle.std.specs.Option.{option_to_list}
 use Rattle.dns_resource.specs.declared.record.Record.{Record}
@@ -14,7 +14,7 @@ pub record IsTtlChange {N O : Type 0} (old new : Record N O) (c : Change N O) : 
   pub before : before_change c ≡ Some old
   pub after : after_change c ≡ Some new
 
--- fewer records are left, and what these differ in follows the change
+-- fewer records are left, and their changes come after this one
 pub record StepsOn {N O : Type 0} (old new : List (Record N O)) (step : Step N O) : Type 0 where
   pub fewer : length step.old.now + length step.new.now < length old + length new
   pub old_ordered : AreCanonical step.old.now

@@ -1,4 +1,4 @@
-//! Records in canonical order, none of them twice.
+//! A set of records in canonical order, without duplicates.
 ghost use Rattle.std.specs.Prelude.{◌≡◌, ◌+◌, ◌≤◌, length, IfOk, IfErr};
 ghost use Rattle.std.specs.List.{dedup};
 ghost use Rattle.zone_set.specs.Lookups.{AreCanonical, AreCanonicalOf, same_key};
@@ -9,7 +9,8 @@ use dns_resource::Record;
 use std::alloc::{AllocFailed, Allocator, Global};
 use std::marker::Model;
 
-/// Records in canonical order (RFC 4034 section 6), of each owner, class, type and data one.
+/// Records in canonical order (RFC 4034 section 6), with one record for each owner, class, type and
+/// data.
 #[derive(Drop)]
 pub struct CanonicalSet<Owner: AsOctets, Octets: AsOctets, A: Allocator = Global> {
     records: Vec<Record<Owner, Octets>, A>,
@@ -27,7 +28,7 @@ impl<Owner: AsOctets, Octets: AsOctets, A: Allocator> Model for CanonicalSet<Own
     ghost invariant = { λ s. AreCanonical s.records.items };
 }
 
-/// Of neighbours that differ by the time to live alone the first stays.
+/// Removes each record that differs from the one before in its TTL at most.
 fn dedup_records<Owner: AsOctets + Drop, Octets: AsOctets + Drop, A: Allocator>(
     records: &mut Vec<Record<Owner, Octets>, A>,
 )
@@ -38,9 +39,10 @@ fn dedup_records<Owner: AsOctets + Drop, Octets: AsOctets + Drop, A: Allocator>(
 }
 
 impl<Owner: AsOctets, Octets: AsOctets, A: Allocator> CanonicalSet<Owner, Octets, A> {
-    /// The records of a set in canonical order, and how many duplicates went. Of records of one
-    /// owner, class, type and data the first that came stays, with its time to live (RFC 2181
-    /// section 5). Without memory for the sort the set comes back as it was.
+    /// Returns the records of a set in canonical order, and the number of duplicates that were
+    /// removed. Of records with the same owner, class, type and data the first one stays, with its
+    /// TTL (RFC 2181 section 5). Fails if memory for the sort is out, and then returns the set as
+    /// it was.
     pub fn from_set(
         mut set: ZoneSet<Owner, Octets, A>,
     ) -> Result<(Self, usize), AllocFailed<ZoneSet<Owner, Octets, A>>>
@@ -63,7 +65,7 @@ impl<Owner: AsOctets, Octets: AsOctets, A: Allocator> CanonicalSet<Owner, Octets
         }
     }
 
-    /// The records, in canonical order.
+    /// Returns the records, in canonical order.
     pub fn as_slice(&self) -> &[Record<Owner, Octets>]
         ensures value { result.now ≡ self.now }
         ensures ordered { AreCanonical self.now }

@@ -1,4 +1,4 @@
-//! How two sets of records differ.
+//! Compares two sets of records.
 ghost use Rattle.std.specs.Prelude.{◌≡◌, ◌↔◌, [], IfOk, MatchOption};
 ghost use Rattle.zone_set.specs.Differences.{AreChanges, HoldSame, MakeOf};
 ghost use Rattle.zone_set.specs.Lookups.{AreCanonical};
@@ -10,18 +10,19 @@ use dns_resource::Record;
 use std::alloc::{AllocError, Allocator};
 use std::cmp::Ordering;
 
-/// How two sets differ in the records of one owner, class, type and data.
+/// A difference between two sets in the records of one owner, class, type and data.
 #[derive_where(Clone, Copy)]
 pub enum Change<'a, Owner: AsOctets, Octets: AsOctets> {
-    /// The first set alone has this record.
+    /// Only the first set has this record.
     Removed(&'a Record<Owner, Octets>),
-    /// The second set alone has this record.
+    /// Only the second set has this record.
     Added(&'a Record<Owner, Octets>),
-    /// The record of the first set has another time to live in the second, which follows.
+    /// Both sets have the record, with different TTLs: first that of the first set, then that of
+    /// the second.
     NewTtl(&'a Record<Owner, Octets>, &'a Record<Owner, Octets>),
 }
 
-/// What the fronts of two lists differ in, and what is behind these.
+/// The difference between the first records of two lists, and the records after them.
 #[derive_where(Clone, Copy)]
 struct Step<'a, Owner: AsOctets, Octets: AsOctets> {
     change: Option<Change<'a, Owner, Octets>>,
@@ -29,7 +30,7 @@ struct Step<'a, Owner: AsOctets, Octets: AsOctets> {
     new: &'a [Record<Owner, Octets>],
 }
 
-/// The change that two records of one key make, if their times to live differ.
+/// Returns the change between two records of one key, or `None` if their TTLs are equal.
 fn ttl_change<'a, Owner: AsOctets, Octets: AsOctets>(
     old: &'a Record<Owner, Octets>,
     new: &'a Record<Owner, Octets>,
@@ -42,7 +43,8 @@ fn ttl_change<'a, Owner: AsOctets, Octets: AsOctets>(
     Some(Change::NewTtl(old, new))
 }
 
-/// Passes the front that comes first in canonical order, or both if they have one key.
+/// Skips the first record in canonical order, or the first of both lists if they have one key.
+/// Returns `None` if both lists are empty.
 fn next_step<'a, Owner: AsOctets, Octets: AsOctets>(
     old: &'a [Record<Owner, Octets>],
     new: &'a [Record<Owner, Octets>],
@@ -83,8 +85,8 @@ fn next_step<'a, Owner: AsOctets, Octets: AsOctets>(
     }
 }
 
-/// What two sets differ in, in canonical order: records that one of them alone has, and other times
-/// to live. Without memory for the list it is refused.
+/// Returns the differences between two sets, in canonical order: records that only one of them has,
+/// and records with different TTLs. Fails if memory for the list is out.
 pub fn changes_between<'a, Owner: AsOctets, Octets: AsOctets, A: Allocator, B: Allocator>(
     alloc: B,
     old: &'a CanonicalSet<Owner, Octets, A>,

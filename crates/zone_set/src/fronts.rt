@@ -1,4 +1,4 @@
-//! The first records of sorted runs, of which the one that comes first is taken.
+//! The first records of sorted runs, for merging them.
 ghost use Rattle.std.specs.Prelude.{◌≡◌, [], ◌∷◌, All, IfSome, IfNone, IfErr, OnOk, OnErr};
 ghost use Rattle.std.specs.List.Sorted.{IsPermutation};
 ghost use Rattle.zone_set.specs.Fronts.{ComesBefore};
@@ -12,12 +12,12 @@ use std::marker::Model;
 
 /// The first record of a run that was not taken yet.
 ///
-/// Of two fronts the greater is the one that is taken first: whose record comes first in canonical
-/// order (RFC 4034 section 6), or else that of the run with the lower number.
+/// The greater of two fronts is taken first: the one whose record comes first in canonical order
+/// (RFC 4034 section 6), or with equal records the one of the run with the lower number.
 #[derive(Drop)]
 pub struct Front<Owner: AsOctets, Octets: AsOctets> {
     pub record: Record<Owner, Octets>,
-    /// The number of the run.
+    /// Number of the run.
     pub run: usize,
 }
 
@@ -95,7 +95,7 @@ impl<Owner: AsOctets, Octets: AsOctets, A: Allocator> Model for Fronts<Owner, Oc
 }
 
 impl<Owner: AsOctets, Octets: AsOctets, A: Allocator> Fronts<Owner, Octets, A> {
-    /// No records.
+    /// Returns an empty collection.
     pub fn new(alloc: A) -> Self
         ensures { result ≡ [] }
     {
@@ -104,8 +104,8 @@ impl<Owner: AsOctets, Octets: AsOctets, A: Allocator> Fronts<Owner, Octets, A> {
         }
     }
 
-    /// Adds the first record of a run. If there is no memory for it, it comes back, and the others are
-    /// as they were.
+    /// Adds the first record of a run. Fails if memory is out, and then returns the record; the
+    /// others are unchanged.
     pub fn push(
         &mut self,
         front: Front<Owner, Octets>,
@@ -117,8 +117,8 @@ impl<Owner: AsOctets, Octets: AsOctets, A: Allocator> Fronts<Owner, Octets, A> {
         self.heap.push(front)
     }
 
-    /// Takes the record out that comes first in canonical order (RFC 4034 section 6), of equal ones
-    /// that of the run with the lowest number.
+    /// Removes and returns the record that comes first in canonical order (RFC 4034 section 6); of
+    /// equal records that of the run with the lowest number. Returns `None` if no record is left.
     pub fn take_first(&mut self) -> Option<Front<Owner, Octets>>
         ensures taken { IfSome result (λ f. IsPermutation self.old (f ∷ self.new)) }
         ensures first { IfSome result (λ f. All (ComesBefore f) self.new) }

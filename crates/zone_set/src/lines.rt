@@ -1,4 +1,4 @@
-//! Records and changes as lines of text.
+//! Formats records and changes as lines of text.
 ghost use Rattle.std.specs.Prelude.{◌≡◌, ◌++◌, OnOk};
 ghost use Rattle.std.specs.String.{string_bytes};
 ghost use Rattle.zone_set.specs.Lines.{change_line, generic_line, lower_hex_text, hex_word, middle_text, owner_text, record_line, ttls_text};
@@ -12,8 +12,8 @@ use dns_spelling::NameText;
 use dns_zone::zonefile_fmt::{DisplayKind, ZonefileFmt};
 use std::alloc::{AllocError, Allocator};
 
-/// Appends the line of a record: its owner, time to live, class and type, with a tab behind each,
-/// and its data, with blanks between the tokens.
+/// Appends the line of a record: its owner, TTL, class and type, each followed by a tab, and its
+/// data, with blanks between the tokens.
 pub fn push_record<Owner: AsOctets, Octets: AsOctets, A: Allocator>(
     out: &mut String<A>,
     one: &Record<Owner, Octets>,
@@ -53,8 +53,8 @@ fn push_owner<Owner: AsOctets, Octets: AsOctets, A: Allocator>(
     write!(out, "{}", NameText(one.owner.as_slice()))
 }
 
-/// Appends what stands between an owner and octets: a time to live, a class, a type by its code, and
-/// how many octets there are.
+/// Appends the fields between an owner and octets: a TTL, a class, a type by its code, and the
+/// number of octets.
 fn push_middle<A: Allocator>(
     out: &mut String<A>,
     ttl: u32,
@@ -67,8 +67,8 @@ fn push_middle<A: Allocator>(
     write!(out, "\t{ttl}\t{class}\tTYPE{}\t\\# {count}", rtype.0)
 }
 
-/// Appends the line of a record in the form for unknown types (RFC 3597 section 5), its digits in
-/// lower case.
+/// Appends the line of a record in the format for unknown types (RFC 3597 section 5), with
+/// hexadecimal digits in lower case.
 pub fn push_generic<Owner: AsOctets, Octets: AsOctets, A: Allocator + Copy>(
     out: &mut String<A>,
     one: &Record<Owner, Octets>,
@@ -82,16 +82,16 @@ pub fn push_generic<Owner: AsOctets, Octets: AsOctets, A: Allocator + Copy>(
     out.push_str("\n")
 }
 
-/// Appends `~`, two times to live with an arrow between them, and a blank.
+/// Appends `~`, two TTLs with an arrow between them, and a blank.
 fn push_ttls<A: Allocator>(out: &mut String<A>, old: u32, new: u32) -> Result<(), AllocError>
     ensures { OnOk result (string_bytes out.new ≡ string_bytes out.old ++ ttls_text old new) }
 {
     write!(out, "~ {old} -> {new} ")
 }
 
-/// Appends the line of a change: `-` and the line of a record that is gone, `+` and that of one
-/// that has come, with a blank between; or, where only the time to live is another, `~`, the old one,
-/// `->`, the new one and the line of the record with the new one.
+/// Appends the line of a change: `-` and the line of a removed record; or `+` and the line of an
+/// added one; or, if only the TTL differs, `~`, the old TTL, `->`, the new one and the line of the
+/// record with the new one. Blanks separate these.
 pub fn push_change<Owner: AsOctets, Octets: AsOctets, A: Allocator>(
     out: &mut String<A>,
     change: &Change<'_, Owner, Octets>,

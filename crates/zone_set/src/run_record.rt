@@ -1,4 +1,4 @@
-//! Records as the octets of a run: sorted records that are held outside of memory.
+//! Encodes and decodes records of a run: sorted records that are stored outside of memory.
 ghost use Rattle.std.specs.Prelude.{◌≡◌, ◌<◌, ◌^◌, ◌++◌, length, IfSome, MatchOption, OnErr, OnOk};
 ghost use Rattle.std.specs.Int.{to_be_bytes, w16, w32};
 ghost use Rattle.dns_octets.specs.Appending.{Extends};
@@ -10,7 +10,7 @@ use dns_resource::{Data, Record};
 use dns_wire::Name;
 use std::alloc::{AllocError, Allocator};
 
-/// Appends how many octets there are, and these.
+/// Appends the number of octets, and the octets.
 fn push_counted<A: Allocator>(out: &mut Vec<u8, A>, octets: &[u8]) -> Result<(), AllocError>
     requires { length octets.now < 2 ^ 16 }
     ensures ok { OnOk result (out.new.items ≡ out.old.items ++ behind_length octets.now) }
@@ -21,8 +21,8 @@ fn push_counted<A: Allocator>(out: &mut Vec<u8, A>, octets: &[u8]) -> Result<(),
     out.extend_from_slice(octets)
 }
 
-/// Appends a record: its time to live, its class and type, and its owner and data with how many octets
-/// each has in front. If there is no memory, a beginning of that may stand there.
+/// Appends a record: its TTL, its class and type, and its owner and its data, each after the number
+/// of its octets. Fails if memory is out; then a beginning of these octets may have been appended.
 pub fn push_run_record<Owner: AsOctets, Octets: AsOctets, A: Allocator>(
     out: &mut Vec<u8, A>,
     one: &Record<Owner, Octets>,
@@ -37,7 +37,7 @@ pub fn push_run_record<Owner: AsOctets, Octets: AsOctets, A: Allocator>(
     push_counted(out, one.data.as_slice())
 }
 
-/// The number of 16 bits with which octets begin, and what is behind it.
+/// Returns the number of 16 bits with which octets begin, and the octets after it.
 fn take_number16(octets: &[u8]) -> Option<(u16, &[u8])>
     ensures { MatchOption result (length octets.now < 2) (λ p. octets.now ≡ to_be_bytes w16 p.0 ++ p.1.now) }
 {
@@ -45,7 +45,7 @@ fn take_number16(octets: &[u8]) -> Option<(u16, &[u8])>
     Some((u16::from_be_bytes(*front), rest))
 }
 
-/// The number of 32 bits with which octets begin, and what is behind it.
+/// Returns the number of 32 bits with which octets begin, and the octets after it.
 fn take_number32(octets: &[u8]) -> Option<(u32, &[u8])>
     ensures { MatchOption result (length octets.now < 4) (λ p. octets.now ≡ to_be_bytes w32 p.0 ++ p.1.now) }
 {
@@ -53,7 +53,7 @@ fn take_number32(octets: &[u8]) -> Option<(u32, &[u8])>
     Some((u32::from_be_bytes(*front), rest))
 }
 
-/// The octets that stand behind their number, and what is behind them.
+/// Returns the octets that come after their number, and the octets after those.
 fn take_counted(octets: &[u8]) -> Option<(&[u8], &[u8])>
     ensures { IfSome result (λ p. octets.now ≡ behind_length p.0.now ++ p.1.now) }
 {
@@ -61,8 +61,9 @@ fn take_counted(octets: &[u8]) -> Option<(&[u8], &[u8])>
     rest.split_at_checked(usize::from(count))
 }
 
-/// The record with which octets of a run begin, and the octets behind it; and none where they don't
-/// begin with a whole record, as those of a run that was cut or damaged. It takes no memory.
+/// Parses the record with which octets of a run begin, and returns it and the octets after it.
+/// Returns `None` if the octets don't begin with a whole record, as in a run that was cut or
+/// damaged. It allocates nothing.
 pub fn take_run_record<'a>(octets: &'a [u8]) -> Option<(Record<&'a [u8], &'a [u8]>, &'a [u8])>
     ensures { IfSome result (λ p. octets.now ≡ run_octets p.0 ++ p.1.now) }
 {

@@ -1,24 +1,24 @@
-//! Which records of a zone are taken, by their types.
+//! Selects records of a zone by their types.
 ghost use Rattle.std.specs.Prelude.{◌≡◌};
 ghost use Rattle.zone_set.specs.Selections.{IsUnlimited, is_selected, is_wanted, takes_signing, takes_soa};
 
 use crate::dnssec::is_dnssec;
 use dns_kinds::RecordType;
 
-/// Which records of a zone are taken, by their types.
+/// Which records of a zone are selected, by their types.
 #[derive(Clone, Copy)]
 pub struct Selection<'t> {
-    /// Records of these types alone; of all types where there are none.
+    /// The types that are selected; if empty, all types.
     pub types: &'t [RecordType],
-    /// Whether SOAs are left out.
+    /// Whether SOAs are omitted.
     pub without_soa: bool,
-    /// Whether the records are left out that the signing of a zone adds ([`is_dnssec`]).
+    /// Whether the records that signing adds to a zone are omitted ([`is_dnssec`]).
     pub without_dnssec: bool,
-    /// Whether all others are left out.
+    /// Whether all others are omitted.
     pub only_dnssec: bool,
 }
 
-/// Whether a type is listed, or there is no list.
+/// Returns whether a type is listed, or the list is empty.
 fn is_wanted(types: &[RecordType], rtype: RecordType) -> bool
     ensures { result ≡ is_wanted types.now rtype }
 {
@@ -26,7 +26,7 @@ fn is_wanted(types: &[RecordType], rtype: RecordType) -> bool
 }
 
 impl Selection<'_> {
-    /// Returns the selection that takes all records.
+    /// Returns the selection of all records.
     pub fn all() -> Selection<'static>
         ensures { IsUnlimited result }
     {
@@ -38,14 +38,14 @@ impl Selection<'_> {
         }
     }
 
-    /// Whether a type is taken where all are wanted but SOAs.
+    /// Returns whether a type is selected as far as SOAs are concerned.
     fn takes_soa(&self, rtype: RecordType) -> bool
         ensures { result ≡ takes_soa self.now rtype }
     {
         !(self.without_soa && rtype == RecordType::SOA)
     }
 
-    /// Whether a type is taken by whether signing adds it.
+    /// Returns whether a type is selected as far as signing is concerned.
     fn takes_signing(&self, rtype: RecordType) -> bool
         ensures { result ≡ takes_signing self.now rtype }
     {
@@ -56,7 +56,7 @@ impl Selection<'_> {
         }
     }
 
-    /// Whether records of a type are taken.
+    /// Returns whether records of a type are selected.
     pub fn takes(&self, rtype: RecordType) -> bool
         ensures { result ≡ is_selected self.now rtype }
     {

@@ -1,4 +1,4 @@
-//! The serial number of a zone.
+//! Serials of zones (RFC 1982).
 ghost use Rattle.std.specs.Prelude.{◌↔◌, ◌≡◌, IsTrue};
 ghost use Rattle.zone_set.specs.Serials.{IsSerialLess, soa_serial};
 
@@ -6,8 +6,8 @@ use dns_kinds::RecordType;
 use dns_octets::AsOctets;
 use dns_resource::Data;
 
-/// Whether a serial number has risen to another (RFC 1982 section 3.2). At a distance of 2^31 it
-/// has not.
+/// Returns whether the serial `new` is greater than `old` (RFC 1982 section 3.2). At a distance of
+/// 2^31 it is not.
 pub fn serial_rises(old: u32, new: u32) -> bool
     ensures { IsTrue result ↔ IsSerialLess old new }
 {
@@ -15,7 +15,7 @@ pub fn serial_rises(old: u32, new: u32) -> bool
     distance != 0 && distance < 1 << 31
 }
 
-/// The serial number in data of SOA (RFC 1035 section 3.3.13), and none in other data.
+/// Returns the serial of SOA data (RFC 1035 section 3.3.13), or `None` for data of another type.
 pub fn serial_of<Octets: AsOctets>(data: &Data<Octets>) -> Option<u32>
     ensures { result ≡ soa_serial «data».now }
 {

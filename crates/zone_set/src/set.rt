@@ -1,4 +1,4 @@
-//! Records, in the order in which they came.
+//! A collection of records, in the order in which they were added.
 ghost use Rattle.std.specs.Prelude.{◌≡◌, [], ◌∷◌, ◌++◌, length, slice_index_or, OnOk, OnErr, IfOk, IfErr, MatchOption, slice_get, Some, None};
 ghost use Rattle.std.specs.List.Sorted.{IsPermutation, IsSorted, IsStable};
 ghost use Rattle.zone_set.specs.Lookups.{canonical_order};
@@ -8,8 +8,8 @@ use dns_resource::Record;
 use std::alloc::{AllocError, AllocFailed, Allocator, Global};
 use std::marker::Model;
 
-/// Records, in the order in which they came. Those of the same owner, class, type and data may be
-/// there more than once.
+/// Records, in the order in which they were added. Records with the same owner, class, type and
+/// data may occur more than once.
 #[derive(Drop)]
 pub struct ZoneSet<Owner: AsOctets, Octets: AsOctets, A: Allocator = Global> {
     records: Vec<Record<Owner, Octets>, A>,
@@ -25,7 +25,7 @@ impl<Owner: AsOctets, Octets: AsOctets, A: Allocator> Model for ZoneSet<Owner, O
 }
 
 impl<Owner: AsOctets, Octets: AsOctets, A: Allocator> ZoneSet<Owner, Octets, A> {
-    /// No records.
+    /// Returns an empty set.
     pub fn new(alloc: A) -> Self
         ensures { result ≡ [] }
     {
@@ -34,7 +34,7 @@ impl<Owner: AsOctets, Octets: AsOctets, A: Allocator> ZoneSet<Owner, Octets, A> 
         }
     }
 
-    /// No records, with room for so many, or without memory none.
+    /// Returns an empty set with capacity for `count` records. Fails if memory is out.
     pub fn with_capacity(alloc: A, count: usize) -> Result<Self, AllocError>
         ensures { IfOk result (λ s. s ≡ []) }
     {
@@ -42,22 +42,21 @@ impl<Owner: AsOctets, Octets: AsOctets, A: Allocator> ZoneSet<Owner, Octets, A> 
         Ok(ZoneSet { records })
     }
 
-    /// How many records there are.
+    /// Returns the number of records.
     pub fn len(&self) -> usize
         ensures { result ≡ length self.now }
     {
         self.records.len()
     }
 
-    /// The records, in their order.
+    /// Returns the records, in their order.
     pub fn as_slice(&self) -> &[Record<Owner, Octets>]
         ensures { result.now ≡ self.now }
     {
         self.records.as_slice()
     }
 
-    /// Adds a record behind the others. If there is no memory for it, the record comes back and the
-    /// set is as it was.
+    /// Appends a record. Fails if memory is out, and then returns the record; the set is unchanged.
     pub fn push(
         &mut self,
         added: Record<Owner, Octets>,
@@ -69,9 +68,9 @@ impl<Owner: AsOctets, Octets: AsOctets, A: Allocator> ZoneSet<Owner, Octets, A> 
         self.records.push(added)
     }
 
-    /// Puts the records into canonical order (RFC 4034 section 6): by owner, class, type and data.
-    /// Those that differ by the time to live alone stay in the order in which they came. Without
-    /// memory for the sort the set is as it was.
+    /// Sorts the records into canonical order (RFC 4034 section 6): by owner, class, type and data.
+    /// Records that differ in their TTL at most stay in the order in which they were added. Fails
+    /// if memory for the sort is out; then the set is unchanged.
     pub fn sort(&mut self) -> Result<(), AllocError>
         ensures permutation { IsPermutation self.old self.new }
         ensures sorted { OnOk result (IsSorted canonical_order self.new) }
@@ -81,7 +80,7 @@ impl<Owner: AsOctets, Octets: AsOctets, A: Allocator> ZoneSet<Owner, Octets, A> 
         self.records.sort_by(|left, right| left.compare(right))
     }
 
-    /// The records, in a vector.
+    /// Returns the records as a vector.
     pub fn into_vec(self) -> Vec<Record<Owner, Octets>, A>
         ensures { result.items ≡ self }
     {

@@ -1,11 +1,10 @@
-//! Octets that carry something along.
+//! Octets with a tag.
 ghost use Rattle.std.specs.Prelude.{◌≡◌};
 
 use dns_octets::AsOctets;
 
-/// The octets of a record's owner, and what is known of the record besides: the place where it stands
-/// in a file, say, or how many records came before it. So that is still at hand when records were
-/// sorted.
+/// The octets of a record's owner, and a tag with other data about the record: for example its
+/// offset in a file, or its index. So that data is still known after records were sorted.
 #[derive(Clone, Copy)]
 pub struct TaggedOctets<'a, Tag> {
     pub octets: &'a [u8],
