@@ -1,4 +1,4 @@
-//! Files that are read block by block.
+//! Reads files block by block.
 use crate::progress::Progress;
 use std::alloc::{AllocError, Global};
 use std::fs::File;
@@ -8,19 +8,19 @@ use zonetext_lib::blocks::{Checker, Halt};
 use zonetext_lib::formatter::NoForm;
 use zonetext_lib::writer::{Output, Writer};
 
-/// The octets that are read at a time.
+/// Number of octets that are read at a time.
 pub const BLOCK: usize = 64 * 1024;
 
-/// Why a file was not gone through to its end.
+/// Why a file was not read to its end.
 #[derive(Drop)]
 pub enum Ended {
-    /// No more octets are taken.
+    /// No more octets are accepted.
     Halt(Halt),
-    /// They have no form.
+    /// The text can't be formatted.
     NoForm(NoForm),
     /// The file can't be read.
     Read(io::Error),
-    /// Standard output, or the terminal, takes no more.
+    /// Standard output, or the terminal, can't be written.
     Write(io::Error),
 }
 
@@ -36,11 +36,11 @@ impl From<Halt> for Ended {
     }
 }
 
-/// What takes the blocks of a file.
+/// A consumer of the blocks of a file.
 pub trait Take {
-    /// Takes a block.
+    /// Processes a block.
     fn take(&mut self, block: &[u8]) -> Result<(), Ended>;
-    /// Takes the file's end.
+    /// Processes the file's end.
     fn end(&mut self) -> Result<(), Ended>;
 }
 
@@ -56,7 +56,7 @@ impl Take for Checker<Global> {
     }
 }
 
-/// Writes to standard output what a writer makes.
+/// Writes the output of a writer to standard output.
 #[derive(Drop)]
 pub struct Printer<'a> {
     rt: &'a HostRuntime,
@@ -65,7 +65,7 @@ pub struct Printer<'a> {
 }
 
 impl<'a> Printer<'a> {
-    /// Before the first block.
+    /// Returns a printer before the first block.
     pub fn new(rt: &'a HostRuntime, output: Output) -> Printer<'a> {
         Printer {
             rt,
@@ -74,7 +74,7 @@ impl<'a> Printer<'a> {
         }
     }
 
-    /// Writes what was made, unless memory was lacking, and returns the result.
+    /// Writes the output so far, unless memory is out, and returns the result.
     fn print(&mut self, answer: Result<(), Halt>) -> Result<(), Ended> {
         if answer != Err(Halt::OutOfMemory) {
             if let Err(error) = self.rt.stdout().write_all(self.out.as_slice()) {
@@ -99,7 +99,7 @@ impl<'a> Take for Printer<'a> {
     }
 }
 
-/// Reads a block, again where a signal came between.
+/// Reads a block, and repeats the read if a signal interrupts it.
 pub fn read_block<R: Read>(reader: &mut R, block: &mut [u8]) -> io::Result<usize> {
     for _ in 0..u64::MAX {
         match reader.read(block) {
@@ -110,7 +110,7 @@ pub fn read_block<R: Read>(reader: &mut R, block: &mut [u8]) -> io::Result<usize
     Err(io::Error::from(ErrorKind::Interrupted))
 }
 
-/// Gives what a reader has to what takes blocks.
+/// Passes the octets of a reader to a consumer of blocks.
 fn go_through<R: Read, T: Take>(
     reader: &mut R,
     taker: &mut T,
@@ -131,7 +131,7 @@ fn go_through<R: Read, T: Take>(
     Err(Ended::Halt(Halt::TooLong))
 }
 
-/// Gives octets to what takes blocks.
+/// Passes octets to a consumer of blocks.
 pub fn go_through_octets<T: Take>(octets: &[u8], taker: &mut T) -> Result<(), Ended> {
     for block in octets.chunks(BLOCK) {
         taker.take(block)?;
@@ -139,7 +139,7 @@ pub fn go_through_octets<T: Take>(octets: &[u8], taker: &mut T) -> Result<(), En
     taker.end()
 }
 
-/// Gives a file's octets, or those of standard input, to what takes blocks.
+/// Passes a file's octets, or those of standard input, to a consumer of blocks.
 pub fn go_through_file<T: Take>(
     rt: &HostRuntime,
     file: &str,

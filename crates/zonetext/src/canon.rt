@@ -1,4 +1,4 @@
-//! The command `canon`: the records of zone files in full, in canonical order.
+//! The command `canon`: writes the records of zone files in full, in canonical order.
 use crate::gathered::{Gathered, NumberedRecord, gather};
 use crate::lines::Lines;
 use crate::reading::Reading;
@@ -15,13 +15,14 @@ use zone_set::{Selection, push_generic, push_record};
 /// How records are written.
 #[derive(Clone, Copy)]
 pub struct Form {
-    /// Whether their data is in the form for unknown types.
+    /// Whether their data is written in the format for unknown types.
     pub is_generic: bool,
-    /// Whether they stay in the order in which they came.
+    /// Whether they stay in the order of the files.
     pub keeps_order: bool,
 }
 
-/// The places of records in a list, in the order in which they came, of `count` that came in all.
+/// Returns the indexes of records in a list, in the order of the files. `count` is the number of
+/// records in the files.
 fn by_number(
     alloc: Global,
     records: &[NumberedRecord<'_>],
@@ -42,7 +43,7 @@ fn by_number(
     Ok(order)
 }
 
-/// The places of SOAs in a list, and behind them those of its other records.
+/// Returns the indexes of SOAs in a list, and after them those of its other records.
 fn soa_first(alloc: Global, records: &[NumberedRecord<'_>]) -> Result<Vec<usize>, AllocError> {
     let mut order = Vec::new(alloc);
     for (place, record) in records.iter().enumerate() {
@@ -71,7 +72,7 @@ fn push_line<Owner: AsOctets, Octets: AsOctets>(
     }
 }
 
-/// Writes records to standard output, of `count` that came in all.
+/// Writes records to standard output. `count` is the number of records in the files.
 fn write_records(
     rt: &HostRuntime,
     records: &[NumberedRecord<'_>],
@@ -94,7 +95,7 @@ fn write_records(
     Ok(())
 }
 
-/// Says how many records were left out because they stood there twice.
+/// Reports how many duplicates were omitted.
 fn tell_duplicates(rt: &HostRuntime, duplicates: u64) -> io::Result<()> {
     match duplicates {
         0 => Ok(()),
@@ -103,7 +104,7 @@ fn tell_duplicates(rt: &HostRuntime, duplicates: u64) -> io::Result<()> {
     }
 }
 
-/// Writes the records of files, and says how many stood there twice.
+/// Writes the records of files, and reports how many duplicates were omitted.
 fn write_gathered(rt: &HostRuntime, gathered: &Gathered, form: Form) -> Result<(), Stop> {
     let (set, duplicates) = gathered.set()?;
     write_records(rt, set.as_slice(), gathered.len(), form)?;
@@ -147,7 +148,7 @@ impl TakeRecord for LineWriter<'_> {
     }
 }
 
-/// Writes the records of files, and says how many stood there twice.
+/// Writes the records of files, and reports how many duplicates were omitted.
 fn write_sorted(rt: &HostRuntime, sorting: Sorting<'_>, form: Form) -> Result<(), Stop> {
     let lines = Lines::new(rt);
     let mut writer = LineWriter { lines, form };
@@ -157,8 +158,8 @@ fn write_sorted(rt: &HostRuntime, sorting: Sorting<'_>, form: Form) -> Result<()
     Ok(())
 }
 
-/// Writes the records of files in full, in `size` octets of memory, and returns the status. Their order
-/// is the canonical one.
+/// Writes the records of files in full, with at most `size` octets of memory, and returns the
+/// status. They are in canonical order.
 pub fn run_bounded(
     rt: &HostRuntime,
     files: &[&str],

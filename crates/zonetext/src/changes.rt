@@ -1,4 +1,4 @@
-//! The command `diff`: how the records of two zone files differ.
+//! The command `diff`: compares the records of two zone files.
 use crate::gathered::{Gathered, gather};
 use crate::lines::Lines;
 use crate::reading::Reading;
@@ -10,16 +10,16 @@ use std::collections::BTreeMap;
 use std::io;
 use zone_set::{Change, Selection, changes_between, push_change, serial_rises};
 
-/// What is written of changes.
+/// What is written about changes.
 #[derive(Clone, Copy)]
 pub struct Output {
-    /// How many of each type there are, in place of the changes.
+    /// The number of changes of each type, in place of the changes.
     pub is_summary: bool,
-    /// At most `most` changes.
+    /// At most `most` changes, if it is set.
     pub most: Option<u32>,
 }
 
-/// How many changes there are of records of a type.
+/// The number of changes of records of a type.
 #[derive(Clone, Copy)]
 struct Count {
     removed: usize,
@@ -27,7 +27,7 @@ struct Count {
     new_ttls: usize,
 }
 
-/// The type of the record that a change is of.
+/// Returns the type of the changed record.
 fn rtype_of<Owner: AsOctets, Octets: AsOctets>(change: &Change<'_, Owner, Octets>) -> RecordType {
     match change {
         Change::Removed(record) | Change::Added(record) | Change::NewTtl(record, _) => {
@@ -37,7 +37,7 @@ fn rtype_of<Owner: AsOctets, Octets: AsOctets>(change: &Change<'_, Owner, Octets
 }
 
 impl Count {
-    /// No changes.
+    /// Returns a count of no changes.
     fn new() -> Count {
         Count {
             removed: 0,
@@ -46,7 +46,7 @@ impl Count {
         }
     }
 
-    /// One change more.
+    /// Counts one more change.
     fn count<Owner: AsOctets, Octets: AsOctets>(&mut self, change: &Change<'_, Owner, Octets>) {
         let number = match change {
             Change::Removed(_) => &mut self.removed,
@@ -57,7 +57,7 @@ impl Count {
     }
 }
 
-/// How many changes there are of each type, by its number.
+/// Returns the number of changes of each type, by the type's number.
 fn counts_of<Owner: AsOctets, Octets: AsOctets>(
     alloc: Global,
     changes: &[Change<'_, Owner, Octets>],
@@ -72,7 +72,7 @@ fn counts_of<Owner: AsOctets, Octets: AsOctets>(
     Ok(counts)
 }
 
-/// Writes how many changes there are of each type, the lowest number first.
+/// Writes the number of changes of each type, the lowest type number first.
 fn write_summary(rt: &HostRuntime, counts: &BTreeMap<u16, Count>) -> io::Result<()> {
     for (number, count) in counts {
         let rtype = RecordType(*number);
@@ -82,7 +82,7 @@ fn write_summary(rt: &HostRuntime, counts: &BTreeMap<u16, Count>) -> io::Result<
     Ok(())
 }
 
-/// Writes changes, and says how many more there are.
+/// Writes changes, and reports how many more there are.
 fn write_changes<Owner: AsOctets, Octets: AsOctets>(
     rt: &HostRuntime,
     changes: &[Change<'_, Owner, Octets>],
@@ -105,7 +105,7 @@ fn write_changes<Owner: AsOctets, Octets: AsOctets>(
     Ok(())
 }
 
-/// Says that the serial number of the second zone is not above that of the first.
+/// Reports if the serial of the second zone is not greater than that of the first.
 fn tell_serial(rt: &HostRuntime, old: &Gathered, new: &Gathered) -> io::Result<()> {
     let (Some(old), Some(new)) = (&old.seen, &new.seen) else {
         return Ok(());
@@ -117,7 +117,7 @@ fn tell_serial(rt: &HostRuntime, old: &Gathered, new: &Gathered) -> io::Result<(
     eprintln!(rt; "zonetext: serial did not rise: {old} -> {new}")
 }
 
-/// Writes how two zones differ, and returns whether they do.
+/// Writes the differences between two zones, and returns whether there are any.
 fn compare(rt: &HostRuntime, old: &Gathered, new: &Gathered, output: Output) -> Result<bool, Stop> {
     let (old_set, _) = old.set()?;
     let (new_set, _) = new.set()?;
@@ -135,7 +135,7 @@ fn compare(rt: &HostRuntime, old: &Gathered, new: &Gathered, output: Output) -> 
     Ok(true)
 }
 
-/// Compares two files, and returns the status: 1 if their records differ, or an entry is refused.
+/// Compares two files, and returns the status: 1 if their records differ, or an entry is rejected.
 pub fn run(
     rt: &HostRuntime,
     first: &str,

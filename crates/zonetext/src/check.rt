@@ -1,4 +1,4 @@
-//! The command `check`: what is wrong with zone files.
+//! The command `check`: reports what is wrong with zone files.
 use crate::checking::{Checker, Limits};
 use crate::files::check_text;
 use crate::options;
@@ -19,19 +19,19 @@ use zone_dnssec::Times;
 use zonetext_report::code::Code;
 use zonetext_report::policy::Policy;
 
-/// How many findings are said as lines, unless another number is asked for.
+/// Number of findings that are shown as lines, unless another number is asked for.
 const MOST: usize = 20;
 
-/// Where a file's zone is said.
+/// How a file's zone is determined.
 #[derive(Clone, Copy)]
 enum Zone<'o> {
     Unsaid,
     Said(&'o str),
-    /// By the name of the file.
+    /// From the name of the file.
     InName,
 }
 
-/// What is asked of files.
+/// The options of the command.
 #[derive(Drop)]
 struct Options<'o> {
     form: Form,
@@ -41,21 +41,21 @@ struct Options<'o> {
     is_strict: bool,
     class: Class,
     max_ttl: Option<u32>,
-    /// No entry may have more octets. Of the text alone none is too long.
+    /// Greatest number of octets of an entry. With `--text` it is not limited.
     max_entry: usize,
     folders: &'o [&'o str],
     base: Option<&'o str>,
     stdin_name: Option<&'o str>,
     zone: Zone<'o>,
-    /// The times for signatures, if they are to be looked at.
+    /// The times for signatures, if they are checked.
     times: Option<Times>,
     is_verbose: bool,
-    /// Whether the text alone is looked at.
+    /// Whether only the text is checked.
     is_text: bool,
     is_quiet: bool,
 }
 
-/// Whether a finding is one of the text alone.
+/// Returns whether a finding is about the text alone.
 fn is_of_text(code: Code) -> bool {
     code.is_text_fault()
         || matches!(
@@ -69,7 +69,7 @@ fn is_of_text(code: Code) -> bool {
         )
 }
 
-/// The code that an option names.
+/// Returns the code that an option names.
 fn code_of<'o>(value: &'o str, option: &'static str, is_text: bool) -> Result<Code, Usage<'o>> {
     match Code::named(value) {
         Some(code) if is_text && !is_of_text(code) => Err(Usage::OfRecords { option, value }),
@@ -82,7 +82,7 @@ fn code_of<'o>(value: &'o str, option: &'static str, is_text: bool) -> Result<Co
     }
 }
 
-/// The codes that an option names.
+/// Returns the codes that an option names.
 fn codes_of<'o>(
     alloc: Global,
     names: &[&'o str],
@@ -97,7 +97,7 @@ fn codes_of<'o>(
     Ok(codes)
 }
 
-/// Whether output is coloured, and whether it goes to a terminal.
+/// Returns how findings are shown: whether output is coloured, and whether it goes to a terminal.
 fn form_of<'o>(rt: &HostRuntime, inner: &'o ArgMatches) -> Result<Form, Usage<'o>> {
     if inner.get_flag("json") {
         return Ok(Form::Json);
@@ -129,7 +129,7 @@ fn form_of<'o>(rt: &HostRuntime, inner: &'o ArgMatches) -> Result<Form, Usage<'o
     }
 }
 
-/// Where the zone of files is said.
+/// Returns how the zone of files is determined.
 fn zone_of<'o>(inner: &'o ArgMatches) -> Result<Zone<'o>, Usage<'o>> {
     if inner.get_flag("zone-from-name") {
         return Ok(Zone::InName);
@@ -140,7 +140,7 @@ fn zone_of<'o>(inner: &'o ArgMatches) -> Result<Zone<'o>, Usage<'o>> {
     }
 }
 
-/// What the words of the command ask for.
+/// Returns the options of the command line.
 fn options_of<'o>(rt: &HostRuntime, inner: &'o ArgMatches) -> Result<Options<'o>, Usage<'o>> {
     let alloc = rt.alloc();
     let most = number_of(inner.get_str("max"), "--max")?;
@@ -183,7 +183,7 @@ fn options_of<'o>(rt: &HostRuntime, inner: &'o ArgMatches) -> Result<Options<'o>
     })
 }
 
-/// Says how much was read: on standard output, unless that has JSON.
+/// Reports how much was read: on standard output, unless JSON goes there.
 fn tell_zone(rt: &HostRuntime, file: &str, checker: &Checker, form: Form) -> Result<(), Stop> {
     let records = checker.records;
     let file = Shown(file);
@@ -201,7 +201,7 @@ fn tell_zone(rt: &HostRuntime, file: &str, checker: &Checker, form: Form) -> Res
     Ok(())
 }
 
-/// Goes through a file, and says what was found.
+/// Checks a file, and reports the findings.
 fn go_through(
     rt: &HostRuntime,
     file: &str,
@@ -228,8 +228,8 @@ fn go_through(
     Ok(())
 }
 
-/// The zone that a file's name names: the part behind the last slash, without `.zone` or `.db` at
-/// its end.
+/// Returns the zone that a file's name contains: the part after the last slash, without `.zone` or
+/// `.db` at its end.
 fn zone_of_path(path: &str) -> &str {
     let name = match path.rsplit_once('/') {
         Some((_, name)) => name,
@@ -241,7 +241,7 @@ fn zone_of_path(path: &str) -> &str {
     }
 }
 
-/// The zone of a file, if it is said.
+/// Returns the zone of a file, if it is known.
 fn origin_of(file: &str, zone: Zone) -> Option<NameBuffer> {
     match zone {
         Zone::Unsaid => None,
@@ -251,7 +251,7 @@ fn origin_of(file: &str, zone: Zone) -> Option<NameBuffer> {
     }
 }
 
-/// Whether the name of a file is to name its zone, and does not.
+/// Returns whether the name of a file should contain its zone, and does not.
 fn names_no_zone(name: &str, options: &Options) -> bool {
     matches!(options.zone, Zone::InName) && origin_of(name, options.zone).is_none()
 }
@@ -288,14 +288,15 @@ fn check_file(rt: &HostRuntime, file: &str, options: &Options) -> u8 {
     }
 }
 
-/// Whether words ask for findings of the text: else the first fault of each file is said.
+/// Returns whether the options ask for findings of the text. Otherwise only the first syntax error
+/// of each file is reported.
 fn asks_for_findings(inner: &ArgMatches) -> bool {
     let has_codes = inner.get_strs("deny").is_some() || inner.get_strs("allow").is_some();
     let has_most = inner.get_str("max").is_some() || inner.get_str("color").is_some();
     has_codes || has_most || inner.get_flag("json") || inner.get_flag("strict")
 }
 
-/// Says where files are no zone text, and returns the greatest status.
+/// Reports where files are not zone files, and returns the greatest status.
 fn run_text(rt: &HostRuntime, inner: &ArgMatches, files: &[&str]) -> io::Result<u8> {
     let mut status = 0;
     for file in files {

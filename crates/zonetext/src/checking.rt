@@ -1,4 +1,4 @@
-//! What the command `check` finds in the entries of zone files.
+//! Checks the entries of zone files, for the command `check`.
 use crate::file_lines::FileLines;
 use crate::held_zone::{
     HeldZone, Stand, StandingRecord, dname_text, is_of_absence, is_of_signed_absence, other_soa,
@@ -42,63 +42,65 @@ use zonetext_report::lint::{Block, lint};
 /// Ctrl-Z, which ended files of CP/M and DOS.
 const CONTROL_Z: u8 = 0x1A;
 
-/// What is asked of records.
+/// What is required of records.
 #[derive(Clone, Copy)]
 pub struct Limits {
-    /// The class of the zone.
+    /// Class of the zone.
     pub class: Class,
-    /// The greatest time to live, in seconds.
+    /// Greatest TTL, in seconds.
     pub max_ttl: Option<u32>,
-    /// Whether relative names stand below the root for want of an origin.
+    /// Whether the root is appended to relative names if no origin is known.
     pub assumes_root: bool,
-    /// Whether what records show together is told without a zone too.
+    /// Whether findings about several records are reported without a zone too.
     pub is_strict: bool,
-    /// Whether it is told what looks like a slip, though it is read.
+    /// Whether valid text that looks like a slip is reported.
     pub tells_slips: bool,
-    /// The times for signatures, if the zone is to be signed.
+    /// The times for signatures, if the zone must be signed.
     pub times: Option<Times>,
     /// Whether the first file is standard input, which can't be read again.
     pub is_standard: bool,
-    /// Whether the text alone is looked at. What its octets show is reported if it is denied.
+    /// Whether only the text is checked. Findings about its octets are then reported if they are
+    /// denied.
     pub is_text: bool,
 }
 
-/// What the first SOA of a file says.
+/// The first SOA of a file.
 #[derive(Drop)]
 pub struct Seen {
-    /// The name of the zone.
+    /// Name of the zone.
     pub zone: NameBuffer,
     pub serial: u32,
 }
 
-/// Finds faults in entries, and says them.
+/// Checks entries, and reports the findings.
 #[derive(Drop)]
 pub struct Checker<'a> {
     alloc: Global,
     lines: FileLines<'a>,
     pub reporter: Reporter<'a>,
     limits: Limits,
-    /// The zone whose rules are to hold.
+    /// The zone whose rules are checked.
     zone: Option<NameBuffer>,
-    /// The records, if they are held.
+    /// The records, if they are stored.
     held: Option<HeldZone>,
-    /// How many records there were.
+    /// Number of records.
     pub records: usize,
-    /// What the first SOA says.
+    /// The first SOA.
     pub seen: Option<Seen>,
-    /// The numbers of the files of which CR LF was told.
+    /// Numbers of the files for which CR LF was reported.
     crlf_files: Vec<usize>,
-    /// Whether it was told that there is no origin.
+    /// Whether it was reported that no origin is known.
     pub has_told_origin: bool,
-    /// Whether it was told that the owner that stands is none.
+    /// Whether it was reported that the last owner was rejected.
     has_told_owner: bool,
-    /// Whether a file is left unread, which is no text of octets.
+    /// Whether a file was skipped because it is UTF-16.
     is_cut: bool,
-    /// Whether records are unread: a file is not included, an origin is refused, or an entry is too long.
+    /// Whether records are unread: a file is not included, an origin is rejected, or an entry is
+    /// too long.
     has_gap: bool,
 }
 
-/// The word of a directive with which an entry begins, if it begins with one.
+/// Returns the word of a directive with which an entry begins, if it begins with one.
 fn directive_of<'e>(tokens: &[EntryToken<'e>], begins_blank: bool) -> Option<EntryToken<'e>> {
     if begins_blank {
         return None;
@@ -110,7 +112,7 @@ fn directive_of<'e>(tokens: &[EntryToken<'e>], begins_blank: bool) -> Option<Ent
     }
 }
 
-/// Whether the token of data of a type with this number, from 0 on, is a name.
+/// Returns whether the token with this index, in data of a type, is a name.
 fn is_name(rtype: RecordType, number: usize) -> bool {
     match type_row(rtype) {
         Some(row) => matches!(row.1.get(number), Some(Field::Name)),
@@ -119,7 +121,7 @@ fn is_name(rtype: RecordType, number: usize) -> bool {
 }
 
 impl<'a> Checker<'a> {
-    /// Before the first file.
+    /// Returns a checker before the first file.
     pub fn new(
         rt: &'a HostRuntime,
         reporter: Reporter<'a>,
@@ -149,12 +151,12 @@ impl<'a> Checker<'a> {
         }
     }
 
-    /// Says what has no more to say than its code.
+    /// Reports a finding that only has a code.
     pub fn tell(&mut self, spot: Spot<'_>, code: Code) -> Result<(), Stop> {
         self.reporter.tell(spot, code, false, code_text(code))
     }
 
-    /// Says a fault of the text.
+    /// Reports a syntax error of the text.
     fn tell_fault(&mut self, entry: &Entry<'_>, fault: Fault) -> Result<(), Stop> {
         let code = code_of_fault(fault.wrong);
         let text = ErrorKind::Syntax(fault.wrong).as_str();
@@ -170,8 +172,8 @@ impl<'a> Checker<'a> {
             .tell(long_at(entry), Code::MaxEntry, true, text.as_str())
     }
 
-    /// Whether a refusal is to be told: a relative name without origin is told once, and so are the
-    /// entries that take an owner that is none.
+    /// Returns whether a rejected entry is reported: a relative name without an origin is reported
+    /// once, and so are entries without an owner after a rejected one.
     fn is_news(&mut self, code: Code) -> bool {
         match code {
             Code::NoOrigin => {
@@ -188,7 +190,7 @@ impl<'a> Checker<'a> {
         }
     }
 
-    /// Says why an entry is refused.
+    /// Reports why an entry is rejected.
     fn tell_refusal(&mut self, entry: &Entry<'_>, error: &RecordError) -> Result<(), Stop> {
         let tokens = tokens_of(self.alloc, entry)?;
         let is_directive = directive_of(tokens.as_slice(), begins_blank(entry)).is_some();
@@ -213,7 +215,7 @@ impl<'a> Checker<'a> {
         )
     }
 
-    /// Says of a relative name that no origin is known, or that it ends like the origin.
+    /// Reports if no origin is known for a relative name, or if it ends like the origin.
     fn check_name(&mut self, entry: &Entry<'_>, token: &EntryToken<'_>) -> Result<(), Stop> {
         if token.is_quoted || ends_in_dot(token.text) {
             return Ok(());
@@ -238,8 +240,8 @@ impl<'a> Checker<'a> {
         Ok(())
     }
 
-    /// Whether the names of a record may show something as they are spelled. A relative name that
-    /// ends like the origin has the origin twice, unless there are escapes.
+    /// Returns whether the names of a record, as they are spelled, may have findings. A relative
+    /// name that ends like the origin has the origin twice, unless it has escapes.
     fn may_show_names(&self, entry: &Entry<'_>, scan: OctetScan) -> bool {
         let Some(origin) = entry.state.origin.name() else {
             return false;
@@ -256,7 +258,7 @@ impl<'a> Checker<'a> {
             || repeats_origin(entry.data, origin)
     }
 
-    /// Says what the names of a record show as they are spelled.
+    /// Reports findings about the names of a record, as they are spelled.
     fn check_names(
         &mut self,
         entry: &Entry<'_>,
@@ -281,7 +283,7 @@ impl<'a> Checker<'a> {
         Ok(())
     }
 
-    /// Says that the class of a record is another.
+    /// Reports if the class of a record is not that of the zone.
     fn tell_class(&mut self, entry: &Entry<'_>, tokens: &[EntryToken<'_>]) -> Result<(), Stop> {
         let words = tokens
             .get(usize::from(!begins_blank(entry))..)
@@ -293,7 +295,7 @@ impl<'a> Checker<'a> {
         self.tell(spot, Code::OtherClass)
     }
 
-    /// Stores what the first SOA says. Fails with `Damaged` if its octets are no SOA.
+    /// Stores the first SOA. Fails with `Damaged` if its octets are not an SOA.
     fn see_soa(&mut self, entry: &Entry<'_>) -> Result<(), Stop> {
         if self.seen.is_some() {
             return Ok(());
@@ -311,7 +313,7 @@ impl<'a> Checker<'a> {
         Ok(())
     }
 
-    /// Says what a record shows as a whole, at its first token.
+    /// Reports a finding about a record as a whole, at its first token.
     fn tell_record(&mut self, entry: &Entry<'_>, at: usize, code: Code) -> Result<(), Stop> {
         let tokens = tokens_of(self.alloc, entry)?;
         self.tell(spot_at(entry, tokens.as_slice(), at), code)
@@ -329,7 +331,7 @@ impl<'a> Checker<'a> {
         }
     }
 
-    /// Says what the time to live and the data of a record show, whose type begins at a place.
+    /// Reports findings about the TTL and the data of a record. `at` is the offset of its type.
     fn check_values(
         &mut self,
         entry: &Entry<'_>,
@@ -356,7 +358,7 @@ impl<'a> Checker<'a> {
         Ok(())
     }
 
-    /// Returns whether nothing is reported of a TTL.
+    /// Returns whether a TTL has no findings.
     fn is_usual_ttl(&self, ttl: RecordTtl) -> bool {
         match (ttl, self.limits.max_ttl) {
             (RecordTtl::Minimum(_), _) => false,
@@ -367,7 +369,7 @@ impl<'a> Checker<'a> {
         }
     }
 
-    /// Returns whether an entry is blank, or a record other than an SOA of which nothing is reported.
+    /// Returns whether an entry is blank, or a record other than an SOA that has no findings.
     fn shows_nothing(&self, entry: &Entry<'_>, scan: OctetScan) -> bool {
         if needs_lint(entry.octets, scan) {
             return false;
@@ -423,7 +425,8 @@ impl<'a> Checker<'a> {
         )
     }
 
-    /// Stores the RRset of a refused record, if records are held and its owner and its type are known.
+    /// Stores the RRset of a rejected record, if records are stored and its owner and its type are
+    /// known.
     fn hold_refused(&mut self, entry: &Entry<'_>, rtype: Option<RecordType>) -> Result<(), Stop> {
         match (&mut self.held, rtype, entry.state.owner()) {
             (Some(held), Some(rtype), Ok(owner)) => held.refused.add(owner.as_slice(), rtype),
@@ -431,7 +434,7 @@ impl<'a> Checker<'a> {
         }
     }
 
-    /// Says what a record shows.
+    /// Reports findings about a record.
     fn check_record(
         &mut self,
         entry: &Entry<'_>,
@@ -462,7 +465,7 @@ impl<'a> Checker<'a> {
         self.hold_record(entry, at)
     }
 
-    /// Says that a directive's name is relative, which stands at a place among its tokens.
+    /// Reports if a directive's name is relative. `number` is the index of its token.
     fn check_origin(
         &mut self,
         entry: &Entry<'_>,
@@ -478,7 +481,7 @@ impl<'a> Checker<'a> {
         }
     }
 
-    /// Says what a directive shows.
+    /// Reports findings about a directive.
     fn check_directive(&mut self, entry: &Entry<'_>) -> Result<(), Stop> {
         let tokens = tokens_of(self.alloc, entry)?;
         let tokens = tokens.as_slice();
@@ -498,7 +501,7 @@ impl<'a> Checker<'a> {
         }
     }
 
-    /// Says what the records show together, once all were read.
+    /// Reports findings about several records, once all were read.
     pub fn finish(&mut self) -> Result<(), Stop> {
         let Some(held) = self.held.take() else {
             return Ok(());
@@ -512,7 +515,7 @@ impl<'a> Checker<'a> {
         }
     }
 
-    /// Says which rules the records break, that of a zone or those of sets alone.
+    /// Reports which rules the records break: those of a zone, or only those of RRsets.
     fn check_zone<Origin: AsOctets>(
         &mut self,
         held: &HeldZone,
@@ -552,8 +555,8 @@ impl<'a> Checker<'a> {
         }
     }
 
-    /// Returns whether a broken rule is reported: without a zone those of sets alone, and what a zone lacks
-    /// only if all of its records were read.
+    /// Returns whether a broken rule is reported. Without a zone only rules of RRsets are. Missing
+    /// records are reported only if all records were read.
     fn tells_rule(&self, rule: Rule, is_zone: bool) -> bool {
         match rule {
             Rule::Duplicate | Rule::TtlDiffers => true,
@@ -561,7 +564,7 @@ impl<'a> Checker<'a> {
         }
     }
 
-    /// Reports that the records have an SOA at another name than the zone's alone.
+    /// Reports if the records have an SOA only at a name that is not the zone's.
     fn tell_other_soa<Origin: AsOctets>(
         &mut self,
         held: &HeldZone,
@@ -574,7 +577,7 @@ impl<'a> Checker<'a> {
         self.tell_at(held, code, record, text.as_str())
     }
 
-    /// Says which rules of DNSSEC the records of a zone break.
+    /// Reports which rules of DNSSEC the records of a zone break.
     fn check_signatures<Origin: AsOctets>(
         &mut self,
         held: &HeldZone,
@@ -582,7 +585,7 @@ impl<'a> Checker<'a> {
         times: Times,
         records: &SortedRecords<'_, TaggedOctets<'_, Stand>, &[u8]>,
     ) -> Result<(), Stop> {
-        // What an unread record leaves open is not reported.
+        // Findings that an unread record might explain are not reported.
         let is_whole = !self.has_gap && held.refused.is_empty();
         if !has_type(records, &view(zone), RecordType::DNSKEY) {
             return if is_whole {
@@ -602,7 +605,7 @@ impl<'a> Checker<'a> {
         Ok(())
     }
 
-    /// Says that a rule is broken, by a record or by what the zone lacks.
+    /// Reports that a rule is broken, by a record or by what is missing in the zone.
     fn tell_broken(
         &mut self,
         held: &HeldZone,
@@ -639,14 +642,14 @@ impl<'a> Checker<'a> {
             .tell(line_spot(name, position, octets), code, false, text)
     }
 
-    /// Whether a line of a file, by its number, is to be read again for a finding reported next.
+    /// Returns whether a line of a file, by its number, must be read again for the next finding.
     fn reads_line(&self, code: Code, file: usize) -> bool {
         let can_be_read = file > 0 || !self.limits.is_standard;
         can_be_read && self.reporter.shows_lines() && self.reporter.shows(code)
     }
 
-    /// Whether it is to be told that the lines of an entry's file end in CR LF: once a file, and not
-    /// where a fault cuts the entry off.
+    /// Returns whether CR LF at line ends of an entry's file is reported: once a file, and not if a
+    /// syntax error cuts the entry off.
     fn tells_crlf(&self, entry: &Entry<'_>) -> bool {
         if let Err(BlockRefusal::Text(_)) = entry.read {
             return false;
@@ -654,14 +657,15 @@ impl<'a> Checker<'a> {
         !self.crlf_files.contains(&entry.number)
     }
 
-    /// Whether it is told what octets show: of the text alone only if it is denied.
+    /// Returns whether a finding about octets is reported: if only the text is checked, it must be
+    /// denied.
     fn tells_octets(&self, code: Code) -> bool {
         !self.limits.is_text || self.reporter.denies(code)
     }
 
-    /// Returns whether a finding in the octets of an entry is reported. Of an entry that begins with Ctrl-Z
-    /// other control octets are not. A service parameter's value is adjacent to its key (RFC 9460 section
-    /// 2.1), and in the text alone types are not known.
+    /// Returns whether a finding in the octets of an entry is reported. If the entry begins with
+    /// Ctrl-Z, its other control octets are not. A service parameter's value is adjacent to its key
+    /// (RFC 9460 section 2.1), and if only the text is checked, types are not known.
     fn tells_remark(&self, entry: &Entry<'_>, code: Code, is_end: bool) -> bool {
         match code {
             Code::ControlOctet if is_end => false,
@@ -670,7 +674,7 @@ impl<'a> Checker<'a> {
         }
     }
 
-    /// Says what the octets of an entry show. Returns whether Ctrl-Z begins it.
+    /// Reports findings about the octets of an entry. Returns whether it begins with Ctrl-Z.
     fn lint(&mut self, entry: &Entry<'_>, scan: OctetScan) -> Result<bool, Stop> {
         let is_long = matches!(entry.read, Err(BlockRefusal::LongEntry));
         if is_long || !needs_lint(entry.octets, scan) {
@@ -702,7 +706,7 @@ impl<'a> Checker<'a> {
         Ok(is_end)
     }
 
-    /// Reports what an entry shows.
+    /// Reports findings about an entry.
     #[inline(never)]
     fn check_entry(&mut self, entry: &Entry<'_>, scan: OctetScan) -> Result<(), Stop> {
         let is_end = self.lint(entry, scan)?;

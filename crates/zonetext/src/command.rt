@@ -1,4 +1,4 @@
-//! The words of the program.
+//! The command line of the program.
 use crate::format::{Mode, Work};
 use crate::options::USAGE;
 use crate::{check, cut_words, files, format, zone_words};
@@ -9,10 +9,10 @@ use zonetext_lib::layout::Gap;
 use zonetext_lib::tokens::Form;
 use zonetext_lib::writer::Output;
 
-/// What is said of `--quiet`.
+/// The help text of `--quiet`.
 pub const QUIET: &str = "say nothing of how far reading has come";
 
-/// A command over any number of files.
+/// Returns a command for any number of files.
 pub fn over_files<'a>(
     alloc: Global,
     name: &'a str,
@@ -25,7 +25,7 @@ pub fn over_files<'a>(
     Command::new(alloc, name).about(about).arg(file)?.arg(quiet)
 }
 
-/// An option without a value.
+/// Returns an option without a value.
 pub fn flag<'a>(alloc: Global, name: &'a str, help: &'a str) -> Arg<'a> {
     Arg::new(alloc, name)
         .long(name)
@@ -33,7 +33,7 @@ pub fn flag<'a>(alloc: Global, name: &'a str, help: &'a str) -> Arg<'a> {
         .help(help)
 }
 
-/// An option with a value that may be given again.
+/// Returns an option with a value that may be repeated.
 pub fn values<'a>(alloc: Global, name: &'a str, value: &'a str, help: &'a str) -> Arg<'a> {
     Arg::new(alloc, name)
         .long(name)
@@ -42,7 +42,7 @@ pub fn values<'a>(alloc: Global, name: &'a str, value: &'a str, help: &'a str) -
         .help(help)
 }
 
-/// What is said of the options of the command that checks files.
+/// The help texts of the options of the command that checks files.
 const ZONE: &str = "the zone: its origin, and its rules are to hold";
 
 const ZONE_FROM_NAME: &str = "the same, by the file's name without .zone or .db";
@@ -62,7 +62,7 @@ const NOW: &str = "the time instead of now, as 20260131235959 or in seconds sinc
 
 const WHEN: [&str; 3] = ["auto", "always", "never"];
 
-/// The options of records, which do not go with a look at the text alone.
+/// The options about records, which conflict with `--text`.
 const OF_RECORDS: [&str; 9] = [
     "zone",
     "zone-from-name",
@@ -75,7 +75,7 @@ const OF_RECORDS: [&str; 9] = [
     "verbose",
 ];
 
-/// The options that say what is found.
+/// Adds the options that select findings.
 fn with_findings<'a>(alloc: Global, command: Command<'a>) -> Result<Command<'a>, AllocError> {
     command
         .arg(values(alloc, "deny", "CODE", "take a finding for an error"))?
@@ -91,7 +91,7 @@ fn with_findings<'a>(alloc: Global, command: Command<'a>) -> Result<Command<'a>,
         ))
 }
 
-/// The options for signed zones.
+/// Adds the options for signed zones.
 fn with_signatures<'a>(alloc: Global, command: Command<'a>) -> Result<Command<'a>, AllocError> {
     let within = valued(alloc, "within", "TIME", WITHIN).requires_arg("dnssec")?;
     let now = valued(alloc, "now", "TIME", NOW).requires_arg("dnssec")?;
@@ -101,7 +101,7 @@ fn with_signatures<'a>(alloc: Global, command: Command<'a>) -> Result<Command<'a
         .arg(now)
 }
 
-/// The options that say how findings are written.
+/// Adds the options that decide how findings are shown.
 fn with_forms<'a>(alloc: Global, command: Command<'a>) -> Result<Command<'a>, AllocError> {
     let most = "how many findings are written, 20 unless given, or all as JSON; 0 for all";
     let verbose = "write the zone, its serial number and how many records there are";
@@ -118,7 +118,7 @@ fn with_forms<'a>(alloc: Global, command: Command<'a>) -> Result<Command<'a>, Al
         .arg(flag(alloc, "verbose", verbose).short('v'))
 }
 
-/// The command that checks files.
+/// Returns the command that checks files.
 fn check_command<'a>(alloc: Global, name: &'a str) -> Result<Command<'a>, AllocError> {
     let zone = valued(alloc, "zone", "ORIGIN", ZONE).conflicts_with("zone-from-name")?;
     let mut text = flag(alloc, "text", "look at the text alone, not at records");
@@ -136,14 +136,14 @@ fn check_command<'a>(alloc: Global, name: &'a str) -> Result<Command<'a>, AllocE
     with_forms(alloc, with_findings(alloc, command)?)
 }
 
-/// The command that lists tokens.
+/// Returns the command that lists tokens.
 fn tokens_command<'a>(alloc: Global, name: &'a str) -> Result<Command<'a>, AllocError> {
     let about = "Write a line for each token, with its position";
     let json = flag(alloc, "json", "write a JSON object for each token");
     over_files(alloc, name, about)?.arg(json)
 }
 
-/// The command that writes files in their canonical form.
+/// Returns the command that formats files.
 fn fmt_command<'a>(alloc: Global, name: &'a str) -> Result<Command<'a>, AllocError> {
     let write = flag(alloc, "write", "replace the files by their forms").short('w');
     let check = flag(
@@ -172,7 +172,7 @@ fn fmt_command<'a>(alloc: Global, name: &'a str) -> Result<Command<'a>, AllocErr
     .arg(force)
 }
 
-/// The command that lays entries out as lines.
+/// Returns the command that prints entries as lines.
 fn lines_command<'a>(alloc: Global, name: &'a str) -> Result<Command<'a>, AllocError> {
     let tabbed = flag(alloc, "tabbed", "put tabs between tokens");
     over_files(
@@ -183,7 +183,7 @@ fn lines_command<'a>(alloc: Global, name: &'a str) -> Result<Command<'a>, AllocE
     .arg(tabbed)
 }
 
-/// An option with a value.
+/// Returns an option with a value.
 pub fn valued<'a>(alloc: Global, name: &'a str, value: &'a str, help: &'a str) -> Arg<'a> {
     Arg::new(alloc, name)
         .long(name)
@@ -192,13 +192,13 @@ pub fn valued<'a>(alloc: Global, name: &'a str, value: &'a str, help: &'a str) -
         .help(help)
 }
 
-/// The option for entries that are longer than usual.
+/// Returns the option for entries that are longer than usual.
 pub fn max_entry<'a>(alloc: Global) -> Arg<'a> {
     let help = "how many octets an entry may have, 1M unless given";
     valued(alloc, "max-entry", "SIZE", help)
 }
 
-/// A file that must be given.
+/// Returns a required file argument.
 pub fn required_file<'a>(alloc: Global, name: &'a str, help: &'a str) -> Arg<'a> {
     Arg::new(alloc, name)
         .required(true)
@@ -206,7 +206,7 @@ pub fn required_file<'a>(alloc: Global, name: &'a str, help: &'a str) -> Arg<'a>
         .help(help)
 }
 
-/// The command line.
+/// Returns the command line.
 fn command_line<'a>(alloc: Global) -> Result<Command<'a>, AllocError> {
     let mut all = Command::new(alloc, "zonetext")
         .version("0.2.0")
@@ -218,12 +218,12 @@ fn command_line<'a>(alloc: Global) -> Result<Command<'a>, AllocError> {
     Ok(all)
 }
 
-/// The words, parsed.
+/// Parses the arguments.
 fn parsed<'a>(alloc: Global, words: &'a [&'a str]) -> Result<ArgMatches<'a>, Error> {
     command_line(alloc)?.try_get_matches_from(words)
 }
 
-/// Runs what the words ask for, and returns the exit status.
+/// Runs the command of the arguments, and returns the exit status.
 pub fn run(rt: &HostRuntime, alloc: Global, words: &[&str]) -> io::Result<u8> {
     let matches = match parsed(alloc, words) {
         Ok(matches) => matches,
@@ -269,7 +269,7 @@ impl Which {
         Which::Cut,
     ];
 
-    /// The word that asks for it.
+    /// Returns its name.
     fn name<'a>(self) -> &'a str {
         match self {
             Which::Check => "check",
@@ -293,7 +293,7 @@ impl Which {
         None
     }
 
-    /// An example of its use.
+    /// Returns an example of its use.
     fn example<'a>(self) -> &'a str {
         match self {
             Which::Check => "Example: zonetext check --zone example.org. example.org.zone",
@@ -309,12 +309,12 @@ impl Which {
         }
     }
 
-    /// The words that it takes.
+    /// Returns its command-line definition.
     fn command<'a>(self, alloc: Global) -> Result<Command<'a>, AllocError> {
         Ok(self.plain_command(alloc)?.after_help(self.example()))
     }
 
-    /// The same, without the example.
+    /// Returns the same without the example.
     fn plain_command<'a>(self, alloc: Global) -> Result<Command<'a>, AllocError> {
         match self {
             Which::Check => check_command(alloc, self.name()),
@@ -346,12 +346,12 @@ impl Which {
     }
 }
 
-/// The files that are named, or standard input.
+/// Returns the files of the arguments, or standard input.
 fn names_of<'m>(inner: &'m ArgMatches) -> &'m [&'m str] {
     inner.get_strs("FILE").unwrap_or(&["-"])
 }
 
-/// Writes what is made of files, and returns the greatest status.
+/// Writes output for files, and returns the greatest status.
 fn print_files(rt: &HostRuntime, inner: &ArgMatches, output: Output) -> io::Result<u8> {
     let mut status = 0;
     for file in names_of(inner) {
@@ -367,7 +367,7 @@ fn run_tokens(rt: &HostRuntime, inner: &ArgMatches) -> io::Result<u8> {
     print_files(rt, inner, Output::Rows(form))
 }
 
-/// Lays entries out as lines.
+/// Prints entries as lines.
 fn run_lines(rt: &HostRuntime, inner: &ArgMatches) -> io::Result<u8> {
     let is_tabbed = inner.get_flag("tabbed");
     let gap = if is_tabbed { Gap::Tab } else { Gap::Space };

@@ -1,4 +1,4 @@
-//! The command `cut`: a zone file in parts that are read apart.
+//! The command `cut`: splits a zone file into parts that can be read separately.
 use crate::part_files::PartFiles;
 use crate::reading::{Outcome, Reading, TakeEntry, give_entries};
 use crate::shown::Shown;
@@ -10,18 +10,18 @@ use std::fs::metadata;
 use std::io;
 use zone_cut::{CutError, Cutter};
 
-/// What is asked for.
+/// The options of the command.
 #[derive(Clone, Copy)]
 pub struct Work<'w> {
-    /// How many parts there are at most.
+    /// Greatest number of parts.
     pub count: usize,
-    /// The parts' names up to their numbers.
+    /// The names of the parts before their numbers.
     pub prefix: &'w str,
-    /// Whether the SOA is repeated in each part behind it.
+    /// Whether the SOA is repeated in each part after it.
     pub repeats_soa: bool,
 }
 
-/// Writes the entries of a file into its parts, as they come.
+/// Writes the entries of a file into its parts.
 #[derive(Drop)]
 struct Parter<'p> {
     rt: &'p HostRuntime,
@@ -29,12 +29,12 @@ struct Parter<'p> {
     /// The lines with which a part begins.
     lines: String,
     files: PartFiles<'p>,
-    /// Whether a record was refused with which a part would begin.
+    /// Whether a record with which a part would begin was rejected.
     has_refused: bool,
 }
 
 impl<'p> Parter<'p> {
-    /// Before the first entry of a file of `octets` octets.
+    /// Returns a writer before the first entry of a file of `octets` octets.
     fn new(rt: &'p HostRuntime, octets: usize, work: Work<'p>) -> Parter<'p> {
         let alloc = rt.alloc();
         Parter {
@@ -46,7 +46,7 @@ impl<'p> Parter<'p> {
         }
     }
 
-    /// Says why no part can begin with the record of an entry.
+    /// Reports why no part can begin with the record of an entry.
     fn refuse(&mut self, entry: &Entry<'_>, error: CutError) -> Result<(), Stop> {
         self.has_refused = true;
         let (file, position) = (Shown(entry.file), entry.place().position);
@@ -55,7 +55,7 @@ impl<'p> Parter<'p> {
         Ok(())
     }
 
-    /// Takes the record of an entry.
+    /// Processes the record of an entry.
     fn take_record(&mut self, entry: &Entry<'_>, given: &RecordRef<'_>) -> Result<(), Stop> {
         match self
             .cutter
@@ -69,7 +69,7 @@ impl<'p> Parter<'p> {
         }
     }
 
-    /// Begins a part with the lines that were made for it.
+    /// Begins a part with its first lines.
     fn begin_part(&mut self) -> Result<(), Stop> {
         self.files.begin()?;
         self.files.write(self.lines.as_bytes())?;
@@ -88,7 +88,8 @@ impl TakeEntry for Parter<'_> {
     }
 }
 
-/// How many octets a regular file has; of standard input or a pipe nothing knows that beforehand.
+/// Returns the number of octets of a regular file. For standard input or a pipe it is not known
+/// beforehand.
 fn octets_of(rt: &HostRuntime, file: &str) -> io::Result<Option<usize>> {
     if file == "-" {
         return Ok(None);
@@ -108,14 +109,14 @@ fn print_names(rt: &HostRuntime, names: &[String]) -> io::Result<()> {
     Ok(())
 }
 
-/// Says that nothing is written, removes what was, and returns the status.
+/// Reports that nothing is written, removes the parts, and returns the status.
 fn leave(rt: &HostRuntime, mut files: PartFiles<'_>, status: u8) -> u8 {
     files.discard();
     let _ = eprintln!(rt; "zonetext: nothing is written");
     status
 }
 
-/// Gives all parts their names, and returns the status.
+/// Renames all parts to their names, and returns the status.
 fn finish(rt: &HostRuntime, file: &str, mut files: PartFiles<'_>) -> u8 {
     if let Err(stop) = files.commit() {
         let status = conclude(rt, file, stop);
@@ -127,7 +128,7 @@ fn finish(rt: &HostRuntime, file: &str, mut files: PartFiles<'_>) -> u8 {
     }
 }
 
-/// Gives the entries of a file to its parts, and returns the status.
+/// Writes the entries of a file to its parts, and returns the status.
 fn cut(rt: &HostRuntime, file: &str, reading: &Reading<'_>, parter: Parter<'_>) -> u8 {
     let Outcome { status, taker, .. } = give_entries(rt, &[file], reading, parter);
     let Parter {
@@ -141,8 +142,8 @@ fn cut(rt: &HostRuntime, file: &str, reading: &Reading<'_>, parter: Parter<'_>) 
     }
 }
 
-/// Cuts a file into parts, and returns the status: if an entry is refused, or a file is included,
-/// that is said, and none is written.
+/// Cuts a file into parts, and returns the status. If an entry is rejected, or a file is included,
+/// that is reported, and no part is written.
 pub fn run<'p>(rt: &'p HostRuntime, file: &str, reading: &Reading<'_>, work: Work<'p>) -> u8 {
     let octets = match octets_of(rt, file) {
         Ok(Some(octets)) => octets,

@@ -1,4 +1,4 @@
-//! The words of the command `cut`.
+//! The arguments of the command `cut`.
 use crate::command::{QUIET, flag, max_entry, required_file, valued};
 use crate::cut;
 use crate::options::{Usage, class_of, max_entry_of, status_of, zone_of};
@@ -7,7 +7,7 @@ use clap::{Arg, ArgAction, ArgMatches, Command};
 use std::alloc::{AllocError, Global};
 use std::io;
 
-/// The command that cuts a file.
+/// Returns the command that cuts a file.
 pub fn cut_command<'a>(alloc: Global, name: &'a str) -> Result<Command<'a>, AllocError> {
     let zone = "the zone: the origin at the beginning of the file";
     let output = Arg::new(alloc, "output")
@@ -30,7 +30,7 @@ pub fn cut_command<'a>(alloc: Global, name: &'a str) -> Result<Command<'a>, Allo
         .arg(flag(alloc, "quiet", QUIET))
 }
 
-/// How many parts are asked for.
+/// Returns the number of parts that is asked for.
 fn count_of<'o>(value: &'o str) -> Result<usize, Usage<'o>> {
     match value.parse::<usize>() {
         Ok(count) if count > 0 => Ok(count),
@@ -42,7 +42,7 @@ fn count_of<'o>(value: &'o str) -> Result<usize, Usage<'o>> {
     }
 }
 
-/// Cuts a file by the words.
+/// Cuts a file by the arguments.
 fn cut_by<'o>(rt: &HostRuntime, inner: &'o ArgMatches) -> Result<u8, Usage<'o>> {
     let base: Option<&'o str> = None;
     let origin = zone_of(inner)?;

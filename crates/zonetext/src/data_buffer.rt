@@ -1,4 +1,4 @@
-//! The buffer for the data of one record after another.
+//! A buffer for the data of one record after another.
 ghost use Rattle.std.specs.Prelude.{◌≡◌, ◌<◌, ◌≤◌, List, [], ℕ, length, All, IfOk, refl};
 ghost use Rattle.dns_octets.specs.Octets.{written_over};
 ghost use Rattle.dns_octets.specs.Room.{within};
@@ -8,7 +8,7 @@ use dns_data::MAX_DATA;
 use dns_octets::{AsOctets, AsOctetsMut, EmptyBuilder, OctetsBuilder, ShortBuf, Truncate};
 use std::marker::Model;
 
-/// Octets of record data: at most 65,535. The buffer is used again for each record.
+/// Octets of record data: at most 65,535. The buffer is reused for each record.
 #[derive(Drop)]
 pub struct DataBuffer<B: OctetsBuilder> {
     inner: B,
@@ -23,7 +23,7 @@ impl<B: OctetsBuilder> Model for DataBuffer<B> {
 }
 
 impl<B: OctetsBuilder> DataBuffer<B> {
-    /// Returns a buffer of no octets, with room for all that record data may have.
+    /// Returns an empty buffer with capacity for the longest record data.
     pub fn with_room(alloc: B::Alloc) -> Result<Self, ShortBuf>
     where
         B: EmptyBuilder,
@@ -59,7 +59,7 @@ impl<B: OctetsBuilder> AsOctets for DataBuffer<B> {
     }
 }
 
-/// Appends only while there are at most 65,535 octets.
+/// Appends only if the data stays within 65,535 octets.
 impl<B: OctetsBuilder> OctetsBuilder for DataBuffer<B> {
     ghost room = { within max_data B.room };
 

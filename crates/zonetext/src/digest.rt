@@ -1,4 +1,4 @@
-//! The command `digest`: whether the digests in a zone are those of its records.
+//! The command `digest`: checks whether the digests in a zone are those of its records.
 use crate::gathered::{Gathered, NumberedSet, gather};
 use crate::reading::Reading;
 use crate::shown::Shown;
@@ -12,7 +12,7 @@ use zone_set::Selection;
 /// The scheme SIMPLE.
 const SIMPLE: u8 = 1;
 
-/// The hash algorithm of a digest, if it and the scheme are known.
+/// Returns the hash algorithm of a digest, if it and the scheme are known.
 pub fn algorithm_of(zonemd: &Zonemd<'_>) -> Option<HashAlgorithm> {
     if zonemd.scheme != SIMPLE {
         return None;
@@ -20,7 +20,7 @@ pub fn algorithm_of(zonemd: &Zonemd<'_>) -> Option<HashAlgorithm> {
     HashAlgorithm::of_code(zonemd.hash)
 }
 
-/// What is said of a digest.
+/// Returns the text of a verdict.
 fn verdict_text(verdict: Verdict) -> &'static str {
     match verdict {
         Verdict::Matches => "matches",
@@ -32,32 +32,32 @@ fn verdict_text(verdict: Verdict) -> &'static str {
     }
 }
 
-/// What is asked for.
+/// The options of the command.
 #[derive(Clone, Copy)]
 pub struct Work {
-    /// Whether one digest that matches is enough (RFC 8976 section 4), whatever others do.
+    /// Whether one digest that matches is enough (RFC 8976 section 4), whatever the others are.
     pub takes_any: bool,
-    /// Whether also digests are named whose scheme or hash algorithm is not known.
+    /// Whether digests with an unknown scheme or hash algorithm are listed too.
     pub is_verbose: bool,
 }
 
-/// What became of the digests whose scheme and hash algorithm are known.
+/// The result for the digests whose scheme and hash algorithm are known.
 #[derive(Clone, Copy)]
 struct Outcome {
-    /// Whether one matches.
+    /// Whether one of them matches.
     matches: bool,
-    /// Whether one does not.
+    /// Whether one of them does not match.
     differs: bool,
 }
 
 impl Outcome {
-    /// The status: 0 if a digest matches, and all do or one is enough.
+    /// Returns the status: 0 if a digest matches, and all do or one is enough.
     fn status(self, work: Work) -> u8 {
         u8::from(!self.matches || (self.differs && !work.takes_any))
     }
 }
 
-/// What is said of a digest whose scheme or hash algorithm is not known.
+/// Returns the text for a digest whose scheme or hash algorithm is not known.
 pub fn unknown_text(zonemd: &Zonemd<'_>) -> &'static str {
     if zonemd.scheme == SIMPLE {
         "unknown hash algorithm"
@@ -66,8 +66,8 @@ pub fn unknown_text(zonemd: &Zonemd<'_>) -> &'static str {
     }
 }
 
-/// Says what became of each ZONEMD at the apex whose scheme and hash algorithm are known, and names the
-/// others if that is asked for.
+/// Reports the verdict on each ZONEMD at the apex whose scheme and hash algorithm are known, and
+/// lists the others if that is asked for.
 fn tell_verdicts(
     rt: &HostRuntime,
     file: &str,
@@ -111,7 +111,7 @@ fn tell_verdicts(
     Ok(outcome)
 }
 
-/// Says that there is no digest, or none that can be checked.
+/// Reports that the zone has no digest, or none that can be checked.
 fn tell_none(rt: &HostRuntime, file: &str, verdicts: &[Verdict]) -> io::Result<()> {
     let file = Shown(file);
     if verdicts.is_empty() {
@@ -147,8 +147,8 @@ fn check(rt: &HostRuntime, file: &str, gathered: &Gathered, work: Work) -> Resul
     Ok(outcome.status(work))
 }
 
-/// Checks the digests of the zone in a file, and returns the status: 0 if one matches, and no other of a
-/// known scheme and hash algorithm does not, unless one is enough.
+/// Checks the digests of the zone in a file, and returns the status: 0 if one matches, and all
+/// others of a known scheme and hash algorithm do too, unless one is enough.
 pub fn run(rt: &HostRuntime, file: &str, reading: &Reading<'_>, work: Work) -> u8 {
     let gathered = match gather(rt, &[file], reading, Selection::all()) {
         Ok(gathered) => gathered,

@@ -1,4 +1,4 @@
-//! Where a zone's SOA and its digests stand in their file.
+//! Finds a zone's SOA and its digests in their file.
 use crate::gathered::{Gathered, Gatherer};
 use crate::reading::{Outcome, Reading, TakeEntry, give_entries};
 use crate::spots::{tokens_of, width};
@@ -13,21 +13,22 @@ use dns_split::pieces::Span;
 use std::alloc::Global;
 use zone_set::Selection;
 
-/// A record, and where it stands in its file.
+/// A record, and its location in its file.
 #[derive(Drop)]
 pub struct Placed {
     pub record: Record<Vec<u8>, Vec<u8>>,
     /// Whether its file is included by another.
     pub is_included: bool,
-    /// Whether its owner is the origin where it is.
+    /// Whether its owner is the origin there.
     pub is_origin: bool,
-    /// Where the tokens of its data stand.
+    /// Spans of the tokens of its data.
     pub tokens: Vec<Span>,
-    /// Where its entry ends.
+    /// Offset of the end of its entry.
     pub end: usize,
 }
 
-/// Returns where the data of a record begins in its entry. Fails with `Damaged` if it is no record.
+/// Returns the offset of the data of a record in its entry. Fails with `Damaged` if it is not a
+/// record.
 fn data_place(octets: &[u8]) -> Result<usize, Stop> {
     let mut source = EntrySource::of_octets(octets);
     let Ok(Some(start)) = source.begin() else {
@@ -42,7 +43,7 @@ fn data_place(octets: &[u8]) -> Result<usize, Stop> {
     }
 }
 
-/// Where the tokens of a record's data stand in its file.
+/// Returns the spans of the tokens of a record's data in its file.
 fn data_tokens(alloc: Global, entry: &Entry<'_>) -> Result<Vec<Span>, Stop> {
     let first = data_place(entry.octets)?;
     let mut spans = Vec::new(alloc);
@@ -57,7 +58,7 @@ fn data_tokens(alloc: Global, entry: &Entry<'_>) -> Result<Vec<Span>, Stop> {
     Ok(spans)
 }
 
-/// Returns the record of an entry, and its place. Fails with `Damaged` if it is no record.
+/// Returns the record of an entry, and its location. Fails with `Damaged` if it is not a record.
 fn placed_of(alloc: Global, entry: &Entry<'_>, given: &RecordRef<'_>) -> Result<Placed, Stop> {
     let is_origin = match entry.state.origin.name() {
         Some(origin) => origin.as_slice().eq_ignore_ascii_case(given.owner),
@@ -75,7 +76,7 @@ fn placed_of(alloc: Global, entry: &Entry<'_>, given: &RecordRef<'_>) -> Result<
     })
 }
 
-/// Takes the records of a file in canonical form, and where its SOAs and digests stand.
+/// Collects the records of a file in canonical form, and the locations of its SOAs and digests.
 #[derive(Drop)]
 struct Finder {
     alloc: Global,
@@ -95,8 +96,9 @@ impl TakeEntry for Finder {
     }
 }
 
-/// The records of a file, and its SOAs and digests, in their order. If an entry is refused, that is
-/// said, and the status is returned in place of them: 1, or 3 where a file can't be read.
+/// Returns the records of a file, and its SOAs and digests, in their order. If an entry is
+/// rejected, that is reported, and the status is returned in place of them: 1, or 3 if a file can't
+/// be read.
 pub fn find(
     rt: &HostRuntime,
     file: &str,

@@ -1,4 +1,4 @@
-//! The command `digest --write`: the digests in a zone are put right, in the file itself.
+//! The command `digest --write`: corrects the digests in a zone, in the file itself.
 use crate::digest::{algorithm_of, unknown_text};
 use crate::digest_places::{Placed, find};
 use crate::format::leave;
@@ -24,23 +24,23 @@ use zonetext_lib::formatter::{Formatter, NoForm};
 use zonetext_lib::patch::{Change, PatchError, append_changed, append_stretches};
 use zonetext_lib::replace::{Batch, Incomplete, NewText, Original, Refusal};
 
-/// What is asked for.
+/// The options of the command.
 #[derive(Clone, Copy)]
 pub struct Work {
     /// The hash algorithm of a digest that is added.
     pub algorithm: HashAlgorithm,
-    /// Whether also zones with a journal beside them are changed.
+    /// Whether zones with a journal next to them are changed too.
     pub ignores_journal: bool,
 }
 
 /// Why nothing is written.
 #[derive(Drop)]
 enum Unwritten {
-    /// Entries are refused, or a file can't be read, with this status; and that was said.
+    /// Entries are rejected, or a file can't be read, with this status, and that was reported.
     Told(u8),
     NoSoa,
     NoSingleSoa,
-    /// The SOA or a digest stands in an included file.
+    /// The SOA or a digest is in an included file.
     Included { what: &'static str },
     /// The file is written, but it is not known whether its name has reached the disk.
     Unsettled(Refusal),
@@ -75,34 +75,34 @@ impl From<io::Error> for Unwritten {
 impl From<PatchError> for Unwritten {
     fn from(error: PatchError) -> Unwritten {
         match error {
-            // Its tokens stood in order when they were found.
+            // Its tokens were in order when they were found.
             PatchError::OutOfOrder => Unwritten::Refusal(Refusal::Changed),
             PatchError::OutOfMemory => Unwritten::Stop(Stop::OutOfMemory),
         }
     }
 }
 
-/// A stretch of a file, and what stands in its place then.
+/// A part of a file, and its replacement.
 #[derive(Drop)]
 struct Patch {
     span: Span,
     text: String,
 }
 
-/// What becomes of the digests in a zone.
+/// The changes to the digests in a zone.
 #[derive(Drop)]
 struct Plan<'p> {
     alloc: Global,
     /// The octets of the file.
     octets: &'p [u8],
     patches: Vec<Patch>,
-    /// What is said of each.
+    /// The report of each.
     lines: String,
     /// Whether one was added.
     is_added: bool,
 }
 
-/// Octets in hexadecimal digits.
+/// Returns octets in hexadecimal digits.
 fn hex_of(alloc: Global, octets: &[u8]) -> Result<String, Stop> {
     match encode_string(alloc, octets) {
         Ok(text) => Ok(text),
@@ -110,7 +110,7 @@ fn hex_of(alloc: Global, octets: &[u8]) -> Result<String, Stop> {
     }
 }
 
-/// The end of the last line of octets: CR LF, or LF.
+/// Returns the end of the last line of octets: CR LF, or LF.
 fn line_end(octets: &[u8]) -> &'static str {
     let front = match octets.iter().rposition(|octet| *octet == b'\n') {
         Some(place) => &octets[..place],
@@ -119,12 +119,12 @@ fn line_end(octets: &[u8]) -> &'static str {
     if front.ends_with(b"\r") { "\r\n" } else { "\n" }
 }
 
-/// Data of ZONEMD.
+/// Returns ZONEMD data.
 fn data_of(octets: &[u8]) -> Option<Data<&[u8]>> {
     Data::from_octets(RecordType::ZONEMD, octets).ok()
 }
 
-/// The data of the digest that is right for a zone.
+/// Returns the data of the digest that is right for a zone.
 fn right_of(
     alloc: Global,
     apex: &NameBuffer,
@@ -138,7 +138,7 @@ fn right_of(
     }
 }
 
-/// The serial number of the SOA of a zone.
+/// Returns the serial of the SOA of a zone.
 fn serial_at(apex: &NameBuffer, set: &NumberedSet<'_>) -> Option<u32> {
     for record in set.as_slice() {
         if record.data.rtype() == RecordType::SOA && is_apex(&record.owner, apex) {
@@ -148,7 +148,7 @@ fn serial_at(apex: &NameBuffer, set: &NumberedSet<'_>) -> Option<u32> {
     None
 }
 
-/// The form of a line.
+/// Returns a line as it is formatted.
 fn formed(alloc: Global, line: &str) -> Result<Vec<u8>, NoForm> {
     let mut formatter = Formatter::new(alloc);
     let mut form = Vec::new(alloc);
@@ -157,8 +157,8 @@ fn formed(alloc: Global, line: &str) -> Result<Vec<u8>, NoForm> {
     Ok(form)
 }
 
-/// The line of a digest that is beside an SOA, in the form that `fmt` gives it. The owner is `@` if it
-/// is the origin there.
+/// Returns the line of a digest next to an SOA, as `fmt` formats it. The owner is `@` if it is the
+/// origin there.
 fn line_of(alloc: Global, soa: &Placed, data: &[u8]) -> Result<String, Stop> {
     let full = full_line_of(alloc, soa, data)?;
     let mut line = String::new(alloc);
@@ -178,7 +178,7 @@ fn line_of(alloc: Global, soa: &Placed, data: &[u8]) -> Result<String, Stop> {
     }
 }
 
-/// The line of a digest that is beside an SOA, with its owner in full.
+/// Returns the line of a digest next to an SOA, with its owner in full.
 fn full_line_of(alloc: Global, soa: &Placed, data: &[u8]) -> Result<String, Stop> {
     let mut line = String::new(alloc);
     let of_digest = RecordRef {
@@ -193,7 +193,8 @@ fn full_line_of(alloc: Global, soa: &Placed, data: &[u8]) -> Result<String, Stop
     Ok(line)
 }
 
-/// Returns tokens of a record, of which there is one at least. Fails with `Damaged` if there is none.
+/// Returns tokens of a record, of which there is at least one. Fails with `Damaged` if there is
+/// none.
 fn some_tokens(tokens: Option<&[Span]>) -> Result<&[Span], Stop> {
     match tokens {
         Some(tokens) if !tokens.is_empty() => Ok(tokens),
@@ -202,7 +203,7 @@ fn some_tokens(tokens: Option<&[Span]>) -> Result<&[Span], Stop> {
 }
 
 impl<'p> Plan<'p> {
-    /// Nothing is done yet.
+    /// Returns a plan without changes.
     fn new(alloc: Global, octets: &'p [u8]) -> Plan<'p> {
         Plan {
             alloc,
@@ -213,13 +214,13 @@ impl<'p> Plan<'p> {
         }
     }
 
-    /// Says what becomes of a digest.
+    /// Reports what happens to a digest.
     fn tell(&mut self, zonemd: &Zonemd<'_>, what: &str) -> Result<(), AllocError> {
         let (serial, scheme, hash) = (zonemd.serial, zonemd.scheme, zonemd.hash);
         writeln!(&mut self.lines, "ZONEMD {serial} {scheme} {hash}: {what}")
     }
 
-    /// Puts one token in place of several.
+    /// Replaces tokens by one token.
     fn replace(&mut self, tokens: &[Span], mut text: String) -> Result<(), Unwritten> {
         let mut spans = Vec::new(self.alloc);
         append_stretches(self.octets, tokens, &mut spans)?;
@@ -232,7 +233,7 @@ impl<'p> Plan<'p> {
         Ok(())
     }
 
-    /// Whether tokens are data in the form for unknown types.
+    /// Returns whether tokens are data in the format for unknown types.
     fn is_generic(&self, tokens: &[Span]) -> bool {
         match tokens.first() {
             Some(span) => self.octets.get(span.start..span.end) == Some(b"\\#".as_slice()),
@@ -240,7 +241,7 @@ impl<'p> Plan<'p> {
         }
     }
 
-    /// Puts other data in place of a digest's: the tokens change that differ.
+    /// Replaces the data of a digest: only the tokens that differ are changed.
     fn change(
         &mut self,
         tokens: &[Span],
@@ -258,7 +259,7 @@ impl<'p> Plan<'p> {
         Ok(())
     }
 
-    /// Puts a digest right, if it is not.
+    /// Corrects a digest, if it is wrong.
     fn put_right(
         &mut self,
         one: &Placed,
@@ -279,7 +280,7 @@ impl<'p> Plan<'p> {
         self.write(one.tokens.as_slice(), &old, right.as_slice())
     }
 
-    /// Says that a digest stays as it is, whose scheme or hash algorithm is not known.
+    /// Reports that a digest with an unknown scheme or hash algorithm is unchanged.
     fn leave(
         &mut self,
         old: &Zonemd<'_>,
@@ -298,7 +299,7 @@ impl<'p> Plan<'p> {
         Ok(())
     }
 
-    /// Puts other data in place of a digest's, and says so.
+    /// Replaces the data of a digest, and reports that.
     fn write(&mut self, tokens: &[Span], old: &Zonemd<'_>, right: &[u8]) -> Result<(), Unwritten> {
         let Some(data) = data_of(right) else {
             return Err(Unwritten::Stop(Stop::Damaged));
@@ -316,7 +317,7 @@ impl<'p> Plan<'p> {
         Ok(())
     }
 
-    /// Puts each digest of a zone right, or adds one behind the SOA if there is none.
+    /// Corrects each digest of a zone, or adds one after the SOA if the zone has none.
     fn make(
         &mut self,
         parts: &Parts<'_>,
@@ -334,7 +335,7 @@ impl<'p> Plan<'p> {
         Ok(())
     }
 
-    /// Adds the digest that has these data, behind the SOA.
+    /// Adds a digest with this data, after the SOA.
     fn add(&mut self, soa: &Placed, right: &[u8]) -> Result<(), Unwritten> {
         let Some(data) = data_of(right) else {
             return Err(Unwritten::Stop(Stop::Damaged));
@@ -366,7 +367,7 @@ impl<'p> Plan<'p> {
     }
 }
 
-/// Whether a record stands at the apex of a zone.
+/// Returns whether a record is at the apex of a zone.
 fn is_at(one: &Placed, apex: &NameBuffer) -> bool {
     is_apex(&one.record.owner, apex)
 }
@@ -378,7 +379,7 @@ struct Parts<'f> {
     digests: Vec<&'f Placed>,
 }
 
-/// The SOA of a zone and its digests, unless one stands in an included file.
+/// Returns the SOA of a zone and its digests, unless one is in an included file.
 fn parts_of<'f>(
     alloc: Global,
     found: &'f [Placed],
@@ -423,7 +424,7 @@ fn read(rt: &HostRuntime, file: &str) -> Result<Vec<u8>, Stop> {
     }
 }
 
-/// A text with patches made.
+/// Returns a text with its patches applied.
 fn patched(alloc: Global, octets: &[u8], patches: &[Patch]) -> Result<Vec<u8>, Unwritten> {
     let mut changes = Vec::new(alloc);
     for patch in patches {
@@ -440,7 +441,7 @@ fn patched(alloc: Global, octets: &[u8], patches: &[Patch]) -> Result<Vec<u8>, U
     Ok(text)
 }
 
-/// Puts a text in the place of a file's.
+/// Replaces a file's text.
 fn put(rt: &HostRuntime, original: Original, text: &[u8]) -> Result<(), Unwritten> {
     let mut new = NewText::create(rt, rt.alloc(), original, process::id(rt.process()))?;
     if let Err(error) = new.write(text) {
@@ -462,7 +463,7 @@ fn put(rt: &HostRuntime, original: Original, text: &[u8]) -> Result<(), Unwritte
     }
 }
 
-/// Whether records are signed.
+/// Returns whether records are signed.
 fn is_signed(set: &NumberedSet<'_>) -> bool {
     for record in set.as_slice() {
         if matches!(
@@ -475,18 +476,18 @@ fn is_signed(set: &NumberedSet<'_>) -> bool {
     false
 }
 
-/// What was done.
+/// The changes that were made.
 #[derive(Drop)]
 struct Done {
-    /// What is said of each digest.
+    /// The report of each digest.
     lines: String,
     /// Whether one was added.
     is_added: bool,
-    /// Whether the file was changed, and signatures in it no longer hold.
+    /// Whether the file was changed, and signatures in it are no longer valid.
     breaks_signatures: bool,
 }
 
-/// Puts the digests of a zone right in its file.
+/// Corrects the digests of a zone in its file.
 fn write(
     rt: &HostRuntime,
     file: &str,
@@ -524,7 +525,7 @@ fn write(
     })
 }
 
-/// Says what was done, and returns the status.
+/// Reports the changes, and returns the status.
 fn tell_done(rt: &HostRuntime, file: &str, done: &Done) -> io::Result<u8> {
     let file = Shown(file);
     for line in done.lines.as_str().lines() {
@@ -541,7 +542,7 @@ fn tell_done(rt: &HostRuntime, file: &str, done: &Done) -> io::Result<u8> {
     Ok(0)
 }
 
-/// Says why nothing is written, and returns the status.
+/// Reports why nothing is written, and returns the status.
 fn refuse(rt: &HostRuntime, file: &str, why: Unwritten) -> io::Result<u8> {
     let name = Shown(file);
     let mut status = TROUBLE;
@@ -569,9 +570,9 @@ fn refuse(rt: &HostRuntime, file: &str, why: Unwritten) -> io::Result<u8> {
     Ok(status)
 }
 
-/// Puts the digests of the zone in a file right, in the file itself, and returns the status: 0 if
-/// all are right then. A digest is added if there is none. If the file can't stand alone, or an entry
-/// is refused, that is said, and nothing is written.
+/// Corrects the digests of the zone in a file, in the file itself, and returns the status: 0 if all
+/// are right then. A digest is added if the zone has none. If the SOA or a digest is in an included
+/// file, or an entry is rejected, that is reported, and nothing is written.
 pub fn run(rt: &HostRuntime, file: &str, reading: &Reading<'_>, work: Work) -> u8 {
     if file == "-" {
         let _ = eprintln!(rt;

@@ -5,26 +5,26 @@ use std::alloc::Global;
 use std::fs::File;
 use std::io::{Read, Seek, SeekFrom};
 
-/// A file that is open, with its number.
+/// An open file, with its number.
 #[derive(Drop)]
 struct Opened {
     number: usize,
     file: File,
 }
 
-/// Lines of files. Each file is read once to find where its lines begin.
+/// Lines of files. Each file is read once to find the offsets of its lines.
 #[derive(Drop)]
 pub struct FileLines<'l> {
     rt: &'l HostRuntime,
-    /// Where the lines of each file begin, and the last one ends, by the file's number; nothing until a
-    /// line of it is asked for.
+    /// For each file, by its number: offsets where its lines begin, and where the last one ends.
+    /// Empty until a line of the file is asked for.
     starts: Vec<Vec<u64>>,
-    /// The file of which a line was asked for last.
+    /// The last file of which a line was asked for.
     opened: Option<Opened>,
 }
 
-/// Returns where the lines of a file begin, and after them where the last one ends, as far as the file can
-/// be read.
+/// Returns the offsets where the lines of a file begin, and after them that of the end of the last
+/// one, as far as the file can be read.
 fn starts_of(alloc: Global, file: &File) -> Result<Vec<u64>, Stop> {
     let mut starts: Vec<u64> = Vec::new(alloc);
     starts.push(0)?;
@@ -72,7 +72,7 @@ fn line_between(alloc: Global, file: &File, start: u64, end: u64) -> Result<Opti
 }
 
 impl<'l> FileLines<'l> {
-    /// No file was read.
+    /// Returns an empty collection.
     pub fn new(rt: &'l HostRuntime) -> FileLines<'l> {
         FileLines {
             rt,
@@ -81,7 +81,7 @@ impl<'l> FileLines<'l> {
         }
     }
 
-    /// Finds where the lines of a file begin, unless that was found before.
+    /// Finds the offsets of the lines of a file, unless they are known.
     fn index(&mut self, opened: &Opened) -> Result<(), Stop> {
         for _ in self.starts.len()..opened.number.saturating_add(1) {
             self.starts.push(Vec::new(self.rt.alloc()))?;

@@ -1,4 +1,4 @@
-//! What each command does with files.
+//! Runs the commands over the text of files.
 use crate::blocks::{Ended, Printer, Take, go_through_file};
 use crate::pair::compare_files;
 use crate::progress::Progress;
@@ -13,7 +13,7 @@ use zonetext_lib::comparer::Side;
 use zonetext_lib::diff::Comparison;
 use zonetext_lib::writer::Output;
 
-/// Says where a file is no zone text, and returns the exit status.
+/// Reports where a file is not a zone file, and returns the exit status.
 pub fn report(rt: &HostRuntime, file: &str, found: Found) -> io::Result<u8> {
     let why = ErrorKind::Syntax(found.fault.wrong).as_str();
     let file = Shown(file);
@@ -28,7 +28,7 @@ pub fn report(rt: &HostRuntime, file: &str, found: Found) -> io::Result<u8> {
     Ok(1)
 }
 
-/// Says why a file was not gone through to its end, and returns the exit status.
+/// Reports why a file was not read to its end, and returns the exit status.
 fn conclude(rt: &HostRuntime, file: &str, answer: Result<(), Ended>) -> io::Result<u8> {
     match answer {
         Ok(()) => Ok(0),
@@ -46,7 +46,7 @@ fn conclude(rt: &HostRuntime, file: &str, answer: Result<(), Ended>) -> io::Resu
     }
 }
 
-/// Gives a file to what takes its blocks, and returns the exit status.
+/// Passes a file to a consumer of blocks, and returns the exit status.
 fn run<T: Take>(rt: &HostRuntime, file: &str, is_quiet: bool, taker: &mut T) -> io::Result<u8> {
     let mut progress = Progress::new(rt, file, is_quiet)?;
     let answer = go_through_file(rt, file, taker, &mut progress);
@@ -54,7 +54,8 @@ fn run<T: Take>(rt: &HostRuntime, file: &str, is_quiet: bool, taker: &mut T) -> 
     conclude(rt, file, answer)
 }
 
-/// Says where a file is no zone text, and returns the exit status. `name` is the file's name in messages.
+/// Reports where a file is not a zone file, and returns the exit status. `name` is the file's name
+/// in messages.
 pub fn check_text(rt: &HostRuntime, file: &str, name: &str, is_quiet: bool) -> io::Result<u8> {
     let mut checker = Checker::new(rt.alloc());
     let mut progress = Progress::new(rt, name, is_quiet)?;
@@ -68,7 +69,7 @@ pub fn print(rt: &HostRuntime, file: &str, is_quiet: bool, output: Output) -> io
     run(rt, file, is_quiet, &mut Printer::new(rt, output))
 }
 
-/// Says where the entries of two files differ first.
+/// Reports where the entries of two files differ first.
 pub fn compare(rt: &HostRuntime, first: &str, second: &str, is_quiet: bool) -> io::Result<u8> {
     let mut progress = Progress::new(rt, first, is_quiet)?;
     let answer = compare_files(rt, first, second, &mut progress);

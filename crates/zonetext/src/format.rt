@@ -1,4 +1,4 @@
-//! The command `fmt`: zone files in their canonical form.
+//! The command `fmt`: formats zone files.
 use crate::blocks::{Ended, Take, go_through_file, go_through_octets};
 use crate::files::report;
 use crate::formed::{Former, Looker, Shower};
@@ -14,40 +14,40 @@ use zonetext_lib::blocks::Halt;
 use zonetext_lib::formatter::NoForm;
 use zonetext_lib::replace::{Batch, Incomplete, NewText, Original, Refusal};
 
-/// What is done with the forms of files.
+/// What is done with the formatted text of files.
 #[derive(Clone, Copy, PartialEq, Eq)]
 pub enum Mode {
-    /// They go to standard output.
+    /// It is written to standard output.
     Print,
-    /// They take the place of the files.
+    /// It replaces the files.
     Write {
-        /// Also of zones with a journal beside them.
+        /// Whether zones with a journal next to them are changed too.
         ignores_journal: bool,
     },
-    /// The files that differ from them are named.
+    /// Files that would change are listed.
     Check,
-    /// What changes is shown as a unified diff.
+    /// The changes are shown as a unified diff.
     Diff,
 }
 
-/// What is to be done, and whether nothing is said of how far reading has come.
+/// The options of the command.
 #[derive(Clone, Copy)]
 pub struct Work {
     pub mode: Mode,
     pub is_quiet: bool,
 }
 
-/// The status where files would change, or are no zone text.
+/// The status if files would change, or are not zone files.
 const FOUND: u8 = 1;
 
-/// Says something of a file on standard error, and returns the status.
+/// Reports something about a file on standard error, and returns the status.
 fn say(rt: &HostRuntime, file: &str, what: &str) -> io::Result<u8> {
     let file = Shown(file);
     eprintln!(rt; "zonetext: {file}: {what}")?;
     Ok(TROUBLE)
 }
 
-/// Says at which place a file is refused, and returns the status.
+/// Reports the position where a file is rejected, and returns the status.
 fn say_at(rt: &HostRuntime, file: &str, at: Position, why: &str) -> io::Result<u8> {
     let (line, column) = (at.line, at.column);
     let file = Shown(file);
@@ -55,7 +55,7 @@ fn say_at(rt: &HostRuntime, file: &str, at: Position, why: &str) -> io::Result<u
     Ok(FOUND)
 }
 
-/// Says why a text has no form, and returns the status.
+/// Reports why a text can't be formatted, and returns the status.
 fn refuse(rt: &HostRuntime, file: &str, why: NoForm) -> io::Result<u8> {
     match why {
         NoForm::Wrong(found) => report(rt, file, found),
@@ -66,8 +66,8 @@ fn refuse(rt: &HostRuntime, file: &str, why: NoForm) -> io::Result<u8> {
     }
 }
 
-/// Says why a file was not gone through to its end, and returns the status. Whoever closed
-/// standard output needs no word of that.
+/// Reports why a file was not read to its end, and returns the status. If standard output was
+/// closed, nothing is reported.
 fn conclude(rt: &HostRuntime, file: &str, ended: Ended) -> io::Result<u8> {
     match ended {
         Ended::NoForm(why) => refuse(rt, file, why),
@@ -82,16 +82,17 @@ fn conclude(rt: &HostRuntime, file: &str, ended: Ended) -> io::Result<u8> {
     }
 }
 
-/// What is read twice: once to find out whether it has a form, and then to write it.
+/// A source that is read twice: first to find out whether it can be formatted, and then to write
+/// it.
 #[derive(Drop)]
 enum Source<'a> {
     File(&'a str),
-    /// Standard input, or a pipe, which can be read once.
+    /// The octets of standard input, or of a pipe, which can be read once.
     Held(Vec<u8>),
 }
 
 impl<'a> Source<'a> {
-    /// Opens a file; what can be read once is read to its end.
+    /// Opens a file. Standard input or a pipe is read to its end.
     fn open(rt: &HostRuntime, file: &'a str) -> io::Result<Source<'a>> {
         let mut text = Vec::new(rt.alloc());
         if file == "-" {
@@ -104,7 +105,7 @@ impl<'a> Source<'a> {
         Ok(Source::Held(text))
     }
 
-    /// Gives what is read to what takes blocks.
+    /// Passes the octets to a consumer of blocks.
     fn go_through<T: Take>(
         &self,
         rt: &HostRuntime,
@@ -127,7 +128,7 @@ impl<'a> Source<'a> {
         }
     }
 
-    /// Whether the text differs from its form.
+    /// Returns whether the text differs from its formatted text.
     fn differs(&self, rt: &HostRuntime, is_quiet: bool) -> Result<bool, Ended> {
         let mut looker = Looker::new(rt.alloc());
         self.go_through(rt, &mut looker, is_quiet)?;
@@ -143,13 +144,13 @@ fn put(rt: &HostRuntime, file: &str, octets: &[u8]) -> io::Result<u8> {
     }
 }
 
-/// A file's name in the head of a diff: one with a blank has a tab behind it.
+/// Returns a file's name for the header of a diff: a tab comes after a name with a blank.
 fn head_of(rt: &HostRuntime, file: &str) -> Result<String, AllocError> {
     let end = if file.contains(' ') { "\t" } else { "" };
     format!(in rt.alloc(); "--- {file}{end}\n+++ {file}{end}\n")
 }
 
-/// Prints a form, names a file that would change, or shows how.
+/// Prints the formatted text, lists a file that would change, or shows the changes.
 fn show(rt: &HostRuntime, file: &str, work: Work) -> io::Result<u8> {
     let source = match Source::open(rt, file) {
         Ok(source) => source,
@@ -170,7 +171,7 @@ fn show(rt: &HostRuntime, file: &str, work: Work) -> io::Result<u8> {
     }
 }
 
-/// Prints a form.
+/// Prints the formatted text.
 fn print(rt: &HostRuntime, file: &str, source: &Source, work: Work) -> io::Result<u8> {
     let mut former = Former::new(rt.alloc(), rt);
     match source.go_through(rt, &mut former, work.is_quiet) {
@@ -179,7 +180,7 @@ fn print(rt: &HostRuntime, file: &str, source: &Source, work: Work) -> io::Resul
     }
 }
 
-/// Shows what changes in a file.
+/// Shows the changes of a file.
 fn show_changes(rt: &HostRuntime, file: &str, source: &Source, work: Work) -> io::Result<u8> {
     let status = put(rt, file, head_of(rt, file)?.as_bytes())?;
     if status > 0 {
@@ -192,7 +193,7 @@ fn show_changes(rt: &HostRuntime, file: &str, source: &Source, work: Work) -> io
     }
 }
 
-/// Says why a file is left as it is, and returns the status.
+/// Reports why a file is unchanged, and returns the status.
 pub fn leave(rt: &HostRuntime, file: &str, refusal: &Refusal) -> io::Result<u8> {
     match refusal {
         Refusal::Io(error) => {
@@ -245,19 +246,19 @@ fn look<'a>(
     }
 }
 
-/// Why a new text was not written.
+/// Returns why a new text was not written.
 fn refusal_of(ended: Ended) -> Refusal {
     match ended {
         Ended::Read(error) | Ended::Write(error) => Refusal::Io(error),
         Ended::Halt(Halt::OutOfMemory) | Ended::NoForm(NoForm::OutOfMemory) => {
             Refusal::Io(io::Error::from(ErrorKind::OutOfMemory))
         }
-        // It had a form when it was looked at.
+        // It could be formatted when it was checked.
         Ended::Halt(_) | Ended::NoForm(_) => Refusal::Changed,
     }
 }
 
-/// Writes the form of a file beside it.
+/// Writes the formatted text of a file next to it.
 fn write_beside(
     rt: &HostRuntime,
     change: Change,
@@ -275,7 +276,7 @@ fn write_beside(
     }
 }
 
-/// Says which files have their form and which are left, and returns the status.
+/// Reports which files are formatted and which are unchanged, and returns the status.
 fn tell_of(rt: &HostRuntime, names: &[&str], incomplete: &Incomplete) -> io::Result<u8> {
     let mut status = TROUBLE;
     for (at, file) in names.iter().enumerate() {
@@ -293,7 +294,7 @@ fn tell_of(rt: &HostRuntime, names: &[&str], incomplete: &Incomplete) -> io::Res
     Ok(status)
 }
 
-/// Puts the forms of files in their places, all or none.
+/// Replaces files by their formatted text, all or none.
 fn replace(rt: &HostRuntime, changes: Vec<Change>, work: Work) -> io::Result<u8> {
     let mut batch = Batch::new(rt.alloc());
     let mut names = Vec::new(rt.alloc());
@@ -311,14 +312,14 @@ fn replace(rt: &HostRuntime, changes: Vec<Change>, work: Work) -> io::Result<u8>
     }
 }
 
-/// Whether a file is among those that will change already, under whatever name.
+/// Returns whether a file is one of those that will change already, under any name.
 fn is_among(changes: &[Change], change: &Change) -> bool {
     changes
         .iter()
         .any(|other| other.original.path() == change.original.path())
 }
 
-/// Writes files in place. With a fault in any of them none is changed.
+/// Formats files in place. If any of them has an error, none is changed.
 fn write(rt: &HostRuntime, files: &[&str], work: Work) -> io::Result<u8> {
     let mut changes = Vec::new(rt.alloc());
     let mut status = 0;

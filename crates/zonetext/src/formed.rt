@@ -1,4 +1,4 @@
-//! The forms of files, block by block.
+//! Formats files block by block.
 use crate::blocks::{BLOCK, Ended, Take};
 use std::alloc::Global;
 use std::fs::File;
@@ -8,7 +8,7 @@ use zonetext_lib::formatter::Formatter;
 use zonetext_lib::replace::NewText;
 use zonetext_lib::unified::Unified;
 
-/// Lets the first octets go.
+/// Drops the first octets.
 fn let_go(octets: &mut Vec<u8>, count: usize) {
     if count > octets.len() {
         return;
@@ -17,20 +17,20 @@ fn let_go(octets: &mut Vec<u8>, count: usize) {
     octets.truncate(octets.len() - count);
 }
 
-/// Finds out whether a text differs from its form.
+/// Finds out whether a text differs from its formatted text.
 #[derive(Drop)]
 pub struct Looker {
     formatter: Formatter<Global>,
-    /// What was read and not compared yet.
+    /// Text that was read and not compared yet.
     text: Vec<u8>,
-    /// What was made and not compared yet.
+    /// Formatted text that was not compared yet.
     form: Vec<u8>,
     /// Whether a difference was found.
     pub differs: bool,
 }
 
 impl Looker {
-    /// Before the first block.
+    /// Returns a comparison before the first block.
     pub fn new(alloc: Global) -> Looker {
         Looker {
             formatter: Formatter::new(alloc),
@@ -40,7 +40,7 @@ impl Looker {
         }
     }
 
-    /// Compares as much as there is of both.
+    /// Compares both as far as they are known.
     fn compare(&mut self) {
         let count = self.text.len().min(self.form.len());
         if !self.differs && self.text[..count] == self.form[..count] {
@@ -78,9 +78,9 @@ impl Take for Looker {
     }
 }
 
-/// Where a form goes.
+/// A destination of formatted text.
 pub trait Sink {
-    /// Takes octets after those that it took before.
+    /// Appends octets.
     fn put(&mut self, octets: &[u8]) -> io::Result<()>;
 }
 
@@ -96,7 +96,7 @@ impl Sink for NewText<File> {
     }
 }
 
-/// Writes the form of a text.
+/// Writes the formatted text.
 #[derive(Drop)]
 pub struct Former<S: Sink + Drop> {
     formatter: Formatter<Global>,
@@ -105,7 +105,7 @@ pub struct Former<S: Sink + Drop> {
 }
 
 impl<S: Sink + Drop> Former<S> {
-    /// Before the first block.
+    /// Returns a writer before the first block.
     pub fn new(alloc: Global, sink: S) -> Former<S> {
         Former {
             formatter: Formatter::new(alloc),
@@ -114,7 +114,7 @@ impl<S: Sink + Drop> Former<S> {
         }
     }
 
-    /// Writes what was made.
+    /// Writes the output so far.
     fn put(&mut self) -> Result<(), Ended> {
         let answer = self.sink.put(self.form.as_slice());
         self.form.truncate(0);
@@ -141,7 +141,7 @@ impl<S: Sink + Drop> Take for Former<S> {
     }
 }
 
-/// Shows what changes from a text to its form.
+/// Shows the changes from a text to its formatted text.
 #[derive(Drop)]
 pub struct Shower<'a> {
     rt: &'a HostRuntime,
@@ -152,7 +152,7 @@ pub struct Shower<'a> {
 }
 
 impl<'a> Shower<'a> {
-    /// Before the first block.
+    /// Returns a writer before the first block.
     pub fn new(rt: &'a HostRuntime) -> Shower<'a> {
         Shower {
             rt,

@@ -1,4 +1,4 @@
-//! The records of zone files in canonical form, held in memory.
+//! The records of zone files in canonical form, stored in memory.
 use crate::checking::Seen;
 use crate::held::Held;
 use crate::reading::{Outcome, Reading, TakeEntry, give_entries};
@@ -10,27 +10,27 @@ use dns_resource::{Record, append_canonical_data};
 use std::alloc::Global;
 use zone_set::{CanonicalSet, Selection, TaggedOctets};
 
-/// Records in canonical form (RFC 4034 section 6.2), each with how many came before it.
+/// Records in canonical form (RFC 4034 section 6.2), each with the number of records before it.
 #[derive(Drop)]
 pub struct Gathered {
     held: Held<usize>,
-    /// What the first SOA says, also if SOAs are left out.
+    /// The first SOA, also if SOAs are omitted.
     pub seen: Option<Seen>,
 }
 
-/// A record that knows how many came before it.
+/// A record with the number of records before it.
 pub type NumberedRecord<'h> = Record<TaggedOctets<'h, usize>, &'h [u8]>;
 
-/// Records in canonical order, each once.
+/// Records in canonical order, without duplicates.
 pub type NumberedSet<'h> = CanonicalSet<TaggedOctets<'h, usize>, &'h [u8]>;
 
 impl Gathered {
-    /// How many records there are.
+    /// Returns the number of records.
     pub fn len(&self) -> usize {
         self.held.len()
     }
 
-    /// The records in canonical order, and how many were left out because they stood there twice.
+    /// Returns the records in canonical order, and the number of duplicates that were omitted.
     pub fn set(&self) -> Result<(NumberedSet<'_>, usize), Stop> {
         match CanonicalSet::from_set(self.held.set()?) {
             Ok(made) => Ok(made),
@@ -39,7 +39,7 @@ impl Gathered {
     }
 }
 
-/// Puts records into canonical form, one by one.
+/// Converts records to canonical form, one by one.
 #[derive(Drop)]
 pub struct Lowerer {
     owner: Vec<u8>,
@@ -47,7 +47,7 @@ pub struct Lowerer {
 }
 
 impl Lowerer {
-    /// Before the first record.
+    /// Returns a converter before the first record.
     pub fn new(alloc: Global) -> Lowerer {
         Lowerer {
             owner: Vec::new(alloc),
@@ -55,7 +55,7 @@ impl Lowerer {
         }
     }
 
-    /// The canonical form of a record.
+    /// Returns the canonical form of a record.
     pub fn lower<'l>(&'l mut self, record: RecordRef<'_>) -> Result<RecordRef<'l>, Stop> {
         self.owner.truncate(0);
         self.data.truncate(0);
@@ -74,7 +74,7 @@ impl Lowerer {
     }
 }
 
-/// Takes the records of files in canonical form.
+/// Collects the records of files in canonical form.
 #[derive(Drop)]
 pub struct Gatherer<'s> {
     selection: Selection<'s>,
@@ -83,7 +83,7 @@ pub struct Gatherer<'s> {
 }
 
 impl<'s> Gatherer<'s> {
-    /// Before the first record.
+    /// Returns a collection before the first record.
     pub fn new(alloc: Global, selection: Selection<'s>) -> Gatherer<'s> {
         Gatherer {
             selection,
@@ -92,7 +92,7 @@ impl<'s> Gatherer<'s> {
         }
     }
 
-    /// The records that were taken, and what the first SOA says.
+    /// Returns the records that were collected, and the first SOA.
     pub fn gathered(self, seen: Option<Seen>) -> Gathered {
         Gathered {
             held: self.held,
@@ -115,8 +115,8 @@ impl TakeEntry for Gatherer<'_> {
     }
 }
 
-/// The records of files that are selected. If an entry is refused, that is said, and the status is
-/// returned in place of them: 1, or 3 where a file can't be read.
+/// Returns the selected records of files. If an entry is rejected, that is reported, and the status
+/// is returned in place of them: 1, or 3 if a file can't be read.
 pub fn gather(
     rt: &HostRuntime,
     files: &[&str],

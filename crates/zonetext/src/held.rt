@@ -1,4 +1,4 @@
-//! Records that are held in memory.
+//! Records that are stored in memory.
 use crate::stop::Stop;
 use dns_fields::RecordRef;
 use dns_kinds::{Class, RecordType};
@@ -7,14 +7,14 @@ use dns_wire::Name;
 use std::alloc::Global;
 use zone_set::{TaggedOctets, ZoneSet};
 
-/// Where octets stand among those that are held.
+/// The span of octets among those that are stored.
 #[derive(Clone, Copy)]
 struct Part {
     start: usize,
     end: usize,
 }
 
-/// A record, whose octets stand elsewhere.
+/// A record, whose octets are stored elsewhere.
 #[derive(Clone, Copy)]
 struct Row<Tag> {
     owner: Part,
@@ -25,7 +25,7 @@ struct Row<Tag> {
     tag: Tag,
 }
 
-/// Records, each with what is known of it besides.
+/// Records, each with a tag.
 #[derive(Drop)]
 pub struct Held<Tag: Copy> {
     alloc: Global,
@@ -33,11 +33,11 @@ pub struct Held<Tag: Copy> {
     rows: Vec<Row<Tag>>,
 }
 
-/// A set of records that are held.
+/// A set of stored records.
 pub type HeldSet<'h, Tag> = ZoneSet<TaggedOctets<'h, Tag>, &'h [u8]>;
 
 impl<Tag: Copy> Held<Tag> {
-    /// No records.
+    /// Returns an empty collection.
     pub fn new(alloc: Global) -> Held<Tag> {
         Held {
             alloc,
@@ -46,12 +46,13 @@ impl<Tag: Copy> Held<Tag> {
         }
     }
 
-    /// How many records there are.
+    /// Returns the number of records.
     pub fn len(&self) -> usize {
         self.rows.len()
     }
 
-    /// Returns the octets that stand at a place. Fails with `Damaged` if none do.
+    /// Returns the octets of a span. Fails with `Damaged` if the span is not within the stored
+    /// octets.
     fn part(&self, part: Part) -> Result<&[u8], Stop> {
         match self.octets.as_slice().get(part.start..part.end) {
             Some(octets) => Ok(octets),
@@ -77,7 +78,7 @@ impl<Tag: Copy> Held<Tag> {
         self.append(owner)
     }
 
-    /// Takes a record.
+    /// Stores a record.
     pub fn add(&mut self, record: RecordRef<'_>, tag: Tag) -> Result<(), Stop> {
         let owner = self.append_owner(record.owner)?;
         let data = self.append(record.data)?;
@@ -92,8 +93,8 @@ impl<Tag: Copy> Held<Tag> {
         Ok(())
     }
 
-    /// Returns the records, in the order in which they came. Fails with `Damaged` if an owner is no name, or
-    /// data are not those of their type.
+    /// Returns the records, in the order in which they were added. Fails with `Damaged` if an owner
+    /// is not a name, or data is not of its type.
     pub fn set(&self) -> Result<HeldSet<'_, Tag>, Stop> {
         let mut set = ZoneSet::new(self.alloc);
         for row in &self.rows {

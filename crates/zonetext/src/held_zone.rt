@@ -26,14 +26,14 @@ pub type StandingRecord<'h> = Record<TaggedOctets<'h, Stand>, &'h [u8]>;
 #[derive(Drop)]
 pub struct HeldZone {
     pub records: Held<Stand>,
-    /// The RRsets of which an entry was refused.
+    /// The RRsets with a rejected entry.
     pub refused: RefusedSets,
     /// The paths of the files, by their numbers.
     pub files: Vec<String>,
 }
 
 impl HeldZone {
-    /// No records.
+    /// Returns an empty collection.
     pub fn new(alloc: Global) -> HeldZone {
         HeldZone {
             records: Held::new(alloc),
@@ -42,7 +42,7 @@ impl HeldZone {
         }
     }
 
-    /// The path of a file, by its number.
+    /// Returns the path of a file, by its number.
     pub fn file(&self, number: usize) -> &str {
         match self.files.get(number) {
             Some(file) => file.as_str(),
@@ -62,7 +62,7 @@ fn is_other_soa(finding: &Finding, records: &[StandingRecord<'_>]) -> bool {
     }
 }
 
-/// Returns the first finding that is an SOA at another name than the zone's, if there is none at the
+/// Returns the first finding that is an SOA at another name than the zone's, if no SOA is at the
 /// zone's name: then the records are probably those of another zone.
 pub fn other_soa(found: &[Finding], records: &[StandingRecord<'_>]) -> Option<Finding> {
     let mut lacks_soa = false;
@@ -76,7 +76,7 @@ pub fn other_soa(found: &[Finding], records: &[StandingRecord<'_>]) -> Option<Fi
     if lacks_soa { other } else { None }
 }
 
-/// Returns whether a zone breaks a rule by what it lacks.
+/// Returns whether a zone breaks a rule because a record is missing.
 pub fn is_of_absence(rule: Rule) -> bool {
     match rule {
         Rule::NoSoa
@@ -90,7 +90,7 @@ pub fn is_of_absence(rule: Rule) -> bool {
     }
 }
 
-/// Returns whether a signed zone may break a rule by what it lacks.
+/// Returns whether a signed zone may break a rule because a record is missing.
 pub fn is_of_signed_absence(rule: SecurityRule) -> bool {
     match rule {
         SecurityRule::Unsigned
@@ -105,7 +105,7 @@ pub fn is_of_signed_absence(rule: SecurityRule) -> bool {
     }
 }
 
-/// Returns the text of a finding that a host is below a DNAME, with the name of that.
+/// Returns the text of a finding that a host is below a DNAME, with the name of the DNAME.
 pub fn dname_text(
     alloc: Global,
     finding: &Finding,

@@ -7,12 +7,12 @@ use std::io::Write;
 #[derive(Drop)]
 pub struct Lines<'a> {
     rt: &'a HostRuntime,
-    /// Those that were not written yet.
+    /// Lines that were not written yet.
     pub text: String,
 }
 
 impl<'a> Lines<'a> {
-    /// No lines.
+    /// Returns an empty buffer.
     pub fn new(rt: &'a HostRuntime) -> Lines<'a> {
         Lines {
             rt,

@@ -1,31 +1,32 @@
-//! Sorted runs that are read again, record by record, and merged.
+//! Reads sorted runs again, record by record, and merges them.
 use crate::run_files::{Run, RunFile, TakeRecord};
 use crate::stop::Stop;
 use dns_resource::{Record, owned_record};
 use std::alloc::Global;
 use zone_set::{Front, Fronts, take_run_record};
 
-/// More octets than a record of a run has: an owner has 255 at most, and data 65,535.
+/// An upper bound of the number of octets of a record of a run: an owner has 255 at most, and data
+/// 65,535.
 const LONGEST: usize = 66 * 1024;
 
 /// A run that is read from its file in blocks.
 #[derive(Drop)]
 struct RunReader {
     alloc: Global,
-    /// Its octets in the file that were not read.
+    /// Offset in the file of its octets that were not read.
     start: u64,
     end: u64,
-    /// How many of its records were not given.
+    /// Number of its records that were not returned yet.
     left: u64,
-    /// How many octets are read at a time.
+    /// Number of octets that are read at a time.
     block: usize,
     /// Octets that were read.
     octets: Vec<u8>,
-    /// How many of these belong to records that were given.
+    /// Number of these that belong to records that were returned.
     given: usize,
 }
 
-/// Returns a copy of a record. Fails with `Damaged` if its octets are no record.
+/// Returns a copy of a record. Fails with `Damaged` if its octets are not a record.
 fn own(alloc: Global, one: &Record<&[u8], &[u8]>) -> Result<Record<Vec<u8>, Vec<u8>>, Stop> {
     match owned_record(alloc, &one.borrowed())? {
         Some(owned) => Ok(owned),
@@ -34,7 +35,7 @@ fn own(alloc: Global, one: &Record<&[u8], &[u8]>) -> Result<Record<Vec<u8>, Vec<
 }
 
 impl RunReader {
-    /// Before the first record.
+    /// Returns a reader before the first record.
     fn new(alloc: Global, run: Run, block: usize) -> Result<RunReader, Stop> {
         Ok(RunReader {
             alloc,
@@ -47,7 +48,7 @@ impl RunReader {
         })
     }
 
-    /// Lets the octets go that were given.
+    /// Drops the octets of records that were returned.
     fn let_go(&mut self) {
         let given = self.given.min(self.octets.len());
         self.octets.rotate_left(given);
@@ -71,7 +72,7 @@ impl RunReader {
         Ok(())
     }
 
-    /// The next record, if what was read has all of it.
+    /// Returns the next record, if all of it was read.
     fn read_record(&mut self) -> Result<Option<Record<Vec<u8>, Vec<u8>>>, Stop> {
         let octets = self.octets.get(self.given..).unwrap_or(&[]);
         let Some((one, rest)) = take_run_record(octets) else {
@@ -81,7 +82,7 @@ impl RunReader {
         Ok(Some(own(self.alloc, &one)?))
     }
 
-    /// The next record. A run that ends before or behind its last record is damaged.
+    /// Returns the next record. A run that ends before or after its last record is damaged.
     fn next_record(
         &mut self,
         file: &RunFile<'_>,
@@ -117,7 +118,7 @@ struct Merger {
 }
 
 impl Merger {
-    /// Before the first record of the runs of a file.
+    /// Returns a merger before the first record of the runs of a file.
     fn new(alloc: Global, file: &RunFile<'_>, runs: &[Run], block: usize) -> Result<Merger, Stop> {
         let mut merger = Merger {
             readers: Vec::new(alloc),
@@ -130,7 +131,7 @@ impl Merger {
         Ok(merger)
     }
 
-    /// Takes in the next record of a run.
+    /// Adds the next record of a run.
     fn advance(&mut self, file: &RunFile<'_>, run: usize) -> Result<(), Stop> {
         let Some(reader) = self.readers.get_mut(run) else {
             return Err(file.damaged());
@@ -141,7 +142,7 @@ impl Merger {
         Ok(())
     }
 
-    /// The record that comes next in canonical order.
+    /// Returns the record that comes next in canonical order.
     fn next_record(
         &mut self,
         file: &RunFile<'_>,
@@ -154,8 +155,8 @@ impl Merger {
     }
 }
 
-/// Gives the records of runs in canonical order, of each owner, class, type and data the first alone,
-/// and returns how many were left out for that.
+/// Passes the records of runs in canonical order to a consumer, only the first one of each owner,
+/// class, type and data. Returns the number of duplicates that were omitted.
 pub fn merge<T: TakeRecord>(
     alloc: Global,
     file: &RunFile<'_>,

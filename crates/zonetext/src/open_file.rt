@@ -1,4 +1,4 @@
-//! A zone file that is open.
+//! An open zone file.
 use crate::blocks::read_block;
 use dns_reader::Mark;
 use dns_split::position::Position;
@@ -8,7 +8,7 @@ use std::fs::File;
 use std::io;
 use zone_format::place::{Place, advance};
 
-/// Where octets come from.
+/// The source of octets.
 #[derive(Drop)]
 pub enum Input {
     File(File),
@@ -25,39 +25,39 @@ impl Input {
     }
 }
 
-/// What stood where an included file begins.
+/// The state where an included file begins.
 #[derive(Drop)]
 pub struct Includer {
     pub mark: Mark,
     pub default_ttl: Option<u32>,
-    /// Where the entry stands that includes it.
+    /// Place of the entry that includes it.
     pub place: Place,
 }
 
-/// A zone file that is open.
+/// An open zone file.
 #[derive(Drop)]
 pub struct OpenFile {
-    /// The path under which it was opened.
+    /// The path by which it was opened.
     pub name: String,
-    /// Its path from the root on, without links; or nothing, of standard input.
+    /// Its absolute path, without links; empty for standard input.
     pub full: String,
-    /// How many files were opened before it.
+    /// Number of files that were opened before it.
     pub number: usize,
     pub input: Input,
     pub reader: BlockReader<Global>,
     /// Place up to which lines and columns are counted, at or before the next entry.
     pub place: Place,
-    /// The octets with which the file begins, until it is known whether they are a byte order mark.
+    /// The first octets of the file, until it is known whether they are a byte order mark.
     pub head: Vec<u8>,
-    /// Whether that is known.
+    /// Whether it is known if these are a byte order mark.
     pub is_begun: bool,
     /// Whether all of its octets were read.
     pub is_read: bool,
-    /// What stood where it begins, if another file includes it.
+    /// The state where it begins, if another file includes it.
     pub includer: Option<Includer>,
 }
 
-/// Where files begin.
+/// Returns the place where files begin.
 pub fn first_place() -> Place {
     Place {
         at: 0,
@@ -65,8 +65,8 @@ pub fn first_place() -> Place {
     }
 }
 
-/// The place behind octets that follow a place. Where there are more octets than can be counted, it
-/// stays.
+/// Returns the place after octets that follow a place. If there are more octets than can be
+/// counted, the place is unchanged.
 pub fn behind(from: Place, octets: &[u8]) -> Place {
     let count = octets.len();
     let line = from.position.line.checked_add(count);
@@ -80,8 +80,8 @@ pub fn behind(from: Place, octets: &[u8]) -> Place {
     }
 }
 
-/// Returns the place of an offset at or after the place `from`. Counts the octets between them, or asks
-/// the reader if these are no longer held.
+/// Returns the place of an offset at or after the place `from`. Counts the octets between them, or
+/// asks the reader if these are no longer held.
 pub fn place_from(reader: &BlockReader<Global>, from: Place, offset: usize) -> Place {
     if offset == from.at {
         return from;
@@ -100,7 +100,7 @@ pub fn place_from(reader: &BlockReader<Global>, from: Place, offset: usize) -> P
 }
 
 impl OpenFile {
-    /// A file at its beginning, of which no entry may have more octets than `max_entry`.
+    /// Returns a file at its beginning. `max_entry` is the greatest number of octets of an entry.
     pub fn new(
         alloc: Global,
         name: String,

@@ -1,4 +1,4 @@
-//! What options say.
+//! Parses the values of options.
 use crate::shown::Shown;
 use crate::stop::TROUBLE;
 use arrayvec::ArrayVec;
@@ -12,24 +12,24 @@ use std::alloc::AllocError;
 use std::io;
 use std::io::ErrorKind;
 
-/// The status of words that are no options.
+/// The status of a wrong command line.
 pub const USAGE: u8 = 2;
 
-/// Why words are no options.
+/// Why a command line is wrong.
 #[derive(Drop)]
 pub enum Usage<'o> {
-    /// This option has no such value. What it wants is said.
+    /// The option's value is not valid. The message says what is expected.
     Value {
         option: &'static str,
         value: &'o str,
         wants: &'static str,
     },
-    /// The code that this option names is of records, and the text alone is looked at.
+    /// The option names a code about records, and only the text is checked.
     OfRecords {
         option: &'static str,
         value: &'o str,
     },
-    /// Signatures are to be looked at, and no zone is said.
+    /// Signatures must be checked, and no zone is set.
     NoZone,
     /// The clock can't be read.
     Clock,
@@ -42,7 +42,7 @@ impl From<AllocError> for Usage<'_> {
     }
 }
 
-/// The name that a text spells, below the root.
+/// Parses a name, and appends the root.
 pub fn name_of(text: &str) -> Option<NameBuffer> {
     let root = Name::root_ref();
     let mut octets: ArrayVec<u8, MAX_NAME> = ArrayVec::new();
@@ -50,7 +50,7 @@ pub fn name_of(text: &str) -> Option<NameBuffer> {
     NameBuffer::from_octets(octets).ok()
 }
 
-/// The class that an option names, IN if none.
+/// Parses the class of an option, IN by default.
 pub fn class_of<'o>(text: Option<&'o str>) -> Result<Class, Usage<'o>> {
     let Some(value) = text else {
         return Ok(Class::IN);
@@ -65,7 +65,7 @@ pub fn class_of<'o>(text: Option<&'o str>) -> Result<Class, Usage<'o>> {
     }
 }
 
-/// The number that an option has, if it is given.
+/// Parses the number of an option, if it is set.
 pub fn number_of<'o>(
     text: Option<&'o str>,
     option: &'static str,
@@ -83,7 +83,7 @@ pub fn number_of<'o>(
     }
 }
 
-/// The seconds that an option says, as `86400` or `1d`, if it is given.
+/// Parses the seconds of an option, such as `86400` or `1d`, if it is set.
 pub fn seconds_of<'o>(
     text: Option<&'o str>,
     option: &'static str,
@@ -101,10 +101,10 @@ pub fn seconds_of<'o>(
     }
 }
 
-/// The least size that an option may say, in octets.
+/// The least size of an option, in octets.
 const LEAST_SIZE: usize = 64 * 1024;
 
-/// How many octets a text says, as `500000`, `64M` or `1G`; letters count by 1024.
+/// Parses a number of octets, such as `500000`, `64M` or `1G`. Letters count by 1024.
 fn octets_of(text: &str) -> Option<usize> {
     let (digits, unit) = match text.as_bytes().last() {
         Some(b'K') => (text.strip_suffix('K')?, 1 << 10),
@@ -118,7 +118,7 @@ fn octets_of(text: &str) -> Option<usize> {
     digits.parse::<usize>().ok()?.checked_mul(unit)
 }
 
-/// The size that an option says, in octets, if it is given.
+/// Parses the size of an option, in octets, if it is set.
 pub fn size_of<'o>(
     text: Option<&'o str>,
     option: &'static str,
@@ -136,13 +136,13 @@ pub fn size_of<'o>(
     }
 }
 
-/// How many octets an entry may have.
+/// Returns the greatest number of octets of an entry.
 pub fn max_entry_of<'o>(inner: &'o ArgMatches) -> Result<usize, Usage<'o>> {
     let size = size_of(inner.get_str("max-entry"), "--max-entry")?;
     Ok(size.unwrap_or(ENTRY_LIMIT))
 }
 
-/// The zone that is named, if its option is given.
+/// Returns the zone of an option, if it is set.
 pub fn zone_of<'o>(inner: &'o ArgMatches) -> Result<Option<&'o str>, Usage<'o>> {
     match inner.get_str("zone") {
         Some(value) if name_of(value).is_none() => Err(Usage::Value {
@@ -154,7 +154,7 @@ pub fn zone_of<'o>(inner: &'o ArgMatches) -> Result<Option<&'o str>, Usage<'o>> 
     }
 }
 
-/// The status that comes of options, or that of words that are none: that is said.
+/// Returns the status of a command, or that of a wrong command line, which is reported.
 pub fn status_of(rt: &HostRuntime, answer: Result<u8, Usage<'_>>) -> io::Result<u8> {
     match answer {
         Ok(status) => Ok(status),

@@ -1,4 +1,4 @@
-//! Two files that are read block by block, and compared.
+//! Reads two files block by block, and compares them.
 use crate::blocks::{BLOCK, Ended, read_block};
 use crate::progress::Progress;
 use std::alloc::Global;
@@ -9,8 +9,7 @@ use zonetext_lib::blocks::Halt;
 use zonetext_lib::comparer::{Comparer, Side};
 use zonetext_lib::diff::Comparison;
 
-/// Reads a file until so much is held of it that it is worth while to compare. Returns whether it
-/// came to its end.
+/// Reads a file until enough of it is held for a comparison. Returns whether its end was reached.
 fn fill<R: Read>(
     reader: &mut R,
     comparer: &mut Comparer<Global>,
@@ -36,8 +35,8 @@ fn fill<R: Read>(
     Err((side, Ended::Halt(Halt::TooLong)))
 }
 
-/// Compares what two readers give: reads on in each of which less than two entries are held, until
-/// both have two that differ, or are at their end.
+/// Compares two readers. Reads on in each that holds less than two entries, until both have two
+/// that differ, or are at their end.
 fn compare_readers<R: Read, S: Read>(
     rt: &HostRuntime,
     first: &mut R,

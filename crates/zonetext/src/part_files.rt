@@ -6,10 +6,10 @@ use std::fs::{File, Files, OpenFile, OpenOptions};
 use std::io;
 use std::io::{ErrorKind, Write};
 
-/// What stands behind a file's name until it is complete.
+/// The suffix of a file's name until it is complete.
 const NEW: &str = ".zonetext-new";
 
-/// How many digits a number has at least.
+/// Least number of digits of a file's number.
 const DIGITS: usize = 3;
 
 /// Files that are written one after another, under names that end in their numbers.
@@ -17,22 +17,22 @@ const DIGITS: usize = 3;
 pub struct PartFiles<'p> {
     rt: &'p HostRuntime,
     prefix: &'p str,
-    /// How many there are at most.
+    /// Greatest number of files.
     count: usize,
-    /// The names of those that were begun.
+    /// The names of the files that were begun.
     paths: Vec<String>,
-    /// The names that these have until they are complete. They are kept, so that no memory is taken to
-    /// remove the files.
+    /// The names of these until they are complete. They are kept, so that removing the files needs
+    /// no memory.
     besides: Vec<String>,
-    /// How many of them have their names.
+    /// Number of files that have their final names.
     named: usize,
-    /// The one that is written.
+    /// The file that is being written.
     open: Option<File>,
     /// Its octets that were not written yet.
     out: Vec<u8>,
 }
 
-/// Whether something has that name. A link that leads nowhere has it too.
+/// Returns whether a name is in use. A link that leads nowhere uses its name too.
 fn exists(rt: &HostRuntime, path: &str) -> io::Result<bool> {
     match rt.symlink_metadata(path) {
         Ok(_) => Ok(true),
@@ -41,7 +41,7 @@ fn exists(rt: &HostRuntime, path: &str) -> io::Result<bool> {
     }
 }
 
-/// Refuses a name that something has.
+/// Fails if a name is in use.
 fn check_free(rt: &HostRuntime, path: &str) -> io::Result<()> {
     if exists(rt, path)? {
         return Err(io::Error::from(ErrorKind::AlreadyExists));
@@ -56,7 +56,7 @@ fn create(rt: &HostRuntime, path: &str) -> io::Result<File> {
     rt.open_file(&options, path)
 }
 
-/// What is said of a file that can't be created.
+/// Returns the error of a file that can't be created.
 fn stop_at(rt: &HostRuntime, path: &str, error: io::Error) -> Stop {
     match String::from_str(rt.alloc(), path) {
         Ok(file) => Stop::Create { file, error },
@@ -64,20 +64,20 @@ fn stop_at(rt: &HostRuntime, path: &str, error: io::Error) -> Stop {
     }
 }
 
-/// A path with something behind it.
+/// Returns a path with a suffix.
 fn with_suffix(alloc: Global, path: &str, suffix: &str) -> Result<String, AllocError> {
     let mut text = String::from_str(alloc, path)?;
     text.push_str(suffix)?;
     Ok(text)
 }
 
-/// Gives a file its name, unless something has it.
+/// Renames a file to its final name, unless that is in use.
 fn give_name(rt: &HostRuntime, beside: &str, path: &str) -> io::Result<()> {
     check_free(rt, path)?;
     rt.rename(beside, path)
 }
 
-/// The folder in which a path stands.
+/// Returns the directory of a path.
 fn folder_of(path: &str) -> &str {
     match path.rsplit_once('/') {
         None => ".",
@@ -87,7 +87,7 @@ fn folder_of(path: &str) -> &str {
 }
 
 impl<'p> PartFiles<'p> {
-    /// No files yet, of `count` at most.
+    /// Returns an empty list of files, with at most `count` files.
     pub fn new(rt: &'p HostRuntime, prefix: &'p str, count: usize) -> PartFiles<'p> {
         PartFiles {
             rt,
@@ -101,12 +101,12 @@ impl<'p> PartFiles<'p> {
         }
     }
 
-    /// The names of the files.
+    /// Returns the names of the files.
     pub fn paths(&self) -> &[String] {
         self.paths.as_slice()
     }
 
-    /// The name of a file, in which each number has as many digits.
+    /// Returns the name of a file, with the same number of digits for each.
     fn path(&self, number: usize) -> Result<String, AllocError> {
         let alloc = self.rt.alloc();
         let last = self.count.saturating_sub(1).to_string(alloc)?;
@@ -128,7 +128,7 @@ impl<'p> PartFiles<'p> {
         Ok(())
     }
 
-    /// Ends the file that is written, once it has reached the disk.
+    /// Ends the current file, once it has reached the disk.
     fn finish(&mut self) -> io::Result<()> {
         self.flush()?;
         match self.open.take() {
@@ -137,7 +137,7 @@ impl<'p> PartFiles<'p> {
         }
     }
 
-    /// Ends the file before, and begins the next, beside its place.
+    /// Ends the file before, and begins the next, under its temporary name.
     pub fn begin(&mut self) -> Result<(), Stop> {
         self.finish()?;
         let path = self.path(self.paths.len())?;
@@ -150,8 +150,8 @@ impl<'p> PartFiles<'p> {
         self.create_last()
     }
 
-    /// Creates the file that has the last name. If that fails, the name is not kept: what has it is
-    /// not ours.
+    /// Creates the file with the last name. If that fails, the name is dropped, since the file of
+    /// that name is not ours.
     fn create_last(&mut self) -> Result<(), Stop> {
         let Some(beside) = self.besides.last() else {
             return Ok(());
@@ -170,7 +170,7 @@ impl<'p> PartFiles<'p> {
         }
     }
 
-    /// Appends octets to the file that is written. Before the first one they are left out.
+    /// Appends octets to the current file. Before the first file they are dropped.
     pub fn write(&mut self, octets: &[u8]) -> Result<(), Stop> {
         if self.open.is_none() {
             return Ok(());
@@ -182,7 +182,7 @@ impl<'p> PartFiles<'p> {
         Ok(())
     }
 
-    /// Gives all files their names.
+    /// Renames all files to their final names.
     pub fn commit(&mut self) -> Result<(), Stop> {
         self.finish()?;
         if self.paths.is_empty() {
@@ -201,7 +201,7 @@ impl<'p> PartFiles<'p> {
         Ok(())
     }
 
-    /// Removes all files, also those that have their names.
+    /// Removes all files, also those with their final names.
     pub fn discard(&mut self) {
         self.open = None;
         for path in self.paths.iter().take(self.named) {

@@ -1,26 +1,26 @@
-//! How far reading has come, said on a terminal.
+//! Shows on a terminal how much was read.
 use crate::shown::Shown;
 use std::io;
 use std::io::{IsTerminal, Write};
 use std::time::Instant;
 
-/// The count of seconds before which nothing is said.
+/// Number of seconds before which nothing is shown.
 const PATIENCE: u64 = 3;
 
-/// What is said of a file that takes long.
+/// The progress of a file that takes long.
 #[derive(Drop)]
 pub struct Progress<'a> {
     rt: &'a HostRuntime,
     file: &'a str,
-    /// When reading began, where it is to be said at all.
+    /// When reading began, if progress is shown at all.
     start: Option<Instant>,
     octets: u64,
-    /// The second at which it was said last.
+    /// The second at which it was shown last.
     said: u64,
 }
 
 impl<'a> Progress<'a> {
-    /// At the beginning of a file.
+    /// Returns the progress at the beginning of a file.
     pub fn new(rt: &'a HostRuntime, file: &'a str, is_quiet: bool) -> io::Result<Progress<'a>> {
         let start = if is_quiet || !rt.stderr().is_terminal() {
             None
@@ -36,7 +36,7 @@ impl<'a> Progress<'a> {
         })
     }
 
-    /// Says how much was read, once a second at most.
+    /// Shows how much was read, once a second at most.
     pub fn read(&mut self, count: usize) -> io::Result<()> {
         self.octets = self.octets.saturating_add(count as u64);
         let Some(start) = self.start else {
@@ -53,7 +53,7 @@ impl<'a> Progress<'a> {
         self.rt.stderr().flush()
     }
 
-    /// Takes away what was said.
+    /// Removes what was shown.
     pub fn clear(&self) -> io::Result<()> {
         if self.said == 0 {
             return Ok(());

@@ -1,4 +1,5 @@
-//! The entries of zone files, one by one, for the commands that write, compare, digest and cut them.
+//! Reads the entries of zone files, one by one, for the commands that write, compare, digest and
+//! cut them.
 use crate::checking::{Checker, Limits, Seen};
 use crate::options::name_of;
 use crate::reporter::{Form, Reporter};
@@ -15,7 +16,7 @@ use zone_format::place::Place;
 use zonetext_report::code::{Code, Severity};
 use zonetext_report::policy::Policy;
 
-/// How many faults are said.
+/// Greatest number of errors that are reported.
 const MOST: usize = 20;
 
 /// How files are read.
@@ -23,48 +24,48 @@ const MOST: usize = 20;
 pub struct Reading<'o> {
     /// The origin at the beginning of each file, as it is spelled.
     pub origin: Option<&'o str>,
-    /// The class of records that say none.
+    /// The class of records without one.
     pub class: Class,
-    /// Whether other classes are refused.
+    /// Whether other classes are rejected.
     pub is_one_class: bool,
     /// Whether files are included.
     pub includes: bool,
-    /// No entry may have more octets.
+    /// Greatest number of octets of an entry.
     pub max_entry: usize,
-    /// The folders, besides that of a file, of which files may be included.
+    /// The directories, besides that of a file, from which files may be included.
     pub folders: &'o [&'o str],
-    /// The folder in which relative paths of included files are looked up, if it is not that of the file
-    /// that includes them.
+    /// The directory for relative paths of included files, if it is not that of the file that
+    /// includes them.
     pub base: Option<&'o str>,
-    /// Whether the records are of one zone: the origin that is given, or the owner of the first SOA. An
-    /// SOA of another owner is refused then.
+    /// Whether the records are of one zone: that of the option, or that of the first SOA. Then an
+    /// SOA of another owner is rejected.
     pub is_one_zone: bool,
-    /// Whether nothing is said of how far reading has come.
+    /// Whether progress is not shown.
     pub is_quiet: bool,
 }
 
-/// What takes the entries of files, those too that are refused.
+/// A consumer of the entries of files, including rejected ones.
 pub trait TakeEntry {
-    /// Takes an entry.
+    /// Processes an entry.
     fn take_entry(&mut self, entry: &Entry<'_>) -> Result<(), Stop>;
 }
 
-/// Gives entries to what takes them, and says what is refused.
+/// Passes entries to a consumer, and reports rejected ones.
 #[derive(Drop)]
 struct Giver<'g, T: Drop> {
     rt: &'g HostRuntime,
     checker: Checker<'g>,
-    /// The zone that is given.
+    /// The zone of the option.
     zone: Option<NameBuffer>,
-    /// Whether SOAs of other zones are refused.
+    /// Whether SOAs of other zones are rejected.
     is_one_zone: bool,
-    /// Whether one was.
+    /// Whether one was rejected.
     has_other_soa: bool,
     taker: T,
 }
 
 impl<T: Drop> Giver<'_, T> {
-    /// The zone, if it is known: the one that is given, or that of the first SOA.
+    /// Returns the zone, if it is known: that of the option, or that of the first SOA.
     fn zone(&self) -> Option<&NameBuffer> {
         match (&self.zone, &self.checker.seen) {
             (Some(zone), _) => Some(zone),
@@ -73,7 +74,7 @@ impl<T: Drop> Giver<'_, T> {
         }
     }
 
-    /// Refuses an entry if it is an SOA of another zone. The first is reported.
+    /// Rejects an entry if it is an SOA of another zone. The first one is reported.
     fn check_soa(&mut self, entry: &Entry<'_>) -> Result<(), Stop> {
         let rt = self.rt;
         if !self.is_one_zone || self.has_other_soa {
@@ -133,7 +134,8 @@ impl<T: TakeEntry + Drop> Visit for Giver<'_, T> {
     }
 }
 
-/// The codes of what is not said here: what keeps no record from being read.
+/// Returns the codes that are not reported here: those of findings that keep no record from being
+/// read.
 fn unsaid_codes(alloc: Global, is_one_class: bool) -> Result<Vec<Code>, AllocError> {
     let mut codes = Vec::new(alloc);
     for code in &Code::ALL {
@@ -145,7 +147,7 @@ fn unsaid_codes(alloc: Global, is_one_class: bool) -> Result<Vec<Code>, AllocErr
     Ok(codes)
 }
 
-/// What stands at the beginning of each file.
+/// Returns the state at the beginning of each file.
 fn first_state(reading: &Reading<'_>) -> State {
     let state = State::new(reading.class);
     match reading.origin.and_then(name_of) {
@@ -154,8 +156,8 @@ fn first_state(reading: &Reading<'_>) -> State {
     }
 }
 
-/// Gives the entries of files, one file behind the other, and returns the status: 1 if an entry is
-/// refused, or 3 where a file can't be read.
+/// Passes the entries of files, one file after the other, to a consumer, and returns the status: 1
+/// if an entry is rejected, or 3 if a file can't be read.
 fn give_files<T: TakeEntry + Drop>(
     rt: &HostRuntime,
     files: &[&str],
@@ -188,20 +190,20 @@ fn give_files<T: TakeEntry + Drop>(
     found.max(u8::from(giver.has_other_soa)).max(status)
 }
 
-/// What became of files.
+/// The result of reading files.
 #[derive(Drop)]
 pub struct Outcome<T: Drop> {
-    /// 0 if all was read, 1 if an entry is refused, 3 where a file can't be read or something can't
+    /// 0 if all was read, 1 if an entry is rejected, 3 if a file can't be read or something can't
     /// be written.
     pub status: u8,
-    /// What the first SOA says.
+    /// The first SOA.
     pub seen: Option<Seen>,
-    /// What took the records.
+    /// The consumer of the records.
     pub taker: T,
 }
 
-/// Says that there is no origin, if relative names were refused for that, and returns what became of
-/// files.
+/// Reports that no origin is known, if relative names were rejected for that, and returns the
+/// result.
 fn finish<T: TakeEntry + Drop>(rt: &HostRuntime, giver: Giver<'_, T>, status: u8) -> Outcome<T> {
     let Giver { checker, taker, .. } = giver;
     if checker.has_told_origin {
@@ -214,7 +216,8 @@ fn finish<T: TakeEntry + Drop>(rt: &HostRuntime, giver: Giver<'_, T>, status: u8
     }
 }
 
-/// Gives the entries of files to what takes them, one file behind the other. What is refused is said.
+/// Passes the entries of files to a consumer, one file after the other. Rejected entries are
+/// reported.
 pub fn give_entries<T: TakeEntry + Drop>(
     rt: &HostRuntime,
     files: &[&str],

@@ -1,4 +1,4 @@
-//! The command `records`: each record of zone files in full.
+//! The command `records`: writes each record of zone files in full.
 use crate::lines::Lines;
 use crate::reading::{Reading, TakeEntry, give_entries};
 use crate::stop::{Stop, conclude};

@@ -1,4 +1,4 @@
-//! What is said of refused entries.
+//! The messages about rejected entries.
 use dns_data::field_text;
 use dns_fields::RecordError;
 use dns_heads::{class_word, type_word};
@@ -7,7 +7,8 @@ use dns_split::entry_tokens::EntryToken;
 use std::alloc::{AllocError, Global};
 use zonetext_report::code::Code;
 
-/// Why an entry is refused. Its octets lack room alone where they are more than record data has.
+/// Returns why an entry is rejected. Its octets don't fit only if they exceed the limit of record
+/// data.
 fn reason_of(kind: ErrorKind) -> &'static str {
     match kind {
         ErrorKind::ShortBuf => "data above 65535 octets",
@@ -15,12 +16,12 @@ fn reason_of(kind: ErrorKind) -> &'static str {
     }
 }
 
-/// The field of the data of a type that is refused, by its name.
+/// Returns the name of the field that is rejected, in the data of a type.
 fn refused_field(error: &RecordError, rtype: RecordType) -> Option<&'static str> {
     field_text(rtype, error.field?)
 }
 
-/// What is said of a refused entry.
+/// Returns the message about a rejected entry.
 pub fn refusal_text(alloc: Global, error: &RecordError, code: Code) -> Result<String, AllocError> {
     let why = reason_of(error.kind);
     match error.rtype {
@@ -33,12 +34,13 @@ pub fn refusal_text(alloc: Global, error: &RecordError, code: Code) -> Result<St
     }
 }
 
-/// Returns whether a token may be before the type of a record: a class, or a word that begins with a digit.
+/// Returns whether a token may come before the type of a record: a class, or a word that begins
+/// with a digit.
 fn may_precede_type(token: &EntryToken<'_>) -> bool {
     matches!(token.text.first(), Some(b'0'..=b'9')) || class_word(token).is_some()
 }
 
-/// Returns the type of a refused record, if it can be read.
+/// Returns the type of a rejected record, if it can be read.
 pub fn refused_type(
     error: &RecordError,
     tokens: &[EntryToken<'_>],

@@ -1,4 +1,4 @@
-//! The RRsets of which an entry was refused.
+//! The RRsets with a rejected entry.
 use crate::stop::Stop;
 use dns_kinds::RecordType;
 use dns_wire::Name;
@@ -13,17 +13,17 @@ struct Row {
     rtype: RecordType,
 }
 
-/// The RRsets of which an entry was refused. They are in the zone, and their data are not known.
+/// The RRsets with a rejected entry. They are in the zone, and their data is not known.
 #[derive(Drop)]
 pub struct RefusedSets {
     alloc: Global,
-    /// The owners in wire format, one after the other.
+    /// The owners in wire format, one after another.
     octets: Vec<u8>,
     rows: Vec<Row>,
 }
 
 impl RefusedSets {
-    /// No RRsets.
+    /// Returns an empty list.
     pub fn new(alloc: Global) -> RefusedSets {
         RefusedSets {
             alloc,
@@ -32,7 +32,7 @@ impl RefusedSets {
         }
     }
 
-    /// Returns whether there are none.
+    /// Returns whether the list is empty.
     pub fn is_empty(&self) -> bool {
         self.rows.is_empty()
     }

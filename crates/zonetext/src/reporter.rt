@@ -1,4 +1,4 @@
-//! What is said of findings.
+//! Reports findings.
 use crate::stop::Stop;
 use dns_split::position::Position;
 use std::io::Write;
@@ -9,7 +9,7 @@ use zonetext_report::json::push_json;
 use zonetext_report::policy::Policy;
 use zonetext_report::tally::Tally;
 
-/// How findings are said.
+/// How findings are shown.
 #[derive(Clone, Copy, PartialEq, Eq)]
 pub enum Form {
     /// As lines on standard error.
@@ -22,18 +22,18 @@ pub enum Form {
     Json,
 }
 
-/// Where something was found: from a column on to before another.
+/// The span of a finding: from a column on to before another.
 #[derive(Clone, Copy)]
 pub struct Spot<'s> {
     pub file: &'s str,
     pub position: Position,
     pub end_column: usize,
     pub opened: Option<Position>,
-    /// The line of the file, without its end, if it is at hand.
+    /// The line of the file, without its end, if it is known.
     pub line: Option<&'s [u8]>,
 }
 
-/// Says what was found, and counts it.
+/// Reports findings, and counts them.
 #[derive(Drop)]
 pub struct Reporter<'a> {
     rt: &'a HostRuntime,
@@ -44,7 +44,8 @@ pub struct Reporter<'a> {
 }
 
 impl<'a> Reporter<'a> {
-    /// Before the first finding, of which at most `most` are said; 0 is for all.
+    /// Returns a reporter before the first finding, which shows at most `most` findings; 0 means
+    /// all.
     pub fn new(rt: &'a HostRuntime, policy: Policy<'a>, form: Form, most: usize) -> Reporter<'a> {
         Reporter {
             rt,
@@ -66,8 +67,8 @@ impl<'a> Reporter<'a> {
         Ok(())
     }
 
-    /// Says that something was found, and counts it. What keeps a record from being read is an error,
-    /// and is not left out.
+    /// Reports a finding, and counts it. A finding that keeps a record from being read is an error,
+    /// and is not omitted.
     pub fn tell(
         &mut self,
         spot: Spot<'_>,
@@ -107,7 +108,7 @@ impl<'a> Reporter<'a> {
         self.write()
     }
 
-    /// Whether lines of files are shown.
+    /// Returns whether lines of files are shown.
     pub fn shows_lines(&self) -> bool {
         matches!(
             self.form,
@@ -118,18 +119,18 @@ impl<'a> Reporter<'a> {
         )
     }
 
-    /// Whether a finding is an error because of what was asked for.
+    /// Returns whether a finding is an error because of the options.
     pub fn denies(&self, code: Code) -> bool {
         self.policy.is_strict || self.policy.denied.contains(&code)
     }
 
-    /// Whether the next finding is shown, and keeps no record from being read.
+    /// Returns whether the next finding is shown, and keeps no record from being read.
     pub fn shows(&self, code: Code) -> bool {
         self.tally.has_room() && self.policy.severity(code, false).is_some()
     }
 
-    /// Says how much was found, unless it was nothing. Beside JSON that is said only if something is not
-    /// shown.
+    /// Reports the number of findings, unless it is 0. With JSON it is reported only if a finding
+    /// is not shown.
     pub fn summarize(&mut self) -> Result<(), Stop> {
         if self.form == Form::Json && self.tally.hidden() == 0 {
             return Ok(());

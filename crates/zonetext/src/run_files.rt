@@ -1,4 +1,4 @@
-//! Sorted runs of records in a file that has no name.
+//! Sorted runs of records in a file without a name.
 use crate::blocks::BLOCK;
 use crate::stop::Stop;
 use dns_octets::AsOctets;
@@ -10,54 +10,54 @@ use std::os::unix::fs::{DirBuilderExt, FileExt, OpenOptionsExt};
 use std::{env, io, process};
 use zone_set::push_run_record;
 
-/// Who may enter a folder: its owner alone.
+/// The permissions of a directory: only its owner may enter it.
 const FOLDER_MODE: u32 = 0o700;
 
-/// Who may read and write a file: its owner alone.
+/// The permissions of a file: only its owner may read and write it.
 const FILE_MODE: u32 = 0o600;
 
-/// How many names are tried for a folder.
+/// Number of names that are tried for a directory.
 const TRIES: usize = 1000;
 
-/// What takes records, one by one.
+/// A consumer of records, one by one.
 pub trait TakeRecord {
-    /// Takes a record.
+    /// Processes a record.
     fn take_record<Owner: AsOctets, Octets: AsOctets>(
         &mut self,
         one: &Record<Owner, Octets>,
     ) -> Result<(), Stop>;
 }
 
-/// Where a sorted run of records stands in a file.
+/// The location of a sorted run of records in a file.
 #[derive(Clone, Copy)]
 pub struct Run {
     pub start: u64,
     pub end: u64,
-    /// How many records there are.
+    /// Number of records.
     pub count: u64,
 }
 
-/// A file of sorted runs, one behind the other. It has no name, and so is gone once it is closed, also
-/// if the program is killed.
+/// A file of sorted runs, one after another. It has no name, and so is removed once it is closed,
+/// even if the program is killed.
 #[derive(Drop)]
 pub struct RunFile<'r> {
     rt: &'r HostRuntime,
     file: File,
-    /// The folder of the file, for messages.
+    /// The directory of the file, for messages.
     folder: String,
-    /// How many octets are in the file.
+    /// Number of octets in the file.
     len: u64,
     /// Octets that are not in the file yet.
     out: Vec<u8>,
     /// The runs that have ended.
     runs: Vec<Run>,
-    /// Where the run begins that is written.
+    /// Offset of the run that is being written.
     start: u64,
-    /// How many records it has.
+    /// Number of its records.
     count: u64,
 }
 
-/// Makes a folder that only the user can enter, below another, and returns its path.
+/// Creates a directory that only the user can enter, below another, and returns its path.
 fn make_folder(rt: &HostRuntime, parent: &str) -> io::Result<String> {
     let id = process::id(rt.process());
     let mut builder = DirBuilder::new();
@@ -73,7 +73,7 @@ fn make_folder(rt: &HostRuntime, parent: &str) -> io::Result<String> {
     Err(io::Error::from(ErrorKind::AlreadyExists))
 }
 
-/// Creates a file, and takes its name away.
+/// Creates a file, and removes its name.
 fn create_in(rt: &HostRuntime, folder: &str) -> io::Result<File> {
     let path = format!(in rt.alloc(); "{folder}/runs")?;
     let mut options = OpenOptions::new();
@@ -87,7 +87,8 @@ fn create_in(rt: &HostRuntime, folder: &str) -> io::Result<File> {
     Ok(file)
 }
 
-/// Creates a file without a name, in a folder of its own below another, which is removed at once.
+/// Creates a file without a name, in a directory of its own below another, which is removed at
+/// once.
 fn create_nameless(rt: &HostRuntime, parent: &str) -> io::Result<File> {
     let folder = make_folder(rt, parent)?;
     let created = create_in(rt, folder.as_str());
@@ -97,7 +98,7 @@ fn create_nameless(rt: &HostRuntime, parent: &str) -> io::Result<File> {
     Ok(file)
 }
 
-/// What is said of runs that can't be written, or read again.
+/// Returns the error of runs that can't be written, or read again.
 fn stop_in(rt: &HostRuntime, folder: &str, error: io::Error) -> Stop {
     if error.kind() == ErrorKind::OutOfMemory {
         return Stop::OutOfMemory;
@@ -109,7 +110,7 @@ fn stop_in(rt: &HostRuntime, folder: &str, error: io::Error) -> Stop {
 }
 
 impl<'r> RunFile<'r> {
-    /// A file without runs, below the folder for files that don't stay.
+    /// Returns a file without runs, below the directory for temporary files.
     pub fn create(rt: &'r HostRuntime) -> Result<RunFile<'r>, Stop> {
         let folder = match env::temp_dir(rt) {
             Ok(folder) => folder.into_string(),
@@ -130,17 +131,17 @@ impl<'r> RunFile<'r> {
         }
     }
 
-    /// The runs that have ended.
+    /// Returns the runs that have ended.
     pub fn runs(&self) -> &[Run] {
         self.runs.as_slice()
     }
 
-    /// What is said of runs that can't be written, or read again.
+    /// Returns the error of runs that can't be written, or read again.
     fn stop(&self, error: io::Error) -> Stop {
         stop_in(self.rt, self.folder.as_str(), error)
     }
 
-    /// What is said of runs that are not what was written.
+    /// Returns the error of runs that differ from those that were written.
     pub fn damaged(&self) -> Stop {
         self.stop(io::Error::from(ErrorKind::InvalidData))
     }
@@ -155,7 +156,7 @@ impl<'r> RunFile<'r> {
         Ok(())
     }
 
-    /// Ends the run that is written.
+    /// Ends the current run.
     pub fn end_run(&mut self) -> Result<(), Stop> {
         self.flush()?;
         self.runs.push(Run {

@@ -6,16 +6,16 @@ use std::simd::prelude::*;
 /// Number of octets of one load.
 const LANES: usize = 16;
 
-/// What the octets of an entry contain.
+/// Properties of the octets of an entry.
 #[derive(Clone, Copy)]
 pub struct OctetScan {
     /// Whether each octet is plain.
     pub is_plain: bool,
-    /// Whether there is an opening parenthesis.
+    /// Whether one of them is an opening parenthesis.
     pub has_parenthesis: bool,
-    /// Whether there is a double quote.
+    /// Whether one of them is a double quote.
     pub has_quote: bool,
-    /// Whether there is a backslash.
+    /// Whether one of them is a backslash.
     pub has_backslash: bool,
 }
 
@@ -51,7 +51,7 @@ fn has_class(found: u8x16, wanted: u8) -> bool {
         .any()
 }
 
-/// Says which of `(`, `"` and the backslash octets contain, of which `is_plain` is known.
+/// Returns which of `(`, `"` and the backslash octets contain. `is_plain` is known of them.
 #[inline(never)]
 fn scan_marks(octets: &[u8], is_plain: bool) -> OctetScan {
     OctetScan {
@@ -138,8 +138,8 @@ fn touches(octet: Option<&u8>) -> bool {
     matches!(octet, Some(octet) if !separates(*octet))
 }
 
-/// Returns whether a quoted string of an entry without escapes may be adjacent to another token. Returns
-/// `true` if a comment begins, whose quotes are none.
+/// Returns whether a quoted string of an entry without escapes may be adjacent to another token.
+/// Returns `true` if a comment begins, whose quotes don't count.
 fn may_be_adjacent(octets: &[u8]) -> bool {
     let mut rest = octets;
     for _ in 0..octets.len() {
@@ -206,7 +206,7 @@ pub fn repeats_origin(octets: &[u8], origin: &[u8]) -> bool {
     if octets.len() < labels.len() || octets.len() - labels.len() < origin.len() {
         return false;
     }
-    // Later there is no room for both.
+    // After this offset both don't fit.
     let last = octets.len() - labels.len() - origin.len();
     let starts = &octets[..=last];
     let mut start = find_octet(starts, *first, 0);

@@ -1,15 +1,15 @@
 //! Names of files, and other words of the command line, as they are shown in messages.
 use std::fmt;
 
-/// A word in a message. Its control octets are escaped, as `\010`, so that it steers no terminal and the
-/// message is one line.
+/// A word in a message. Its control octets are escaped, as `\010`, so that it can't control a
+/// terminal and the message is one line.
 #[derive(Clone, Copy)]
 pub struct Shown<'s>(pub &'s str);
 
 /// The first octet, in UTF-8, of a control character from U+0080 on. The second is its number.
 const LEAD: u32 = 0xC2;
 
-/// Whether the number is that of a control character.
+/// Returns whether a number is that of a control character.
 fn is_control(code: u32) -> bool {
     code < 0x20 || (0x7F..=0x9F).contains(&code)
 }

@@ -1,4 +1,4 @@
-//! What the data of records show.
+//! Finds data of records that looks like a slip.
 use crate::zone_files::Entry;
 use dns_kinds::RecordType;
 use dns_reader::EntryRead;
@@ -45,8 +45,8 @@ fn has_value(parameters: &[u8]) -> bool {
     false
 }
 
-/// Returns whether data of SVCB or HTTPS give the key `ohttp` a value, which it must not have (RFC 9540
-/// section 4).
+/// Returns whether data of SVCB or HTTPS has the key `ohttp` with a value, which it must not have
+/// (RFC 9540 section 4).
 fn has_ohttp_value(rtype: RecordType, data: &[u8]) -> bool {
     match data {
         [_, _, rest @ ..] if has_parameters(rtype) => has_value(after_name(rest)),
@@ -63,7 +63,7 @@ pub fn is_of_parameters(entry: &Entry<'_>) -> bool {
     }
 }
 
-/// Returns what the data of a type show.
+/// Returns the finding about data of a type, if there is one.
 pub fn slip_of(rtype: RecordType, data: &[u8]) -> Option<Code> {
     if has_empty_target(rtype, data) {
         Some(Code::EmptyUri)

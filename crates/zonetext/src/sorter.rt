@@ -1,4 +1,4 @@
-//! Records that are put into canonical order, in memory and, what doesn't fit, in runs on disk.
+//! Sorts records into canonical order, in memory and, if they don't fit, in runs on disk.
 use crate::merging::merge;
 use crate::run_files::{RunFile, TakeRecord};
 use crate::stop::Stop;
@@ -6,41 +6,41 @@ use dns_resource::Record;
 use std::alloc::Global;
 use zone_set::{CanonicalSet, ZoneSet, push_run_record, take_run_record};
 
-/// How many octets a record takes while it is sorted, besides its own.
+/// Number of octets that a record needs while it is sorted, besides its own.
 const INDEX: usize = 128;
 
-/// How many runs are merged at a time.
+/// Number of runs that are merged at a time.
 const WIDTH: usize = 64;
 
-/// How often runs are merged at most, to be few enough: that is never reached.
+/// Greatest number of passes that merge runs to fewer, which is never reached.
 const PASSES: usize = 64;
 
-/// The least and the most octets of a run that are read at a time.
+/// Least and greatest number of octets of a run that are read at a time.
 const LEAST_BLOCK: usize = 4 * 1024;
 
 const MOST_BLOCK: usize = 256 * 1024;
 
-/// Records that are put into canonical order.
+/// Records that are sorted into canonical order.
 #[derive(Drop)]
 pub struct Sorter<'s> {
     rt: &'s HostRuntime,
-    /// How many octets of memory are used at most.
+    /// Greatest number of octets of memory.
     size: usize,
     /// The records that are in memory, as octets of a run.
     octets: Vec<u8>,
-    /// How many these are.
+    /// Number of these records.
     count: usize,
     /// The others, in runs.
     file: Option<RunFile<'s>>,
-    /// How many were left out because they stood there twice.
+    /// Number of duplicates that were omitted.
     duplicates: u64,
 }
 
-/// Records over octets that stand elsewhere, in canonical order.
+/// Records over octets that are stored elsewhere, in canonical order.
 type LentSet<'l> = CanonicalSet<&'l [u8], &'l [u8]>;
 
-/// The records of octets of a run in canonical order, and how many were left out because they stood
-/// there twice; and nothing where the octets are no such records.
+/// Returns the records of octets of a run in canonical order, and the number of duplicates that
+/// were omitted; or nothing if the octets are not such records.
 fn sorted<'l>(
     alloc: Global,
     octets: &'l [u8],
@@ -64,7 +64,7 @@ fn sorted<'l>(
     }
 }
 
-/// Gives records in their order.
+/// Passes records in their order to a consumer.
 fn give<T: TakeRecord>(set: &LentSet<'_>, taker: &mut T) -> Result<(), Stop> {
     for one in set.as_slice() {
         taker.take_record(one)?;
@@ -73,7 +73,7 @@ fn give<T: TakeRecord>(set: &LentSet<'_>, taker: &mut T) -> Result<(), Stop> {
 }
 
 impl<'s> Sorter<'s> {
-    /// No records, in `size` octets of memory.
+    /// Returns an empty sorter, with `size` octets of memory.
     pub fn new(rt: &'s HostRuntime, size: usize) -> Sorter<'s> {
         Sorter {
             rt,
@@ -85,14 +85,14 @@ impl<'s> Sorter<'s> {
         }
     }
 
-    /// Whether `more` octets more are too many.
+    /// Returns whether `more` octets more don't fit.
     fn is_full(&self, more: usize) -> bool {
         let octets = self.octets.len().saturating_add(more);
         let index = self.count.saturating_add(1).saturating_mul(INDEX);
         octets > self.size / 2 || octets.saturating_add(index) > self.size
     }
 
-    /// Takes a record.
+    /// Adds a record.
     pub fn add(&mut self, one: &Record<&[u8], &[u8]>) -> Result<(), Stop> {
         let more = one
             .owner
@@ -110,7 +110,8 @@ impl<'s> Sorter<'s> {
         Ok(())
     }
 
-    /// Gives the records in memory in canonical order, of duplicates the first, and forgets them.
+    /// Passes the records in memory to a consumer in canonical order, only the first of duplicates,
+    /// and drops them.
     fn give_held<T: TakeRecord>(&mut self, taker: &mut T) -> Result<(), Stop> {
         let Some((set, duplicates)) = sorted(self.rt.alloc(), self.octets.as_slice(), self.count)?
         else {
@@ -135,7 +136,7 @@ impl<'s> Sorter<'s> {
         Ok(())
     }
 
-    /// How many octets of a run are read at a time.
+    /// Returns the number of octets of a run that are read at a time.
     fn block(&self) -> usize {
         (self.size / WIDTH / 4).clamp(LEAST_BLOCK, MOST_BLOCK)
     }
@@ -151,8 +152,8 @@ impl<'s> Sorter<'s> {
         Ok(next)
     }
 
-    /// Gives all records in canonical order, of each owner, class, type and data the first alone, and
-    /// returns how many were left out for that.
+    /// Passes all records to a consumer in canonical order, only the first one of each owner,
+    /// class, type and data. Returns the number of duplicates that were omitted.
     pub fn finish<T: TakeRecord>(mut self, taker: &mut T) -> Result<u64, Stop> {
         if self.file.is_none() {
             self.give_held(taker)?;

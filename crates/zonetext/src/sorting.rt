@@ -1,4 +1,4 @@
-//! The records of zone files in canonical order, whose memory is bounded.
+//! The records of zone files in canonical order, with bounded memory.
 use crate::gathered::Lowerer;
 use crate::reading::{Outcome, Reading, TakeEntry, give_entries};
 use crate::run_files::TakeRecord;
@@ -9,10 +9,10 @@ use dns_kinds::RecordType;
 use dns_resource::record_of;
 use zone_set::Selection;
 
-/// SOAs take this part of memory.
+/// The fraction of memory for SOAs.
 const SOA_PART: usize = 8;
 
-/// The records of files, SOAs apart from all others.
+/// The records of files, SOAs separate from all others.
 #[derive(Drop)]
 pub struct Sorting<'s> {
     selection: Selection<'s>,
@@ -22,7 +22,7 @@ pub struct Sorting<'s> {
 }
 
 impl<'s> Sorting<'s> {
-    /// Before the first record, in `size` octets of memory.
+    /// Returns a collection before the first record, with `size` octets of memory.
     fn new(rt: &'s HostRuntime, selection: Selection<'s>, size: usize) -> Sorting<'s> {
         let soas = size / SOA_PART;
         Sorting {
@@ -33,8 +33,8 @@ impl<'s> Sorting<'s> {
         }
     }
 
-    /// Gives the records in canonical order, the SOAs first, of each owner, class, type and data the
-    /// first alone, and returns how many were left out for that.
+    /// Passes the records to a consumer in canonical order, the SOAs first, only the first one of
+    /// each owner, class, type and data. Returns the number of duplicates that were omitted.
     pub fn finish<T: TakeRecord>(self, taker: &mut T) -> Result<u64, Stop> {
         let Sorting { soas, others, .. } = self;
         let duplicates = soas.finish(taker)?;
@@ -62,9 +62,9 @@ impl TakeEntry for Sorting<'_> {
     }
 }
 
-/// The records of files that are selected, in `size` octets of memory. If an entry is refused, that is
-/// said, and the status is returned in place of them: 1, or 3 where a file can't be read or a run can't
-/// be written.
+/// Collects the selected records of files, with `size` octets of memory. If an entry is rejected,
+/// that is reported, and the status is returned in place of them: 1, or 3 if a file can't be read
+/// or a run can't be written.
 pub fn gather_sorting<'s>(
     rt: &'s HostRuntime,
     files: &[&str],

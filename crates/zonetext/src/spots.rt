@@ -1,4 +1,4 @@
-//! Where in an entry something was found.
+//! The locations of findings in an entry.
 ghost use Rattle.std.specs.Prelude.{◌≤◌, length};
 
 use crate::open_file::behind;
@@ -11,7 +11,7 @@ use dns_split::pieces::{Fault, Wrong};
 use dns_split::position::Position;
 use std::alloc::{AllocError, Global};
 
-/// Returns how many tokens of a record are before its data: those up to its type.
+/// Returns the number of tokens of a record before its data: those up to its type.
 pub fn data_start(tokens: &[EntryToken<'_>], is_blank: bool) -> usize {
     let first = usize::from(!is_blank);
     let words = tokens.get(first..).unwrap_or(&[]);
@@ -21,12 +21,12 @@ pub fn data_start(tokens: &[EntryToken<'_>], is_blank: bool) -> usize {
     }
 }
 
-/// Whether an entry begins with a blank.
+/// Returns whether an entry begins with a blank.
 pub fn begins_blank(entry: &Entry<'_>) -> bool {
     matches!(entry.octets.first(), Some(b' ' | b'\t'))
 }
 
-/// A column of a line, with the line.
+/// Returns a column of a line, with the line.
 pub fn line_spot<'s>(file: &'s str, position: Position, line: Option<&'s [u8]>) -> Spot<'s> {
     Spot {
         file,
@@ -37,7 +37,7 @@ pub fn line_spot<'s>(file: &'s str, position: Position, line: Option<&'s [u8]>) 
     }
 }
 
-/// The tokens of an entry, or those before its fault.
+/// Returns the tokens of an entry, or those before its syntax error.
 pub fn tokens_of<'e>(alloc: Global, entry: &Entry<'e>) -> Result<Vec<EntryToken<'e>>, AllocError> {
     let mut tokens = Vec::new(alloc);
     match EntryTokens::of_octets(entry.octets).next_entry(&mut tokens) {
@@ -46,13 +46,14 @@ pub fn tokens_of<'e>(alloc: Global, entry: &Entry<'e>) -> Result<Vec<EntryToken<
     }
 }
 
-/// How many octets a token has, with its double quotes.
+/// Returns the number of octets of a token, with its double quotes.
 pub fn width(token: &EntryToken<'_>) -> usize {
     let quotes = if token.is_quoted { 2 } else { 0 };
     token.text.len().saturating_add(quotes)
 }
 
-/// The place and the width of the token that begins at a place, or the place behind the last.
+/// Returns the offset and the width of the token that begins at an offset, or the offset after the
+/// last token.
 fn token_from(tokens: &[EntryToken<'_>], at: usize) -> (usize, usize) {
     let mut behind = 0;
     for token in tokens {
@@ -64,13 +65,13 @@ fn token_from(tokens: &[EntryToken<'_>], at: usize) -> (usize, usize) {
     (behind, 1)
 }
 
-/// The position of a place of an entry, which is counted from the entry's beginning.
+/// Returns the position of an offset of an entry, which is counted from the entry's beginning.
 pub fn position_at(entry: &Entry<'_>, at: usize) -> Position {
     let count = at.min(entry.held.len());
     behind(entry.place(), &entry.held[..count]).position
 }
 
-/// Where the line begins on which a place of octets stands.
+/// Returns the offset where the line of an offset begins.
 fn line_start(octets: &[u8], at: usize) -> usize
     ensures { result ≤ length octets.now }
 {
@@ -81,7 +82,7 @@ fn line_start(octets: &[u8], at: usize) -> usize
     }
 }
 
-/// The line on which a place of octets stands, without its end.
+/// Returns the line of an offset, without its end.
 fn line_at(octets: &[u8], at: usize) -> &[u8] {
     let rest = &octets[line_start(octets, at)..];
     let line = match rest.iter().position(|octet| *octet == b'\n') {
@@ -91,7 +92,8 @@ fn line_at(octets: &[u8], at: usize) -> &[u8] {
     line.strip_suffix(b"\r").unwrap_or(line)
 }
 
-/// A place of an entry, which is counted from the entry's beginning, and `width` octets from there.
+/// Returns the location of `width` octets from an offset of an entry on, which is counted from the
+/// entry's beginning.
 fn spot<'e>(entry: &Entry<'e>, at: usize, width: usize) -> Spot<'e> {
     let position = position_at(entry, at);
     let end = position_at(entry, at.saturating_add(width));
@@ -109,30 +111,31 @@ fn spot<'e>(entry: &Entry<'e>, at: usize, width: usize) -> Spot<'e> {
     }
 }
 
-/// Where an entry begins.
+/// Returns the location of an entry's beginning.
 pub fn beginning<'e>(entry: &Entry<'e>) -> Spot<'e> {
     spot(entry, 0, 1)
 }
 
-/// The token of an entry that begins at a place of the file; or, where none does, as at the entry's
-/// end, the place behind its last token.
+/// Returns the location of the token of an entry that begins at an offset of the file. If no token
+/// does, as at the entry's end, it is the location after its last token.
 pub fn spot_at<'e>(entry: &Entry<'e>, tokens: &[EntryToken<'_>], at: usize) -> Spot<'e> {
     let at = at.saturating_sub(entry.offset);
     let (at, width) = token_from(tokens, at);
     spot(entry, at, width)
 }
 
-/// An octet of an entry, at a place of the file.
+/// Returns the location of an octet of an entry, at an offset of the file.
 pub fn octet_at<'e>(entry: &Entry<'e>, at: usize) -> Spot<'e> {
     spot(entry, at.saturating_sub(entry.offset), 1)
 }
 
-/// A token of an entry.
+/// Returns the location of a token of an entry.
 pub fn token_at<'e>(entry: &Entry<'e>, token: &EntryToken<'_>) -> Spot<'e> {
     spot(entry, token.at, width(token))
 }
 
-/// Where that was opened which is left open at a fault of an entry.
+/// Returns the position where a quote or parenthesis was opened, if a syntax error of an entry is
+/// that it is left open.
 fn opened_at(entry: &Entry<'_>, wrong: Wrong) -> Option<Position> {
     let at = match wrong {
         Wrong::OpenQuote(at) => at.saturating_sub(entry.offset),
@@ -142,15 +145,15 @@ fn opened_at(entry: &Entry<'_>, wrong: Wrong) -> Option<Position> {
     Some(position_at(entry, at))
 }
 
-/// A fault of an entry, at a place of the file.
+/// Returns the location of a syntax error of an entry.
 pub fn fault_at<'e>(entry: &Entry<'e>, fault: Fault) -> Spot<'e> {
     let opened = opened_at(entry, fault.wrong);
     let spot = octet_at(entry, fault.at);
     Spot { opened, ..spot }
 }
 
-/// The beginning of an entry that is too long, and the outermost parenthesis that is open after as many
-/// octets as an entry may have.
+/// Returns the location of the beginning of an entry that is too long, and of the outermost
+/// parenthesis that is open where the entry exceeds the limit.
 pub fn long_at<'e>(entry: &Entry<'e>) -> Spot<'e> {
     let count = entry.reader.limit().min(entry.octets.len());
     let opened = match outermost_open_of_octets(&entry.octets[..count]) {

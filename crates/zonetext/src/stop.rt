@@ -1,27 +1,27 @@
-//! Why reading and writing do not continue.
+//! Why reading or writing stops.
 use crate::shown::Shown;
 use dns_zonefile::AddError;
 use std::alloc::{AllocError, AllocFailed};
 use std::io;
 use std::io::ErrorKind;
 
-/// The status where something could not be read or written.
+/// The status if something could not be read or written.
 pub const TROUBLE: u8 = 3;
 
-/// Why the entries of files do not continue.
+/// Why reading the entries of files stops.
 #[derive(Drop)]
 pub enum Stop {
     /// A file can't be read.
     Read { file: String, error: io::Error },
-    /// Standard output, standard error, or a file takes no more.
+    /// Standard output, standard error, or a file can't be written.
     Write(io::Error),
-    /// A file can't be created, as one that is there already.
+    /// A file can't be created, for example because it exists.
     Create { file: String, error: io::Error },
     /// Sorted runs can't be written below a folder, or read again.
     Runs { folder: String, error: io::Error },
-    /// A record in memory has no owner, or its octets are no record: which can't happen.
+    /// A record in memory has no owner, or its octets are not a record. This can't happen.
     Damaged,
-    /// There is no more memory.
+    /// Memory is out.
     OutOfMemory,
     /// A file has more octets than can be counted.
     TooLong,
@@ -58,8 +58,8 @@ impl From<io::Error> for Stop {
     }
 }
 
-/// Says that something could not be read or written, and returns the status. Whoever closed the
-/// output needs no word of that.
+/// Reports that something could not be read or written, and returns the status. If the output was
+/// closed, nothing is reported.
 pub fn conclude(rt: &HostRuntime, file: &str, stop: Stop) -> u8 {
     let name = Shown(file);
     let _ = match stop {

@@ -1,11 +1,11 @@
-//! The times at which signatures are looked at.
+//! The times with which signatures are compared.
 use crate::options::{Usage, seconds_of};
 use clap::ArgMatches;
 use dns_kinds::Date;
 use std::time::{SystemTime, UNIX_EPOCH};
 use zone_dnssec::Times;
 
-/// The seconds since 1970, modulo 2^32.
+/// Returns the seconds since 1970, modulo 2^32.
 fn seconds_now<'o>(rt: &HostRuntime) -> Result<u32, Usage<'o>> {
     let Ok(now) = SystemTime::now(rt) else {
         return Err(Usage::Clock);
@@ -16,7 +16,7 @@ fn seconds_now<'o>(rt: &HostRuntime) -> Result<u32, Usage<'o>> {
     }
 }
 
-/// The instant that an option says: the present one, if none.
+/// Returns the instant of an option: by default the present one.
 fn instant_of<'o>(rt: &HostRuntime, text: Option<&'o str>) -> Result<u32, Usage<'o>> {
     let Some(value) = text else {
         return seconds_now(rt);
@@ -31,7 +31,7 @@ fn instant_of<'o>(rt: &HostRuntime, text: Option<&'o str>) -> Result<u32, Usage<
     }
 }
 
-/// The times for signatures, if they are to be looked at, which wants a zone.
+/// Returns the times for signatures, if they are checked, which requires a zone.
 pub fn times_of<'o>(
     rt: &HostRuntime,
     inner: &'o ArgMatches,

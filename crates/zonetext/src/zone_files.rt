@@ -1,4 +1,4 @@
-//! Zone files and those that they include, entry by entry.
+//! Reads zone files and the files that they include, entry by entry.
 use crate::blocks::BLOCK;
 use crate::data_buffer::DataBuffer;
 use crate::open_file::{Includer, Input, OpenFile, behind, place_from};
@@ -16,18 +16,18 @@ use std::{io, mem};
 use zone_format::place::Place;
 use zonetext_report::lint::order_mark_len;
 
-/// How many files may be open that others include.
+/// Greatest number of open files that others include.
 const MOST_INCLUDED: usize = 10;
 
-/// How many files may be included in all. A file that is included again counts again.
+/// Greatest number of included files in all. A file that is included again counts again.
 const MOST_FILES: usize = 10_000;
 
 /// An entry of a file, and what was read of it.
 #[derive(Drop)]
 pub struct Entry<'e> {
-    /// The file, by the path under which it was opened.
+    /// The path by which the file was opened.
     pub file: &'e str,
-    /// How many files were opened before it.
+    /// Number of files that were opened before it.
     pub number: usize,
     /// Offset of its first octet.
     pub offset: usize,
@@ -35,7 +35,8 @@ pub struct Entry<'e> {
     counted: Place,
     /// Octets of the file that are held, from its first octet on.
     pub held: &'e [u8],
-    /// Its octets. A fault of the text ends them; of an entry that is too long they are what was read.
+    /// Its octets. A syntax error of the text ends them. If the entry is too long they are those
+    /// that were read.
     pub octets: &'e [u8],
     pub reader: &'e BlockReader<Global>,
     /// Whether it is the last of its file.
@@ -43,7 +44,7 @@ pub struct Entry<'e> {
     pub read: &'e Result<EntryRead, BlockRefusal>,
     /// The octets of a record's data; or of an included file's name, with those of its origin.
     pub data: &'e [u8],
-    /// What the entries so far say, this one too.
+    /// The state after this entry.
     pub state: &'e State,
 }
 
@@ -53,7 +54,7 @@ impl<'e> Entry<'e> {
         place_from(self.reader, self.counted, self.offset)
     }
 
-    /// Returns the record that was read of it, if it is one. Fails with `Damaged` if no owner is known of
+    /// Returns the record of the entry, if it is one. Fails with `Damaged` if no owner is known for
     /// a record.
     pub fn record(&self) -> Result<Option<RecordRef<'e>>, Stop> {
         let Ok(read) = self.read else {
@@ -67,58 +68,58 @@ impl<'e> Entry<'e> {
     }
 }
 
-/// What takes the entries of files.
+/// A visitor of the entries of files.
 pub trait Visit {
-    /// Takes a file that begins with the octets of a byte order mark, and how many files were
-    /// opened before it.
+    /// Reports a file that begins with the octets of a byte order mark, and the number of files
+    /// that were opened before it.
     fn begin(&mut self, file: &str, number: usize, mark: &[u8]) -> Result<(), Stop>;
 
     /// Returns whether an entry needs neither a report nor its position.
     fn is_quiet(&self, entry: &Entry<'_>) -> bool;
 
-    /// Takes an entry of which [`Visit::is_quiet`] returned `true`.
+    /// Processes an entry for which [`Visit::is_quiet`] returned `true`.
     fn take_quiet(&mut self, entry: &Entry<'_>) -> Result<(), Stop>;
 
-    /// Takes another entry.
+    /// Processes another entry.
     fn take(&mut self, entry: &Entry<'_>) -> Result<(), Stop>;
 
-    /// Takes that the file is not included which an entry names, and why.
+    /// Reports that the file that an entry names is not included, and why.
     fn refuse(&mut self, entry: &Entry<'_>, why: &str) -> Result<(), Stop>;
 
-    /// Takes that the `$TTL` of a file stays in force which the entry at a place includes.
+    /// Reports that the `$TTL` of the file that the entry at a place includes stays in effect.
     fn keep_ttl(&mut self, file: &str, place: Place) -> Result<(), Stop>;
 }
 
-/// Zone files that are open, and what their entries so far say.
+/// Open zone files, and the state after their entries so far.
 #[derive(Drop)]
 struct ZoneFiles<'a> {
     rt: &'a HostRuntime,
     /// Whether files are included.
     includes: bool,
-    /// No entry may have more octets.
+    /// Greatest number of octets of an entry.
     max_entry: usize,
-    /// The folders of which files may be included, by their paths from the root on, without links.
+    /// The directories from which files may be included, by their absolute paths, without links.
     folders: Vec<String>,
-    /// The folder in which relative paths of included files are looked up, if it is not that of the file
-    /// that includes them.
+    /// The directory for relative paths of included files, if it is not that of the file that
+    /// includes them.
     base: Option<String>,
-    /// Those that are open, each but the first included by the one before it.
+    /// The open files, each but the first included by the one before it.
     files: Vec<OpenFile>,
     state: State,
-    /// How many were opened.
+    /// Number of files that were opened.
     count: usize,
-    /// Whether a file was refused because too many were included before it.
+    /// Whether a file was rejected because too many were included before it.
     is_full: bool,
     data: DataBuffer<Vec<u8>>,
     block: Vec<u8>,
 }
 
-/// The path of a file from the root on, without links.
+/// Returns the absolute path of a file, without links.
 fn full_path(rt: &HostRuntime, path: &str) -> io::Result<String> {
     Ok(canonicalize(rt, path)?.into_string())
 }
 
-/// The reason to stop at a file or a folder that can't be read.
+/// Returns the error of a file or a directory that can't be read.
 fn unread(alloc: Global, path: &str, error: io::Error) -> Stop {
     match String::from_str(alloc, path) {
         Ok(file) => Stop::Read { file, error },
@@ -126,7 +127,7 @@ fn unread(alloc: Global, path: &str, error: io::Error) -> Stop {
     }
 }
 
-/// The path of a folder from the root on, without links.
+/// Returns the absolute path of a directory, without links.
 fn full_folder(rt: &HostRuntime, folder: &str) -> Result<String, Stop> {
     match full_path(rt, folder) {
         Ok(full) => Ok(full),
@@ -134,8 +135,9 @@ fn full_folder(rt: &HostRuntime, folder: &str) -> Result<String, Stop> {
     }
 }
 
-/// Adds the folders of the first file, from the root on: the one that its path names, and the one of its
-/// real path. Standard input and pipes have no real path, and the folder in which the program runs instead.
+/// Adds the directories of the first file, by their absolute paths: the one in its path, and the
+/// one of its real path. Standard input and pipes have no real path, and the working directory is
+/// used instead.
 fn add_folders(rt: &HostRuntime, file: &OpenFile, folders: &mut Vec<String>) -> Result<(), Stop> {
     let named = match Path::new(file.name.as_str()).parent() {
         Some(folder) => String::from_str(rt.alloc(), folder.to_string_lossy())?,
@@ -193,7 +195,7 @@ impl From<AllocError> for Unfit {
 }
 
 impl Unfit {
-    /// What is said of it.
+    /// Returns the text of the error.
     fn text(&self, alloc: Global) -> Result<String, AllocError> {
         match self {
             Unfit::Told(why) => String::from_str(alloc, why),
@@ -204,7 +206,7 @@ impl Unfit {
 }
 
 impl<'a> ZoneFiles<'a> {
-    /// A file that is opened, `-` for standard input.
+    /// Opens a file, `-` for standard input.
     fn open<'f>(
         rt: &'a HostRuntime,
         file: &'f str,
@@ -245,7 +247,7 @@ impl<'a> ZoneFiles<'a> {
         })
     }
 
-    /// Gives all entries.
+    /// Passes all entries to a visitor.
     fn go_through<V: Visit>(
         &mut self,
         visitor: &mut V,
@@ -260,8 +262,8 @@ impl<'a> ZoneFiles<'a> {
         Err(Stop::TooLong)
     }
 
-    /// Goes a step on in the file that was opened last: gives its entries as far as they were read, or
-    /// up to one that includes a file; then reads a block, or closes it.
+    /// Reads the next part of the file that was opened last: passes its entries as far as they were
+    /// read, or up to one that includes a file; then reads a block, or closes it.
     fn step<V: Visit>(
         &mut self,
         mut file: OpenFile,
@@ -305,7 +307,7 @@ impl<'a> ZoneFiles<'a> {
         Ok(())
     }
 
-    /// Reads a block, and returns how many octets it has. At the end of the file it has none.
+    /// Reads a block, and returns the number of its octets. It is 0 at the end of the file.
     fn fill(&mut self, file: &mut OpenFile, progress: &mut Progress) -> Result<usize, Stop> {
         match file.input.read(self.rt, self.block.as_mut_slice()) {
             Ok(0) => {
@@ -323,7 +325,7 @@ impl<'a> ZoneFiles<'a> {
         }
     }
 
-    /// The first `count` octets of the block that was read last, or all of it.
+    /// Returns the first `count` octets of the block that was read last, or all of it.
     fn read_octets(&self, count: usize) -> &[u8] {
         let block = self.block.as_slice();
         &block[..count.min(block.len())]
@@ -346,7 +348,7 @@ impl<'a> ZoneFiles<'a> {
         let count = order_mark_len(head).min(head.len());
         visitor.begin(file.name.as_str(), file.number, &head[..count])?;
         if count == 2 {
-            // UTF-16 is no zone text at all.
+            // A file in UTF-16 is not a zone file at all.
             return self.close(file, visitor);
         }
         file.place = behind(file.place, &head[..count]);
@@ -357,7 +359,7 @@ impl<'a> ZoneFiles<'a> {
         self.add_head(file, count)
     }
 
-    /// Gives the reader what was read to know the beginning, behind the byte order mark.
+    /// Adds the octets that were read at the beginning to the reader, after the byte order mark.
     fn add_head(&mut self, mut file: OpenFile, count: usize) -> Result<(), Stop> {
         let head = mem::replace(&mut file.head, Vec::new(self.rt.alloc()));
         file.is_begun = true;
@@ -396,7 +398,7 @@ impl<'a> ZoneFiles<'a> {
         }
     }
 
-    /// Gives an entry that includes no file.
+    /// Passes an entry that includes no file to a visitor.
     fn give<V: Visit>(
         &mut self,
         file: &mut OpenFile,
@@ -410,8 +412,8 @@ impl<'a> ZoneFiles<'a> {
         self.give_counted(file, read, visitor)
     }
 
-    /// Gives an entry, up to which lines and columns are counted. Fails with `Damaged` if its octets are
-    /// not held.
+    /// Passes an entry to a visitor. Lines and columns are counted up to it. Fails with `Damaged`
+    /// if its octets are not held.
     #[inline(never)]
     fn give_counted<V: Visit>(
         &self,
@@ -427,14 +429,15 @@ impl<'a> ZoneFiles<'a> {
         visitor.take(&self.entry(file, read))
     }
 
-    /// Gives an entry that is too long, and continues after its file: the rest of that is not read.
+    /// Passes an entry that is too long to a visitor, and continues after its file, whose rest is
+    /// not read.
     fn give_long<V: Visit>(&mut self, mut file: OpenFile, visitor: &mut V) -> Result<(), Stop> {
         self.give(&mut file, &Err(BlockRefusal::LongEntry), visitor)?;
         self.close(file, visitor)
     }
 
-    /// Gives an entry that includes a file, and opens it. `count` of the octets that were appended name the
-    /// file, and those after them its origin, if one is said.
+    /// Passes an entry that includes a file to a visitor, and opens that file. `count` of the
+    /// octets that were appended name the file, and those after them its origin, if it has one.
     fn give_including<V: Visit>(
         &mut self,
         mut file: OpenFile,
@@ -468,8 +471,8 @@ impl<'a> ZoneFiles<'a> {
         }
     }
 
-    /// Returns the origin of an included file, if the octets that were appended have one after the first
-    /// `count`.
+    /// Returns the origin of an included file, if the octets that were appended have one after the
+    /// first `count`.
     fn included_origin(&self, count: usize) -> Option<NameBuffer> {
         let (_, octets) = include_parts(self.data.as_slice(), count);
         match Name::from_octets(octets) {
@@ -507,7 +510,7 @@ impl<'a> ZoneFiles<'a> {
         self.open_included(file, joined.into_string())
     }
 
-    /// Opens a file, unless it stands in no folder of which files may be included, or is open.
+    /// Opens a file, unless it is not in a directory from which files may be included, or is open.
     fn open_included(&self, file: &OpenFile, name: String) -> Result<OpenFile, Unfit> {
         let full = full_path(self.rt, name.as_str())?;
         if !self.is_allowed(full.as_str()) {
@@ -524,7 +527,7 @@ impl<'a> ZoneFiles<'a> {
         Ok(OpenFile::new(alloc, name, full, self.count, input, self.max_entry))
     }
 
-    /// Whether a file stands in a folder of which files may be included.
+    /// Returns whether a file is in a directory from which files may be included.
     fn is_allowed(&self, full: &str) -> bool {
         for folder in &self.folders {
             if Path::new(full).starts_with(folder.as_str()) {
@@ -534,7 +537,7 @@ impl<'a> ZoneFiles<'a> {
         false
     }
 
-    /// Whether one of the open files, but for the last, has a path.
+    /// Returns whether one of the open files, but for the last, has a path.
     fn is_open(&self, full: &str) -> bool {
         for file in &self.files {
             if file.full.as_str() == full {
@@ -564,8 +567,8 @@ impl<'a> ZoneFiles<'a> {
         Ok(())
     }
 
-    /// Continues after a file that was read: what an included file says of the origin and of owners is
-    /// forgotten.
+    /// Continues after a file that was read: the origin and the owners of an included file are
+    /// dropped.
     fn close<V: Visit>(&mut self, mut file: OpenFile, visitor: &mut V) -> Result<(), Stop> {
         let Some(includer) = file.includer.take() else {
             return Ok(());
@@ -588,31 +591,31 @@ impl<'a> ZoneFiles<'a> {
 /// How a file is read.
 #[derive(Drop)]
 pub struct Begin<'f> {
-    /// What stands before its first entry.
+    /// The state before its first entry.
     pub state: State,
     /// Whether files are included.
     pub includes: bool,
-    /// No entry may have more octets.
+    /// Greatest number of octets of an entry.
     pub max_entry: usize,
-    /// The folders, besides its own, of which files may be included.
+    /// The directories, besides its own, from which files may be included.
     pub folders: &'f [&'f str],
-    /// The folder in which relative paths of included files are looked up, if it is not that of the file
-    /// that includes them. Files in it may be included.
+    /// The directory for relative paths of included files, if it is not that of the file that
+    /// includes them. Files in it may be included.
     pub base: Option<&'f str>,
     /// The name of standard input, if it has one.
     pub stdin_name: Option<&'f str>,
-    /// Whether nothing is said of how far reading has come.
+    /// Whether progress is not shown.
     pub is_quiet: bool,
 }
 
 impl<'f> Begin<'f> {
-    /// The name of a file in messages.
+    /// Returns the name of a file in messages.
     fn name_of(&self, file: &'f str) -> &'f str {
         shown_name(file, self.stdin_name)
     }
 }
 
-/// The name of a file in messages: standard input may have one.
+/// Returns the name of a file in messages: standard input may have one.
 pub fn shown_name<'f>(file: &'f str, stdin_name: Option<&'f str>) -> &'f str {
     match stdin_name {
         Some(name) if file == "-" => name,
@@ -620,7 +623,7 @@ pub fn shown_name<'f>(file: &'f str, stdin_name: Option<&'f str>) -> &'f str {
     }
 }
 
-/// Gives all entries of a file, and of those that it includes, to what takes them.
+/// Passes all entries of a file, and of those that it includes, to a visitor.
 pub fn visit_file<'f, V: Visit>(
     rt: &HostRuntime,
     file: &'f str,

@@ -1,4 +1,4 @@
-//! The words of the commands that read records: `records`, `canon`, `diff` and `digest`.
+//! The arguments of the commands that read records: `records`, `canon`, `diff` and `digest`.
 use crate::command::{BASE, QUIET, flag, max_entry, over_files, required_file, valued, values};
 use crate::options::{Usage, class_of, max_entry_of, number_of, size_of, status_of, zone_of};
 use crate::reading::Reading;
@@ -10,17 +10,17 @@ use std::io;
 use zone_digest::HashAlgorithm;
 use zone_set::Selection;
 
-/// What is said of the options of all of them.
+/// The help texts of the options of all of them.
 const ZONE: &str = "the zone: the origin at the beginning of a file";
 
 const INCLUDE: &str = "a folder of which files may be included, besides the file's own";
 
 const CLASS: &str = "the class of records that say none, IN unless given";
 
-/// What is said of the memory that `canon` may take.
+/// The help text of the memory of `canon`.
 const MEMORY: &str = "sort in so many octets of memory, as 64M, and on disk (TMPDIR)";
 
-/// The options of all of them.
+/// Adds the options of all of them.
 fn with_reading<'a>(alloc: Global, command: Command<'a>) -> Result<Command<'a>, AllocError> {
     let zone = valued(alloc, "zone", "ORIGIN", ZONE).visible_alias("origin")?;
     command
@@ -31,7 +31,7 @@ fn with_reading<'a>(alloc: Global, command: Command<'a>) -> Result<Command<'a>, 
         .arg(max_entry(alloc))
 }
 
-/// The options that leave records out.
+/// Adds the options that omit records.
 fn with_selection<'a>(alloc: Global, command: Command<'a>) -> Result<Command<'a>, AllocError> {
     let no_dnssec = "leave out what signing adds: RRSIG, NSEC, DNSKEY, NSEC3, NSEC3PARAM";
     command
@@ -39,13 +39,13 @@ fn with_selection<'a>(alloc: Global, command: Command<'a>) -> Result<Command<'a>
         .arg(flag(alloc, "no-soa", "leave SOAs out"))
 }
 
-/// The command that writes records.
+/// Returns the command that writes records.
 pub fn records_command<'a>(alloc: Global, name: &'a str) -> Result<Command<'a>, AllocError> {
     let about = "Write each record in full, one a line";
     with_reading(alloc, over_files(alloc, name, about)?)
 }
 
-/// The command that writes records in canonical order.
+/// Returns the command that writes records in canonical order.
 pub fn canon_command<'a>(alloc: Global, name: &'a str) -> Result<Command<'a>, AllocError> {
     let about = "Write the records of zone files in full, in canonical order";
     let only_dnssec = "leave out all but what signing adds";
@@ -59,7 +59,7 @@ pub fn canon_command<'a>(alloc: Global, name: &'a str) -> Result<Command<'a>, Al
     with_selection(alloc, with_reading(alloc, command)?)
 }
 
-/// The command that compares two files.
+/// Returns the command that compares two files.
 pub fn diff_command<'a>(alloc: Global, name: &'a str) -> Result<Command<'a>, AllocError> {
     let entries = "say where the entries of the files differ first, as text";
     let command = Command::new(alloc, name)
@@ -80,7 +80,7 @@ pub fn diff_command<'a>(alloc: Global, name: &'a str) -> Result<Command<'a>, All
 /// The hash algorithms of digests.
 const HASHES: [&str; 2] = ["sha384", "sha512"];
 
-/// The command that checks and writes digests.
+/// Returns the command that checks and writes digests.
 pub fn digest_command<'a>(alloc: Global, name: &'a str) -> Result<Command<'a>, AllocError> {
     let write = "put the digests right in the file, and one in where there is none";
     let force = "also write into zones that a server changes itself";
@@ -106,7 +106,7 @@ pub fn digest_command<'a>(alloc: Global, name: &'a str) -> Result<Command<'a>, A
     with_reading(alloc, command)
 }
 
-/// The types that an option names.
+/// Returns the types of an option.
 fn types_of<'o>(alloc: Global, names: &[&'o str]) -> Result<Vec<RecordType>, Usage<'o>> {
     let mut types = Vec::new(alloc);
     for name in names {
@@ -125,7 +125,7 @@ fn types_of<'o>(alloc: Global, names: &[&'o str]) -> Result<Vec<RecordType>, Usa
     Ok(types)
 }
 
-/// How the words of a command ask files to be read.
+/// Returns how files are read, by the arguments of a command.
 fn reading_of<'o>(inner: &'o ArgMatches, is_one_zone: bool) -> Result<Reading<'o>, Usage<'o>> {
     let origin = zone_of(inner)?;
     let class = match class_of(inner.get_str("class")) {
