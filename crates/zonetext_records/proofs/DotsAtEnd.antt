@@ -4,7 +4,7 @@ use Rattle.std.proofs.lemmas.List.{drop_more}
 use Rattle.std.specs.Prelude.{◌==◌, if◌then◌else◌}
 use Rattle.zonetext_records.specs.Names.{ends_in_dot, passed_with}
 
--- what is decided of two octets or more is decided behind the first, or behind the one that it escapes
+-- the result for two octets or more is that for those after the first, or after the one that it escapes
 passed : (b : Bool) (text : List ℕ) (i d : ℕ) → drop (i + 1) text ≡ d ∷ drop (i + 1 + 1) text → (if b then ends_in_dot (drop (i + 1 + 1) text) else ends_in_dot (d ∷ drop (i + 1 + 1) text)) ≡ ends_in_dot (drop (i + (if b then 2 else 1)) text)
 passed true text i d next = let same : i + 1 + 1 ≡ i + 2 = omega arith in ap (λ n. ends_in_dot (drop n text)) same
 passed false text i d next = sym (ap ends_in_dot next)

@@ -1,4 +1,4 @@
--- The codes of what is found in entries.
+-- The codes of findings in entries.
 use Rattle.std.specs.Prelude.{Bool, true, false, Option, Some, None}
 use Rattle.dns_fields.specs.declared.record_error.RecordError.{RecordError}
 use Rattle.dns_kinds.specs.declared.error.ErrorKind.{ErrorKind}
@@ -9,7 +9,7 @@ use Rattle.dns_split.specs.declared.pieces.Wrong.TheVariants.{Closing, OpenParen
 use Rattle.zonetext_report.specs.declared.code.Code.{Code}
 use Rattle.zonetext_report.specs.declared.code.Code.TheVariants.{OpenQuote, OpenParenthesis, ClosingParenthesis, LoneReturn, BadEscape, Directive, Owner, Ttl, RecordType, Data, NoOwner, NoTtl, NoOrigin}
 
--- a fault of the text has the code of its own
+-- each syntax error has a code of its own
 abbrev pub code_of_fault : Wrong → Code
 code_of_fault Closing = ClosingParenthesis
 code_of_fault OpenWrong = OpenParenthesis
@@ -17,7 +17,7 @@ code_of_fault (QuoteWrong at) = OpenQuote
 code_of_fault ReturnWrong = LoneReturn
 code_of_fault EscapeWrong = BadEscape
 
--- before the data of a record a word that begins with a digit is no time to live, and any other is no type; what is wrong with a name is so with the owner
+-- in the fields before a record's data, a word that begins with a digit is a wrong TTL, and any other word a wrong type; an error of a name is one of the owner
 abbrev pub code_of_front : ErrorKind → Code
 code_of_front ExpectedTtl = Ttl
 code_of_front EndOfEntry = RecordType
@@ -25,17 +25,17 @@ code_of_front Quoted = RecordType
 code_of_front UnknownType = RecordType
 code_of_front _ = Owner
 
--- an error of data has their type
+-- an error of data has the type of the data
 abbrev pub code_of_record : Option TypeOfRecord → ErrorKind → Code
 code_of_record (Some rtype) kind = Data
 code_of_record None kind = code_of_front kind
 
--- a refused directive is one, whatever of it is refused; of a record the part that is refused counts
+-- a rejected directive has one code, whatever part of it is wrong; for a record the rejected part counts
 abbrev pub code_of_part : (is_directive : Bool) → RecordError → Code
 code_of_part true e = Directive
 code_of_part false e = code_of_record e.rtype e.kind
 
--- a fault of the text, a relative name without an origin, and what is missing have codes of their own, wherever they are
+-- a syntax error, a relative name without an origin, and missing parts have codes of their own, wherever they are
 abbrev pub code_of_kind : ErrorKind → (other : Code) → Code
 code_of_kind (Syntax wrong) other = code_of_fault wrong
 code_of_kind WithoutOrigin other = NoOrigin

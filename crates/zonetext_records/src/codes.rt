@@ -1,4 +1,4 @@
-//! The codes of what is found in the entries of zone files.
+//! The codes of findings in the entries of zone files.
 ghost use Rattle.std.specs.Prelude.{◌≡◌};
 ghost use Rattle.zone_dnssec.specs.SecurityNames.{security_name};
 ghost use Rattle.zone_rules.specs.RuleNames.{rule_name};
@@ -12,7 +12,7 @@ use zone_dnssec::SecurityRule;
 use zone_rules::Rule;
 use zonetext_report::code::Code;
 
-/// The code of a fault of the text.
+/// Returns the code of a syntax error.
 pub fn code_of_fault(wrong: Wrong) -> Code
     ensures { result ≡ code_of_fault wrong }
 {
@@ -25,8 +25,8 @@ pub fn code_of_fault(wrong: Wrong) -> Code
     }
 }
 
-/// The code of what is wrong before the data of a record: a word that begins with a digit is no time
-/// to live, any other is no type, and what is wrong with a name is so with the owner.
+/// Returns the code of an error in the fields before a record's data: a word that begins with a
+/// digit is a wrong TTL, any other word a wrong type, and an error of a name is one of the owner.
 fn code_of_front(kind: ErrorKind) -> Code
     ensures { result ≡ code_of_front kind }
 {
@@ -37,7 +37,7 @@ fn code_of_front(kind: ErrorKind) -> Code
     }
 }
 
-/// The code of what is wrong with a part of an entry that has no code of its own.
+/// Returns the code of an error in a part of an entry that has no code of its own.
 fn code_of_part(is_directive: bool, error: &RecordError) -> Code
     ensures { result ≡ code_of_part is_directive error.now }
 {
@@ -48,7 +48,7 @@ fn code_of_part(is_directive: bool, error: &RecordError) -> Code
     }
 }
 
-/// The code of an entry that is refused. `is_directive` says whether it begins with the word of a
+/// Returns the code of a rejected entry. `is_directive` is set if it begins with the word of a
 /// directive.
 pub fn code_of_entry(is_directive: bool, error: &RecordError) -> Code
     ensures { result ≡ code_of_entry is_directive error.now }
@@ -62,7 +62,7 @@ pub fn code_of_entry(is_directive: bool, error: &RecordError) -> Code
     }
 }
 
-/// The code of a rule that a zone breaks, which has its name.
+/// Returns the code of a rule that a zone breaks, which has the rule's name.
 pub fn code_of_rule(rule: Rule) -> Code
     ensures { code_name result ≡ rule_name rule }
 {
@@ -94,7 +94,7 @@ pub fn code_of_rule(rule: Rule) -> Code
     }
 }
 
-/// The code of a rule that a signed zone breaks, which has its name.
+/// Returns the code of a rule that a signed zone breaks, which has the rule's name.
 pub fn code_of_security(rule: SecurityRule) -> Code
     ensures { code_name result ≡ security_name rule }
 {

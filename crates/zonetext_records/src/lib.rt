@@ -1,5 +1,5 @@
-//! What `zonetext check` says of the entries of zone files, and of the records that they are read
-//! as: the codes and the texts of findings, and names and lengths that look like slips.
+//! The findings of `zonetext check` about the entries of zone files and their records: codes and
+//! messages, and names and data that look like slips.
 #![tactic(auto)]
 
 pub mod codes;

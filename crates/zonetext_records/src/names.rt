@@ -1,16 +1,16 @@
-//! Names as they are spelled, that look like a slip.
+//! Finds names, as they are spelled, that look like a slip.
 ghost use Rattle.std.specs.Prelude.{◌≡◌, ◌↔◌, IsTrue};
 ghost use Rattle.zonetext_records.specs.Names.{ends_in_dot, passed_with, EndsLike};
 
-/// How many octets are passed over with one: a backslash escapes the octet behind it.
+/// Returns the number of octets that are skipped with one: a backslash escapes the octet after it.
 fn passed_with(octet: u8) -> usize
     ensures { result ≡ passed_with octet }
 {
     if octet == b'\\' { 2 } else { 1 }
 }
 
-/// Whether a name ends in a dot that is not escaped, so that no origin is put behind it (RFC 1035
-/// section 5.1).
+/// Returns whether a name ends in a dot that is not escaped, so that no origin is appended to it
+/// (RFC 1035 section 5.1).
 pub fn ends_in_dot(text: &[u8]) -> bool
     ensures { result ≡ ends_in_dot text.now }
 {
@@ -25,8 +25,8 @@ pub fn ends_in_dot(text: &[u8]) -> bool
     false
 }
 
-/// Whether a name ends like another, whose text has no dot at its end: it is that name, or has it
-/// behind a dot, the case of letters apart. Escapes count as they are spelled.
+/// Returns whether a name ends like another, whose text has no dot at its end: it is that name, or
+/// ends in a dot and that name, ignoring letter case. Escapes count as they are spelled.
 pub fn ends_like(text: &[u8], other: &[u8]) -> bool
     ensures { IsTrue result ↔ EndsLike text.now other.now }
 {

@@ -1,10 +1,10 @@
-//! What is said of findings.
+//! The messages of findings.
 ghost use Rattle.std.specs.Prelude.{◌≡◌};
 ghost use Rattle.zonetext_records.specs.Texts.{finding_text};
 
 use zonetext_report::code::Code;
 
-/// What is said of a finding that has no more to say than its code.
+/// Returns the message of a finding that only has a code.
 pub fn code_text(code: Code) -> &'static str
     ensures { result.now ≡ finding_text code }
 {
