@@ -10,12 +10,12 @@ pub append_last : {X T E : Type 0} (r : Result T E) (o x t y u : List X) → t �
 append_last (Ok v) o x t y u e f = append_more o x t y u e f
 append_last (Err v) o x t y u e f = tt
 
--- two things at once
+-- two parts at once
 pub regroup : {X T E : Type 0} (r : Result T E) (t a b c : List X) → OnOk r (t ≡ (a ++ b) ++ c) → OnOk r (t ≡ a ++ (b ++ c))
 regroup (Ok v) t a b c e = e ∙ append_assoc a b c
 regroup (Err v) t a b c e = tt
 
--- what holds of both outcomes
+-- a property of both results
 pub on_ok : {X T E : Type 0} (r : Result T E) (t x y : List X) → t ≡ cond (is_ok r) x y → OnOk r (t ≡ x)
 on_ok (Ok v) t x y e = e
 on_ok (Err v) t x y e = tt

@@ -6,7 +6,7 @@ use Rattle.zonetext_report.specs.Excerpt.{HasExcerpt, HasPlace, caret_line, char
 use Rattle.zone_format.specs.Columns.{width_of}
 use Rattle.zonetext_report.specs.Shown.{IsShowable, shown_text}
 
--- the rest of a line as a slice
+-- the rest of a line, as a slice
 pub rest_is : (line : List ℕ) (start : ℕ) → take (length line - start) (drop start line) ≡ drop start line
 rest_is line start = take_all (length line - start) (drop start line) (omega (arith, length-drop start line))
 

@@ -1,4 +1,4 @@
--- A piece more was looked at.
+-- One more piece was checked.
 use Rattle.std.proofs.Common.{◌≡◌, ℕ, ◌≤◌, List, ◌∷◌, ◌++◌, length, sym, ap, ◌∙◌, subst, append_assoc}
 use Rattle.std.specs.Prelude.{Result, Ok}
 use Rattle.dns_split.specs.declared.pieces.Piece.{Piece}
@@ -16,7 +16,7 @@ follows_next n (QuoteAt p) left h = h
 follows_next n (CommentAt p) left h = h
 follows_next n (EndAt p) left h = h
 
--- how far octets were looked at, what is left, and that all is told
+-- the octets that were checked, the pieces that are left, and all remarks so far
 pub record Looks (octets : List ℕ) (given : List (Result Piece Fault)) (begun : List Remark) (left : List (Result Piece Fault)) (reached : Reached) (found : List Remark) : Type 0 where
   pub within : EachWithin (length octets) left
   pub follows : Follows reached.at left

@@ -1,4 +1,4 @@
--- No line feed stands in what is written of a finding, but at its end.
+-- A formatted finding has a line feed only at its end.
 use Rattle.std.proofs.Common.{◌≡◌, ℕ, zero, suc, ◌+◌, ◌-◌, ◌/◌, ◌%◌, ◌<◌, ◌==◌, not, Bool, true, false, cond, List, [], ◌∷◌, ◌++◌, refl, sym, ap, ◌∙◌, arith, append_assoc}
 use Rattle.std.specs.Prelude.{◌||◌, ◌&&◌, nat_lt, nat_le, codes, Option, Some, None}
 use Rattle.std.specs.Fmt.{decimal, digit_glyph, digits, digits_onto}
@@ -23,7 +23,7 @@ use Rattle.zonetext_report.specs.Shown.{is_control, shown_octet, shown_text}
 abbrev no_feed : ℕ → Bool
 no_feed c = not (c == 10)
 
--- none stands there
+-- no octet is a line feed
 abbrev HasNone : List ℕ → Type 0
 HasNone xs = list_all no_feed xs ≡ true
 
@@ -54,7 +54,7 @@ decimal_none : (n : ℕ) → HasNone (decimal n)
 unfolding digits
 decimal_none n = digits_none 64 n [] refl
 
--- of what is shown
+-- in octets of files as they are shown
 not_control : (b d : Bool) (c : ℕ) → b ≡ nat_lt c 32 → (b || d) ≡ false → no_feed c ≡ true
 not_control true d c e h = cc
 not_control false d c e h = above c (omega (arith, ltb-false c 32 (sym e)))
@@ -72,7 +72,7 @@ shown_none k (c ∷ cs) =
     let one : HasNone (shown_octet k c) = shown_by (c == 9) (is_control c) (nat_lt c 128 || k) (begins_character c) c (not_control (nat_lt c 32) (c == 127) c refl) in
     ap (list_all no_feed) (flat_map-cons (shown_octet k) c cs) ∙ both (shown_octet k c) (shown_text k cs) one (shown_none k cs)
 
--- of JSON strings
+-- in JSON strings
 hex_by : (b : Bool) (n : ℕ) → no_feed (cond b (48 + n) (97 + (n - 10))) ≡ true
 hex_by true n = above (48 + n) (omega arith)
 hex_by false n = above (97 + (n - 10)) (omega arith)
@@ -99,7 +99,7 @@ json_none (c ∷ cs) =
     let one : HasNone (json_octet Utf8 c) = octet_by (c == 34 || c == 92) (stands_plain Utf8 c) c (marked c) (stands c) in
     ap (list_all no_feed) (flat_map-cons (json_octet Utf8) c cs) ∙ both (json_octet Utf8 c) (json_text cs) one (json_none cs)
 
--- of the parts of a line
+-- in the parts of a line
 position_none : (p : Position) → HasNone (position_text p)
 position_none p = both (decimal p.line ++ codes ":") (decimal p.column) (both (decimal p.line) (codes ":") (decimal_none p.line) refl) (decimal_none p.column)
 
@@ -151,7 +151,7 @@ finding_is_line b file f =
     let opened : HasNone why = both ((place_text b file f.position ++ severity_text b f.severity) ++ shown_text true f.message.now) (opened_text f.opened) told (opened_none f.opened) in
     (why ++ bracketed_code f.code, refl, both why (bracketed_code f.code) opened (bracketed_none f.code))
 
--- of the parts of an object
+-- in the parts of an object
 json_position_none : (p : Position) (n : ℕ) → HasNone (json_position p n)
 json_position_none p n =
     let line : HasNone (codes "\",\"line\":" ++ decimal p.line) = both (codes "\",\"line\":") (decimal p.line) refl (decimal_none p.line) in

@@ -1,4 +1,4 @@
--- Octets that a function writes one by one, and those that it leaves as they are.
+-- Octets that a function writes one by one, and those that it writes unchanged.
 use Rattle.std.proofs.Common.{◌≡◌, ℕ, ◌+◌, ◌-◌, ◌<◌, ◌≤◌, List, [], ◌∷◌, ◌++◌, length, take, drop, get_or, sym, ap, ◌∙◌, arith, append-nil, append_assoc}
 use Rattle.std.specs.List.{flat_map}
 use Rattle.std.proofs.lemmas.Grind.{flat_map-append}
@@ -14,7 +14,7 @@ between_more xs s e h k =
     ap (λ m. take m (drop s xs)) n ∙ take_more (drop s xs) (e - s) 0 (omega (arith, length-drop s xs, h, k))
     ∙ ap (λ x. take (e - s) (drop s xs) ++ x ∷ []) (get_or-drop s xs (e - s) 0 ∙ ap (λ m. get_or xs m 0) at)
 
--- the octets before a place are those before an earlier one and those between
+-- the octets before an index are those before an earlier one and those between
 taken : (xs : List ℕ) (i j : ℕ) → i ≤ j → j ≤ length xs → take j xs ≡ take i xs ++ between xs i j
 taken xs i j h k =
     let short : length (take i xs) ≡ i = length-take-le i xs (omega arith) in
@@ -30,7 +30,7 @@ plain_more f xs s e h k one p =
     let more = between_more xs s e h k in
     ap (flat_map f) more ∙ one_written f (between xs s e) (get_or xs e 0) ∙ ap (λ l. l ++ f (get_or xs e 0)) p ∙ ap (λ l. between xs s e ++ l) one ∙ sym more
 
--- a run of octets that stay
+-- a run of unchanged octets
 pub run_written : (f : ℕ → List ℕ) (xs old out new : List ℕ) (s e : ℕ) → s ≤ e → e ≤ length xs → flat_map f (between xs s e) ≡ between xs s e → out ≡ old ++ flat_map f (take s xs)
     → new ≡ out ++ between xs s e → new ≡ old ++ flat_map f (take e xs)
 run_written f xs old out new s e h k p o n =
@@ -38,7 +38,7 @@ run_written f xs old out new s e h k p o n =
     ∙ ap (λ l. old ++ (flat_map f (take s xs) ++ l)) (sym p)
     ∙ ap (λ l. old ++ l) (sym (ap (flat_map f) (taken xs s e h k) ∙ flat_map-append f (take s xs) (between xs s e)))
 
--- one octet more
+-- one more octet
 pub octet_written : (f : ℕ → List ℕ) (xs old out new : List ℕ) (e : ℕ) → e < length xs → out ≡ old ++ flat_map f (take e xs) → new ≡ out ++ f (get_or xs e 0)
     → new ≡ old ++ flat_map f (take (e + 1) xs)
 octet_written f xs old out new e k o n =

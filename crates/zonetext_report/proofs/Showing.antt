@@ -20,7 +20,7 @@ control_begins c e = elim (or_cases (nat_lt c 32) (c == 127) e) [ inl low ↦ lo
 alone : (c : ℕ) → width_of (c ∷ []) ≡ cond (begins_character c) 1 0
 alone c = omega (arith, sum_by-cons (λ x. cond (begins_character x) 1 0) c [])
 
--- by the tests on which it depends how an octet is shown
+-- how an octet is shown, by the tests on which it depends
 abbrev shown_by : (tab control stays begins : Bool) → ℕ → List ℕ
 shown_by t u v w c = cond t (32 ∷ []) (cond u (63 ∷ []) (cond v (c ∷ []) (cond w (63 ∷ []) [])))
 

@@ -1,4 +1,4 @@
--- Counts of errors and warnings, and how many findings there were.
+-- The counts of errors and warnings, and the number of findings.
 use Rattle.std.proofs.Common.{◌≡◌, ℕ, ◌+◌, ◌≤◌, ◌==◌, List, [], ◌∷◌, length, refl, sym, ap, ◌∙◌, arith, inl, inr, cond}
 use Rattle.std.specs.Prelude.{◌||◌, nat_lt, min}
 use Rattle.std.specs.List.{count_by}
@@ -13,7 +13,7 @@ all_counted [] = refl
 all_counted (Error ∷ found) = omega (arith, all_counted found, sum_by-cons (λ s. cond (is_error s) 1 0) Error found, sum_by-cons (λ s. cond (is_warning s) 1 0) Error found)
 all_counted (Warning ∷ found) = omega (arith, all_counted found, sum_by-cons (λ s. cond (is_error s) 1 0) Warning found, sum_by-cons (λ s. cond (is_warning s) 1 0) Warning found)
 
--- counts that stay at a greatest number are below no smaller one
+-- limiting counts to a greatest number does not change whether they are below a number up to that
 same_below : (e w n most greatest : ℕ) → e + w ≡ n → most ≤ greatest → nat_lt (min (min e greatest + min w greatest) greatest) most ≡ nat_lt n most
 same_below e w n most greatest all small = elim (cases_lt n most) [
   | inl below ↦ lt-ltb (min (min e greatest + min w greatest) greatest) most (omega (arith, all, small, below)) ∙ sym (lt-ltb n most below)

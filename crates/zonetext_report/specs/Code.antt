@@ -1,4 +1,4 @@
--- What can be found in zone files: the name of each finding, and what it weighs.
+-- The codes of findings: the name of each, and its default severity.
 use Rattle.std.specs.Prelude.{ℕ, Bool, true, false, List, codes}
 use Rattle.zonetext_report.specs.declared.code.Severity.{Severity}
 use Rattle.zonetext_report.specs.declared.code.Severity.TheVariants.{Error, Warning}
@@ -9,7 +9,7 @@ abbrev pub severity_name : Severity → List ℕ
 severity_name Error = codes "error"
 severity_name Warning = codes "warning"
 
--- the name under which it is allowed or denied
+-- the name by which it is allowed or denied
 abbrev pub code_name : Code → List ℕ
 code_name OpenQuote = codes "open-quote"
 code_name OpenParenthesis = codes "open-parenthesis"
@@ -112,7 +112,7 @@ is_text_fault ControlZ = true
 is_text_fault MaxEntry = true
 is_text_fault _ = false
 
--- a warning where servers take the file, else an error; what keeps a record from being read is an error in any case
+-- a warning if servers load the file, else an error; a finding that keeps a record from being read is always an error
 abbrev pub default_severity : Code → Severity
 default_severity Ttl = Warning
 default_severity NoOrigin = Warning

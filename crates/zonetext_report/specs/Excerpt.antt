@@ -1,4 +1,4 @@
--- The line on which something was found, with a caret under the place.
+-- The line of a finding, with a caret under its column.
 use Rattle.std.specs.Prelude.{◌≡◌, ℕ, ◌-◌, ◌<◌, ◌≤◌, ◌⊎◌, ◌↔◌, IsTrue, min, max, Bool, true, List, ◌++◌, length, take, drop, slice_index, replicate, codes}
 use Rattle.dns_symbol.specs.Characters.{space, tilde}
 use Rattle.zonetext_report.specs.Finding.{green, style_if, unstyled}
@@ -6,31 +6,31 @@ use Rattle.zone_format.specs.Place.{begins_character}
 use Rattle.zone_format.specs.Columns.{width_of}
 use Rattle.zonetext_report.specs.Shown.{IsShowable, shown_text}
 
--- the character stands at a place that has so many before it; there is none, and the place is the end
+-- the character at this offset comes after this number of characters; or there are fewer, and the offset is the end
 abbrev pub HasPlace : (line : List ℕ) → (count at : ℕ) → Type 0
 HasPlace line count at = ((at < length line) × (width_of (take at line) ≡ count) × (begins_character (slice_index line at) ≡ true)) ⊎ ((at ≡ length line) × (width_of line ≤ count))
 
--- of a line of more than 200 characters those before the 100 before a place are left out, but no more than would leave 200
+-- the number of characters that are omitted at the start of a line of more than 200 characters: all but 100 before a column, but so that 200 remain
 abbrev pub window_first : (before total : ℕ) → ℕ
 window_first before total = min (before - 100) (total - 200)
 
--- so many characters are marked: those that are asked for, as far as they are shown_text, or one
+-- the number of characters that are marked: those that are wanted, as far as they are shown, but at least one
 abbrev pub mark_width : (wanted before shown_text : ℕ) → ℕ
 mark_width wanted before shown = max (min wanted (shown - before)) 1
 
--- a caret behind so many blanks, and tildes up to a width
+-- blanks, a caret, and tildes up to a width
 abbrev pub caret_line : (is_coloured : Bool) → (before width : ℕ) → List ℕ
 caret_line is_coloured before width = replicate before space ++ style_if is_coloured green ++ codes "^" ++ replicate (width - 1) tilde ++ style_if is_coloured unstyled ++ codes "\n"
 
--- the characters of a line before a column
+-- the number of characters of a line before a column
 abbrev pub characters_before : (line : List ℕ) → (column : ℕ) → ℕ
 characters_before line column = min (column - 1) (width_of line)
 
--- what is shown of a line begins with this character
+-- the number of characters that are omitted before the shown part of a line
 abbrev pub first_shown : (line : List ℕ) → (column : ℕ) → ℕ
 first_shown line column = window_first (characters_before line column) (width_of line)
 
--- 200 characters of the line are shown from one on, or those that are left, and a caret under that of the column
+-- 200 characters of the line are shown, or all from the first shown one on, and a caret under that of the column
 pub record HasExcerpt (is_coloured : Bool) (line : List ℕ) (column end_column : ℕ) (old new : List ℕ) : Type 0 where
   pub start : ℕ
   pub size : ℕ

@@ -1,4 +1,4 @@
--- The line that tells of a finding.
+-- The line of a finding.
 use Rattle.std.specs.Prelude.{◌≡◌, ℕ, ◌==◌, not, if◌then◌else◌, Bool, true, List, [], ◌∷◌, ◌++◌, codes, Option, Some, None}
 use Rattle.std.specs.List.{list_all}
 use Rattle.std.specs.Fmt.{decimal}
@@ -11,7 +11,7 @@ use Rattle.zonetext_report.specs.declared.code.Code.{Code}
 use Rattle.zonetext_report.specs.Code.{code_name, severity_name}
 use Rattle.zonetext_report.specs.Shown.{shown_text}
 
--- what begins a style of a terminal: bold, red, magenta, green; and what ends each
+-- the escape sequences that begin a style of a terminal: bold, red, magenta, green; and the one that ends each
 abbrev pub bold : List ℕ
 bold = 27 ∷ codes "[1m"
 
@@ -57,10 +57,10 @@ bracketed_code c = codes " [" ++ code_name c ++ codes "]"
 abbrev pub finding_line : (is_coloured : Bool) → (file : List ℕ) → Finding → List ℕ
 finding_line is_coloured file f = place_text is_coloured file f.position ++ severity_text is_coloured f.severity ++ shown_text true f.message.now ++ opened_text f.opened ++ bracketed_code f.code ++ codes "\n"
 
--- octets whose last is a line feed, and no other
+-- the last octet is a line feed, and no other
 abbrev pub IsOneLine : List ℕ → Type 0
 IsOneLine text = (front : List ℕ) × (text ≡ front ++ line_feed ∷ []) × (list_all (λ c. not (c == line_feed)) front ≡ true)
 
--- whatever a file's name and a message hold
+-- this holds for every file name and every message
 abbrev pub FindingsAreLines : Type 0
 FindingsAreLines = (is_coloured : Bool) (file : List ℕ) (f : Finding) → IsOneLine (finding_line is_coloured file f)

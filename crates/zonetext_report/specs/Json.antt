@@ -15,12 +15,12 @@ use Rattle.zonetext_report.specs.Finding.{IsOneLine}
 abbrev pub hex_digit : ℕ → ℕ
 hex_digit n = if nat_lt n 10 then 48 + n else 97 + (n - 10)
 
--- printable ASCII; in UTF-8 all but the control characters of ASCII
+-- an octet that is written unchanged: printable ASCII; in UTF-8 all but the control characters of ASCII
 abbrev pub stands_plain : Charset → ℕ → Bool
 stands_plain Octets c = is_printable c
 stands_plain Utf8 c = nat_le space c && not (c == 127)
 
--- an octet in a JSON string: two characters stand after a backslash, and what does not stand plain is \u00 and two digits
+-- an octet in a JSON string: a double quote and a backslash come after a backslash, and an octet that is not written unchanged is \u00 and two digits
 abbrev pub json_octet : Charset → ℕ → List ℕ
 json_octet charset c = if c == double_quote || c == backslash then backslash ∷ c ∷ [] else if stands_plain charset c then c ∷ [] else codes "\\u00" ++ hex_digit (c / 16) ∷ hex_digit (c % 16) ∷ []
 
@@ -38,6 +38,6 @@ abbrev pub json_finding : (file : List ℕ) → Finding → List ℕ
 json_finding file f = codes "{\"file\":\"" ++ json_text file ++ json_position f.position f.end_column ++ json_opened f.opened
     ++ codes ",\"severity\":\"" ++ severity_name f.severity ++ codes "\",\"code\":\"" ++ code_name f.code ++ codes "\",\"message\":\"" ++ json_text f.message.now ++ codes "\"}\n"
 
--- whatever a file's name and a message hold
+-- this holds for every file name and every message
 abbrev pub ObjectsAreLines : Type 0
 ObjectsAreLines = (file : List ℕ) (f : Finding) → IsOneLine (json_finding file f)

@@ -1,4 +1,4 @@
--- Worked findings, lines and texts.
+-- Worked examples: findings, lines and texts.
 use Rattle.std.specs.Prelude.{◌≡◌, true, false, [], ◌∷◌, ◌++◌, codes, Some, Ok, refl, replicate}
 use Rattle.std.specs.Fmt.{digits}
 use Rattle.dns_split.specs.Pieces.{comment_at, end_at, quote_at, word_at}

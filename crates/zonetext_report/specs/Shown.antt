@@ -12,19 +12,19 @@ question_mark = 63
 abbrev pub is_control : ℕ → Bool
 is_control c = nat_lt c space || c == 127
 
--- what is shown of an octet: a blank for a tab, a question mark for a control octet; from 128 on the octet itself, or if it isn't to be kept a question mark for each character
+-- an octet as it is shown: a blank for a tab, a question mark for a control octet; from 128 on the octet itself, or if it isn't kept a question mark for each character
 abbrev pub shown_octet : (keeps_high : Bool) → ℕ → List ℕ
 shown_octet keeps_high c = if c == tab then space ∷ [] else if is_control c then question_mark ∷ [] else if nat_lt c 128 || keeps_high then c ∷ [] else if begins_character c then question_mark ∷ [] else []
 
 abbrev pub shown_text : (keeps_high : Bool) → List ℕ → List ℕ
 shown_text keeps_high octets = flat_map (shown_octet keeps_high) octets
 
--- the first octet ends a control character from U+0080 on, where it ends one of two octets
+-- if this octet ends a character of two octets, that is a control character from U+0080 on
 abbrev pub ends_c1 : List ℕ → Bool
 ends_c1 [] = false
 ends_c1 (c ∷ cs) = nat_lt c 160
 
--- one of the control characters from U+0080 to U+009F stands in UTF-8
+-- text in UTF-8 has one of the control characters from U+0080 to U+009F
 abbrev pub has_c1 : List ℕ → Bool
 has_c1 [] = false
 has_c1 (c ∷ cs) = has_c1 cs || (c == 194 && ends_c1 cs)

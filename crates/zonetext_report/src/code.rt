@@ -1,20 +1,20 @@
-//! What can be found in zone files.
+//! The codes of findings in zone files.
 ghost use Rattle.std.specs.Prelude.{◌≡◌, IfSome, Some};
 ghost use Rattle.std.specs.List.{find};
 ghost use Rattle.std.specs.Str.{bytes_eq};
 ghost use Rattle.zonetext_report.specs.Code.{code_name, default_severity, is_text_fault, severity_name};
 
-/// How much a finding weighs.
+/// The severity of a finding.
 #[derive(Clone, Copy, PartialEq, Eq)]
 pub enum Severity {
-    /// The file is refused.
+    /// The file is rejected.
     Error,
-    /// The file is taken.
+    /// The file is accepted.
     Warning,
 }
 
 impl Severity {
-    /// `error` or `warning`.
+    /// Returns `error` or `warning`.
     pub fn name(self) -> &'static str
         ensures { result.now ≡ severity_name self }
     {
@@ -25,8 +25,8 @@ impl Severity {
     }
 }
 
-/// What can be found, by the name under which it is allowed or denied, and which JSON has. The
-/// names stay as they are: callers write them into their own files.
+/// The code of a finding, with the name by which it is allowed or denied, and which JSON output
+/// has. The names are stable: callers write them into their own files.
 #[derive(Clone, Copy, PartialEq, Eq)]
 pub enum Code {
     /// A quoted text is not closed.
@@ -35,11 +35,11 @@ pub enum Code {
     OpenParenthesis,
     /// A parenthesis is closed that is not open.
     ClosingParenthesis,
-    /// CR stands without LF.
+    /// A CR comes without an LF.
     LoneReturn,
     /// An escape can't be completed.
     BadEscape,
-    /// NUL stands outside of comments.
+    /// A NUL is outside of comments.
     Nul,
     /// The file begins with a byte order mark.
     ByteOrderMark,
@@ -47,23 +47,23 @@ pub enum Code {
     ControlZ,
     /// An entry has more octets than are allowed.
     MaxEntry,
-    /// A directive is unknown, or its arguments are not its own.
+    /// A directive is unknown, or its arguments are wrong.
     Directive,
-    /// The owner is no name.
+    /// The owner is not a name.
     Owner,
-    /// The time to live is none; or it is 2^31 or more, and read as 0.
+    /// The TTL is not valid; or it is 2^31 or more, and read as 0.
     Ttl,
-    /// The class is none.
+    /// The class is not valid.
     Class,
     /// The type is unknown, or missing.
     RecordType,
-    /// The data are not those of the type.
+    /// The data is not of the type.
     Data,
     /// A file can't be included.
     Include,
-    /// The first record takes the owner of the one before.
+    /// The first record has no owner.
     NoOwner,
-    /// No time to live is known.
+    /// No TTL is known.
     NoTtl,
     /// The class is not that of the zone.
     OtherClass,
@@ -73,37 +73,37 @@ pub enum Code {
     TwoSoas,
     /// The apex has no NS.
     NoNs,
-    /// A name server of the apex that lies in the zone has no address.
+    /// A name server of the apex that is in the zone has no address.
     NsAddress,
-    /// A CNAME stands beside other records or another CNAME.
+    /// A CNAME's owner has other records or another CNAME.
     Cname,
     /// A name has two DNAMEs.
     Dname,
-    /// A DS stands at the apex.
+    /// A DS is at the apex.
     DsApex,
     /// A wildcard has an NS.
     WildcardNs,
     /// An SOA is below the apex.
     SoaNotApex,
-    /// A DNAME is below the apex beside an NS.
+    /// The owner of a DNAME below the apex has an NS.
     NsBesideDname,
-    /// The first label of an NSEC3's owner is not base 32 hex.
+    /// The first label of an NSEC3's owner is not base32hex.
     Nsec3Wildcard,
-    /// A record stands below a DNAME.
+    /// A record is below a DNAME.
     BelowDname,
-    /// A record stands outside of the zone.
+    /// A record is outside of the zone.
     Outside,
-    /// A time to live is above the greatest that was asked for.
+    /// A TTL exceeds the limit that was asked for.
     MaxTtl,
-    /// A relative name stands where no origin is known.
+    /// A name is relative, and no origin is known.
     NoOrigin,
-    /// An octet from 0x80 on stands in a token.
+    /// A token has an octet of 0x80 or more.
     HighOctet,
     /// A token contains a control octet.
     ControlOctet,
     /// A line ends in CR LF.
     Crlf,
-    /// A parenthesis is opened inside of others.
+    /// A parenthesis is opened inside others.
     NestedParentheses,
     /// An entry begins with a parenthesis.
     LeadingParenthesis,
@@ -113,33 +113,33 @@ pub enum Code {
     NoFinalNewline,
     /// An origin is relative.
     RelativeOrigin,
-    /// The minimum of the SOA serves as time to live.
+    /// The minimum of the SOA is used as the TTL.
     SoaMinimumTtl,
-    /// The time to live of an included file stays in force.
+    /// The TTL of an included file stays in effect.
     IncludeTtl,
     /// A name without a final dot ends like the origin.
     MissingDot,
     /// The target of a URI is empty.
     EmptyUri,
-    /// The data of a TLSA have not the length of their matching type.
+    /// The data of a TLSA does not have the length of its matching type.
     TlsaLength,
     /// The algorithm of an IPSECKEY is 0.
     IpseckeyAlgorithm,
     /// The service parameter `ohttp` has a value.
     OhttpValue,
-    /// The address of a name server below a delegation is missing.
+    /// A name server below a delegation has no glue.
     Glue,
     /// The target of a record has a CNAME, or is below a DNAME.
     TargetCname,
     /// The target of a record is not in the zone.
     TargetMissing,
-    /// The name of a host is none.
+    /// A name that must be a host name is not one.
     HostName,
-    /// A CDS stands without a DNSKEY.
+    /// The zone has a CDS, but no DNSKEY at its apex.
     Cds,
-    /// Records of a set differ in time to live.
+    /// Records of an RRset differ in TTL.
     TtlDiffers,
-    /// A record stands twice.
+    /// A record occurs twice.
     Duplicate,
     /// A record below the apex has a type that belongs there.
     NotAtApex,
@@ -147,7 +147,7 @@ pub enum Code {
     KeyProtocol,
     /// The algorithm of a DNSKEY or DS is 0.
     KeyAlgorithm,
-    /// The zone is to be signed, and has no DNSKEY at its apex.
+    /// The zone must be signed, and has no DNSKEY at its apex.
     NoDnskey,
     /// An RRSIG has expired.
     Expired,
@@ -159,37 +159,38 @@ pub enum Code {
     RrsigTimes,
     /// The signer of an RRSIG is not the zone.
     RrsigSigner,
-    /// The labels of an RRSIG are not as many as its owner's.
+    /// The number of labels of an RRSIG is not that of its owner.
     RrsigLabels,
-    /// The original TTL of an RRSIG is not the TTL of its set.
+    /// The original TTL of an RRSIG is not the TTL of its RRset.
     OriginalTtl,
-    /// The TTL of an RRSIG is not the TTL of its set.
+    /// The TTL of an RRSIG is not the TTL of its RRset.
     RrsigTtl,
-    /// A set of records has no RRSIG.
+    /// An RRset has no RRSIG.
     Unsigned,
-    /// No RRSIG of a set fits a DNSKEY at the apex.
+    /// No RRSIG of an RRset fits a DNSKEY at the apex.
     NoKey,
-    /// An RRSIG fits no DNSKEY at the apex, and another of its set does.
+    /// An RRSIG fits no DNSKEY at the apex, and another of its RRset does.
     KeyMissing,
-    /// An RRSIG over another set than DNSKEY is by a revoked key.
+    /// An RRSIG that does not cover DNSKEY is by a revoked key.
     RrsigKey,
-    /// An RRSIG covers a type that is not at its owner.
+    /// An RRSIG covers a type that its owner does not have.
     SignsNothing,
-    /// An NSEC or RRSIG is below a delegation, or an RRSIG at one covers what is not the parent's.
+    /// An NSEC or RRSIG is below a delegation, or an RRSIG at one covers neither DS nor NSEC.
     OccludedDnssec,
     /// A name has no NSEC.
     NoNsec,
-    /// An NSEC names another than the next name.
+    /// The next name of an NSEC is wrong.
     NsecNext,
-    /// An NSEC lists other types than its owner has.
+    /// The types of an NSEC differ from those of its owner.
     NsecTypes,
-    /// A DS stands without an NS.
+    /// The owner of a DS has no NS.
     DsWithoutNs,
-    /// A name, or an empty one above it, has no NSEC3.
+    /// A name, or an empty non-terminal above it, has no NSEC3.
     NoNsec3,
-    /// An NSEC3 names another than the next hash.
+    /// The next hash of an NSEC3 is wrong.
     Nsec3Next,
-    /// The NSEC3 of a name, or of an empty one above it, lists other types.
+    /// The types of the NSEC3 of a name, or of an empty non-terminal above it, differ from those
+    /// there.
     Nsec3Types,
     /// The owner of an NSEC3 is not a hash one label below the apex.
     Nsec3Owner,
@@ -205,7 +206,7 @@ pub enum Code {
     CdsDelete,
 }
 
-/// The first of some codes that has a name.
+/// Returns the first of some codes that has a name.
 fn find_named(codes: &[Code], name: &str) -> Option<Code>
     ensures { result ≡ find (λ c. bytes_eq (code_name c) name.now) codes.now }
 {
@@ -305,7 +306,7 @@ impl Code {
         Code::CdsDelete,
     ];
 
-    /// The name of a code, in small letters and dashes.
+    /// Returns the name of a code, in lowercase letters and dashes.
     pub fn name(self) -> &'static str
         ensures { result.now ≡ code_name self }
     {
@@ -400,7 +401,7 @@ impl Code {
         }
     }
 
-    /// The code with a name, if there is one.
+    /// Returns the code with a name, if there is one.
     pub fn named(name: &str) -> Option<Code>
         ensures named { IfSome result (λ c. code_name c ≡ name.now) }
         ensures each { (c : Code) → code_name c ≡ name.now → result ≡ Some c }
@@ -408,7 +409,7 @@ impl Code {
         find_named(&Code::ALL, name)
     }
 
-    /// Whether the text itself is at fault: it can't be read as entries, or not safely.
+    /// Returns whether the text itself is malformed: it can't be read as entries, or not safely.
     pub fn is_text_fault(self) -> bool
         ensures { result ≡ is_text_fault self }
     {
@@ -426,7 +427,7 @@ impl Code {
         }
     }
 
-    /// What a finding weighs unless a caller decides otherwise.
+    /// Returns the severity of a finding, unless a caller decides otherwise.
     pub fn default_severity(self) -> Severity
         ensures { result ≡ default_severity self }
     {

@@ -1,4 +1,4 @@
-//! The line of a file on which something was found, with a caret under the place.
+//! Formats the line of a finding, with a caret under its column.
 ghost use Rattle.std.specs.Prelude.{◌≡◌, ◌++◌, IfOk, OnOk, replicate};
 ghost use Rattle.zonetext_report.specs.Excerpt.{HasExcerpt, HasPlace, caret_line, characters_before, first_shown, mark_width};
 
@@ -7,10 +7,11 @@ use crate::shown::{count_columns, is_showable, push_shown};
 use std::alloc::{AllocError, Allocator};
 use zone_format::place::begins_character;
 
-/// The most characters of a line that are shown.
+/// Greatest number of characters of a line that are shown.
 const WIDTH: usize = 200;
 
-/// Where the character stands that has so many before it; the end if there is none.
+/// Returns the offset of the character that comes after `count` others, or the end if there are
+/// fewer.
 fn place_of(line: &[u8], count: usize) -> usize
     ensures { HasPlace line.now count result }
 {
@@ -26,14 +27,14 @@ fn place_of(line: &[u8], count: usize) -> usize
     line.len()
 }
 
-/// How many characters of a line stand before a column.
+/// Returns the number of characters of a line before a column.
 fn characters_before(line: &[u8], column: usize) -> usize
     ensures { result ≡ characters_before line.now column }
 {
     column.saturating_sub(1).min(count_columns(line))
 }
 
-/// How many characters of a line are left out at its front, where a column is marked.
+/// Returns the number of characters that are omitted at the start of a line, if a column is marked.
 fn first_shown(line: &[u8], column: usize) -> usize
     ensures { result ≡ first_shown line.now column }
 {
@@ -44,14 +45,15 @@ fn first_shown(line: &[u8], column: usize) -> usize
         .min(total.saturating_sub(WIDTH))
 }
 
-/// How many characters are marked: those that are asked for, as far as they are shown, or one.
+/// Returns the number of characters that are marked: those that are wanted, as far as they are
+/// shown, but at least one.
 fn mark_width(wanted: usize, before: usize, shown: usize) -> usize
     ensures { result ≡ mark_width wanted before shown }
 {
     wanted.min(shown.saturating_sub(before)).max(1)
 }
 
-/// Appends an octet so many times.
+/// Appends an octet `count` times.
 fn push_repeated<A: Allocator>(
     out: &mut Vec<u8, A>,
     octet: u8,
@@ -65,7 +67,7 @@ fn push_repeated<A: Allocator>(
     Ok(())
 }
 
-/// Appends a caret behind so many blanks, and tildes up to the width that is marked.
+/// Appends blanks, a caret, and tildes up to the width that is marked.
 fn push_caret<A: Allocator>(
     out: &mut Vec<u8, A>,
     is_coloured: bool,
@@ -83,13 +85,14 @@ fn push_caret<A: Allocator>(
     Ok(())
 }
 
-/// Appends a line of a file, which comes without its end, and below it a caret under a column, with
-/// tildes up to before another.
+/// Appends a line of a file, which is passed without its line end, and below it a caret under
+/// `column`, with tildes up to before `end_column`.
 ///
-/// Of a line of more than 200 characters 200 are shown: those round the caret. Tabs are blanks and
-/// control octets question marks; where the shown part isn't UTF-8, or has control characters from
-/// U+0080 on, each of its characters outside of ASCII is a question mark too. So each character
-/// stands for one, and the caret under its own. In colour the caret is green.
+/// If a line has more than 200 characters, the 200 around the caret are shown. Tabs are shown as
+/// blanks and control octets as question marks. If the shown part isn't UTF-8, or has control
+/// characters from U+0080 on, each of its characters outside of ASCII is shown as a question mark
+/// too. So each character is shown as one, and the caret is under its own. In colour the caret is
+/// green.
 pub fn push_excerpt<A: Allocator>(
     out: &mut Vec<u8, A>,
     is_coloured: bool,

@@ -1,4 +1,4 @@
-//! A finding, and the line that tells of it.
+//! A finding, and its line of output.
 ghost use Rattle.std.specs.Prelude.{◌≡◌, ◌++◌, OnOk};
 ghost use Rattle.zonetext_report.specs.Finding.{bracketed_code, finding_line, opened_text, place_text, position_text, severity_style, severity_text, style_if};
 
@@ -8,23 +8,23 @@ use crate::shown::push_shown;
 use dns_split::position::Position;
 use std::alloc::{AllocError, Allocator};
 
-/// What was found in a file, and where. Lines and columns are counted from 1; columns count the
+/// A finding in a file, with its position. Lines and columns are counted from 1; columns count the
 /// octets that begin a character of UTF-8.
 #[derive(Clone, Copy)]
 pub struct Finding<'a> {
     pub severity: Severity,
     pub code: Code,
-    /// Where it begins.
+    /// Position where it begins.
     pub position: Position,
-    /// The column on the same line before which it ends.
+    /// Column on the same line before which it ends.
     pub end_column: usize,
-    /// Where that was opened which is left open.
+    /// Position where an open quote or parenthesis was opened.
     pub opened: Option<Position>,
-    /// Why, in words.
+    /// Message, in words.
     pub message: &'a str,
 }
 
-/// Appends what begins or ends a style, in colour.
+/// Appends the escape sequence that begins or ends a style, in colour.
 pub(crate) fn push_style<A: Allocator>(
     out: &mut Vec<u8, A>,
     is_coloured: bool,
@@ -50,7 +50,7 @@ fn push_position<A: Allocator>(
     push_number(out, b":", position.column)
 }
 
-/// Appends a file's name and a place in it.
+/// Appends a file's name and a position in it.
 fn push_place<A: Allocator>(
     out: &mut Vec<u8, A>,
     is_coloured: bool,
@@ -68,7 +68,7 @@ fn push_place<A: Allocator>(
 }
 
 impl Severity {
-    /// How it stands out.
+    /// Returns the style of a severity.
     fn style(self) -> &'static [u8]
         ensures { result.now ≡ severity_style self }
     {
@@ -95,7 +95,7 @@ fn push_severity<A: Allocator>(
     out.extend_from_slice(b" ")
 }
 
-/// Appends where something was opened, if that is told.
+/// Appends the position where something was opened, if there is one.
 fn push_opened<A: Allocator>(
     out: &mut Vec<u8, A>,
     opened: Option<Position>,
@@ -108,7 +108,7 @@ fn push_opened<A: Allocator>(
     }
 }
 
-/// Appends the name of a code in brackets, and a blank before it.
+/// Appends a blank, and the name of a code in brackets.
 fn push_code<A: Allocator>(out: &mut Vec<u8, A>, code: Code) -> Result<(), AllocError>
     ensures { OnOk result (out.new.items ≡ out.old.items ++ bracketed_code code) }
 {
@@ -117,11 +117,11 @@ fn push_code<A: Allocator>(out: &mut Vec<u8, A>, code: Code) -> Result<(), Alloc
     out.extend_from_slice(b"]")
 }
 
-/// Appends the line `FILE:LINE:COLUMN: error: why [code]`, in the form of the GNU coding standards, with
-/// `, opened at LINE:COLUMN` behind why where that is told.
+/// Appends the line `FILE:LINE:COLUMN: error: message [code]`, in the form of the GNU coding
+/// standards. If `opened` is set, `, opened at LINE:COLUMN` comes after the message.
 ///
-/// Control octets of ASCII in the file's name and the message are question marks, so that a
-/// finding is one line. In colour the place is bold, `error:` red, `warning:` magenta.
+/// Control octets of ASCII in the file's name and the message are shown as question marks, so that
+/// a finding is one line. In colour the position is bold, `error:` red, `warning:` magenta.
 pub fn push_line<A: Allocator>(
     out: &mut Vec<u8, A>,
     is_coloured: bool,

@@ -1,4 +1,4 @@
-//! Findings as JSON objects, one a line (RFC 8259).
+//! Formats findings as JSON objects, one a line (RFC 8259).
 ghost use Rattle.std.specs.Prelude.{◌≡◌, ◌+◌, ◌++◌, ◌∷◌, [], ◌<◌, ◌≤◌, OnOk, length, true};
 ghost use Rattle.std.specs.List.{flat_map};
 ghost use Rattle.dns_split.specs.Pieces.{between};
@@ -9,16 +9,16 @@ use crate::push::{push_number, push_text};
 use dns_split::position::Position;
 use std::alloc::{AllocError, Allocator};
 
-/// What the octets of a string are that is written as JSON.
+/// The encoding of a string that is written as JSON.
 #[derive(Clone, Copy)]
 pub enum Charset {
-    /// Each octet is a character: those that are not printable ASCII are written by their numbers.
+    /// Each octet is a character. Octets that are not printable ASCII are written by their numbers.
     Octets,
-    /// They are UTF-8, which JSON is: only control characters of ASCII are written by their numbers.
+    /// UTF-8, as in JSON: only control characters of ASCII are written by their numbers.
     Utf8,
 }
 
-/// The digit of base 16.
+/// Returns the hexadecimal digit of a value.
 fn digit(value: u8) -> u8
     requires { value < 16 }
     ensures { result ≡ hex_digit value }
@@ -30,7 +30,8 @@ fn digit(value: u8) -> u8
     }
 }
 
-/// Whether an octet stands for itself in a JSON string, unless it is a double quote or a backslash.
+/// Returns whether an octet is written unchanged in a JSON string, unless it is a double quote or a
+/// backslash.
 fn stands_plain(charset: Charset, octet: u8) -> bool
     ensures { result ≡ stands_plain charset octet }
 {
@@ -40,7 +41,7 @@ fn stands_plain(charset: Charset, octet: u8) -> bool
     }
 }
 
-/// Appends an octet as a JSON string has it.
+/// Appends an octet as it is written in a JSON string.
 fn push_octet<A: Allocator>(
     out: &mut Vec<u8, A>,
     charset: Charset,
@@ -58,14 +59,15 @@ fn push_octet<A: Allocator>(
     }
 }
 
-/// Whether an octet stands for itself in a JSON string.
+/// Returns whether an octet is written unchanged in a JSON string.
 fn is_plain(charset: Charset, octet: u8) -> bool
     ensures { result ≡ true → json_octet charset octet ≡ octet ∷ [] }
 {
     octet != b'"' && octet != b'\\' && stands_plain(charset, octet)
 }
 
-/// Where the octets end, from `start` on, that stand for themselves in a JSON string.
+/// Returns the offset where the octets end, from `start` on, that are written unchanged in a JSON
+/// string.
 fn plain_end(charset: Charset, octets: &[u8], start: usize) -> usize
     requires { start ≤ length octets.now }
     ensures on { start ≤ result }
@@ -80,7 +82,7 @@ fn plain_end(charset: Charset, octets: &[u8], start: usize) -> usize
     end
 }
 
-/// Appends octets as a JSON string has them, without its double quotes.
+/// Appends octets as they are written in a JSON string, without its double quotes.
 pub fn push_string<A: Allocator>(
     out: &mut Vec<u8, A>,
     charset: Charset,
@@ -115,7 +117,7 @@ fn push_position<A: Allocator>(
     push_number(out, b",\"end_column\":", end_column)
 }
 
-/// Appends the members of the place where what is left open was opened, if it is told.
+/// Appends the members of the position where something was opened, if there is one.
 fn push_opened<A: Allocator>(
     out: &mut Vec<u8, A>,
     opened: Option<Position>,
@@ -133,8 +135,8 @@ fn push_opened<A: Allocator>(
 
 /// Appends a finding as a JSON object on a line of its own.
 ///
-/// Its members are `file`, `line`, `column`, `end_column`, `severity`, `code`, `message`, and where
-/// something is left open `opened_line` and `opened_column` behind `end_column`.
+/// Its members are `file`, `line`, `column`, `end_column`, `severity`, `code` and `message`. If
+/// something is left open, `opened_line` and `opened_column` come after `end_column`.
 pub fn push_json<A: Allocator>(
     out: &mut Vec<u8, A>,
     file: &str,

@@ -1,11 +1,11 @@
-//! What a checker of zone files says: findings, and how they are written, shown and counted.
+//! Formats, filters and counts the findings of a checker of zone files.
 //!
-//! - [`code::Code`] names what can be found, for options and for other programs.
-//! - [`policy::Policy`] decides what a finding weighs, and [`tally::Tally`] counts.
-//! - [`finding::push_line`] writes a finding as a line, [`json::push_json`] as a JSON object.
-//! - [`excerpt::push_excerpt`] writes the line of the file, with a caret under the place.
-//! - [`lint::lint`] tells what the octets of a file show by themselves.
-//! - [`laws`] has what holds of what is written: each finding is one line.
+//! - [`code::Code`] names the findings, for options and for other programs.
+//! - [`policy::Policy`] decides the severity of a finding, and [`tally::Tally`] counts.
+//! - [`finding::push_line`] formats a finding as a line, [`json::push_json`] as a JSON object.
+//! - [`excerpt::push_excerpt`] formats the line of the file, with a caret under the column.
+//! - [`lint::lint`] checks the octets of a file, without its records.
+//! - [`laws`] states that each formatted finding is one line.
 #![tactic(auto)]
 
 pub mod code;

@@ -1,4 +1,4 @@
-//! What the octets of a zone file show by themselves, whatever its entries say.
+//! Checks the octets of a zone file, without its records.
 ghost use Rattle.std.specs.Prelude.{◌≡◌, ◌+◌, ◌++◌, ◌<◌, ◌≤◌, ◌^◌, IfOk, IfSome, OnOk, length, true, false, Ok};
 ghost use Rattle.std.specs.List.{position};
 ghost use Rattle.std.specs.Option.{ForSome};
@@ -13,23 +13,24 @@ use crate::code::Code;
 use dns_split::pieces::{Piece, Pieces};
 use std::alloc::{AllocError, Allocator};
 
-/// A place among octets, and what was found there.
+/// A finding at an offset of octets.
 #[derive(Clone, Copy)]
 pub struct Remark {
     pub at: usize,
     pub code: Code,
 }
 
-/// Which octets of a file are looked at.
+/// A part of a file that is checked.
 #[derive(Clone, Copy)]
 pub struct Block {
-    /// Whether they are the last ones.
+    /// Whether it is the last part.
     pub is_last: bool,
-    /// Whether a line's end of CR LF is to be told of: it is told of once a file.
+    /// Whether a line end of CR LF is reported: this is done once a file.
     pub tells_crlf: bool,
 }
 
-/// How many octets of a byte order mark a file begins with: 3 of UTF-8, 2 of UTF-16, or none.
+/// Returns the number of octets of a byte order mark at the start of a file: 3 of UTF-8, 2 of
+/// UTF-16, or 0.
 pub fn order_mark_len(octets: &[u8]) -> usize
     ensures some { 0 < result → begins_order_mark octets.now ≡ true }
     ensures none { result ≡ 0 → begins_order_mark octets.now ≡ false }
@@ -44,7 +45,7 @@ pub fn order_mark_len(octets: &[u8]) -> usize
     }
 }
 
-/// Appends what was found at a place that is counted from another, if it was found.
+/// Appends a finding at an offset that is counted from another, if there is one.
 fn push_at<A: Allocator>(
     found: &mut Vec<Remark, A>,
     from: usize,
@@ -61,14 +62,14 @@ fn push_at<A: Allocator>(
     Ok(())
 }
 
-/// Whether an octet is a control octet, but no tab and no NUL.
+/// Returns whether an octet is a control octet, but neither a tab nor NUL.
 fn is_unusual_control(octet: u8) -> bool
     ensures { result ≡ is_unusual_control octet }
 {
     octet != 0 && octet != b'\t' && (octet < 0x20 || octet == 0x7F)
 }
 
-/// Where the first NUL stands.
+/// Returns the offset of the first NUL.
 fn find_nul(octets: &[u8]) -> Option<usize>
     ensures first { result ≡ position is_nul octets.now }
     ensures within { IfSome result (λ i. i < length octets.now) }
@@ -76,7 +77,7 @@ fn find_nul(octets: &[u8]) -> Option<usize>
     octets.iter().position(|octet| *octet == 0)
 }
 
-/// Where the first octet from 0x80 on stands.
+/// Returns the offset of the first octet of 0x80 or more.
 fn find_high(octets: &[u8]) -> Option<usize>
     ensures first { result ≡ position is_high octets.now }
     ensures within { IfSome result (λ i. i < length octets.now) }
@@ -84,7 +85,7 @@ fn find_high(octets: &[u8]) -> Option<usize>
     octets.iter().position(|octet| *octet >= 0x80)
 }
 
-/// Where the first control octet stands that is no tab and no NUL.
+/// Returns the offset of the first control octet other than a tab and NUL.
 fn find_control(octets: &[u8]) -> Option<usize>
     ensures first { result ≡ position is_unusual_control octets.now }
     ensures within { IfSome result (λ i. i < length octets.now) }
@@ -92,7 +93,7 @@ fn find_control(octets: &[u8]) -> Option<usize>
     octets.iter().position(|octet| is_unusual_control(*octet))
 }
 
-/// Where the first CR stands.
+/// Returns the offset of the first CR.
 fn find_return(octets: &[u8]) -> Option<usize>
     ensures first { result ≡ position is_return octets.now }
     ensures within { IfSome result (λ i. i < length octets.now) }
@@ -100,7 +101,7 @@ fn find_return(octets: &[u8]) -> Option<usize>
     octets.iter().position(|octet| *octet == b'\r')
 }
 
-/// Appends what a word or a quoted text shows that begins at a place.
+/// Appends the findings of a word or a quoted text that begins at an offset.
 fn lint_token<A: Allocator>(
     token: &[u8],
     from: usize,
@@ -115,7 +116,7 @@ fn lint_token<A: Allocator>(
     Ok(())
 }
 
-/// How many parentheses are open after an octet between two pieces.
+/// Returns the number of open parentheses after an octet between two pieces.
 fn depth_by(depth: usize, octet: u8) -> usize
     requires { depth + 1 < 2 ^ 64 }
     ensures { result ≡ depth_by depth octet }
@@ -127,15 +128,15 @@ fn depth_by(depth: usize, octet: u8) -> usize
     }
 }
 
-/// Whether an octet between two pieces opens a parenthesis inside of others.
+/// Returns whether an octet between two pieces opens a parenthesis inside others.
 fn opens_inside(depth: usize, octet: u8) -> bool
     ensures { result ≡ opens_inside depth octet }
 {
     octet == b'(' && depth > 0
 }
 
-/// Appends the parentheses that are opened inside of others among octets between two pieces, and
-/// returns how many are open behind them.
+/// Appends findings of the parentheses that are opened inside others among octets between two
+/// pieces, and returns the number of open parentheses after them.
 fn lint_gap<A: Allocator>(
     gap: &[u8],
     from: usize,
@@ -161,7 +162,7 @@ fn lint_gap<A: Allocator>(
     Ok(open)
 }
 
-/// Returns what the first octet of an entry shows.
+/// Returns the code of a finding about the first octet of an entry, if it is one.
 fn code_of_first(octet: u8) -> Option<Code>
     ensures { result ≡ code_of_first octet }
 {
@@ -172,7 +173,7 @@ fn code_of_first(octet: u8) -> Option<Code>
     }
 }
 
-/// Appends what the first octet of the entry shows that begins at an offset.
+/// Appends the finding about the first octet of the entry that begins at an offset.
 fn lint_beginning<A: Allocator>(
     octets: &[u8],
     at: usize,
@@ -196,7 +197,7 @@ fn is_token_piece(piece: Piece) -> bool
     matches!(piece, Piece::Word(_) | Piece::Quote(_))
 }
 
-/// Appends what a piece shows.
+/// Appends the findings of a piece.
 fn lint_piece<A: Allocator>(
     octets: &[u8],
     piece: Piece,
@@ -213,7 +214,7 @@ fn lint_piece<A: Allocator>(
     }
 }
 
-/// Returns where a piece begins.
+/// Returns the offset where a piece begins.
 pub fn piece_start(piece: Piece) -> usize
     ensures { result ≡ piece_start piece }
 {
@@ -223,7 +224,7 @@ pub fn piece_start(piece: Piece) -> usize
     }
 }
 
-/// Where the octets behind a piece begin.
+/// Returns the offset after a piece.
 fn piece_end(piece: Piece) -> usize
     ensures { result ≡ piece_end piece }
 {
@@ -233,11 +234,11 @@ fn piece_end(piece: Piece) -> usize
     }
 }
 
-/// How far octets were looked at.
+/// The octets that were checked so far.
 #[derive(Clone, Copy)]
 struct Reached {
     at: usize,
-    /// How many parentheses are open there.
+    /// Number of parentheses that are open there.
     depth: usize,
     /// Whether a token ends there.
     is_after_token: bool,
@@ -260,7 +261,7 @@ fn lint_start<A: Allocator>(
     Ok(())
 }
 
-/// Appends what a piece shows, and what the octets before it do.
+/// Appends the findings of a piece, and of the octets before it.
 fn lint_next<A: Allocator>(
     octets: &[u8],
     reached: Reached,
@@ -284,7 +285,7 @@ fn lint_next<A: Allocator>(
     })
 }
 
-/// Appends what the tokens of entries show, and the octets between them.
+/// Appends the findings of the tokens of entries, and of the octets between them.
 fn lint_pieces<A: Allocator>(octets: &[u8], found: &mut Vec<Remark, A>) -> Result<(), AllocError>
     requires { length octets.now + 1 < 2 ^ 64 }
     ensures { OnOk result (ShowsPieces octets.now found.old.items found.new.items) }
@@ -303,7 +304,7 @@ fn lint_pieces<A: Allocator>(octets: &[u8], found: &mut Vec<Remark, A>) -> Resul
     Ok(())
 }
 
-/// Appends where octets end without a line's end.
+/// Appends a finding if the octets end without a line end.
 fn lint_end<A: Allocator>(octets: &[u8], found: &mut Vec<Remark, A>) -> Result<(), AllocError>
     ensures { OnOk result (found.new.items ≡ found.old.items ++ unended octets.now) }
 {
@@ -319,20 +320,20 @@ fn lint_end<A: Allocator>(octets: &[u8], found: &mut Vec<Remark, A>) -> Result<(
     }
 }
 
-/// Appends what octets of whole entries show by themselves, with its places.
+/// Appends the findings of octets of whole entries, with their offsets.
 ///
 /// - `nul`: the first NUL of a word or a quoted text.
-/// - `control-z`: Ctrl-Z where an entry begins.
-/// - `leading-parenthesis`: a parenthesis where an entry begins.
+/// - `control-z`: Ctrl-Z at the beginning of an entry.
+/// - `leading-parenthesis`: a parenthesis at the beginning of an entry.
 /// - `high-octet`: the first octet from 0x80 on of a word or a quoted text.
-/// - `control-octet`: the first control octet of a word or a quoted text that is no tab and no NUL.
-/// - `nested-parentheses`: each parenthesis that is opened inside of others.
+/// - `control-octet`: the first control octet of a word or a quoted text other than a tab and NUL.
+/// - `nested-parentheses`: each parenthesis that is opened inside others.
 /// - `adjacent-tokens`: each word or quoted text that begins where another ends.
-/// - `crlf`, where it is asked for: the first CR, which in zone text ends a line with LF.
-/// - `no-final-newline`, of the last octets: their end, where the last is no LF.
+/// - `crlf`, if it is asked for: the first CR, which in zone files ends a line with LF.
+/// - `no-final-newline`, for the last octets: their end, if the last octet is not an LF.
 ///
-/// Where the octets have a fault, nothing is told of what stands behind the pieces before it, but
-/// for `crlf` and `no-final-newline`. Where memory lacks, `found` has a beginning.
+/// After a syntax error only `crlf` and `no-final-newline` are found. Fails if memory is out; then
+/// `found` has the first of the findings.
 pub fn lint<A: Allocator>(
     octets: &[u8],
     block: Block,

@@ -1,11 +1,11 @@
-//! What a caller makes of findings.
+//! Decides the severity of findings.
 ghost use Rattle.std.specs.Prelude.{◌≡◌, ◌⊎◌, Contains, None, Some, true, false};
 ghost use Rattle.zonetext_report.specs.Code.{default_severity, is_text_fault};
 ghost use Rattle.zonetext_report.specs.declared.code.Severity.TheVariants.{Error};
 
 use crate::code::{Code, Severity};
 
-/// Whether a code is listed.
+/// Returns whether a code is listed.
 fn lists(codes: &[Code], code: Code) -> bool
     ensures listed { result ≡ true → Contains codes.now code }
     ensures unlisted { result ≡ false → ¬ (Contains codes.now code) }
@@ -13,10 +13,10 @@ fn lists(codes: &[Code], code: Code) -> bool
     codes.contains(&code)
 }
 
-/// What is left out, and what is an error that was none.
+/// Which findings are omitted, and which warnings are errors.
 #[derive(Clone, Copy)]
 pub struct Policy<'a> {
-    /// Findings that are left out, even where they are denied too.
+    /// Findings that are omitted, even if they are denied too.
     pub allowed: &'a [Code],
     /// Findings that are errors.
     pub denied: &'a [Code],
@@ -25,10 +25,10 @@ pub struct Policy<'a> {
 }
 
 impl Policy<'_> {
-    /// What a finding weighs, or `None` where it is left out.
+    /// Returns the severity of a finding, or `None` if it is omitted.
     ///
-    /// A fault of the text is an error whatever is allowed, and so is what keeps a record from being
-    /// read.
+    /// Malformed text is an error even if it is allowed, and so is a finding that keeps a record
+    /// from being read.
     pub fn severity(&self, code: Code, is_refused: bool) -> Option<Severity>
         ensures text { is_text_fault code ≡ true → result ≡ Some Error }
         ensures refused { is_refused ≡ true → result ≡ Some Error }

@@ -1,4 +1,4 @@
-//! Octets, texts and numbers that are appended one after another.
+//! Appends octets, texts and numbers one after another.
 ghost use Rattle.std.specs.Prelude.{◌≡◌, ◌++◌, OnOk};
 ghost use Rattle.std.specs.Fmt.{decimal};
 

@@ -1,4 +1,4 @@
-//! How octets of files are shown on a terminal.
+//! Shows octets of files on a terminal.
 ghost use Rattle.std.specs.Prelude.{◌≡◌, ◌++◌, ◌↔◌, IsTrue, OnOk, option_to_list};
 ghost use Rattle.std.specs.List.{flat_map};
 ghost use Rattle.zone_format.specs.Columns.{width_of};
@@ -7,7 +7,7 @@ ghost use Rattle.zonetext_report.specs.Shown.{has_c1, IsShowable, shown_octet};
 use std::alloc::{AllocError, Allocator};
 use zone_format::place::begins_character;
 
-/// How many characters octets have.
+/// Returns the number of characters of octets.
 pub fn count_columns(octets: &[u8]) -> usize
     ensures { result ≡ width_of octets.now }
 {
@@ -17,7 +17,7 @@ pub fn count_columns(octets: &[u8]) -> usize
         .count()
 }
 
-/// Whether one of the control characters from U+0080 to U+009F stands in UTF-8.
+/// Returns whether text in UTF-8 has one of the control characters from U+0080 to U+009F.
 fn has_c1(octets: &[u8]) -> bool
     ensures { result ≡ has_c1 octets.now }
 {
@@ -32,7 +32,7 @@ fn has_c1(octets: &[u8]) -> bool
     has_c1
 }
 
-/// Whether octets can be shown as they are, but for the control characters of ASCII: they are
+/// Returns whether octets can be shown unchanged, but for the control characters of ASCII: they are
 /// UTF-8, and have no control characters from U+0080 on.
 pub fn is_showable(octets: &[u8]) -> bool
     ensures { IsTrue result ↔ IsShowable octets.now }
@@ -40,8 +40,8 @@ pub fn is_showable(octets: &[u8]) -> bool
     str::from_utf8(octets).is_ok() && !has_c1(octets)
 }
 
-/// What is shown of an octet, if anything: a blank for a tab, a question mark for a control octet;
-/// from 0x80 on the octet itself, or if it isn't to be kept a question mark for a character.
+/// Returns an octet as it is shown, if it is: a blank for a tab, a question mark for a control
+/// octet; from 0x80 on the octet itself, or if it isn't kept a question mark for a character.
 fn shown(keeps_high: bool, octet: u8) -> Option<u8>
     ensures { option_to_list result ≡ shown_octet keeps_high octet }
 {
@@ -55,7 +55,7 @@ fn shown(keeps_high: bool, octet: u8) -> Option<u8>
     }
 }
 
-/// Appends octets as they are shown. `keeps_high` says whether octets from 0x80 on are kept.
+/// Appends octets as they are shown. `keeps_high` is set if octets from 0x80 on are kept.
 pub fn push_shown<A: Allocator>(
     out: &mut Vec<u8, A>,
     keeps_high: bool,

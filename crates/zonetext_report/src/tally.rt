@@ -1,4 +1,4 @@
-//! How many findings there were, and which of them are shown.
+//! Counts findings, and decides which of them are shown.
 ghost use Rattle.std.specs.Prelude.{◌≡◌, ◌<◌, ◌^◌, ◌++◌, ◌∷◌, [], ◌==◌, List, OnOk, if◌then◌else◌};
 ghost use Rattle.zonetext_report.specs.Tally.{IsTally, counted_text, has_room, hidden, hidden_text, shows, summary};
 ghost use Rattle.zonetext_report.specs.declared.code.Severity.{Severity};
@@ -7,17 +7,17 @@ use crate::code::Severity;
 use crate::push::push_number;
 use std::alloc::{AllocError, Allocator};
 
-/// How many errors and warnings were counted, and how many of all are shown.
+/// The number of errors and warnings, and the number of findings that are shown.
 #[derive(Clone, Copy)]
 pub struct Tally {
-    /// How many findings are shown at most: the first ones, or all of them where it is 0.
+    /// Greatest number of findings that are shown, which are the first ones, or 0 for all.
     pub most: usize,
     pub errors: usize,
     pub warnings: usize,
 }
 
 impl Tally {
-    /// Before the first finding.
+    /// Returns the tally before the first finding.
     pub fn new(most: usize) -> Tally
         ensures most { result.most ≡ most }
         ensures none { IsTally [] result }
@@ -29,7 +29,7 @@ impl Tally {
         }
     }
 
-    /// Whether the next finding is shown.
+    /// Returns whether the next finding is shown.
     pub fn has_room(&self) -> bool
         ensures room { result ≡ has_room self.now.most self.now.errors self.now.warnings }
         ensures fits { self.now.most < 2 ^ 64 }
@@ -53,14 +53,14 @@ impl Tally {
         is_shown
     }
 
-    /// The exit status: 1 where an error was found, else 0.
+    /// Returns the exit status: 1 if an error was found, else 0.
     pub fn status(&self) -> u8
         ensures { result ≡ (if self.now.errors == 0 then 0 else 1) }
     {
         if self.errors == 0 { 0 } else { 1 }
     }
 
-    /// How many findings are not shown.
+    /// Returns the number of findings that are not shown.
     pub fn hidden(&self) -> usize
         ensures { result ≡ hidden self.now.most self.now.errors self.now.warnings }
     {
@@ -73,7 +73,8 @@ impl Tally {
         }
     }
 
-    /// Appends the last line, as `3 errors, 1 warning, 2 not shown`; nothing where nothing was found.
+    /// Appends the last line, such as `3 errors, 1 warning, 2 not shown`; or nothing if nothing was
+    /// found.
     pub fn push_summary<A: Allocator>(&self, out: &mut Vec<u8, A>) -> Result<(), AllocError>
         ensures { OnOk result (out.new.items
             ≡ out.old.items ++ summary self.now.most self.now.errors self.now.warnings) }
@@ -89,7 +90,7 @@ impl Tally {
     }
 }
 
-/// Appends a number and what it counts, in the plural unless it is 1.
+/// Appends a number and the noun that it counts, in the plural unless the number is 1.
 fn push_counted<A: Allocator>(
     out: &mut Vec<u8, A>,
     number: usize,
@@ -105,7 +106,7 @@ fn push_counted<A: Allocator>(
     Ok(())
 }
 
-/// Appends how many findings are not shown, if any.
+/// Appends the number of findings that are not shown, if any.
 fn push_hidden<A: Allocator>(out: &mut Vec<u8, A>, number: usize) -> Result<(), AllocError>
     ensures { OnOk result (out.new.items ≡ out.old.items ++ hidden_text number) }
 {
