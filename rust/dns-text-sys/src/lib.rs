@@ -98,7 +98,7 @@ pub struct dnstext_standing {
     pub is_done: bool,
 }
 
-/// An absolute name in wire form, if there is one: so many octets of those that it has.
+/// An absolute name in wire form, if there is one: its first `length` octets.
 #[repr(C)]
 #[derive(Clone, Copy, Debug, PartialEq, Eq)]
 pub struct dnstext_kept_name {
@@ -122,7 +122,7 @@ pub struct dnstext_zone {
     pub owner: dnstext_kept_name,
 }
 
-/// A record of a zone file, whose data stand elsewhere; or the origin of a file to include.
+/// A record of a zone file, whose RDATA is in another buffer; or the origin of a file to include.
 #[repr(C)]
 #[derive(Clone, Copy, Debug, Default, PartialEq, Eq)]
 pub struct dnstext_record {

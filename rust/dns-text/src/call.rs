@@ -8,7 +8,7 @@ pub(crate) struct Refused {
     pub(crate) place: usize,
 }
 
-/// What the call gives, in room for `expected` octets at first and then for as many as it asks for.
+/// What the call returns: with a buffer of `expected` octets first, then with the length it asks for.
 pub(crate) fn give(call: dnstext_call, from: &[u8], expected: usize) -> Result<Vec<u8>, Refused> {
     library::check();
     let mut given = vec![0; expected];

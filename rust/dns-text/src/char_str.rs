@@ -60,7 +60,7 @@ impl CharStr {
         CharStr::read(dnstext_charstr_read, text)
     }
 
-    /// Reads a text as name servers do: each octet but the backslash stands for itself, a tab and
+    /// Reads a text as name servers do: each octet but the backslash is itself, a tab and
     /// the octets from 0x80 to 0xFF too. A quoted text is passed without its double quotes.
     ///
     /// A backslash and three digits are the octet of that number, and a backslash and an octet that
@@ -156,7 +156,7 @@ impl fmt::Display for LongString {
 
 impl Error for LongString {}
 
-/// Why a text is no character string, and where.
+/// Why a text is not a character string, and where.
 #[derive(Clone, Copy, Debug, PartialEq, Eq)]
 pub struct ReadError {
     pub kind: ReadErrorKind,
@@ -165,7 +165,7 @@ pub struct ReadError {
 }
 
 reasons! {
-    /// Why a text is no character string.
+    /// Why a text is not a character string.
     ReadErrorKind {
         /// A backslash with what makes no escape.
         BadEscape = DNSTEXT_BAD_ESCAPE,
@@ -173,7 +173,7 @@ reasons! {
         ShortInput = DNSTEXT_SHORT_INPUT,
         /// No UTF-8.
         BadUtf8 = DNSTEXT_BAD_UTF8,
-        /// A plain character outside printable ASCII, which stands for no octet.
+        /// A plain character outside printable ASCII, which has no octet.
         BadSymbol = DNSTEXT_BAD_SYMBOL,
         /// A symbol after 255 octets.
         TooLong = DNSTEXT_TOO_LONG,

@@ -56,7 +56,7 @@ impl Encoding {
     }
 }
 
-/// A text is none of the encoding.
+/// A text is not of the encoding.
 #[derive(Clone, Copy, Debug, PartialEq, Eq)]
 pub struct BadEncoding;
 

@@ -163,7 +163,7 @@ impl RecordData {
         }
     }
 
-    /// What tells data from others.
+    /// What distinguishes RDATA: type and octets.
     fn key(&self) -> (RecordType, Vec<u8>) {
         (self.record_type(), self.canonical_octets())
     }

@@ -27,7 +27,7 @@ impl Ttl {
     /// The longest time to live.
     pub const MAX: Ttl = Ttl(0x7FFF_FFFF);
 
-    /// The time of so many seconds, if they are below 2^31.
+    /// The TTL of a number of seconds, if that is below 2^31.
     pub fn from_seconds(seconds: u32) -> Option<Ttl> {
         (seconds <= Ttl::MAX.0).then_some(Ttl(seconds))
     }
@@ -173,7 +173,7 @@ fn print(
     f.pad(&String::from_utf8_lossy(&text[..outcome.length]))
 }
 
-/// Why a word is no time to live, type or class, and where.
+/// Why a word is not a TTL, type or class, and where.
 #[derive(Clone, Copy, Debug, PartialEq, Eq)]
 pub struct WordError {
     pub kind: WordErrorKind,
@@ -182,7 +182,7 @@ pub struct WordError {
 }
 
 reasons! {
-    /// Why a word is no time to live, type or class.
+    /// Why a word is not a TTL, type or class.
     WordErrorKind {
         /// No time to live.
         BadTtl = DNSTEXT_BAD_TTL,

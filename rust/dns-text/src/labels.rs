@@ -146,7 +146,7 @@ impl Name {
     }
 
     /// Whether its last labels are those of another name, and it is absolute if that is; so whether
-    /// an absolute name stands in the zone of another.
+    /// an absolute name is at or below another.
     ///
     /// ```
     /// use dns_text::Name;
@@ -179,7 +179,7 @@ impl Name {
                 .any(|start| usize::from(*start) == place)
     }
 
-    /// A relative name with the labels of an origin behind its own; an absolute one as it is.
+    /// A relative name completed by an origin; an absolute one as it is.
     ///
     /// What has more than 255 octets is refused, or more than 254 and no root, as
     /// [`NameOctetsError::TooLong`].

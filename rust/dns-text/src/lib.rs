@@ -17,15 +17,15 @@
 //!
 //! | You want | Take | Memory |
 //! |---|---|---|
-//! | records: owner, time to live, class and data, by what stands before them | [`records`] | the data |
+//! | records: owner, time to live, class and data, by the entries before them | [`records`] | the data |
 //! | the tokens of each entry, and whether it began with a blank | [`entries`] | a list for each entry |
 //! | words, whatever entry they are of | [`tokens`] | a list for the longest entry |
 //! | comments too, where entries end, or no memory at all | [`pieces`] | none |
 //! | records of a file or a stream | [`read_records`] | a block, the longest entry twice, the data |
 //! | entries of a file or a stream | [`read_entries`] | the same, and each entry |
 //!
-//! [`tokens`], [`entries`] and [`pieces`] go up to the first fault, and give what stands before it. The
-//! others go on behind its line. A fault has a place, of which [`Fault::locate`] and
+//! [`tokens`], [`entries`] and [`pieces`] go up to the first fault, and return what comes before it. The
+//! others continue after its line. A fault has a place, of which [`Fault::locate`] and
 //! [`RecordFault::locate`] tell the line and the column, and [`Positions`] those of many faults; those
 //! of a stream say them.
 //!

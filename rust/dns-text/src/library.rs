@@ -7,7 +7,7 @@ static CHECKED: Once = Once::new();
 
 /// The version of the library that is linked.
 pub fn version() -> &'static str {
-    // SAFETY: the string has an end mark, and stands as long as the program.
+    // SAFETY: the string has an end mark, and lives as long as the program.
     unsafe { string(dnstext_version()) }
 }
 

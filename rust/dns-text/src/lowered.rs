@@ -2,7 +2,7 @@
 use std::cmp::Ordering;
 use std::hash::{Hash, Hasher};
 
-/// Octets, compared and hashed as their lower case: the first that differs tells, and the beginning
+/// Octets, compared and hashed as their lower case: the first that differs decides, and the beginning
 /// of others is less than they are.
 #[derive(Clone, Copy)]
 pub(crate) struct Lowered<'o>(pub(crate) &'o [u8]);

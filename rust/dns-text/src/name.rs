@@ -21,7 +21,7 @@ use std::hash::{Hash, Hasher};
 /// [`without_dot`](Name::without_dot) print it as `domain` does.
 ///
 /// Equality, order and hash leave the case of ASCII letters aside (RFC 1035 section 2.3.3). A
-/// relative name never equals an absolute one. Where case tells, compare the octets. The order of
+/// relative name never equals an absolute one. If case matters, compare the octets. The order of
 /// absolute names is the canonical one (RFC 4034 section 6.1): by their labels from the last to the
 /// first, of which the one that ends is less. Relative names follow, in the same order.
 ///
@@ -129,7 +129,7 @@ impl Name {
 
     /// The labels joined by dots, with a dot at the end of an absolute name, as `domain` prints it.
     /// Labels escape the space, the dot and the backslash, and what is not printable ASCII by its
-    /// decimal value. So this is no word of a zone file if a label has a parenthesis, a semicolon or a
+    /// decimal value. So this is not a word of a zone file if a label has a parenthesis, a semicolon or a
     /// quote.
     pub fn dotted(&self) -> String {
         self.printed(dnstext_name_print_dotted)
@@ -246,7 +246,7 @@ impl fmt::Debug for Name {
     }
 }
 
-/// Why a text is no name, and where.
+/// Why a text is not a name, and where.
 #[derive(Clone, Copy, Debug, PartialEq, Eq)]
 pub struct NameError {
     pub kind: NameErrorKind,
@@ -255,7 +255,7 @@ pub struct NameError {
 }
 
 reasons! {
-    /// Why a text is no name.
+    /// Why a text is not a name.
     NameErrorKind {
         /// A backslash with what makes no escape.
         BadEscape = DNSTEXT_BAD_ESCAPE,
@@ -263,7 +263,7 @@ reasons! {
         ShortInput = DNSTEXT_SHORT_INPUT,
         /// No UTF-8.
         BadUtf8 = DNSTEXT_BAD_UTF8,
-        /// A plain character outside printable ASCII, which stands for no octet.
+        /// A plain character outside printable ASCII, which has no octet.
         BadSymbol = DNSTEXT_BAD_SYMBOL,
         /// More than 254 octets before the root.
         TooLong = DNSTEXT_TOO_LONG,

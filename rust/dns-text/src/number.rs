@@ -38,7 +38,7 @@ pub fn number(text: &[u8], greatest: u64) -> Result<u64, NumberError> {
     Ok(number)
 }
 
-/// Why a token is no number, and where.
+/// Why a token is not a number, and where.
 #[derive(Clone, Copy, Debug, PartialEq, Eq)]
 pub struct NumberError {
     pub kind: NumberErrorKind,
@@ -47,9 +47,9 @@ pub struct NumberError {
 }
 
 reasons! {
-    /// Why a token is no number.
+    /// Why a token is not a number.
     NumberErrorKind {
-        /// A symbol that is no plain decimal digit.
+        /// A symbol other than a plain decimal digit.
         NoDigit = DNSTEXT_NO_DIGIT,
         /// A number greater than the greatest one asked for.
         TooGreat = DNSTEXT_TOO_GREAT,

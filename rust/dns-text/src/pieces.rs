@@ -108,7 +108,7 @@ impl<'t> Pieces<'t> {
             ..dnstext_cursor::default()
         };
         let mut outcome = dnstext_outcome::default();
-        // SAFETY: the text is as long as is said, and there is no room for tokens.
+        // SAFETY: the text has that length, and the buffer of tokens is empty.
         unsafe {
             dnstext_entry_next(
                 self.text.as_ptr(),

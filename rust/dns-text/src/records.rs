@@ -31,7 +31,7 @@ impl Record {
     }
 }
 
-/// What stands in a zone file.
+/// An item of a zone file.
 #[derive(Clone, Debug, PartialEq, Eq)]
 #[non_exhaustive]
 pub enum ZoneItem {
@@ -45,7 +45,7 @@ pub enum ZoneItem {
 }
 
 impl ZoneItem {
-    /// The item of a text that stands behind `before` octets of others.
+    /// The item of a text that begins at the offset `before`.
     pub(crate) fn behind(self, before: usize) -> ZoneItem {
         match self {
             ZoneItem::Record(record) => ZoneItem::Record(Record {
@@ -84,7 +84,7 @@ impl RecordFault {
         &self.reason
     }
 
-    /// The fault in a text that stands behind `before` octets of others.
+    /// The fault in a text that begins at the offset `before`.
     pub(crate) fn behind(self, before: usize) -> RecordFault {
         RecordFault {
             place: before + self.place,
@@ -123,13 +123,13 @@ reasons! {
         OpenQuote = DNSTEXT_OPEN_QUOTE,
         /// A CR without its LF.
         LoneReturn = DNSTEXT_LONE_RETURN,
-        /// A directive, or the words in front of a record's data.
+        /// A directive, or the header of a record: owner, TTL, class, type.
         BadHead = DNSTEXT_BAD_HEAD,
         /// `$GENERATE`, which another tool has to expand first.
         NotSupported = DNSTEXT_NOT_SUPPORTED,
-        /// A token that is no name of an owner or an origin.
+        /// A token that is not the name of an owner or an origin.
         BadName = DNSTEXT_BAD_NAME,
-        /// A relative name where there is no origin, also in data.
+        /// A relative name without an origin, also in RDATA.
         NoOrigin = DNSTEXT_NO_ORIGIN,
         /// A record that begins with a blank, and no owner was said.
         NoOwner = DNSTEXT_NO_OWNER,
@@ -165,7 +165,7 @@ impl fmt::Display for RelativeOrigin {
 impl Error for RelativeOrigin {}
 
 /// The records of a zone file, in order. `$ORIGIN` and `$TTL` are taken on the way. After a refusal
-/// reading goes on: at the next entry, or behind the line of a fault of the text.
+/// reading continues: at the next entry, or after the line of a fault of the text.
 ///
 /// Without an origin relative names are refused; see [`Records::with_origin`]. The class is IN where
 /// none is said.
@@ -275,7 +275,7 @@ impl ZoneState {
         }
         let octets = origin.as_octets();
         let mut outcome = dnstext_outcome::default();
-        // SAFETY: the octets are as many as is said, and the call keeps to them.
+        // SAFETY: the octets have that length, and the call keeps to them.
         let status = unsafe {
             dnstext_zone_origin(&mut self.zone, octets.as_ptr(), octets.len(), &mut outcome)
         };

@@ -23,7 +23,7 @@ impl Status {
 
     /// The name, as `dnstext.h` has it, or `unknown`.
     pub fn name(self) -> &'static str {
-        // SAFETY: the call takes any number, and gives a string that stands as long as the program.
+        // SAFETY: the call takes any number, and gives a string that lives as long as the program.
         unsafe { string(dnstext_status_name(self.0)) }
     }
 
@@ -44,7 +44,7 @@ impl fmt::Display for Status {
 ///
 /// # Safety
 ///
-/// It has an end mark, and stands as long as the program.
+/// It has an end mark, and lives as long as the program.
 pub(crate) unsafe fn string(text: *const c_char) -> &'static str {
     unsafe { CStr::from_ptr(text) }.to_str().unwrap_or("?")
 }

@@ -18,7 +18,7 @@ use std::{fmt, io};
 pub enum StreamError<F> {
     /// The reader refused. Nothing follows.
     Io(io::Error),
-    /// The text is refused. Reading goes on behind it.
+    /// The text is refused. Reading continues after it.
     Fault { fault: F, position: Position },
 }
 

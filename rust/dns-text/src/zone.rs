@@ -18,7 +18,7 @@ pub struct Token<'t> {
 }
 
 impl<'t> Token<'t> {
-    /// The token at a place of a text, behind `before` octets of others.
+    /// The token at a place of a text that begins at the offset `before`.
     pub(crate) fn at(place: dnstext_token, before: usize, text: &'t [u8]) -> Token<'t> {
         Token {
             start: before + place.start,
@@ -37,7 +37,7 @@ impl<'t> Token<'t> {
     }
 }
 
-/// The tokens at places of a text, behind `before` octets of others.
+/// The tokens at places of a text that begins at the offset `before`.
 pub(crate) fn tokens_at<'p, 't: 'p>(
     places: &'p [dnstext_token],
     before: usize,
@@ -53,7 +53,7 @@ pub struct Fault {
     pub kind: FaultKind,
     /// The octets of the longest beginning that can still be completed.
     pub place: usize,
-    /// Where the double quote stands that isn't closed, of [`FaultKind::OpenQuote`], or the
+    /// Offset of the double quote that isn't closed, of [`FaultKind::OpenQuote`], or the
     /// outermost parenthesis, of [`FaultKind::OpenParenthesis`].
     pub opened: Option<usize>,
 }
@@ -79,7 +79,7 @@ impl Fault {
         self.kind.status().message()
     }
 
-    /// The fault of a text that stands behind `before` octets of others.
+    /// The fault of a text that begins at the offset `before`.
     pub(crate) fn behind(self, before: usize) -> Fault {
         Fault {
             kind: self.kind,

@@ -29,7 +29,7 @@ fn names_without_case() {
     assert!(!names.contains(&name(br"www\.example.")));
     assert_eq!(upper.to_string(), "WWW.EXAMPLE.");
     assert_ne!(name(b"a"), name(b"b"));
-    // What differs by 32 and is no letter, and octets above 127.
+    // Octets that differ by 32 and are not letters, and octets above 127.
     assert_ne!(name(b"@"), name(b"`"));
     assert_ne!(name(b"[x"), name(b"{x"));
     assert_ne!(name(br"\192"), name(br"\224"));

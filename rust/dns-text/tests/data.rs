@@ -306,7 +306,7 @@ fn long_data_are_refused() {
     );
 }
 
-/// A relative name is no origin.
+/// A relative name cannot be an origin.
 #[test]
 fn relative_origins_are_refused() {
     for origin in ["example", ""] {

@@ -26,7 +26,7 @@ fn found_entry(entry: &Entry<'_>, before: usize) -> Found {
     Ok((entry.begins_blank, tokens.collect()))
 }
 
-/// The entries of a text, and behind the line of each fault those that follow.
+/// The entries of a text, and after the line of each fault those that follow.
 fn at_once(text: &[u8]) -> Vec<Found> {
     let mut found = Vec::new();
     let mut start = 0;

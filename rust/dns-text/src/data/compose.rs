@@ -8,7 +8,7 @@ struct Composed {
     octets: Vec<u8>,
 }
 
-/// The octets of data, also of what is no data of its type.
+/// The octets of RDATA, also of what its type does not allow.
 pub(super) fn compose(data: &RecordData) -> Vec<u8> {
     let mut composed = Composed::default();
     composed.data(data);
@@ -36,7 +36,7 @@ impl Composed {
         self.put(name.as_octets());
     }
 
-    /// A string, which has at most 255 octets, behind their number.
+    /// A string of at most 255 octets, after its length.
     fn string(&mut self, string: &CharStr) {
         let octets = string.as_octets();
         self.put(&[octets.len() as u8]);

@@ -44,7 +44,7 @@ impl OwnedEntry {
     }
 
     /// The line and the column of a place in it, such as where a token starts; none of a place before
-    /// it, or behind its last token.
+    /// it, or after its last token.
     pub fn locate(&self, place: usize) -> Option<Position> {
         let before = self.octets.get(..place.checked_sub(self.start)?)?;
         Some(advance(self.position, before))
@@ -53,8 +53,8 @@ impl OwnedEntry {
 
 /// The entries of a zone text that a reader gives, in blocks.
 ///
-/// They are those of [`entries`](crate::entries) up to the first fault. After it reading goes on behind
-/// its line, as [`read_records`](crate::read_records) does. An error of the reader comes behind the
+/// They are those of [`entries`](crate::entries) up to the first fault. After it reading continues after
+/// its line, as [`read_records`](crate::read_records) does. An error of the reader comes after the
 /// entries that ended before it, and then nothing follows. Calls that were interrupted are made again.
 ///
 /// What is held is a block and at most twice the longest entry: so an entry of more than 4 KB may wait
@@ -93,7 +93,7 @@ pub struct EntryReader<R> {
 }
 
 impl<R: BufRead> EntryReader<R> {
-    /// The next entry, or the fault before its end, if what is held tells it.
+    /// The next entry, or the fault before its end, if what is held decides it.
     fn read(&mut self) -> Option<Result<OwnedEntry, StreamError<Fault>>> {
         if !self.window.skip_line() {
             return None;

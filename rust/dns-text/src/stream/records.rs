@@ -12,7 +12,7 @@ type Found = Option<Result<ZoneItem, RecordFault>>;
 /// The records of a zone file that a reader gives, in blocks.
 ///
 /// They and the refusals are those of [`records`](crate::records), with their lines and columns. An
-/// error of the reader comes behind the records that ended before it, and then nothing follows. Calls
+/// error of the reader comes after the records that ended before it, and then nothing follows. Calls
 /// that were interrupted are made again.
 ///
 /// What is held is a block and at most twice the longest entry, beside 64 KB for data: so an entry of
@@ -73,7 +73,7 @@ impl<R> RecordReader<R> {
 fn whole_entries(text: &[u8]) -> usize {
     let (mut whole, mut ended) = (0, 0);
     for piece in pieces(text) {
-        // Something follows the end, and be it the empty entry behind the last line.
+        // Something follows the end, if only the empty entry after the last line.
         whole = ended;
         if let Ok(piece) = piece {
             if piece.kind == PieceKind::EntryEnd {
@@ -85,14 +85,14 @@ fn whole_entries(text: &[u8]) -> usize {
 }
 
 /// Whether octets that follow a text change nothing of what was found in it, up to a place at which
-/// reading goes on.
+/// reading continues.
 fn is_settled(found: &Found, at: usize, text: &[u8]) -> bool {
     let is_fault = |fault: &RecordFault| fault.is_of_text() && fault.place < text.len();
     at < text.len() || matches!(found, Some(Err(fault)) if is_fault(fault))
 }
 
 impl<R: BufRead> RecordReader<R> {
-    /// The next record, file or refusal, if what is held tells it.
+    /// The next record, file or refusal, if what is held decides it.
     fn read(&mut self) -> Option<Result<ZoneItem, StreamError<RecordFault>>> {
         if !self.window.skip_line() {
             return None;
@@ -108,7 +108,7 @@ impl<R: BufRead> RecordReader<R> {
         self.pass(found, at)
     }
 
-    /// Goes on behind what was found.
+    /// Moves on, after what was found.
     fn pass(
         &mut self,
         found: Found,

@@ -1,12 +1,12 @@
-//! The octets of a reader, as many as are needed.
+//! The octets of a reader, read as they are needed.
 use crate::Position;
 use std::io::{self, BufRead, ErrorKind};
 
-/// Up to so many octets that are left any more of them are looked at; from there on as many more as are
+/// Up to this number of unread octets, any more of them are looked at; above it, as many more as are
 /// left, so that a long entry is looked at as often as its length doubles.
 const FEW: usize = 4096;
 
-/// A place among the octets of a reader, which stands at another one among those that are held.
+/// An offset among all octets of a reader, beside the one among those held.
 #[derive(Clone, Copy, Debug)]
 struct Mark {
     held: usize,
@@ -14,14 +14,14 @@ struct Mark {
     position: Position,
 }
 
-/// The octets of a reader that are held, and where reading stands in them.
+/// The octets of a reader that are held, and the offset of the next.
 #[derive(Debug)]
 pub(super) struct Window<R> {
     reader: R,
     octets: Vec<u8>,
-    /// Where reading stands.
+    /// Offset of the next octet.
     next: Mark,
-    /// Where it stood before what was passed last.
+    /// That offset before the last call.
     last: Mark,
     /// Whether the rest of a line is passed over first.
     skips: bool,
@@ -45,17 +45,17 @@ impl<R> Window<R> {
         }
     }
 
-    /// The octets that are held from where reading stands.
+    /// The octets that are held and not yet read.
     pub(super) fn rest(&self) -> &[u8] {
         &self.octets[self.next.held..]
     }
 
-    /// Where reading stands, among all octets of the reader.
+    /// Offset of the next octet among all octets of the reader.
     pub(super) fn place(&self) -> usize {
         self.next.place
     }
 
-    /// The line and the column of where reading stands.
+    /// The line and the column of the next octet.
     pub(super) fn position(&self) -> Position {
         self.next.position
     }
@@ -65,13 +65,13 @@ impl<R> Window<R> {
         self.is_ended
     }
 
-    /// Goes on behind so many octets.
+    /// Skips `count` octets.
     pub(super) fn pass(&mut self, count: usize) {
         self.last = self.next;
         self.step(count);
     }
 
-    /// Goes on behind the line of a fault that stands behind so many octets.
+    /// Skips the line of a fault that is at the offset `count`.
     pub(super) fn pass_line(&mut self, count: usize) {
         self.pass(count);
         self.skips = true;
@@ -145,7 +145,7 @@ impl<R: BufRead> Window<R> {
     }
 }
 
-/// The position behind octets that follow one.
+/// The position after octets that begin at another.
 pub(super) fn advance(from: Position, octets: &[u8]) -> Position {
     let Some(last) = octets.iter().rposition(|octet| *octet == b'\n') else {
         return Position {

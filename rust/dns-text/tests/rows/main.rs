@@ -44,7 +44,7 @@ fn kind(what: &str, input: &[u8]) -> Option<Answer> {
     }
 }
 
-/// What a call makes of its inputs; none where it is no call of this crate.
+/// What a call makes of its inputs; none if this crate has no such call.
 fn answer(call: &str, inputs: &[&[u8]]) -> Option<Answer> {
     let (group, what) = call.split_once('.')?;
     match (group, inputs) {

@@ -6,7 +6,7 @@ fn name(octets: &[u8]) -> Option<Name> {
     Name::from_octets(octets.to_vec()).ok()
 }
 
-/// Each label, also the root, with a bar behind it.
+/// Each label, also the root, with a bar after it.
 fn barred<'n>(labels: impl Iterator<Item = &'n [u8]>) -> Vec<u8> {
     labels.flat_map(|label| [label, b"|"].concat()).collect()
 }

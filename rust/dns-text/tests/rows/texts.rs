@@ -117,7 +117,7 @@ fn number(field: &[u8]) -> Option<usize> {
     std::str::from_utf8(field).ok()?.parse().ok()
 }
 
-/// The text of pairs of a text and how often it stands there.
+/// The text of pairs of a text and how often it is there.
 fn repeated(pairs: &[&[u8]]) -> Option<Vec<u8>> {
     let texts = pairs
         .chunks(2)
@@ -125,7 +125,7 @@ fn repeated(pairs: &[&[u8]]) -> Option<Vec<u8>> {
     Some(texts.collect::<Option<Vec<_>>>()?.concat())
 }
 
-/// What a call makes of its inputs; none where it is no call of this crate.
+/// What a call makes of its inputs; none if this crate has no such call.
 pub fn answer(what: &str, inputs: &[&[u8]]) -> Option<Answer> {
     match (what, inputs) {
         ("pieces", [text]) => Some(Some(all_pieces(text))),

@@ -47,7 +47,7 @@ pub fn read(record_type: &str, text: &str, origin: &str, wanted: &str) -> bool {
     true
 }
 
-/// A row of a type, a text that is no data of it, why, and where.
+/// A row of a type, a text that is not RDATA of it, why, and where.
 pub fn refused(record_type: &str, text: &str, wanted: &str) -> bool {
     let (data, start) = read_data(record_type, text, Some(crate::EXAMPLE));
     let fault = data.unwrap_err();
