@@ -242,8 +242,8 @@ impl<'t> TokenSource for EntrySource<'t> {
     }
 }
 
-/// Keeping an entry's end, as each reader of a [`TokenSource`] does, keeps what the text has after
-/// the tokens of the open entry.
+/// States that a call that keeps an entry's end, as each reader of a [`TokenSource`] does, also
+/// keeps the parts of the text after the tokens of the open entry.
 ///
 /// The contract is the law; calling it does nothing.
 pub fn the_rest_is_kept()
@@ -251,8 +251,8 @@ pub fn the_rest_is_kept()
         → (new.is_open ≡ true) × (behind_left new ≡ behind_left old) }
 {}
 
-/// What is read of an entry, or before a syntax error, is what [`EntryTokens::next_entry`] returns
-/// of it.
+/// States that the tokens that are read of an entry, or before a syntax error, are those that
+/// [`EntryTokens::next_entry`] returns of it.
 ///
 /// The contract is the law; calling it does nothing.
 pub fn entries_are_given()

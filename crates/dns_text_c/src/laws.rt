@@ -4,34 +4,34 @@ ghost use Rattle.dns_text_c.specs.Entries.{EntriesInARow};
 ghost use Rattle.dns_text_c.specs.Pieces.{PieceCallsTellPieces, PieceCallsTellTokens};
 ghost use Rattle.dns_text_c.specs.RecordCalls.{RecordCallsTellAll};
 
-/// A text of the grammar is read entry by entry: in a row from its start on, its entries have
-/// exactly the tokens of its pieces, cut where entries end, and the last one is flagged as such.
+/// States that a text of the grammar is read entry by entry: in a row from its start on, its entries
+/// have exactly the tokens of its pieces, cut where entries end, and the last one is flagged.
 pub fn entries_in_a_row()
     ensures { EntriesInARow }
 {}
 
-/// Calls for the next entry, one after another from a text's start until the text is done, return
-/// exactly what the text has: the words and quoted texts of its entries, and its syntax error. A
-/// call that fails must have capacity for one token more than it returned. The pieces of a text are
-/// one list (`octets_are_read_one_way` of `dns_split`). If the text splits, the tokens' octets are
-/// its entries.
+/// States that calls for the next entry, one after another from a text's start until the text is
+/// done, return exactly what the text has: the words and quoted texts of its entries, and its syntax
+/// error. A call that fails must have capacity for one token more than it returned. The pieces of a
+/// text are one list (`octets_are_read_one_way` of `dns_split`). If the text splits, the tokens'
+/// octets are its entries.
 pub fn calls_tell_all()
     ensures entries { CallsTellEntries }
     ensures tokens { CallsTellTokens }
     ensures opened { CallsTellOpener }
 {}
 
-/// Calls for the next piece, one after another from a text's start until the text is done, return
-/// exactly the pieces of the text, and its syntax error. If the text splits, the octets of its
-/// words and quoted texts, cut where entries end, are its entries.
+/// States that calls for the next piece, one after another from a text's start until the text is
+/// done, return exactly the pieces of the text, and its syntax error. If the text splits, the octets
+/// of its words and quoted texts, cut where entries end, are its entries.
 pub fn piece_calls_tell_all()
     ensures pieces { PieceCallsTellPieces }
     ensures tokens { PieceCallsTellTokens }
 {}
 
-/// Calls for the next record, one after another from a text's start until nothing is left, each
-/// with a buffer that is large enough, return exactly the records, files and errors that one
-/// [`RecordReader`](dns_reader::RecordReader) returns for the whole text, in order, and then
+/// States that calls for the next record, one after another from a text's start until nothing is
+/// left, each with a buffer that is large enough, return exactly the records, files and errors that
+/// one [`RecordReader`](dns_reader::RecordReader) returns for the whole text, in order, and then
 /// nothing. None of them rejects the zone.
 pub fn record_calls_tell_all()
     ensures { RecordCallsTellAll }

@@ -45,8 +45,8 @@ fn host_part<Octets: AsOctets>(data: &Data<Octets>) -> Option<&[u8]>
     name_part(data, field)
 }
 
-/// Returns a name, or `None` if it is the root, which as a target means that the service has no host
-/// (RFC 7505 section 3, RFC 2782).
+/// Returns a name, or `None` if it is the root, which as a target means that the service has no
+/// host (RFC 7505 section 3, RFC 2782).
 fn but_root<'a>(name: Name<&'a [u8]>) -> Option<Name<&'a [u8]>>
     ensures { result ≡ but_root name.entry }
 {

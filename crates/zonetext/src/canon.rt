@@ -22,7 +22,7 @@ pub struct Form {
 }
 
 /// Returns the indexes of records in a list, in the order of the files. `count` is the number of
-/// records in the files.
+/// records before duplicates were omitted.
 fn by_number(
     alloc: Global,
     records: &[NumberedRecord<'_>],
@@ -72,7 +72,7 @@ fn push_line<Owner: AsOctets, Octets: AsOctets>(
     }
 }
 
-/// Writes records to standard output. `count` is the number of records in the files.
+/// Writes records to standard output. `count` is their number before duplicates were omitted.
 fn write_records(
     rt: &HostRuntime,
     records: &[NumberedRecord<'_>],

@@ -283,7 +283,7 @@ impl<'a> Checker<'a> {
         Ok(())
     }
 
-    /// Reports if the class of a record is not that of the zone.
+    /// Reports that the class of a record is not that of the zone.
     fn tell_class(&mut self, entry: &Entry<'_>, tokens: &[EntryToken<'_>]) -> Result<(), Stop> {
         let words = tokens
             .get(usize::from(!begins_blank(entry))..)
@@ -465,7 +465,7 @@ impl<'a> Checker<'a> {
         self.hold_record(entry, at)
     }
 
-    /// Reports if a directive's name is relative. `number` is the index of its token.
+    /// Reports if a directive's name is relative. `place` is the index of its token.
     fn check_origin(
         &mut self,
         entry: &Entry<'_>,
@@ -564,7 +564,7 @@ impl<'a> Checker<'a> {
         }
     }
 
-    /// Reports if the records have an SOA only at a name that is not the zone's.
+    /// Reports that the records have an SOA only at a name that is not the zone's.
     fn tell_other_soa<Origin: AsOctets>(
         &mut self,
         held: &HeldZone,

@@ -9,7 +9,7 @@ use dns_kinds::RecordType;
 use dns_resource::record_of;
 use zone_set::Selection;
 
-/// The fraction of memory for SOAs.
+/// The memory for SOAs is that for all records, divided by this number.
 const SOA_PART: usize = 8;
 
 /// The records of files, SOAs separate from all others.
