@@ -113,6 +113,7 @@ fn write_gathered(rt: &HostRuntime, gathered: &Gathered, form: Form) -> Result<(
 }
 
 /// Writes the records of files in full, and returns the status.
+#[inline(never)]
 pub fn run(
     rt: &HostRuntime,
     files: &[&str],
@@ -160,6 +161,7 @@ fn write_sorted(rt: &HostRuntime, sorting: Sorting<'_>, form: Form) -> Result<()
 
 /// Writes the records of files in full, with at most `size` octets of memory, and returns the
 /// status. They are in canonical order.
+#[inline(never)]
 pub fn run_bounded(
     rt: &HostRuntime,
     files: &[&str],

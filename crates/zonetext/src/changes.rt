@@ -136,6 +136,7 @@ fn compare(rt: &HostRuntime, old: &Gathered, new: &Gathered, output: Output) -> 
 }
 
 /// Compares two files, and returns the status: 1 if their records differ, or an entry is rejected.
+#[inline(never)]
 pub fn run(
     rt: &HostRuntime,
     first: &str,

@@ -307,6 +307,7 @@ fn run_text(rt: &HostRuntime, inner: &ArgMatches, files: &[&str]) -> io::Result<
 }
 
 /// Checks files, and returns the greatest status.
+#[inline(never)]
 pub fn run(rt: &HostRuntime, inner: &ArgMatches, files: &[&str]) -> io::Result<u8> {
     if inner.get_flag("text") && !asks_for_findings(inner) {
         return run_text(rt, inner, files);

@@ -149,6 +149,7 @@ fn check(rt: &HostRuntime, file: &str, gathered: &Gathered, work: Work) -> Resul
 
 /// Checks the digests of the zone in a file, and returns the status: 0 if one matches, and all
 /// others of a known scheme and hash algorithm do too, unless one is enough.
+#[inline(never)]
 pub fn run(rt: &HostRuntime, file: &str, reading: &Reading<'_>, work: Work) -> u8 {
     let gathered = match gather(rt, &[file], reading, Selection::all()) {
         Ok(gathered) => gathered,

@@ -21,6 +21,7 @@ impl TakeEntry for Lines<'_> {
 }
 
 /// Writes the records of files as they come, and returns the status.
+#[inline(never)]
 pub fn run(rt: &HostRuntime, files: &[&str], reading: &Reading<'_>) -> u8 {
     let mut outcome = give_entries(rt, files, reading, Lines::new(rt));
     match outcome.taker.flush() {
