@@ -11,6 +11,8 @@ use Rattle.std.proofs.lemmas.Grind.{flat_map-append}
 use Rattle.std.proofs.lemmas.List.Sums.{sum_by-cons}
 use Rattle.dns_octets.specs.Room.{Room}
 use Rattle.dns_octets.specs.Appending.{LacksRoom}
+use Rattle.dns_split.specs.declared.runs.OctetClass.TheVariants.{Label}
+use Rattle.dns_split.specs.Skip.{is_in}
 use Rattle.dns_symbol.specs.Symbol.{spell}
 use Rattle.dns_symbol.specs.declared.symbol.Symbol.{Symbol}
 use Rattle.dns_symbol.specs.declared.symbol.Symbol.TheVariants.{Char, SimpleEscape, DecimalEscape}
@@ -365,6 +367,9 @@ lacks_labels room text old rest middle own_text after count own_count part i ope
     omega (arith, short, long, n, part_length part, ap length i.gained, length-append old (wire (part_labels i.parts [])), length_wire (part_labels i.parts []))
 
 -- octets that are no dots and no backslashes spell a label each by itself
+pub label_plain : (c : ℕ) → is_in Label c ≡ true → (c ≡ 46 → ⊥) × (c ≡ 92 → ⊥)
+label_plain c h = (λ is. grind (arith, nat_tests), λ is. grind (arith, nat_tests))
+
 plain_octet : (c : ℕ) → (c ≡ 46 → ⊥) → (c ≡ 92 → ⊥) → is_label_spelling (Char c) ≡ true
 plain_octet c n m = grind (arith, nat_tests)
 

@@ -1,6 +1,5 @@
 pub mod FormLaws
 pub mod Fronts
-pub mod LabelEnds
 pub mod LabelParts
 pub mod NameAnswers
 pub mod NameFronts

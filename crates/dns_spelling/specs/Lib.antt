@@ -1,5 +1,4 @@
 pub mod Forms
-pub mod Lanes
 pub mod NameSpelling
 pub mod PrintedNames
 pub mod Shown

@@ -3,19 +3,17 @@ ghost use Rattle.std.specs.Prelude.{ℕ, ◌≡◌, ◌≢◌, ◌⊎◌, ◌+�
 ghost use Rattle.std.specs.Option.{option_copied};
 ghost use Rattle.dns_octets.specs.Appending.{Extends, Gains};
 ghost use Rattle.std.specs.List.{flat_map};
-ghost use Rattle.dns_split.specs.Skip.{first_set};
 ghost use Rattle.dns_symbol.specs.Characters.{backslash, dot};
 ghost use Rattle.dns_symbol.specs.Symbol.{spell};
 ghost use Rattle.dns_symbol.specs.declared.symbol.Symbol.{Symbol};
-ghost use Rattle.dns_spelling.specs.Lanes.{MarksLabelEnds};
 ghost use Rattle.dns_spelling.specs.NameSpelling.{SpellsName, OpensLabel, EndsLabel, RefusesFrontLabel, HasBadLabel, RefusesName, GainsLabels, LacksRoomForLabels};
 ghost use Rattle.dns_kinds.specs.declared.error.ErrorKind.TheVariants.{ShortBuf};
 
 use crate::spelled::{append_behind, first_spelled};
 use dns_kinds::ErrorKind;
 use dns_octets::{AsOctets, OctetsBuilder};
+use dns_split::runs::{OctetClass, run_end};
 use dns_wire::{MAX_LABEL, MAX_NAME, MAX_RELATIVE, Name};
-use std::simd::prelude::*;
 
 /// The label that a text begins with: its own text, its length in octets, and the text after it.
 #[derive(Clone, Copy)]
@@ -25,58 +23,13 @@ struct FrontLabel<'a> {
     rest: &'a [u8],
 }
 
-/// Number of octets of one load.
-const LANES: usize = 16;
-
-/// Returns a bit for each octet of a load, set if the octet is a dot or a backslash.
-#[inline(always)]
-fn label_ends(load: u8x16) -> u64
-    requires { length load ≡ LANES }
-    ensures { MarksLabelEnds load result }
-{
-    let dots = load.simd_eq(u8x16::splat(b'.'));
-    (dots | load.simd_eq(u8x16::splat(b'\\'))).to_bitmask()
-}
-
-/// Returns the index of the lowest set bit, or 16.
-#[inline(always)]
-fn first_set(mask: u64) -> usize
-    ensures { result ≡ first_set mask }
-{
-    if mask == 0 {
-        LANES
-    } else {
-        mask.trailing_zeros() as usize
-    }
-}
-
-/// Returns the number of octets of one load before the first dot or backslash.
-#[inline(always)]
-fn plain_run(octets: &[u8], at: usize) -> usize
-    requires { at + LANES ≤ length octets.now }
-    ensures within { result ≤ LANES }
-    ensures plain { (k : ℕ) → at ≤ k → k < at + result → (slice_index octets.now k ≢ dot) × (slice_index octets.now k ≢ backslash) }
-{
-    first_set(label_ends(u8x16::from_slice(&octets[at..])))
-}
-
 /// Returns the number of octets before the first dot or backslash, or up to the end of a text.
+#[inline(always)]
 fn plain_label_count(text: &[u8]) -> usize
     ensures within { result ≤ length text.now }
     ensures plain { (k : ℕ) → k < result → (slice_index text.now k ≢ dot) × (slice_index text.now k ≢ backslash) }
 {
-    let mut place = 0;
-    'by_load: while text.len() - place >= LANES {
-        let run = plain_run(text, place);
-        if run < LANES {
-            return place + run;
-        }
-        place += LANES;
-    }
-    'by_one: while place < text.len() && text[place] != b'.' && text[place] != b'\\' {
-        place += 1;
-    }
-    place
+    run_end(OctetClass::Label, text, 0)
 }
 
 /// Returns whether a label ends before a text: at its end, or at a dot.
@@ -168,6 +121,7 @@ const PUT: usize = 144;
 
 /// Returns the number of octets after the one at `start` and before the first dot or backslash, at
 /// most `most`.
+#[inline(always)]
 fn put_label_count(wire: &[u8; PUT], start: usize, most: usize) -> usize
     requires { start < PUT }
     ensures within { result ≤ most }
@@ -185,6 +139,7 @@ fn put_label_count(wire: &[u8; PUT], start: usize, most: usize) -> usize
 ///
 /// The wire format is the text after one octet, with the length of each label in place of the octet
 /// before the label.
+#[inline(always)]
 fn put_labels(text: &[u8], wire: &mut [u8; PUT]) -> Option<Labels>
     ensures { IfSome result (λ l. (l.count ≤ PUT) × GainsLabels text.now [] (take l.count wire.new) l.count l.is_absolute) }
 {

@@ -5,11 +5,11 @@ use Rattle.std.proofs.lemmas.Simd.{map-map, mask_l-mod, length-chunk, first_set_
 use Rattle.std.proofs.lemmas.List.{length-map}
 use Rattle.std.specs.List.{prefix_len}
 use lib.Lanes.{chunk, mask_l, top}
-use Rattle.dns_split.specs.declared.skip.Class.{Class}
+use Rattle.dns_split.specs.declared.runs.OctetClass.{OctetClass}
 use Rattle.dns_split.specs.Skip.{is_in, RunIn, Marks, first_set}
 
 -- the bits of lanes by a function of the octet, where a run over all octets shows that it marks those of no other class
-pub marks_by : (k j : Class) (v z : List ℕ) (f : ℕ → ℕ) → length v ≡ 16 → j ≡ k → z ≡ map f v → agree_below (is_in k) (λ c. not (top 7 (f c))) 256 ≡ true
+pub marks_by : (k j : OctetClass) (v z : List ℕ) (f : ℕ → ℕ) → length v ≡ 16 → j ≡ k → z ≡ map f v → agree_below (is_in k) (λ c. not (top 7 (f c))) 256 ≡ true
     → Marks j v (mask_l (map (top 7) z) % 2 ^ 64)
 marks_by k j v z f long same lanes all =
     let few : length (map (λ c. top 7 (f c)) v) ≤ 64 = omega (arith, length-map v (λ c. top 7 (f c)), long) in
@@ -20,7 +20,7 @@ marks_by k j v z f long same lanes all =
     })
 
 -- from the first bit that is set: each octet before it is of the class, and that one is not
-pub run_of_lanes : (k : Class) (text : List ℕ) (i r bits : ℕ) → i + 16 ≤ length text → ((n : ℕ) → Fits w8 (get_or text n 0)) → r ≡ first_set bits → Marks k (chunk i 16 text) bits → RunIn k text i r
+pub run_of_lanes : (k : OctetClass) (text : List ℕ) (i r bits : ℕ) → i + 16 ≤ length text → ((n : ℕ) → Fits w8 (get_or text n 0)) → r ≡ first_set bits → Marks k (chunk i 16 text) bits → RunIn k text i r
 run_of_lanes k text i r bits room fits found m =
     let long = length-chunk i 16 text room in
     let counted : r ≡ prefix_len (λ c. not (m.marked c)) (chunk i 16 text) = found ∙ ap first_set m.is ∙ first_set_mask_l m.marked (chunk i 16 text) 16 long (omega arith) in (

@@ -8,7 +8,7 @@ use Rattle.dns_split.specs.declared.reader.Mode.{Mode}
 use Rattle.dns_split.specs.declared.reader.Mode.TheVariants.{Outside}
 use Rattle.dns_split.specs.declared.reader.Act.TheVariants.{EndToken}
 use Rattle.dns_split.specs.declared.reader.Move.{Move}
-use Rattle.dns_split.specs.declared.skip.Class.TheVariants.{Blank, Line}
+use Rattle.dns_split.specs.declared.runs.OctetClass.TheVariants.{Blank, Line}
 use Rattle.dns_split.specs.declared.pieces.Fault.{Fault}
 use Rattle.dns_split.specs.declared.pieces.Piece.{Piece}
 use Rattle.dns_split.specs.Pieces.{end_at, word_at}

@@ -9,8 +9,8 @@ use Rattle.dns_split.specs.declared.reader.Mode.TheVariants.{Outside, Quoted, Co
 use Rattle.dns_split.specs.declared.reader.Act.TheVariants.{Add, EndToken}
 use Rattle.dns_split.specs.declared.reader.Within.{Within}
 use Rattle.dns_split.specs.declared.reader.Within.TheVariants.{InQuote, InWord}
-use Rattle.dns_split.specs.declared.skip.Class.{Class}
-use Rattle.dns_split.specs.declared.skip.Class.TheVariants.{Word, Quote, Comment as Note, Blank}
+use Rattle.dns_split.specs.declared.runs.OctetClass.{OctetClass}
+use Rattle.dns_split.specs.declared.runs.OctetClass.TheVariants.{Word, Quote, Comment as Note, Blank}
 use Rattle.dns_split.specs.declared.skip.Place.{Place}
 use Rattle.dns_symbol.specs.Escape.{ReadsEscape, escape_symbol}
 use Rattle.dns_symbol.specs.Symbol.{spell, is_digit, is_escape_by, is_printable}
@@ -27,13 +27,13 @@ use Rattle.dns_split.proofs.PieceSteps.{run_step}
 
 -- ---- classes
 -- one more octet, and a run of them
-pub each_none : (k : Class) (text : List ℕ) (i : ℕ) → EachIn k text i i
+pub each_none : (k : OctetClass) (text : List ℕ) (i : ℕ) → EachIn k text i i
 each_none k text i n from to = absurd (omega arith)
 
-pub each_more : (k : Class) (text : List ℕ) (i j : ℕ) → EachIn k text i j → is_in k (get_or text j 0) ≡ true → EachIn k text i (j + 1)
+pub each_more : (k : OctetClass) (text : List ℕ) (i j : ℕ) → EachIn k text i j → is_in k (get_or text j 0) ≡ true → EachIn k text i (j + 1)
 each_more k text i j all here n from to = elim (cases_lt n j) [ inl early ↦ all n from early | inr late ↦ subst (λ m. is_in k (get_or text m 0) ≡ true) (omega arith) here ]
 
-pub each_joined : (k : Class) (text : List ℕ) (i j e : ℕ) → EachIn k text i j → EachIn k text j e → EachIn k text i e
+pub each_joined : (k : OctetClass) (text : List ℕ) (i j e : ℕ) → EachIn k text i j → EachIn k text j e → EachIn k text i e
 each_joined k text i j e front back n from to = elim (cases_lt n j) [ inl early ↦ front n from early | inr late ↦ back n late to ]
 
 -- an octet of a class changes nothing in its mode
@@ -50,7 +50,7 @@ at_drop : (text : List ℕ) (i : ℕ) → i < length text → drop i text ≡ ge
 at_drop text i h = drop_more text i 0 h
 
 -- octets that change nothing, one after the other
-still_run : (m : Mode) (k : Class) → ((c : ℕ) → is_in k c ≡ true → Still m c) → (text : List ℕ) (i r : ℕ) → i + r ≤ length text → EachIn k text i (i + r) → SameRun m text i (i + r)
+still_run : (m : Mode) (k : OctetClass) → ((c : ℕ) → is_in k c ≡ true → Still m c) → (text : List ℕ) (i r : ℕ) → i + r ≤ length text → EachIn k text i (i + r) → SameRun m text i (i + r)
 still_run m k still text i zero w all = subst (λ j. SameRun m text i j) (omega arith) (λ d s b. refl)
 still_run m k still text i (suc r) w all = λ d s b.
     let here : is_in k (get_or text i 0) ≡ true = all i (omega arith) (omega arith) in
@@ -59,7 +59,7 @@ still_run m k still text i (suc r) w all = λ d s b.
     let moved : SameRun m text (i + 1) (i + suc r) = subst (λ j. SameRun m text (i + 1) j) further rest in
     ap (run m d s i b) (at_drop text i (omega (arith, w))) ∙ still (get_or text i 0) here d s i b (drop (i + 1) text) ∙ moved d s b
 
-pub still_between : (m : Mode) (k : Class) → ((c : ℕ) → is_in k c ≡ true → Still m c) → (text : List ℕ) (i j : ℕ) → i ≤ j → j ≤ length text → EachIn k text i j → SameRun m text i j
+pub still_between : (m : Mode) (k : OctetClass) → ((c : ℕ) → is_in k c ≡ true → Still m c) → (text : List ℕ) (i j : ℕ) → i ≤ j → j ≤ length text → EachIn k text i j → SameRun m text i j
 still_between m k still text i j o w all = subst (λ e. SameRun m text i e) (omega arith) (still_run m k still text i (j - i) (omega (arith, o, w)) (λ n from to. all n from (omega (arith, o, to))))
 
 -- an octet before and after which nothing is open
@@ -174,7 +174,7 @@ pub run_joined : (m : Mode) (text : List ℕ) (i j e : ℕ) → SameRun m text i
 run_joined m text i j e front back d s b = front d s b ∙ back d s b
 
 -- a run of the class, after what yielded the same
-pub class_more : (q : Within) (k : Class) → k ≡ class_of q → (text : List ℕ) (i j e : ℕ) → SameRun (home q) text i j → j ≤ e → e ≤ length text → EachIn k text j e → SameRun (home q) text i e
+pub class_more : (q : Within) (k : OctetClass) → k ≡ class_of q → (text : List ℕ) (i j e : ℕ) → SameRun (home q) text i j → j ≤ e → e ≤ length text → EachIn k text j e → SameRun (home q) text i e
 class_more q k is text i j e before on within each =
     run_joined (home q) text i j e before (class_run q text j e on within (subst (λ l. EachIn l text j e) is each))
 

@@ -6,7 +6,7 @@ use Rattle.dns_split.specs.declared.pieces.Fault.{Fault}
 use Rattle.dns_split.specs.declared.pieces.Piece.{Piece}
 use Rattle.dns_split.specs.declared.pieces.Piece.TheVariants.{Word as WordAt, Quote as QuoteAt, Comment as CommentAt, End as EndAt}
 use Rattle.dns_split.specs.declared.reader.Mode.TheVariants.{Outside}
-use Rattle.dns_split.specs.declared.skip.Class.TheVariants.{Line}
+use Rattle.dns_split.specs.declared.runs.OctetClass.TheVariants.{Line}
 use Rattle.dns_split.specs.Run.{run}
 use Rattle.dns_split.specs.Skip.{EachIn}
 

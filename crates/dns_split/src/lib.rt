@@ -13,6 +13,8 @@
 //! - [`pieces::Fault::needs_more`] returns whether more octets may resolve an error, and
 //!   [`opening::outermost_open`] finds the outermost parenthesis that isn't closed.
 //! - [`position::line_and_column`] returns the line and column of an offset.
+//! - [`runs::run_end`] finds the end of a run of octets of one class, for readers of words, quoted
+//!   strings, comments and labels.
 //! - [`token::content`] returns the text of a token without its double quotes.
 //! - [`splitting::split`] returns the entries of a text, each with its tokens as they are spelled,
 //!   or [`splitting::SplitError`] with the offset up to which the text could have become one of the
@@ -33,6 +35,7 @@ pub mod opening;
 pub mod pieces;
 pub mod position;
 mod reader;
+pub mod runs;
 mod skip;
 pub mod splitting;
 pub mod standing;

@@ -12,7 +12,8 @@ ghost use Rattle.dns_split.specs.Run.{first_blank, blank_after, wrong_at, wrong_
 ghost use Rattle.dns_split.specs.Run.{EndsWord, EndsComment, Gives, Steps};
 
 use crate::reader::{Act, Mode, Within, may_end, step};
-use crate::skip::{Class, Place, past_all, skip_class, token_end};
+use crate::runs::{OctetClass, run_end};
+use crate::skip::{Place, past_all, token_end};
 use std::marker::Model;
 
 /// A range of octets, from `start` to before `end`.
@@ -305,7 +306,7 @@ fn comment_here(octets: &[u8], place: Place, begins_blank: bool) -> Option<Given
     ensures { IfSome result (Gives octets.now place begins_blank) }
 {
     let start = place.at;
-    let end = skip_class(Class::Comment, octets, start + 1);
+    let end = run_end(OctetClass::Comment, octets, start + 1);
     if !ends_comment(octets, place.depth, end) {
         return None;
     }
@@ -572,7 +573,7 @@ impl<'t> Pieces<'t> {
         if self.is_done || self.depth > 0 {
             return None;
         }
-        let feed = skip_class(Class::Line, self.octets, self.at);
+        let feed = run_end(OctetClass::Line, self.octets, self.at);
         if feed == self.octets.len() || self.octets[feed] != b'\n' {
             return None;
         }

@@ -2,5 +2,5 @@ pub mod Filling
 pub mod LineFilling
 pub mod Once
 pub mod Outside
-pub mod PartLanes
 pub mod Unfilled
+pub mod WordEnds

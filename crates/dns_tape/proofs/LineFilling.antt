@@ -24,7 +24,7 @@ rest_left octets d at = left_run octets d at (first_blank octets)
 abbrev pub FillingAt : List ℕ → ℕ → ℕ → Option ℕ → List TokenSpan → Type 0
 FillingAt octets d at ended spans = Filling octets (all_left octets) (rest_left octets d at) ended spans
 
-all_given : (octets : List ℕ) → ((n : ℕ) → Fits w8 (get_or octets n 0)) → IsGiven octets (all_left octets)
+pub all_given : (octets : List ℕ) → ((n : ℕ) → Fits w8 (get_or octets n 0)) → IsGiven octets (all_left octets)
 all_given octets fits = (reads_octets octets (small_scalars octets (λ n. (fits n).fits)), each_within octets (first_blank octets))
 
 module _ (octets : List ℕ) (d at : ℕ) (ended : Option ℕ) (spans : List TokenSpan) (x : FillingAt octets d at ended spans) where

@@ -1,19 +1,18 @@
 -- The pieces from an offset where no token and no comment is open, as the reader by octets finds them.
-use Rattle.std.proofs.Common.{◌≡◌, ℕ, zero, suc, ◌+◌, ◌-◌, ◌<◌, ◌≤◌, arith, Bool, true, false, ◌==◌, List, [], ◌∷◌, length, drop, refl, sym, subst, ap, ◌∙◌, get_or, inl, inr, ◌⊎◌}
+use Rattle.std.proofs.Common.{◌≡◌, ℕ, zero, suc, ◌+◌, ◌-◌, ◌<◌, arith, Bool, true, false, ◌==◌, List, [], ◌∷◌, length, drop, refl, sym, subst, ap, ◌∙◌, get_or, inl, inr, ◌⊎◌}
 use Rattle.std.specs.Prelude.{◌≢◌, if◌then◌else◌, Some, None, Result, Ok}
-use Rattle.std.proofs.lemmas.List.{drop_more}
 use Rattle.std.proofs.lemmas.Bool.{cond-false, cond-true, eq-eqb}
 use Rattle.std.proofs.lemmas.Bool.Decides.{nat_tests}
 use Rattle.dns_split.specs.declared.pieces.Fault.{Fault}
 use Rattle.dns_split.specs.declared.pieces.Piece.{Piece}
 use Rattle.dns_split.specs.Pieces.{comment_at, end_at, quote_at, word_at}
-use Rattle.dns_split.specs.Run.{SameRun, Still, first_blank, run}
+use Rattle.dns_split.specs.Run.{Still, first_blank, run}
 use Rattle.dns_split.proofs.PassedLines.{run_some}
 use Rattle.dns_split.proofs.PieceSteps.{turn_closed, turn_finished, turn_on}
-use Rattle.dns_split.proofs.Skips.{comment_given, note_still, quote_given, quote_still, word_still}
-use Rattle.dns_tape.specs.declared.parts.Part.{Part}
-use Rattle.dns_tape.specs.declared.parts.Part.TheVariants.{Word, Quote, Comment}
-use Rattle.dns_tape.specs.Parts.{AllInside, EndsWordBefore, IsAfterBlank, IsAfterReturn, IsCommentTo, IsQuoteTo, IsWordTo, is_inside}
+use Rattle.dns_split.proofs.Skips.{comment_given, note_still, quote_given, quote_still, still_between, word_still}
+use Rattle.dns_split.specs.declared.runs.OctetClass.TheVariants.{Word, Quote, Comment}
+use Rattle.dns_split.specs.Skip.{is_in}
+use Rattle.dns_tape.specs.Parts.{EndsWordBefore, IsAfterBlank, IsAfterReturn, IsCommentTo, IsQuoteTo, IsWordTo}
 
 -- the mode that a lemma is about
 module _ {M : Type 0} {m : M} where
@@ -22,7 +21,7 @@ module _ {M : Type 0} {m : M} where
 
 -- from an offset on, in parentheses of a depth, with the offset where the open token began
 abbrev pub open_run : List ℕ → ℕ → ℕ → ℕ → Bool → List (Result Piece Fault)
-open_run octets d s at b = run (mode_in (λ m. (c : ℕ) → is_inside Word c ≡ true → Still m c) word_still) d s at b (drop at octets)
+open_run octets d s at b = run (mode_in (λ m. (c : ℕ) → is_in Word c ≡ true → Still m c) word_still) d s at b (drop at octets)
 
 abbrev pub left_run : List ℕ → ℕ → ℕ → Bool → List (Result Piece Fault)
 left_run octets d at b = open_run octets d at at b
@@ -65,21 +64,9 @@ ends_open d c (inr (inr (inr (inr (inr (inl is)))))) = subst (EndsOpen d) (sym i
 ends_open d c (inr (inr (inr (inr (inr (inr (inl is))))))) = subst (EndsOpen d) (sym is) (plain_ends d).4
 ends_open d c (inr (inr (inr (inr (inr (inr (inr is))))))) = subst (EndsOpen d) (sym is.0) (close_ends d is.1)
 
--- octets inside a part, one after another
-still_run : {m : _} (k : Part) → ((c : ℕ) → is_inside k c ≡ true → Still m c) → (octets : List ℕ) (i r : ℕ) → i + r ≤ length octets → AllInside k octets i (i + r) → SameRun m octets i (i + r)
-still_run {m} k still octets i zero w all = subst (λ j. SameRun m octets i j) (omega arith) (λ d s b. refl)
-still_run {m} k still octets i (suc r) w all = λ d s b.
-    let rest : SameRun m octets (i + 1) (i + 1 + r) = still_run k still octets (i + 1) r (omega (arith, w)) (λ n from to. all n (omega arith) (omega (arith, to))) in
-    let further : i + 1 + r ≡ i + suc r = omega arith in
-    let moved : SameRun m octets (i + 1) (i + suc r) = subst (λ j. SameRun m octets (i + 1) j) further rest in
-    ap (run m d s i b) (drop_more octets i 0 (omega (arith, w))) ∙ still (get_or octets i 0) (all i (omega arith) (omega arith)) d s i b (drop (i + 1) octets) ∙ moved d s b
-
-still_to : {m : _} (k : Part) → ((c : ℕ) → is_inside k c ≡ true → Still m c) → (octets : List ℕ) (i j : ℕ) → i ≤ j → j ≤ length octets → AllInside k octets i j → SameRun m octets i j
-still_to {m} k still octets i j o w all = subst (λ e. SameRun m octets i e) (omega (arith, o)) (still_run k still octets i (j - i) (omega (arith, o, w)) (λ n from to. all n from (omega (arith, o, to))))
-
 -- a word, a quoted string and a comment
 pub word_left : (octets : List ℕ) (d at e : ℕ) (b : Bool) → IsWordTo octets d at e → left_run octets d at b ≡ Ok (word_at at e) ∷ left_run octets d e b
-word_left octets d at e b x = still_to Word word_still octets at e (omega (arith, x.some)) (omega (arith, x.within)) x.inside d at b
+word_left octets d at e b x = still_between _ Word word_still octets at e (omega (arith, x.some)) (omega (arith, x.within)) x.inside d at b
     ∙ ends_open d (get_or octets e 0) x.ends octets at e b x.within x.some refl
 
 pub quote_left : (octets : List ℕ) (d at e : ℕ) (b : Bool) → get_or octets at 0 ≡ 34 → IsQuoteTo octets at e → left_run octets d at b ≡ Ok (quote_at at e) ∷ left_run octets d e b
@@ -88,10 +75,10 @@ quote_left octets d at e b opens x =
     let same : last + 1 ≡ e = omega (arith, x.some) in
     subst (λ n. left_run octets d at b ≡ Ok (quote_at at n) ∷ left_run octets d n b) same
     (quote_given octets (record { depth = d; at = at }) b last (omega (arith, x.some, x.within)) opens (omega (arith, x.some)) (omega (arith, x.some, x.within))
-    (still_to Quote quote_still octets (at + 1) last (omega (arith, x.some)) (omega (arith, x.within)) x.inside) x.closes).same
+    (still_between _ Quote quote_still octets (at + 1) last (omega (arith, x.some)) (omega (arith, x.within)) x.inside) x.closes).same
 
 comment_ends : (octets : List ℕ) (d e : ℕ) → e < length octets → (get_or octets e 0 ≡ 10) ⊎ (get_or octets e 0 ≡ 13) → (s : ℕ) (b : Bool)
-    → run (mode_in (λ m. (c : ℕ) → is_inside Comment c ≡ true → Still m c) note_still) d s e b (drop e octets) ≡ Ok (comment_at s e) ∷ left_run octets d e b
+    → run (mode_in (λ m. (c : ℕ) → is_in Comment c ≡ true → Still m c) note_still) d s e b (drop e octets) ≡ Ok (comment_at s e) ∷ left_run octets d e b
 comment_ends octets d e w (inl is) s b = turn_closed octets _ d s e b 10 (comment_at s e) _ w (sym is) refl refl
 comment_ends octets d e w (inr is) s b = turn_closed octets _ d s e b 13 (comment_at s e) _ w (sym is) refl refl
 

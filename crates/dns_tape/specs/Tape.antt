@@ -1,12 +1,15 @@
 -- A filled tape: the spans of the tokens of the first entry of octets.
-use Rattle.std.specs.Prelude.{◌≡◌, ◌≤◌, ◌<◌, ℕ, ◌+◌, ◌-◌, Bool, true, false, List, [], ◌∷◌, ◌++◌, length, map, Option, None, Result, Ok}
+use Rattle.std.specs.Prelude.{◌≡◌, ◌⊎◌, ◌≤◌, ◌<◌, ℕ, ◌+◌, ◌-◌, Bool, true, false, List, [], ◌∷◌, ◌++◌, length, map, slice_index, Option, None, Result, Ok}
 use Rattle.std.specs.List.{AllByRecursion}
 use Rattle.dns_split.specs.EntryTokens.{TokenSeen, ends_at}
 use Rattle.dns_split.specs.Pieces.{between}
+use Rattle.dns_split.specs.Skip.{is_in}
 use Rattle.dns_split.specs.declared.pieces.EndOfEntry.{EndOfEntry}
 use Rattle.dns_split.specs.declared.pieces.Fault.{Fault}
 use Rattle.dns_split.specs.declared.pieces.Piece.{Piece}
 use Rattle.dns_split.specs.declared.pieces.Span.{Span}
+use Rattle.dns_split.specs.declared.runs.OctetClass.TheVariants.{Blank, Word}
+use Rattle.dns_symbol.specs.Characters.{line_feed}
 use Rattle.dns_tape.specs.declared.tape.TheConstants.{TAPE_CAPACITY}
 use Rattle.dns_tape.specs.declared.tape.TokenSpan.{TokenSpan}
 use Rattle.dns_tape.specs.FirstEntry.{StopsFirst, piece_tokens, stop_offset}
@@ -35,6 +38,16 @@ FillsLine octets spans end = (f : FillsWith octets spans end) × (0 < length f.l
 -- if the first entry of the octets ends at all, it has more tokens than a tape holds
 abbrev pub FitsNoTape : List ℕ → Type 0
 FitsNoTape octets = (stop : EndOfEntry) (left : List (Result Piece Fault)) (first : StopsFirst octets (Ok stop) left) → TAPE_CAPACITY < length (piece_tokens octets None first.found)
+
+-- the octets before a line feed are those of words, without escapes and without !#$%&', and blanks
+pub record IsPlainLine (octets : List ℕ) (feed : ℕ) : Type 0 where
+  pub within : feed < length octets
+  pub feeds : slice_index octets feed ≡ line_feed
+  pub each : (n : ℕ) → n < feed → (is_in Word (slice_index octets n) ≡ true) ⊎ (is_in Blank (slice_index octets n) ≡ true)
+
+-- the octets begin with no such line
+abbrev pub LacksPlainLine : List ℕ → Type 0
+LacksPlainLine octets = (feed : ℕ) → ¬ IsPlainLine octets feed
 
 -- ---- of private functions
 

@@ -2,9 +2,9 @@
 //!
 //! [`fill`] finds the tokens of the first entry of some octets and stores their offsets. They are
 //! then returned one by one by [`TapeTokens`](crate::source::TapeTokens).
-ghost use Rattle.std.specs.Prelude.{◌≡◌, ◌≤◌, ◌+◌, IfSome, None};
+ghost use Rattle.std.specs.Prelude.{◌≡◌, ◌⊎◌, ◌≤◌, ◌+◌, IfSome, None};
 ghost use Rattle.dns_split.specs.EntryTokens.{ends_at};
-ghost use Rattle.dns_tape.specs.Tape.{FilledOnce, FillsLine, FillsWith, FitsNoTape, PushesSpan, quote_span, word_span};
+ghost use Rattle.dns_tape.specs.Tape.{FilledOnce, FillsLine, FillsWith, FitsNoTape, LacksPlainLine, PushesSpan, quote_span, word_span};
 
 use crate::parts::{after_blank, after_return, comment_end, quote_end, word_end};
 use arrayvec::ArrayVec;
@@ -123,11 +123,13 @@ pub fn fill(octets: &[u8], tape: &mut Tape) -> Option<usize>
 /// Fills `tape` as [`fill`] does, and faster, if the first entry of `octets` ends with its line, after
 /// which no octets that follow can change it. It stops there, however many octets follow.
 ///
-/// Returns `None` for any other entry, and also if it has an escape, one of ``!#$%&'`` in a word,
-/// or a control character. Then [`fill`] may fill it. The tape's old contents are dropped; after
-/// `None` its contents are unspecified.
+/// Returns `None` for any other entry, and also if a word or a quoted string has an escape or an octet
+/// below the space, or a word has one of ``!#$%&'``. Then [`fill`] may fill it. A line of at most
+/// [`TAPE_CAPACITY`] words without such octets, with spaces, tabs and a line feed, is always filled.
+/// The tape's old contents are dropped; after `None` its contents are unspecified.
 pub fn fill_line(octets: &[u8], tape: &mut Tape) -> Option<usize>
-    ensures { IfSome result (FillsLine octets.now tape.new.items) }
+    ensures some { IfSome result (FillsLine octets.now tape.new.items) }
+    ensures none { result ≡ None → FitsNoTape octets.now ⊎ LacksPlainLine octets.now }
 {
     tape.clear();
     let mut ended = None;

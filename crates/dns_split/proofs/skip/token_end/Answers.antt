@@ -6,22 +6,22 @@ use Rattle.dns_split.proofs.skip.token_end.Goals as goal
 
 pub returns-then-stop-octets-clause-same : goal.returns-then-stop-octets-clause-same
 returns-then-stop-octets-clause-same c =
-    let e = c.skip_class-stop.ensures in
+    let e = c.run_end-stop.ensures in
     class_more c.args.within _ c.class_of-class.ensures c.args.octets.now c.args.at c.loop-place.place _ c.loop-place.invariant.same e.on e.within e.each
 
 pub returns-in_default-clause-same : goal.returns-in_default-clause-same
 returns-in_default-clause-same c =
-    let e = c.skip_class-stop.ensures in
+    let e = c.run_end-stop.ensures in
     class_more c.args.within _ c.class_of-class.ensures c.args.octets.now c.args.at c.loop-place.place _ c.loop-place.invariant.same e.on e.within e.each
 
 pub loop-place-preserved : goal.loop-place-preserved
 loop-place-preserved c =
     let inv = c.loop-place.invariant in
-    let e = c.skip_class-stop.ensures in
-    let here = class_more c.args.within _ c.class_of-class.ensures c.args.octets.now c.args.at c.loop-place.place c.skip_class-stop.result inv.same e.on e.within e.each in
-    let more : GoesOn c.args.within c.args.octets.now c.skip_class-stop.result c.in-Some.next = c.in-Some.ensures in
+    let e = c.run_end-stop.ensures in
+    let here = class_more c.args.within _ c.class_of-class.ensures c.args.octets.now c.args.at c.loop-place.place c.run_end-stop.result inv.same e.on e.within e.each in
+    let more : GoesOn c.args.within c.args.octets.now c.run_end-stop.result c.in-Some.next = c.in-Some.ensures in
     record {
       on = omega (arith, inv.on, e.on, more.on);
       within = more.within;
-      same = run_joined (home c.args.within) c.args.octets.now c.args.at c.skip_class-stop.result c.in-Some.next here more.same;
+      same = run_joined (home c.args.within) c.args.octets.now c.args.at c.run_end-stop.result c.in-Some.next here more.same;
     }

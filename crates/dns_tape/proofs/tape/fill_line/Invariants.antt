@@ -1,4 +1,5 @@
-use Rattle.std.proofs.Common.{length, ◌-◌, ◌≤◌}
+use Rattle.std.proofs.Common.{ℕ, length, ◌-◌, ◌≡◌, ◌≤◌}
+use Rattle.dns_tape.specs.Tape.{IsPlainLine}
 use Rattle.dns_tape.proofs.LineFilling.{FillingAt}
 use Rattle.dns_tape.proofs.tape.fill_line.Given as goal
 
@@ -7,6 +8,7 @@ invariant-octets l = record {
   deep : l.depth ≤ l.at;
   within : l.at ≤ length l.octets;
   fills : FillingAt l.octets l.depth l.at l.ended l.tape.items;
+  plain : (feed : ℕ) → IsPlainLine l.octets feed → (l.at ≤ feed) × (l.depth ≡ 0);
 }
 
 abbrev pub decreases-octets : goal.decreases-octets

@@ -1,6 +1,6 @@
 use Rattle.std.proofs.Common.{length, ◌-◌, ◌≤◌}
 use Rattle.dns_split.specs.Skip.{EachIn}
-use Rattle.dns_split.proofs.skip.skip_class.Given as goal
+use Rattle.dns_split.proofs.runs.run_end.Given as goal
 
 abbrev pub invariant-by_few : goal.invariant-by_few
 invariant-by_few l = record {

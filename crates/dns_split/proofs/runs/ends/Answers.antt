@@ -1,8 +1,8 @@
 use Rattle.std.proofs.Common.{refl}
 use Rattle.std.proofs.lemmas.Simd.{zip2_splat, zip2_of_maps}
-use Rattle.dns_split.specs.declared.skip.Class.TheVariants.{Word, Quote, Comment, Blank, Line}
+use Rattle.dns_split.specs.declared.runs.OctetClass.TheVariants.{Word, Quote, Comment, Blank, Line, Label}
 use Rattle.dns_split.proofs.Lanes.{marks_by}
-use Rattle.dns_split.proofs.skip.ends.Goals as goal
+use Rattle.dns_split.proofs.runs.ends.Goals as goal
 
 pub returns-in-Word : goal.returns-in-Word
 returns-in-Word c =
@@ -35,3 +35,9 @@ returns-in-Line c =
     let more = zip2_of_maps _ _ _ v (zip2_of_maps _ _ _ v few (zip2_splat _ v 16 34 c.requires)) (zip2_splat _ v 16 40 c.requires) in
     marks_by Line c.args.class v _ _ c.requires c.in-Line.is
     (zip2_of_maps _ _ _ v (zip2_of_maps _ _ _ v more (zip2_splat _ v 16 41 c.requires)) (zip2_splat _ v 16 92 c.requires)) refl
+
+pub returns-in-Label : goal.returns-in-Label
+returns-in-Label c =
+    let v = c.args.octets in
+    marks_by Label c.args.class v _ _ c.requires c.in-Label.is
+    (zip2_of_maps _ _ _ v (zip2_splat _ v 16 46 c.requires) (zip2_splat _ v 16 92 c.requires)) refl
