@@ -1,5 +1,6 @@
 pub mod Spelling
 pub mod GroupLemmas
+pub mod Pairs
 pub mod Pieces
 pub mod TakenDigit
 pub mod Blocks

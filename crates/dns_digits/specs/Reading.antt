@@ -2,9 +2,10 @@
 use Rattle.std.specs.Prelude.{ℕ, ◌≡◌, ◌≢◌, ◌<◌, ◌%◌, ◌⊎◌, Bool, true, false, List, [], ◌++◌, length, ◌+◌, Result, MatchResult, take}
 use Rattle.dns_octets.specs.Room.{Room}
 use Rattle.dns_octets.specs.Appending.{LacksRoom}
-use Rattle.dns_codec.specs.Base.{Base}
+use Rattle.dns_codec.specs.Base.{Base, base16}
 use Rattle.dns_digits.specs.Spelled.{SpellsDigits, opens_group, base_of, illegal, unfinished}
 use Rattle.dns_digits.specs.declared.kind.DigitsKind.{DigitsKind}
+use Rattle.dns_digits.specs.declared.kind.DigitsKind.TheVariants.{Hex}
 use Rattle.dns_kinds.specs.declared.error.ErrorKind.{ErrorKind}
 use Rattle.dns_kinds.specs.declared.error.ErrorKind.TheVariants.{TrailingBase64, ShortBuf}
 
@@ -67,6 +68,14 @@ AppendsBlocks kind digits old new n = (n < length digits) × (length (take n dig
 abbrev pub LacksBlocks : DigitsKind → List ℕ → Room → List ℕ → Type 0
 LacksBlocks kind digits room old = (n : ℕ) × (n < length digits) × (length (take n digits) % (base_of kind).group ≡ 0)
     × ((gained : List ℕ) × SpellsDigits (base_of kind) (take n digits) gained × (opens_group (base_of kind) gained ≡ false) × (room.fits < length old + length gained))
+
+-- no group is begun, and a piece that is not empty is hexadecimal digits, which spell these octets
+pub record AreWholePairs (s : DigitsState) (piece octets : List ℕ) : Type 0 where
+  pub kind : s.kind ≡ Hex
+  pub goes : s.ended ≡ false
+  pub none : s.begun ≡ []
+  pub some : piece ≢ []
+  pub spelled : SpellsDigits base16 piece octets
 
 -- a text ends if no group is begun, and fails otherwise
 abbrev pub EndsPieces : DigitsState → Result (Unit {0}) ErrorKind → Type 0

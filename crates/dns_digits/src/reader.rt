@@ -1,10 +1,10 @@
 //! Digits that arrive in pieces, as the tokens of an entry do.
-ghost use Rattle.std.specs.Prelude.{◌≡◌, ℕ, List, ◌+◌, ◌<◌, ◌≤◌, false, true, [], ◌∷◌, length, take, IfOk, IfErr, OnOk, OnErr, MatchResult};
+ghost use Rattle.std.specs.Prelude.{◌≡◌, ℕ, List, ◌+◌, ◌<◌, ◌≤◌, false, true, [], ◌∷◌, length, take, IfOk, IfErr, IfSome, OnOk, OnErr, MatchResult};
 ghost use Rattle.dns_octets.specs.Appending.{Extends};
 ghost use Rattle.dns_digits.specs.Spelled.{base_of, unfinished, opens_group, SpellsDigits};
-ghost use Rattle.dns_digits.specs.Reading.{HasRead, RefusesPiece, AppendsBlocks, AppendsPiece, EndsPieces, LacksBlocks};
+ghost use Rattle.dns_digits.specs.Reading.{HasRead, RefusesPiece, AppendsBlocks, AppendsPiece, EndsPieces, AreWholePairs, LacksBlocks};
 
-use crate::groups::{read_block, read_group, starts_group};
+use crate::groups::{read_block, read_group, read_hex, starts_group};
 use crate::kind::DigitsKind;
 use dns_kinds::ErrorKind;
 use dns_octets::{OctetsBuilder, ShortBuf};
@@ -12,6 +12,9 @@ use std::marker::Model;
 
 /// Number of digits that are decoded at a time.
 const BLOCK: usize = 320;
+
+/// Greatest number of octets that are decoded at once from a piece of hexadecimal digits.
+const PAIRS: usize = 64;
 
 /// Decodes digits that arrive in pieces, and appends their octets to a target.
 ///
@@ -160,6 +163,42 @@ impl DigitsReader {
         }
     }
 
+    /// Decodes a piece that is whole pairs of hexadecimal digits into the start of a slice, if no group
+    /// is begun. Returns the number of octets, or `None` for another piece.
+    #[inline(always)]
+    fn read_pairs(&self, piece: &[u8], octets: &mut [u8]) -> Option<usize>
+        requires { length octets.old ≡ PAIRS }
+        ensures { IfSome result (λ count. AreWholePairs self.now piece.now (take count octets.new)
+            × (count ≤ length octets.new)) }
+    {
+        if self.ended || self.count > 0 || piece.is_empty() || piece.len() > 2 * PAIRS {
+            return None;
+        }
+        match self.kind {
+            DigitsKind::Hex => read_hex(piece, octets),
+            DigitsKind::Base64 => None,
+        }
+    }
+
+    /// Reads a piece: the rest of the group begun, blocks of whole groups, and the first digits of the
+    /// next group.
+    fn push_parts<B: OctetsBuilder>(
+        &mut self,
+        piece: &[u8],
+        target: &mut B,
+    ) -> Result<(), ErrorKind>
+        ensures ok { OnOk result (AppendsPiece self.old piece.now self.new
+            (B.octets target.old) (B.octets target.new)) }
+        ensures err { IfErr result (RefusesPiece B.room self.old piece.now (B.octets target.old)) }
+        ensures extends { OnErr result (Extends (B.octets target.old) (B.octets target.new)) }
+    {
+        let (front, rest) = piece.split_at(self.wanted().min(piece.len()));
+        self.take_digits(front, target)?;
+        let count = self.take_blocks(rest, target)?;
+        let last = &rest[count..];
+        self.take_digits(last, target)
+    }
+
     /// Reads a piece, and appends the octets of each group that is whole then.
     ///
     /// Fails with [`ErrorKind::ExpectedHex`] or [`ErrorKind::IllegalBase64`] at the first digit
@@ -174,11 +213,14 @@ impl DigitsReader {
         ensures err { IfErr result (RefusesPiece B.room self.old piece.now (B.octets target.old)) }
         ensures extends { OnErr result (Extends (B.octets target.old) (B.octets target.new)) }
     {
-        let (front, rest) = piece.split_at(self.wanted().min(piece.len()));
-        self.take_digits(front, target)?;
-        let count = self.take_blocks(rest, target)?;
-        let last = &rest[count..];
-        self.take_digits(last, target)
+        let mut octets = [0; PAIRS];
+        let Some(count) = self.read_pairs(piece, &mut octets) else {
+            return self.push_parts(piece, target);
+        };
+        if target.append_slice(&octets[..count]).is_err() {
+            return Err(ErrorKind::ShortBuf);
+        }
+        Ok(())
     }
 
     /// Ends the text. Fails with [`ErrorKind::UnevenHex`] or [`ErrorKind::IncompleteBase64`] if the
