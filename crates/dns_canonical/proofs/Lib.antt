@@ -1,6 +1,8 @@
 pub mod BelowKeys
 pub mod FieldWalks
+pub mod KeyNames
 pub mod KeyOrders
+pub mod KeyRooms
 pub mod LoweredNames
 pub mod NameOrders
 pub mod NameWalks

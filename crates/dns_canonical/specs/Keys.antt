@@ -1,5 +1,5 @@
 -- Order keys: octets whose plain order is the canonical order of names (RFC 4034 section 6.1).
-use Rattle.std.specs.Prelude.{◌≡◌, ℕ, ◌+◌, if◌then◌else◌, nat_lt, List, [], ◌∷◌, ◌++◌, map}
+use Rattle.std.specs.Prelude.{◌≡◌, ℕ, ◌+◌, ◌≤◌, if◌then◌else◌, nat_lt, List, [], ◌∷◌, ◌++◌, length, map}
 use Rattle.std.specs.List.{flat_map}
 use Rattle.dns_octets.specs.Lowered.{lowered}
 use Rattle.dns_wire.specs.Wire.{wire}
@@ -29,3 +29,7 @@ IsKeyOrder left right order = (shared : List ℕ) (a b : List (List ℕ)) → or
 -- a name is another or below it (a subdomain, RFC 1034 section 3.1), without regard to case
 abbrev pub IsAtOrBelow : List (List ℕ) → List (List ℕ) → Type 0
 IsAtOrBelow name top = (below : List (List ℕ)) × (map lowered name ≡ below ++ map lowered top)
+
+-- octets and the key of the name with a wire format are at most 509 octets
+abbrev pub HasKeyRoom : List ℕ → List ℕ → Type 0
+HasKeyRoom octets old = (labels : List (List ℕ)) → octets ≡ wire labels → length old + length (order_key labels) ≤ 509

@@ -1,5 +1,6 @@
 pub mod FieldForms
 pub mod FormLaws
+pub mod KeyNames
 pub mod Keys
 pub mod Names
 pub mod OrderLaws
