@@ -1,6 +1,8 @@
+pub mod AnyOrders
 pub mod CanonicalForms
 pub mod CanonicalOrders
 pub mod DataBack
+pub mod FieldSizes
 pub mod MailParts
 pub mod PartWalks
 pub mod RecordBack

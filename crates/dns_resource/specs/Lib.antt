@@ -1,3 +1,4 @@
+pub mod AnyData
 pub mod Borrowed
 pub mod CanonicalData
 pub mod DataBack

@@ -70,6 +70,14 @@ impl<Octets: AsOctets> Data<Octets> {
         }
     }
 
+    /// Returns the RDATA of a type with these octets, which are valid and are not checked again.
+    pub fn from_valid_octets(rtype: RecordType, octets: Octets) -> Self
+        requires { IsTypeData rtype (Octets.octets octets) }
+        ensures { result ≡ record { rtype = rtype; octets = Octets.octets octets } }
+    {
+        Data { rtype, octets }
+    }
+
     /// Returns the type.
     pub fn rtype(&self) -> RecordType
         ensures { result ≡ self.now.rtype }

@@ -19,6 +19,7 @@ pub use borrowed::{owned_record, record_of};
 pub use canonical::append_canonical_data;
 pub use data::Data;
 pub use error::WireError;
+pub use order::compare_any_data;
 pub use reading::data_of_tokens;
 pub use record::Record;
 pub use typed::TypedData;

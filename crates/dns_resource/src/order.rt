@@ -3,11 +3,12 @@ ghost use Rattle.std.specs.Prelude.{◌≡◌};
 ghost use Rattle.dns_canonical.specs.FieldForms.{StartsWithFields, canonical_field};
 ghost use Rattle.dns_canonical.specs.Names.{octet_order};
 ghost use Rattle.dns_canonical.specs.Records.{record_order};
+ghost use Rattle.dns_resource.specs.AnyData.{any_data_order, parts_order, OrdersTypeData};
 ghost use Rattle.dns_resource.specs.CanonicalData.{canonical_data, data_order, lowered_in, record_key};
 ghost use Rattle.dns_resource.specs.TypeData.{IsTypeData};
 
 use crate::data::Data;
-use crate::fronts::front_width;
+use crate::fronts::{front_width, split_front};
 use crate::record::{Record, name_octets};
 use dns_canonical::{compare_names, compare_octets, compare_untexted, lowers_names};
 use dns_data::type_row;
@@ -59,6 +60,39 @@ fn compare_data(rtype: RecordType, left: &[u8], right: &[u8]) -> Ordering
     }
     match type_row(rtype) {
         Some(row) => compare_in_fields(row.shape().fields, left, right),
+        None => compare_untexted(rtype, left, right),
+    }
+}
+
+/// Compares the canonical forms of the fields at the start of octets, one after another, whether
+/// the octets begin with them or not, and then the octets after them.
+#[tactic(auto, using(crate::proofs::AnyOrders::parts_end))]
+fn compare_parts(fields: &[Field], left: &[u8], right: &[u8]) -> Ordering
+    ensures { result ≡ parts_order fields.now left.now right.now }
+{
+    let Some((field, more)) = fields.split_first() else {
+        return compare_octets(left, right);
+    };
+    let (left_front, left_rest) = split_front(*field, left);
+    let (right_front, right_rest) = split_front(*field, right);
+    let order = compare_field(*field, left_front, right_front);
+    if order.is_ne() {
+        return order;
+    }
+    compare_parts(more, left_rest, right_rest)
+}
+
+/// Compares octets in the canonical order of RDATA of a type. The order is total, whether the octets
+/// are RDATA of the type or not.
+pub fn compare_any_data(rtype: RecordType, left: &[u8], right: &[u8]) -> Ordering
+    ensures value { result ≡ any_data_order rtype left.now right.now }
+    ensures valid { OrdersTypeData rtype left.now right.now result }
+{
+    if !lowers_names(rtype) {
+        return compare_octets(left, right);
+    }
+    match type_row(rtype) {
+        Some(row) => compare_parts(row.shape().fields, left, right),
         None => compare_untexted(rtype, left, right),
     }
 }
