@@ -7,6 +7,9 @@ use Rattle.dns_octets.specs.Room.{Room}
 use Rattle.dns_split.specs.EntryTokens.{TokenSeen, token_seen}
 use Rattle.dns_split.specs.declared.entry_tokens.EntryToken.{EntryToken}
 use Rattle.dns_fields.specs.Source.{next_place}
+use Rattle.dns_fields.specs.Taking.{SpellsField}
+use Rattle.dns_fields.specs.declared.field.Field.TheVariants.{Name as OfName}
+use Rattle.dns_wire.specs.Wire.{wire}
 use Rattle.dns_fields.specs.RecordErrors.{error_at}
 use Rattle.dns_fields.specs.declared.record_error.RecordError.{RecordError}
 use Rattle.dns_kinds.specs.declared.error.ErrorKind.TheVariants.{EndOfEntry}
@@ -17,6 +20,7 @@ use Rattle.dns_reader.specs.Learning.{Learns, TakesName}
 use Rattle.dns_reader.specs.Past.{NamedBy, known_name}
 use Rattle.dns_reader.specs.declared.entry.EntryRead.{EntryRead}
 use Rattle.dns_reader.specs.declared.entry.EntryRead.TheVariants.{Include}
+use Rattle.dns_reader.specs.declared.known.Known.{Known}
 use Rattle.dns_reader.specs.declared.known.Known.TheVariants.{Name, Refused}
 use Rattle.dns_reader.specs.declared.state.State.{State}
 use Rattle.dns_reader.proofs.Learned.{owner_learned}
@@ -163,3 +167,33 @@ module _ (before : State) (end : ℕ) where
       → Learns (owner_of_record (slice_get tokens 0)) before (record before { owner = Refused })
   refused_learned [] left r h some = absurd (some refl)
   refused_learned (t ∷ ts) left r h some = owner_learned before (Some t) Refused (no_name (known_name before.origin) (t ∷ []) r.kind h.1.1)
+
+  -- the same of a name that is stored as it is parsed
+  pub known_owner : (tokens left : List TokenSeen) (known : Known) (labels : List (List ℕ)) (u : Unit {0}) → known ≡ Name labels → PassesName (known_name before.origin) end tokens (Ok labels) left → tokens ≢ []
+      → ReadsOwner before (next_place tokens end) (slice_get tokens 0) (Ok u) known
+  known_owner [] left known labels u is h some = absurd (some refl)
+  known_owner (t ∷ ts) left known labels u is h some = (labels, is, h.1)
+
+  pub known_learned : (tokens left : List TokenSeen) (known : Known) (labels : List (List ℕ)) → known ≡ Name labels → PassesName (known_name before.origin) end tokens (Ok labels) left → tokens ≢ []
+      → Learns (owner_of_record (slice_get tokens 0)) before (record before { owner = known })
+  known_learned tokens left known labels is h some = subst (λ (k : Known). Learns (owner_of_record (slice_get tokens 0)) before (record before { owner = k })) (sym is) (passed_learned tokens left labels h some)
+
+  pub refused_owner : (tokens left : List TokenSeen) (known : Known) (r : RecordError) → known ≡ Refused → PassesName (known_name before.origin) end tokens (Err r) left → tokens ≢ []
+      → ReadsOwner before (next_place tokens end) (slice_get tokens 0) (Err r) known
+  refused_owner tokens left known r is h some = subst (λ (k : Known). ReadsOwner before (next_place tokens end) (slice_get tokens 0) (Err r) k) (sym is) (owner_refused tokens left r h some)
+
+  pub refusal_learned : (tokens left : List TokenSeen) (known : Known) (r : RecordError) → known ≡ Refused → PassesName (known_name before.origin) end tokens (Err r) left → tokens ≢ []
+      → Learns (owner_of_record (slice_get tokens 0)) before (record before { owner = known })
+  refusal_learned tokens left known r is h some = subst (λ (k : Known). Learns (owner_of_record (slice_get tokens 0)) before (record before { owner = k })) (sym is) (refused_learned tokens left r h some)
+
+-- ---- a token that is parsed as a name, or rejected and then skipped
+
+pub passes_taken : (origin : Option (List (List ℕ))) (end : ℕ) (tokens left : List TokenSeen) (labels : List (List ℕ)) → TakesName origin end tokens (Ok labels) left → PassesName origin end tokens (Ok labels) left
+passes_taken origin end [] left labels h = let no = h.1 in cc
+passes_taken origin end (t ∷ ts) left labels h =
+    let first : t ≡ h.0 = cc in
+    let rest : ts ≡ left = cc in (sym rest, subst (λ x. SpellsField origin OfName x (wire labels)) (sym first) h.2)
+
+pub passes_refused : (origin : Option (List (List ℕ))) (end : ℕ) (tokens left after : List TokenSeen) (e : RecordError) → TakesName origin end tokens (Err e) left → after ≡ drop 1 left → PassesName origin end tokens (Err e) after
+passes_refused origin end [] left after e h skipped = (skipped ∙ ap (drop 1) h.0, ap Err (h.1 ∙ ap (error_at end) h.2))
+passes_refused origin end (t ∷ ts) left after e h skipped = (skipped ∙ ap (drop 1) h.0, (h.1, h.2))

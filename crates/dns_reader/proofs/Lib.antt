@@ -9,6 +9,7 @@ pub mod GivenRows
 pub mod Included
 pub mod Kept
 pub mod Learned
+pub mod LineSeen
 pub mod Lines
 pub mod NamesTaken
 pub mod NextEntries

@@ -30,6 +30,11 @@ TakesName origin end tokens (Ok labels) left = (t : TokenSeen) × (tokens ≡ t 
 TakesName origin end tokens (Err e) left =
     (left ≡ tokens) × IsErrorAt (next_place tokens end) e × RefusesNext origin (exactly max_name) OfName tokens [] e.kind × NamedBy origin (slice_get tokens 0) Refused
 
+-- the next token is parsed as a name, which is known then; or it is rejected, and the name is known as rejected
+abbrev pub TakesKnown : Option (List (List ℕ)) → ℕ → List TokenSeen → Result (Unit {0}) RecordError → Known → List TokenSeen → Type 0
+TakesKnown origin end tokens (Ok _) known left = (labels : List (List ℕ)) × (known ≡ Name labels) × TakesName origin end tokens (Ok labels) left
+TakesKnown origin end tokens (Err e) known left = (known ≡ Refused) × TakesName origin end tokens (Err e) left
+
 -- why no owner is known: none came before, or the last one is rejected
 abbrev pub WhyNoOwner : Known → ErrorKind → Type 0
 WhyNoOwner Unsaid kind = kind ≡ NoOwner

@@ -4,6 +4,7 @@ pub mod Faults
 pub mod Given
 pub mod Included
 pub mod Learning
+pub mod Line
 pub mod Past
 pub mod PastLaws
 pub mod ReadingLaws

@@ -9,7 +9,7 @@ ghost use Rattle.dns_reader.specs.Learning.{Learns, chosen_ttl};
 ghost use Rattle.dns_reader.specs.Past.{SaysOrigin, known_name};
 
 use crate::known::{Known, NameBuffer};
-use crate::state::{State, take_name};
+use crate::state::{State, take_known, take_name};
 use crate::ttl::RecordTtl;
 use dns_data::read_type;
 use dns_fields::{RecordError, TokenSource};
@@ -164,12 +164,12 @@ fn take_included_origin<S: TokenSource>(
 /// Appends the origin of an included file, if the entry has one.
 fn append_origin<B: OctetsBuilder>(
     at: usize,
-    origin: &Option<NameBuffer>,
+    added: &Option<NameBuffer>,
     target: &mut B,
 ) -> Result<bool, RecordError>
-    ensures { AppendsOrigin B.room at origin.now (B.octets target.old) result (B.octets target.new) }
+    ensures { AppendsOrigin B.room at added.now (B.octets target.old) result (B.octets target.new) }
 {
-    let Some(name) = origin else {
+    let Some(name) = added else {
         return Ok(false);
     };
     match target.append_slice(name.as_slice()) {
@@ -252,13 +252,10 @@ fn pass_owner<S: TokenSource>(state: &mut State, source: &mut S) -> Result<(), R
     ensures learns { S.left source.old ≢ [] → Learns (owner_of_record (owner_token false (S.left source.old))) state.old state.new }
     ensures end { S.end source.new ≡ S.end source.old }
 {
-    match pass_name(state.origin.name(), source) {
-        Ok(name) => {
-            state.owner = Known::Name(name);
-            Ok(())
-        }
+    match take_known(state.origin.name(), source, &mut state.owner) {
+        Ok(()) => Ok(()),
         Err(error) => {
-            state.owner = Known::Refused;
+            source.advance();
             Err(error)
         }
     }

@@ -5,6 +5,7 @@
 pub mod entry;
 pub mod given;
 pub mod known;
+pub mod line;
 pub mod records;
 pub mod source;
 pub mod state;
@@ -14,6 +15,7 @@ pub mod ttl;
 
 pub use entry::{EntryRead, include_parts, read_entry};
 pub use known::{Known, NameBuffer};
+pub use line::{LineRead, read_line};
 pub use records::RecordReader;
 pub use source::{EntrySource, StartOfEntry};
 pub use state::{Mark, State};

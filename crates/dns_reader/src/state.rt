@@ -2,7 +2,7 @@
 ghost use Rattle.std.specs.Prelude.{◌≡◌, None, Some, [], ◌∷◌, MatchResult};
 ghost use Rattle.std.specs.Option.{option_copied};
 ghost use Rattle.dns_reader.specs.Past.{SaysDefaultTtl, nothing_said};
-ghost use Rattle.dns_reader.specs.Learning.{Learns, MarksPast, RestoresPast, TakesName, WhyNoOwner, chosen_ttl};
+ghost use Rattle.dns_reader.specs.Learning.{Learns, MarksPast, RestoresPast, TakesKnown, TakesName, WhyNoOwner, chosen_ttl};
 ghost use Rattle.dns_reader.specs.declared.known.Known.TheVariants.{Name as known_as};
 
 use crate::known::{Known, NameBuffer};
@@ -47,6 +47,32 @@ pub(crate) fn take_name<S: TokenSource>(
     match NameBuffer::from_octets(octets) {
         Ok(name) => Ok(name),
         Err(_) => unreachable!(),
+    }
+}
+
+/// Parses the next token as a name, and stores it as known. The origin is appended to a relative
+/// name. If the token is rejected, no token is read, and the name is known as rejected.
+pub(crate) fn take_known<S: TokenSource>(
+    origin: Option<&NameBuffer>,
+    source: &mut S,
+    known: &mut Known,
+) -> Result<(), RecordError>
+    ensures takes { TakesKnown (option_copied origin.entry) (S.end source.old).at (S.left source.old) result known.new (S.left source.new) }
+    ensures end { S.end source.new ≡ S.end source.old }
+{
+    let mut octets: ArrayVec<u8, MAX_NAME> = ArrayVec::new();
+    match take_field(Field::Name, origin, source, &mut octets) {
+        Ok(()) => match NameBuffer::from_octets(octets) {
+            Ok(name) => {
+                *known = Known::Name(name);
+                Ok(())
+            }
+            Err(_) => unreachable!(),
+        },
+        Err(error) => {
+            *known = Known::Refused;
+            Err(error)
+        }
     }
 }
 
