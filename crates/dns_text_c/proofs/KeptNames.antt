@@ -1,5 +1,5 @@
 -- Names that are stored, and the position of a reader.
-use Rattle.std.proofs.Common.{◌≡◌, ◌≢◌, ℕ, ◌+◌, ◌≤◌, List, [], ◌∷◌, ◌++◌, length, take, drop, ap, ◌∙◌, refl, sym, subst, arith, Bool, true, false, true≢false, Option, Some, None, Result, Ok, Err}
+use Rattle.std.proofs.Common.{◌≡◌, ◌≢◌, ℕ, ◌+◌, ◌≤◌, List, [], ◌∷◌, length, take, drop, ap, ◌∙◌, refl, sym, subst, arith, Bool, true, false, true≢false, Option, Some, None, Result, Ok, Err}
 use Rattle.std.proofs.Math.Seq.{drop-append_seam, take-append_seam}
 use Rattle.dns_fields.specs.declared.record_error.RecordError.{RecordError}
 use Rattle.dns_octets.specs.Room.{Room}
@@ -22,7 +22,8 @@ use Rattle.dns_reader.specs.declared.state.State.{State}
 use Rattle.dns_reader.proofs.GivenRows.{something_is_given}
 use Rattle.dns_reader.proofs.Included.{files_are_appended}
 use Rattle.dns_reader.proofs.NamesTaken.{made}
-use Rattle.dns_text_c.specs.Kept.{MakesOrNot, said_origin}
+use Rattle.dns_text_c.specs.Kept.{HoldsState, MakesOrNot, known_if, said_origin}
+use Rattle.dns_text_c.specs.declared.kept.Zone.{Zone}
 use Rattle.dns_text_c.specs.Records.{HasIncluded}
 
 -- the octets of a name are stored as that name
@@ -89,3 +90,8 @@ file_told file has_origin octets front behind read first then = (
   subst (OriginAppended read.origin has_origin)
       (sym (then ∙ ap (λ n. drop n octets) read.count ∙ ap (drop (length read.name)) read.both ∙ drop-append_seam read.name read.behind)) read.said,
 )
+
+-- a state that is loaded
+pub loaded : (zone : Zone) (ok : Bool) (state : State) → ok ≡ true → HoldsState zone (known_if ok state) → HoldsState zone (Some state)
+loaded zone true state is h = h
+loaded zone false state is h = cc

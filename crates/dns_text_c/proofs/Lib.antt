@@ -7,6 +7,7 @@ mod LastEnds
 mod Leading
 mod LeftOpen
 mod Lengths
+mod LinesTold
 mod Moves
 mod NameText
 mod NumberText

@@ -1,18 +1,32 @@
--- What is read without an error is read alike with any capacity.
-use Rattle.std.proofs.Common.{ℕ, ◌≡◌, ◌++◌, Bool, List, [], ◌∷◌, Option, Some, None, Result, Ok, Err}
+-- What is read is read alike with any capacity, unless octets don't fit or a syntax error comes.
+use Rattle.std.proofs.Common.{ℕ, ◌≡◌, ◌++◌, Bool, List, [], ◌∷◌, length, refl, ap, ◌∙◌, inl, inr, Option, Some, None, Result, Ok, Err}
+use Rattle.std.specs.Prelude.{◌⊎◌}
 use Rattle.std.specs.List.{AllByRecursion}
 use Rattle.dns_octets.specs.Room.{Room}
 use Rattle.dns_split.specs.EntryTokens.{PartSeen, TokenSeen}
 use Rattle.dns_split.specs.declared.pieces.EndOfEntry.{EndOfEntry}
 use Rattle.dns_split.specs.declared.pieces.Fault.{Fault}
-use Rattle.dns_data.specs.ByType.{ReadsType}
+use Rattle.dns_data.specs.ByType.{ReadsType, RefusesData, RefusesGeneric, shape_of_code}
+use Rattle.dns_data.specs.Data.{ReadsData, RefusesBehindFields}
+use Rattle.dns_data.specs.Generic.{generic_form}
+use Rattle.dns_data.specs.RestKinds.{TakesRestParts, rest_form}
+use Rattle.dns_data.specs.Rests.{RefusesAs, RefusesRest, RestForm}
+use Rattle.dns_data.specs.Types.{TypeShape}
+use Rattle.dns_data.specs.declared.rest.Rest.{Rest}
+use Rattle.dns_data.specs.declared.shape.Shape.{Shape}
+use Rattle.dns_fields.specs.Fields.{field_form}
+use Rattle.dns_fields.specs.Forms.{RefusesField}
 use Rattle.dns_fields.specs.RecordErrors.{error_of_fault}
+use Rattle.dns_fields.specs.Taking.{RefusesNext, SpellsField, TakesAllFields}
+use Rattle.dns_fields.specs.declared.field.Field.{Field}
 use Rattle.dns_fields.specs.declared.record_error.RecordError.{RecordError}
+use Rattle.dns_kinds.specs.declared.error.ErrorKind.{ErrorKind}
+use Rattle.dns_kinds.specs.declared.error.ErrorKind.TheVariants.{ShortBuf}
 use Rattle.dns_kinds.specs.declared.types.RecordType.{RecordType}
 use Rattle.dns_heads.specs.EntrySays.{EntryMeaning, says_nothing, says_origin, says_default_ttl, says_include, says_record, says_refused}
 use Rattle.dns_heads.specs.declared.head.Words.{Words}
 use Rattle.dns_heads.specs.declared.head.WordsRefusal.{WordsRefusal}
-use Rattle.dns_reader.specs.EntryReading.{ReadsBehind, ReadsMeaning, ReadsRecordData, ReadsWords, ReadsZoneEntry}
+use Rattle.dns_reader.specs.EntryReading.{ReadsBehind, ReadsInclude, ReadsMeaning, ReadsRecordData, ReadsWords, ReadsZoneEntry}
 use Rattle.dns_reader.specs.Past.{known_name}
 use Rattle.dns_reader.specs.Records.{AreGivenInARow, EntryGiven, IsDirectiveGiven, ReadsBegun, ReadsNextEntry, ReadsNextRecord, StandsAfter, given_next, given_of, none_given}
 use Rattle.dns_reader.specs.Source.{SourceSeen, behind_left, entry_end, entry_left}
@@ -21,8 +35,8 @@ use Rattle.dns_reader.specs.declared.known.Known.{Known}
 use Rattle.dns_reader.specs.declared.records.RecordReader.{RecordReader}
 use Rattle.dns_reader.specs.declared.source.StartOfEntry.{StartOfEntry}
 use Rattle.dns_reader.specs.declared.state.State.{State}
-use Rattle.dns_text_c.specs.DataText.{ReadsDataText, ReadsFirstData, ReadsTokens, data_answer}
-use Rattle.dns_text_c.specs.Records.{RefusalIsGiven}
+use Rattle.dns_text_c.specs.DataText.{AnswerMayLackRoom, DataAnswer, ReadsDataText, ReadsFirstData, ReadsTokens, data_answer}
+use Rattle.dns_text_c.specs.Records.{MayLackRoom}
 
 -- all of a list with one more element at its end
 all_before : {X : Type 0} (P : X → Type 0) (xs : List X) (x : X) → AllByRecursion P (xs ++ x ∷ []) → AllByRecursion P xs × P x
@@ -30,48 +44,143 @@ all_before P [] x h = (tt, h.0)
 all_before P (y ∷ xs) x h = let more = all_before P xs x h.1 in ((h.0, more.0), more.1)
 
 -- a directive is not an error
-directive_taken : (old : List ℕ) (g : EntryGiven) → IsDirectiveGiven old g → RefusalIsGiven (Some g.result) → ⊥
+directive_taken : (old : List ℕ) (g : EntryGiven) → IsDirectiveGiven old g → MayLackRoom (Some g.result) → ⊥
 directive_taken old g h refused = let is = h.1 in let no = refused.1 in cc
 
+-- a result is not an error of octets that don't fit
+abbrev Fits : {X : Type 0} → Result X RecordError → Type 0
+Fits result = (r : RecordError) → result ≡ Err r → r.kind ≡ ShortBuf → ⊥
+
+error_fits : {X : Type 0} (r : RecordError) → Fits {X = X} (Err r) → r.kind ≡ ShortBuf → ⊥
+error_fits r fits = fits r refl
+
 module _ (one other : Room) where
-  data_so : (before : State) (at end : ℕ) (w : Words) (tokens : List TokenSeen) (old new : List ℕ) (e : EntryRead) (r : Result (Unit {0}) RecordError) (left : List TokenSeen)
-      → ReadsType (known_name before.origin) one w.rtype end tokens old r left new → ReadsBehind before at w old r new (Ok e) → ReadsRecordData before other at end w tokens old (Ok e) new
-  data_so before at end w tokens old new e (Ok u) left reads behind = (Ok u, left, reads, behind)
-  data_so before at end w tokens old new e (Err r) left reads behind = cc
+  -- ---- tokens that are rejected for another reason than the capacity
 
-  words_so : (before : State) (at end : ℕ) (first : Result (Unit {0}) RecordError) (words : Result Words WordsRefusal) (tokens : List TokenSeen) (old new : List ℕ) (e : EntryRead)
-      → ReadsWords before one at end first words tokens old (Ok e) new → ReadsWords before other at end first words tokens old (Ok e) new
-  words_so before at end (Err r) words tokens old new e h = h
-  words_so before at end (Ok u) (Err r) tokens old new e h = h
-  words_so before at end (Ok u) (Ok w) tokens old new e h = data_so before at end w tokens old new e h.0 h.1 h.2 h.3
+  field_so : (spelled : List ℕ → Type 0) (reason : ErrorKind → Type 0) (old : List ℕ) (e : ErrorKind) → (e ≡ ShortBuf → ⊥) → RefusesField one spelled reason old e → RefusesField other spelled reason old e
+  field_so spelled reason old e fits (inl h) = absurd (fits h.0)
+  field_so spelled reason old e fits (inr h) = inr h
 
-  meaning_so : (before : State) (end : ℕ) (tokens : List TokenSeen) (m : EntryMeaning) (old new : List ℕ) (e : EntryRead) (owner : Known)
-      → ReadsMeaning before one end tokens m old (Ok e) owner new → ReadsMeaning before other end tokens m old (Ok e) owner new
-  meaning_so before end tokens says_nothing old new e owner h = h
-  meaning_so before end tokens (says_origin t) old new e owner h = h
-  meaning_so before end tokens (says_default_ttl r) old new e owner h = h
-  meaning_so before end tokens (says_include file token) old new e owner h = h
-  meaning_so before end tokens (says_record token words left) old new e owner h = (h.0, h.1, words_so before _ end h.0 words left old new e h.2)
-  meaning_so before end tokens (says_refused r) old new e owner h = h
+  token_so : (origin : Option (List (List ℕ))) (f : Field) (tokens : List TokenSeen) (old : List ℕ) (e : ErrorKind) → (e ≡ ShortBuf → ⊥) → RefusesNext origin one f tokens old e → RefusesNext origin other f tokens old e
+  token_so origin f [] old e fits h = h
+  token_so origin f (t ∷ ts) old e fits h = field_so (SpellsField origin f t) ((field_form origin f).reason t.is_quoted t.text) old e fits h
 
-  entry_so : (blank : Bool) (end : ℕ) (tokens : List TokenSeen) (before after : State) (old new : List ℕ) (e : EntryRead) → ReadsZoneEntry one blank end tokens before old (Ok e) after new
-      → ReadsZoneEntry other blank end tokens before old (Ok e) after new
-  entry_so blank end tokens before after old new e h =
-      record { meaning = h.meaning; says = h.says; reads = meaning_so before end tokens h.meaning old new e after.owner h.reads; extends = h.extends; learns = h.learns }
+  fields_so : (origin : Option (List (List ℕ))) (fields : List Field) (end : ℕ) (tokens : List TokenSeen) (old : List ℕ) (r : RecordError) (left : List TokenSeen) (new : List ℕ) → (r.kind ≡ ShortBuf → ⊥)
+      → TakesAllFields origin one fields end tokens old (Err r) left new → TakesAllFields origin other fields end tokens old (Err r) left new
+  fields_so origin fields end tokens old r left new fits h = (
+    h.0,
+    record { field = h.1.field; is_field = h.1.is_field; middle = h.1.middle; before = h.1.before; why = token_so origin h.1.field left h.1.middle r.kind fits h.1.why; extends = h.1.extends },
+    h.2,
+  )
+
+  form_so : (f : RestForm) (tokens : List TokenSeen) (old : List ℕ) (left : List TokenSeen) (e : ErrorKind) → (e ≡ ShortBuf → ⊥) → RefusesAs one f tokens old left e → RefusesAs other f tokens old left e
+  form_so f tokens old left e fits (inl h) = absurd (fits h.0)
+  form_so f tokens old left e fits (inr h) = inr h
+
+  rest_so : (f : RestForm) (end : ℕ) (tokens : List TokenSeen) (old : List ℕ) (r : RecordError) (left : List TokenSeen) (new : List ℕ) → (r.kind ≡ ShortBuf → ⊥) → RefusesRest one f end tokens old r left new
+      → RefusesRest other f end tokens old r left new
+  rest_so f end tokens old r left new fits h = record { at = h.at; why = form_so f tokens old left r.kind fits h.why; extends = h.extends }
+
+  parts_so : (origin : Option (List (List ℕ))) (rest : Rest) (before end : ℕ) (tokens : List TokenSeen) (old : List ℕ) (r : RecordError) (left : List TokenSeen) (new : List ℕ) → (r.kind ≡ ShortBuf → ⊥)
+      → TakesRestParts origin one rest before end tokens old (Err r) left new → TakesRestParts origin other rest before end tokens old (Err r) left new
+  parts_so origin rest before end tokens old r left new fits h =
+      let same : r.kind ≡ h.0.kind = ap (λ (x : RecordError). x.kind) h.2 in (h.0, h.1, h.2, rest_so (rest_form origin rest) end tokens old h.0 left new (λ k. fits (same ∙ k)) h.3, h.4)
+
+  behind_so : (origin : Option (List (List ℕ))) (shape : Shape) (end : ℕ) (tokens : List TokenSeen) (old : List ℕ) (r : RecordError) (left : List TokenSeen) (new : List ℕ) → (r.kind ≡ ShortBuf → ⊥)
+      → RefusesBehindFields origin one shape end tokens old r left new → RefusesBehindFields origin other shape end tokens old r left new
+  behind_so origin shape end tokens old r left new fits h = record {
+    behind = h.behind;
+    middle = h.middle;
+    taken = h.taken;
+    why = elim h.why [
+      | inl hash ↦ inl hash
+      | inr more ↦ inr (
+        more.0,
+        elim more.1 [
+          | inl parts ↦ inl (parts_so origin shape.rest (length shape.fields.now) end h.behind h.middle r left new fits parts)
+          | inr long ↦ inr long
+        ],
+      )
+    ];
+  }
+
+  shaped_so : (origin : Option (List (List ℕ))) (shape : Shape) (end : ℕ) (tokens : List TokenSeen) (old : List ℕ) (r : RecordError) (left : List TokenSeen) (new : List ℕ) → (r.kind ≡ ShortBuf → ⊥)
+      → ReadsData origin one shape end tokens old (Err r) left new → ReadsData origin other shape end tokens old (Err r) left new
+  shaped_so origin shape end tokens old r left new fits h = (
+    elim h.0 [
+      | inl fields ↦ inl (fields_so origin shape.fields.now end tokens old r left new fits fields)
+      | inr behind ↦ inr (behind_so origin shape end tokens old r left new fits behind)
+    ],
+    λ octets spelled. absurd (fits (h.1 octets spelled).0),
+    h.2,
+  )
+
+  generic_so : (found : Option TypeShape) (end : ℕ) (tokens : List TokenSeen) (old : List ℕ) (r : RecordError) (left : List TokenSeen) (new : List ℕ) → (r.kind ≡ ShortBuf → ⊥)
+      → RefusesGeneric found one end tokens old r left new → RefusesGeneric found other end tokens old r left new
+  generic_so found end tokens old r left new fits (inl h) = inl (rest_so generic_form end tokens old r left new fits h)
+  generic_so found end tokens old r left new fits (inr h) = inr h
+
+  refused_so : (origin : Option (List (List ℕ))) (rtype : RecordType) (end : ℕ) (tokens : List TokenSeen) (old : List ℕ) (r : RecordError) (left : List TokenSeen) (new : List ℕ) → (r.kind ≡ ShortBuf → ⊥)
+      → RefusesData origin one rtype end tokens old r left new → RefusesData origin other rtype end tokens old r left new
+  refused_so origin rtype end tokens old r left new fits (inl h) = inl h
+  refused_so origin rtype end tokens old r left new fits (inr (inl h)) = inr (inl (h.0, h.1, generic_so (shape_of_code rtype) end tokens old r left new fits h.2))
+  refused_so origin rtype end tokens old r left new fits (inr (inr (inl h))) = inr (inr (inl h))
+  refused_so origin rtype end tokens old r left new fits (inr (inr (inr h))) = inr (inr (inr (h.0, (h.1.0, h.1.1, shaped_so origin h.1.0 end tokens old r left new fits h.1.2))))
+
+  type_so : (origin : Option (List (List ℕ))) (rtype : RecordType) (end : ℕ) (tokens : List TokenSeen) (old : List ℕ) (read : Result (Unit {0}) RecordError) (left : List TokenSeen) (new : List ℕ) → Fits read
+      → ReadsType origin one rtype end tokens old read left new → ReadsType origin other rtype end tokens old read left new
+  type_so origin rtype end tokens old (Ok u) left new fits h = h
+  type_so origin rtype end tokens old (Err r) left new fits h =
+      let same : r.kind ≡ h.0.kind = ap (λ (x : RecordError). x.kind) h.1 in
+      (h.0, h.1, refused_so origin rtype end tokens old h.0 left new (λ k. error_fits {X = Unit {0}} r fits (same ∙ k)) h.2)
+
+  -- ---- entries
+
+  data_so : (before : State) (at end : ℕ) (w : Words) (tokens : List TokenSeen) (old new : List ℕ) (result : Result EntryRead RecordError) (r : Result (Unit {0}) RecordError) (left : List TokenSeen) → Fits result
+      → ReadsType (known_name before.origin) one w.rtype end tokens old r left new → ReadsBehind before at w old r new result → ReadsRecordData before other at end w tokens old result new
+  data_so before at end w tokens old new result (Ok u) left fits reads behind = (Ok u, left, reads, behind)
+  data_so before at end w tokens old new result (Err r) left fits reads behind =
+      (Err r, left, type_so (known_name before.origin) w.rtype end tokens old (Err r) left new (λ x is. let same : r ≡ x = cc in λ k. fits r behind (ap (λ (y : RecordError). y.kind) same ∙ k)) reads, behind)
+
+  words_so : (before : State) (at end : ℕ) (first : Result (Unit {0}) RecordError) (words : Result Words WordsRefusal) (tokens : List TokenSeen) (old new : List ℕ) (result : Result EntryRead RecordError) → Fits result
+      → ReadsWords before one at end first words tokens old result new → ReadsWords before other at end first words tokens old result new
+  words_so before at end (Err r) words tokens old new result fits h = h
+  words_so before at end (Ok u) (Err r) tokens old new result fits h = h
+  words_so before at end (Ok u) (Ok w) tokens old new result fits h = data_so before at end w tokens old new result h.0 h.1 fits h.2 h.3
+
+  include_so : (origin : Option (List (List ℕ))) (at : ℕ) (file : List ℕ) (token : Option TokenSeen) (old new : List ℕ) (result : Result EntryRead RecordError) → Fits result → ReadsInclude origin one at file token old result new
+      → ReadsInclude origin other at file token old result new
+  include_so origin at file token old new (Ok e) fits h = h
+  include_so origin at file token old new (Err r) fits (inl h) = inl h
+  include_so origin at file token old new (Err r) fits (inr h) = absurd (error_fits {X = EntryRead} r fits (ap (λ (x : RecordError). x.kind) h.2))
+
+  meaning_so : (before : State) (end : ℕ) (tokens : List TokenSeen) (m : EntryMeaning) (old new : List ℕ) (result : Result EntryRead RecordError) (owner : Known) → Fits result
+      → ReadsMeaning before one end tokens m old result owner new → ReadsMeaning before other end tokens m old result owner new
+  meaning_so before end tokens says_nothing old new result owner fits h = h
+  meaning_so before end tokens (says_origin t) old new result owner fits h = h
+  meaning_so before end tokens (says_default_ttl r) old new result owner fits h = h
+  meaning_so before end tokens (says_include file token) old new result owner fits h = include_so (known_name before.origin) _ file token old new result fits h
+  meaning_so before end tokens (says_record token words left) old new result owner fits h = (h.0, h.1, words_so before _ end h.0 words left old new result fits h.2)
+  meaning_so before end tokens (says_refused r) old new result owner fits h = h
+
+  entry_so : (blank : Bool) (end : ℕ) (tokens : List TokenSeen) (before after : State) (old new : List ℕ) (result : Result EntryRead RecordError) → Fits result → ReadsZoneEntry one blank end tokens before old result after new
+      → ReadsZoneEntry other blank end tokens before old result after new
+  entry_so blank end tokens before after old new result fits h =
+      record { meaning = h.meaning; says = h.says; reads = meaning_so before end tokens h.meaning old new result after.owner fits h.reads; extends = h.extends; learns = h.learns }
 
   begun_so : (octets : List ℕ) (begun : SourceSeen) (start : Result (Option StartOfEntry) Fault) (before : State) (old new : List ℕ) (result : Option (Result EntryRead RecordError)) (after : RecordReader)
-      → (RefusalIsGiven result → ⊥) → ReadsBegun one octets begun start before old result after new → ReadsBegun other octets begun start before old result after new
+      → (MayLackRoom result → ⊥) → ReadsBegun one octets begun start before old result after new → ReadsBegun other octets begun start before old result after new
   begun_so octets begun (Ok (Some start)) before old new result after taken h = go h.0 h.1 h.2 h.3 h.4
     where
       go : (read : Result EntryRead RecordError) (end : Result EndOfEntry Fault) → ReadsZoneEntry one start.begins_blank (entry_end begun).at (entry_left begun) before old read after.state new
           → StandsAfter octets begun end after.source → result ≡ Some (given_of end read) → ReadsBegun other octets begun (Ok (Some start)) before old result after new
-      go (Ok e) (Ok end) reads stands is = (Ok e, Ok end, entry_so start.begins_blank _ _ before after.state old new e reads, stands, is)
-      go (Err r) (Ok end) reads stands is = absurd (taken (r, is))
-      go read (Err f) reads stands is = absurd (taken (error_of_fault f, is))
+      go read (Ok end) reads stands is =
+          (read, Ok end, entry_so start.begins_blank _ _ before after.state old new read (λ r e k. taken (r, is ∙ ap Some e, inl k)) reads, stands, is)
+      go read (Err f) reads stands is = absurd (taken (error_of_fault f, is, inr (f.wrong, refl)))
   begun_so octets begun (Ok None) before old new result after taken h = h
   begun_so octets begun (Err fault) before old new result after taken h = h
 
-  next_so : (before after : RecordReader) (old new : List ℕ) (result : Option (Result EntryRead RecordError)) → (RefusalIsGiven result → ⊥) → ReadsNextEntry one before old result after new
+  next_so : (before after : RecordReader) (old new : List ℕ) (result : Option (Result EntryRead RecordError)) → (MayLackRoom result → ⊥) → ReadsNextEntry one before old result after new
       → ReadsNextEntry other before old result after new
   next_so before after old new result taken h = record {
     start = h.start;
@@ -87,7 +196,7 @@ module _ (one other : Room) where
       let both = all_before (IsDirectiveGiven old) front g are in
       given_next front middle end g (row_so old first middle front both.0 row) (next_so middle end g.old g.new (Some g.result) (directive_taken old g both.1) next) state
 
-  pub any_room : (before after : RecordReader) (old new : List ℕ) (result : Option (Result EntryRead RecordError)) → (RefusalIsGiven result → ⊥) → ReadsNextRecord one before old result after new
+  pub any_room : (before after : RecordReader) (old new : List ℕ) (result : Option (Result EntryRead RecordError)) → (MayLackRoom result → ⊥) → ReadsNextRecord one before old result after new
       → ReadsNextRecord other before old result after new
   any_room before after old new result taken h = record {
     directives = h.directives;
@@ -98,25 +207,37 @@ module _ (one other : Room) where
     is_last = h.is_last;
   }
 
-  -- rejected data stays rejected, whatever follows it
-  never_data : (rtype : RecordType) (r : RecordError) (octets out : List ℕ) (parts : List (Result PartSeen Fault)) → Ok out ≡ data_answer rtype (Err r) octets parts → ⊥
-  never_data rtype r octets out [] is = cc
-  never_data rtype r octets out (Ok p ∷ parts) is = cc
-  never_data rtype r octets out (Err f ∷ parts) is = cc
+  -- ---- data
 
-  tokens_so : (rtype : RecordType) (origin : Option (List (List ℕ))) (begun : SourceSeen) (out : List ℕ) (read : Result (Unit {0}) RecordError) (left : List TokenSeen) (octets : List ℕ)
-      → ReadsType origin one rtype (entry_end begun).at (entry_left begun) [] read left octets → Ok out ≡ data_answer rtype read octets (behind_left begun)
-      → ReadsTokens other rtype origin begun (Ok out)
-  tokens_so rtype origin begun out (Ok u) left octets reads is = (Ok u, left, octets, reads, is)
-  tokens_so rtype origin begun out (Err r) left octets reads is = absurd (never_data rtype r octets out (behind_left begun) is)
+  -- the error of data, or a syntax error that follows it
+  rejected_answer : (rtype : RecordType) (r : RecordError) (octets : List ℕ) (parts : List (Result PartSeen Fault))
+      → (data_answer rtype (Err r) octets parts ≡ Err r) ⊎ ((f : Fault) × (data_answer rtype (Err r) octets parts ≡ Err (error_of_fault f)))
+  rejected_answer rtype r octets [] = inl refl
+  rejected_answer rtype r octets (Ok p ∷ parts) = inl refl
+  rejected_answer rtype r octets (Err f ∷ parts) = inr (f, refl)
 
-  first_so : (rtype : RecordType) (origin : Option (List (List ℕ))) (begun : SourceSeen) (out : List ℕ) (start : Result (Option StartOfEntry) Fault)
-      → ReadsFirstData one rtype origin start begun (Ok out) → ReadsFirstData other rtype origin start begun (Ok out)
-  first_so rtype origin begun out (Err f) h = h
-  first_so rtype origin begun out (Ok found) h = tokens_so rtype origin begun out h.0 h.1 h.2 h.3 h.4
+  tokens_so : (rtype : RecordType) (origin : Option (List (List ℕ))) (begun : SourceSeen) (answer : DataAnswer) (read : Result (Unit {0}) RecordError) (left : List TokenSeen) (octets : List ℕ) → (AnswerMayLackRoom answer → ⊥)
+      → ReadsType origin one rtype (entry_end begun).at (entry_left begun) [] read left octets → answer ≡ data_answer rtype read octets (behind_left begun) → ReadsTokens other rtype origin begun answer
+  tokens_so rtype origin begun answer (Ok u) left octets taken reads is = (Ok u, left, octets, reads, is)
+  tokens_so rtype origin begun answer (Err r) left octets taken reads is = elim (rejected_answer rtype r octets (behind_left begun)) [
+    | inl e ↦ (
+      Err r,
+      left,
+      octets,
+      type_so origin rtype (entry_end begun).at (entry_left begun) [] (Err r) left octets (λ x same. let equal : r ≡ x = cc in λ k. taken (r, is ∙ e, inl (ap (λ (y : RecordError). y.kind) equal ∙ k))) reads,
+      is,
+    )
+    | inr fault ↦ absurd (taken (error_of_fault fault.0, is ∙ fault.1, inr (fault.0.wrong, refl)))
+  ]
 
-  pub any_data_room : (rtype : RecordType) (origin : Option (List (List ℕ))) (text out : List ℕ) → ReadsDataText one rtype origin text (Ok out) → ReadsDataText other rtype origin text (Ok out)
-  any_data_room rtype origin text out h = record {
+  first_so : (rtype : RecordType) (origin : Option (List (List ℕ))) (begun : SourceSeen) (answer : DataAnswer) (start : Result (Option StartOfEntry) Fault) → (AnswerMayLackRoom answer → ⊥)
+      → ReadsFirstData one rtype origin start begun answer → ReadsFirstData other rtype origin start begun answer
+  first_so rtype origin begun answer (Err f) taken h = h
+  first_so rtype origin begun answer (Ok found) taken h = tokens_so rtype origin begun answer h.0 h.1 h.2 taken h.3 h.4
+
+  pub any_data_room : (rtype : RecordType) (origin : Option (List (List ℕ))) (text : List ℕ) (answer : DataAnswer) → (AnswerMayLackRoom answer → ⊥) → ReadsDataText one rtype origin text answer
+      → ReadsDataText other rtype origin text answer
+  any_data_room rtype origin text answer taken h = record {
     source = h.source;
     seen = h.seen;
     closed = h.closed;
@@ -124,5 +245,5 @@ module _ (one other : Room) where
     start = h.start;
     begun = h.begun;
     begins = h.begins;
-    reads = first_so rtype origin h.begun out h.start h.reads;
+    reads = first_so rtype origin h.begun answer h.start taken h.reads;
   }

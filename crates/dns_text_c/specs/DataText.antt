@@ -24,7 +24,7 @@ use Rattle.dns_wire.specs.declared.error.NameError.{NameError}
 use Rattle.dns_zone.specs.Printed.{printed}
 use Rattle.dns_zone.specs.declared.zonefile_fmt.DisplayKind.TheVariants.{Simple}
 use Rattle.dns_text_c.specs.Kept.{IsOriginOf}
-use Rattle.dns_text_c.specs.Reasons.{TellsError, refusal_of_name}
+use Rattle.dns_text_c.specs.Reasons.{ErrorMayLackRoom, TellsError, refusal_of_name}
 use Rattle.dns_text_c.specs.Told.{TellsFault, TellsOctets, at_start}
 use Rattle.dns_text_c.specs.declared.outcome.Fault.{Fault}
 use Rattle.dns_text_c.specs.declared.outcome.Outcome.{Outcome}
@@ -80,6 +80,10 @@ trailing_token rtype at = error_of_type rtype (error_at at TrailingToken)
 -- the octets of data, or an error
 abbrev pub DataAnswer : Type 0
 DataAnswer = Result (List ℕ) RecordError
+
+-- the answer is an error of octets that don't fit, or a syntax error
+abbrev pub AnswerMayLackRoom : DataAnswer → Type 0
+AnswerMayLackRoom answer = (e : RecordError) × (answer ≡ Err e) × ErrorMayLackRoom e
 
 -- the octets that were read, or the error
 abbrev pub answered : Result (Unit {0}) RecordError → List ℕ → DataAnswer

@@ -1,5 +1,5 @@
 -- The state of a zone file between two calls.
-use Rattle.std.specs.Prelude.{◌≡◌, ◌≢◌, ◌⊎◌, ◌<◌, ◌≤◌, ◌==◌, if◌then◌else◌, ℕ, List, [], length, take, drop, Option, Some, None, Ok, Err}
+use Rattle.std.specs.Prelude.{◌≡◌, ◌≢◌, ◌⊎◌, ◌<◌, ◌≤◌, ◌==◌, if◌then◌else◌, ℕ, Bool, true, false, List, [], length, take, drop, Option, Some, None, Ok, Err}
 use Rattle.dns_wire.specs.FromOctets.{MakesName}
 use Rattle.dns_wire.specs.declared.error.NameError.{NameError}
 use Rattle.dns_reader.specs.declared.known.Known.{Known}
@@ -10,6 +10,11 @@ use Rattle.dns_text_c.specs.Told.{TellsFault, at_start}
 use Rattle.dns_text_c.specs.declared.kept.KeptName.{KeptName}
 use Rattle.dns_text_c.specs.declared.kept.Zone.{Zone}
 use Rattle.dns_text_c.specs.declared.outcome.Outcome.{Outcome}
+
+-- what is known, if it is
+abbrev pub known_if : {X : Type 0} → Bool → X → Option X
+known_if true x = Some x
+known_if false x = None
 
 -- the name in the first octets, in this number; or there are fewer, or they are not a name
 abbrev pub MakesOrNot : List ℕ → ℕ → Option Known → Type 0

@@ -11,10 +11,11 @@ use Rattle.dns_reader.specs.TextPieces.{StartsAt}
 use Rattle.dns_reader.specs.declared.entry.EntryRead.{EntryRead}
 use Rattle.dns_reader.specs.declared.entry.EntryRead.TheVariants.{Nothing, Directive, Include, Record as RecordRead}
 use Rattle.dns_reader.specs.declared.known.Known.{Known}
+use Rattle.dns_reader.specs.declared.line.LineRead.{LineRead}
 use Rattle.dns_reader.specs.declared.records.RecordReader.{RecordReader}
 use Rattle.dns_reader.specs.declared.state.State.{State}
 use Rattle.dns_text_c.specs.Kept.{HoldsState, KeepsName, KeepsState, said_origin}
-use Rattle.dns_text_c.specs.Reasons.{TellsError}
+use Rattle.dns_text_c.specs.Reasons.{ErrorMayLackRoom, TellsError}
 use Rattle.dns_text_c.specs.Told.{TellsFault, at_start, number_of}
 use Rattle.dns_text_c.specs.declared.kept.Zone.{Zone}
 use Rattle.dns_text_c.specs.declared.outcome.Outcome.{Outcome}
@@ -82,6 +83,14 @@ head_in (Include file has_origin) = None
 head_in Nothing = None
 head_in Directive = None
 
+-- a line is a record with these numbers
+abbrev pub IsHeadOfLine : Head → LineRead → Type 0
+IsHeadOfLine head line = (read : EntryRead) × (line.read ≡ Ok read) × (head_in read ≡ Some head)
+
+-- the record of a line is returned: as of each reader that has this state then, and is at this offset
+abbrev pub TellsLine : State → ℕ → List ℕ → Head → RecordCall → Type 0
+TellsLine state at octets head call = (reader : RecordReader) → reader.state ≡ state → reader.source.began ≡ at → TellsFound 0 reader octets state.owner head call
+
 -- for a file to include, the octets are those of its name, and after them those of its origin
 abbrev pub HasIncluded : Option (Result EntryRead RecordError) → List ℕ → Type 0
 HasIncluded (Some (Ok (Include file has_origin))) octets = IsIncluded file has_origin octets
@@ -96,9 +105,9 @@ TellsGiven (Some (Ok (Include file has_origin))) reader octets call = (read : Is
 TellsGiven (Some (Ok Nothing)) reader octets call = ⊥
 TellsGiven (Some (Ok Directive)) reader octets call = ⊥
 
--- the reader's result is an error
-abbrev pub RefusalIsGiven : Option (Result EntryRead RecordError) → Type 0
-RefusalIsGiven given = (e : RecordError) × (given ≡ Some (Err e))
+-- the reader's result is an error of octets that don't fit, or a syntax error
+abbrev pub MayLackRoom : Option (Result EntryRead RecordError) → Type 0
+MayLackRoom given = (e : RecordError) × (given ≡ Some (Err e)) × ErrorMayLackRoom e
 
 -- a reader at the zone's offset, with the state that the zone holds, returns the next record, and this is reported
 pub record ReadsZone (text : List ℕ) (state : State) (call : RecordCall) : Type 0 where

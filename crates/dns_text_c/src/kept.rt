@@ -1,7 +1,7 @@
 //! The state of a zone file between two calls, in plain numbers and octets.
 ghost use Rattle.std.specs.Prelude.{◌≡◌, ◌≤◌, drop, length, take};
 ghost use Rattle.dns_wire.specs.FromOctets.{MakesName};
-ghost use Rattle.dns_text_c.specs.Kept.{HoldsName, HoldsState, KeepsName, KeepsState, MakesOrNot, TakesOrigin, flagged};
+ghost use Rattle.dns_text_c.specs.Kept.{HoldsName, HoldsState, KeepsName, KeepsState, MakesOrNot, TakesOrigin, flagged, known_if};
 ghost use Rattle.dns_text_c.specs.Reasons.{refusal_of_name};
 
 use crate::outcome::{Fault, Outcome, Refusal, accept, refuse};
@@ -53,30 +53,36 @@ pub(crate) fn name_of(octets: &[u8]) -> Result<NameBuffer, NameError>
     }
 }
 
-/// Returns the name in the first `length` octets, or `None` if they are not a name.
-fn name_among(octets: &[u8], length: usize) -> Option<Known>
-    ensures { MakesOrNot octets.now length result }
+/// Stores the name in the first `length` octets as known, and returns true. Returns false if they
+/// are not a name; then what is known is unchanged.
+fn know_name(octets: &[u8], length: usize, known: &mut Known) -> bool
+    ensures { MakesOrNot octets.now length (known_if result known.new) }
 {
     if length > octets.len() {
-        return None;
+        return false;
     }
     match name_of(&octets[..length]) {
-        Ok(name) => Some(Known::Name(name)),
-        Err(_) => None,
+        Ok(name) => {
+            *known = Known::Name(name);
+            true
+        }
+        Err(_) => false,
     }
 }
 
-/// Returns what is known of a stored name, or `None` if it is not a name.
-fn known_of(kept: &KeptName) -> Option<Known>
-    ensures { HoldsName kept.now result }
+/// Loads what is known of a stored name, and returns true. Returns false if it is not a name.
+fn load_name(kept: &KeptName, known: &mut Known) -> bool
+    ensures { HoldsName kept.now (known_if result known.new) }
 {
     if kept.is_refused != 0 {
-        return Some(Known::Refused);
+        *known = Known::Refused;
+        return true;
     }
     if kept.length == 0 {
-        return Some(Known::Unsaid);
+        *known = Known::Unsaid;
+        return true;
     }
-    name_among(&kept.octets, kept.length)
+    know_name(&kept.octets, kept.length, known)
 }
 
 /// Returns a TTL, if there is one.
@@ -86,19 +92,17 @@ fn ttl_of(has_ttl: u8, seconds: u32) -> Option<u32>
     if has_ttl == 0 { None } else { Some(seconds) }
 }
 
-/// Returns the stored state, or `None` if a stored name is not a name.
-pub(crate) fn state_of(zone: &Zone) -> Option<State>
-    ensures { HoldsState zone.now result }
+/// Loads the stored state, and returns true. Returns false if a stored name is not a name.
+pub(crate) fn load_state(zone: &Zone, state: &mut State) -> bool
+    ensures { HoldsState zone.now (known_if result state.new) }
 {
-    let origin = known_of(&zone.origin)?;
-    let owner = known_of(&zone.owner)?;
-    Some(State {
-        origin,
-        owner,
-        default_ttl: ttl_of(zone.has_default_ttl, zone.default_ttl),
-        last_ttl: ttl_of(zone.has_last_ttl, zone.last_ttl),
-        class: Class(zone.class_code),
-    })
+    state.class = Class(zone.class_code);
+    state.default_ttl = ttl_of(zone.has_default_ttl, zone.default_ttl);
+    state.last_ttl = ttl_of(zone.has_last_ttl, zone.last_ttl);
+    if !load_name(&zone.origin, &mut state.origin) {
+        return false;
+    }
+    load_name(&zone.owner, &mut state.owner)
 }
 
 /// Copies octets to the start of others, which are at least as long.

@@ -5,7 +5,7 @@ ghost use Rattle.dns_text_c.specs.DataText.{EndsText, ReadsLeft, ReadsOpen, Answ
 
 use crate::kept::{name_of, refusal_of_name};
 use crate::outcome::{Fault, Outcome, give, refuse};
-use crate::reasons::tell_error;
+use crate::reasons::{may_lack, tell_error};
 use arrayvec::ArrayVec;
 use dns_data::read_type;
 use dns_fields::{RecordError, TokenSource};
@@ -127,8 +127,25 @@ fn read_in_room<const N: usize>(
     }
 }
 
+/// Parses data of a type, with an origin for relative names and capacity for the longest data.
+#[cold]
+fn read_long(
+    rtype: RecordType,
+    text: &[u8],
+    origin: Option<&NameBuffer>,
+    octets: &mut [u8],
+    outcome: &mut Outcome,
+) -> u32
+    ensures { TellsRead rtype text.now origin.entry octets.old result octets.new outcome.new }
+{
+    match read_in_room::<MOST>(rtype, text, origin, octets, outcome) {
+        Ok(status) => status,
+        Err(error) => tell_error(&error, octets, outcome),
+    }
+}
+
 /// Parses data of a type, with an origin for relative names. A buffer for the longest data is used
-/// only if that for most records does not suffice.
+/// only if that for most records may not suffice.
 fn read_behind(
     rtype: RecordType,
     text: &[u8],
@@ -138,12 +155,14 @@ fn read_behind(
 ) -> u32
     ensures { TellsRead rtype text.now origin.entry octets.old result octets.new outcome.new }
 {
-    if let Ok(status) = read_in_room::<FEW>(rtype, text, origin, octets, outcome) {
-        return status;
-    }
-    match read_in_room::<MOST>(rtype, text, origin, octets, outcome) {
+    match read_in_room::<FEW>(rtype, text, origin, octets, outcome) {
         Ok(status) => status,
-        Err(error) => tell_error(&error, octets, outcome),
+        Err(error) => {
+            if may_lack(&error) {
+                return read_long(rtype, text, origin, octets, outcome);
+            }
+            tell_error(&error, octets, outcome)
+        }
     }
 }
 

@@ -1,7 +1,7 @@
 //! Reports why a text, an entry or data is rejected: by the status, and by the text of the error.
-ghost use Rattle.std.specs.Prelude.{◌≡◌, ◌+◌, ◌≤◌, ◌++◌, codes, length, take, option_copied};
+ghost use Rattle.std.specs.Prelude.{◌≡◌, ◌↔◌, ◌+◌, ◌≤◌, ◌++◌, IsTrue, codes, length, take, option_copied};
 ghost use Rattle.dns_kinds.specs.Types.{type_text};
-ghost use Rattle.dns_text_c.specs.Reasons.{AppendsCut, TellsError, TellsReason, call_error_text, data_error_text, field_name, part_prefix, part_text, reason_text, refusal_of_data, refusal_of_entry, refusal_of_head, spaced, syntax_of};
+ghost use Rattle.dns_text_c.specs.Reasons.{AppendsCut, ErrorMayLackRoom, TellsError, TellsReason, call_error_text, data_error_text, field_name, part_prefix, part_text, reason_text, refusal_of_data, refusal_of_entry, refusal_of_head, spaced, syntax_of};
 
 use crate::kinds::numbered;
 use crate::outcome::{Fault, Outcome, Refusal, give_cut, number_of, refuse};
@@ -22,6 +22,17 @@ fn syntax_of(kind: ErrorKind) -> Option<Wrong>
     match kind {
         ErrorKind::Syntax(wrong) => Some(wrong),
         _ => None,
+    }
+}
+
+/// Returns whether an error is one of octets that don't fit, or a syntax error, before which some
+/// may not fit. Only then may the result be another one with more capacity.
+pub(crate) fn may_lack(error: &RecordError) -> bool
+    ensures { IsTrue result ↔ ErrorMayLackRoom error.now }
+{
+    match error.kind {
+        ErrorKind::ShortBuf | ErrorKind::Syntax(_) => true,
+        _ => false,
     }
 }
 

@@ -1,21 +1,21 @@
 //! Reads the records of a zone file, one by one and without allocating memory (RFC 1035 section
 //! 5.1).
-ghost use Rattle.std.specs.Prelude.{◌≡◌, ◌≢◌, ◌↔◌, ℕ, IsTrue, List, Ok, Option, Some, false};
+ghost use Rattle.std.specs.Prelude.{◌≡◌, ◌≢◌, ◌↔◌, ℕ, IfSome, IsTrue, List, Ok, Option, Some, false};
 ghost use Rattle.dns_reader.specs.Included.{OriginAppended};
 ghost use Rattle.dns_reader.specs.declared.entry.EntryRead.TheVariants.{Nothing, Directive};
 ghost use Rattle.dns_text_c.specs.Kept.{KeepsName, said_origin};
 ghost use Rattle.dns_text_c.specs.Told.{TellsFault, at_start};
 ghost use Rattle.dns_text_c.specs.declared.outcome.Refusal.TheVariants.{BadCursor};
 ghost use Rattle.dns_text_c.specs.declared.records.Record.{Record};
-ghost use Rattle.dns_text_c.specs.Records.{HasIncluded, KeepsReader, NextRecord, RefusalIsGiven, TellsFound, TellsGiven, TellsRefused, head_in, head_of, memory};
+ghost use Rattle.dns_text_c.specs.Records.{HasIncluded, IsHeadOfLine, KeepsReader, MayLackRoom, NextRecord, TellsFound, TellsGiven, TellsLine, TellsRefused, head_in, head_of, memory};
 
-use crate::kept::{KeptName, Zone, keep_name, keep_state, name_of, put_over, state_of};
+use crate::kept::{KeptName, Zone, keep_name, keep_state, load_state, name_of, put_over};
 use crate::outcome::{END, Fault, INCLUDE, OK, Outcome, Refusal, number_of, refuse};
-use crate::reasons::tell_error;
+use crate::reasons::{may_lack, tell_error};
 use arrayvec::ArrayVec;
 use dns_fields::RecordError;
 use dns_kinds::{Class, RecordType};
-use dns_reader::{EntryRead, Known, RecordReader, include_parts};
+use dns_reader::{EntryRead, Known, LineRead, RecordReader, State, include_parts, read_line};
 
 /// Greatest number of octets of record data (RFC 1035 section 3.2.1).
 const MOST: usize = 65535;
@@ -218,11 +218,14 @@ fn refuse_zone(outcome: &mut Outcome) -> u32
     refuse(Fault { refusal, place: 0 }, outcome)
 }
 
-/// Returns whether a reader's result is an error.
-fn is_refused(given: &Option<Result<EntryRead, RecordError>>) -> bool
-    ensures { IsTrue result ↔ RefusalIsGiven given.now }
+/// Returns whether a reader's result is an error for which more capacity may be needed.
+fn may_lack_room(given: &Option<Result<EntryRead, RecordError>>) -> bool
+    ensures { IsTrue result ↔ MayLackRoom given.now }
 {
-    matches!(given, Some(Err(_)))
+    match given {
+        Some(Err(error)) => may_lack(error),
+        _ => false,
+    }
 }
 
 /// Reads the next record as [`dnstext_record_next`] does, with capacity for the longest data.
@@ -244,9 +247,10 @@ fn next_with_all_room(
       outcome = outcome.new;
     }) }
 {
-    let Some(state) = state_of(zone) else {
+    let mut state = State::new(Class(zone.class_code));
+    if !load_state(zone, &mut state) {
         return refuse_zone(outcome);
-    };
+    }
     if zone.at > text.len() {
         return refuse_zone(outcome);
     }
@@ -262,6 +266,88 @@ fn next_with_all_room(
         octets,
         outcome,
     )
+}
+
+/// Reads the next record as [`dnstext_record_next`] does, in any text.
+#[inline(never)]
+fn next_of_any(
+    text: &[u8],
+    zone: &mut Zone,
+    found: &mut Record,
+    octets: &mut [u8],
+    outcome: &mut Outcome,
+) -> u32
+    ensures { NextRecord text.now (record {
+      before = memory zone.old found.old octets.old;
+      after = memory zone.new found.new octets.new;
+      status = result;
+      outcome = outcome.new;
+    }) }
+{
+    let mut state = State::new(Class(zone.class_code));
+    if !load_state(zone, &mut state) {
+        return refuse_zone(outcome);
+    }
+    if zone.at > text.len() {
+        return refuse_zone(outcome);
+    }
+    let mut data: ArrayVec<u8, FEW> = ArrayVec::new();
+    let mut reader = RecordReader::starting_at(text, zone.at, state);
+    let given = reader.next_record(&mut data);
+    if may_lack_room(&given) {
+        return next_with_all_room(text, zone, found, octets, outcome);
+    }
+    tell_given(
+        given,
+        &reader,
+        data.as_slice(),
+        zone,
+        found,
+        octets,
+        outcome,
+    )
+}
+
+/// Reports a record that was read of a line, and stores the state, and the offset of the line's
+/// end.
+fn tell_line(
+    state: &State,
+    at: usize,
+    content: &[u8],
+    head: Head,
+    zone: &mut Zone,
+    found: &mut Record,
+    octets: &mut [u8],
+    outcome: &mut Outcome,
+) -> u32
+    ensures { TellsLine state.now at content.now head (record {
+      before = memory zone.old found.old octets.old;
+      after = memory zone.new found.new octets.new;
+      status = result;
+      outcome = outcome.new;
+    }) }
+{
+    *outcome = Outcome {
+        length: content.len(),
+        place: 0,
+    };
+    if octets.len() < content.len() {
+        return number_of(Refusal::NoRoom);
+    }
+    put_over(content, octets);
+    write_record(head, &state.owner, found);
+    keep_state(state, at, zone);
+    OK
+}
+
+/// Returns the numbers of a record that was read of a line, or `None` for any other result.
+fn head_of_line(line: &LineRead) -> Option<Head>
+    ensures { IfSome result (λ head. IsHeadOfLine head line.now) }
+{
+    match &line.read {
+        Ok(read) => head_in(read),
+        Err(_) => None,
+    }
 }
 
 /// Reads the next record of a zone file, and advances the zone (RFC 1035 section 5.1, RFC 2308
@@ -287,22 +373,25 @@ pub extern "C" fn dnstext_record_next(
       outcome = outcome.new;
     }) }
 {
-    let Some(state) = state_of(zone) else {
+    let mut state = State::new(Class(zone.class_code));
+    if !load_state(zone, &mut state) {
         return refuse_zone(outcome);
-    };
+    }
     if zone.at > text.len() {
         return refuse_zone(outcome);
     }
     let mut data: ArrayVec<u8, FEW> = ArrayVec::new();
-    let mut reader = RecordReader::starting_at(text, zone.at, state);
-    let given = reader.next_record(&mut data);
-    if is_refused(&given) {
-        return next_with_all_room(text, zone, found, octets, outcome);
-    }
-    tell_given(
-        given,
-        &reader,
+    let Some(line) = read_line(text, zone.at, &mut state, &mut data) else {
+        return next_of_any(text, zone, found, octets, outcome);
+    };
+    let Some(head) = head_of_line(&line) else {
+        return next_of_any(text, zone, found, octets, outcome);
+    };
+    tell_line(
+        &state,
+        line.end,
         data.as_slice(),
+        head,
         zone,
         found,
         octets,
