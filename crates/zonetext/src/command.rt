@@ -10,7 +10,7 @@ use zonetext_lib::tokens::Form;
 use zonetext_lib::writer::Output;
 
 /// The help text of `--quiet`.
-pub const QUIET: &str = "say nothing of how far reading has come";
+pub const QUIET: &str = "don't show progress";
 
 /// Returns a command for any number of files.
 pub fn over_files<'a>(
@@ -43,22 +43,23 @@ pub fn values<'a>(alloc: Global, name: &'a str, value: &'a str, help: &'a str) -
 }
 
 /// The help texts of the options of the command that checks files.
-const ZONE: &str = "the zone: its origin, and its rules are to hold";
+const ZONE: &str = "zone origin; also checks the rules of a zone";
 
-const ZONE_FROM_NAME: &str = "the same, by the file's name without .zone or .db";
+const ZONE_FROM_NAME: &str = "like --zone, with the file's name without .zone or .db";
 
-const INCLUDE: &str = "a folder of which files may be included, besides the first file's";
+const INCLUDE: &str = "also allow included files in this folder, besides the first file's";
 
+/// The help text of `--base`.
 pub const BASE: &str =
-    "the folder of relative names of included files, not that of the including file";
+    "folder for relative names of included files, in place of the including file's";
 
-const STDIN_NAME: &str = "the name of standard input: in messages, and for files that it includes";
+const STDIN_NAME: &str = "name of standard input, in messages and for files that it includes";
 
-const DNSSEC: &str = "the zone is signed: signatures, NSEC and NSEC3 are looked at too";
+const DNSSEC: &str = "also check the rules of a signed zone: signatures, NSEC and NSEC3";
 
-const WITHIN: &str = "also tell of signatures that expire within a time, as 7d";
+const WITHIN: &str = "also report signatures that expire within this time, as 7d";
 
-const NOW: &str = "the time instead of now, as 20260131235959 or in seconds since 1970";
+const NOW: &str = "check at this time, not now, as 20260131235959 or seconds since 1970";
 
 const WHEN: [&str; 3] = ["auto", "always", "never"];
 
@@ -78,17 +79,17 @@ const OF_RECORDS: [&str; 9] = [
 /// Adds the options that select findings.
 fn with_findings<'a>(alloc: Global, command: Command<'a>) -> Result<Command<'a>, AllocError> {
     command
-        .arg(values(alloc, "deny", "CODE", "take a finding for an error"))?
-        .arg(values(alloc, "allow", "CODE", "leave a finding out"))?
-        .arg(flag(alloc, "strict", "take every finding for an error"))?
-        .arg(valued(alloc, "max-ttl", "TIME", "the greatest time to live, as 1d"))?
-        .arg(max_entry(alloc))?
-        .arg(valued(
+        .arg(values(
             alloc,
-            "class",
-            "CLASS",
-            "the class of the zone, IN unless given",
-        ))
+            "deny",
+            "CODE",
+            "report findings with this code as errors",
+        ))?
+        .arg(values(alloc, "allow", "CODE", "omit findings with this code"))?
+        .arg(flag(alloc, "strict", "report every finding as an error"))?
+        .arg(valued(alloc, "max-ttl", "TIME", "maximum TTL, as 1d"))?
+        .arg(max_entry(alloc))?
+        .arg(valued(alloc, "class", "CLASS", "class of the zone (default IN)"))
 }
 
 /// Adds the options for signed zones.
@@ -103,16 +104,16 @@ fn with_signatures<'a>(alloc: Global, command: Command<'a>) -> Result<Command<'a
 
 /// Adds the options that decide how findings are shown.
 fn with_forms<'a>(alloc: Global, command: Command<'a>) -> Result<Command<'a>, AllocError> {
-    let most = "how many findings are written, 20 unless given, or all as JSON; 0 for all";
-    let verbose = "write the zone, its serial number and how many records there are";
+    let most = "print at most N findings, 0 for all (default 20, with --json all)";
+    let verbose = "print the zone, its serial and its number of records";
     let color = valued(
         alloc,
         "color",
         "WHEN",
-        "when findings are in colour, with their lines",
+        "when to print findings in colour, with their lines",
     );
     command
-        .arg(flag(alloc, "json", "write a JSON object for each finding"))?
+        .arg(flag(alloc, "json", "print a JSON object for each finding"))?
         .arg(valued(alloc, "max", "N", most))?
         .arg(color.value_parser(WHEN.as_slice()))?
         .arg(flag(alloc, "verbose", verbose).short('v'))
@@ -121,11 +122,11 @@ fn with_forms<'a>(alloc: Global, command: Command<'a>) -> Result<Command<'a>, Al
 /// Returns the command that checks files.
 fn check_command<'a>(alloc: Global, name: &'a str) -> Result<Command<'a>, AllocError> {
     let zone = valued(alloc, "zone", "ORIGIN", ZONE).conflicts_with("zone-from-name")?;
-    let mut text = flag(alloc, "text", "look at the text alone, not at records");
+    let mut text = flag(alloc, "text", "check the syntax alone, not the records");
     for option in &OF_RECORDS {
         text = text.conflicts_with(*option)?;
     }
-    let command = over_files(alloc, name, "Say what is wrong with zone files")?
+    let command = over_files(alloc, name, "Report the errors in zone files")?
         .arg(text)?
         .arg(zone)?
         .arg(flag(alloc, "zone-from-name", ZONE_FROM_NAME))?
@@ -138,47 +139,43 @@ fn check_command<'a>(alloc: Global, name: &'a str) -> Result<Command<'a>, AllocE
 
 /// Returns the command that lists tokens.
 fn tokens_command<'a>(alloc: Global, name: &'a str) -> Result<Command<'a>, AllocError> {
-    let about = "Write a line for each token, with its position";
-    let json = flag(alloc, "json", "write a JSON object for each token");
+    let about = "Print each token on a line, with its position";
+    let json = flag(alloc, "json", "print a JSON object for each token");
     over_files(alloc, name, about)?.arg(json)
 }
 
 /// Returns the command that formats files.
 fn fmt_command<'a>(alloc: Global, name: &'a str) -> Result<Command<'a>, AllocError> {
-    let write = flag(alloc, "write", "replace the files by their forms").short('w');
+    let write = flag(alloc, "write", "replace the files by the formatted text").short('w');
     let check = flag(
         alloc,
         "check",
-        "name the files that would change, with status 1",
+        "print the names of files that would change, with status 1",
     );
     let diff = flag(
         alloc,
         "diff",
-        "show what would change as a unified diff, with status 1",
+        "print what would change as a unified diff, with status 1",
     );
     let force = flag(
         alloc,
         "force",
-        "also replace zones that a server changes itself",
+        "also replace a zone that a server updates (with a .jnl file)",
     );
-    over_files(
-        alloc,
-        name,
-        "Write zone files in one form, with their comments",
-    )?
-    .arg(write.conflicts_with("check")?.conflicts_with("diff")?)?
-    .arg(check.conflicts_with("diff")?)?
-    .arg(diff)?
-    .arg(force)
+    over_files(alloc, name, "Format zone files, and keep their comments")?
+        .arg(write.conflicts_with("check")?.conflicts_with("diff")?)?
+        .arg(check.conflicts_with("diff")?)?
+        .arg(diff)?
+        .arg(force)
 }
 
 /// Returns the command that prints entries as lines.
 fn lines_command<'a>(alloc: Global, name: &'a str) -> Result<Command<'a>, AllocError> {
-    let tabbed = flag(alloc, "tabbed", "put tabs between tokens");
+    let tabbed = flag(alloc, "tabbed", "separate tokens by tabs");
     over_files(
         alloc,
         name,
-        "Write each entry on a line of its own, without comments",
+        "Print each entry on one line, without comments",
     )?
     .arg(tabbed)
 }
@@ -194,7 +191,7 @@ pub fn valued<'a>(alloc: Global, name: &'a str, value: &'a str, help: &'a str) -
 
 /// Returns the option for entries that are longer than usual.
 pub fn max_entry<'a>(alloc: Global) -> Arg<'a> {
-    let help = "how many octets an entry may have, 1M unless given";
+    let help = "maximum length of an entry in octets, as 2M (default 1M)";
     valued(alloc, "max-entry", "SIZE", help)
 }
 
@@ -210,7 +207,7 @@ pub fn required_file<'a>(alloc: Global, name: &'a str, help: &'a str) -> Arg<'a>
 fn command_line<'a>(alloc: Global) -> Result<Command<'a>, AllocError> {
     let mut all = Command::new(alloc, "zonetext")
         .version("0.2.0")
-        .about("Checks, formats, lists, lays out, reads, compares, digests and cuts DNS zone files")
+        .about("Checks, formats, lists, sorts, compares, digests and cuts DNS zone files")
         .subcommand_required(true);
     for which in &Which::ALL {
         all = all.subcommand(which.command(alloc)?)?;

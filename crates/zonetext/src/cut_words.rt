@@ -9,7 +9,7 @@ use std::io;
 
 /// Returns the command that cuts a file.
 pub fn cut_command<'a>(alloc: Global, name: &'a str) -> Result<Command<'a>, AllocError> {
-    let zone = "the zone: the origin at the beginning of the file";
+    let zone = "origin at the start of the file";
     let output = Arg::new(alloc, "output")
         .long("output")
         .short('o')
@@ -17,13 +17,13 @@ pub fn cut_command<'a>(alloc: Global, name: &'a str) -> Result<Command<'a>, Allo
         .required(true)
         .action(ArgAction::Set)
         .help("the parts are PREFIX.000, PREFIX.001, and so on");
-    let class = "the class of records that say none, IN unless given";
+    let class = "class of records without one (default IN)";
     Command::new(alloc, name)
-        .about("Write a zone file in parts that are read apart")
-        .arg(required_file(alloc, "N", "how many parts there are at most"))?
+        .about("Split a zone file into parts that can be read separately")
+        .arg(required_file(alloc, "N", "maximum number of parts"))?
         .arg(required_file(alloc, "FILE", "a zone file"))?
         .arg(output)?
-        .arg(flag(alloc, "soa", "repeat the SOA in each part behind it"))?
+        .arg(flag(alloc, "soa", "repeat the SOA at the start of each part"))?
         .arg(valued(alloc, "zone", "ORIGIN", zone).visible_alias("origin")?)?
         .arg(valued(alloc, "class", "CLASS", class))?
         .arg(max_entry(alloc))?

@@ -1,4 +1,5 @@
 //! The command `digest --write`: corrects the digests in a zone, in the file itself.
+use crate::blocks::BLOCK;
 use crate::digest::{algorithm_of, unknown_text};
 use crate::digest_places::{Placed, find};
 use crate::format::leave;
@@ -16,12 +17,12 @@ use dns_split::pieces::Span;
 use std::alloc::{AllocError, Global};
 use std::fs::File;
 use std::io::{ErrorKind, Read};
-use std::{io, mem, process};
+use std::{io, process};
 use zone_digest::scope::is_apex;
 use zone_digest::{CheckError, HashAlgorithm, Zonemd, right_data};
+use zone_edit::{Edit, EditError, Editor, TokenError, push_line_after, push_token_edits};
 use zone_set::{push_record, serial_of};
 use zonetext_lib::formatter::{Formatter, NoForm};
-use zonetext_lib::patch::{Change, PatchError, append_changed, append_stretches};
 use zonetext_lib::replace::{Batch, Incomplete, NewText, Original, Refusal};
 
 /// The options of the command.
@@ -72,21 +73,24 @@ impl From<io::Error> for Unwritten {
     }
 }
 
-impl From<PatchError> for Unwritten {
-    fn from(error: PatchError) -> Unwritten {
+impl From<TokenError> for Unwritten {
+    fn from(error: TokenError) -> Unwritten {
         match error {
-            // Its tokens were in order when they were found.
-            PatchError::OutOfOrder => Unwritten::Refusal(Refusal::Changed),
-            PatchError::OutOfMemory => Unwritten::Stop(Stop::OutOfMemory),
+            // They were in order when they were found.
+            TokenError::OutOfOrder => Unwritten::Refusal(Refusal::Changed),
+            TokenError::OutOfMemory => Unwritten::Stop(Stop::OutOfMemory),
         }
     }
 }
 
-/// A part of a file, and its replacement.
-#[derive(Drop)]
-struct Patch {
-    span: Span,
-    text: String,
+impl From<EditError> for Unwritten {
+    fn from(error: EditError) -> Unwritten {
+        match error {
+            EditError::OutOfMemory => Unwritten::Stop(Stop::OutOfMemory),
+            // Their tokens were in order when they were found.
+            _ => Unwritten::Refusal(Refusal::Changed),
+        }
+    }
 }
 
 /// The changes to the digests in a zone.
@@ -95,28 +99,19 @@ struct Plan<'p> {
     alloc: Global,
     /// The octets of the file.
     octets: &'p [u8],
-    patches: Vec<Patch>,
-    /// The report of each.
+    edits: Vec<Edit<Global>>,
+    /// The report on each digest.
     lines: String,
     /// Whether one was added.
     is_added: bool,
 }
 
 /// Returns octets in hexadecimal digits.
-fn hex_of(alloc: Global, octets: &[u8]) -> Result<String, Stop> {
+fn hex_of(alloc: Global, octets: &[u8]) -> Result<Vec<u8>, Stop> {
     match encode_string(alloc, octets) {
-        Ok(text) => Ok(text),
+        Ok(text) => Ok(text.into_bytes()),
         Err(_) => Err(Stop::OutOfMemory),
     }
-}
-
-/// Returns the end of the last line of octets: CR LF, or LF.
-fn line_end(octets: &[u8]) -> &'static str {
-    let front = match octets.iter().rposition(|octet| *octet == b'\n') {
-        Some(place) => &octets[..place],
-        None => &[],
-    };
-    if front.ends_with(b"\r") { "\r\n" } else { "\n" }
 }
 
 /// Returns ZONEMD data.
@@ -159,7 +154,7 @@ fn formed(alloc: Global, line: &str) -> Result<Vec<u8>, NoForm> {
 
 /// Returns the line of a digest next to an SOA, as `fmt` formats it. The owner is `@` if it is the
 /// origin there.
-fn line_of(alloc: Global, soa: &Placed, data: &[u8]) -> Result<String, Stop> {
+fn line_of(alloc: Global, soa: &Placed, data: &[u8]) -> Result<Vec<u8>, Stop> {
     let full = full_line_of(alloc, soa, data)?;
     let mut line = String::new(alloc);
     match full.as_str().split_once('\t') {
@@ -169,12 +164,9 @@ fn line_of(alloc: Global, soa: &Placed, data: &[u8]) -> Result<String, Stop> {
         }
         _ => line.push_str(full.as_str())?,
     }
-    let Ok(form) = formed(alloc, line.as_str()) else {
-        return Err(Stop::OutOfMemory);
-    };
-    match str::from_utf8(form.as_slice()) {
-        Ok(form) => Ok(String::from_str(alloc, form)?),
-        Err(_) => Err(Stop::Damaged),
+    match formed(alloc, line.as_str()) {
+        Ok(form) => Ok(form),
+        Err(_) => Err(Stop::OutOfMemory),
     }
 }
 
@@ -193,22 +185,13 @@ fn full_line_of(alloc: Global, soa: &Placed, data: &[u8]) -> Result<String, Stop
     Ok(line)
 }
 
-/// Returns tokens of a record, of which there is at least one. Fails with `Damaged` if there is
-/// none.
-fn some_tokens(tokens: Option<&[Span]>) -> Result<&[Span], Stop> {
-    match tokens {
-        Some(tokens) if !tokens.is_empty() => Ok(tokens),
-        _ => Err(Stop::Damaged),
-    }
-}
-
 impl<'p> Plan<'p> {
     /// Returns a plan without changes.
     fn new(alloc: Global, octets: &'p [u8]) -> Plan<'p> {
         Plan {
             alloc,
             octets,
-            patches: Vec::new(alloc),
+            edits: Vec::new(alloc),
             lines: String::new(alloc),
             is_added: false,
         }
@@ -220,41 +203,33 @@ impl<'p> Plan<'p> {
         writeln!(&mut self.lines, "ZONEMD {serial} {scheme} {hash}: {what}")
     }
 
-    /// Replaces tokens by one token.
-    fn replace(&mut self, tokens: &[Span], mut text: String) -> Result<(), Unwritten> {
-        let mut spans = Vec::new(self.alloc);
-        append_stretches(self.octets, tokens, &mut spans)?;
-        for span in &spans {
-            let text = mem::replace(&mut text, String::new(self.alloc));
-            self.patches
-                .push(Patch { span: *span, text })
-                .map_err(AllocError::from)?;
-        }
-        Ok(())
-    }
-
-    /// Returns whether tokens are data in the format for unknown types.
-    fn is_generic(&self, tokens: &[Span]) -> bool {
-        match tokens.first() {
-            Some(span) => self.octets.get(span.start..span.end) == Some(b"\\#".as_slice()),
-            None => false,
-        }
-    }
-
-    /// Replaces the data of a digest: only the tokens that differ are changed.
+    /// Replaces the data of a digest: only the tokens that differ are changed. In the format for
+    /// unknown types (RFC 3597 section 5) these are all its digits.
     fn change(
         &mut self,
         tokens: &[Span],
         old: &Zonemd<'_>,
         new: &Zonemd<'_>,
+        right: &[u8],
     ) -> Result<(), Unwritten> {
-        if old.serial != new.serial {
-            let text = new.serial.to_string(self.alloc)?;
-            self.replace(some_tokens(tokens.get(..1))?, text)?;
-        }
-        if old.digest != new.digest {
-            let text = hex_of(self.alloc, new.digest)?;
-            self.replace(some_tokens(tokens.get(3..))?, text)?;
+        let (alloc, octets) = (self.alloc, self.octets);
+        let edits = &mut self.edits;
+        match tokens {
+            [first, _, digits @ ..]
+                if octets.get(first.start..first.end) == Some(b"\\#".as_slice()) => {
+                push_token_edits(alloc, octets, digits, hex_of(alloc, right)?, edits)?;
+            }
+            [serial, _, _, digest @ ..] => {
+                if old.serial != new.serial {
+                    let text = new.serial.to_string(alloc)?;
+                    push_token_edits(alloc, octets, &[*serial], text.into_bytes(), edits)?;
+                }
+                if old.digest != new.digest {
+                    let text = hex_of(alloc, new.digest)?;
+                    push_token_edits(alloc, octets, digest, text, edits)?;
+                }
+            }
+            _ => return Err(Unwritten::Stop(Stop::Damaged)),
         }
         Ok(())
     }
@@ -307,12 +282,7 @@ impl<'p> Plan<'p> {
         let Some(new) = Zonemd::of_data(&data) else {
             return Err(Unwritten::Stop(Stop::Damaged));
         };
-        if self.is_generic(tokens) {
-            let text = hex_of(self.alloc, right)?;
-            self.replace(some_tokens(tokens.get(2..))?, text)?;
-        } else {
-            self.change(tokens, old, &new)?;
-        }
+        self.change(tokens, old, &new, right)?;
         self.tell(&new, "written")?;
         Ok(())
     }
@@ -346,20 +316,13 @@ impl<'p> Plan<'p> {
         let Some(front) = self.octets.get(..soa.end) else {
             return Err(Unwritten::Refusal(Refusal::Changed));
         };
-        let end = line_end(front);
-        let mut text = String::new(self.alloc);
-        if !front.ends_with(b"\n") {
-            text.push_str(end)?;
-        }
         let line = line_of(self.alloc, soa, right)?;
-        text.push_str(line.as_str().trim_end_matches('\n'))?;
-        text.push_str(end)?;
-        let span = Span {
-            start: soa.end,
-            end: soa.end,
-        };
-        self.patches
-            .push(Patch { span, text })
+        let line = line.strip_suffix(b"\n").unwrap_or(line.as_slice());
+        let mut text = Vec::new(self.alloc);
+        push_line_after(front, line, &mut text)?;
+        let (start, end) = (soa.end, soa.end);
+        self.edits
+            .push(Edit { start, end, text })
             .map_err(AllocError::from)?;
         self.is_added = true;
         self.tell(&new, "added")?;
@@ -424,29 +387,36 @@ fn read(rt: &HostRuntime, file: &str) -> Result<Vec<u8>, Stop> {
     }
 }
 
-/// Returns a text with its patches applied.
-fn patched(alloc: Global, octets: &[u8], patches: &[Patch]) -> Result<Vec<u8>, Unwritten> {
-    let mut changes = Vec::new(alloc);
-    for patch in patches {
-        changes
-            .push(Change {
-                start: patch.span.start,
-                end: patch.span.end,
-                text: patch.text.as_bytes(),
-            })
-            .map_err(AllocError::from)?;
+/// Writes a text with its edits applied, in blocks.
+fn write_edited(
+    alloc: Global,
+    octets: &[u8],
+    edits: &[Edit<Global>],
+    new: &mut NewText<File>,
+) -> Result<(), Unwritten> {
+    let mut editor = Editor::new(edits)?;
+    let mut out = Vec::new(alloc);
+    for block in octets.chunks(BLOCK) {
+        editor.add(block, &mut out)?;
+        new.write(out.as_slice()).map_err(Refusal::Io)?;
+        out.truncate(0);
     }
-    let mut text = Vec::new(alloc);
-    append_changed(octets, changes.as_slice(), &mut text)?;
-    Ok(text)
+    editor.finish(&mut out)?;
+    new.write(out.as_slice()).map_err(Refusal::Io)?;
+    Ok(())
 }
 
-/// Replaces a file's text.
-fn put(rt: &HostRuntime, original: Original, text: &[u8]) -> Result<(), Unwritten> {
+/// Replaces a file's text by the text with its edits applied.
+fn put(
+    rt: &HostRuntime,
+    original: Original,
+    octets: &[u8],
+    edits: &[Edit<Global>],
+) -> Result<(), Unwritten> {
     let mut new = NewText::create(rt, rt.alloc(), original, process::id(rt.process()))?;
-    if let Err(error) = new.write(text) {
+    if let Err(why) = write_edited(rt.alloc(), octets, edits, &mut new) {
         let _ = new.discard(rt);
-        return Err(Unwritten::Refusal(Refusal::Io(error)));
+        return Err(why);
     }
     let mut batch = Batch::new(rt.alloc());
     batch.add(rt, new)?;
@@ -508,10 +478,9 @@ fn write(
     let old = read(rt, file)?;
     let mut plan = Plan::new(alloc, old.as_slice());
     plan.make(&parts, &seen.zone, &set, work.algorithm)?;
-    let is_changed = !plan.patches.is_empty();
+    let is_changed = !plan.edits.is_empty();
     if is_changed {
-        let text = patched(alloc, old.as_slice(), plan.patches.as_slice())?;
-        put(rt, original, text.as_slice())?;
+        put(rt, original, old.as_slice(), plan.edits.as_slice())?;
     }
     let Plan {
         lines,

@@ -11,14 +11,14 @@ use zone_digest::HashAlgorithm;
 use zone_set::Selection;
 
 /// The help texts of the options of all of them.
-const ZONE: &str = "the zone: the origin at the beginning of a file";
+const ZONE: &str = "origin at the start of each file";
 
-const INCLUDE: &str = "a folder of which files may be included, besides the file's own";
+const INCLUDE: &str = "also allow included files in this folder, besides the file's own";
 
-const CLASS: &str = "the class of records that say none, IN unless given";
+const CLASS: &str = "class of records without one (default IN)";
 
 /// The help text of the memory of `canon`.
-const MEMORY: &str = "sort in so many octets of memory, as 64M, and on disk (TMPDIR)";
+const MEMORY: &str = "sort with at most this memory, as 64M, and with files in TMPDIR";
 
 /// Adds the options of all of them.
 fn with_reading<'a>(alloc: Global, command: Command<'a>) -> Result<Command<'a>, AllocError> {
@@ -33,46 +33,50 @@ fn with_reading<'a>(alloc: Global, command: Command<'a>) -> Result<Command<'a>, 
 
 /// Adds the options that omit records.
 fn with_selection<'a>(alloc: Global, command: Command<'a>) -> Result<Command<'a>, AllocError> {
-    let no_dnssec = "leave out what signing adds: RRSIG, NSEC, DNSKEY, NSEC3, NSEC3PARAM";
+    let no_dnssec = "omit the records of DNSSEC: RRSIG, NSEC, DNSKEY, NSEC3, NSEC3PARAM";
     command
         .arg(flag(alloc, "no-dnssec", no_dnssec))?
-        .arg(flag(alloc, "no-soa", "leave SOAs out"))
+        .arg(flag(alloc, "no-soa", "omit SOA records"))
 }
 
 /// Returns the command that writes records.
 pub fn records_command<'a>(alloc: Global, name: &'a str) -> Result<Command<'a>, AllocError> {
-    let about = "Write each record in full, one a line";
+    let about = "Print each record in full, on one line";
     with_reading(alloc, over_files(alloc, name, about)?)
 }
 
 /// Returns the command that writes records in canonical order.
 pub fn canon_command<'a>(alloc: Global, name: &'a str) -> Result<Command<'a>, AllocError> {
-    let about = "Write the records of zone files in full, in canonical order";
-    let only_dnssec = "leave out all but what signing adds";
+    let about = "Print the records of zone files in canonical form and order";
+    let only_dnssec = "print only the records that --no-dnssec omits";
     let memory = valued(alloc, "memory", "SIZE", MEMORY).conflicts_with("keep-order")?;
     let command = over_files(alloc, name, about)?
         .arg(flag(alloc, "keep-order", "keep the order of the files"))?
         .arg(memory)?
-        .arg(flag(alloc, "wire", "write data as octets, in hexadecimal"))?
-        .arg(values(alloc, "type", "TYPE", "write records of this type alone"))?
+        .arg(flag(
+            alloc,
+            "wire",
+            "print types as TYPEn, and RDATA in hexadecimal",
+        ))?
+        .arg(values(alloc, "type", "TYPE", "print only records of this type"))?
         .arg(flag(alloc, "only-dnssec", only_dnssec).conflicts_with("no-dnssec")?)?;
     with_selection(alloc, with_reading(alloc, command)?)
 }
 
 /// Returns the command that compares two files.
 pub fn diff_command<'a>(alloc: Global, name: &'a str) -> Result<Command<'a>, AllocError> {
-    let entries = "say where the entries of the files differ first, as text";
+    let entries = "compare the entries as text, and report the first difference";
     let command = Command::new(alloc, name)
-        .about("Say how the records of two zone files differ")
-        .arg(required_file(alloc, "A", "a zone file"))?
-        .arg(required_file(alloc, "B", "another"))?
+        .about("Print the differences between the records of two zone files")
+        .arg(required_file(alloc, "A", "the old zone file"))?
+        .arg(required_file(alloc, "B", "the new zone file"))?
         .arg(flag(alloc, "entries", entries))?
         .arg(flag(
             alloc,
             "summary",
-            "write how many changes there are of each type",
+            "print only the number of changes for each type",
         ))?
-        .arg(valued(alloc, "max-changes", "N", "write at most so many changes"))?
+        .arg(valued(alloc, "max-changes", "N", "print at most N changes"))?
         .arg(flag(alloc, "quiet", QUIET))?;
     with_selection(alloc, with_reading(alloc, command)?)
 }
@@ -82,20 +86,20 @@ const HASHES: [&str; 2] = ["sha384", "sha512"];
 
 /// Returns the command that checks and writes digests.
 pub fn digest_command<'a>(alloc: Global, name: &'a str) -> Result<Command<'a>, AllocError> {
-    let write = "put the digests right in the file, and one in where there is none";
-    let force = "also write into zones that a server changes itself";
+    let write = "correct the digests in the file, or add one";
+    let force = "also write to a zone that a server updates (with a .jnl file)";
     let hash = valued(
         alloc,
         "hash",
         "HASH",
-        "the hash algorithm of a digest that is put in",
+        "hash algorithm of a digest that is added",
     )
     .value_parser(HASHES.as_slice())
     .requires_arg("write")?;
-    let any = "one digest that matches is enough, whatever the others do";
-    let verbose = "also name digests whose scheme or hash algorithm is not known";
+    let any = "accept the zone if one digest matches";
+    let verbose = "also list digests with an unknown scheme or hash algorithm";
     let command = Command::new(alloc, name)
-        .about("Check the digests in a zone, or write them (ZONEMD, RFC 8976)")
+        .about("Check or write the digests of a zone (ZONEMD, RFC 8976)")
         .arg(required_file(alloc, "FILE", "a zone file, or - for standard input"))?
         .arg(flag(alloc, "write", write).short('w'))?
         .arg(hash)?

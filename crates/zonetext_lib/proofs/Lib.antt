@@ -15,7 +15,6 @@ pub mod Once
 pub mod Order
 pub mod Parts
 pub mod Passing
-pub mod Patching
 pub mod Plain
 pub mod Same
 pub mod Settling

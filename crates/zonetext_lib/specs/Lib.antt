@@ -7,6 +7,5 @@ pub mod Found
 pub mod Held
 pub mod HeldForm
 pub mod Layout
-pub mod Patches
 pub mod Tokens
 pub mod Writing

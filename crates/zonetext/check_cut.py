@@ -1,0 +1,213 @@
+#!/usr/bin/env python3
+"""Runs `cut` of the built program over zones, and compares the records of the parts with those of the whole
+zone: as `records` prints them, and as named-compilezone loads them, if that is installed. `rt run` in this
+folder builds the program as out/zonetext. With UNPROVED set, zones are smaller, and memory is not limited.
+
+    crates/zonetext/check_cut.py [PROGRAM] [SEED]
+"""
+import glob
+import os
+import random
+import shutil
+import subprocess
+import sys
+import tempfile
+
+HERE = os.path.dirname(os.path.abspath(__file__))
+PROGRAM = os.path.abspath(sys.argv[1] if len(sys.argv) > 1 else f'{HERE}/out/zonetext')
+SEED = int(sys.argv[2]) if len(sys.argv) > 2 else 1
+BIND = 'named-compilezone'
+# (an unproved program takes far more time and memory)
+UNPROVED = 'UNPROVED' in os.environ
+NOTHING = 'zonetext: nothing is written\n'
+counts = {'rows': 0, 'wrong': 0}
+
+
+def run(*words, given=b'', program=PROGRAM):
+    ran = subprocess.run([program, *words], input=given, stdout=subprocess.PIPE, stderr=subprocess.PIPE)
+    return ran.returncode, ran.stdout, ran.stderr.decode()
+
+
+def same(title, got, wanted):
+    counts['rows'] += 1
+    if got != wanted:
+        counts['wrong'] += 1
+        print(f'differs: {title}\n  got    {got!r:.2000}\n  wanted {wanted!r:.2000}')
+
+
+def put(name, text):
+    with open(name, 'wb') as file:
+        file.write(text)
+
+
+def get(name):
+    with open(name, 'rb') as file:
+        return file.read()
+
+
+def parts(prefix='part'):
+    return sorted(glob.glob(prefix + '.*'))
+
+
+def clear():
+    for name in parts():
+        os.remove(name)
+
+
+def records(*names):
+    """What `records` prints of each file by itself, in a row."""
+    lines = b''
+    for name in names:
+        status, out, err = run('records', name)
+        same(f'{name} is read', (status, err), (0, ''))
+        lines += out
+    return lines
+
+
+def data(chance, number):
+    return chance.choice([
+        f'A 192.0.2.{number % 256}', f'TXT "{number};" ( a\n ; in parentheses\n "b\\"" )', f'MX {number % 9} mail',
+        f'AAAA 2001:db8::{number % 9999:x}', f'TYPE65280 \\# 2 {number % 65536:04x}', 'NS ns.sub', f'TXT a{number}\\032'])
+
+
+# where times to live come from: the record before, a default, or the minimum of the SOA
+BEGINNINGS = ['$ORIGIN example.\n@ 60', '$ORIGIN example.\n$TTL 1h\n@', '$ORIGIN example.\n@']
+
+
+def zone(chance, lines, beginning):
+    """Returns a zone with directives, comments and omitted owners; records of one owner are adjacent."""
+    text = BEGINNINGS[beginning] + ' SOA ns host 1 7200 900 1209600 300\n@ NS ns\nns A 192.0.2.1\n'
+    origins, number = ['example.', 'a.example.', 'B.Example.'], 0
+    while number < lines:
+        if chance.random() < 0.02:
+            text += f'$ORIGIN {chance.choice(origins)} ; from here\n'
+        if beginning == 1 and chance.random() < 0.02:
+            text += f'$TTL {chance.randrange(1, 99999)}\n'
+        if chance.random() < 0.1:
+            text += chance.choice(['\n', '; a comment (\n', '  ; "\n'])
+        text += f'h{number} '
+        for _ in range(chance.randrange(1, 4)):
+            ttl = f'{chance.randrange(1, 9)}m ' if chance.random() < 0.1 else ''
+            text += ttl + chance.choice(['', 'IN ']) + data(chance, number) + chance.choice(['', ' ; comment']) + '\n'
+            text += chance.choice(['\t', '  '])
+            number += 1
+        text += '\n'
+    return text.encode()
+
+
+def compiled(name):
+    """The records that named-compilezone loads, in order, each once; or why it loads none."""
+    status, out, err = run('-q', '-i', 'none', '-k', 'ignore', '-o', '-', 'example', name, program=BIND)
+    return sorted(set(out.split(b'\n'))) if status == 0 else err
+
+
+def random_zones(chance):
+    for round in range(6):
+        text = zone(chance, chance.choice([5, 60, 200] if UNPROVED else [5, 300, 3000]), round % 3)
+        put('zone', text)
+        whole = records('zone')
+        for count in (1, 2, 7, 40):
+            status, out, err = run('cut', str(count), 'zone', '-o', 'part')
+            same('cut', (status, err, out.decode().split()), (0, '', parts()))
+            same(f'at most {count} parts', len(parts()) <= count, True)
+            same(f'the records of round {round} in {count} parts', records(*parts()), whole)
+            for name in parts():
+                same('a part begins so', get(name).startswith(b'$ORIGIN '), True)
+            if shutil.which(BIND):
+                beside_bind()
+            clear()
+
+
+def beside_bind():
+    """Compares the records of the parts, each after the SOA, the NS and its address, with those of the whole
+    zone. The records of an owner are in one part, so that no RRset has two TTLs."""
+    whole = compiled('zone')
+    apex = [line for line in whole if line.startswith((b'example.\t', b'ns.example.\t'))]
+    put('apex', b'\n'.join(apex) + b'\n')
+    found = set()
+    for name in parts():
+        put('wrapped', b'$INCLUDE apex\n' + get(name))
+        found |= set(compiled('wrapped'))
+    same('as BIND loads them', sorted(found), whole)
+
+
+def rows():
+    put('zone', b'@ 60 SOA ns h 1 2 3 4 5\n@ NS ns\nns A 192.0.2.1\n')
+    same('an origin that is given', run('cut', '9', '--zone', 'example', '--soa', 'zone', '-o', 'part'),
+         (0, b'part.000\npart.001\n', ''))
+    soa = b'$ORIGIN example.\nexample. 60 IN SOA ns.example. h.example. 1 2 3 4 5\n'
+    same('the SOA', (get('part.000'), get('part.001')), (soa + b'@ NS ns\n', soa + b'ns.example. 60 IN A 192.0.2.1\n'))
+    there = run('cut', '1', '--origin', 'example', 'zone', '-o', 'part')
+    same('nothing is replaced', (there[:2], there[2].split(': ')[:2], there[2].endswith(NOTHING)), ((3, b''), ['zonetext', 'part.000'], True))
+    same('and all is as it was', (parts(), get('part.000')), (['part.000', 'part.001'], soa + b'@ NS ns\n'))
+    put('two', b'a. 60 SOA b. c. 1 2 3 4 5\nb. 60 SOA b. c. 1 2 3 4 5\n')
+    same('SOAs of two zones', run('cut', '2', 'two', '--soa', '-o', 'other'), (1, b'', 'two:2:1: error: SOA of b., and the zone is a.\n' + NOTHING))
+    same('another zone than is given', run('cut', '2', 'two', '--zone', 'b.', '--soa', '-o', 'other'), (1, b'', 'two:1:1: error: SOA of a., and the zone is b.\n' + NOTHING))
+    same('which are cut without their SOA', (run('cut', '1', 'two', '-o', 'other'), get('other.000').count(b'SOA')), ((0, b'other.000\n', ''), 2))
+    os.remove('other.000')
+    os.remove('part.000')
+    there = run('cut', '9', '--zone', 'example', 'zone', '-o', 'part')
+    same('not a later one either', (there[:2], there[2].split(': ')[:2], there[2].endswith(NOTHING)), ((3, b''), ['zonetext', 'part.001'], True))
+    same('and none is left', parts(), ['part.001'])
+    clear()
+    same('no origin', run('cut', '2', 'zone', '-o', 'part'),
+         (1, b'', 'zone:1:1: error: relative name, and no origin [no-origin]\n1 error, 0 warnings\n'
+          'zonetext: no origin: give --zone\n' + NOTHING))
+    put('faulty', b'a. 60 A 192.0.2.1\nb. A 192.0.2.256\n$INCLUDE c\nd. TXT (\n')
+    same('faults', run('cut', '2', 'faulty', '-o', 'part'),
+         (1, b'', 'faulty:2:6: error: A address: expected IPv4 address [data]\n'
+          'faulty:3:10: error: not included: a file that includes others is not cut [include]\n'
+          'faulty:5:1: error: parenthesis is not closed, opened at 4:8 [open-parenthesis]\n3 errors, 0 warnings\n' + NOTHING))
+    put('long', b'long. TXT' + b' aaaaaaaaaaaaaaaaaaaaaaaaaaaaaaaaaaaaaaa' * 1700 + b'\n')
+    status, out, err = run('cut', '2', 'long', '-o', 'part')
+    same('data above 65,535 octets', (status, out, 'data above 65535 octets' in err, err.endswith(NOTHING)), (1, b'', True, True))
+    put('minimum', b'a. SOA b. c. 1 2 3 4 4294967295\n')
+    same('a minimum of 2^31 and more is 0', (run('cut', '2', 'minimum', '-o', 'part'), get('part.000')),
+         ((0, b'part.000\n', ''), b'$TTL 0\na. 0 IN SOA b. c. 1 2 3 4 4294967295\n'))
+    os.remove('part.000')
+    same('nothing is written', parts(), [])
+    same('standard input', run('cut', '2', '-', '-o', 'part', given=b'a. 60 A 192.0.2.1\n'),
+         (3, b'', 'zonetext: -: not a regular file\n'))
+    same('a folder', run('cut', '2', '.', '-o', 'part'), (3, b'', 'zonetext: .: not a regular file\n'))
+    put('given', b'; none\n')
+    same('no records', (run('cut', '2', 'given', '-o', 'part'), parts()), ((0, b'', ''), []))
+    put('given', b'a. 60 TXT x')
+    same('another class', run('cut', '2', '--class', 'CH', 'given', '-o', 'part'), (0, b'part.000\n', ''))
+    same('is said', get('part.000'), b'a. 60 CH TXT "x"\n')
+    clear()
+    there = run('cut', '2', 'zone', '--zone', 'example', '-o', 'absent/part')
+    same('no such folder', (there[:2], 'absent/part.000' in there[2], there[2].endswith(NOTHING)), ((3, b''), True, True))
+    for words in (['cut', '0', 'zone', '-o', 'part'], ['cut', 'x', 'zone', '-o', 'part'], ['cut', '2', 'zone'],
+                  ['cut', '2', '--class', 'x', 'zone', '-o', 'part'], ['cut', '2', '--zone', 'a..b', 'zone', '-o', 'part']):
+        same('usage', run(*words)[:2], (2, b''))
+    same('an absent file', run('cut', '2', 'absent', '-o', 'part')[:2], (3, b''))
+    put('given', b''.join(b'h%d. 60 A 192.0.2.1\n' % number for number in range(100 if UNPROVED else 1500)))
+    same('many parts', (run('cut', '1200', 'given', '-o', 'part')[0], parts()[0], len(parts()[-1])), (0, 'part.0000', 9))
+    clear()
+
+
+def large(thousands, limit):
+    """165 MB in 16 MB of address space, and 4 processes that read the parts."""
+    line = b'h%d.example.com. 3600 IN A 192.0.2.1\n'
+    with open('large', 'wb') as file:
+        for number in range(thousands):
+            file.write(b''.join(line % (number * 4000 + each) for each in range(4000)))
+    command = f'{limit}exec "{PROGRAM}" cut 8 large -o part'
+    same('in 16 MB', subprocess.run(['bash', '-c', command], stdout=subprocess.PIPE).returncode, 0)
+    counted = f'ls part.* | xargs -n 1 -P 4 "{PROGRAM}" records | wc -l'
+    same('by 4 processes', subprocess.run(['bash', '-c', counted], stdout=subprocess.PIPE).stdout, b'%d\n' % (thousands * 4000))
+    sizes = [os.path.getsize(name) for name in parts()]
+    same('alike in size', max(sizes) - min(sizes) < 1000, True)
+    clear()
+
+
+with tempfile.TemporaryDirectory() as folder:
+    os.chdir(folder)
+    rows()
+    random_zones(random.Random(SEED))
+    if UNPROVED:
+        large(1, '')
+    else:
+        large(1000, 'ulimit -v 16384; ')
+print(f"check_cut.py: {counts['rows']} rows, {counts['wrong']} differ" + (', 1 left' if UNPROVED else '') + ('' if shutil.which(BIND) else f'; no {BIND}'))
+sys.exit(counts['wrong'] > 0)
