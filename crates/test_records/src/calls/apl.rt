@@ -4,6 +4,7 @@ use dns_kinds::ErrorKind;
 use dns_places::{Prefix, append_prefix, item_width};
 use row_table::{Answer, Failure, Inputs};
 
+/// Answers a row: calls what it names.
 pub fn call(name: &str, inputs: &Inputs, answer: &mut Answer) {
     match name {
         "item" => item(inputs.octets(answer), answer),

@@ -4,6 +4,7 @@ use dns_kinds::RecordType;
 use dns_lists::{BitmapTypes, TypeSet, check_bitmap};
 use row_table::{Answer, Failure, Inputs};
 
+/// Answers a row: calls what it names.
 pub fn call(name: &str, inputs: &Inputs, answer: &mut Answer) {
     match name {
         "compose" => compose(inputs.octets(answer), answer),

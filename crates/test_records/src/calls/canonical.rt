@@ -15,6 +15,7 @@ use dns_spelling::name_width;
 use row_table::{Answer, Failure, Inputs};
 use std::cmp::Ordering;
 
+/// Answers a row: calls what it names.
 pub fn call(name: &str, inputs: &Inputs, answer: &mut Answer) {
     match name {
         "names" => names(inputs.two(answer), answer),

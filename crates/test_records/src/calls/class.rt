@@ -3,6 +3,7 @@ use super::tell::number16;
 use dns_kinds::Class;
 use row_table::{Answer, Failure, Inputs};
 
+/// Answers a row: calls what it names.
 pub fn call(name: &str, inputs: &Inputs, answer: &mut Answer) {
     match name {
         "print" => print(inputs.octets(answer), answer),

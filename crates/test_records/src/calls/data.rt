@@ -21,6 +21,7 @@ enum Wanted {
     Text,
 }
 
+/// Answers a row: calls what it names.
 pub fn call(name: &str, inputs: &Inputs, answer: &mut Answer) {
     match name {
         "" => read(inputs.all(), Wanted::Octets, answer),

@@ -8,6 +8,7 @@ use dns_kinds::ErrorKind;
 use row_table::input::number_of;
 use row_table::{Answer, Failure, Inputs};
 
+/// Answers a row: calls what it names.
 pub fn call(name: &str, inputs: &Inputs, answer: &mut Answer) {
     match name {
         "hex" => pieces(DigitsKind::Hex, inputs.all(), answer),

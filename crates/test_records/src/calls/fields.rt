@@ -5,6 +5,7 @@ use dns_fields::{Field, RecordError, TokenList, TokenSource, take_each, take_fie
 use dns_split::entry_tokens::{EntryToken, EntryTokens};
 use row_table::{Answer, Failure, Inputs};
 
+/// Answers a row: calls what it names.
 pub fn call(name: &str, inputs: &Inputs, answer: &mut Answer) {
     match name {
         "take" => take(inputs.all(), answer),

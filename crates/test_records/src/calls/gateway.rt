@@ -4,6 +4,7 @@ use dns_kinds::ErrorKind;
 use dns_places::Gateway;
 use row_table::{Answer, Failure, Inputs};
 
+/// Answers a row: calls what it names.
 pub fn call(name: &str, inputs: &Inputs, answer: &mut Answer) {
     let (number, input) = inputs.two(answer);
     let number = number8(number, answer);

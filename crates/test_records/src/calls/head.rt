@@ -6,6 +6,7 @@ use dns_kinds::Class;
 use dns_split::entry_tokens::{EntryToken, EntryTokens};
 use row_table::{Answer, Failure, Inputs};
 
+/// Answers a row: calls what it names.
 pub fn call(name: &str, inputs: &Inputs, answer: &mut Answer) {
     match name {
         "read" => read(inputs.octets(answer), answer),

@@ -3,6 +3,7 @@ use super::tell::{Octets, tell};
 use dns_lists::{append_list, append_list_text};
 use row_table::{Answer, Failure, Inputs};
 
+/// Answers a row: calls what it names.
 pub fn call(name: &str, inputs: &Inputs, answer: &mut Answer) {
     match name {
         "read" => read(inputs.octets(answer), answer),

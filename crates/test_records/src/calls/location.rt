@@ -8,6 +8,7 @@ use dns_split::entry_tokens::EntryToken;
 use row_table::{Answer, Failure, Inputs};
 use std::fmt;
 
+/// Answers a row: calls what it names.
 pub fn call(name: &str, inputs: &Inputs, answer: &mut Answer) {
     match name {
         "octets" => octets(inputs.octets(answer), answer),

@@ -7,6 +7,7 @@ use dns_octets::{OctetsBuilder, ShortBuf};
 use row_table::{Answer, Failure, Inputs};
 use std::fmt;
 
+/// Answers a row: calls what it names.
 pub fn call(name: &str, inputs: &Inputs, answer: &mut Answer) {
     match name {
         "check" => check(inputs.octets(answer), answer),

@@ -14,6 +14,7 @@ use std::cmp::Ordering;
 /// The origin of all rows: `example.`.
 const ORIGIN: &[u8] = b"\x07example\x00";
 
+/// Answers a row: calls what it names.
 pub fn call(name: &str, inputs: &Inputs, answer: &mut Answer) {
     match name {
         "print" => print(inputs.all(), answer),

@@ -21,6 +21,7 @@ type Records<'a> = ZoneSet<Owner, Octets<'a>, &'a Heap>;
 
 type Canonical<'a> = CanonicalSet<Owner, Octets<'a>, &'a Heap>;
 
+/// Answers a row: calls what it names.
 pub fn call(name: &str, inputs: &Inputs, answer: &mut Answer) {
     match name {
         "sort" => sort(inputs.all(), answer),

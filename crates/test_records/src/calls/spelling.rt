@@ -6,6 +6,7 @@ use dns_spelling::{
 };
 use row_table::{Answer, Failure, Inputs};
 
+/// Answers a row about names.
 pub fn name(name: &str, inputs: &Inputs, answer: &mut Answer) {
     match name {
         "spell" => spell_name(inputs.all(), answer),
@@ -15,6 +16,7 @@ pub fn name(name: &str, inputs: &Inputs, answer: &mut Answer) {
     }
 }
 
+/// Answers a row about character strings.
 pub fn string(name: &str, inputs: &Inputs, answer: &mut Answer) {
     match name {
         "spell" => spell_string(inputs.octets(answer), answer),
@@ -24,6 +26,7 @@ pub fn string(name: &str, inputs: &Inputs, answer: &mut Answer) {
     }
 }
 
+/// Answers a row about tags.
 pub fn tag(name: &str, inputs: &Inputs, answer: &mut Answer) {
     match name {
         "spell" => spell_tag(inputs.octets(answer), answer),
@@ -33,6 +36,7 @@ pub fn tag(name: &str, inputs: &Inputs, answer: &mut Answer) {
     }
 }
 
+/// Answers a row about octets.
 pub fn octets(name: &str, inputs: &Inputs, answer: &mut Answer) {
     match name {
         "spell" => spell_octets(inputs.octets(answer), answer),

@@ -19,6 +19,7 @@ type Groups<'a> = Vec<Group, &'a Heap>;
 /// Offsets in memory of which one allocation may fail.
 type Offsets<'a> = Vec<usize, &'a Heap>;
 
+/// Answers a row: calls what it names.
 pub fn call(name: &str, inputs: &Inputs, answer: &mut Answer) {
     match name {
         "sort" => sort(inputs.all(), answer),

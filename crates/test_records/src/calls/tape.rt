@@ -1,35 +1,69 @@
 //! Tapes: the tokens of the first entry of octets, by their spans.
+ghost use Rattle.dns_tape.specs.Tape.{FillsWith};
+
 use dns_fields::TokenSource;
 use dns_split::entry_tokens::{EntryPart, EntryToken, EntryTokens};
-use dns_tape::{TAPE_CAPACITY, Tape, TapeTokens, TokenSpan, fill};
+use dns_tape::{TAPE_CAPACITY, Tape, TapeTokens, TokenSpan, fill, fill_line};
 use row_table::{Answer, Failure, Inputs};
 
 /// The base of offsets that is tried besides 0.
 const BASE: usize = 100;
 
+/// Answers a row: calls what it names.
 pub fn call(name: &str, inputs: &Inputs, answer: &mut Answer) {
     match name {
         "fill" => add_filled(inputs.octets(answer), answer),
+        "fill_line" => add_filled_line(inputs.octets(answer), answer),
         _ => answer.fail(Failure::NoCall),
     }
 }
 
-/// Adds the tokens of the first entry and the offset of its end, or `none`. The tape's old contents
-/// don't count.
-fn add_filled(octets: &[u8], answer: &mut Answer) {
+/// Returns a tape with tokens of another entry, which don't count.
+fn used_tape() -> Tape {
     let mut tape = Tape::new();
     let _other = fill(b"other (tokens", &mut tape);
+    tape
+}
+
+/// Adds the tokens of the first entry and the offset of its end, or `none`. If `fill_line` returns
+/// an offset, it is the same, and so are the spans.
+fn add_filled(octets: &[u8], answer: &mut Answer) {
+    let mut tape = used_tape();
+    let mut line = used_tape();
+    let line_end = fill_line(octets, &mut line);
     match fill(octets, &mut tape) {
         Some(end) => {
             let spans = tape.as_slice();
-            let tokens = TapeTokens::new(octets, spans, 0, end);
-            add_tokens(tokens, EntryTokens::of_octets(octets), answer);
-            if octets.len() <= usize::MAX - BASE {
-                let moved = TapeTokens::new(octets, spans, BASE, end);
-                answer.hold(is_moved(moved, spans, end));
+            if line_end.is_some() {
+                answer.hold(line_end == Some(end) && line.as_slice() == spans);
             }
+            add_tape(octets, spans, end, answer);
         }
+        None => {
+            answer.hold(line_end.is_none());
+            answer.add_text("none");
+        }
+    }
+}
+
+/// Adds the same of an entry that `fill_line` fills.
+fn add_filled_line(octets: &[u8], answer: &mut Answer) {
+    let mut tape = used_tape();
+    match fill_line(octets, &mut tape) {
+        Some(end) => add_tape(octets, tape.as_slice(), end, answer),
         None => answer.add_text("none"),
+    }
+}
+
+/// Adds the tokens of a filled tape and the offset of the entry's end.
+fn add_tape(octets: &[u8], spans: &[TokenSpan], end: usize, answer: &mut Answer)
+    requires { FillsWith octets.now spans.now end }
+{
+    let tokens = TapeTokens::new(octets, spans, 0, end);
+    add_tokens(tokens, EntryTokens::of_octets(octets), answer);
+    if octets.len() <= usize::MAX - BASE {
+        let moved = TapeTokens::new(octets, spans, BASE, end);
+        answer.hold(is_moved(moved, spans, end));
     }
 }
 

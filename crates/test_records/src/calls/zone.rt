@@ -19,6 +19,7 @@ enum Step {
     Record,
 }
 
+/// Answers a row: calls what it names.
 pub fn call(name: &str, inputs: &Inputs, answer: &mut Answer) {
     match name {
         "entries" => zone(inputs.all(), Step::Entry, answer),

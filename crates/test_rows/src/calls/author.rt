@@ -22,6 +22,7 @@ const KINDS: [DisplayKind; 3] = [
     DisplayKind::Multiline,
 ];
 
+/// Answers a row: calls what it names.
 pub fn call<'a>(name: &str, inputs: &Inputs, answer: &mut Answer<'a>) {
     match name {
         "mx" => read::<Mx<Octets<'a>>>(inputs.text(answer), answer),

@@ -16,6 +16,7 @@ use std::hash::{DefaultHasher, Hash, Hasher};
 /// Octets whose allocator may fail one allocation.
 type Octets<'a> = Vec<u8, &'a Heap>;
 
+/// Answers a row: calls what it names.
 pub fn call(name: &str, inputs: &Inputs, answer: &mut Answer) {
     match name {
         "read" => read(inputs.text(answer), answer),
@@ -140,6 +141,7 @@ fn upper_hex(octets: &[u8], answer: &mut Answer) {
     answer.add_shown(&string.display_upper_hex());
 }
 
+/// Returns the name of an order.
 pub fn order_name(order: Ordering) -> &'static str {
     match order {
         Ordering::Less => "less",

@@ -18,6 +18,7 @@ pub enum Base {
     Base64,
 }
 
+/// Answers a row: calls what it names.
 pub fn call(base: Base, name: &str, inputs: &Inputs, answer: &mut Answer) {
     match name {
         "convert" => steps::convert(base, inputs.text(answer), answer),

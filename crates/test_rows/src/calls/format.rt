@@ -6,6 +6,7 @@ use row_table::{Answer, Failure, Inputs};
 use zone_format::format::format;
 use zone_format::refusal::Refusal;
 
+/// Answers a row: calls what it names.
 pub fn call(name: &str, inputs: &Inputs, answer: &mut Answer) {
     match name {
         "form" => form(few(inputs.octets(answer), answer), answer),

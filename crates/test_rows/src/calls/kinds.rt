@@ -13,6 +13,7 @@ use dns_kinds::types::RecordType;
 use row_table::{Answer, Failure, Inputs};
 use std::fmt;
 
+/// Answers a row: calls what it names.
 pub fn call(name: &str, inputs: &Inputs, answer: &mut Answer) {
     let text = inputs.octets(answer);
     match name {

@@ -5,6 +5,7 @@ use row_table::{Answer, Failure, Inputs};
 use std::cmp::Ordering;
 use std::hash::{DefaultHasher, Hash, Hasher};
 
+/// Answers a row: calls what it names.
 pub fn call(name: &str, inputs: &Inputs, answer: &mut Answer) {
     match name {
         "of" => of(inputs.octets(answer), answer),

@@ -25,6 +25,7 @@ const KINDS: [DisplayKind; 3] = [
     DisplayKind::Multiline,
 ];
 
+/// Answers a row: calls what it names.
 pub fn call(name: &str, inputs: &Inputs, answer: &mut Answer) {
     match name {
         "short" => short(inputs.octets_and_number(answer), answer),

@@ -18,6 +18,7 @@ type Octets<'a> = Vec<u8, &'a Heap>;
 
 type Vector<'a> = UncertainName<Octets<'a>>;
 
+/// Answers a row: calls what it names.
 pub fn call(name: &str, inputs: &Inputs, answer: &mut Answer) {
     match name {
         "read" => read(inputs.text(answer), answer),

@@ -7,6 +7,7 @@ use row_table::{Answer, Failure, Heap, Inputs};
 /// Octets whose allocator may fail one allocation.
 type Octets<'a> = Vec<u8, &'a Heap>;
 
+/// Answers a row: calls what it names.
 pub fn call(name: &str, inputs: &Inputs, answer: &mut Answer) {
     match name {
         "copy" => copy(inputs.octets(answer), answer),

@@ -14,6 +14,7 @@ use zonetext_report::lint::{Block, lint, order_mark_len};
 use zonetext_report::policy::Policy;
 use zonetext_report::tally::Tally;
 
+/// Answers a row: calls what it names.
 pub fn call(name: &str, inputs: &Inputs, answer: &mut Answer) {
     match name {
         "gnu" => tell(Form::Line, inputs.all(), answer),

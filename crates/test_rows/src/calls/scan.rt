@@ -29,6 +29,7 @@ type FiveScanner<'a> = IterScanner<Words<'a>, ArrayVec<u8, 5>>;
 
 type SevenScanner<'a> = IterScanner<Words<'a>, ArrayVec<u8, 7>>;
 
+/// Answers a row: calls what it names.
 pub fn call(name: &str, inputs: &Inputs, answer: &mut Answer) {
     match name {
         "tokens" => tokens(inputs.all(), answer),

@@ -7,6 +7,7 @@ use row_table::{Answer, Failure, Inputs};
 use std::marker::PhantomData;
 use std::{fmt, str};
 
+/// Answers a row: calls what it names.
 pub fn call(name: &str, inputs: &Inputs, answer: &mut Answer) {
     match name {
         "at" => at(inputs.octets_and_number(answer), answer),

@@ -14,6 +14,7 @@ use std::alloc::AllocError;
 use std::fmt::Write;
 use std::{fmt, str};
 
+/// Answers a row: calls what it names.
 pub fn call(name: &str, inputs: &Inputs, answer: &mut Answer) {
     match name {
         "split" => split_text(inputs.text(answer), answer),
@@ -94,6 +95,7 @@ fn add_span(name: &str, span: Span, answer: &mut Answer) {
     answer.add_number(span.end);
 }
 
+/// Adds a piece by the name of its kind.
 pub fn add_named_piece(piece: Piece, answer: &mut Answer) {
     match piece {
         Piece::Word(span) => add_span("word ", span, answer),
@@ -117,6 +119,7 @@ pub fn wrong_name(wrong: Wrong) -> &'static str {
     }
 }
 
+/// Adds a syntax error.
 pub fn add_fault(fault: Fault, answer: &mut Answer) {
     answer.add_text(wrong_name(fault.wrong));
     if let Wrong::OpenQuote(start) = fault.wrong {
@@ -252,6 +255,7 @@ fn item<'a>(heap: &'a Heap, word: &str) -> Result<Item<&'a Heap>, AllocError> {
     })
 }
 
+/// Parses the items of a document.
 pub fn items<'a>(
     heap: &'a Heap,
     words: &[Vec<u8>],

@@ -13,6 +13,7 @@ use zonetext_lib::tokens::{Form, Stop, tokens};
 use zonetext_lib::unified::Unified;
 use zonetext_lib::writer::{Output, Writer};
 
+/// Answers a row: calls what it names.
 pub fn call(name: &str, inputs: &Inputs, answer: &mut Answer) {
     match name {
         "check" => check_octets(few(inputs.octets(answer), answer), answer),

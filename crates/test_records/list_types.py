@@ -1,10 +1,10 @@
 #!/usr/bin/env python3
-"""Prints the table of docs/RECORDS.md: the types whose record data have a text form here.
+"""Prints the table of docs/RECORDS.md: the types whose RDATA have a presentation format of their own here.
 
-usage: crates/test_records/list-types [--check PAGE]
+usage: crates/test_records/list_types.py [--check PAGE]
 
-Names, standards and order come from `TYPES` of `dns_data`, codes and the types that are printed by
-name everywhere from `dns_kinds`, and a text and its octets from the type's first row in `stdin` that
+Names, standards and order come from `TYPES` of `dns_data`, the codes and the types that are printed by
+name everywhere from `dns_kinds`, and an example with its octets from the type's first row in `stdin` that
 is short enough. With --check the page must have exactly this table.
 """
 import re
@@ -21,13 +21,14 @@ def read(path):
 
 
 def types():
-    """Names and standards of the rows of `TYPES`, in their order."""
+    """Returns names and standards of the rows of `TYPES`, in their order."""
     table = read("dns_data/src/types.rt").partition("pub static TYPES")[2].partition("\n];")[0]
-    return re.findall(r"^    // ([A-Z0-9-]+) \((.*)\)\.$", table, re.M)
+    found = re.findall(r"^    // (.*)\.\n    TypeRow\(\n        RecordType::(\w+)\.0,$", table, re.M)
+    return [(name.replace("_", "-"), re.sub("^Draft", "draft", standard)) for standard, name in found]
 
 
 def portable():
-    """The codes of the types that are printed by name everywhere."""
+    """Returns the codes of the types that are printed by name everywhere."""
     numbers = read("dns_kinds/src/types.rt").partition("const PORTABLE")[2].partition("= [")[2].partition("]")[0]
     return {int(it) for it in re.findall(r"\d+", numbers)}
 
@@ -37,7 +38,7 @@ def codes():
 
 
 def rows():
-    """Texts of record data and their octets, by type."""
+    """Returns RDATA in presentation format and their octets, by type."""
     data = {}
     for line in read("test_records/stdin").splitlines():
         call, *fields = line.split("\t")
@@ -50,7 +51,7 @@ def rows():
 
 
 def table():
-    """The lines of the table."""
+    """Returns the lines of the table."""
     known, number = portable(), codes()
     data = rows()
     lines = ["| Type | Code | By name | Standard | Text | Octets |", "|---|---|---|---|---|---|"]
@@ -69,8 +70,9 @@ def main():
     with open(sys.argv[2], encoding="utf-8") as page:
         own = [line for line in page.read().splitlines() if re.match(r"\| [A-Z0-9-]+ \| \d+ \|", line)]
     if own == lines[2:]:
+        print(f"list_types.py: {len(own)} types")
         return 0
-    print(f"list-types: {sys.argv[2]} has another table; `crates/test_records/list-types` prints the right one")
+    print(f"list_types.py: {sys.argv[2]} has another table; `crates/test_records/list_types.py` prints the correct one")
     return 1
 
 

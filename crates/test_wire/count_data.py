@@ -1,9 +1,9 @@
 #!/usr/bin/env python3
-"""Answers rows of octets that may be data a second time, by the wire forms that the RFCs have.
+"""Answers the rows of test_wire independently, by the wire formats of the RFCs.
 
-usage: crates/test_wire/count-data < crates/test_wire/stdin
+usage: crates/test_wire/count_data.py < crates/test_wire/stdin
 
-Rows of `wire.damaged` are counted out, and those of `wire.short` up to two octets.
+It counts for all rows of `wire.damaged`, and for those of `wire.short` up to two octets.
 """
 import itertools
 import re
@@ -99,7 +99,7 @@ def some_types(octets, at):
 
 
 def digest(lengths, least):
-    """The octet in front is the number of the digest, which may ask for a length."""
+    """The preceding octet is the number of the digest, which may require a length."""
 
     def is_digest(octets, at):
         count = len(octets) - at

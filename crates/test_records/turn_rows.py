@@ -1,12 +1,12 @@
 #!/usr/bin/env python3
-"""Turns tables of record data into rows: the call `data`, a type, its data as text, and the octets.
+"""Converts tables of RDATA to test rows: the call `data`, a type, RDATA in presentation format, and its octets.
 
-usage: crates/test_records/turn-rows TABLE.. > ROWS
+usage: crates/test_records/turn_rows.py TABLE.. > ROWS
 
-A line of a table has a type, a text and an answer, with tabs between: `ok` and the octets in
-hexadecimal digits, or `refused`. What stands behind the answer is passed over, as are lines that
-begin with `#` and empty ones. In a text `%` and two hexadecimal digits are an octet, as in a row. Of
-a refusal a row has no text.
+A line of a table has a type, a text and an answer, separated by tabs. The answer is `ok` and the octets in
+hexadecimal digits, or `refused`. Later columns, empty lines and lines that begin with `#` are ignored.
+In a text, `%` and two hexadecimal digits are an octet, as in a row. The row of a rejected text has no
+error message.
 """
 import sys
 from urllib.parse import unquote_to_bytes
