@@ -1,12 +1,11 @@
 -- Fields that are parsed from the tokens of an entry, one token each.
-use Rattle.std.specs.Prelude.{ℕ, Option, suc, length, replicate, ◌≡◌, ◌-◌, List, [], ◌∷◌, ◌++◌, take, drop, slice_get, Some, Result, Ok, Err}
+use Rattle.std.specs.Prelude.{ℕ, Option, suc, length, replicate, ◌≡◌, ◌-◌, List, [], ◌∷◌, ◌++◌, take, drop, slice_get, Some, Ok, Err}
 use Rattle.dns_octets.specs.Room.{Room}
 use Rattle.dns_octets.specs.Appending.{Extends, Gains}
 use Rattle.dns_split.specs.EntryTokens.{TokenSeen}
 use Rattle.dns_kinds.specs.declared.error.ErrorKind.{ErrorKind}
 use Rattle.dns_kinds.specs.declared.error.ErrorKind.TheVariants.{EndOfEntry}
 use Rattle.dns_fields.specs.declared.field.Field.{Field}
-use Rattle.dns_fields.specs.declared.record_error.RecordError.{RecordError}
 use Rattle.dns_fields.specs.Fields.{field_form}
 use Rattle.dns_fields.specs.Forms.{RefusesField}
 use Rattle.dns_fields.specs.TokenParsers.{TokenParser}

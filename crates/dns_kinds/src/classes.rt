@@ -39,10 +39,13 @@ fn is_class_long(text: &[u8]) -> bool
 }
 
 impl Class {
+    /// Class IN, the Internet (RFC 1035 section 3.2.4).
     pub const IN: Class = Class(1);
 
+    /// Class CH, CHAOS (RFC 1035 section 3.2.4).
     pub const CH: Class = Class(3);
 
+    /// Class HS, Hesiod (RFC 1035 section 3.2.4).
     pub const HS: Class = Class(4);
 
     /// Parses a class, in any case: `IN` or `CLASS1`. Fails with `UnknownClass` for any other text.

@@ -8,20 +8,28 @@ use crate::params::{Param, check_form, first_param};
 use crate::template::is_query_path;
 use dns_kinds::ErrorKind;
 
+/// Key `mandatory` (RFC 9460 section 8).
 pub const MANDATORY: u16 = 0;
 
+/// Key `alpn` (RFC 9460 section 7.1).
 pub const ALPN: u16 = 1;
 
+/// Key `no-default-alpn` (RFC 9460 section 7.1).
 pub const NO_DEFAULT_ALPN: u16 = 2;
 
+/// Key `port` (RFC 9460 section 7.2).
 pub const PORT: u16 = 3;
 
+/// Key `ipv4hint` (RFC 9460 section 7.3).
 pub const IPV4HINT: u16 = 4;
 
+/// Key `ech` (RFC 9848).
 pub const ECH: u16 = 5;
 
+/// Key `ipv6hint` (RFC 9460 section 7.3).
 pub const IPV6HINT: u16 = 6;
 
+/// Key `dohpath` (RFC 9461 section 5).
 pub const DOHPATH: u16 = 7;
 
 /// Returns whether octets are strings of 1 to 255 octets, each after its length.

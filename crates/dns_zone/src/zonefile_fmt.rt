@@ -33,6 +33,7 @@ const CLOSE_PARENTHESIS: &str = ")";
 
 const COMMENT_MARK: &str = "\t; ";
 
+/// The result of a step of printing.
 pub type Result = std::result::Result<(), Error>;
 
 /// A layout of zone files.

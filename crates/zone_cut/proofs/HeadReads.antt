@@ -33,7 +33,7 @@ use Rattle.dns_reader.proofs.PastStates.{known_once, name_alone, starts}
 use Rattle.dns_resource.specs.Records.{data_of, record_tokens}
 use Rattle.dns_resource.specs.declared.record.Record.{Record}
 use Rattle.std.proofs.lemmas.Option.{none-some}
-use Rattle.zone_cut.specs.Alike.{AreReadInTurn, ReadsLine}
+use Rattle.zone_cut.specs.Alike.{AreReadInTurn, ReadsHeadLine}
 use Rattle.zone_cut.specs.CutLaws.{HeadLeadsThere}
 use Rattle.zone_cut.specs.Heads.{Line, default_ttl_lines, directive_lines, head_records, origin_lines, state_of}
 use Rattle.zone_cut.specs.LawSteps.{IsKnownRecord}
@@ -87,13 +87,13 @@ module _ (room : Room) where
   origins_read : (origin : Known) (first last : State) → origin ≢ Refused → IsNameOf origin → first.origin ≡ Unsaid → AreReadInTurn room first (origin_lines origin) last → last ≡ record first { origin = origin }
   origins_read Unsaid first last some name none h = h ∙ (λ i. record first { origin = none i })
   origins_read (Name labels) first last some name none h =
-      let l : ReadsLine room first _ h.0 = h.1 in h.2 ∙ origin_read room l.end first h.0 l.old l.new l.result labels l.tokens (name labels refl) l.printed l.reads
+      let l : ReadsHeadLine room first _ h.0 = h.1 in h.2 ∙ origin_read room l.end first h.0 l.old l.new l.result labels l.tokens (name labels refl) l.printed l.reads
   origins_read Refused first last some name none h = absurd (some refl)
 
   ttls_read : (default : Option ℕ) (first last : State) → unwrap_or default 0 < 2 ^ 31 → first.default_ttl ≡ None → AreReadInTurn room first (default_ttl_lines default) last → last ≡ record first { default_ttl = default }
   ttls_read None first last small none h = h ∙ (λ i. record first { default_ttl = none i })
   ttls_read (Some ttl) first last small none h =
-      let l : ReadsLine room first _ h.0 = h.1 in h.2 ∙ ttl_read room l.end first h.0 l.old l.new l.result ttl l.tokens small l.printed l.reads
+      let l : ReadsHeadLine room first _ h.0 = h.1 in h.2 ∙ ttl_read room l.end first h.0 l.old l.new l.result ttl l.tokens small l.printed l.reads
 
   -- after a record
   record Behind {N O : Type 0} (r : Record N O) (before after : State) : Type 0 where
@@ -104,7 +104,7 @@ module _ (room : Room) where
     class : after.class ≡ before.class
 
   module _ {N O : Type 0} where
-    record_read : (r : Record N O) (before after : State) → IsKnownRecord r → r.ttl < 2 ^ 31 → IsOrigin (known_name before.origin) → ReadsLine room before (record_tokens r) after → Behind r before after
+    record_read : (r : Record N O) (before after : State) → IsKnownRecord r → r.ttl < 2 ^ 31 → IsOrigin (known_name before.origin) → ReadsHeadLine room before (record_tokens r) after → Behind r before after
     record_read r before after known small origin l =
         let own = data_of r in
         let fits : length l.old + length own.octets ≤ room.fits = omega (arith, l.fits, known.values.typed.short) in

@@ -40,7 +40,7 @@ AreGivenAlike (g ∷ gs) [] = ⊥
 AreGivenAlike (g ∷ gs) (h ∷ hs) = IsGivenAlike g h × AreGivenAlike gs hs
 
 -- a line, if printed so, is read, and the data of any record surely fits
-pub record ReadsLine (room : Room) (before : State) (line : Line) (after : State) : Type 0 where
+pub record ReadsHeadLine (room : Room) (before : State) (line : Line) (after : State) : Type 0 where
   pub end : ℕ
   pub tokens : List TokenSeen
   pub printed : ArePrinted line tokens
@@ -53,4 +53,4 @@ pub record ReadsLine (room : Room) (before : State) (line : Line) (after : State
 -- lines one after another, each read from the state that the one before left
 abbrev pub AreReadInTurn : Room → State → List Line → State → Type 0
 AreReadInTurn room before [] last = last ≡ before
-AreReadInTurn room before (line ∷ lines) last = (middle : State) × ReadsLine room before line middle × AreReadInTurn room middle lines last
+AreReadInTurn room before (line ∷ lines) last = (middle : State) × ReadsHeadLine room before line middle × AreReadInTurn room middle lines last

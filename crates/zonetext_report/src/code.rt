@@ -215,7 +215,6 @@ fn find_named(codes: &[Code], name: &str) -> Option<Code>
 
 impl Code {
     /// Every code.
-
     pub const ALL: [Code; 87] = [
         Code::OpenQuote,
         Code::OpenParenthesis,

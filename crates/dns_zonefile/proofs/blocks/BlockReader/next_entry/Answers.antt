@@ -31,7 +31,7 @@ pass_line-requires g c =
     let rest : c.as_octets-rest.result.now ≡ drop me.next me.octets =
     c.as_octets-rest.ensures.same ∙ all_after c.self-2.inside.next c.as_slice.result.now ∙ ap (drop c.self-2.inside.next) c.as_slice.ensures.value ∙ ap (λ (b : Blocks). drop b.next b.octets) c.self-2.view_is in
     let within : me.next ≤ length me.octets = subst (λ (b : Blocks). b.next ≤ length b.octets) c.self-2.view_is c.self-2.invariant.0 in
-    let fills : FillsLine (drop me.next me.octets) c.fill_line.new.tape.items c.in-Some.count = subst (λ l. FillsLine l c.fill_line.new.tape.items c.in-Some.count) rest c.in-Some.ensures in
+    let fills : FillsLine (drop me.next me.octets) c.fill_line.new.tape.items c.in-Some.count = subst (λ l. FillsLine l c.fill_line.new.tape.items c.in-Some.count) rest c.in-Some.ensures.some in
     subst (λ (b : Blocks). b.next + c.in-Some.count ≤ length b.octets) (sym c.self-2.view_is) (held_line me within c.fill_line.new.tape.items c.in-Some.count fills)
 
 pub returns : goal.returns
@@ -45,7 +45,7 @@ returns g c = λ all h.
     all_after c.self-2.inside.next c.as_slice.result.now ∙ ap (drop c.self-2.inside.next) c.as_slice.ensures.value ∙ ap (λ (b : Blocks). drop b.next b.octets) c.self-2.view_is in
     let rest : c.as_octets-rest.result.now ≡ drop me.next me.octets = c.as_octets-rest.ensures.same ∙ left in
     let within : me.next ≤ length me.octets = subst (λ (b : Blocks). b.next ≤ length b.octets) c.self-2.view_is c.self-2.invariant.0 in
-    let fills : FillsLine (drop me.next me.octets) c.fill_line.new.tape.items count = subst (λ l. FillsLine l c.fill_line.new.tape.items count) rest c.in-Some.ensures in
+    let fills : FillsLine (drop me.next me.octets) c.fill_line.new.tape.items count = subst (λ l. FillsLine l c.fill_line.new.tape.items count) rest c.in-Some.ensures.some in
     let short : count ≤ me.limit = omega (arith, c.if-count-self.false, ap (λ (b : Blocks). b.limit) c.self-2.view_is) in
     let reads : ReadsPending room me (Ok count) c.args.state.now (octets c.args.target.now) read.result read.new.state (octets read.new.target) =
     read_same room (take count c.as_octets-rest.result.now) (take count (drop me.next me.octets)) (blank_at c.as_octets-rest.result.now 0) (blank_at (drop me.next me.octets) 0) c.place-at.result (place_of_next me) c.args.state.now (octets c.args.target.now)
