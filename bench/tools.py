@@ -8,8 +8,8 @@ and Rust; a peer that isn't installed is skipped. Zone files are generated below
 the same in each run: `mix` (SOA, NS, A, AAAA, MX, TXT, DS, CNAME), `com` (delegations), `signed` (A,
 RRSIG, NSEC3) of 10.5 MB, and `mix` of 1 KB to 100 MB. A figure is processor time, the minimum of N turns
 (9) in alternation, of a peer the minimum of 3, of dnspython of 1; instructions are counted by callgrind, on
-`mix` of 1 MB. Prints the tables; with --pages writes them into docs/SPEED.md and docs/ZONETEXT.md, and the
-chart into docs/tools.svg.
+`mix` of 1 MB. Prints the tables; with --pages writes them into bench/results.md, ten rows into
+docs/SPEED.md, those of the peers into docs/ZONETEXT.md, and the chart into docs/tools.svg.
 """
 import argparse
 import base64
@@ -41,6 +41,9 @@ PEERS = {
     "ldns-read-zone": ["ldns-read-zone"],
     "ldns-read-zone -z": ["ldns-read-zone", "-z"],
 }
+# The rows of docs/SPEED.md; bench/results.md has all.
+TEN = ["`wc -lw`", "zonetext check", f"zonetext check --zone {ZONE}", "zonetext records", "zonetext fmt", "zonetext canon",
+       "kzonecheck", "nsd-checkzone", "named-checkzone", "ldns-read-zone"]
 CUT = 'rm -f "$2"-cut*; exec "$1" cut 4 "$2" -o "$2"-cut'
 # Programs that parse all records, and print their number and the microseconds.
 READERS = {"`dnstext_record_next`, C": os.path.join(TOP, "bench/target/reading"),
@@ -248,7 +251,7 @@ def found_by():
 
 def peers_table(mix_path, measured):
     refused, count = found_by()
-    rows = [f"| On `mix`, 10.5 MB | refuses, of {count} files | ms | MB |", "|---|---|---|---|"]
+    rows = [f"| Program | rejected, of {count} files | ms, `mix` of 10.5 MB | MB, `mix` |", "|---|---|---|---|"]
     words = {f"zonetext {it}": ours(it, mix_path) for it in COMMANDS}
     words |= {name: [*it, mix_path] for name, it in PEERS.items()}
     for name, files in refused.items():
@@ -296,9 +299,14 @@ def svg(lines):
     return "\n".join([*parts, "</svg>", ""])
 
 
+def ten(rows):
+    """Returns the head of a table of commands, and its rows for docs/SPEED.md."""
+    return rows[:2] + [it for name in TEN for it in rows[2:] if it.startswith(f"| {name} | ")]
+
+
 def put(page, mark, rows):
     """Writes rows between two marks of a page."""
-    path = os.path.join(TOP, "docs", page)
+    path = os.path.join(TOP, page)
     with open(path, encoding="utf-8") as file:
         text = file.read()
     between = re.compile(rf"(<!-- {mark} -->\n).*?(<!-- end of {mark} -->)", re.S)
@@ -326,9 +334,10 @@ def main():
     print("\n".join([*rows, "", *beside, "", *reading]), flush=True)
     drawn = chart(given.folder, given.turns)
     if given.pages:
-        put("SPEED.md", "tools", rows)
-        put("SPEED.md", "reading", reading)
-        put("ZONETEXT.md", "peers", beside)
+        put("docs/SPEED.md", "ten", ten(rows))
+        put("bench/results.md", "tools", rows)
+        put("bench/results.md", "reading", reading)
+        put("docs/ZONETEXT.md", "peers", beside)
         with open(os.path.join(TOP, "docs/tools.svg"), "w", encoding="utf-8") as file:
             file.write(drawn)
 

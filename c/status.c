@@ -1,4 +1,4 @@
-/* The names and the texts of statuses, and the version, as static strings. `signatures` compares both
+/* The names and the texts of statuses, and the version, as static strings. `signatures.py` compares both
  * tables with the header and with crates/dns_text_c. */
 #include <dnstext.h>
 

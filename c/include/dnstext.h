@@ -181,8 +181,8 @@ uint32_t dnstext_data_print(uint16_t code, const uint8_t *octets, size_t octets_
  *
  * Fails with DNSTEXT_BAD_DATA or DNSTEXT_NO_ORIGIN and the place of the error for text that isn't such
  * RDATA; the octets are then the error's text, as dnstext_record_next returns it: at most 255
- * characters, truncated to the buffer. A syntax error has its place and the length 0. A call uses up to
- * 80 KB of stack. */
+ * characters, truncated to the buffer. A syntax error has its place and the length 0. A call uses at
+ * most 16 KB of stack, but up to 80 KB for RDATA of more than 1,024 octets and for syntax errors. */
 uint32_t dnstext_data_read(uint16_t code, const uint8_t *text, size_t text_len, const uint8_t *origin,
                            size_t origin_len, uint8_t *octets, size_t octets_len,
                            struct dnstext_outcome *outcome);
@@ -191,7 +191,7 @@ uint32_t dnstext_data_read(uint16_t code, const uint8_t *text, size_t text_len, 
  * lower case if the type requires that, and all other octets as they are. The number of octets is the
  * same. So RDATA of one type is equal if these octets are, and its canonical order is the order of
  * these octets (RFC 4034 section 6.3). Fails as dnstext_data_print does for octets that aren't RDATA. A
- * call uses up to 80 KB of stack. */
+ * call uses at most 16 KB of stack, but up to 80 KB for RDATA of more than 1,024 octets. */
 uint32_t dnstext_data_canonical(uint16_t code, const uint8_t *octets, size_t octets_len, uint8_t *form,
                                 size_t form_len, struct dnstext_outcome *outcome);
 
@@ -281,7 +281,8 @@ uint32_t dnstext_tokens_next(const uint8_t *text, size_t text_len, struct dnstex
 /* ---- Zone files, record by record (RFC 1035 section 5.1, RFC 2308 section 4).
  *
  * A zone holds all state between two calls. It may be copied, stored and used again, and its fields may
- * be set. There is no other state, and no call allocates; a call uses up to 80 KB of stack. */
+ * be set. There is no other state, and no call allocates. A call uses at most 16 KB of stack, but up to
+ * 80 KB for RDATA of more than 1,024 octets and for syntax errors. */
 struct dnstext_kept_name {
     size_t length;       /* its length in octets, at most 255; 0 if there is no name */
     bool is_refused;     /* whether the last such name was rejected */

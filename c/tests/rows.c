@@ -491,7 +491,7 @@ static uint8_t *text_of(const uint8_t *octets, size_t length, size_t *text_len, 
 }
 
 /* A row of `data`, `data.why` or `data.print`: a type, a text, an origin, and the RDATA, the error with its
- * offset, or the text of the RDATA. The default origin is `example.`; an empty field is no origin. */
+ * offset, or the text of the RDATA. The default origin is `example.`; an empty field means without origin. */
 static void answer_data(const char *name) {
     static const char example[] = "%07example%00";
     const char *note = NULL;

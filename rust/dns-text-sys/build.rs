@@ -1,6 +1,6 @@
 //! Finds the static library: the file that `DNS_TEXT_LIB` names by an absolute path, or
-//! `out/libdnstext.a` at the top of the repository, which `make -C c` makes. Without it the crates can
-//! be checked and documented, and what is linked with them is refused.
+//! `out/libdnstext.a` at the top of the repository, which `make -C c` builds. Without it the crates can
+//! be checked and documented, and linking fails.
 use std::path::{Path, PathBuf};
 use std::{env, fs};
 
@@ -29,7 +29,7 @@ fn main() {
     println!("cargo:rustc-link-lib=static={name}");
 }
 
-/// Says where the library is, and returns the name under which it is linked.
+/// Passes the library's folder to cargo, and returns the name under which it is linked.
 fn link_from(library: &Path) -> String {
     println!("cargo:rerun-if-changed={}", library.display());
     let folder = library.parent().unwrap_or(Path::new("/"));

@@ -6,7 +6,7 @@
 
 use core::ffi::c_char;
 
-/// The version that these declarations are of.
+/// The version of these declarations.
 pub const DNSTEXT_VERSION: &str = env!("CARGO_PKG_VERSION");
 
 pub const DNSTEXT_OK: u32 = 0;
@@ -46,7 +46,7 @@ pub const DNSTEXT_BAD_DATA: u32 = 33;
 pub const DNSTEXT_NO_TTL: u32 = 34;
 pub const DNSTEXT_RELATIVE_NAME: u32 = 35;
 
-/// What a call says beside its status.
+/// The result of a call beside its status.
 #[repr(C)]
 #[derive(Clone, Copy, Debug, Default, PartialEq, Eq)]
 pub struct dnstext_outcome {
@@ -54,7 +54,7 @@ pub struct dnstext_outcome {
     pub place: usize,
 }
 
-/// A token of zone text: the octets from `start` to before `end`.
+/// A token of a zone file: the octets from `start` to before `end`.
 #[repr(C)]
 #[derive(Clone, Copy, Debug, Default, PartialEq, Eq)]
 pub struct dnstext_token {
@@ -63,7 +63,7 @@ pub struct dnstext_token {
     pub is_quoted: bool,
 }
 
-/// Where a zone text is read on. At first it is the default.
+/// The state of reading entries. The default is the start of a text.
 #[repr(C)]
 #[derive(Clone, Copy, Debug, Default, PartialEq, Eq)]
 pub struct dnstext_cursor {
@@ -78,7 +78,7 @@ pub const DNSTEXT_QUOTED: usize = 1;
 pub const DNSTEXT_COMMENT: usize = 2;
 pub const DNSTEXT_ENTRY_END: usize = 3;
 
-/// A piece of zone text: the octets from `start` to before `end`.
+/// A piece of a zone file: the octets from `start` to before `end`.
 #[repr(C)]
 #[derive(Clone, Copy, Debug, Default, PartialEq, Eq)]
 pub struct dnstext_piece {
@@ -88,7 +88,7 @@ pub struct dnstext_piece {
     pub begins_blank: bool,
 }
 
-/// Where a zone text is read on, with no piece begun. At first it is the default.
+/// The state of reading pieces. The default is the start of a text.
 #[repr(C)]
 #[derive(Clone, Copy, Debug, Default, PartialEq, Eq)]
 pub struct dnstext_standing {
@@ -98,7 +98,7 @@ pub struct dnstext_standing {
     pub is_done: bool,
 }
 
-/// An absolute name in wire form, if there is one: its first `length` octets.
+/// An absolute name in wire format, if there is one: the first `length` octets.
 #[repr(C)]
 #[derive(Clone, Copy, Debug, PartialEq, Eq)]
 pub struct dnstext_kept_name {
@@ -107,8 +107,8 @@ pub struct dnstext_kept_name {
     pub octets: [u8; 255],
 }
 
-/// What the entries of a zone file say of those that follow, and where these begin. At first it has the
-/// class IN, and all else is the default.
+/// The state of reading records. At the start of a zone file it has the class IN, and is otherwise the
+/// default.
 #[repr(C)]
 #[derive(Clone, Copy, Debug, Default, PartialEq, Eq)]
 pub struct dnstext_zone {
@@ -141,7 +141,7 @@ pub struct dnstext_position {
     pub column: usize,
 }
 
-/// The start of a text.
+/// The position of the start of a text.
 impl Default for dnstext_position {
     fn default() -> dnstext_position {
         dnstext_position {
@@ -162,7 +162,7 @@ impl Default for dnstext_kept_name {
     }
 }
 
-/// A call that reads octets and gives others.
+/// A call that converts octets to other octets.
 pub type dnstext_call =
     unsafe extern "C" fn(*const u8, usize, *mut u8, usize, *mut dnstext_outcome) -> u32;
 

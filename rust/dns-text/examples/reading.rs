@@ -1,5 +1,5 @@
-//! Reads all records of a zone file by blocks, and prints how many there are and the microseconds of
-//! processor time that took: `reading FILE`.
+//! Reads all records of a zone file in chunks, and prints their number and the microseconds of processor
+//! time: `reading FILE`.
 use dns_text::{read_records, ZoneItem};
 use std::error::Error;
 use std::ffi::c_long;
@@ -7,12 +7,12 @@ use std::fs::File;
 use std::io::BufReader;
 
 extern "C" {
-    /// Processor time, in microseconds on each POSIX system.
+    /// Processor time, in microseconds on POSIX systems.
     fn clock() -> c_long;
 }
 
 fn now() -> c_long {
-    // SAFETY: the call takes nothing, and writes nowhere.
+    // SAFETY: the call has no arguments, and writes to no memory.
     unsafe { clock() }
 }
 

@@ -1,20 +1,21 @@
-//! Calls that read octets and give others.
+//! Calls of the C library that convert octets to other octets.
 use crate::{library, Status};
 use dns_text_sys::{dnstext_call, dnstext_outcome, DNSTEXT_NO_ROOM, DNSTEXT_OK};
 
-/// A status other than `DNSTEXT_OK`, and the reported place.
+/// A status other than `DNSTEXT_OK`, and the offset of the error.
 pub(crate) struct Refused {
     pub(crate) status: u32,
     pub(crate) place: usize,
 }
 
-/// What the call returns: with a buffer of `expected` octets first, then with the length it asks for.
+/// Returns the output of a call. The buffer has `expected` octets first, and then the length that the
+/// call needs.
 pub(crate) fn give(call: dnstext_call, from: &[u8], expected: usize) -> Result<Vec<u8>, Refused> {
     library::check();
     let mut given = vec![0; expected];
     loop {
         let mut outcome = dnstext_outcome::default();
-        // SAFETY: both slices are as long as is said, and the call keeps to them.
+        // SAFETY: the pointers and lengths are those of two slices, and the call stays within them.
         let status = unsafe {
             call(
                 from.as_ptr(),
@@ -38,8 +39,7 @@ pub(crate) fn give(call: dnstext_call, from: &[u8], expected: usize) -> Result<V
     }
 }
 
-/// The text that the call gives of octets that have one: it is proved that the library doesn't
-/// refuse them.
+/// Returns the text that a call prints for octets. It is proved that the library doesn't reject them.
 pub(crate) fn print(call: dnstext_call, octets: &[u8], expected: usize) -> String {
     match give(call, octets, expected) {
         Ok(text) => String::from_utf8_lossy(&text).into_owned(),

@@ -12,11 +12,11 @@ use std::fmt;
 
 /// A character string: at most 255 octets (RFC 1035 section 3.3).
 ///
-/// It prints with no character special but the backslash; [`quoted`](CharStr::quoted) and
-/// [`unquoted`](CharStr::unquoted) print it for zone text.
+/// It displays with the backslash as the only special character. [`quoted`](CharStr::quoted) and
+/// [`unquoted`](CharStr::unquoted) return its forms for zone files.
 ///
-/// Equality, order and hash are those of the octets: in TXT the case of letters counts.
-/// [`eq_ignore_ascii_case`](CharStr::eq_ignore_ascii_case) leaves it aside.
+/// Equality, order and hash are those of the octets, since in TXT the case of letters counts.
+/// [`eq_ignore_ascii_case`](CharStr::eq_ignore_ascii_case) ignores it.
 ///
 /// ```
 /// use dns_text::CharStr;
@@ -37,7 +37,7 @@ pub struct CharStr {
 }
 
 impl CharStr {
-    /// The string of these octets, of which there may be at most 255.
+    /// Returns the string with these octets. Fails if there are more than 255.
     pub fn from_octets(octets: Vec<u8>) -> Result<CharStr, LongString> {
         if octets.len() > 255 {
             return Err(LongString);
@@ -45,10 +45,11 @@ impl CharStr {
         Ok(CharStr { octets })
     }
 
-    /// Reads a text: the octets of its symbols. A quoted text is passed without its double quotes.
+    /// Parses a text: the octets of its symbols (RFC 1035 section 5.1). A quoted string is passed
+    /// without its double quotes.
     ///
-    /// A plain character outside printable ASCII is refused;
-    /// [`from_octets_text`](CharStr::from_octets_text) takes its octets as they are.
+    /// Fails for a plain character outside printable ASCII;
+    /// [`from_octets_text`](CharStr::from_octets_text) accepts its octets as they are.
     ///
     /// ```
     /// use dns_text::{CharStr, ReadErrorKind};
@@ -60,13 +61,12 @@ impl CharStr {
         CharStr::read(dnstext_charstr_read, text)
     }
 
-    /// Reads a text as name servers do: each octet but the backslash is itself, a tab and
-    /// the octets from 0x80 to 0xFF too. A quoted text is passed without its double quotes.
+    /// Parses a text as name servers do: each octet except the backslash is itself, also a tab and
+    /// the octets from 0x80 to 0xFF. A quoted string is passed without its double quotes.
     ///
-    /// A backslash and three digits are the octet of that number, and a backslash and an octet that
-    /// is no digit are that octet, whichever it is (RFC 1035 section 5.1). The only refusals are
-    /// `BadEscape`, `ShortInput` and `TooLong`. A text of printable ASCII is read as by
-    /// [`from_text`](CharStr::from_text).
+    /// A backslash and three digits are the octet of that number, and a backslash and any octet except
+    /// a digit are that octet (RFC 1035 section 5.1). The only errors are `BadEscape`, `ShortInput` and
+    /// `TooLong`. A text of printable ASCII is parsed as by [`from_text`](CharStr::from_text).
     ///
     /// ```
     /// use dns_text::{CharStr, ReadErrorKind};
@@ -91,27 +91,27 @@ impl CharStr {
         }
     }
 
-    /// The octets, without their length.
+    /// Returns the octets, without the length octet.
     pub fn as_octets(&self) -> &[u8] {
         &self.octets
     }
 
-    /// The octets, without their length.
+    /// Returns the octets, without the length octet.
     pub fn into_octets(self) -> Vec<u8> {
         self.octets
     }
 
-    /// Whether two strings differ at most in the case of ASCII letters.
+    /// Returns whether two strings differ at most in the case of ASCII letters.
     pub fn eq_ignore_ascii_case(&self, other: &CharStr) -> bool {
         self.octets.eq_ignore_ascii_case(&other.octets)
     }
 
-    /// The text between double quotes.
+    /// Returns the text in double quotes.
     pub fn quoted(&self) -> String {
         self.printed(dnstext_charstr_print_quoted)
     }
 
-    /// The text as a word of zone text. A string of no octets has no such text: it is empty.
+    /// Returns the text as one word of a zone file. The empty string has no such word: the text is empty.
     pub fn unquoted(&self) -> String {
         self.printed(dnstext_charstr_print_unquoted)
     }
@@ -137,14 +137,14 @@ impl fmt::Display for CharStr {
     }
 }
 
-/// Its quoted text.
+/// Shows the quoted text.
 impl fmt::Debug for CharStr {
     fn fmt(&self, f: &mut fmt::Formatter<'_>) -> fmt::Result {
         write!(f, "CharStr({})", self.quoted())
     }
 }
 
-/// More than 255 octets.
+/// A string of more than 255 octets.
 #[derive(Clone, Copy, Debug, PartialEq, Eq)]
 pub struct LongString;
 
@@ -156,22 +156,22 @@ impl fmt::Display for LongString {
 
 impl Error for LongString {}
 
-/// Why a text is not a character string, and where.
+/// The error of a text that is not a character string, with its offset.
 #[derive(Clone, Copy, Debug, PartialEq, Eq)]
 pub struct ReadError {
     pub kind: ReadErrorKind,
-    /// The octets before what is refused.
+    /// Offset of the rejected symbol.
     pub place: usize,
 }
 
 reasons! {
     /// Why a text is not a character string.
     ReadErrorKind {
-        /// A backslash with what makes no escape.
+        /// A backslash that begins no escape.
         BadEscape = DNSTEXT_BAD_ESCAPE,
-        /// The end inside an escape or a character.
+        /// The text ends inside an escape or a character.
         ShortInput = DNSTEXT_SHORT_INPUT,
-        /// No UTF-8.
+        /// Octets that are not UTF-8.
         BadUtf8 = DNSTEXT_BAD_UTF8,
         /// A plain character outside printable ASCII, which has no octet.
         BadSymbol = DNSTEXT_BAD_SYMBOL,

@@ -26,13 +26,13 @@ pub struct Encoding {
     read: dnstext_call,
 }
 
-/// Base 16, read in either case.
+/// Base 16; digits of either case are accepted.
 pub const BASE16: Encoding = Encoding {
     print: dnstext_base16_print,
     read: dnstext_base16_read,
 };
 
-/// Base 32 with the extended hex alphabet, read in either case, without padding.
+/// Base 32 with the extended hex alphabet, without padding; digits of either case are accepted.
 pub const BASE32HEX: Encoding = Encoding {
     print: dnstext_base32hex_print,
     read: dnstext_base32hex_read,
@@ -45,18 +45,18 @@ pub const BASE64: Encoding = Encoding {
 };
 
 impl Encoding {
-    /// The text of octets.
+    /// Returns the encoded octets.
     pub fn print(self, octets: &[u8]) -> String {
         print(self.print, octets, 2 * octets.len() + 4)
     }
 
-    /// The octets of a text.
+    /// Returns the decoded octets. Fails if the text is not of the encoding.
     pub fn read(self, text: &[u8]) -> Result<Vec<u8>, BadEncoding> {
         give(self.read, text, text.len()).map_err(|_| BadEncoding)
     }
 }
 
-/// A text is not of the encoding.
+/// The error of a text that is not of the encoding.
 #[derive(Clone, Copy, Debug, PartialEq, Eq)]
 pub struct BadEncoding;
 

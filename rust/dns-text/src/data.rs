@@ -1,4 +1,4 @@
-//! Record data.
+//! RDATA as values.
 mod compose;
 mod fields;
 mod text;
@@ -12,14 +12,15 @@ use std::fmt;
 use std::hash::{Hash, Hasher};
 use std::net::{Ipv4Addr, Ipv6Addr};
 
-/// The most octets of record data (RFC 1035 section 3.2.1).
+/// Maximum length of RDATA in octets (RFC 1035 section 3.2.1).
 const MOST: usize = 65_535;
 
-/// Record data: those of common types by their fields, others by their octets on the wire.
+/// RDATA: of common types by their fields, of others by their octets in wire format.
 ///
-/// Data are equal where their types and their canonical octets are (RFC 4034 sections 6.2 and 6.3):
-/// without the case of names in the types that RFC 4034 names, and with that of strings. They are
-/// ordered and hashed by these too. So data of a variant equals the same as [`RecordData::Unknown`].
+/// RDATA are equal if their types and their canonical forms are (RFC 4034 sections 6.2 and 6.3). The
+/// case of names is ignored in the types that RFC 4034 lists; that of strings is not. Order and hash
+/// are those of the canonical form too. So RDATA of a variant equal the same RDATA as
+/// [`RecordData::Unknown`].
 ///
 /// ```
 /// use dns_text::{RecordData, RecordType};
@@ -67,28 +68,28 @@ pub enum RecordData {
         port: u16,
         target: Name,
     },
-    /// RFC 8659: the tag is of ASCII letters and digits, one at least.
+    /// RFC 8659: the tag has ASCII letters and digits, at least one.
     Caa {
         flags: u8,
         tag: CharStr,
         value: Vec<u8>,
     },
-    /// RFC 4034 section 5: the digest has 20 octets of type 1, 32 of type 2 and 48 of type 4, and one
-    /// at least of another.
+    /// RFC 4034 section 5: the digest has 20 octets for digest type 1, 32 for type 2, 48 for type 4, and
+    /// at least one for any other.
     Ds {
         key_tag: u16,
         algorithm: u8,
         digest_type: u8,
         digest: Vec<u8>,
     },
-    /// RFC 4034 section 2: the key has one octet at least.
+    /// RFC 4034 section 2: the key has at least one octet.
     Dnskey {
         flags: u16,
         protocol: u8,
         algorithm: u8,
         key: Vec<u8>,
     },
-    /// Data of another type, which may be any octets.
+    /// RDATA of another type, which can be any octets.
     Unknown {
         record_type: RecordType,
         octets: Vec<u8>,
@@ -96,10 +97,10 @@ pub enum RecordData {
 }
 
 impl RecordData {
-    /// The data that octets are, in wire form without compressed names (RFC 3597 section 4).
+    /// Parses RDATA in wire format, without compressed names (RFC 3597 section 4).
     ///
-    /// Octets that are no data of their type are refused; of types without a variant only those of
-    /// which there are more than 65,535.
+    /// Fails if the octets are not RDATA of the type, or, for a type without a variant, if there are
+    /// more than 65,535.
     pub fn from_octets(record_type: RecordType, octets: &[u8]) -> Result<RecordData, BadData> {
         if octets.len() > MOST {
             return Err(BadData);
@@ -107,7 +108,7 @@ impl RecordData {
         Fields::read(record_type, octets).ok_or(BadData)
     }
 
-    /// The data of octets that the library read.
+    /// Returns the RDATA of octets that the library returned.
     pub(crate) fn of_read(record_type: RecordType, octets: &[u8]) -> RecordData {
         RecordData::from_octets(record_type, octets).unwrap_or_else(|_| RecordData::Unknown {
             record_type,
@@ -115,20 +116,20 @@ impl RecordData {
         })
     }
 
-    /// The octets in wire form, of which [`from_octets`](RecordData::from_octets) makes equal data.
+    /// Returns the wire format, from which [`from_octets`](RecordData::from_octets) returns equal RDATA.
     ///
-    /// Values that are no data of their type are refused: relative names, no strings, another tag, a
-    /// digest of another length, no key, octets that are none of the type that they are said to be of,
-    /// and what is longer than 65,535 octets.
+    /// Fails for values that the type does not allow: relative names, an empty list of strings, a wrong
+    /// tag, a digest of another length, an empty key, other octets than the type has, and more than
+    /// 65,535 octets.
     pub fn to_octets(&self) -> Result<Vec<u8>, BadData> {
         let octets = compose(self);
         RecordData::from_octets(self.record_type(), &octets)?;
         Ok(octets)
     }
 
-    /// The octets in canonical form (RFC 4034 section 6.2, RFC 6840 section 5.1): those in wire form,
-    /// with names in lower case where the type wants that. Values that are no data of their type, and
-    /// those of types that have none in zones, such as OPT, stay as they are.
+    /// Returns the canonical form (RFC 4034 section 6.2, RFC 6840 section 5.1): the wire format, with
+    /// names in lower case if the type requires it. Values that the type does not allow, and types that
+    /// have no RDATA in zones, such as OPT, are unchanged.
     ///
     /// ```
     /// use dns_text::{RecordData, RecordType};
@@ -143,7 +144,7 @@ impl RecordData {
         text::canonical(self.record_type(), &octets).unwrap_or(octets)
     }
 
-    /// The type that the data are of.
+    /// Returns the type of the RDATA.
     pub fn record_type(&self) -> RecordType {
         match self {
             RecordData::A(_) => RecordType::A,
@@ -163,7 +164,7 @@ impl RecordData {
         }
     }
 
-    /// What distinguishes RDATA: type and octets.
+    /// Returns what distinguishes RDATA: type and octets.
     fn key(&self) -> (RecordType, Vec<u8>) {
         (self.record_type(), self.canonical_octets())
     }
@@ -195,7 +196,7 @@ impl Hash for RecordData {
     }
 }
 
-/// Octets or values are no data of their type.
+/// The error of octets or values that are not RDATA of their type.
 #[derive(Clone, Copy, Debug, PartialEq, Eq)]
 pub struct BadData;
 

@@ -1,4 +1,4 @@
-//! Times to live, types and classes of records: each a word of zone text.
+//! TTLs, types and classes of records, each of which is one word of a zone file.
 use crate::library;
 use crate::status::reasons;
 use crate::strings::reads_strings;
@@ -10,7 +10,7 @@ use std::error::Error;
 use std::fmt;
 use std::time::Duration;
 
-/// A time to live in seconds, below 2^31 (RFC 2181 section 8). It prints as the seconds.
+/// A TTL in seconds, below 2^31 (RFC 2181 section 8). It displays as the number of seconds.
 ///
 /// ```
 /// use dns_text::Ttl;
@@ -24,15 +24,15 @@ use std::time::Duration;
 pub struct Ttl(u32);
 
 impl Ttl {
-    /// The longest time to live.
+    /// The maximum TTL, 2^31 - 1 seconds.
     pub const MAX: Ttl = Ttl(0x7FFF_FFFF);
 
-    /// The TTL of a number of seconds, if that is below 2^31.
+    /// Returns the TTL of a number of seconds, if that is below 2^31.
     pub fn from_seconds(seconds: u32) -> Option<Ttl> {
         (seconds <= Ttl::MAX.0).then_some(Ttl(seconds))
     }
 
-    /// Reads a word: a number of seconds, or periods such as `1h30m` with the units `w`, `d`, `h`,
+    /// Parses a word: a number of seconds, or periods such as `1h30m` with the units `w`, `d`, `h`,
     /// `m` and `s` in either case.
     pub fn from_text(text: &[u8]) -> Result<Ttl, WordError> {
         read(dnstext_ttl_read, text).map(Ttl)
@@ -55,8 +55,8 @@ impl fmt::Display for Ttl {
     }
 }
 
-/// A type of records, by its code. It prints as its name in IANA's registry, or without one as
-/// `TYPE` and the code (RFC 3597 section 5).
+/// A record type, by its code. It displays as its name in IANA's registry, or without one as `TYPE`
+/// and the code (RFC 3597 section 5).
 ///
 /// ```
 /// use dns_text::RecordType;
@@ -88,7 +88,7 @@ impl RecordType {
     pub const DNSKEY: RecordType = RecordType(48);
     pub const CAA: RecordType = RecordType(257);
 
-    /// Reads a word: a name of the registry, or `TYPE` and the code, in any case of their letters.
+    /// Parses a word: a name of the registry, or `TYPE` and the code, in any case of the letters.
     pub fn from_text(text: &[u8]) -> Result<RecordType, WordError> {
         read(dnstext_type_read, text).map(RecordType)
     }
@@ -100,7 +100,7 @@ impl fmt::Display for RecordType {
     }
 }
 
-/// A class of records, by its code. It prints as `IN`, `CH` or `HS`, or else as `CLASS` and the code
+/// A class, by its code. It displays as `IN`, `CH` or `HS`, and otherwise as `CLASS` and the code
 /// (RFC 3597 section 5).
 ///
 /// ```
@@ -119,7 +119,7 @@ impl Class {
     pub const CH: Class = Class(3);
     pub const HS: Class = Class(4);
 
-    /// Reads a word: `IN`, `CH`, `HS`, or `CLASS` and the code, in any case of their letters.
+    /// Parses a word: `IN`, `CH`, `HS`, or `CLASS` and the code, in any case of the letters.
     pub fn from_text(text: &[u8]) -> Result<Class, WordError> {
         read(dnstext_class_read, text).map(Class)
     }
@@ -137,7 +137,7 @@ reads_strings! {
     Class: WordError,
 }
 
-/// Reads a word as a number.
+/// Parses a word to a number.
 fn read<N: Default>(
     call: unsafe extern "C" fn(*const u8, usize, *mut N, *mut dnstext_outcome) -> u32,
     text: &[u8],
@@ -145,7 +145,7 @@ fn read<N: Default>(
     library::check();
     let mut number = N::default();
     let mut outcome = dnstext_outcome::default();
-    // SAFETY: the text is as long as is said, and the call keeps to it.
+    // SAFETY: the pointer and the length are those of the text, and the call stays within it.
     let status = unsafe { call(text.as_ptr(), text.len(), &mut number, &mut outcome) };
     if status != DNSTEXT_OK {
         return Err(WordError {
@@ -156,7 +156,7 @@ fn read<N: Default>(
     Ok(number)
 }
 
-/// Writes the text of a code, which has at most 10 characters.
+/// Writes the text of a code, at most 10 characters.
 fn print(
     call: unsafe extern "C" fn(u16, *mut u8, usize, *mut dnstext_outcome) -> u32,
     code: u16,
@@ -165,7 +165,7 @@ fn print(
     library::check();
     let mut text = [0; 10];
     let mut outcome = dnstext_outcome::default();
-    // SAFETY: the text is as long as is said, and the call keeps to it.
+    // SAFETY: the pointer and the length are those of the text, and the call stays within it.
     let status = unsafe { call(code, text.as_mut_ptr(), text.len(), &mut outcome) };
     if status != DNSTEXT_OK {
         return Err(fmt::Error);
@@ -173,22 +173,22 @@ fn print(
     f.pad(&String::from_utf8_lossy(&text[..outcome.length]))
 }
 
-/// Why a word is not a TTL, type or class, and where.
+/// The error of a word that is not a TTL, type or class.
 #[derive(Clone, Copy, Debug, PartialEq, Eq)]
 pub struct WordError {
     pub kind: WordErrorKind,
-    /// The octets before what is refused: none, as the whole word is.
+    /// Offset of the error: 0, since the whole word is rejected.
     pub place: usize,
 }
 
 reasons! {
     /// Why a word is not a TTL, type or class.
     WordErrorKind {
-        /// No time to live.
+        /// Not a TTL.
         BadTtl = DNSTEXT_BAD_TTL,
-        /// No type of records.
+        /// Not a record type.
         UnknownType = DNSTEXT_UNKNOWN_TYPE,
-        /// No class.
+        /// Not a class.
         UnknownClass = DNSTEXT_UNKNOWN_CLASS,
     }
 }

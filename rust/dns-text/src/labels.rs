@@ -3,21 +3,21 @@ use crate::lowered::Lowered;
 use crate::{Name, NameOctetsError};
 use std::iter::FusedIterator;
 
-/// The most labels of a name: each of 127 has an octet and its length, and the root is one more.
+/// Maximum number of labels of a name: 127 labels of one octet and their lengths, and the root.
 const MOST: usize = 127;
 
-/// The labels of a name; see [`Name::labels`].
+/// An iterator over the labels of a name; see [`Name::labels`].
 #[derive(Clone, Debug)]
 pub struct Labels<'n> {
     octets: &'n [u8],
-    /// Where the labels begin, of which those from `next` to before `end` are left.
+    /// Offsets of the labels. Those from `next` to before `end` remain.
     starts: [u8; MOST],
     next: usize,
     end: usize,
 }
 
 impl<'n> Labels<'n> {
-    /// The labels of a name's octets.
+    /// Returns the labels of a name's octets.
     pub(crate) fn of(octets: &'n [u8]) -> Labels<'n> {
         let mut starts = [0; MOST];
         let mut end = 0;
@@ -41,13 +41,13 @@ impl<'n> Labels<'n> {
         &self.octets[start + 1..][..length]
     }
 
-    /// Where the labels begin that are left.
+    /// Returns the offsets of the remaining labels.
     fn starts(&self) -> &[u8] {
         &self.starts[self.next..self.end]
     }
 }
 
-/// The length of the label at a place, if one begins there that is not the root.
+/// Returns the length of the label at an offset, if one begins there and is not the root.
 fn length_at(octets: &[u8], place: u8) -> Option<u8> {
     octets
         .get(usize::from(place))
@@ -87,18 +87,18 @@ impl ExactSizeIterator for Labels<'_> {}
 impl FusedIterator for Labels<'_> {}
 
 impl Name {
-    /// The root: the absolute name of no labels.
+    /// Returns the root: the absolute name without labels.
     pub fn root() -> Name {
         Name::of_valid(vec![0])
     }
 
-    /// Whether it is the root.
+    /// Returns whether the name is the root.
     pub fn is_root(&self) -> bool {
         self.as_octets() == [0]
     }
 
-    /// The octets of its labels from the first to the last, without the root: from both ends, and
-    /// with their number.
+    /// Returns an iterator over the octets of the labels, without the root, from both ends and with
+    /// their number.
     ///
     /// ```
     /// use dns_text::Name;
@@ -114,7 +114,7 @@ impl Name {
         Labels::of(self.as_octets())
     }
 
-    /// The name without its first label; none of a name without labels.
+    /// Returns the name without its first label, or `None` if it has no labels.
     ///
     /// ```
     /// use dns_text::Name;
@@ -129,8 +129,8 @@ impl Name {
         Some(Name::of_valid(self.as_octets()[first.len() + 1..].to_vec()))
     }
 
-    /// Whether its first labels are those of another name. It starts with an absolute name only where
-    /// it is that name.
+    /// Returns whether the first labels are those of another name. A name starts with an absolute name
+    /// only if it is that name.
     ///
     /// ```
     /// use dns_text::Name;
@@ -145,8 +145,8 @@ impl Name {
         octets.is_some_and(|octets| Lowered(octets) == Lowered(start.as_octets()))
     }
 
-    /// Whether its last labels are those of another name, and it is absolute if that is; so whether
-    /// an absolute name is at or below another.
+    /// Returns whether the last labels are those of another name, where the root counts as a label: for
+    /// absolute names, whether the name is at or below the other.
     ///
     /// ```
     /// use dns_text::Name;
@@ -166,7 +166,7 @@ impl Name {
         self.has_border(place) && Lowered(&octets[place..]) == Lowered(end)
     }
 
-    /// Whether a label or the root begins at a place, or the octets end there.
+    /// Returns whether a label or the root begins at an offset, or the octets end there.
     fn has_border(&self, place: usize) -> bool {
         let length = self.as_octets().len();
         let last = length - usize::from(self.is_absolute());
@@ -179,10 +179,10 @@ impl Name {
                 .any(|start| usize::from(*start) == place)
     }
 
-    /// A relative name completed by an origin; an absolute one as it is.
+    /// Returns a relative name with an origin appended; an absolute one unchanged.
     ///
-    /// What has more than 255 octets is refused, or more than 254 and no root, as
-    /// [`NameOctetsError::TooLong`].
+    /// Fails with [`NameOctetsError::TooLong`] if the result has more than 255 octets, or, as a relative
+    /// name, more than 254.
     ///
     /// ```
     /// use dns_text::Name;
@@ -200,7 +200,7 @@ impl Name {
         Name::from_octets([self.as_octets(), origin.as_octets()].concat())
     }
 
-    /// The name with its ASCII letters in lower case, which is its canonical form (RFC 4034
+    /// Returns the name with its ASCII letters in lower case, which is its canonical form (RFC 4034
     /// section 6.2).
     pub fn to_lowercase(&self) -> Name {
         Name::of_valid(self.as_octets().to_ascii_lowercase())

@@ -1,4 +1,5 @@
-//! The text layer of DNS (RFC 1035 section 5.1, RFC 4648): safe types over a proved library.
+//! Parses and prints DNS presentation format (RFC 1035 section 5.1, RFC 4648): safe types over a proved
+//! library.
 //!
 //! ```
 //! use dns_text::{tokens, CharStr};
@@ -13,23 +14,23 @@
 //! # Ok::<(), Box<dyn std::error::Error>>(())
 //! ```
 //!
-//! # Which reader of zone text
+//! # Which reader of zone files
 //!
-//! | You want | Take | Memory |
+//! | To read | Use | Memory |
 //! |---|---|---|
-//! | records: owner, time to live, class and data, by the entries before them | [`records`] | the data |
+//! | records: owner, TTL, class, type and RDATA | [`records`] | the RDATA |
 //! | the tokens of each entry, and whether it began with a blank | [`entries`] | a list for each entry |
-//! | words, whatever entry they are of | [`tokens`] | a list for the longest entry |
-//! | comments too, where entries end, or no memory at all | [`pieces`] | none |
-//! | records of a file or a stream | [`read_records`] | a block, the longest entry twice, the data |
+//! | tokens, without their entries | [`tokens`] | a list for the longest entry |
+//! | also comments and ends of entries, or without memory | [`pieces`] | none |
+//! | records of a file or a stream | [`read_records`] | a chunk, the longest entry twice, the RDATA |
 //! | entries of a file or a stream | [`read_entries`] | the same, and each entry |
 //!
-//! [`tokens`], [`entries`] and [`pieces`] go up to the first fault, and return what comes before it. The
-//! others continue after its line. A fault has a place, of which [`Fault::locate`] and
-//! [`RecordFault::locate`] tell the line and the column, and [`Positions`] those of many faults; those
-//! of a stream say them.
+//! [`tokens`], [`entries`] and [`pieces`] return what comes before the first syntax error, and then the
+//! error. The others continue after its line. An error has an offset (`place`). [`Fault::locate`] and
+//! [`RecordFault::locate`] return its line and column, and [`Positions`] those of many errors. An error
+//! of a stream has line and column.
 //!
-//! Records of a file, and what is wrong in it:
+//! The records and the errors of a file:
 //!
 //! ```
 //! use dns_text::{read_records, RecordData, ZoneItem};
@@ -51,7 +52,7 @@
 //! assert_eq!(wrong, ["3:13: AAAA address: expected IPv6 address"]);
 //! ```
 //!
-//! An entry that begins with a blank takes the owner of the one before:
+//! An entry that begins with a blank has the owner of the one before:
 //!
 //! ```
 //! use dns_text::{entries, Ttl};
@@ -90,11 +91,11 @@
 //! # Ok::<(), dns_text::Fault>(())
 //! ```
 //!
-//! # Names and data
+//! # Names and RDATA
 //!
-//! [`Name`] compares, orders and hashes without the case of ASCII letters, in canonical order, and
-//! [`CharStr`] with it. [`RecordData`] has the common types by their fields, reads them from wire octets,
-//! and compares them in canonical form:
+//! [`Name`] compares, sorts and hashes without regard to the case of ASCII letters, in canonical order.
+//! [`CharStr`] compares exactly. [`RecordData`] has the fields of common types, parses their wire format,
+//! and compares in canonical form:
 //!
 //! ```
 //! use dns_text::{Name, RecordData, RecordType};
@@ -109,8 +110,8 @@
 //!
 //! # The library
 //!
-//! It is linked as a static library, `libdnstext.a`, of the crate's major and minor version: the first
-//! call panics where [`version`] has others. The crate can be checked and documented without it.
+//! The crate links a static library, `libdnstext.a`, of the same major and minor version. The first call
+//! panics if [`version`] has others. Without the library, `cargo check` and `cargo doc` work.
 
 mod call;
 mod char_str;

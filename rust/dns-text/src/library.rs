@@ -1,17 +1,17 @@
-//! The library that is linked.
+//! The linked library and its version.
 use crate::status::string;
 use dns_text_sys::{dnstext_version, DNSTEXT_VERSION};
 use std::sync::Once;
 
 static CHECKED: Once = Once::new();
 
-/// The version of the library that is linked.
+/// Returns the version of the linked library.
 pub fn version() -> &'static str {
-    // SAFETY: the string has an end mark, and lives as long as the program.
+    // SAFETY: the string has a terminator, and lives as long as the program.
     unsafe { string(dnstext_version()) }
 }
 
-/// Whether a library of one version has the structs and calls of another: a patch release changes none.
+/// Returns whether two versions have the same structs and calls: a patch release changes none.
 fn serves(found: &str, wanted: &str) -> bool {
     let mut numbers = found.split('.').zip(wanted.split('.'));
     let mut same = || {
@@ -22,8 +22,8 @@ fn serves(found: &str, wanted: &str) -> bool {
     same() && same()
 }
 
-/// Sees once that the library is of this crate's major and minor version: another one may have other
-/// structs.
+/// Panics if the library has another major or minor version than this crate, and so perhaps other
+/// structs. Checks this once.
 pub(crate) fn check() {
     CHECKED.call_once(|| {
         let found = version();

@@ -1,9 +1,8 @@
-//! Octets without the case of ASCII letters.
+//! Octets that compare without regard to the case of ASCII letters.
 use std::cmp::Ordering;
 use std::hash::{Hash, Hasher};
 
-/// Octets, compared and hashed as their lower case: the first that differs decides, and the beginning
-/// of others is less than they are.
+/// Octets, compared and hashed in lower case. The first difference decides, and a prefix is less.
 #[derive(Clone, Copy)]
 pub(crate) struct Lowered<'o>(pub(crate) &'o [u8]);
 

@@ -1,4 +1,4 @@
-//! Names.
+//! Domain names.
 use crate::call::{give, print};
 use crate::labels::Labels;
 use crate::library;
@@ -14,16 +14,16 @@ use std::error::Error;
 use std::fmt;
 use std::hash::{Hash, Hasher};
 
-/// A name, absolute or relative: at most 255 octets in wire form (RFC 1035 section 3.1).
+/// A name, absolute or relative: at most 255 octets in wire format (RFC 1035 section 3.1).
 ///
-/// It prints as zone files have it: as one word, which reads as that name.
+/// It displays as one word of a zone file, which is parsed back to that name;
 /// [`zone_text`](Name::zone_text) has the rule. [`dotted`](Name::dotted) and
-/// [`without_dot`](Name::without_dot) print it as `domain` does.
+/// [`without_dot`](Name::without_dot) return the forms of the crate `domain`.
 ///
-/// Equality, order and hash leave the case of ASCII letters aside (RFC 1035 section 2.3.3). A
-/// relative name never equals an absolute one. If case matters, compare the octets. The order of
-/// absolute names is the canonical one (RFC 4034 section 6.1): by their labels from the last to the
-/// first, of which the one that ends is less. Relative names follow, in the same order.
+/// Equality, order and hash ignore the case of ASCII letters (RFC 1035 section 2.3.3). A relative name
+/// never equals an absolute one. If case matters, compare the octets. The order of absolute names is
+/// the canonical one (RFC 4034 section 6.1): by labels from the last to the first, where a missing
+/// label is less. Relative names follow, in the same order.
 ///
 /// ```
 /// use dns_text::Name;
@@ -46,8 +46,8 @@ pub struct Name {
 }
 
 impl Name {
-    /// Reads a name's text: the labels between plain dots. A dot at the end makes it absolute. No
-    /// text is the relative name of no labels.
+    /// Parses a name: labels separated by plain dots. A dot at the end makes it absolute. The empty text
+    /// is the relative name without labels.
     ///
     /// ```
     /// use dns_text::{Name, NameErrorKind};
@@ -60,7 +60,7 @@ impl Name {
         let mut octets = [0; 255];
         let mut is_absolute = false;
         let mut outcome = dnstext_outcome::default();
-        // SAFETY: both slices are as long as is said, and the call keeps to them.
+        // SAFETY: the pointers and lengths are those of two slices, and the call stays within them.
         let status = unsafe {
             dnstext_name_read(
                 text.as_ptr(),
@@ -83,7 +83,7 @@ impl Name {
         })
     }
 
-    /// The name of these octets. None are the relative name of no labels.
+    /// Returns the name with this wire format. No octets are the relative name without labels.
     ///
     /// ```
     /// use dns_text::{Name, NameOctetsError};
@@ -103,7 +103,7 @@ impl Name {
         }
     }
 
-    /// The name of octets that are one's.
+    /// Returns the name of octets that are known to be a name.
     pub(crate) fn of_valid(octets: Vec<u8>) -> Name {
         let is_absolute = ends_in_root(&octets);
         Name {
@@ -112,39 +112,37 @@ impl Name {
         }
     }
 
-    /// Whether it ends in the root.
+    /// Returns whether the name is absolute: whether it ends in the root.
     pub fn is_absolute(&self) -> bool {
         self.is_absolute
     }
 
-    /// The wire octets.
+    /// Returns the wire format.
     pub fn as_octets(&self) -> &[u8] {
         &self.octets
     }
 
-    /// The wire octets.
+    /// Returns the wire format.
     pub fn into_octets(self) -> Vec<u8> {
         self.octets
     }
 
-    /// The labels joined by dots, with a dot at the end of an absolute name, as `domain` prints it.
-    /// Labels escape the space, the dot and the backslash, and what is not printable ASCII by its
-    /// decimal value. So this is not a word of a zone file if a label has a parenthesis, a semicolon or a
-    /// quote.
+    /// Returns the labels joined by dots, with a dot at the end of an absolute name, as `domain` prints
+    /// it. Space, dot and backslash have simple escapes, and octets outside printable ASCII decimal ones.
+    /// So this is not a word of a zone file if a label has a parenthesis, a semicolon or a quote.
     pub fn dotted(&self) -> String {
         self.printed(dnstext_name_print_dotted)
     }
 
-    /// The same without a dot at the end. The root alone is one dot.
+    /// Returns [`dotted`](Name::dotted) without the dot at the end. The root alone is one dot.
     pub fn without_dot(&self) -> String {
         self.printed(dnstext_name_print)
     }
 
-    /// The name as zone files have it, with a dot at the end of an absolute name. A backslash
+    /// Returns the name as in zone files, with a dot at the end of an absolute name. A backslash
     /// precedes `"`, `$`, `(`, `)`, `.`, `;`, `@` and the backslash. Other octets from 0x21 to 0x7E are
-    /// plain, and the rest are printed by their decimal value. So a name of one label or more is one
-    /// word, which reads as that name. The relative name of no labels prints nothing, which is no
-    /// word.
+    /// plain, and all others have decimal escapes. So a name with a label, or the root, is one word, which
+    /// is parsed back to that name. The relative name without labels is the empty text.
     ///
     /// ```
     /// use dns_text::Name;
@@ -162,8 +160,8 @@ impl Name {
     }
 }
 
-/// Whether octets are a name's: labels of 1 to 63 octets, the root at the end or not at all, and at most
-/// 255 with the root, which a relative name leaves out.
+/// Returns whether octets are a name: labels of 1 to 63 octets, with or without the root at the end, and
+/// at most 255 octets with the root.
 fn is_name(octets: &[u8]) -> bool {
     let mut rest = octets;
     while let Some((length, after)) = rest.split_first() {
@@ -181,7 +179,7 @@ fn is_name(octets: &[u8]) -> bool {
     octets.len() <= 254
 }
 
-/// Whether the labels of a name's octets end in the root.
+/// Returns whether the labels of a name's octets end in the root.
 fn ends_in_root(octets: &[u8]) -> bool {
     let mut rest = octets;
     while let Some((length, after)) = rest.split_first() {
@@ -239,35 +237,35 @@ impl fmt::Display for Name {
     }
 }
 
-/// Its text, as it prints.
+/// Shows the name as in zone files.
 impl fmt::Debug for Name {
     fn fmt(&self, f: &mut fmt::Formatter<'_>) -> fmt::Result {
         write!(f, "Name({self})")
     }
 }
 
-/// Why a text is not a name, and where.
+/// The error of a text that is not a name, with its offset.
 #[derive(Clone, Copy, Debug, PartialEq, Eq)]
 pub struct NameError {
     pub kind: NameErrorKind,
-    /// The octets before what is refused.
+    /// Offset of the rejected symbol.
     pub place: usize,
 }
 
 reasons! {
     /// Why a text is not a name.
     NameErrorKind {
-        /// A backslash with what makes no escape.
+        /// A backslash that begins no escape.
         BadEscape = DNSTEXT_BAD_ESCAPE,
-        /// The end inside an escape or a character.
+        /// The text ends inside an escape or a character.
         ShortInput = DNSTEXT_SHORT_INPUT,
-        /// No UTF-8.
+        /// Octets that are not UTF-8.
         BadUtf8 = DNSTEXT_BAD_UTF8,
         /// A plain character outside printable ASCII, which has no octet.
         BadSymbol = DNSTEXT_BAD_SYMBOL,
         /// More than 254 octets before the root.
         TooLong = DNSTEXT_TOO_LONG,
-        /// A plain dot after no octet of a label.
+        /// A plain dot after an empty label.
         EmptyLabel = DNSTEXT_EMPTY_LABEL,
         /// More than 63 octets in a label.
         LongLabel = DNSTEXT_LONG_LABEL,
@@ -285,15 +283,15 @@ impl fmt::Display for NameError {
 impl Error for NameError {}
 
 reasons! {
-    /// Why octets are no name.
+    /// Why octets are not a name.
     NameOctetsError {
-        /// They end within a label.
+        /// The octets end inside a label.
         ShortInput = DNSTEXT_SHORT_INPUT,
-        /// More than 255 octets, or 255 and no root.
+        /// More than 255 octets, or 255 without the root.
         TooLong = DNSTEXT_TOO_LONG,
-        /// A lead octet of no known type of label.
+        /// A first octet of an unknown label type.
         BadLabel = DNSTEXT_BAD_LABEL,
-        /// A pointer to another name in place of a label.
+        /// A compression pointer in place of a label.
         Pointer = DNSTEXT_POINTER,
         /// Octets after the root.
         TrailingOctets = DNSTEXT_TRAILING_OCTETS,

@@ -5,7 +5,7 @@ use dns_text_sys::{dnstext_number_read, dnstext_outcome, DNSTEXT_OK};
 use std::error::Error;
 use std::fmt;
 
-/// Reads a token as an unsigned decimal number of at most `greatest`. No text is 0.
+/// Parses a token as an unsigned decimal number of at most `greatest`. The empty text is 0.
 ///
 /// ```
 /// use dns_text::{number, NumberErrorKind};
@@ -19,7 +19,7 @@ pub fn number(text: &[u8], greatest: u64) -> Result<u64, NumberError> {
     library::check();
     let mut number = 0;
     let mut outcome = dnstext_outcome::default();
-    // SAFETY: the text is as long as is said, and the call keeps to it.
+    // SAFETY: the pointer and the length are those of the text, and the call stays within it.
     let status = unsafe {
         dnstext_number_read(
             text.as_ptr(),
@@ -38,11 +38,11 @@ pub fn number(text: &[u8], greatest: u64) -> Result<u64, NumberError> {
     Ok(number)
 }
 
-/// Why a token is not a number, and where.
+/// The error of a token that is not a number, with its offset.
 #[derive(Clone, Copy, Debug, PartialEq, Eq)]
 pub struct NumberError {
     pub kind: NumberErrorKind,
-    /// The octets before what is refused.
+    /// Offset of the rejected symbol.
     pub place: usize,
 }
 
@@ -51,13 +51,13 @@ reasons! {
     NumberErrorKind {
         /// A symbol other than a plain decimal digit.
         NoDigit = DNSTEXT_NO_DIGIT,
-        /// A number greater than the greatest one asked for.
+        /// A number above the maximum.
         TooGreat = DNSTEXT_TOO_GREAT,
-        /// A backslash with what makes no escape.
+        /// A backslash that begins no escape.
         BadEscape = DNSTEXT_BAD_ESCAPE,
-        /// The end inside an escape or a character.
+        /// The text ends inside an escape or a character.
         ShortInput = DNSTEXT_SHORT_INPUT,
-        /// No UTF-8.
+        /// Octets that are not UTF-8.
         BadUtf8 = DNSTEXT_BAD_UTF8,
     }
 }

@@ -1,4 +1,4 @@
-//! Zone text, piece by piece and with no memory.
+//! The pieces of a zone file, without allocation: words, quoted strings, comments and ends of entries.
 use crate::library;
 use crate::zone::{Fault, FaultKind};
 use dns_text_sys::{
@@ -9,15 +9,15 @@ use dns_text_sys::{
 use std::iter::FusedIterator;
 use std::ptr;
 
-/// What a piece of zone text is.
+/// The kind of a piece.
 #[derive(Clone, Copy, Debug, PartialEq, Eq)]
 pub enum PieceKind {
     Word,
-    /// A quoted text with its double quotes.
+    /// A quoted string with its double quotes.
     Quoted,
-    /// A comment with its semicolon, without the line's end.
+    /// A comment with its semicolon, without the line end.
     Comment,
-    /// The end of an entry: no octets, where the next entry begins.
+    /// The end of an entry: no octets, at the offset of the next entry.
     EntryEnd,
 }
 
@@ -33,21 +33,20 @@ impl PieceKind {
     }
 }
 
-/// A piece of zone text.
+/// A piece of a zone file.
 #[derive(Clone, Copy, Debug, PartialEq, Eq)]
 pub struct Piece<'t> {
     pub kind: PieceKind,
-    /// Where it begins in the text.
+    /// Offset of its first octet.
     pub start: usize,
-    /// The piece as it is spelled.
+    /// The octets of the piece, as in the text.
     pub text: &'t [u8],
-    /// Whether its entry begins with a blank: such a record takes the owner of the one before.
+    /// Whether its entry begins with a blank: such a record has the owner of the one before.
     pub begins_blank: bool,
 }
 
-/// The pieces of a zone text, in order, up to a fault: words, quoted texts, comments and ends of
-/// entries, of which the last piece is one. None is copied, and no memory is taken, however long
-/// an entry is.
+/// Returns the pieces of a zone file in order, up to a syntax error: words, quoted strings, comments and
+/// ends of entries. The last piece is an end. Nothing is copied or allocated, however long an entry is.
 ///
 /// An octet of 0x80 or more counts as a character of its own.
 ///
@@ -74,9 +73,9 @@ pub fn pieces(text: &[u8]) -> Pieces<'_> {
     }
 }
 
-/// The pieces of a zone text; see [`pieces`].
+/// An iterator over the pieces of a zone file; see [`pieces`].
 ///
-/// It holds the text and four numbers, so that a copy goes back to where it was made.
+/// It has the text and four numbers. A copy continues from where it was made.
 #[derive(Clone, Debug)]
 pub struct Pieces<'t> {
     text: &'t [u8],
@@ -84,7 +83,7 @@ pub struct Pieces<'t> {
 }
 
 impl<'t> Pieces<'t> {
-    /// The piece; a kind that isn't known is a fault of an unknown status.
+    /// Returns the piece. An unknown kind is an error of an unknown status.
     fn piece(&self, piece: dnstext_piece) -> Result<Piece<'t>, Fault> {
         let Some(kind) = PieceKind::of(piece.kind) else {
             return Err(Fault {
@@ -101,7 +100,7 @@ impl<'t> Pieces<'t> {
         })
     }
 
-    /// Where what is not closed was opened, in the entry that is open.
+    /// Returns the offset of the unclosed opener in the open entry.
     fn opened(&self) -> usize {
         let mut cursor = dnstext_cursor {
             at: self.standing.began,
@@ -129,7 +128,7 @@ impl<'t> Iterator for Pieces<'t> {
     fn next(&mut self) -> Option<Result<Piece<'t>, Fault>> {
         let mut piece = dnstext_piece::default();
         let mut outcome = dnstext_outcome::default();
-        // SAFETY: the text is as long as is said, and the call keeps to it.
+        // SAFETY: the pointer and the length are those of the text, and the call stays within it.
         let status = unsafe {
             dnstext_tokens_next(
                 self.text.as_ptr(),

@@ -3,17 +3,17 @@ use crate::library;
 use dns_text_sys::{dnstext_position, dnstext_position_move, DNSTEXT_OK};
 use std::fmt;
 
-/// A place as people and editors count it. It prints as `line:column`.
+/// A position in a text. It displays as `line:column`.
 #[derive(Clone, Copy, Debug, PartialEq, Eq, PartialOrd, Ord, Hash)]
 pub struct Position {
-    /// The line, from 1. Each LF ends one.
+    /// The line, which starts at 1. Each LF ends a line.
     pub line: usize,
-    /// The octet of the line, from 1.
+    /// The octet in the line, which starts at 1.
     pub column: usize,
 }
 
-/// The line and the column of a place in a text, which may be the text's length; none past it. The
-/// time is linear in the place: for many places of a text take [`Positions`].
+/// Returns line and column of an offset of a text, or `None` past its end. The offset can be the text's
+/// length. The time is linear in the offset: for many offsets of a text use [`Positions`].
 ///
 /// ```
 /// use dns_text::position;
@@ -24,16 +24,16 @@ pub struct Position {
 pub fn position(text: &[u8], place: usize) -> Option<Position> {
     library::check();
     let (mut line, mut column) = (0, 0);
-    // SAFETY: the text is as long as is said, and the call keeps to it.
+    // SAFETY: the pointer and the length are those of the text, and the call stays within it.
     let status =
         unsafe { dnstext_position(text.as_ptr(), text.len(), place, &mut line, &mut column) };
     (status == DNSTEXT_OK).then_some(Position { line, column })
 }
 
-/// Finds the lines and columns of places in one text, each from the one before.
+/// Finds lines and columns of offsets in one text, each from the one before.
 ///
-/// The time is linear in the octets between; or, of a place before the last one, in the place. So
-/// places in order take the time of the text, however many they are.
+/// The time is linear in the octets between them, or, for an offset before the last one, in the offset.
+/// So offsets in order cost one pass over the text, however many they are.
 ///
 /// ```
 /// use dns_text::{records, Positions};
@@ -55,7 +55,7 @@ pub struct Positions<'t> {
 }
 
 impl<'t> Positions<'t> {
-    /// Of a text, from its start.
+    /// Returns the positions of a text, from its start.
     pub fn new(text: &'t [u8]) -> Positions<'t> {
         library::check();
         Positions {
@@ -64,9 +64,10 @@ impl<'t> Positions<'t> {
         }
     }
 
-    /// The line and the column of a place, which may be the text's length; none past it.
+    /// Returns line and column of an offset, or `None` past the text's end. The offset can be the text's
+    /// length.
     pub fn find(&mut self, place: usize) -> Option<Position> {
-        // SAFETY: the text is as long as is said, and the call keeps to it.
+        // SAFETY: the pointer and the length are those of the text, and the call stays within it.
         let status = unsafe {
             dnstext_position_move(self.text.as_ptr(), self.text.len(), &mut self.last, place)
         };

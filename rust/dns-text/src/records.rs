@@ -14,12 +14,12 @@ use std::iter::FusedIterator;
 /// A record of a zone file.
 #[derive(Clone, Debug, PartialEq, Eq)]
 pub struct Record {
-    /// Where its first token begins in the text.
+    /// Offset of its first token.
     pub place: usize,
     pub owner: Name,
-    /// Its own time to live; else the default, by `$TTL`; else the last that a record said; else, of an
-    /// SOA, its minimum (RFC 1035 section 5.1, RFC 2308 section 4). What is 2^31 seconds or more in the
-    /// text is 0 (RFC 2181 section 8).
+    /// Its own TTL; or else that of `$TTL`; or else the last one of a record; or else, for an SOA, its
+    /// minimum (RFC 1035 section 5.1, RFC 2308 section 4). A TTL of 2^31 seconds or more in the text is 0
+    /// (RFC 2181 section 8).
     pub ttl: Ttl,
     pub class: Class,
     pub data: RecordData,
@@ -36,8 +36,8 @@ impl Record {
 #[non_exhaustive]
 pub enum ZoneItem {
     Record(Record),
-    /// `$INCLUDE`: a file that is not read here, as it is named in the text, and the origin that is said
-    /// for it.
+    /// `$INCLUDE`: the name of a file as in the text, and its origin, if there is one. The caller reads
+    /// the file.
     Include {
         file: Vec<u8>,
         origin: Option<Name>,
@@ -45,7 +45,7 @@ pub enum ZoneItem {
 }
 
 impl ZoneItem {
-    /// The item of a text that begins at the offset `before`.
+    /// Returns the item with the offsets of a text that begins at the offset `before`.
     pub(crate) fn behind(self, before: usize) -> ZoneItem {
         match self {
             ZoneItem::Record(record) => ZoneItem::Record(Record {
@@ -57,26 +57,24 @@ impl ZoneItem {
     }
 }
 
-/// Why an entry of a zone file gives no record, and where.
+/// The error of an entry of a zone file, with its offset.
 #[derive(Clone, Debug, PartialEq, Eq)]
 pub struct RecordFault {
     pub kind: RecordFaultKind,
-    /// The octets before the token that is refused, or before the fault of the text.
+    /// Offset of the rejected token, or of the syntax error.
     pub place: usize,
-    /// Why an entry is refused, as in `MX preference: decimal number overflow`; of a fault of the text
-    /// nothing.
+    /// Why an entry is rejected, as in `MX preference: decimal number overflow`. Empty for a syntax error.
     pub reason: String,
 }
 
 impl RecordFault {
-    /// The line and the column of its place in the text that it was found in; none where the text
-    /// is shorter. The time is linear in the place: for all faults of a text take
-    /// [`Records::locate`] or [`Positions`].
+    /// Returns line and column of the error in its text, or `None` if the text is shorter. The time is
+    /// linear in the offset: for all errors of a text use [`Records::locate`] or [`Positions`].
     pub fn locate(&self, text: &[u8]) -> Option<Position> {
         position(text, self.place)
     }
 
-    /// What it says in a few words, without the place: the reason, if there is one.
+    /// Returns the message, without the offset: the reason, if there is one.
     pub fn message(&self) -> &str {
         if self.reason.is_empty() {
             return self.kind.status().message();
@@ -84,7 +82,7 @@ impl RecordFault {
         &self.reason
     }
 
-    /// The fault in a text that begins at the offset `before`.
+    /// Returns the error with the offset of a text that begins at the offset `before`.
     pub(crate) fn behind(self, before: usize) -> RecordFault {
         RecordFault {
             place: before + self.place,
@@ -92,7 +90,7 @@ impl RecordFault {
         }
     }
 
-    /// Whether the text goes wrong, and not what an entry says.
+    /// Returns whether this is a syntax error, and not a rejected entry.
     pub(crate) fn is_of_text(&self) -> bool {
         matches!(
             self.kind,
@@ -104,40 +102,40 @@ impl RecordFault {
         )
     }
 
-    /// Whether the library refused for a reason that is not known, and stays where it was.
+    /// Returns whether the status is unknown; the library then did not advance.
     pub(crate) fn is_unknown(&self) -> bool {
         matches!(self.kind, RecordFaultKind::Unknown(_))
     }
 }
 
 reasons! {
-    /// Why an entry of a zone file gives no record.
+    /// Why an entry of a zone file is rejected.
     RecordFaultKind {
-        /// A backslash with what makes no escape.
+        /// A backslash that begins no escape.
         BadEscape = DNSTEXT_BAD_ESCAPE,
-        /// A closing parenthesis, and none is open.
+        /// A closing parenthesis without an open one.
         Closing = DNSTEXT_CLOSING,
         /// The text ends inside parentheses.
         OpenParenthesis = DNSTEXT_OPEN_PARENTHESIS,
-        /// The text or a line ends inside a quoted text.
+        /// The text or a line ends inside a quoted string.
         OpenQuote = DNSTEXT_OPEN_QUOTE,
         /// A CR without its LF.
         LoneReturn = DNSTEXT_LONE_RETURN,
-        /// A directive, or the header of a record: owner, TTL, class, type.
+        /// A wrong directive, or a wrong header of a record: owner, TTL, class, type.
         BadHead = DNSTEXT_BAD_HEAD,
-        /// `$GENERATE`, which another tool has to expand first.
+        /// `$GENERATE`, which another tool must expand first.
         NotSupported = DNSTEXT_NOT_SUPPORTED,
-        /// A token that is not the name of an owner or an origin.
+        /// A token that is not a name, as owner or origin.
         BadName = DNSTEXT_BAD_NAME,
         /// A relative name without an origin, also in RDATA.
         NoOrigin = DNSTEXT_NO_ORIGIN,
-        /// A record that begins with a blank, and no owner was said.
+        /// A record that begins with a blank, without an owner before it.
         NoOwner = DNSTEXT_NO_OWNER,
-        /// The same, and what was said as the owner is refused.
+        /// A record that begins with a blank, after a rejected owner.
         RefusedOwner = DNSTEXT_REFUSED_OWNER,
-        /// Tokens that are no data of their type.
+        /// Tokens that are not RDATA of their type.
         BadData = DNSTEXT_BAD_DATA,
-        /// A record without a time to live, and none is known.
+        /// A record without a TTL, and none that it could inherit.
         NoTtl = DNSTEXT_NO_TTL,
         /// An origin that is a relative name.
         RelativeOrigin = DNSTEXT_RELATIVE_NAME,
@@ -152,7 +150,7 @@ impl fmt::Display for RecordFault {
 
 impl Error for RecordFault {}
 
-/// A relative name, where an origin is wanted: an absolute name.
+/// The error of a relative name as origin: an origin is absolute.
 #[derive(Clone, Copy, Debug, PartialEq, Eq)]
 pub struct RelativeOrigin;
 
@@ -164,11 +162,11 @@ impl fmt::Display for RelativeOrigin {
 
 impl Error for RelativeOrigin {}
 
-/// The records of a zone file, in order. `$ORIGIN` and `$TTL` are taken on the way. After a refusal
-/// reading continues: at the next entry, or after the line of a fault of the text.
+/// Returns the records of a zone file in order. `$ORIGIN` and `$TTL` are applied. After a rejected entry,
+/// reading continues at the next entry; after a syntax error, at the next line.
 ///
-/// Without an origin relative names are refused; see [`Records::with_origin`]. The class is IN where
-/// none is said.
+/// Without an origin, relative names are rejected; see [`Records::with_origin`]. The class of records
+/// without one is IN.
 ///
 /// ```
 /// use dns_text::{records, Name, RecordData, ZoneItem};
@@ -196,7 +194,7 @@ pub fn records(text: &[u8]) -> Records<'_> {
     }
 }
 
-/// The records of a zone file; see [`records`].
+/// An iterator over the records of a zone file; see [`records`].
 #[derive(Clone, Debug)]
 pub struct Records<'t> {
     text: &'t [u8],
@@ -206,25 +204,25 @@ pub struct Records<'t> {
 }
 
 impl Records<'_> {
-    /// The same with an origin, which is appended to relative names. A relative origin is refused.
+    /// Sets the origin, which is appended to relative names. Fails if it is a relative name.
     pub fn with_origin(mut self, origin: &Name) -> Result<Self, RelativeOrigin> {
         self.state.set_origin(origin)?;
         Ok(self)
     }
 
-    /// The same with a class for records that say none.
+    /// Sets the class of records without one.
     pub fn with_class(mut self, class: Class) -> Self {
         self.state.set_class(class);
         self
     }
 
-    /// Where the next entry begins.
+    /// Returns the offset of the next entry.
     pub fn place(&self) -> usize {
         self.state.zone.at
     }
 
-    /// The line and the column of a place in the text, such as that of a fault; none past its end.
-    /// For places in order the time is that of the text, however many they are; see [`Positions`].
+    /// Returns line and column of an offset, such as that of an error, or `None` past the text's end.
+    /// Offsets in order cost one pass over the text; see [`Positions`].
     pub fn locate(&mut self, place: usize) -> Option<Position> {
         self.positions.find(place)
     }
@@ -248,7 +246,7 @@ impl Iterator for Records<'_> {
 
 impl FusedIterator for Records<'_> {}
 
-/// What the entries so far say, where the next one begins, and room for data.
+/// The state after the entries read so far, the offset of the next one, and a buffer for RDATA.
 #[derive(Clone, Debug)]
 pub(crate) struct ZoneState {
     zone: dnstext_zone,
@@ -256,7 +254,7 @@ pub(crate) struct ZoneState {
 }
 
 impl ZoneState {
-    /// The beginning of a zone file.
+    /// Returns the state at the start of a zone file.
     pub(crate) fn new() -> ZoneState {
         library::check();
         ZoneState {
@@ -268,14 +266,14 @@ impl ZoneState {
         }
     }
 
-    /// Sets the origin to an absolute name.
+    /// Sets the origin. Fails if it is a relative name.
     pub(crate) fn set_origin(&mut self, origin: &Name) -> Result<(), RelativeOrigin> {
         if !origin.is_absolute() {
             return Err(RelativeOrigin);
         }
         let octets = origin.as_octets();
         let mut outcome = dnstext_outcome::default();
-        // SAFETY: the octets have that length, and the call keeps to them.
+        // SAFETY: the pointer and the length are those of the octets, and the call stays within them.
         let status = unsafe {
             dnstext_zone_origin(&mut self.zone, octets.as_ptr(), octets.len(), &mut outcome)
         };
@@ -285,29 +283,30 @@ impl ZoneState {
         }
     }
 
-    /// Sets the class of records that say none.
+    /// Sets the class of records without one.
     pub(crate) fn set_class(&mut self, class: Class) {
         self.zone.class_code = class.0;
     }
 
-    /// What the entries so far say, to go back to.
+    /// Returns a copy of the state.
     pub(crate) fn keep(&self) -> dnstext_zone {
         self.zone
     }
 
-    /// Goes back to what was kept.
+    /// Restores a copy of the state.
     pub(crate) fn go_back(&mut self, kept: dnstext_zone) {
         self.zone = kept;
     }
 
-    /// Reads on at the beginning of a text that follows; and returns where the next entry begins in it.
+    /// Reads the first item of a text that follows what was read. Returns it, and the offset of the next
+    /// entry.
     pub(crate) fn read(&mut self, text: &[u8]) -> (Option<Result<ZoneItem, RecordFault>>, usize) {
         self.zone.at = 0;
         let found = self.next(text);
         (found, self.zone.at)
     }
 
-    /// Reads on in a text.
+    /// Reads the next item of a text.
     fn next(&mut self, text: &[u8]) -> Option<Result<ZoneItem, RecordFault>> {
         let mut record = dnstext_record::default();
         let (status, outcome) = self.call(text, &mut record);
@@ -333,11 +332,11 @@ impl ZoneState {
         }
     }
 
-    /// A call, with as much room as it needs: what it says, and how many octets it gave.
+    /// Makes a call with a buffer of the size that it needs. Returns its status and outcome.
     fn call(&mut self, text: &[u8], record: &mut dnstext_record) -> (u32, dnstext_outcome) {
         loop {
             let mut outcome = dnstext_outcome::default();
-            // SAFETY: both slices are as long as is said, and the call keeps to them.
+            // SAFETY: the pointers and lengths are those of two slices, and the call stays within them.
             let status = unsafe {
                 dnstext_record_next(
                     text.as_ptr(),
@@ -357,7 +356,7 @@ impl ZoneState {
     }
 }
 
-/// The name that the library wrote, if there is one.
+/// Returns the name that the library wrote, if there is one.
 fn name_of(name: &dnstext_kept_name) -> Option<Name> {
     let octets = name.octets.get(..name.length)?;
     Name::from_octets(octets.to_vec())

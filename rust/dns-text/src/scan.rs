@@ -1,4 +1,4 @@
-//! Entries of zone text, by the places of their tokens.
+//! The entries of a zone file, as the offsets of their tokens.
 use crate::library;
 use crate::zone::{Fault, FaultKind};
 use dns_text_sys::{
@@ -6,7 +6,7 @@ use dns_text_sys::{
     DNSTEXT_NO_ROOM, DNSTEXT_OK,
 };
 
-/// Where a text is read on, and the tokens of the entry that was read last.
+/// The offset at which reading continues, and the tokens of the last entry.
 #[derive(Clone, Debug)]
 pub(crate) struct Scan {
     cursor: dnstext_cursor,
@@ -15,7 +15,7 @@ pub(crate) struct Scan {
 }
 
 impl Scan {
-    /// The beginning of a text.
+    /// Returns the state at the start of a text.
     pub(crate) fn new() -> Scan {
         library::check();
         Scan {
@@ -25,38 +25,38 @@ impl Scan {
         }
     }
 
-    /// Goes back to the beginning.
+    /// Goes back to the start.
     pub(crate) fn restart(&mut self) {
         self.cursor = dnstext_cursor::default();
         self.count = 0;
     }
 
-    /// Where the next entry begins.
+    /// Returns the offset of the next entry.
     pub(crate) fn at(&self) -> usize {
         self.cursor.at
     }
 
-    /// Whether the entry that was read last began with a blank.
+    /// Returns whether the last entry began with a blank.
     pub(crate) fn begins_blank(&self) -> bool {
         self.cursor.begins_blank
     }
 
-    /// Whether nothing is left: so the end of the text, and no line's end, ended the entry.
+    /// Returns whether nothing remains: the last entry then ended with the text and not with a line.
     pub(crate) fn is_done(&self) -> bool {
         self.cursor.is_done
     }
 
-    /// The places of the tokens of the entry that was read last.
+    /// Returns the offsets of the tokens of the last entry.
     pub(crate) fn places(&self) -> &[dnstext_token] {
         &self.tokens[..self.count]
     }
 
-    /// Reads the next entry. A fault comes after the tokens before it.
+    /// Reads the next entry. Returns a syntax error after the tokens before it.
     pub(crate) fn read(&mut self, text: &[u8]) -> Option<Result<(), Fault>> {
         loop {
             let before = self.cursor;
             let mut outcome = dnstext_outcome::default();
-            // SAFETY: both slices are as long as is said, and the call keeps to them.
+            // SAFETY: the pointers and lengths are those of two slices, and the call stays within them.
             let status = unsafe {
                 dnstext_entry_next(
                     text.as_ptr(),
@@ -77,8 +77,8 @@ impl Scan {
         }
     }
 
-    /// For how many tokens there has to be room, if there was too little: tokens before a fault that
-    /// fill the room may not be all.
+    /// Returns the number of tokens that the array must hold, if it was too small. Tokens before a syntax
+    /// error that fill the array may not be all.
     fn lacking(&self, status: u32, given: usize) -> Option<usize> {
         let room = self.tokens.len();
         match status {

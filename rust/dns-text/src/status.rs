@@ -3,7 +3,7 @@ use dns_text_sys::{dnstext_status_message, dnstext_status_name};
 use std::ffi::{c_char, CStr};
 use std::fmt;
 
-/// A status of the library, by its number. It prints as what it says in a few words.
+/// A status of the library, by its number. It displays as its message.
 ///
 /// ```
 /// use dns_text::Name;
@@ -16,20 +16,20 @@ use std::fmt;
 pub struct Status(pub(crate) u32);
 
 impl Status {
-    /// The number, as `dnstext.h` has it.
+    /// Returns the number, as in `dnstext.h`.
     pub fn number(self) -> u32 {
         self.0
     }
 
-    /// The name, as `dnstext.h` has it, or `unknown`.
+    /// Returns the name, as in `dnstext.h`, or `unknown`.
     pub fn name(self) -> &'static str {
-        // SAFETY: the call takes any number, and gives a string that lives as long as the program.
+        // SAFETY: the call accepts any number, and returns a string that lives as long as the program.
         unsafe { string(dnstext_status_name(self.0)) }
     }
 
-    /// What it says in a few words, or `unknown status`.
+    /// Returns the message, or `unknown status`.
     pub fn message(self) -> &'static str {
-        // SAFETY: as of `name`.
+        // SAFETY: as in `name`.
         unsafe { string(dnstext_status_message(self.0)) }
     }
 }
@@ -40,17 +40,16 @@ impl fmt::Display for Status {
     }
 }
 
-/// A string of the library.
+/// Returns a C string of the library.
 ///
 /// # Safety
 ///
-/// It has an end mark, and lives as long as the program.
+/// The string has a terminator, and lives as long as the program.
 pub(crate) unsafe fn string(text: *const c_char) -> &'static str {
     unsafe { CStr::from_ptr(text) }.to_str().unwrap_or("?")
 }
 
-/// Declares an enum of reasons, each of one status, with one more for statuses that are none of
-/// them.
+/// Declares an enum of error kinds, one for each of some statuses, and one for any other status.
 macro_rules! reasons {
     ($(#[$about:meta])* $name:ident { $($(#[$says:meta])* $reason:ident = $status:ident,)* }) => {
         $(#[$about])*

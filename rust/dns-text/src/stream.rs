@@ -1,4 +1,4 @@
-//! Zone text from readers, block by block.
+//! Zone files from a `BufRead`, chunk by chunk.
 mod entries;
 mod records;
 mod window;
@@ -10,20 +10,20 @@ use crate::{Fault, Position, RecordFault};
 use std::error::Error;
 use std::{fmt, io};
 
-/// Why a reader of zone text gives nothing: its own error, or a fault of the text.
+/// An error of reading a zone file: of the `BufRead`, or of the text.
 ///
-/// Places count from where reading began, and the position is that of the fault's. It prints as
-/// `line:column: why`, and an error of the reader as it does itself.
+/// Offsets count from where reading began. An error of the text displays as `line:column: message`, and an
+/// error of the `BufRead` as it does itself.
 #[derive(Debug)]
 pub enum StreamError<F> {
-    /// The reader refused. Nothing follows.
+    /// The `BufRead` failed. No item follows.
     Io(io::Error),
-    /// The text is refused. Reading continues after it.
+    /// A syntax error or a rejected entry. Reading continues after it.
     Fault { fault: F, position: Position },
 }
 
 impl<F> StreamError<F> {
-    /// The line and the column of a fault of the text.
+    /// Returns line and column of an error of the text.
     pub fn position(&self) -> Option<Position> {
         match self {
             StreamError::Io(_) => None,
@@ -31,7 +31,7 @@ impl<F> StreamError<F> {
         }
     }
 
-    /// The fault of the text.
+    /// Returns the error of the text.
     pub fn fault(&self) -> Option<&F> {
         match self {
             StreamError::Io(_) => None,
@@ -39,7 +39,7 @@ impl<F> StreamError<F> {
         }
     }
 
-    /// Writes an error, and of a fault its position and what it says.
+    /// Displays an error of the `BufRead`, or the position and message of an error of the text.
     fn write<'e>(
         &'e self,
         message: fn(&'e F) -> &'e str,
@@ -88,7 +88,7 @@ mod tests {
     use super::{read_entries, read_records};
     use std::io::BufReader;
 
-    /// What is held is as long as a block and an entry are, however long the text is.
+    /// At most a chunk and an entry are in memory, however long the text is.
     #[test]
     fn little_is_held() {
         let line = [

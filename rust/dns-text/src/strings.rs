@@ -1,6 +1,6 @@
-//! Types that are read from strings.
+//! `FromStr` and conversions from strings.
 
-/// Reads types from strings as their `from_text` reads octets.
+/// Implements `FromStr` by `from_text`.
 macro_rules! reads_strings {
     ($($read:ty: $error:ty,)*) => {$(
         impl std::str::FromStr for $read {

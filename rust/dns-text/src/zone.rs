@@ -1,4 +1,4 @@
-//! Zone text, token by token or entry by entry.
+//! The tokens and the entries of a zone file.
 use crate::position::{position, Position};
 use crate::scan::Scan;
 use crate::status::reasons;
@@ -6,19 +6,19 @@ use dns_text_sys::dnstext_token;
 use std::error::Error;
 use std::fmt;
 
-/// A token of zone text: a word, or a quoted text with its double quotes.
+/// A token of a zone file: a word, or a quoted string with its double quotes.
 #[derive(Clone, Copy, Debug, PartialEq, Eq)]
 pub struct Token<'t> {
-    /// Where it begins in the text.
+    /// Offset of its first octet.
     pub start: usize,
-    /// The token as it is spelled.
+    /// The octets of the token, as in the text.
     pub text: &'t [u8],
-    /// Whether it is a quoted text.
+    /// Whether it is a quoted string.
     pub is_quoted: bool,
 }
 
 impl<'t> Token<'t> {
-    /// The token at a place of a text that begins at the offset `before`.
+    /// Returns the token at a span of a text that begins at the offset `before`.
     pub(crate) fn at(place: dnstext_token, before: usize, text: &'t [u8]) -> Token<'t> {
         Token {
             start: before + place.start,
@@ -27,7 +27,7 @@ impl<'t> Token<'t> {
         }
     }
 
-    /// The text between the double quotes of a quoted text, and a word itself.
+    /// Returns the text between the double quotes of a quoted string, or the word itself.
     pub fn content(self) -> &'t [u8] {
         if self.is_quoted {
             &self.text[1..self.text.len() - 1]
@@ -37,7 +37,7 @@ impl<'t> Token<'t> {
     }
 }
 
-/// The tokens at places of a text that begins at the offset `before`.
+/// Returns the tokens at spans of a text that begins at the offset `before`.
 pub(crate) fn tokens_at<'p, 't: 'p>(
     places: &'p [dnstext_token],
     before: usize,
@@ -47,11 +47,11 @@ pub(crate) fn tokens_at<'p, 't: 'p>(
     places.map(move |place| Token::at(*place, before, text))
 }
 
-/// What keeps a text from going on, and where.
+/// A syntax error, with its offset.
 #[derive(Clone, Copy, Debug, PartialEq, Eq)]
 pub struct Fault {
     pub kind: FaultKind,
-    /// The octets of the longest beginning that can still be completed.
+    /// Length of the longest prefix that some text could complete.
     pub place: usize,
     /// Offset of the double quote that isn't closed, of [`FaultKind::OpenQuote`], or the
     /// outermost parenthesis, of [`FaultKind::OpenParenthesis`].
@@ -59,8 +59,7 @@ pub struct Fault {
 }
 
 impl Fault {
-    /// The line and the column of its place in the text that it was found in; none where the text
-    /// is shorter.
+    /// Returns line and column of the error in its text, or `None` if the text is shorter.
     ///
     /// ```
     /// use dns_text::entries;
@@ -74,12 +73,12 @@ impl Fault {
         position(text, self.place)
     }
 
-    /// What it says in a few words, without the place.
+    /// Returns the message, without the offset.
     pub fn message(&self) -> &'static str {
         self.kind.status().message()
     }
 
-    /// The fault of a text that begins at the offset `before`.
+    /// Returns the error with the offsets of a text that begins at the offset `before`.
     pub(crate) fn behind(self, before: usize) -> Fault {
         Fault {
             kind: self.kind,
@@ -90,15 +89,15 @@ impl Fault {
 }
 
 reasons! {
-    /// What keeps a text from going on.
+    /// The kinds of syntax errors.
     FaultKind {
-        /// A backslash with what makes no escape.
+        /// A backslash that begins no escape.
         BadEscape = DNSTEXT_BAD_ESCAPE,
-        /// A closing parenthesis, and none is open.
+        /// A closing parenthesis without an open one.
         Closing = DNSTEXT_CLOSING,
         /// The text ends inside parentheses.
         OpenParenthesis = DNSTEXT_OPEN_PARENTHESIS,
-        /// The text or a line ends inside a quoted text.
+        /// The text or a line ends inside a quoted string.
         OpenQuote = DNSTEXT_OPEN_QUOTE,
         /// A CR without its LF.
         LoneReturn = DNSTEXT_LONE_RETURN,
@@ -106,7 +105,7 @@ reasons! {
 }
 
 impl FaultKind {
-    /// Whether something isn't closed.
+    /// Returns whether a parenthesis or a double quote isn't closed.
     pub(crate) fn is_open(self) -> bool {
         matches!(self, FaultKind::OpenParenthesis | FaultKind::OpenQuote)
     }
@@ -120,15 +119,15 @@ impl fmt::Display for Fault {
 
 impl Error for Fault {}
 
-/// An entry of zone text.
+/// An entry of a zone file.
 #[derive(Clone, Debug, PartialEq, Eq)]
 pub struct Entry<'t> {
-    /// Whether it began with a blank: such a record takes the owner of the one before.
+    /// Whether it begins with a blank: such a record has the owner of the one before.
     pub begins_blank: bool,
     pub tokens: Vec<Token<'t>>,
 }
 
-/// The entries of a zone text, up to a fault.
+/// Returns the entries of a zone file, up to a syntax error.
 ///
 /// ```
 /// use dns_text::{entries, FaultKind};
@@ -146,7 +145,7 @@ pub fn entries(text: &[u8]) -> Entries<'_> {
     Entries { text, scan }
 }
 
-/// The entries of a zone text; see [`entries`].
+/// An iterator over the entries of a zone file; see [`entries`].
 #[derive(Clone, Debug)]
 pub struct Entries<'t> {
     text: &'t [u8],
@@ -165,7 +164,7 @@ impl<'t> Iterator for Entries<'t> {
     }
 }
 
-/// The tokens of a zone text, whatever entry they are of, up to a fault. None is copied.
+/// Returns the tokens of a zone file, without their entries, up to a syntax error. None is copied.
 ///
 /// An octet of 0x80 or more counts as a character of its own.
 ///
@@ -187,7 +186,7 @@ pub fn tokens(text: &[u8]) -> Tokens<'_> {
     }
 }
 
-/// The tokens of a zone text; see [`tokens`].
+/// An iterator over the tokens of a zone file; see [`tokens`].
 #[derive(Clone, Debug)]
 pub struct Tokens<'t> {
     text: &'t [u8],

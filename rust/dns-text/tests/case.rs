@@ -1,4 +1,4 @@
-//! Names compare and hash without the case of ASCII letters, and character strings with it.
+//! Names compare and hash without regard to the case of ASCII letters, and character strings exactly.
 use dns_text::{CharStr, Name};
 use std::collections::hash_map::DefaultHasher;
 use std::collections::HashSet;

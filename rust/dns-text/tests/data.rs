@@ -1,4 +1,4 @@
-//! Data as values, from octets and back.
+//! RDATA as values, from octets and back.
 use dns_text::{
     read_records, records, BadData, CharStr, Name, RecordData, RecordFaultKind, RecordType,
     RelativeOrigin,
@@ -13,7 +13,7 @@ fn string(text: &str) -> CharStr {
     text.parse().unwrap()
 }
 
-/// Data of each variant, and its octets.
+/// RDATA of each variant, and their octets.
 fn known() -> Vec<(RecordData, Vec<u8>)> {
     let soa = RecordData::Soa {
         mname: name("a."),
@@ -122,7 +122,7 @@ fn data_and_octets() {
     );
 }
 
-/// Types whose data end in what may be cut or longer.
+/// Types whose RDATA can be truncated or extended.
 fn is_open(record_type: RecordType) -> bool {
     [RecordType::CAA, RecordType::DNSKEY, RecordType(731)].contains(&record_type)
 }
@@ -207,7 +207,7 @@ fn other_values_are_refused() {
     assert_eq!(BadData.to_string(), "no data of the type");
 }
 
-/// Names are equal without case, and strings are not (RFC 4034 section 6.2, RFC 4343 section 3).
+/// Names are equal without regard to case, and strings are not (RFC 4034 section 6.2, RFC 4343 section 3).
 #[test]
 fn data_are_compared_in_canonical_form() {
     assert_eq!(RecordData::Ns(name("A.")), RecordData::Ns(name("a.")));
@@ -238,8 +238,8 @@ fn data_are_compared_in_canonical_form() {
     assert_eq!(opt(b"A").canonical_octets(), b"A");
 }
 
-/// Data of each type whose names are lowered are equal and hash alike without case (RFC 4034 section 6.2,
-/// RFC 6840 section 5.1), and data of others are not; strings keep their case.
+/// RDATA of types whose names are in lower case in canonical form are equal, and have equal hashes, without
+/// regard to case (RFC 4034 section 6.2, RFC 6840 section 5.1). RDATA of other types, and strings, are not.
 #[test]
 fn names_in_data_are_compared_without_case() {
     let lowered = [

@@ -1,4 +1,4 @@
-//! A zone text of 200,000 lines, written from tokens that are known, gives just these tokens.
+//! A zone file of 200,000 lines, written from known tokens, has exactly these tokens.
 use dns_text::{entries, pieces, tokens, PieceKind};
 
 const LINES: usize = 200_000;
@@ -23,7 +23,7 @@ impl Chance {
     }
 }
 
-/// A line's entry: whether it begins with a blank, and its tokens.
+/// The entry of a line: whether it begins with a blank, and its tokens.
 type Known = (bool, Vec<&'static str>);
 
 fn known_entry(chance: &mut Chance) -> Known {

@@ -1,4 +1,4 @@
-//! Names by their labels, and their order; strings from strings.
+//! The labels of names, and their order; conversions from strings.
 use dns_text::{
     records, CharStr, Name, NameErrorKind, NameOctetsError, ReadErrorKind, RecordData, ZoneItem,
 };
@@ -91,7 +91,7 @@ fn ends_are_whole_labels() {
     let others = ["example", "ple.", "ww.example.", "a.www.example.", "www"];
     assert!(others.iter().all(|it| !long.ends_with(&name(it))));
     assert!(name("a.b").ends_with(&name("b")) && !name("a.b").ends_with(&Name::root()));
-    // What is an end of the octets, and none of the labels.
+    // A suffix of the octets that is not a suffix of the labels.
     assert!(!name(r"a\001b.").ends_with(&name("b.")));
     assert!(!name(r"a\000").ends_with(&Name::root()));
     assert!(name("").ends_with(&name("")) && !name("").ends_with(&Name::root()));
@@ -121,7 +121,7 @@ fn origins_are_appended() {
     );
 }
 
-/// A name prints as one word, which reads as the name.
+/// A name prints as one word, which is parsed back to the name.
 #[test]
 fn names_print_as_zone_text() {
     for text in [
@@ -150,7 +150,7 @@ fn names_print_as_zone_text() {
     assert_eq!(format!("{:>4}|", CharStr::try_from("a").unwrap()), "   a|");
 }
 
-/// Nothing but its octets is kept of a name.
+/// A name stores only its octets.
 #[test]
 fn names_keep_their_octets_alone() {
     assert_eq!(name("a.").into_octets().capacity(), 3);

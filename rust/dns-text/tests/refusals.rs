@@ -1,4 +1,4 @@
-//! Each refusal, and what comes before it.
+//! Each error, and the items before it.
 use dns_text::codec::{BadEncoding, BASE16, BASE32HEX, BASE64};
 use dns_text::{
     entries, number, pieces, position, records, tokens, CharStr, Class, FaultKind, LongString,
@@ -147,7 +147,7 @@ fn words() {
     }
 }
 
-/// A time to live of 2^31 or more is 0 (RFC 2181 section 8): of an SOA's minimum, of a record and of `$TTL`.
+/// A TTL of 2^31 or more is 0 (RFC 2181 section 8): the minimum of an SOA, that of a record, and `$TTL`.
 #[test]
 fn long_ttls() {
     let zone = b"a. SOA . . 1 2 3 4 2147483648\na. A 192.0.2.1\nb. 4294967295 A 192.0.2.2\n$TTL 3551w\nc. A 192.0.2.3\n";

@@ -1,5 +1,5 @@
-//! Zone text from readers: what is given is what is given of the same octets at once, however they come
-//! in blocks, and up to where a reader fails.
+//! Zone files from a `BufRead`: the items are those of the same octets in memory, however they arrive in
+//! chunks, and up to where the `BufRead` fails.
 #[path = "common/blocks.rs"]
 mod blocks;
 #[path = "common/table.rs"]
@@ -14,10 +14,10 @@ use std::error::Error;
 use std::io::{self, BufRead, BufReader};
 use table::{each_row, octets_of};
 
-/// A token with its place, and whether it is quoted.
+/// A token with its offset, and whether it is quoted.
 type Token = (usize, Vec<u8>, bool);
 
-/// Whether an entry begins with a blank, and its tokens; or a fault with its position.
+/// Whether an entry begins with a blank, and its tokens; or an error with its position.
 type Found = Result<(bool, Vec<Token>), (Fault, Position)>;
 
 fn found_entry(entry: &Entry<'_>, before: usize) -> Found {
@@ -26,7 +26,7 @@ fn found_entry(entry: &Entry<'_>, before: usize) -> Found {
     Ok((entry.begins_blank, tokens.collect()))
 }
 
-/// The entries of a text, and after the line of each fault those that follow.
+/// Returns the entries of a text, where reading continues after the line of each syntax error.
 fn at_once(text: &[u8]) -> Vec<Found> {
     let mut found = Vec::new();
     let mut start = 0;
@@ -41,7 +41,7 @@ fn at_once(text: &[u8]) -> Vec<Found> {
     found
 }
 
-/// Appends the entries of a text from a place on, up to a fault.
+/// Appends the entries of a text from an offset on, up to a syntax error.
 fn entries_behind(text: &[u8], start: usize, found: &mut Vec<Found>) -> Option<Fault> {
     for entry in entries(&text[start..]) {
         match entry {
@@ -58,7 +58,7 @@ fn entries_behind(text: &[u8], start: usize, found: &mut Vec<Found>) -> Option<F
     None
 }
 
-/// The entries of a reader, whose tokens are found again in the text, and its error.
+/// Returns the entries of a `BufRead`, whose tokens must be those of the text, and its error.
 fn of_reader(reader: impl BufRead, text: &[u8]) -> (Vec<Found>, Option<io::Error>) {
     let mut found = Vec::new();
     let mut reader = read_entries(reader);
@@ -83,7 +83,7 @@ fn of_reader(reader: impl BufRead, text: &[u8]) -> (Vec<Found>, Option<io::Error
     (found, None)
 }
 
-/// How many octets of a text are entries that a line's end ends, up to a fault.
+/// Returns the length of the entries of a text that end with a line end, up to a syntax error.
 fn whole_entries(text: &[u8]) -> usize {
     let mut ends = Vec::new();
     for piece in pieces(text) {
@@ -97,7 +97,7 @@ fn whole_entries(text: &[u8]) -> usize {
     ends.last().copied().unwrap_or(0)
 }
 
-/// Each zone text of the rows, and more.
+/// The zone files of the rows, and more.
 fn each_text(mut judge: impl FnMut(&[u8])) {
     for folder in ["test_rows", "test_records"] {
         each_row(folder, 100, |fields| {
@@ -194,7 +194,7 @@ fn errors_of_readers_are_their_own() {
     assert!(reader.next().is_none());
 }
 
-/// A directory can be opened and not be read.
+/// A directory can be opened, but not read.
 #[test]
 fn files_that_cannot_be_read() {
     let folder = std::fs::File::open(env!("CARGO_MANIFEST_DIR")).unwrap();
@@ -220,7 +220,7 @@ fn entries_have_positions() {
     assert_eq!(last.tokens().len(), 0);
 }
 
-/// A long entry in short blocks takes time that is linear in its length, about.
+/// A long entry in short chunks costs about linear time.
 #[test]
 fn long_entries() {
     let mut text = b"a (\n".to_vec();
@@ -249,7 +249,7 @@ fn long_entries() {
     assert!(reader.next().is_none());
 }
 
-/// Many lines, refused and not, and their positions.
+/// Many lines, some of them rejected, and their positions.
 #[test]
 fn many_lines() {
     let line = b"; why\n\nw 60 A 192.0.2.1\n  A 192.0.2\n\tA \"\n";

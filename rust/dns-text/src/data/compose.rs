@@ -1,14 +1,14 @@
-//! Record data as octets.
+//! RDATA to wire format.
 use super::RecordData;
 use crate::{CharStr, Name};
 
-/// The octets so far.
+/// The octets written so far.
 #[derive(Default)]
 struct Composed {
     octets: Vec<u8>,
 }
 
-/// The octets of RDATA, also of what its type does not allow.
+/// Returns the octets of RDATA, also of values that the type does not allow.
 pub(super) fn compose(data: &RecordData) -> Vec<u8> {
     let mut composed = Composed::default();
     composed.data(data);
@@ -36,7 +36,7 @@ impl Composed {
         self.put(name.as_octets());
     }
 
-    /// A string of at most 255 octets, after its length.
+    /// Appends a string of at most 255 octets, after its length.
     fn string(&mut self, string: &CharStr) {
         let octets = string.as_octets();
         self.put(&[octets.len() as u8]);

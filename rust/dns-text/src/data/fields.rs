@@ -1,14 +1,14 @@
-//! Record data read from octets.
+//! RDATA from wire format.
 use super::RecordData;
 use crate::{CharStr, Name, RecordType};
 
-/// The octets of data that are left.
+/// The unread octets of RDATA.
 pub(super) struct Fields<'o> {
     rest: &'o [u8],
 }
 
 impl<'o> Fields<'o> {
-    /// The data that octets are; none where they are no data of the type.
+    /// Parses the octets as RDATA of a type. Returns `None` if they are not.
     pub(super) fn read(record_type: RecordType, octets: &'o [u8]) -> Option<RecordData> {
         let mut fields = Fields { rest: octets };
         let data = fields.data(record_type)?;
@@ -37,7 +37,7 @@ impl<'o> Fields<'o> {
         self.array().map(u32::from_be_bytes)
     }
 
-    /// A name up to its root.
+    /// Parses a name up to its root.
     fn name(&mut self) -> Option<Name> {
         let mut length = 0;
         while *self.rest.get(length)? != 0 {
@@ -51,7 +51,7 @@ impl<'o> Fields<'o> {
         CharStr::from_octets(self.take(length.into())?.to_vec()).ok()
     }
 
-    /// The strings to the end, of which there is one at least.
+    /// Parses strings up to the end, at least one.
     fn strings(&mut self) -> Option<Vec<CharStr>> {
         let mut strings = vec![self.string()?];
         while !self.rest.is_empty() {
@@ -60,8 +60,7 @@ impl<'o> Fields<'o> {
         Some(strings)
     }
 
-    /// The tag of a property: ASCII letters and digits, of which there is one at least (RFC 8659
-    /// section 4.1).
+    /// Parses the tag of a property: ASCII letters and digits, at least one (RFC 8659 section 4.1).
     fn tag(&mut self) -> Option<CharStr> {
         let tag = self.string()?;
         let octets = tag.as_octets();
@@ -73,12 +72,12 @@ impl<'o> Fields<'o> {
         std::mem::take(&mut self.rest).to_vec()
     }
 
-    /// The octets to the end, of which there is one at least.
+    /// Returns the octets up to the end, at least one.
     fn some_octets(&mut self) -> Option<Vec<u8>> {
         Some(self.octets()).filter(|octets| !octets.is_empty())
     }
 
-    /// The digest to the end, of the length that its type has.
+    /// Returns the digest up to the end, of the length that its type requires.
     fn digest(&mut self, digest_type: u8) -> Option<Vec<u8>> {
         let digest = self.some_octets()?;
         let length = match digest_type {

@@ -1,4 +1,4 @@
-//! Record data as zone text.
+//! RDATA from and to presentation format.
 use super::compose::compose;
 use super::{BadData, RecordData};
 use crate::codec::BASE16;
@@ -10,9 +10,9 @@ use dns_text_sys::{
 use std::fmt;
 
 impl RecordData {
-    /// Reads the text of data of a type: the tokens that follow the type in a record, or `\#`, the
-    /// number of octets, and these in hexadecimal (RFC 3597 section 5). Relative names stand before the
-    /// origin; without one they are refused, and so is a relative name as the origin.
+    /// Parses RDATA of a type: the tokens that follow the type in a record, or `\#`, the number of
+    /// octets, and these in hexadecimal (RFC 3597 section 5). The origin is appended to relative names;
+    /// without one they are rejected, and so is a relative name as the origin.
     ///
     /// ```
     /// use dns_text::{RecordData, RecordType};
@@ -38,7 +38,7 @@ impl RecordData {
         }
         let origin = origin.map(Name::as_octets).unwrap_or_default();
         let (status, outcome, octets) = call(512, |into, outcome| {
-            // SAFETY: the slices are as long as is said, and the call keeps to them.
+            // SAFETY: the pointers and lengths are those of slices, and the call stays within them.
             unsafe {
                 dnstext_data_read(
                     record_type.0,
@@ -62,15 +62,16 @@ impl RecordData {
         })
     }
 
-    /// The text of the data on one line: tokens with a space between, and names absolute; of a type
-    /// without a text form `\#`, the number of octets, and these in hexadecimal (RFC 3597 section 5).
+    /// Returns the RDATA in presentation format on one line: tokens separated by spaces, with absolute
+    /// names. A type without a format of its own prints as `\#`, the number of octets, and these in
+    /// hexadecimal (RFC 3597 section 5).
     ///
-    /// Values that are no data of their type are refused, as by [`to_octets`](RecordData::to_octets);
-    /// and a type that has no data in zones, such as OPT.
+    /// Fails for values that the type does not allow, as [`to_octets`](RecordData::to_octets) does, and
+    /// for a type that has no RDATA in zones, such as OPT.
     pub fn to_text(&self) -> Result<String, BadData> {
         let octets = self.to_octets()?;
         let (status, _, text) = call(4 * octets.len() + 16, |into, outcome| {
-            // SAFETY: the slices are as long as is said, and the call keeps to them.
+            // SAFETY: the pointers and lengths are those of slices, and the call stays within them.
             unsafe {
                 dnstext_data_print(
                     self.record_type().0,
@@ -89,10 +90,10 @@ impl RecordData {
     }
 }
 
-/// The canonical form of octets, if they are data of the type.
+/// Returns the canonical form of octets, if they are RDATA of the type.
 pub(super) fn canonical(record_type: RecordType, octets: &[u8]) -> Option<Vec<u8>> {
     let (status, _, form) = call(octets.len(), |into, outcome| {
-        // SAFETY: the slices are as long as is said, and the call keeps to them.
+        // SAFETY: the pointers and lengths are those of slices, and the call stays within them.
         unsafe {
             dnstext_data_canonical(
                 record_type.0,
@@ -107,7 +108,7 @@ pub(super) fn canonical(record_type: RecordType, octets: &[u8]) -> Option<Vec<u8
     (status == DNSTEXT_OK).then_some(form)
 }
 
-/// A call with as much room as it needs: its status, what it says, and what it gave.
+/// Makes a call with a buffer of the size that it needs. Returns its status, outcome and output.
 fn call(
     expected: usize,
     call: impl Fn(&mut [u8], &mut dnstext_outcome) -> u32,
@@ -125,7 +126,8 @@ fn call(
     }
 }
 
-/// Its text; of values that have none `\#`, the number of their octets, and these in hexadecimal.
+/// Displays the presentation format; for values without one `\#`, the number of octets, and these in
+/// hexadecimal.
 impl fmt::Display for RecordData {
     fn fmt(&self, f: &mut fmt::Formatter<'_>) -> fmt::Result {
         let generic = |_| {

@@ -1,4 +1,4 @@
-//! Entries of zone text from readers.
+//! The entries of a zone file from a `BufRead`.
 use super::window::{advance, Window};
 use super::StreamError;
 use crate::scan::Scan;
@@ -8,11 +8,11 @@ use dns_text_sys::dnstext_token;
 use std::io::BufRead;
 use std::iter::FusedIterator;
 
-/// An entry of zone text with its own octets.
+/// An entry of a zone file that owns its octets.
 #[derive(Clone, Debug, PartialEq, Eq)]
 pub struct OwnedEntry {
     begins_blank: bool,
-    /// The octets to the end of its last token, where they begin, and their line and column.
+    /// The octets up to the end of its last token, with their offset, line and column.
     octets: Vec<u8>,
     start: usize,
     position: Position,
@@ -20,17 +20,17 @@ pub struct OwnedEntry {
 }
 
 impl OwnedEntry {
-    /// Whether it began with a blank: such a record takes the owner of the one before.
+    /// Returns whether it begins with a blank: such a record has the owner of the one before.
     pub fn begins_blank(&self) -> bool {
         self.begins_blank
     }
 
-    /// Its tokens. Their places count from where reading began.
+    /// Returns its tokens. Their offsets count from where reading began.
     pub fn tokens(&self) -> impl ExactSizeIterator<Item = Token<'_>> {
         tokens_at(&self.tokens, self.start, &self.octets)
     }
 
-    /// The same as an entry of borrowed text.
+    /// Returns the entry with borrowed octets.
     pub fn as_entry(&self) -> Entry<'_> {
         Entry {
             begins_blank: self.begins_blank,
@@ -38,27 +38,27 @@ impl OwnedEntry {
         }
     }
 
-    /// The line and the column where it begins.
+    /// Returns the line and column of its first octet.
     pub fn position(&self) -> Position {
         self.position
     }
 
-    /// The line and the column of a place in it, such as where a token starts; none of a place before
-    /// it, or after its last token.
+    /// Returns line and column of an offset in it, such as that of a token, or `None` before the entry and
+    /// after its last token.
     pub fn locate(&self, place: usize) -> Option<Position> {
         let before = self.octets.get(..place.checked_sub(self.start)?)?;
         Some(advance(self.position, before))
     }
 }
 
-/// The entries of a zone text that a reader gives, in blocks.
+/// Returns the entries of a zone file from a `BufRead`, which is read in chunks.
 ///
-/// They are those of [`entries`](crate::entries) up to the first fault. After it reading continues after
-/// its line, as [`read_records`](crate::read_records) does. An error of the reader comes after the
-/// entries that ended before it, and then nothing follows. Calls that were interrupted are made again.
+/// Up to the first syntax error they are those of [`entries`](crate::entries). Then reading continues at
+/// the next line, as in [`read_records`](crate::read_records). An error of the `BufRead` comes after the
+/// entries that end before it, and is the last item. Interrupted calls are repeated.
 ///
-/// What is held is a block and at most twice the longest entry: so an entry of more than 4 KB may wait
-/// for as many octets more, and a shorter one waits for its line's end.
+/// At most a chunk and twice the longest entry are in memory. An entry of up to 4 KB is returned once its
+/// line has ended; a longer one perhaps only after the same number of octets again.
 ///
 /// ```
 /// use dns_text::{read_entries, StreamError};
@@ -84,7 +84,7 @@ pub fn read_entries<R: BufRead>(reader: R) -> EntryReader<R> {
     }
 }
 
-/// The entries of a zone text that a reader gives; see [`read_entries`].
+/// An iterator over the entries of a zone file; see [`read_entries`].
 #[derive(Debug)]
 pub struct EntryReader<R> {
     pub(super) window: Window<R>,
@@ -93,7 +93,7 @@ pub struct EntryReader<R> {
 }
 
 impl<R: BufRead> EntryReader<R> {
-    /// The next entry, or the fault before its end, if what is held decides it.
+    /// Returns the next entry, or the syntax error before its end, if the octets in memory decide it.
     fn read(&mut self) -> Option<Result<OwnedEntry, StreamError<Fault>>> {
         if !self.window.skip_line() {
             return None;

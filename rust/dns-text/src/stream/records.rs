@@ -1,4 +1,4 @@
-//! Records of zone files from readers.
+//! The records of a zone file from a `BufRead`.
 use super::window::Window;
 use super::StreamError;
 use crate::records::{RelativeOrigin, ZoneItem, ZoneState};
@@ -6,17 +6,17 @@ use crate::{pieces, Class, Name, PieceKind, Position, RecordFault};
 use std::io::BufRead;
 use std::iter::FusedIterator;
 
-/// What is read of a text.
+/// An item, or an error of the text.
 type Found = Option<Result<ZoneItem, RecordFault>>;
 
-/// The records of a zone file that a reader gives, in blocks.
+/// Returns the records of a zone file from a `BufRead`, which is read in chunks.
 ///
-/// They and the refusals are those of [`records`](crate::records), with their lines and columns. An
-/// error of the reader comes after the records that ended before it, and then nothing follows. Calls
-/// that were interrupted are made again.
+/// Records and errors are those of [`records`](crate::records); errors have lines and columns. An error of
+/// the `BufRead` comes after the records that end before it, and is the last item. Interrupted calls are
+/// repeated.
 ///
-/// What is held is a block and at most twice the longest entry, beside 64 KB for data: so an entry of
-/// more than 4 KB may wait for as many octets more, and a shorter one waits for its line's end.
+/// At most a chunk, twice the longest entry, and 64 KB for RDATA are in memory. An entry of up to 4 KB is
+/// returned once its line has ended; a longer one perhaps only after the same number of octets again.
 ///
 /// ```
 /// use dns_text::{read_records, Name, RecordData, ZoneItem};
@@ -42,7 +42,7 @@ pub fn read_records<R: BufRead>(reader: R) -> RecordReader<R> {
     }
 }
 
-/// The records of a zone file that a reader gives; see [`read_records`].
+/// An iterator over the records of a zone file; see [`read_records`].
 #[derive(Debug)]
 pub struct RecordReader<R> {
     pub(super) window: Window<R>,
@@ -51,25 +51,25 @@ pub struct RecordReader<R> {
 }
 
 impl<R> RecordReader<R> {
-    /// The same with an origin, which is appended to relative names. A relative origin is refused.
+    /// Sets the origin, which is appended to relative names. Fails if it is a relative name.
     pub fn with_origin(mut self, origin: &Name) -> Result<Self, RelativeOrigin> {
         self.state.set_origin(origin)?;
         Ok(self)
     }
 
-    /// The same with a class for records that say none.
+    /// Sets the class of records without one.
     pub fn with_class(mut self, class: Class) -> Self {
         self.state.set_class(class);
         self
     }
 
-    /// The line and the column of a place in what was given last, such as where a record begins.
+    /// Returns line and column of an offset in the last item, such as where a record begins.
     pub fn locate(&self, place: usize) -> Option<Position> {
         self.window.locate(place)
     }
 }
 
-/// How many octets of a text are entries that a line's end ends.
+/// Returns the length of the entries of a text that end with a line end.
 fn whole_entries(text: &[u8]) -> usize {
     let (mut whole, mut ended) = (0, 0);
     for piece in pieces(text) {
@@ -84,15 +84,15 @@ fn whole_entries(text: &[u8]) -> usize {
     whole
 }
 
-/// Whether octets that follow a text change nothing of what was found in it, up to a place at which
-/// reading continues.
+/// Returns whether an item is final, whatever octets follow the text. `at` is the offset at which reading
+/// continues.
 fn is_settled(found: &Found, at: usize, text: &[u8]) -> bool {
     let is_fault = |fault: &RecordFault| fault.is_of_text() && fault.place < text.len();
     at < text.len() || matches!(found, Some(Err(fault)) if is_fault(fault))
 }
 
 impl<R: BufRead> RecordReader<R> {
-    /// The next record, file or refusal, if what is held decides it.
+    /// Returns the next record, file to include or error, if the octets in memory decide it.
     fn read(&mut self) -> Option<Result<ZoneItem, StreamError<RecordFault>>> {
         if !self.window.skip_line() {
             return None;
@@ -108,7 +108,7 @@ impl<R: BufRead> RecordReader<R> {
         self.pass(found, at)
     }
 
-    /// Moves on, after what was found.
+    /// Advances past the item.
     fn pass(
         &mut self,
         found: Found,

@@ -1,12 +1,12 @@
-//! The octets of a reader, read as they are needed.
+//! The octets of a `BufRead`, which are read when they are needed.
 use crate::Position;
 use std::io::{self, BufRead, ErrorKind};
 
-/// Up to this number of unread octets, any more of them are looked at; above it, as many more as are
-/// left, so that a long entry is looked at as often as its length doubles.
+/// Up to this number of unread octets, an entry is tried again with any more of them. Above it, only once
+/// their number has doubled, so that a long entry costs linear time.
 const FEW: usize = 4096;
 
-/// An offset among all octets of a reader, beside the one among those held.
+/// An offset among all octets, and the same among those in memory.
 #[derive(Clone, Copy, Debug)]
 struct Mark {
     held: usize,
@@ -14,7 +14,7 @@ struct Mark {
     position: Position,
 }
 
-/// The octets of a reader that are held, and the offset of the next.
+/// The octets in memory, and the offset of the next.
 #[derive(Debug)]
 pub(super) struct Window<R> {
     reader: R,
@@ -23,7 +23,7 @@ pub(super) struct Window<R> {
     next: Mark,
     /// That offset before the last call.
     last: Mark,
-    /// Whether the rest of a line is passed over first.
+    /// Whether the rest of a line is to be skipped first.
     skips: bool,
     is_ended: bool,
 }
@@ -45,22 +45,22 @@ impl<R> Window<R> {
         }
     }
 
-    /// The octets that are held and not yet read.
+    /// Returns the unread octets in memory.
     pub(super) fn rest(&self) -> &[u8] {
         &self.octets[self.next.held..]
     }
 
-    /// Offset of the next octet among all octets of the reader.
+    /// Returns the offset of the next octet among all octets.
     pub(super) fn place(&self) -> usize {
         self.next.place
     }
 
-    /// The line and the column of the next octet.
+    /// Returns line and column of the next octet.
     pub(super) fn position(&self) -> Position {
         self.next.position
     }
 
-    /// Whether the reader has no more octets than are held.
+    /// Returns whether all octets are in memory.
     pub(super) fn is_ended(&self) -> bool {
         self.is_ended
     }
@@ -71,13 +71,13 @@ impl<R> Window<R> {
         self.step(count);
     }
 
-    /// Skips the line of a fault that is at the offset `count`.
+    /// Skips the line of a syntax error at the offset `count`.
     pub(super) fn pass_line(&mut self, count: usize) {
         self.pass(count);
         self.skips = true;
     }
 
-    /// Passes over what is left of a fault's line, as far as it is held; and whether the next line is
+    /// Skips the rest of a syntax error's line, as far as it is in memory. Returns whether the next line is
     /// reached.
     pub(super) fn skip_line(&mut self) -> bool {
         if !self.skips {
@@ -98,20 +98,20 @@ impl<R> Window<R> {
         };
     }
 
-    /// The line and the column of a place in what was passed last, or of its end.
+    /// Returns line and column of an offset in what was skipped last, or of its end.
     pub(super) fn locate(&self, place: usize) -> Option<Position> {
         let passed = &self.octets[self.last.held..self.next.held];
         let before = passed.get(..place.checked_sub(self.last.place)?)?;
         Some(advance(self.last.position, before))
     }
 
-    /// For how many octets there is room.
+    /// Returns the capacity in octets.
     #[cfg(test)]
     pub(super) fn room(&self) -> usize {
         self.octets.capacity()
     }
 
-    /// Lets the octets go that were passed.
+    /// Drops the octets that were read.
     fn let_go(&mut self) {
         self.octets.drain(..self.next.held);
         self.next.held = 0;
@@ -120,7 +120,7 @@ impl<R> Window<R> {
 }
 
 impl<R: BufRead> Window<R> {
-    /// Reads more octets, and lets those go that were passed. What was read before an error stays.
+    /// Reads more octets, and drops those that were read. After an error, octets read before it remain.
     pub(super) fn fill(&mut self) -> io::Result<()> {
         self.let_go();
         let left = self.octets.len();
@@ -131,7 +131,7 @@ impl<R: BufRead> Window<R> {
         Ok(())
     }
 
-    /// Reads a block.
+    /// Reads a chunk.
     fn read_block(&mut self) -> io::Result<()> {
         let block = match self.reader.fill_buf() {
             Err(error) if error.kind() == ErrorKind::Interrupted => return Ok(()),
@@ -145,7 +145,7 @@ impl<R: BufRead> Window<R> {
     }
 }
 
-/// The position after octets that begin at another.
+/// Returns the position after octets that begin at a position.
 pub(super) fn advance(from: Position, octets: &[u8]) -> Position {
     let Some(last) = octets.iter().rposition(|octet| *octet == b'\n') else {
         return Position {

@@ -1,7 +1,7 @@
-//! Readers that give octets block by block.
+//! A `BufRead` that returns octets in chunks.
 use std::io::{self, BufRead, ErrorKind, Read};
 
-/// Gives the octets of blocks, one block or less at each call, and is interrupted before each; then
+/// Returns the octets of chunks, at most one chunk in each call, and is interrupted before each. Then it
 /// ends or fails.
 #[derive(Debug)]
 pub struct Blocks<'t> {
@@ -23,7 +23,7 @@ impl<'t> Blocks<'t> {
         }
     }
 
-    /// The same, and fails at the end.
+    /// Returns chunks that fail at the end.
     #[allow(dead_code)]
     pub fn failing(self) -> Blocks<'t> {
         Blocks {
@@ -67,7 +67,7 @@ impl Read for Blocks<'_> {
     }
 }
 
-/// Judges a text in blocks of 1, 2, 3 and 7 octets, and cut at each place.
+/// Checks a text in chunks of 1, 2, 3 and 7 octets, and in two chunks cut at each offset.
 pub fn in_blocks(text: &[u8], mut judge: impl FnMut(Blocks<'_>)) {
     for length in [1, 2, 3, 7] {
         judge(Blocks::new(text.chunks(length).collect()));

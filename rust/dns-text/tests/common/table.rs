@@ -1,4 +1,4 @@
-//! Rows of tests: calls, inputs and wanted answers, with tabs between.
+//! Test rows: calls, inputs and expected results, separated by tabs.
 use std::collections::BTreeSet;
 use std::fs::read_to_string;
 use std::panic::{catch_unwind, resume_unwind, AssertUnwindSafe};
@@ -14,7 +14,7 @@ pub fn octets_of(field: &str) -> Vec<u8> {
     octets
 }
 
-/// Judges a row. Prints the file and the line of a row that differs before the test fails.
+/// Checks a row. Prints file and line of a row that differs before the test fails.
 fn judged(place: &str, line: &str, judge: impl FnOnce() -> bool) -> bool {
     catch_unwind(AssertUnwindSafe(judge)).unwrap_or_else(|why| {
         eprintln!("differs: {place}\n  row:    {line}");
@@ -22,8 +22,8 @@ fn judged(place: &str, line: &str, judge: impl FnOnce() -> bool) -> bool {
     })
 }
 
-/// Judges the rows of a crate. Prints the names of the calls that `judge` does not answer, and the file and
-/// the line of each answered row if `LIST_ROWS` is set.
+/// Checks the rows of a crate. Prints the names of the calls that `judge` does not answer, and file and
+/// line of each answered row if `LIST_ROWS` is set.
 pub fn each_row(folder: &str, least: usize, mut judge: impl FnMut(&[&str]) -> bool) {
     let top = env!("CARGO_MANIFEST_DIR");
     let path = format!("crates/{folder}/stdin");

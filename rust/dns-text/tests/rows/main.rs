@@ -10,7 +10,7 @@ use dns_text::{Class, RecordType, Ttl};
 use std::cmp::Ordering;
 use table::{each_row, octets_of};
 
-/// An answer, or `None` for a refusal, whose text is not compared: here it has a place.
+/// A result, or `None` for an error, whose message is not compared, since it has an offset here.
 type Answer = Option<Vec<u8>>;
 
 /// The answer of a comparison.
@@ -44,7 +44,7 @@ fn kind(what: &str, input: &[u8]) -> Option<Answer> {
     }
 }
 
-/// What a call makes of its inputs; none if this crate has no such call.
+/// Returns the result of a call, or `None` if this crate has no such call.
 fn answer(call: &str, inputs: &[&[u8]]) -> Option<Answer> {
     let (group, what) = call.split_once('.')?;
     match (group, inputs) {

@@ -11,7 +11,7 @@ fn barred<'n>(labels: impl Iterator<Item = &'n [u8]>) -> Vec<u8> {
     labels.flat_map(|label| [label, b"|"].concat()).collect()
 }
 
-/// The labels and the root of a name: from the first on, from the last on, and from both ends in turn.
+/// The labels and the root of a name: in order, in reverse order, and from both ends in turn.
 fn all_labels(name: &Name) -> Vec<u8> {
     let root = name.is_absolute().then_some(b"".as_slice());
     let labels = || name.labels().chain(root);

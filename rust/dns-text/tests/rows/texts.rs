@@ -1,8 +1,8 @@
-//! Zone texts.
+//! Zone files as texts.
 use crate::Answer;
 use dns_text::{entries, pieces, position, tokens, Fault, FaultKind, Piece, PieceKind};
 
-/// A fault as rows have it.
+/// A syntax error, as in rows.
 fn fault_words(fault: &Fault) -> String {
     let place = fault.place;
     match (fault.kind, fault.opened) {
@@ -34,7 +34,7 @@ fn all_pieces(text: &[u8]) -> Vec<u8> {
     words.collect::<String>().into_bytes()
 }
 
-/// The tokens with their places, a plus where one touches the one before; and the ends of entries.
+/// The tokens with their offsets, with a plus if one is adjacent to the one before; and the ends of entries.
 fn all_tokens(text: &[u8]) -> Vec<u8> {
     let mut told = Vec::new();
     let mut end = None;
@@ -64,7 +64,7 @@ fn all_tokens(text: &[u8]) -> Vec<u8> {
     told
 }
 
-/// The tokens of each entry; none where the text goes wrong.
+/// The tokens of each entry, or `None` if the text has a syntax error.
 fn split(text: &[u8]) -> Answer {
     let mut told = Vec::new();
     for entry in entries(text) {
@@ -112,12 +112,12 @@ fn tally(text: &[u8]) -> Vec<u8> {
     .into_bytes()
 }
 
-/// A number that a field spells.
+/// Parses the number in a field.
 fn number(field: &[u8]) -> Option<usize> {
     std::str::from_utf8(field).ok()?.parse().ok()
 }
 
-/// The text of pairs of a text and how often it is there.
+/// Returns the concatenation of texts, each repeated as often as the number after it.
 fn repeated(pairs: &[&[u8]]) -> Option<Vec<u8>> {
     let texts = pairs
         .chunks(2)
@@ -125,7 +125,7 @@ fn repeated(pairs: &[&[u8]]) -> Option<Vec<u8>> {
     Some(texts.collect::<Option<Vec<_>>>()?.concat())
 }
 
-/// What a call makes of its inputs; none if this crate has no such call.
+/// Returns the result of a call, or `None` if this crate has no such call.
 pub fn answer(what: &str, inputs: &[&[u8]]) -> Option<Answer> {
     match (what, inputs) {
         ("pieces", [text]) => Some(Some(all_pieces(text))),

@@ -1,4 +1,4 @@
-//! Data, strings and classes.
+//! RDATA, strings and classes.
 use crate::table::octets_of;
 use dns_text::{records, CharStr, Class, Name, RecordData, RecordFault, RecordType, ZoneItem};
 
@@ -6,7 +6,7 @@ pub fn name_of(field: &str) -> Name {
     Name::from_octets(octets_of(field)).unwrap()
 }
 
-/// What the text of data is in a record of the type, and where it begins.
+/// Parses RDATA in a record of the type. Returns them, or the error, and the offset of their text.
 pub fn read_data(
     record_type: &str,
     text: &str,
@@ -28,7 +28,7 @@ pub fn read_data(
     (data, start)
 }
 
-/// A row of a type, a text of data, and its octets or that it is refused.
+/// A row of a type, RDATA in presentation format, and their octets or `refused`.
 pub fn read(record_type: &str, text: &str, origin: &str, wanted: &str) -> bool {
     match (
         read_data(record_type, text, Some(origin)).0,
@@ -47,11 +47,11 @@ pub fn read(record_type: &str, text: &str, origin: &str, wanted: &str) -> bool {
     true
 }
 
-/// A row of a type, a text that is not RDATA of it, why, and where.
+/// A row of a type, a text that is not RDATA of it, the error and its offset.
 pub fn refused(record_type: &str, text: &str, wanted: &str) -> bool {
     let (data, start) = read_data(record_type, text, Some(crate::EXAMPLE));
     let fault = data.unwrap_err();
-    // (what an entry without data lacks is refused where its type ends)
+    // (the error of an entry without RDATA is at the end of its type)
     let place = fault.place.saturating_sub(start);
     assert_eq!(
         format!("!{}|{place}", fault.reason),
@@ -61,7 +61,7 @@ pub fn refused(record_type: &str, text: &str, wanted: &str) -> bool {
     true
 }
 
-/// A row of a type, a text of data, and the text that the data have.
+/// A row of a type, RDATA in presentation format, and the text that they print as.
 pub fn print(record_type: &str, text: &str, origin: &str, wanted: &str) -> bool {
     let record_type = record_type.parse().unwrap();
     let data = RecordData::from_text(record_type, &octets_of(text), Some(&name_of(origin)));
@@ -77,7 +77,7 @@ pub fn print(record_type: &str, text: &str, origin: &str, wanted: &str) -> bool 
     true
 }
 
-/// A row of a type and octets that are its data or not. Only types with a variant judge them.
+/// A row of a type, and octets that are its RDATA or not. Only types with a variant check them.
 pub fn wire(record_type: &str, octets: &str, wanted: &str) -> bool {
     let record_type = record_type.parse().unwrap();
     match RecordData::from_octets(record_type, &octets_of(octets)) {
@@ -88,8 +88,8 @@ pub fn wire(record_type: &str, octets: &str, wanted: &str) -> bool {
     true
 }
 
-/// A row of a name's token, by the name of NS data. Zone text has no plain escape of a control
-/// octet or of one beyond ASCII.
+/// A row of a token that is a name, as RDATA of NS. A zone file has no simple escape of a control octet or
+/// of one outside ASCII.
 pub fn name(text: &str, origin: Option<&str>, wanted: &str) -> bool {
     let octets = octets_of(text);
     if octets

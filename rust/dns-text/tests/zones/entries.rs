@@ -1,4 +1,4 @@
-//! Zones: records, files to include and refusals, at once and in blocks.
+//! Zone files: records, files to include and errors, in memory and in chunks.
 use crate::blocks::{in_blocks, Blocks};
 use crate::data::name_of;
 use crate::table::octets_of;
@@ -8,7 +8,7 @@ use dns_text::{
 };
 use std::io::BufRead;
 
-/// What is found, and of refusals their positions.
+/// The items, and the positions of errors.
 type Found = Vec<Result<ZoneItem, (RecordFault, Position)>>;
 
 fn at_once(text: &[u8], origin: Option<&str>) -> Found {
@@ -23,7 +23,7 @@ fn at_once(text: &[u8], origin: Option<&str>) -> Found {
     found.map(|item| item.map_err(told)).collect()
 }
 
-/// The same of a reader, with the places of records found again.
+/// The items of a `BufRead`, with the offsets of records.
 fn of_reader(reader: impl BufRead, text: &[u8], origin: Option<&str>) -> Found {
     let mut reader = read_records(reader);
     if let Some(origin) = origin {
@@ -42,7 +42,7 @@ fn of_reader(reader: impl BufRead, text: &[u8], origin: Option<&str>) -> Found {
     found
 }
 
-/// A refusal as rows have it.
+/// An error, as in rows.
 fn refusal_of(fault: &RecordFault) -> String {
     let reason = match fault.kind {
         RecordFaultKind::BadEscape => "bad escape",
@@ -55,7 +55,7 @@ fn refusal_of(fault: &RecordFault) -> String {
     format!("!{reason}|{}", fault.place)
 }
 
-/// Whether an item of a row is what was found.
+/// Returns whether an item is that of the row.
 fn agrees(wanted: &str, found: &Result<ZoneItem, (RecordFault, Position)>) -> bool {
     match found {
         Err((fault, _)) => refusal_of(fault) == wanted,
@@ -83,7 +83,7 @@ fn agrees(wanted: &str, found: &Result<ZoneItem, (RecordFault, Position)>) -> bo
     }
 }
 
-/// A row of a text and what its entries are. What `$ORIGIN` and `$TTL` say is not given here.
+/// A row of a text and its entries. `$ORIGIN` and `$TTL` are no items here.
 pub fn read(text: &[u8], origin: Option<&str>, wanted: &str) -> bool {
     let found = at_once(text, origin);
     let items: Vec<&str> = wanted

@@ -1,5 +1,5 @@
-//! The rows of `crates/test_records/stdin` that the crate's own calls can answer: data of each type,
-//! zones, at once and in blocks, and orders.
+//! The rows of `crates/test_records/stdin` that the crate's own calls can answer: RDATA of each type, zone
+//! files in memory and in chunks, and orders.
 #[path = "../common/blocks.rs"]
 mod blocks;
 mod data;
@@ -10,10 +10,10 @@ mod table;
 
 use table::{each_row, octets_of};
 
-/// The octets of the origin of rows that say none.
+/// The octets of the default origin of rows.
 const EXAMPLE: &str = "%07example%00";
 
-/// Judges a row; or says that the crate has no call for it.
+/// Checks a row. Returns `false` if the crate has no call for it.
 fn judge(fields: &[&str]) -> bool {
     match fields {
         ["data", record_type, text, wanted] => data::read(record_type, text, EXAMPLE, wanted),

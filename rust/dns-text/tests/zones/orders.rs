@@ -34,7 +34,7 @@ pub fn octets(left: &str, right: &str, wanted: &str) -> bool {
     agrees(data(left).cmp(&data(right)), wanted)
 }
 
-/// Records whose data are octets: by owner, class, type and data.
+/// Records with RDATA as octets, by owner, class, type and RDATA.
 pub fn octet_records(fields: &[&str], wanted: &str) -> bool {
     let records = fields.chunks(4).map(|fields| {
         let [owner, class, code, octets] = fields else {
@@ -49,7 +49,7 @@ pub fn octet_records(fields: &[&str], wanted: &str) -> bool {
     agrees(left.cmp(right), wanted)
 }
 
-/// A record of the fields of a row: owner, time to live, class, type and the text of the data.
+/// A record from the fields of a row: owner, TTL, class, type, and RDATA in presentation format.
 fn record(fields: &[&str]) -> (Name, Class, RecordData) {
     let [owner, _, class, record_type, text] = fields else {
         panic!("{fields:?}")
@@ -60,7 +60,7 @@ fn record(fields: &[&str]) -> (Name, Class, RecordData) {
     (name_of(owner), Class(class.parse().unwrap()), data)
 }
 
-/// Two records, and their order: equal records have equal data.
+/// Two records, and their order: equal records have equal RDATA.
 pub fn records(fields: &[&str], wanted: &str) -> bool {
     let (left, right) = (record(&fields[..5]), record(&fields[5..]));
     assert_eq!(left == right, wanted == "equal");

@@ -1,19 +1,20 @@
 #!/usr/bin/env python3
 """Counts the test rows by who answers them.
 
-usage: .ci/answered [WHO=PATH ..]
+usage: .ci/answered.py [WHO=PATH ..]
 
 Each answerer lists the rows that it answers, by file and line:
 
     c         out/c/rows and out/c/zones, which `make -C c check` builds over the C library
     rust      the tests of rust/dns-text, over the C library
-    programs  .ci/program-rows --list
+    programs  .ci/program_rows.py --list
     rattle    crates/test_rows/out/test_rows and crates/test_records/out/test_records, the row programs: all rows of
               their file, if they report that all agree
 
 c=FOLDER and rattle=FOLDER name the folder of these programs. WHO=FILE reads the list of an answerer from a file
-instead, and WHO= leaves it out. A row counts for the first answerer in this order. The rows that only the row programs answer are also counted by call. The status is 1 if
-nobody answers a row, if the counts do not add up to the number of rows, or if a list has a line without a row.
+instead, and WHO= skips the answerer. A row counts for the first answerer in this order. The rows that only the row
+programs answer are also counted by call. The status is 1 if nobody answers a row, if the counts do not add up to
+the number of rows, or if a list has a line without a row.
 """
 import collections
 import os
@@ -72,7 +73,7 @@ def rust(_=None):
 
 
 def programs(_=None):
-    return listed(run([".ci/program-rows", "--list", "-", "-"])[1])
+    return listed(run([".ci/program_rows.py", "--list", "-", "-"])[1])
 
 
 def rattle(folder=None):

@@ -1,7 +1,7 @@
 #!/usr/bin/env python3
 """Runs a row program over a file of rows, and prints each row that fails with its file and line.
 
-usage: .ci/row-file PROGRAM FILE [--calls PATTERN] [--without PATTERN] [--part K/N] [--line N]
+usage: .ci/run_rows.py PROGRAM FILE [--calls PATTERN] [--without PATTERN] [--part K/N] [--line N]
                                  [--at-most CALL:FIELD:COUNT] [--count]
 Rows are lines of a call, its inputs and the expected result, separated by tabs (crates/row_table). The
 options select rows: those whose call matches a regular expression, or doesn't; each Nth row from the

@@ -1,5 +1,5 @@
 #!/usr/bin/env python3
-"""progress CRATES LOG FOLDER COMMAND..: runs rt in a directory, writes its output to LOG, and reports on
+"""progress.py CRATES LOG FOLDER COMMAND..: runs rt in a directory, writes its output to LOG, and reports on
 standard error how long it takes and its progress."""
 import re
 import subprocess

@@ -1,7 +1,7 @@
 #!/usr/bin/env python3
-"""Lists the names that two files of specs export: each word of the contracts must have one meaning.
+"""Lists the names that two files of specs/ export: each name in a contract must have one meaning.
 
-usage: .ci/names
+usage: .ci/names.py
 
 Prints each clash, and ends with status 1 if there is one. `dns_text` is skipped, since it re-exports the
 names of other crates.

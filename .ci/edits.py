@@ -2,17 +2,17 @@
 """Tries the edits of crates/NAME/edits: each changes one function, which the prover must then reject.
 
 All edits of a crate are made at once, and the result of each changed function is looked up in the output
-of the check. So a crate takes one check of these functions and not one for each edit, as with
-`rt must-fail`; and the result shows that the function itself is rejected, and for which goal. The
-libraries below a crate are those that `rt ci` left in a clean clone, or else `rt check`.
+of the check. So a crate needs one check of these functions and not one for each edit, as with
+`rt must-fail`. The result shows that the function itself is rejected, and for which goal. The crates
+below must have been built before, by `rt ci` in a clean clone or by `rt check`.
 
 An edit has a line `refused: FUNCTION`, which names the function that it changes, and lines `file:`,
 `old:` and `new:` as for `rt must-fail`. First it is checked that each old text occurs once in its file;
 with --applies that is all.
 
-With --since the crates are those that differ from a commit, and a quarter of the others by turns: the
-count of commits selects the quarter, so that every edit is tried within four merges. LANDED in its place
-is the commit that .ci/landed names, from which a change started; if there is no such file or commit,
+With --since COMMIT only the crates that differ from a commit are tried, and a quarter of the others: the
+number of commits selects the quarter, so that every edit is tried within four merges. COMMIT can be
+LANDED, the commit that .ci/landed names, from which a change started. If that file or commit is missing,
 all edits are tried.
 """
 import argparse

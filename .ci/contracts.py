@@ -1,12 +1,12 @@
 #!/usr/bin/env python3
 """Lists the public functions whose contracts differ from those of an earlier commit.
 
-usage: .ci/contracts REV
+usage: .ci/contracts.py REV
 
-For each function that is public in src/ of a crate: its clauses in REV, each after `-`, and those of
-the working tree, each after `+`. A function that is in only one of them is listed with its clauses too.
-The end has the number of each kind, and of the functions whose clauses are the same. It judges nothing:
-the reader decides whether a contract is weaker now.
+Prints, for each such function in src/ of a crate, its clauses in REV, each after `-`, and those of the
+working tree, each after `+`. A function that only one of them has is listed with its clauses too. At the
+end it prints the count of each kind, and of the functions with equal clauses. Whether a contract is weaker
+now is for the reader to decide.
 """
 import pathlib
 import re

@@ -1,7 +1,7 @@
 #!/usr/bin/env python3
 """Runs `dnstext` and `zonetext` over test rows, and compares the results.
 
-usage: .ci/program-rows [--list] [--refuse] [--turns] [--only CALL] [--jobs N] DNSTEXT ZONETEXT [ROWS ..]
+usage: .ci/program_rows.py [--list] [--refuse] [--turns] [--only CALL] [--jobs N] DNSTEXT ZONETEXT [ROWS ..]
 
 ROWS are row files: by default crates/test_rows/stdin and crates/test_records/stdin. For each row that differs, its
 file and line, the expected result and the actual one are printed. The last line is `N rows, M differ`. The status
@@ -12,11 +12,11 @@ one call, or of one group such as `zone`.
 
 --refuse also runs each row with its Nth allocation failing, for N = 1, 2, .. until a run makes fewer allocations
 (refuse.c). Such a run must end as it does with enough memory, or report an out-of-memory error with the status for
-it, and leave no file behind. Allocations before a program opens its first file, as for the command line, fail only for one row of each
-command line. The last line is then `N rows, M differ, R failing allocations`.
+it, and create no file. Allocations before a program opens its first file, as for the command line, fail only for one
+row of each command line. The last line is then `N rows, M differ, R failing allocations`.
 
---turns takes all rows about zones, sets of records and the commands, and of each other call, whose rows differ only in
-their text, a quarter by turns: the count of commits picks it. The last line then ends with `, L left`.
+--turns runs all rows about zones, sets of records and the commands. Of each other call, whose rows differ only in
+their text, it runs a quarter, selected by the number of commits. The last line then ends with `, L left`.
 """
 import argparse
 import collections

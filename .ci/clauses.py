@@ -1,10 +1,10 @@
 #!/usr/bin/env python3
 """Counts clauses of contracts that are too long to read: `ensures` and `requires` of more than 100 columns.
 
-usage: .ci/clauses
+usage: .ci/clauses.py
 
-`rt fmt` leaves a clause on one line, so a long one should be named by a word of specs/. Prints how many
-each crate has, and ends with status 1 if there are more than MOST in total, which only goes down.
+`rt fmt` prints a clause on one line, so a long one should be named by a definition of specs/. Prints the count
+of each crate. The status is 1 if there are more than MOST in total; MOST only goes down.
 """
 import pathlib
 import re

@@ -1,7 +1,7 @@
 #!/usr/bin/env python3
-"""Compares the words that the completions offer in bash, zsh and fish with those that the programs
-accept. bash and fish are run, if they are installed; for zsh the file is read. The programs are those that
-the variables dnstext and zonetext name, or else those that `rt run` has built."""
+"""Compares the words that the completions for bash, zsh and fish offer with those that the programs accept.
+bash and fish are run, if they are installed; for zsh the file is read. The programs are those that the
+variables dnstext and zonetext name, or by default those that `rt run` has built."""
 import os
 import re
 import shutil

@@ -2,7 +2,7 @@
 """Runs a command, and appends a line to a file: its elapsed seconds, its seconds of processor time with
 those of its child processes, and the megabytes of the largest process.
 
-usage: .ci/measured FILE NAME COMMAND..
+usage: .ci/measured.py FILE NAME COMMAND..
 """
 import os
 import subprocess

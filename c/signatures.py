@@ -187,8 +187,8 @@ def main():
     said = versions(text)
     compare('version', said, {place: said['include/dnstext.h'] for place in said})
     for line in bad:
-        print('signatures: ' + line, file=sys.stderr)
-    print(f'signatures: {len(prototypes)} functions, {len(structs)} structs and {len(statuses)} '
+        print('signatures.py: ' + line, file=sys.stderr)
+    print(f'signatures.py: {len(prototypes)} functions, {len(structs)} structs and {len(statuses)} '
           f'statuses, {len(bad)} differ')
     return 1 if bad or not prototypes or not statuses else 0
 
