@@ -82,4 +82,4 @@ pub returns-in_err-end-in_default-clause-none : goal.returns-in_err-end-in_defau
 returns-in_err-end-in_default-clause-none c =
     let octets = c.args.octets.now in
     λ none. inr (λ feed line.
-        begins_word octets c.octets.depth feed c.octets.at line (c.octets.invariant.plain feed line).0 (λ e. omega (arith, e)) (λ e. grind (arith, nat_tests)) (λ e. grind (arith, nat_tests)) (c.in_err-end-in_default.ensures.none refl))
+    begins_word octets c.octets.depth feed c.octets.at line (c.octets.invariant.plain feed line).0 (λ e. omega (arith, e)) (λ e. grind (arith, nat_tests)) (λ e. grind (arith, nat_tests)) (c.in_err-end-in_default.ensures.none refl))
