@@ -3,7 +3,7 @@
 
 pub mod check;
 mod hash_owners;
-mod host_names;
+pub mod host_names;
 pub mod hosts;
 mod keys;
 pub mod laws;

@@ -42,6 +42,8 @@ mod sorting;
 mod spots;
 mod stop;
 mod times;
+mod update;
+mod update_lines;
 mod zone_files;
 mod zone_words;
 

@@ -42,6 +42,16 @@ pub struct Reading<'o> {
     pub is_one_zone: bool,
     /// Whether progress is not shown.
     pub is_quiet: bool,
+    /// Whether rejected entries are written to standard output, as comments, and the others are
+    /// used.
+    pub is_lenient: bool,
+}
+
+impl Reading<'_> {
+    /// Returns whether records are not used because of a status.
+    pub fn fails(&self, status: u8) -> bool {
+        status > u8::from(self.is_lenient)
+    }
 }
 
 /// A consumer of the entries of files, including rejected ones.
@@ -253,7 +263,11 @@ pub fn give_entries<T: TakeEntry + Drop>(
         is_standard: true,
         is_text: false,
     };
-    let reporter = Reporter::new(rt, policy, form, MOST);
+    let reporter = if reading.is_lenient {
+        Reporter::new(rt, policy, form, 0).as_comments()
+    } else {
+        Reporter::new(rt, policy, form, MOST)
+    };
     let checker = Checker::new(rt, reporter, limits, None);
     let mut giver = Giver {
         rt,

@@ -1,0 +1,4 @@
+mod Apart
+mod Cutting
+mod Fitting
+mod Lasts
