@@ -131,7 +131,6 @@ RULES = [
             "zone_dnssec/src/hashed.rt": 1,
             "zone_edit/src/edit.rt": 1,
             "zone_edit/src/tokens.rt": 1,
-            "zone_update/src/messages.rt": 1,
             "zone_format/src/refusal.rt": 1,
             "zonetext_lib/src/replace.rt": 1,
         },

@@ -259,7 +259,9 @@ fn has_bad_mailbox<Owner: AsOctets, Octets: AsOctets>(record: &Record<Owner, Oct
 }
 
 /// Returns whether a name in a record must be a host name, and isn't.
-pub fn is_no_host_name<Owner: AsOctets, Octets: AsOctets>(record: &Record<Owner, Octets>) -> bool
+pub(crate) fn is_no_host_name<Owner: AsOctets, Octets: AsOctets>(
+    record: &Record<Owner, Octets>,
+) -> bool
     ensures { result ≡ is_bad_host_name «record».now }
 {
     has_bad_owner(record) || has_bad_target(record) || has_bad_mailbox(record)

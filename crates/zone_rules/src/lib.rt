@@ -3,7 +3,7 @@
 
 pub mod check;
 mod hash_owners;
-pub mod host_names;
+mod host_names;
 pub mod hosts;
 mod keys;
 pub mod laws;

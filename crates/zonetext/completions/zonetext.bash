@@ -11,12 +11,12 @@ _zonetext() {
             options+=' --max-ttl --max-entry --class --json --max --color --verbose --quiet -v'
             ;;
         canon)
-            options='--keep-order --lenient --memory --wire --type --only-dnssec --zone --class --include --base --max-entry'
+            options='--keep-order --memory --wire --type --only-dnssec --zone --class --include --base --max-entry'
             options+=' --no-dnssec --no-soa --quiet'
             ;;
         diff)
-            options='--entries --summary --max-changes --need-serial --nsupdate --no-prereq --update-keys'
-            options+=' --zone --class --include --base --max-entry --no-dnssec --no-soa --quiet'
+            options='--entries --summary --max-changes --zone --class --include --base --max-entry'
+            options+=' --no-dnssec --no-soa --quiet'
             ;;
         tokens) options='--json --quiet' ;;
         fmt) options='--write --check --diff --force --quiet -w' ;;

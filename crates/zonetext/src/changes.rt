@@ -17,12 +17,7 @@ pub struct Output {
     pub is_summary: bool,
     /// At most `most` changes, if it is set.
     pub most: Option<u32>,
-    /// Whether the status is [`UNFIT`] if the serial did not rise.
-    pub needs_serial: bool,
 }
-
-/// The status if the serial did not rise, or if an update can't make the changes.
-pub const UNFIT: u8 = 4;
 
 /// The number of changes of records of a type.
 #[derive(Clone, Copy)]
@@ -110,40 +105,37 @@ fn write_changes<Owner: AsOctets, Octets: AsOctets>(
     Ok(())
 }
 
-/// Reports if the serial of the second zone is not greater than that of the first, and returns
-/// whether it is so.
-pub fn tell_serial(rt: &HostRuntime, old: &Gathered, new: &Gathered) -> io::Result<bool> {
+/// Reports if the serial of the second zone is not greater than that of the first.
+fn tell_serial(rt: &HostRuntime, old: &Gathered, new: &Gathered) -> io::Result<()> {
     let (Some(old), Some(new)) = (&old.seen, &new.seen) else {
-        return Ok(false);
+        return Ok(());
     };
     let (old, new) = (old.serial, new.serial);
     if serial_rises(old, new) {
-        return Ok(false);
+        return Ok(());
     }
-    eprintln!(rt; "zonetext: serial did not rise: {old} -> {new}")?;
-    Ok(true)
+    eprintln!(rt; "zonetext: serial did not rise: {old} -> {new}")
 }
 
-/// Writes the differences between two zones, and returns the status: 1 if there are any.
-fn compare(rt: &HostRuntime, old: &Gathered, new: &Gathered, output: Output) -> Result<u8, Stop> {
+/// Writes the differences between two zones, and returns whether there are any.
+fn compare(rt: &HostRuntime, old: &Gathered, new: &Gathered, output: Output) -> Result<bool, Stop> {
     let (old_set, _) = old.set()?;
     let (new_set, _) = new.set()?;
     let changes = changes_between(rt.alloc(), &old_set, &new_set)?;
     let changes = changes.as_slice();
     if changes.is_empty() {
-        return Ok(0);
+        return Ok(false);
     }
     if output.is_summary {
         write_summary(rt, &counts_of(rt.alloc(), changes)?)?;
     } else {
         write_changes(rt, changes, output.most)?;
     }
-    let lacks_serial = tell_serial(rt, old, new)? && output.needs_serial;
-    Ok(if lacks_serial { UNFIT } else { 1 })
+    tell_serial(rt, old, new)?;
+    Ok(true)
 }
 
-/// Compares two files, and returns the status: 1 if their records differ, or an entry is rejected;
-/// with `needs_serial`, [`UNFIT`] if they differ and the serial did not rise.
+/// Compares two files, and returns the status: 1 if their records differ, or an entry is rejected.
 #[inline(never)]
 pub fn run(
     rt: &HostRuntime,
@@ -161,7 +153,7 @@ pub fn run(
         (Err(status), Ok(_)) | (Ok(_), Err(status)) => return status,
     };
     match compare(rt, &old, &new, output) {
-        Ok(status) => status,
+        Ok(differ) => u8::from(differ),
         Err(stop) => conclude(rt, "-", stop),
     }
 }

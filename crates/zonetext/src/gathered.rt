@@ -10,8 +10,7 @@ use dns_resource::{Record, append_canonical_data};
 use std::alloc::Global;
 use zone_set::{CanonicalSet, Selection, TaggedOctets};
 
-/// Records in canonical form (RFC 4034 section 6.2) or as they are spelled, each with the number of
-/// records before it.
+/// Records in canonical form (RFC 4034 section 6.2), each with the number of records before it.
 #[derive(Drop)]
 pub struct Gathered {
     held: Held<usize>,
@@ -75,12 +74,10 @@ impl Lowerer {
     }
 }
 
-/// Collects the records of files.
+/// Collects the records of files in canonical form.
 #[derive(Drop)]
 pub struct Gatherer<'s> {
     selection: Selection<'s>,
-    /// Whether names keep their letter case.
-    keeps_case: bool,
     held: Held<usize>,
     lowerer: Lowerer,
 }
@@ -90,16 +87,9 @@ impl<'s> Gatherer<'s> {
     pub fn new(alloc: Global, selection: Selection<'s>) -> Gatherer<'s> {
         Gatherer {
             selection,
-            keeps_case: false,
             held: Held::new(alloc),
             lowerer: Lowerer::new(alloc),
         }
-    }
-
-    /// Returns the same collection, in which names keep their letter case.
-    pub fn keeping_case(mut self) -> Gatherer<'s> {
-        self.keeps_case = true;
-        self
     }
 
     /// Returns the records that were collected, and the first SOA.
@@ -120,34 +110,12 @@ impl TakeEntry for Gatherer<'_> {
             return Ok(());
         }
         let number = self.held.len();
-        if self.keeps_case {
-            return self.held.add(given, number);
-        }
         let lowered = self.lowerer.lower(given)?;
         self.held.add(lowered, number)
     }
 }
 
-/// Passes the records of files to a collection, and returns them. If an entry is rejected, that is
-/// reported, and the status is returned in place of them: 1, or 3 if a file can't be read.
-pub fn gather_by(
-    rt: &HostRuntime,
-    files: &[&str],
-    reading: &Reading<'_>,
-    gatherer: Gatherer<'_>,
-) -> Result<Gathered, u8> {
-    let Outcome {
-        status,
-        seen,
-        taker,
-    } = give_entries(rt, files, reading, gatherer);
-    if reading.fails(status) {
-        return Err(status);
-    }
-    Ok(taker.gathered(seen))
-}
-
-/// Returns the selected records of files, in canonical form. If an entry is rejected, that is reported, and the status
+/// Returns the selected records of files. If an entry is rejected, that is reported, and the status
 /// is returned in place of them: 1, or 3 if a file can't be read.
 pub fn gather(
     rt: &HostRuntime,
@@ -155,5 +123,14 @@ pub fn gather(
     reading: &Reading<'_>,
     selection: Selection<'_>,
 ) -> Result<Gathered, u8> {
-    gather_by(rt, files, reading, Gatherer::new(rt.alloc(), selection))
+    let gatherer = Gatherer::new(rt.alloc(), selection);
+    let Outcome {
+        status,
+        seen,
+        taker,
+    } = give_entries(rt, files, reading, gatherer);
+    if status > 0 {
+        return Err(status);
+    }
+    Ok(taker.gathered(seen))
 }

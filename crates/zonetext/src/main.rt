@@ -42,8 +42,6 @@ mod sorting;
 mod spots;
 mod stop;
 mod times;
-mod update;
-mod update_lines;
 mod zone_files;
 mod zone_words;
 

@@ -42,16 +42,6 @@ pub struct Reading<'o> {
     pub is_one_zone: bool,
     /// Whether progress is not shown.
     pub is_quiet: bool,
-    /// Whether rejected entries are written to standard output, as comments, and the others are
-    /// used.
-    pub is_lenient: bool,
-}
-
-impl Reading<'_> {
-    /// Returns whether records are not used because of a status.
-    pub fn fails(&self, status: u8) -> bool {
-        status > u8::from(self.is_lenient)
-    }
 }
 
 /// A consumer of the entries of files, including rejected ones.
@@ -263,11 +253,7 @@ pub fn give_entries<T: TakeEntry + Drop>(
         is_standard: true,
         is_text: false,
     };
-    let reporter = if reading.is_lenient {
-        Reporter::new(rt, policy, form, 0).as_comments()
-    } else {
-        Reporter::new(rt, policy, form, MOST)
-    };
+    let reporter = Reporter::new(rt, policy, form, MOST);
     let checker = Checker::new(rt, reporter, limits, None);
     let mut giver = Giver {
         rt,

@@ -1,7 +1,6 @@
 //! Reports findings.
 use crate::stop::Stop;
 use dns_split::position::Position;
-use std::alloc::AllocError;
 use std::io::Write;
 use zonetext_report::code::Code;
 use zonetext_report::excerpt::push_excerpt;
@@ -34,19 +33,6 @@ pub struct Spot<'s> {
     pub line: Option<&'s [u8]>,
 }
 
-/// Appends lines, each as a comment of a zone file.
-fn push_comments(lines: &[u8], out: &mut Vec<u8>) -> Result<(), AllocError> {
-    let mut begins_line = true;
-    for octet in lines {
-        if begins_line {
-            out.extend_from_slice(b"; ")?;
-        }
-        out.push(*octet)?;
-        begins_line = *octet == b'\n';
-    }
-    Ok(())
-}
-
 /// Reports findings, and counts them.
 #[derive(Drop)]
 pub struct Reporter<'a> {
@@ -54,8 +40,6 @@ pub struct Reporter<'a> {
     policy: Policy<'a>,
     form: Form,
     pub tally: Tally,
-    /// Whether findings are written to standard output, as comments of a zone file.
-    writes_comments: bool,
     out: Vec<u8>,
 }
 
@@ -68,37 +52,17 @@ impl<'a> Reporter<'a> {
             policy,
             form,
             tally: Tally::new(most),
-            writes_comments: false,
             out: Vec::new(rt.alloc()),
         }
     }
 
-    /// Returns the same reporter, which writes findings to standard output, as comments of a zone
-    /// file.
-    pub fn as_comments(mut self) -> Reporter<'a> {
-        self.writes_comments = true;
-        self
-    }
-
     /// Writes what was appended.
     fn write(&mut self) -> Result<(), Stop> {
-        if self.writes_comments {
-            return self.write_comments();
-        }
         let octets = self.out.as_slice();
         match self.form {
             Form::Json => self.rt.stdout().write_all(octets)?,
             Form::Lines { .. } => self.rt.stderr().write_all(octets)?,
         }
-        self.out.truncate(0);
-        Ok(())
-    }
-
-    /// Writes what was appended to standard output, as comments.
-    fn write_comments(&mut self) -> Result<(), Stop> {
-        let mut comments = Vec::new(self.rt.alloc());
-        push_comments(self.out.as_slice(), &mut comments)?;
-        self.rt.stdout().write_all(comments.as_slice())?;
         self.out.truncate(0);
         Ok(())
     }
@@ -168,8 +132,7 @@ impl<'a> Reporter<'a> {
     /// Reports the number of findings, unless it is 0. With JSON it is reported only if a finding
     /// is not shown.
     pub fn summarize(&mut self) -> Result<(), Stop> {
-        let is_silent = self.form == Form::Json && self.tally.hidden() == 0;
-        if is_silent || self.writes_comments {
+        if self.form == Form::Json && self.tally.hidden() == 0 {
             return Ok(());
         }
         self.tally.push_summary(&mut self.out)?;

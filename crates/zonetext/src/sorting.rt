@@ -74,7 +74,7 @@ pub fn gather_sorting<'s>(
 ) -> Result<Sorting<'s>, u8> {
     let sorting = Sorting::new(rt, selection, size);
     let Outcome { status, taker, .. } = give_entries(rt, files, reading, sorting);
-    if reading.fails(status) {
+    if status > 0 {
         return Err(status);
     }
     Ok(taker)

@@ -1,4 +1,0 @@
-mod Apart
-mod Cutting
-mod Fitting
-mod Lasts

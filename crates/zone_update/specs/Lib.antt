@@ -1,5 +1,0 @@
-pub mod Messages
-pub mod Operations
-pub mod Parts
-pub mod Rows
-pub mod UpdateSerials
