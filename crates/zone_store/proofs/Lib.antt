@@ -1,8 +1,2 @@
-mod KeyBounds
 mod KeyPrefixes
 mod PartsRead
-mod StoreReads
-mod Flat
-mod SortedFlat
-mod StoreSorts
-mod StoreLeft

@@ -25,6 +25,7 @@ mod long_ttls;
 mod merging;
 mod open_file;
 mod options;
+mod packed;
 mod pair;
 mod part_files;
 mod progress;
