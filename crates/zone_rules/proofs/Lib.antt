@@ -8,7 +8,6 @@ pub mod Neighbours
 pub mod Searches
 pub mod SharedNames
 pub mod Steps
-pub mod Subjects
 mod ToldRules
 pub mod Wildcards
 pub mod Within

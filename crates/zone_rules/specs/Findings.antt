@@ -6,7 +6,6 @@ use Rattle.dns_kinds.specs.Rtype as Rtype
 use Rattle.dns_resource.specs.declared.record.Record.{Record}
 use Rattle.zone_rules.specs.Present.{is_present}
 use Rattle.zone_rules.specs.Rules.{breaks}
-use Rattle.zone_rules.specs.Zones.{record_before}
 use Rattle.zone_rules.specs.declared.refused.RrsetName.{RrsetName}
 use Rattle.zone_rules.specs.declared.rule.Finding.{Finding}
 use Rattle.zone_rules.specs.declared.rule.Rule.{Rule}
@@ -28,7 +27,7 @@ record_rules =
 
 -- the record at an index breaks the rule
 abbrev pub breaks_at : {N O : Type 0} → List (List ℕ) → List (Record N O) → List RrsetName → ℕ → Rule → Bool
-breaks_at origin records refused place rule = option_map_or (breaks rule origin records refused (record_before records place)) (slice_get records place) false
+breaks_at origin records refused place rule = option_map_or (breaks rule origin records refused place) (slice_get records place) false
 
 -- a finding of a rule, if the record at an index breaks it
 abbrev pub found_of : {N O : Type 0} → List (List ℕ) → List (Record N O) → List RrsetName → ℕ → Rule → List Finding

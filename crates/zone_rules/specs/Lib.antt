@@ -7,5 +7,4 @@ pub mod Rows
 pub mod RuleNames
 pub mod Rules
 pub mod Searches
-pub mod Subjects
 pub mod Zones

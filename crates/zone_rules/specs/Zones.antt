@@ -35,12 +35,8 @@ has_owner name records = list_any (λ r. same_name r.owner name) records
 abbrev pub has_owner_within : {N O : Type 0} → List (List ℕ) → List (Record N O) → Bool
 has_owner_within name records = list_any (λ r. is_within r.owner name) records
 
--- the same record in a list whose octets are held in other types
-abbrev pub as_listed : {N O M P : Type 0} → Record N O → Record M P
-as_listed r = record { owner = r.owner; ttl = r.ttl; class = r.class; «data» = r.«data» }
-
 -- records are equal in canonical form, whatever their TTLs
-abbrev pub is_equal_record : {N O M P : Type 0} → Record N O → Record M P → Bool
+abbrev pub is_equal_record : {N O : Type 0} → Record N O → Record N O → Bool
 is_equal_record a b = is_eq (record_order (record_key a) (record_key b))
 
 -- records are in canonical order (RFC 4034 section 6)

@@ -2,16 +2,16 @@
 ghost use Rattle.zone_rules.specs.Findings.{BrokenRulesAreTold};
 
 use crate::refused::SortedSets;
-use crate::zone_records::ZoneRecords;
+use crate::sorted::SortedRecords;
 use dns_octets::AsOctets;
 use dns_wire::Name;
 
 /// States that a finding names a record and a rule if and only if the record breaks the rule. It
 /// does nothing else.
-pub fn broken_rules_are_told<Z: ZoneRecords, Origin: AsOctets>(
+pub fn broken_rules_are_told<Owner: AsOctets, Octets: AsOctets, Origin: AsOctets>(
     origin: &Name<Origin>,
-    records: &Z,
+    records: &SortedRecords<'_, Owner, Octets>,
     refused: &SortedSets<'_>,
 )
-    ensures { BrokenRulesAreTold origin.now (Z.contents records.now) refused.now }
+    ensures { BrokenRulesAreTold origin.now records.now refused.now }
 {}

@@ -13,13 +13,10 @@ pub mod pairs;
 mod present;
 pub mod refused;
 pub mod rule;
-pub mod search;
+mod search;
 pub mod sorted;
-pub mod subject;
-pub mod zone_records;
 
 pub use check::check_zone;
 pub use refused::{RrsetName, SortedSets};
 pub use rule::{Finding, Rule};
 pub use sorted::SortedRecords;
-pub use zone_records::ZoneRecords;

@@ -1,8 +1,7 @@
 //! Checks the entries of zone files, for the command `check`.
 use crate::file_lines::FileLines;
 use crate::held_zone::{
-    HeldZone, Stand, StandingRecords, dname_text, file_name, is_of_absence, is_of_signed_absence,
-    other_soa,
+    HeldZone, Stand, StandingRecord, dname_text, is_of_absence, is_of_signed_absence, other_soa,
 };
 use crate::long_ttls::{long_ttl, long_ttl_of};
 use crate::open_file::first_place;
@@ -417,14 +416,13 @@ impl<'a> Checker<'a> {
             return Ok(());
         };
         let position = position_at(entry, at.saturating_sub(entry.offset));
-        let stand = Stand {
-            file: entry.number,
-            position,
-        };
-        match self.limits.times {
-            Some(_) => held.records.add(given, stand),
-            None => held.add(&given, stand),
-        }
+        held.records.add(
+            given,
+            Stand {
+                file: entry.number,
+                position,
+            },
+        )
     }
 
     /// Stores the RRset of a rejected record, if records are stored and its owner and its type are
@@ -512,69 +510,49 @@ impl<'a> Checker<'a> {
             return Ok(());
         }
         match self.zone.take() {
-            Some(zone) => self.check_held(held, &zone, true),
-            None => self.check_held(held, &Name::root_ref(), false),
+            Some(zone) => self.check_zone(&held, &zone, true),
+            None => self.check_zone(&held, &Name::root_ref(), false),
         }
     }
 
     /// Reports which rules the records break: those of a zone, or only those of RRsets.
-    fn check_held<Origin: AsOctets>(
+    fn check_zone<Origin: AsOctets>(
         &mut self,
-        held: HeldZone,
+        held: &HeldZone,
         zone: &Name<Origin>,
         is_zone: bool,
     ) -> Result<(), Stop> {
-        let refused = held.refused.sorted()?;
-        let Some(sets) = SortedSets::new(refused.as_slice()) else {
-            return Err(Stop::Damaged);
-        };
-        let files = held.files.as_slice();
-        let Some(times) = self.limits.times else {
-            let records = held.store.sort();
-            self.check_zone(&records, &sets, files, zone, is_zone)?;
-            return Ok(());
-        };
         let mut set = held.records.set()?;
         set.sort()?;
-        let Some(sorted) = SortedRecords::new(set.as_slice()) else {
+        let records = set.as_slice();
+        let Some(sorted) = SortedRecords::new(records) else {
             return Err(Stop::Damaged);
         };
-        if self.check_zone(&sorted, &sets, files, zone, is_zone)? && is_zone {
-            let is_whole = !self.has_gap && held.refused.is_empty();
-            return self.check_signatures(files, zone, times, &sorted, is_whole);
-        }
-        Ok(())
-    }
-
-    /// Reports which rules the records break: those of a zone, or only those of RRsets. Returns
-    /// false if the records are probably those of another zone.
-    fn check_zone<Z: StandingRecords, Origin: AsOctets>(
-        &mut self,
-        records: &Z,
-        refused: &SortedSets<'_>,
-        files: &[String],
-        zone: &Name<Origin>,
-        is_zone: bool,
-    ) -> Result<bool, Stop> {
-        let found = check_zone(self.alloc, zone, records, refused)?;
+        let refused = held.refused.sorted()?;
+        let Some(refused) = SortedSets::new(refused.as_slice()) else {
+            return Err(Stop::Damaged);
+        };
+        let found = check_zone(self.alloc, zone, &sorted, &refused)?;
         if is_zone {
             if let Some(finding) = other_soa(found.as_slice(), records) {
-                let stand = finding.record.and_then(|place| records.stand(place));
-                self.tell_other_soa(files, code_of_rule(finding.rule), stand, zone)?;
-                return Ok(false);
+                let record = finding.record.and_then(|place| records.get(place));
+                return self.tell_other_soa(held, code_of_rule(finding.rule), record, zone);
             }
         }
         for finding in &found {
             if self.tells_rule(finding.rule, is_zone) {
-                let stand = finding.record.and_then(|place| records.stand(place));
+                let record = finding.record.and_then(|place| records.get(place));
                 let code = code_of_rule(finding.rule);
-                match dname_text(self.alloc, finding, records, refused)? {
-                    Some(text) => self.tell_at(files, code, stand, text.as_str())?,
-                    None => self.tell_broken(files, code, stand)?,
+                match dname_text(self.alloc, finding, &sorted, &refused)? {
+                    Some(text) => self.tell_at(held, code, record, text.as_str())?,
+                    None => self.tell_broken(held, code, record)?,
                 }
             }
         }
-        Ok(true)
+        match self.limits.times {
+            Some(times) if is_zone => self.check_signatures(held, zone, times, &sorted),
+            _ => Ok(()),
+        }
     }
 
     /// Returns whether a broken rule is reported. Without a zone only rules of RRsets are. Missing
@@ -589,29 +567,29 @@ impl<'a> Checker<'a> {
     /// Reports that the records have an SOA only at a name that is not the zone's.
     fn tell_other_soa<Origin: AsOctets>(
         &mut self,
-        files: &[String],
+        held: &HeldZone,
         code: Code,
-        stand: Option<Stand>,
+        record: Option<&StandingRecord<'_>>,
         zone: &Name<Origin>,
     ) -> Result<(), Stop> {
         let zone = DisplayWithDot::new(zone);
         let text = format!(in self.alloc; "the SOA is not that of the zone {zone}")?;
-        self.tell_at(files, code, stand, text.as_str())
+        self.tell_at(held, code, record, text.as_str())
     }
 
-    /// Reports which rules of DNSSEC the records of a zone break. Findings that an unread record
-    /// might explain are reported only if all records were read.
+    /// Reports which rules of DNSSEC the records of a zone break.
     fn check_signatures<Origin: AsOctets>(
         &mut self,
-        files: &[String],
+        held: &HeldZone,
         zone: &Name<Origin>,
         times: Times,
         records: &SortedRecords<'_, TaggedOctets<'_, Stand>, &[u8]>,
-        is_whole: bool,
     ) -> Result<(), Stop> {
+        // Findings that an unread record might explain are not reported.
+        let is_whole = !self.has_gap && held.refused.is_empty();
         if !has_type(records, &view(zone), RecordType::DNSKEY) {
             return if is_whole {
-                self.tell_broken(files, Code::NoDnskey, None)
+                self.tell_broken(held, Code::NoDnskey, None)
             } else {
                 Ok(())
             };
@@ -621,8 +599,8 @@ impl<'a> Checker<'a> {
             if !is_whole && is_of_signed_absence(finding.rule) {
                 continue;
             }
-            let stand = records.stand(finding.record);
-            self.tell_broken(files, code_of_security(finding.rule), stand)?;
+            let record = records.as_slice().get(finding.record);
+            self.tell_broken(held, code_of_security(finding.rule), record)?;
         }
         Ok(())
     }
@@ -630,30 +608,30 @@ impl<'a> Checker<'a> {
     /// Reports that a rule is broken, by a record or by what is missing in the zone.
     fn tell_broken(
         &mut self,
-        files: &[String],
+        held: &HeldZone,
         code: Code,
-        stand: Option<Stand>,
+        record: Option<&StandingRecord<'_>>,
     ) -> Result<(), Stop> {
-        self.tell_at(files, code, stand, code_text(code))
+        self.tell_at(held, code, record, code_text(code))
     }
 
     /// Reports a finding at a record, or at the first file's start.
     fn tell_at(
         &mut self,
-        files: &[String],
+        held: &HeldZone,
         code: Code,
-        stand: Option<Stand>,
+        record: Option<&StandingRecord<'_>>,
         text: &str,
     ) -> Result<(), Stop> {
-        let stand = match stand {
-            Some(stand) => stand,
+        let stand = match record {
+            Some(record) => record.owner.as_octets().tag,
             None => Stand {
                 file: 0,
                 position: first_place().position,
             },
         };
         let position = stand.position;
-        let name = file_name(files, stand.file);
+        let name = held.file(stand.file);
         let line = if self.reads_line(code, stand.file) {
             self.lines.line(stand.file, name, position.line)?
         } else {

@@ -25,7 +25,6 @@ mod long_ttls;
 mod merging;
 mod open_file;
 mod options;
-mod packed;
 mod pair;
 mod part_files;
 mod progress;
