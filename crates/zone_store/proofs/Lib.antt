@@ -1,7 +1,8 @@
-mod EntriesRead
-mod EntryOrders
-mod EntrySearches
+mod KeyBounds
 mod KeyPrefixes
 mod PartsRead
-mod Rising
+mod StoreReads
+mod Flat
+mod SortedFlat
 mod StoreSorts
+mod StoreLeft
