@@ -1,0 +1,3 @@
+pub mod Escapes
+pub mod Extending
+pub mod Texts

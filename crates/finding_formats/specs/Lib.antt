@@ -1,0 +1,9 @@
+pub mod Checkstyle
+pub mod Escape
+pub mod Github
+pub mod Json
+pub mod Laws
+pub mod Pieces
+pub mod RecordJson
+pub mod Rows
+pub mod Sarif
