@@ -23,7 +23,7 @@ HEAD = """# Codes of findings
 
 `zonetext check` names each finding by a code. `zonetext codes` lists them, `zonetext explain CODE` prints one of the
 paragraphs below, and `--allow CODE` and `--deny CODE` change what is reported. An error has status 1. An octet of an
-example that is not printable ASCII is written as `%XX`, and a `%` at its end stands for a missing line end.
+example that is not printable ASCII is written as `%XX`, and a `%` at its end means a missing line end.
 
 `crates/finding_codes/list_codes.py` writes this page.
 """

@@ -12,7 +12,7 @@ pub struct Entry {
     /// What it leads to and what to write instead, with the RFC.
     pub text: &'static str,
     /// Lines of a zone file that have the finding. An octet that is not printable ASCII is a percent
-    /// sign and two hexadecimal digits. A percent sign at the end stands for a missing line end.
+    /// sign and two hexadecimal digits. A percent sign at the end means a missing line end.
     pub example: &'static str,
 }
 

@@ -1,11 +1,11 @@
 -- What the octets of an escaped text are like.
-use Rattle.std.proofs.Common.{◌≡◌, ℕ, ◌+◌, ◌-◌, ◌/◌, ◌%◌, ◌<◌, ◌≤◌, ◌==◌, not, Bool, true, false, cond, List, [], ◌∷◌, ◌++◌, refl, sym, ap, ◌∙◌, arith, inl, inr}
+use Rattle.std.proofs.Common.{◌≡◌, ℕ, ◌+◌, ◌/◌, ◌%◌, ◌<◌, ◌≤◌, ◌==◌, Bool, true, false, cond, List, [], ◌∷◌, ◌++◌, refl, sym, ap, ◌∙◌, arith, inl, inr}
 use Rattle.std.specs.Prelude.{◌||◌, ◌&&◌, nat_lt, nat_le, codes}
 use Rattle.std.specs.Fmt.{digit_glyph}
 use Rattle.std.specs.List.{flat_map, list_all}
 use Rattle.std.proofs.lemmas.Bool.{and_parts, eqb-true, leb-true, ltb-true, ltb-false, or_cases}
 use Rattle.std.proofs.lemmas.List.Folds.{list_all-append}
-use Rattle.finding_formats.specs.Escape.{decimal_escape, github_octet, is_alphanumeric, is_github_special, is_text_octet, is_uri_octet, json_string_octet, percent_escape, shown_or_escaped, uri_octet, xml_octet}
+use Rattle.finding_formats.specs.Escape.{decimal_escape, github_octet, is_alphanumeric, is_github_special, is_text_octet, is_uri_octet, json_string_octet, percent_escape, uri_octet, xml_octet}
 
 -- the octets of digits, and the marks of escapes, meet a test
 pub record MeetsEscapes (p : ℕ → Bool) : Type 0 where

@@ -1,5 +1,5 @@
 -- What escaped texts are like, for all octets.
-use Rattle.std.specs.Prelude.{◌≡◌, ℕ, ◌==◌, ◌||◌, ◌&&◌, nat_le, not, if◌then◌else◌, Bool, true, false, List, [], ◌∷◌, ◌++◌, IsUtf8}
+use Rattle.std.specs.Prelude.{◌≡◌, ℕ, ◌==◌, ◌||◌, nat_le, not, if◌then◌else◌, Bool, true, false, List, [], ◌∷◌, ◌++◌, IsUtf8}
 use Rattle.std.specs.List.{list_all}
 use Rattle.dns_symbol.specs.Characters.{backslash, double_quote}
 use Rattle.finding_formats.specs.Escape.{escaped}

@@ -110,7 +110,8 @@ fn push_about<A: Allocator>(
     owner: Option<&[u8]>,
     rtype: Option<&[u8]>,
 ) -> Result<(), AllocError>
-    ensures ok { OnOk result (out.new.items ≡ out.old.items ++ about_text context owner.entry rtype.entry) }
+    ensures ok { OnOk result (out.new.items
+        ≡ out.old.items ++ about_text context owner.entry rtype.entry) }
     ensures err { OnErr result (Extends out.old.items out.new.items) }
 {
     match rtype {
