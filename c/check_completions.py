@@ -62,8 +62,8 @@ def zonetext(path):
     common = zsh_options(re.search(r'common=\((.*)\)', lines)[1])
     compare('zsh', ['zonetext'], re.findall(r"^    '(\w+):", lines, re.M), commands)
     for name, wanted in taken.items():
-        own = re.search(rf'^    {name}\)\n +_arguments \$common (.*)', lines, re.M)[1]
-        compare('zsh', ['zonetext', name], common + zsh_options(own), wanted)
+        own = re.search(rf'^    {name}\)\n +_arguments (\$common )?(.*)', lines, re.M)
+        compare('zsh', ['zonetext', name], (common if own[1] else []) + zsh_options(own[2]), wanted)
     return len(taken) + 1
 
 

@@ -2,33 +2,40 @@
 _zonetext() {
     local word=${COMP_WORDS[COMP_CWORD]} options
     if [ "$COMP_CWORD" -eq 1 ]; then
-        COMPREPLY=($(compgen -W 'check tokens fmt lines records canon diff digest cut help --help --version -h -V' -- "$word"))
+        COMPREPLY=($(compgen -W 'check tokens fmt lines records canon diff digest cut codes explain help --help --version -h -V' -- "$word"))
         return
     fi
     case ${COMP_WORDS[1]} in
         check)
             options='--text --zone --zone-from-name --include --base --stdin-name --dnssec --within --now --deny --allow --strict'
-            options+=' --max-ttl --max-entry --class --json --max --color --verbose --quiet -v'
+            options+=' --max-ttl --max-entry --class --format --json --max --color --verbose --quiet -v'
             ;;
         canon)
-            options='--keep-order --memory --wire --type --only-dnssec --zone --class --include --base --max-entry'
+            options='--json --keep-order --memory --wire --type --only-dnssec --zone --class --include --base --max-entry'
             options+=' --no-dnssec --no-soa --quiet'
             ;;
         diff)
-            options='--entries --summary --max-changes --zone --class --include --base --max-entry'
+            options='--json --entries --summary --max-changes --zone --class --include --base --max-entry'
             options+=' --no-dnssec --no-soa --quiet'
             ;;
         tokens) options='--json --quiet' ;;
         fmt) options='--write --check --diff --force --quiet -w' ;;
         lines) options='--tabbed --quiet' ;;
-        records) options='--zone --class --include --base --max-entry --quiet' ;;
+        records) options='--json --zone --class --include --base --max-entry --quiet' ;;
         digest)
-            options='--write --hash --force --any --verbose --zone --class --include --base --max-entry'
+            options='--json --write --hash --force --any --verbose --zone --class --include --base --max-entry'
             options+=' --quiet -w -v'
             ;;
         cut) options='--output --soa --zone --class --max-entry --quiet -o' ;;
+        codes) options='' ;;
+        explain)
+            if [[ $word != -* ]]; then
+                COMPREPLY=($(compgen -W "$(zonetext codes 2>/dev/null | cut -f 1)" -- "$word"))
+                return
+            fi
+            ;;
         help)
-            COMPREPLY=($(compgen -W 'check tokens fmt lines records canon diff digest cut help' -- "$word"))
+            COMPREPLY=($(compgen -W 'check tokens fmt lines records canon diff digest cut codes explain help' -- "$word"))
             return
             ;;
         *) return ;;

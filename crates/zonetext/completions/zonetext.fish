@@ -1,5 +1,5 @@
 # Completion of zonetext for fish.
-set -l commands check tokens fmt lines records canon diff digest cut help
+set -l commands check tokens fmt lines records canon diff digest cut codes explain help
 set -l first "not __fish_seen_subcommand_from $commands"
 complete -c zonetext -n $first -f
 complete -c zonetext -n $first -a check -d 'Report the errors in zone files'
@@ -11,6 +11,8 @@ complete -c zonetext -n $first -a canon -d 'Print the records of zone files in c
 complete -c zonetext -n $first -a diff -d 'Print the differences between the records of two zone files'
 complete -c zonetext -n $first -a digest -d 'Check or write the digests of a zone (ZONEMD, RFC 8976)'
 complete -c zonetext -n $first -a cut -d 'Split a zone file into parts that can be read separately'
+complete -c zonetext -n $first -a codes -d 'List the codes of findings, with their severity'
+complete -c zonetext -n $first -a explain -d 'Explain a code, with an example and the RFC'
 complete -c zonetext -n $first -a help -d 'Print the help of a command'
 complete -c zonetext -n $first -s V -l version -d 'Print the version'
 complete -c zonetext -n 'not __fish_seen_subcommand_from help' -s h -l help -d 'Print help'
@@ -30,7 +32,9 @@ complete -c zonetext -n '__fish_seen_subcommand_from check' -l strict -d 'Report
 complete -c zonetext -n '__fish_seen_subcommand_from check' -l max-ttl -x -d 'Maximum TTL'
 complete -c zonetext -n '__fish_seen_subcommand_from check records canon diff digest cut' -l max-entry -x -d 'Maximum length of an entry in octets'
 complete -c zonetext -n '__fish_seen_subcommand_from check' -l class -x -d 'Class of the zone'
-complete -c zonetext -n '__fish_seen_subcommand_from check' -l json -d 'Print a JSON object for each finding'
+complete -c zonetext -n '__fish_seen_subcommand_from check' -l format -x -a 'text json github sarif checkstyle' -d 'Print findings for other programs'
+complete -c zonetext -n '__fish_seen_subcommand_from check' -l json -d 'The same as --format json'
+complete -c zonetext -n '__fish_seen_subcommand_from records canon diff digest' -l json -d 'Print JSON objects, one a line'
 complete -c zonetext -n '__fish_seen_subcommand_from check' -l max -x -d 'Print at most N findings'
 complete -c zonetext -n '__fish_seen_subcommand_from check' -l color -x -a 'auto always never' -d 'When to print findings in colour'
 complete -c zonetext -n '__fish_seen_subcommand_from check' -s v -l verbose -d 'Print the zone, its serial and its number of records'
@@ -60,4 +64,6 @@ complete -c zonetext -n '__fish_seen_subcommand_from digest' -l any -d 'Accept t
 complete -c zonetext -n '__fish_seen_subcommand_from digest' -s v -l verbose -d 'Also list digests with an unknown scheme or hash algorithm'
 complete -c zonetext -n '__fish_seen_subcommand_from cut' -s o -l output -r -d 'The parts are PREFIX.000, PREFIX.001, and so on'
 complete -c zonetext -n '__fish_seen_subcommand_from cut' -l soa -d 'Repeat the SOA at the start of each part'
+complete -c zonetext -n '__fish_seen_subcommand_from codes' -f
+complete -c zonetext -n '__fish_seen_subcommand_from explain' -f -a '(zonetext codes | cut -f 1)'
 complete -c zonetext -n '__fish_seen_subcommand_from help' -f -a "$commands"

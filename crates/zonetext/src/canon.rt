@@ -1,5 +1,6 @@
 //! The command `canon`: writes the records of zone files in full, in canonical order.
 use crate::gathered::{Gathered, NumberedRecord, gather};
+use crate::json_records::push_json_record;
 use crate::lines::Lines;
 use crate::reading::Reading;
 use crate::run_files::TakeRecord;
@@ -19,6 +20,8 @@ pub struct Form {
     pub is_generic: bool,
     /// Whether they stay in the order of the files.
     pub keeps_order: bool,
+    /// Whether they are JSON objects.
+    pub is_json: bool,
 }
 
 /// Returns the indexes of records in a list, in the order of the files. `count` is the number of
@@ -65,7 +68,9 @@ fn push_line<Owner: AsOctets, Octets: AsOctets>(
     record: &Record<Owner, Octets>,
     form: Form,
 ) -> Result<(), AllocError> {
-    if form.is_generic {
+    if form.is_json {
+        push_json_record(text, record, form.is_generic, None)
+    } else if form.is_generic {
         push_generic(text, record)
     } else {
         push_record(text, record)

@@ -1,5 +1,6 @@
 //! The command `diff`: compares the records of two zone files.
 use crate::gathered::{Gathered, gather};
+use crate::json_records::push_json_change;
 use crate::lines::Lines;
 use crate::reading::Reading;
 use crate::stop::{Stop, conclude};
@@ -15,6 +16,8 @@ use zone_set::{Change, Selection, changes_between, push_change, serial_rises};
 pub struct Output {
     /// The number of changes of each type, in place of the changes.
     pub is_summary: bool,
+    /// JSON objects.
+    pub is_json: bool,
     /// At most `most` changes, if it is set.
     pub most: Option<u32>,
 }
@@ -86,15 +89,19 @@ fn write_summary(rt: &HostRuntime, counts: &BTreeMap<u16, Count>) -> io::Result<
 fn write_changes<Owner: AsOctets, Octets: AsOctets>(
     rt: &HostRuntime,
     changes: &[Change<'_, Owner, Octets>],
-    most: Option<u32>,
+    output: Output,
 ) -> Result<(), Stop> {
-    let count = match most {
+    let count = match output.most {
         Some(most) => most as usize,
         None => changes.len(),
     };
     let mut lines = Lines::new(rt);
     for change in changes.iter().take(count) {
-        push_change(&mut lines.text, change)?;
+        if output.is_json {
+            push_json_change(&mut lines.text, change)?;
+        } else {
+            push_change(&mut lines.text, change)?;
+        }
         lines.flush_block()?;
     }
     lines.flush()?;
@@ -129,7 +136,7 @@ fn compare(rt: &HostRuntime, old: &Gathered, new: &Gathered, output: Output) -> 
     if output.is_summary {
         write_summary(rt, &counts_of(rt.alloc(), changes)?)?;
     } else {
-        write_changes(rt, changes, output.most)?;
+        write_changes(rt, changes, output)?;
     }
     tell_serial(rt, old, new)?;
     Ok(true)

@@ -1,13 +1,14 @@
 //! The command `check`: reports what is wrong with zone files.
 use crate::checking::{Checker, Limits};
 use crate::files::check_text;
-use crate::options;
 use crate::options::{USAGE, Usage, class_of, max_entry_of, name_of, number_of, seconds_of};
 use crate::reporter::{Form, Reporter};
 use crate::shown::Shown;
 use crate::stop::{Stop, conclude};
 use crate::times::times_of;
+use crate::totals::Totals;
 use crate::zone_files::{Begin, shown_name, visit_file};
+use crate::{machine, options};
 use clap::ArgMatches;
 use dns_kinds::Class;
 use dns_reader::{NameBuffer, State};
@@ -99,8 +100,8 @@ fn codes_of<'o>(
 
 /// Returns how findings are shown: whether output is coloured, and whether it goes to a terminal.
 fn form_of<'o>(rt: &HostRuntime, inner: &'o ArgMatches) -> Result<Form, Usage<'o>> {
-    if inner.get_flag("json") {
-        return Ok(Form::Json);
+    if let Some(format) = machine::asked(inner) {
+        return Ok(Form::Machine(format));
     }
     let is_terminal = rt.stderr().is_terminal();
     let is_plain = match env::var(rt, "NO_COLOR") {
@@ -159,7 +160,7 @@ fn options_of<'o>(rt: &HostRuntime, inner: &'o ArgMatches) -> Result<Options<'o>
         form,
         most: match most {
             Some(most) => most as usize,
-            None if form == Form::Json => 0,
+            None if matches!(form, Form::Machine(_)) => 0,
             None => MOST,
         },
         denied,
@@ -183,7 +184,7 @@ fn options_of<'o>(rt: &HostRuntime, inner: &'o ArgMatches) -> Result<Options<'o>
     })
 }
 
-/// Reports how much was read: on standard output, unless JSON goes there.
+/// Reports how much was read: on standard output, unless findings go there.
 fn tell_zone(rt: &HostRuntime, file: &str, checker: &Checker, form: Form) -> Result<(), Stop> {
     let records = checker.records;
     let file = Shown(file);
@@ -195,7 +196,7 @@ fn tell_zone(rt: &HostRuntime, file: &str, checker: &Checker, form: Form) -> Res
         None => format!(in rt.alloc(); "{file}: {records} records\n")?,
     };
     match form {
-        Form::Json => rt.stderr().write_all(text.as_bytes())?,
+        Form::Machine(_) => rt.stderr().write_all(text.as_bytes())?,
         Form::Lines { .. } => rt.stdout().write_all(text.as_bytes())?,
     }
     Ok(())
@@ -257,7 +258,7 @@ fn names_no_zone(name: &str, options: &Options) -> bool {
 }
 
 /// Checks a file, and returns the status.
-fn check_file(rt: &HostRuntime, file: &str, options: &Options) -> u8 {
+fn check_file(rt: &HostRuntime, file: &str, options: &Options, totals: &mut Totals) -> u8 {
     let policy = Policy {
         allowed: options.allowed.as_slice(),
         denied: options.denied.as_slice(),
@@ -282,7 +283,11 @@ fn check_file(rt: &HostRuntime, file: &str, options: &Options) -> u8 {
     };
     let reporter = Reporter::new(rt, policy, options.form, options.most);
     let mut checker = Checker::new(rt, reporter, limits, zone);
-    match go_through(rt, file, options, &mut checker, state) {
+    checker.reporter.before.has_finding = totals.has_finding;
+    let checked = go_through(rt, file, options, &mut checker, state);
+    let ended = checker.reporter.end_file();
+    totals.add(&checker.reporter);
+    match checked.and(ended) {
         Ok(()) => checker.reporter.tally.status(),
         Err(stop) => conclude(rt, name, stop),
     }
@@ -293,7 +298,7 @@ fn check_file(rt: &HostRuntime, file: &str, options: &Options) -> u8 {
 fn asks_for_findings(inner: &ArgMatches) -> bool {
     let has_codes = inner.get_strs("deny").is_some() || inner.get_strs("allow").is_some();
     let has_most = inner.get_str("max").is_some() || inner.get_str("color").is_some();
-    has_codes || has_most || inner.get_flag("json") || inner.get_flag("strict")
+    has_codes || has_most || machine::asked(inner).is_some() || inner.get_flag("strict")
 }
 
 /// Reports where files are not zone files, and returns the greatest status.
@@ -316,7 +321,8 @@ pub fn run(rt: &HostRuntime, inner: &ArgMatches, files: &[&str]) -> io::Result<u
         Ok(options) => options,
         Err(usage) => return options::status_of(rt, Err(usage)),
     };
-    let mut status = 0;
+    let mut totals = Totals::new(options.form);
+    let mut status = totals.start(rt);
     for file in files {
         let name = shown_name(file, options.stdin_name);
         let checked = if names_no_zone(name, &options) {
@@ -324,9 +330,9 @@ pub fn run(rt: &HostRuntime, inner: &ArgMatches, files: &[&str]) -> io::Result<u
             eprintln!(rt; "zonetext: {name}: its name is no zone's")?;
             USAGE
         } else {
-            check_file(rt, file, &options)
+            check_file(rt, file, &options, &mut totals)
         };
         status = checked.max(status);
     }
-    Ok(status)
+    Ok(totals.end(rt).max(status))
 }

@@ -1,13 +1,17 @@
 //! The command line of the program.
 use crate::format::{Mode, Work};
+use crate::machine::FORMATS;
 use crate::options::USAGE;
-use crate::{check, cut_words, files, format, zone_words};
+use crate::{check, codes, cut_words, files, format, zone_words};
 use clap::{Arg, ArgAction, ArgMatches, Command, Error};
 use std::alloc::{AllocError, Global};
 use std::io;
 use zonetext_lib::layout::Gap;
 use zonetext_lib::tokens::Form;
 use zonetext_lib::writer::Output;
+
+/// The version of the program.
+pub const VERSION: &str = "0.2.0";
 
 /// The help text of `--quiet`.
 pub const QUIET: &str = "don't show progress";
@@ -102,9 +106,17 @@ fn with_signatures<'a>(alloc: Global, command: Command<'a>) -> Result<Command<'a
         .arg(now)
 }
 
+/// Returns the option for the format of findings.
+fn with_format<'a>(alloc: Global) -> Result<Arg<'a>, AllocError> {
+    let help = "print findings for other programs, on standard output (default text)";
+    valued(alloc, "format", "FORMAT", help)
+        .value_parser(FORMATS.as_slice())
+        .conflicts_with("json")
+}
+
 /// Adds the options that decide how findings are shown.
 fn with_forms<'a>(alloc: Global, command: Command<'a>) -> Result<Command<'a>, AllocError> {
-    let most = "print at most N findings, 0 for all (default 20, with --json all)";
+    let most = "print at most N findings, 0 for all (default 20, with --format all)";
     let verbose = "print the zone, its serial and its number of records";
     let color = valued(
         alloc,
@@ -113,7 +125,8 @@ fn with_forms<'a>(alloc: Global, command: Command<'a>) -> Result<Command<'a>, Al
         "when to print findings in colour, with their lines",
     );
     command
-        .arg(flag(alloc, "json", "print a JSON object for each finding"))?
+        .arg(with_format(alloc)?)?
+        .arg(flag(alloc, "json", "the same as --format json"))?
         .arg(valued(alloc, "max", "N", most))?
         .arg(color.value_parser(WHEN.as_slice()))?
         .arg(flag(alloc, "verbose", verbose).short('v'))
@@ -206,7 +219,7 @@ pub fn required_file<'a>(alloc: Global, name: &'a str, help: &'a str) -> Arg<'a>
 /// Returns the command line.
 fn command_line<'a>(alloc: Global) -> Result<Command<'a>, AllocError> {
     let mut all = Command::new(alloc, "zonetext")
-        .version("0.2.0")
+        .version(VERSION)
         .about("Checks, formats, lists, sorts, compares, digests and cuts DNS zone files")
         .subcommand_required(true);
     for which in &Which::ALL {
@@ -250,11 +263,13 @@ enum Which {
     Diff,
     Digest,
     Cut,
+    Codes,
+    Explain,
 }
 
 impl Which {
     /// Each command, as the help lists them.
-    const ALL: [Which; 9] = [
+    const ALL: [Which; 11] = [
         Which::Check,
         Which::Tokens,
         Which::Format,
@@ -264,6 +279,8 @@ impl Which {
         Which::Diff,
         Which::Digest,
         Which::Cut,
+        Which::Codes,
+        Which::Explain,
     ];
 
     /// Returns its name.
@@ -278,6 +295,8 @@ impl Which {
             Which::Diff => "diff",
             Which::Digest => "digest",
             Which::Cut => "cut",
+            Which::Codes => "codes",
+            Which::Explain => "explain",
         }
     }
 
@@ -303,6 +322,8 @@ impl Which {
             Which::Digest =>
                 "Example: zonetext digest --write --zone example.org. example.org.zone",
             Which::Cut => "Example: zonetext cut 8 example.org.zone -o part",
+            Which::Codes => "Example: zonetext codes",
+            Which::Explain => "Example: zonetext explain ns-address",
         }
     }
 
@@ -323,6 +344,8 @@ impl Which {
             Which::Diff => zone_words::diff_command(alloc, self.name()),
             Which::Digest => zone_words::digest_command(alloc, self.name()),
             Which::Cut => cut_words::cut_command(alloc, self.name()),
+            Which::Codes => codes::codes_command(alloc, self.name()),
+            Which::Explain => codes::explain_command(alloc, self.name()),
         }
     }
 
@@ -339,6 +362,8 @@ impl Which {
             Which::Diff => zone_words::run_diff(rt, inner),
             Which::Digest => zone_words::run_digest(rt, inner),
             Which::Cut => cut_words::run_cut(rt, inner),
+            Which::Codes => codes::run_codes(rt),
+            Which::Explain => codes::run_explain(rt, inner),
         }
     }
 }

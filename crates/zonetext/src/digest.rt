@@ -1,5 +1,7 @@
 //! The command `digest`: checks whether the digests in a zone are those of its records.
 use crate::gathered::{Gathered, NumberedSet, gather};
+use crate::json_records::push_json_digest;
+use crate::lines::Lines;
 use crate::reading::Reading;
 use crate::shown::Shown;
 use crate::stop::{Stop, TROUBLE, conclude};
@@ -39,6 +41,8 @@ pub struct Work {
     pub takes_any: bool,
     /// Whether digests with an unknown scheme or hash algorithm are listed too.
     pub is_verbose: bool,
+    /// Whether the verdicts are JSON objects.
+    pub is_json: bool,
 }
 
 /// The result for the digests whose scheme and hash algorithm are known.
@@ -66,6 +70,14 @@ pub fn unknown_text(zonemd: &Zonemd<'_>) -> &'static str {
     }
 }
 
+/// Reports the verdict on a ZONEMD as a JSON object.
+fn tell_json(rt: &HostRuntime, file: &str, zonemd: &Zonemd<'_>, verdict: &str) -> Result<(), Stop> {
+    let mut lines = Lines::new(rt);
+    push_json_digest(&mut lines.text, file, zonemd, verdict)?;
+    lines.flush()?;
+    Ok(())
+}
+
 /// Reports the verdict on each ZONEMD at the apex whose scheme and hash algorithm are known, and
 /// lists the others if that is asked for.
 fn tell_verdicts(
@@ -81,6 +93,7 @@ fn tell_verdicts(
         differs: false,
     };
     let mut verdicts = verdicts.iter();
+    let name = file;
     let file = Shown(file);
     for record in set.as_slice() {
         let Some(zonemd) = Zonemd::of_data(&record.data) else {
@@ -106,7 +119,11 @@ fn tell_verdicts(
         } else {
             unknown_text(&zonemd)
         };
-        println!(rt; "{file}: ZONEMD {serial} {scheme} {hash}: {text}")?;
+        if work.is_json {
+            tell_json(rt, name, &zonemd, text)?;
+        } else {
+            println!(rt; "{file}: ZONEMD {serial} {scheme} {hash}: {text}")?;
+        }
     }
     Ok(outcome)
 }

@@ -1,11 +1,11 @@
 //! Reports findings.
+use crate::machine::{Before, Format};
 use crate::stop::Stop;
 use dns_split::position::Position;
 use std::io::Write;
 use zonetext_report::code::Code;
 use zonetext_report::excerpt::push_excerpt;
 use zonetext_report::finding::{Finding, push_line};
-use zonetext_report::json::push_json;
 use zonetext_report::policy::Policy;
 use zonetext_report::tally::Tally;
 
@@ -18,8 +18,8 @@ pub enum Form {
         /// With the line of the file below, and a caret.
         has_excerpt: bool,
     },
-    /// As JSON objects on standard output.
-    Json,
+    /// For other programs, on standard output.
+    Machine(Format),
 }
 
 /// The span of a finding: from a column on to before another.
@@ -40,6 +40,8 @@ pub struct Reporter<'a> {
     policy: Policy<'a>,
     form: Form,
     pub tally: Tally,
+    /// What the format for other programs depends on.
+    pub before: Before,
     out: Vec<u8>,
 }
 
@@ -52,6 +54,7 @@ impl<'a> Reporter<'a> {
             policy,
             form,
             tally: Tally::new(most),
+            before: Before::new(false),
             out: Vec::new(rt.alloc()),
         }
     }
@@ -60,7 +63,7 @@ impl<'a> Reporter<'a> {
     fn write(&mut self) -> Result<(), Stop> {
         let octets = self.out.as_slice();
         match self.form {
-            Form::Json => self.rt.stdout().write_all(octets)?,
+            Form::Machine(_) => self.rt.stdout().write_all(octets)?,
             Form::Lines { .. } => self.rt.stderr().write_all(octets)?,
         }
         self.out.truncate(0);
@@ -91,7 +94,10 @@ impl<'a> Reporter<'a> {
             message,
         };
         match self.form {
-            Form::Json => push_json(&mut self.out, spot.file, &finding)?,
+            Form::Machine(format) => {
+                self.before
+                    .push(&mut self.out, format, spot.file, &finding)?;
+            }
             Form::Lines {
                 is_coloured,
                 has_excerpt,
@@ -129,10 +135,16 @@ impl<'a> Reporter<'a> {
         self.tally.has_room() && self.policy.severity(code, false).is_some()
     }
 
-    /// Reports the number of findings, unless it is 0. With JSON it is reported only if a finding
-    /// is not shown.
+    /// Writes what comes after the findings of a file in a format for other programs.
+    pub fn end_file(&mut self) -> Result<(), Stop> {
+        self.before.push_file_end(&mut self.out)?;
+        self.write()
+    }
+
+    /// Reports the number of findings, unless it is 0. In a format for other programs it is
+    /// reported only if a finding is not shown.
     pub fn summarize(&mut self) -> Result<(), Stop> {
-        if self.form == Form::Json && self.tally.hidden() == 0 {
+        if matches!(self.form, Form::Machine(_)) && self.tally.hidden() == 0 {
             return Ok(());
         }
         self.tally.push_summary(&mut self.out)?;

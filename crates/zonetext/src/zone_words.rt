@@ -2,7 +2,7 @@
 use crate::command::{BASE, QUIET, flag, max_entry, over_files, required_file, valued, values};
 use crate::options::{Usage, class_of, max_entry_of, number_of, size_of, status_of, zone_of};
 use crate::reading::Reading;
-use crate::{canon, changes, digest, digest_writing, records};
+use crate::{canon, changes, digest, digest_writing, json_records, records};
 use clap::{ArgMatches, Command};
 use dns_kinds::RecordType;
 use std::alloc::{AllocError, Global};
@@ -42,7 +42,8 @@ fn with_selection<'a>(alloc: Global, command: Command<'a>) -> Result<Command<'a>
 /// Returns the command that writes records.
 pub fn records_command<'a>(alloc: Global, name: &'a str) -> Result<Command<'a>, AllocError> {
     let about = "Print each record in full, on one line";
-    with_reading(alloc, over_files(alloc, name, about)?)
+    let command = over_files(alloc, name, about)?.arg(json_records::option(alloc))?;
+    with_reading(alloc, command)
 }
 
 /// Returns the command that writes records in canonical order.
@@ -51,6 +52,7 @@ pub fn canon_command<'a>(alloc: Global, name: &'a str) -> Result<Command<'a>, Al
     let only_dnssec = "print only the records that --no-dnssec omits";
     let memory = valued(alloc, "memory", "SIZE", MEMORY).conflicts_with("keep-order")?;
     let command = over_files(alloc, name, about)?
+        .arg(json_records::option(alloc))?
         .arg(flag(alloc, "keep-order", "keep the order of the files"))?
         .arg(memory)?
         .arg(flag(
@@ -66,10 +68,12 @@ pub fn canon_command<'a>(alloc: Global, name: &'a str) -> Result<Command<'a>, Al
 /// Returns the command that compares two files.
 pub fn diff_command<'a>(alloc: Global, name: &'a str) -> Result<Command<'a>, AllocError> {
     let entries = "compare the entries as text, and report the first difference";
+    let json = json_records::option(alloc).conflicts_with("entries")?;
     let command = Command::new(alloc, name)
         .about("Print the differences between the records of two zone files")
         .arg(required_file(alloc, "A", "the old zone file"))?
         .arg(required_file(alloc, "B", "the new zone file"))?
+        .arg(json.conflicts_with("summary")?)?
         .arg(flag(alloc, "entries", entries))?
         .arg(flag(
             alloc,
@@ -105,6 +109,7 @@ pub fn digest_command<'a>(alloc: Global, name: &'a str) -> Result<Command<'a>, A
         .arg(hash)?
         .arg(flag(alloc, "force", force).requires_arg("write")?)?
         .arg(flag(alloc, "any", any).conflicts_with("write")?)?
+        .arg(json_records::option(alloc).conflicts_with("write")?)?
         .arg(flag(alloc, "verbose", verbose).short('v'))?
         .arg(flag(alloc, "quiet", QUIET))?;
     with_reading(alloc, command)
@@ -152,6 +157,7 @@ fn reading_of<'o>(inner: &'o ArgMatches, is_one_zone: bool) -> Result<Reading<'o
 /// Writes the records of files as they come.
 fn list<'o>(rt: &HostRuntime, inner: &'o ArgMatches, files: &[&str]) -> Result<u8, Usage<'o>> {
     match reading_of(inner, false) {
+        Ok(reading) if inner.get_flag("json") => Ok(json_records::run(rt, files, &reading)),
         Ok(reading) => Ok(records::run(rt, files, &reading)),
         Err(usage) => Err(usage),
     }
@@ -173,6 +179,7 @@ fn write_canonical<'o>(
     let form = canon::Form {
         is_generic: inner.get_flag("wire"),
         keeps_order: inner.get_flag("keep-order"),
+        is_json: inner.get_flag("json"),
     };
     let reading = match reading_of(inner, true) {
         Ok(reading) => reading,
@@ -193,6 +200,7 @@ fn compare<'o>(rt: &HostRuntime, inner: &'o ArgMatches) -> Result<u8, Usage<'o>>
     };
     let output = changes::Output {
         is_summary: inner.get_flag("summary"),
+        is_json: inner.get_flag("json"),
         most: number_of(inner.get_str("max-changes"), "--max-changes")?,
     };
     let first = inner.get_str("A").unwrap_or("-");
@@ -209,6 +217,7 @@ fn check_digests<'o>(rt: &HostRuntime, inner: &'o ArgMatches) -> Result<u8, Usag
     let work = digest::Work {
         takes_any: inner.get_flag("any"),
         is_verbose: inner.get_flag("verbose"),
+        is_json: inner.get_flag("json"),
     };
     match reading_of(inner, true) {
         Ok(reading) => Ok(digest::run(rt, file, &reading, work)),

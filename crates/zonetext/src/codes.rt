@@ -1,0 +1,158 @@
+//! The commands `codes` and `explain`: list the codes of findings, and explain one.
+use crate::command::required_file;
+use crate::lines::Lines;
+use crate::options::USAGE;
+use crate::shown::Shown;
+use crate::stop::{Stop, conclude};
+use clap::{ArgMatches, Command};
+use finding_codes::{ENTRIES, Entry, entry_of};
+use std::alloc::{AllocError, Global};
+use std::io;
+use std::io::ErrorKind;
+use strsim::levenshtein;
+use zonetext_report::code::Code;
+
+/// Greatest number of characters in a line of a paragraph.
+const COLUMNS: usize = 78;
+
+/// Greatest number of changed characters of a name that was meant.
+const MOST_CHANGES: usize = 3;
+
+/// Returns the command that lists codes.
+pub fn codes_command<'a>(alloc: Global, name: &'a str) -> Result<Command<'a>, AllocError> {
+    Ok(Command::new(alloc, name).about("List the codes of findings, with their severity"))
+}
+
+/// Returns the command that explains a code.
+pub fn explain_command<'a>(alloc: Global, name: &'a str) -> Result<Command<'a>, AllocError> {
+    let code = required_file(alloc, "CODE", "the code of a finding, as ns-address");
+    Command::new(alloc, name)
+        .about("Explain a code, with an example and the RFC")
+        .arg(code)
+}
+
+/// Appends the line of a code: its name, severity and summary.
+fn push_code(text: &mut String, entry: &Entry) -> Result<(), AllocError> {
+    text.push_str(entry.code.name())?;
+    text.push_str("\t")?;
+    text.push_str(entry.code.default_severity().name())?;
+    text.push_str("\t")?;
+    text.push_str(entry.summary)?;
+    text.push_str("\n")
+}
+
+/// Appends the words of a paragraph in lines.
+fn push_paragraph(text: &mut String, paragraph: &str) -> Result<(), AllocError> {
+    let mut column = 0;
+    for word in paragraph.split(' ') {
+        let end = word.len().saturating_add(1).saturating_add(column);
+        if column > 0 && end > COLUMNS {
+            text.push_str("\n")?;
+            column = 0;
+        } else if column > 0 {
+            text.push_str(" ")?;
+            column = column.saturating_add(1);
+        }
+        text.push_str(word)?;
+        column = column.saturating_add(word.len());
+    }
+    text.push_str("\n")
+}
+
+/// Appends the lines of an example.
+fn push_example(text: &mut String, example: &str) -> Result<(), AllocError> {
+    text.push_str("\nExample:\n\n")?;
+    for line in example.split('\n') {
+        text.push_str("    ")?;
+        text.push_str(line)?;
+        text.push_str("\n")?;
+    }
+    if example.contains('%') {
+        text.push_str("\n%XX is the octet of this number.\n")?;
+    }
+    Ok(())
+}
+
+/// Appends the explanation of a code.
+fn push_entry(text: &mut String, entry: &Entry) -> Result<(), AllocError> {
+    text.push_str(entry.code.name())?;
+    text.push_str(" (")?;
+    text.push_str(entry.code.default_severity().name())?;
+    text.push_str(")\n\n")?;
+    text.push_str(entry.summary)?;
+    text.push_str(".\n\n")?;
+    push_paragraph(text, entry.text)?;
+    push_example(text, entry.example)
+}
+
+/// Writes the list of codes.
+fn list(rt: &HostRuntime) -> Result<(), Stop> {
+    let mut lines = Lines::new(rt);
+    for entry in &ENTRIES {
+        push_code(&mut lines.text, entry)?;
+    }
+    lines.flush()?;
+    Ok(())
+}
+
+/// Writes the explanation of a code.
+fn explain(rt: &HostRuntime, entry: &Entry) -> Result<(), Stop> {
+    let mut lines = Lines::new(rt);
+    push_entry(&mut lines.text, entry)?;
+    lines.flush()?;
+    Ok(())
+}
+
+/// Returns the code whose name is the most like a word, if one is.
+fn similar(alloc: Global, word: &str) -> Result<Option<Code>, AllocError> {
+    let mut similar = None;
+    let mut least = MOST_CHANGES;
+    for code in &Code::ALL {
+        let changes = levenshtein(alloc, code.name(), word)?;
+        if changes <= least && changes < word.len() {
+            similar = Some(*code);
+            least = changes.saturating_sub(1);
+        }
+    }
+    Ok(similar)
+}
+
+/// Reports that a word is no code.
+fn tell_unknown(rt: &HostRuntime, word: &str) -> io::Result<u8> {
+    let similar = similar(rt.alloc(), word);
+    let word = Shown(word);
+    match similar {
+        Err(_) => return Err(io::Error::from(ErrorKind::OutOfMemory)),
+        Ok(Some(code)) => {
+            let name = code.name();
+            eprintln!(rt; "zonetext: explain {word}: no such code; did you mean {name}?")?;
+        }
+        Ok(None) => {
+            eprintln!(rt; "zonetext: explain {word}: no such code; `zonetext codes` lists them")?;
+        }
+    }
+    Ok(USAGE)
+}
+
+/// Runs the command `codes`, and returns the status.
+pub fn run_codes(rt: &HostRuntime) -> io::Result<u8> {
+    match list(rt) {
+        Ok(()) => Ok(0),
+        Err(stop) => Ok(conclude(rt, "-", stop)),
+    }
+}
+
+/// Runs the command `explain`, and returns the status.
+pub fn run_explain(rt: &HostRuntime, inner: &ArgMatches) -> io::Result<u8> {
+    let word = inner.get_str("CODE").unwrap_or("");
+    let Some(code) = Code::named(word) else {
+        return tell_unknown(rt, word);
+    };
+    let Some(entry) = entry_of(code) else {
+        return tell_unknown(rt, word);
+    };
+    match explain(rt, entry) {
+        Ok(()) => Ok(0),
+        Err(stop) => Ok(conclude(rt, "-", stop)),
+    }
+}
