@@ -54,10 +54,11 @@ def write_zones():
 ZONES = ['data', 'labels', 'many', 'long', 'wrong', 'signed', 'deep0', 'nofile']
 COMMANDS = ['check', 'check --text', 'check --text --json', 'check --json', 'check --strict --color always --max 0', 'check --zone example. -v',
             'check --zone example. --dnssec --within 7d', 'check --max-entry 4M', 'tokens', 'tokens --json', 'fmt', 'fmt --check', 'fmt --diff',
-            'lines', 'records', 'records --max-entry 4M', 'canon', 'canon --wire', 'canon --keep-order', 'canon --memory 64K',
+            'lines', 'records', 'records --json', 'records --max-entry 4M', 'canon', 'canon --json', 'canon --wire',
+            'check --format github', 'check --format sarif', 'check --format checkstyle', 'canon --keep-order', 'canon --memory 64K',
             'diff other', 'diff --summary other', 'diff --entries other', 'digest -v', 'fmt -w', 'digest --write', 'digest --write --force --hash sha512',
             'cut 4 -o part', 'cut 400 --soa -o part']
-OTHERS = ['', '--help', 'help check', 'check --help', 'check --nothing', 'diff', 'records --zone ..', '--version', 'canon --memory x']
+OTHERS = ['', '--help', 'help check', 'check --help', 'check --nothing', 'diff', 'records --zone ..', '--version', 'canon --memory x', 'codes', 'explain cname', 'explain cnam']
 
 
 def ends(words, kilobytes):
