@@ -64,9 +64,11 @@ def codes():
 
 def entries():
     """Summary, text and example, by variant."""
-    string = r'"((?:[^"\\]|\\.)*)"'
-    pattern = rf"Entry \{{\s*code: Code::(\w+),\s*summary:\s*{string},\s*text:\s*{string},\s*example:\s*{string},\s*\}}"
-    return {it[0]: [unquoted(text) for text in it[1:]] for it in re.findall(pattern, read("finding_codes/src/table.rt"))}
+    columns = []
+    for column in read("finding_codes/src/table.rt").split("pub fn ")[1:]:
+        found = re.findall(r'Code::(\w+) =>\s*(?:\{\s*)?"((?:[^"\\]|\\.)*)"', column)
+        columns.append({variant: unquoted(text) for variant, text in found})
+    return {variant: [column[variant] for column in columns] for variant in columns[0]}
 
 
 def page():

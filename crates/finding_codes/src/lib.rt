@@ -1,9 +1,9 @@
 //! The codes of findings: what each means, why, and an example.
 //!
-//! [`ENTRIES`] is the one table of them, and [`entry_of`] looks up a code. `zonetext codes` and `zonetext explain`, the rules of a SARIF
+//! [`table`] is the one table of them. `zonetext codes` and `zonetext explain`, the rules of a SARIF
 //! log and docs/CODES.md come from it.
 #![tactic(auto)]
 
-mod table;
+pub mod table;
 
-pub use table::{ENTRIES, Entry, entry_of};
+pub use table::{example_of, summary_of, text_of};

@@ -5,7 +5,7 @@ use crate::options::USAGE;
 use crate::shown::Shown;
 use crate::stop::{Stop, conclude};
 use clap::{ArgMatches, Command};
-use finding_codes::{ENTRIES, Entry, entry_of};
+use finding_codes::{example_of, summary_of, text_of};
 use std::alloc::{AllocError, Global};
 use std::io;
 use std::io::ErrorKind;
@@ -32,12 +32,12 @@ pub fn explain_command<'a>(alloc: Global, name: &'a str) -> Result<Command<'a>, 
 }
 
 /// Appends the line of a code: its name, severity and summary.
-fn push_code(text: &mut String, entry: &Entry) -> Result<(), AllocError> {
-    text.push_str(entry.code.name())?;
+fn push_code(text: &mut String, code: Code) -> Result<(), AllocError> {
+    text.push_str(code.name())?;
     text.push_str("\t")?;
-    text.push_str(entry.code.default_severity().name())?;
+    text.push_str(code.default_severity().name())?;
     text.push_str("\t")?;
-    text.push_str(entry.summary)?;
+    text.push_str(summary_of(code))?;
     text.push_str("\n")
 }
 
@@ -74,31 +74,31 @@ fn push_example(text: &mut String, example: &str) -> Result<(), AllocError> {
 }
 
 /// Appends the explanation of a code.
-fn push_entry(text: &mut String, entry: &Entry) -> Result<(), AllocError> {
-    text.push_str(entry.code.name())?;
+fn push_explanation(text: &mut String, code: Code) -> Result<(), AllocError> {
+    text.push_str(code.name())?;
     text.push_str(" (")?;
-    text.push_str(entry.code.default_severity().name())?;
+    text.push_str(code.default_severity().name())?;
     text.push_str(")\n\n")?;
-    text.push_str(entry.summary)?;
+    text.push_str(summary_of(code))?;
     text.push_str(".\n\n")?;
-    push_paragraph(text, entry.text)?;
-    push_example(text, entry.example)
+    push_paragraph(text, text_of(code))?;
+    push_example(text, example_of(code))
 }
 
 /// Writes the list of codes.
 fn list(rt: &HostRuntime) -> Result<(), Stop> {
     let mut lines = Lines::new(rt);
-    for entry in &ENTRIES {
-        push_code(&mut lines.text, entry)?;
+    for code in &Code::ALL {
+        push_code(&mut lines.text, *code)?;
     }
     lines.flush()?;
     Ok(())
 }
 
 /// Writes the explanation of a code.
-fn explain(rt: &HostRuntime, entry: &Entry) -> Result<(), Stop> {
+fn explain(rt: &HostRuntime, code: Code) -> Result<(), Stop> {
     let mut lines = Lines::new(rt);
-    push_entry(&mut lines.text, entry)?;
+    push_explanation(&mut lines.text, code)?;
     lines.flush()?;
     Ok(())
 }
@@ -148,10 +148,7 @@ pub fn run_explain(rt: &HostRuntime, inner: &ArgMatches) -> io::Result<u8> {
     let Some(code) = Code::named(word) else {
         return tell_unknown(rt, word);
     };
-    let Some(entry) = entry_of(code) else {
-        return tell_unknown(rt, word);
-    };
-    match explain(rt, entry) {
+    match explain(rt, code) {
         Ok(()) => Ok(0),
         Err(stop) => Ok(conclude(rt, "-", stop)),
     }

@@ -1,11 +1,11 @@
 //! Findings in formats for other programs.
 use crate::command::VERSION;
 use clap::ArgMatches;
-use finding_codes::ENTRIES;
+use finding_codes::{summary_of, text_of};
 use finding_formats::sarif::{Rule, Tool};
 use finding_formats::{Opening, checkstyle, github, json, sarif};
 use std::alloc::AllocError;
-use zonetext_report::code::Severity;
+use zonetext_report::code::{Code, Severity};
 use zonetext_report::finding::Finding;
 
 /// A format for other programs.
@@ -91,12 +91,12 @@ fn push_sarif_start(out: &mut Vec<u8>) -> Result<(), AllocError> {
     };
     sarif::push_start(out, &tool)?;
     let mut is_first = true;
-    for entry in &ENTRIES {
+    for code in &Code::ALL {
         let rule = Rule {
-            code: entry.code.name().as_bytes(),
-            is_error: is_error(entry.code.default_severity()),
-            summary: entry.summary.as_bytes(),
-            text: entry.text.as_bytes(),
+            code: code.name().as_bytes(),
+            is_error: is_error(code.default_severity()),
+            summary: summary_of(*code).as_bytes(),
+            text: text_of(*code).as_bytes(),
         };
         sarif::push_rule(out, is_first, &rule)?;
         is_first = false;
