@@ -146,6 +146,7 @@ RULES = [
             "dns_fields/src/record_ref.rt": 1,  # (the borrowed one)
             "dns_resource/src/record.rt": 1,  # (the one)
             "dns_text_c/src/records.rt": 1,
+            "finding_formats/src/record_json.rt": 1,  # (its fields in presentation format)
             "test_calls/src/zones/example.rt": 1,
             "zone_store/src/stored.rt": 1,
             "zonetext/src/held.rt": 1,

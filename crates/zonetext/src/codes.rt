@@ -117,7 +117,7 @@ fn similar(alloc: Global, word: &str) -> Result<Option<Code>, AllocError> {
     Ok(similar)
 }
 
-/// Reports that a word is no code.
+/// Reports that a word is not a code.
 fn tell_unknown(rt: &HostRuntime, word: &str) -> io::Result<u8> {
     let similar = similar(rt.alloc(), word);
     let word = Shown(word);
