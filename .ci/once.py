@@ -148,7 +148,6 @@ RULES = [
             "dns_text_c/src/records.rt": 1,
             "finding_formats/src/record_json.rt": 1,  # (its fields in presentation format)
             "test_calls/src/zones/example.rt": 1,
-            "zone_store/src/stored.rt": 1,
             "zonetext/src/held.rt": 1,
         },
     ),

@@ -7,10 +7,7 @@ use Rattle.std.specs.declared.cmp.Ordering.TheVariants.{Less, Equal, Greater}
 use Rattle.std.proofs.lemmas.Bool.Decides.{nat_tests}
 use Rattle.std.proofs.lemmas.List.Elements.{All-nil, All-cons, All-head, All-tail, All-drop, All-take}
 use Rattle.std.proofs.Math.Nat.{mul-le-mul_right, mul_assoc, pow-suc, pow-le-pow_right}
-use Rattle.std.proofs.lemmas.Cmp.{nat_cmp_total, nat_list_cmp_total, on_total, then_total}
-use Rattle.std.specs.Cmp.{IsTotalOrder}
-use Rattle.zone_store.specs.declared.groups.Group.{Group}
-use Rattle.zone_store.specs.Groups.{key_at, group_order, prefixed_order, HasPrefix}
+use Rattle.zone_store.specs.Entries.{key_at}
 use Rattle.zone_store.specs.Counted.{first_counted, first_long}
 use Rattle.dns_canonical.specs.Names.{octet_order}
 use Rattle.zone_store.specs.Prefixes.{prefix_number}
@@ -146,19 +143,3 @@ key_octets_small octets at h = by (drop at octets) (All-drop IsOctet at octets (
         either : (b : Bool) → All IsOctet (if b then take count rest else first_long rest)
         either true = All-take IsOctet count rest more
         either false = All-take IsOctet _ (drop 2 rest) (All-drop IsOctet 2 rest more)
-
-then_assoc : (p q r : Ordering) → ordering_then (ordering_then p q) r ≡ ordering_then p (ordering_then q r)
-then_assoc Less q r = refl
-then_assoc Equal q r = refl
-then_assoc Greater q r = refl
-
--- groups that have the first octets of their keys beside them are compared by their keys
-pub prefixed_is : (octets : List ℕ) → ((i : ℕ) → get_or octets i 0 < 256) → (a b : Group) → HasPrefix octets a → HasPrefix octets b → prefixed_order octets a b ≡ group_order octets a b
-prefixed_is octets h a b p q =
-    let keys = octet_order (key_at octets a.offset) (key_at octets b.offset) in
-    ap (λ o. ordering_then o (nat_cmp a.offset b.offset))
-    ((λ i. ordering_then (nat_cmp (p i) (q i)) keys) ∙ sym (prefixes_decide 8 (key_at octets a.offset) (key_at octets b.offset) (key_octets_small octets a.offset h) (key_octets_small octets b.offset h)))
-
-pub prefixed_total : (octets : List ℕ) → IsTotalOrder (prefixed_order octets)
-prefixed_total octets =
-    then_total (then_total (on_total (λ g. g.prefix) nat_cmp_total) (on_total (λ g. key_at octets g.offset) nat_list_cmp_total)) (on_total (λ g. g.offset) nat_cmp_total)

@@ -1,8 +1,7 @@
-mod KeyBounds
+mod EntriesRead
+mod EntryOrders
+mod EntrySearches
 mod KeyPrefixes
 mod PartsRead
-mod StoreReads
-mod Flat
-mod SortedFlat
+mod Rising
 mod StoreSorts
-mod StoreLeft

@@ -1,80 +1,65 @@
--- A store whose groups are sorted.
-use Rattle.std.proofs.Common.{ℕ, ◌≡◌, ◌+◌, ◌≤◌, List, [], ◌∷◌, ◌++◌, length, refl, sym, ap, ◌∙◌, arith, append_assoc, length-append, subst}
-use Rattle.std.specs.Prelude.{All, Bool, true, false, not, ◌&&◌, nat_lt, map}
-use Rattle.std.specs.Prelude.{cond}
-use Rattle.std.specs.Cmp.{IsTotalOrder}
-use Rattle.std.specs.List.{flat_map, filter}
-use Rattle.std.specs.List.Sorted.{IsPermutation, IsSorted, IsStable}
+-- A store whose entries are sorted.
+use Rattle.std.proofs.Common.{ℕ, suc, ◌≡◌, ◌+◌, ◌-◌, ◌/◌, ◌%◌, ◌^◌, ◌<◌, ◌≤◌, List, [], ◌∷◌, length, get_or, refl, sym, ap, ◌∙◌, arith}
+use Rattle.std.specs.Prelude.{All, Bool, true, false, not, ◌&&◌, nat_lt, map, cond}
+use Rattle.std.specs.List.{filter}
+use Rattle.std.specs.List.Sorted.{IsNonDecreasingBy, IsPermutation, IsSorted, IsStable}
 use Rattle.std.specs.Ordering.{is_lt, nat_cmp, ordering_then, ordering_reverse}
 use Rattle.std.specs.declared.cmp.Ordering.{Ordering}
 use Rattle.std.specs.declared.cmp.Ordering.TheVariants.{Less, Equal, Greater}
 use Rattle.std.proofs.lemmas.Bool.Decides.{nat_tests}
-use Rattle.std.proofs.lemmas.Cmp.{nat_cmp_total, nat_list_cmp_total, on_total, then_total, tied_itself}
-use Rattle.std.proofs.lemmas.List.Elements.{All-nil, All-cons, All-head, All-tail, All-filter, filter_passes}
-use Rattle.std.proofs.lemmas.List.Sorted.{ranks_by, All-permutation, sum_by-IsPermutation}
-use Rattle.dns_canonical.specs.Names.{octet_order}
-use Rattle.zone_store.specs.Groups.{key_at, group_order, HasPrefix}
-use Rattle.zone_store.specs.Parts.{RecordParts}
+use Rattle.std.proofs.lemmas.List.{get_or-map, length-map}
+use Rattle.std.proofs.lemmas.List.Elements.{All-head, All-tail, All-filter, filter_passes}
+use Rattle.std.proofs.lemmas.List.Sorted.{ranks_by, All-permutation, IsPermutation-map, sum_by-IsPermutation}
+use Rattle.zone_store.specs.Entries.{HasPrefix, entry_order, key_at, record_of}
 use Rattle.zone_store.specs.Prefixes.{prefix_number}
-use Rattle.zone_store.specs.Stores.{AddedRecord, added_record, stored_records, OwnerRun, RunFits, group_octets, run_groups, run_group, IsStored, added_order, parts_at}
-use Rattle.zone_store.specs.declared.groups.Group.{Group}
-use Rattle.zone_store.proofs.Flat.{IsPermutation-flat_map}
-use Rattle.zone_store.proofs.KeyBounds.{first_not}
-use Rattle.zone_store.proofs.SortedFlat.{NoneLess, Rises, rises_from_sorted, sorted_from_rises, rises_filter, rises_all, filter_all, one_list, sum_filter}
-use Rattle.zone_store.proofs.StoreReads.{key_read}
+use Rattle.zone_store.specs.Stored.{AddedRecord, stored_order}
+use Rattle.zone_store.specs.Stores.{stored_records}
+use Rattle.zone_store.specs.declared.entries.Entry.{Entry}
+use Rattle.zone_store.proofs.EntryOrders.{entries_total, stored_total}
+use Rattle.zone_store.proofs.Rising.{NoneLess, Rises, rises_from_sorted, rises_filter, one_list, sum_filter}
 
--- each group of a store has the prefix of its key
-runs_prefixes : (before : List ℕ) (runs : List OwnerRun) → All RunFits runs → All (HasPrefix (before ++ flat_map group_octets runs)) (run_groups (length before) runs)
-runs_prefixes before [] fit = All-nil (HasPrefix (before ++ []))
-runs_prefixes before (run ∷ runs) fit =
-    let rest = flat_map group_octets runs in
-    let octets = before ++ (group_octets run ++ rest) in
-    let joined : (before ++ group_octets run) ++ rest ≡ octets = append_assoc before (group_octets run) rest in
-    let next : length (before ++ group_octets run) ≡ length before + length (group_octets run) = length-append before (group_octets run) in
-    let more : All (HasPrefix octets) (run_groups (length before + length (group_octets run)) runs) =
-    subst (λ (n : ℕ). All (HasPrefix octets) (run_groups n runs)) next
-    (subst (λ (os : List ℕ). All (HasPrefix os) (run_groups (length (before ++ group_octets run)) runs)) joined (runs_prefixes (before ++ group_octets run) runs (All-tail RunFits run runs fit))) in
-    All-cons (HasPrefix octets) (run_group (length before) run.key) _ (ap (prefix_number 8) (sym (key_read before run rest (All-head RunFits run runs fit)))) more
+-- the elements that come from those that pass a test
+filter_map_is : {X Y : Type 0} (f : X → Y) (q : Y → Bool) (xs : List X) → filter q (map f xs) ≡ map f (filter (λ x. q (f x)) xs)
+filter_map_is f q [] = refl
+filter_map_is {X} {Y} f q (x ∷ xs) = by (filter_map_is f q xs) (q (f x))
+  where
+    by : filter q (map f xs) ≡ map f (filter (λ x. q (f x)) xs) → (b : Bool) → cond b (f x ∷ filter q (map f xs)) (filter q (map f xs)) ≡ map f (cond b (x ∷ filter (λ y. q (f y)) xs) (filter (λ y. q (f y)) xs))
+    by more true = ap (λ ys. f x ∷ ys) more
+    by more false = more
 
-pub stored_prefixes : (octets : List ℕ) (groups : List Group) → IsStored octets groups → All (HasPrefix octets) groups
-stored_prefixes octets groups is =
-    subst (λ (os : List ℕ). All (HasPrefix os) groups) (sym is.octets_are)
-    (subst (λ (gs : List Group). All (HasPrefix (flat_map group_octets is.runs)) gs) (sym is.groups_are) (runs_prefixes [] is.runs is.fit))
+pub first_not : (o rest : Ordering) → is_lt (ordering_then o rest) ≡ false → is_lt o ≡ false
+first_not Less rest h = h
+first_not Equal rest h = refl
+first_not Greater rest h = refl
 
--- the groups of a store are in the order of their offsets
-abbrev by_offset : Group → Group → Bool
-by_offset a b = nat_lt a.offset b.offset
+abbrev pub some_entry : Entry
+some_entry = record { prefix = 0; at = 0 }
 
-not_below : (m n : ℕ) → n ≤ m → nat_lt m n ≡ false
+-- records in the order of their entries
+pub sorted_records : (octets : List ℕ) (entries : List Entry) → IsSorted (entry_order octets) entries → IsSorted stored_order (stored_records octets entries)
+sorted_records octets entries sorted k d low high =
+    let in_range : k + 1 < length entries = omega (arith, high, length-map entries (record_of octets)) in
+    let after = get_or-map (record_of octets) entries (k + 1) some_entry d in_range in
+    let before = get_or-map (record_of octets) entries k some_entry d (omega (arith, in_range)) in
+    (λ i. is_lt (stored_order (after i) (before i))) ∙ first_not _ _ (sorted k some_entry low in_range)
+
+-- entries whose places don't fall
+abbrev by_place : Entry → Entry → Bool
+by_place a b = nat_lt a.at b.at
+
+pub not_below : (m n : ℕ) → n ≤ m → nat_lt m n ≡ false
 not_below m n h = Prim.grind (arith, nat_tests)
 
-none_before : (g : Group) (n : ℕ) (runs : List OwnerRun) → g.offset ≤ n + 1 → NoneLess by_offset g (run_groups n runs)
+none_before : (e : Entry) (es : List Entry) → ((j : ℕ) (d : Entry) → j < length es → e.at ≤ (get_or es j d).at) → NoneLess by_place e es
 unfolding NoneLess
-none_before g n [] h = tt
-none_before g n (run ∷ runs) h = (not_below (n + 1) g.offset h, none_before g (n + length (group_octets run)) runs (omega (arith, h)))
+none_before e [] h = tt
+none_before e (x ∷ es) h = (not_below x.at e.at (h 0 e (omega arith)), none_before e es (λ j d low. h (suc j) d (omega (arith, low))))
 
-runs_rise : (n : ℕ) (runs : List OwnerRun) → Rises by_offset (run_groups n runs)
+places_rise : (es : List Entry) → IsNonDecreasingBy (λ e. e.at) es → Rises by_place es
 unfolding Rises
-runs_rise n [] = tt
-runs_rise n (run ∷ runs) = (none_before (run_group n run.key) (n + length (group_octets run)) runs (omega arith), runs_rise (n + length (group_octets run)) runs)
-
-abbrev less : List ℕ → List ℕ → Bool
-less a b = is_lt (octet_order a b)
-
-less_itself : (k : List ℕ) → less k k ≡ false
-less_itself k = ap is_lt (tied_itself nat_list_cmp_total k)
-
-pub sorted_records : (octets : List ℕ) (groups : List Group) → IsSorted (group_order octets) groups → IsSorted added_order (stored_records octets groups)
-unfolding stored_records
-sorted_records octets groups sorted =
-    let key : Group → List ℕ = λ g. key_at octets g.offset in
-    sorted_from_rises (λ a b. less a.key b.key) (stored_records octets groups)
-    (rises_all key (λ g. parts_at octets g.offset) less less_itself groups
-    (rises_from_sorted (λ a b. less (key a) (key b)) (ranks_by nat_list_cmp_total key) groups (λ k d low high. first_not _ _ (sorted k d low high))))
-
-pub moved_records : (octets : List ℕ) (before groups : List Group) → IsPermutation before groups → IsPermutation (stored_records octets before) (stored_records octets groups)
-unfolding stored_records
-moved_records octets before groups moved = IsPermutation-flat_map (λ g. map (added_record (key_at octets g.offset)) (parts_at octets g.offset)) before groups moved
+places_rise [] h = tt
+places_rise (e ∷ es) h =
+    (none_before e es (λ j d low. h 0 (suc j) d (omega arith) (omega (arith, low))), places_rise es (λ i j d le low. h (suc i) (suc j) d (omega (arith, le)) (omega (arith, low))))
 
 -- keys that tie with a key are equal
 tie : (o p : Ordering) → o ≡ ordering_reverse p → not (is_lt o) && not (is_lt p) ≡ true → o ≡ Equal
@@ -90,75 +75,58 @@ tie Greater Less e h = absurd (no h)
 tie Greater Equal e h = cc
 tie Greater Greater e h = cc
 
-module _ (octets : List ℕ) (x : List ℕ) where
-  abbrev key : Group → List ℕ
-  key g = key_at octets g.offset
+lt_is : (m n : ℕ) → is_lt (nat_cmp m n) ≡ nat_lt m n
+lt_is m n = Prim.grind (arith, nat_tests)
 
-  abbrev test : List ℕ → Bool
-  test k = not (less x k) && not (less k x)
+module _ (octets : List ℕ) (x : AddedRecord) where
+  abbrev test : Entry → Bool
+  test e = not (is_lt (stored_order x (record_of octets e))) && not (is_lt (stored_order (record_of octets e) x))
 
-  tied : (k : List ℕ) → test k ≡ true → octet_order x k ≡ Equal
-  tied k h = tie (octet_order x k) (octet_order k x) (nat_list_cmp_total.antisymm x k) h
+  tied : (e : Entry) → test e ≡ true → stored_order x (record_of octets e) ≡ Equal
+  tied e h = tie (stored_order x (record_of octets e)) (stored_order (record_of octets e) x) (stored_total.antisymm x (record_of octets e)) h
 
-  tied_both : (k l : List ℕ) → test k ≡ true → test l ≡ true → octet_order k l ≡ Equal
-  tied_both k l h m = sym (nat_list_cmp_total.congr x k l (tied k h)) ∙ tied l m
+  tied_both : (a b : Entry) → test a ≡ true → test b ≡ true → stored_order (record_of octets a) (record_of octets b) ≡ Equal
+  tied_both a b h m = sym (stored_total.congr x (record_of octets a) (record_of octets b) (tied a h)) ∙ tied b m
 
-  lt_is : (m n : ℕ) → is_lt (nat_cmp m n) ≡ nat_lt m n
-  lt_is m n = Prim.grind (arith, nat_tests)
-
-  offset_not : (a b : Group) → test (key a) ≡ true → test (key b) ≡ true → is_lt (group_order octets b a) ≡ false → by_offset b a ≡ false
-  offset_not a b h m not_less =
-      sym (lt_is b.offset a.offset)
-      ∙ sym (ap (λ o. is_lt (ordering_then o (nat_cmp b.offset a.offset))) (tied_both (key b) (key a) m h))
+  place_not : (a b : Entry) → test a ≡ true → test b ≡ true → is_lt (entry_order octets b a) ≡ false → by_place b a ≡ false
+  place_not a b h m not_less =
+      sym (lt_is b.at a.at)
+      ∙ sym (ap (λ o. is_lt (ordering_then o (nat_cmp b.at a.at))) (tied_both b a m h))
       ∙ not_less
 
-  none_offset : (a : Group) (bs : List Group) → test (key a) ≡ true → All (λ g. test (key g) ≡ true) bs → NoneLess (λ a b. is_lt (group_order octets a b)) a bs → NoneLess by_offset a bs
+  none_place : (a : Entry) (bs : List Entry) → test a ≡ true → All (λ e. test e ≡ true) bs → NoneLess (λ a b. is_lt (entry_order octets a b)) a bs → NoneLess by_place a bs
   unfolding NoneLess
-  none_offset a [] h all n = tt
-  none_offset a (b ∷ bs) h all n =
-      (offset_not a b h (All-head (λ g. test (key g) ≡ true) b bs all) n.0, none_offset a bs h (All-tail (λ g. test (key g) ≡ true) b bs all) n.1)
+  none_place a [] h all n = tt
+  none_place a (b ∷ bs) h all n =
+      (place_not a b h (All-head (λ e. test e ≡ true) b bs all) n.0, none_place a bs h (All-tail (λ e. test e ≡ true) b bs all) n.1)
 
-  rises_offset : (gs : List Group) → All (λ g. test (key g) ≡ true) gs → Rises (λ a b. is_lt (group_order octets a b)) gs → Rises by_offset gs
+  rises_place : (es : List Entry) → All (λ e. test e ≡ true) es → Rises (λ a b. is_lt (entry_order octets a b)) es → Rises by_place es
   unfolding Rises
-  rises_offset [] all r = tt
-  rises_offset (g ∷ gs) all r =
-      (none_offset g gs (All-head (λ g. test (key g) ≡ true) g gs all) (All-tail (λ g. test (key g) ≡ true) g gs all) r.0, rises_offset gs (All-tail (λ g. test (key g) ≡ true) g gs all) r.1)
+  rises_place [] all r = tt
+  rises_place (e ∷ es) all r =
+      (none_place e es (All-head (λ e. test e ≡ true) e es all) (All-tail (λ e. test e ≡ true) e es all) r.0, rises_place es (All-tail (λ e. test e ≡ true) e es all) r.1)
 
-  apart : (a b : Group) → HasPrefix octets a → HasPrefix octets b → a.offset ≡ b.offset → a ≡ b
+  apart : (a b : Entry) → HasPrefix octets a → HasPrefix octets b → a.at ≡ b.at → a ≡ b
   apart a b p q e =
-      let prefix : a.prefix ≡ b.prefix = p ∙ ap (λ o. prefix_number 8 (key_at octets o)) e ∙ sym q in
-      λ i. record { prefix = prefix i; offset = e i }
+      let prefix : a.prefix ≡ b.prefix = p ∙ ap (λ n. prefix_number 8 (key_at octets (n / 2 ^ 24 - n % 2 ^ 24))) e ∙ sym q in
+      λ i. record { prefix = prefix i; at = e i }
 
-  order_total : IsTotalOrder (group_order octets)
-  order_total = then_total (on_total (λ g. key_at octets g.offset) nat_list_cmp_total) (on_total (λ g. g.offset) nat_cmp_total)
+  same_entries : (before entries : List Entry) → All (HasPrefix octets) before → IsNonDecreasingBy (λ e. e.at) before → IsPermutation before entries → IsSorted (entry_order octets) entries
+      → filter test entries ≡ filter test before
+  same_entries before entries good rise moved sorted =
+      let order : Rises (λ a b. is_lt (entry_order octets a b)) entries = rises_from_sorted (λ a b. is_lt (entry_order octets a b)) (ranks_by (entries_total octets) (λ e. e)) entries sorted in
+      one_list (λ e. e.at) (HasPrefix octets) apart (filter test entries) (filter test before)
+      (All-filter test (HasPrefix octets) entries (All-permutation (HasPrefix octets) before entries moved good)) (All-filter test (HasPrefix octets) before good)
+      (rises_place (filter test entries) (filter_passes test entries) (rises_filter (λ a b. is_lt (entry_order octets a b)) test entries order)) (rises_filter by_place test before (places_rise before rise))
+      (λ f. sum_filter test f entries ∙ sum_by-IsPermutation (λ e. cond (test e) (f e) 0) before entries moved ∙ sym (sum_filter test f before))
 
-  pub same_groups : (before groups : List Group) → IsStored octets before → IsPermutation before groups → IsSorted (group_order octets) groups
-      → filter (λ g. test (key g)) groups ≡ filter (λ g. test (key g)) before
-  same_groups before groups is moved sorted =
-      let q : Group → Bool = λ g. test (key g) in
-      let good : All (HasPrefix octets) before = stored_prefixes octets before is in
-      let rise : Rises by_offset before = subst (λ (gs : List Group). Rises by_offset gs) (sym is.groups_are) (runs_rise 0 is.runs) in
-      let order : Rises (λ a b. is_lt (group_order octets a b)) groups = rises_from_sorted (λ a b. is_lt (group_order octets a b)) (ranks_by order_total (λ g. g)) groups sorted in
-      one_list (λ g. g.offset) (HasPrefix octets) apart (filter q groups) (filter q before)
-      (All-filter q (HasPrefix octets) groups (All-permutation (HasPrefix octets) before groups moved good)) (All-filter q (HasPrefix octets) before good)
-      (rises_offset (filter q groups) (filter_passes q groups) (rises_filter (λ a b. is_lt (group_order octets a b)) q groups order)) (rises_filter by_offset q before rise)
-      (λ f. sum_filter q f groups ∙ sum_by-IsPermutation (λ g. cond (q g) (f g) 0) before groups moved ∙ sym (sum_filter q f before))
+pub stable_records : (octets : List ℕ) (before entries : List Entry) → All (HasPrefix octets) before → IsNonDecreasingBy (λ e. e.at) before → IsPermutation before entries → IsSorted (entry_order octets) entries
+    → IsStable stored_order (stored_records octets before) (stored_records octets entries)
+stable_records octets before entries good rise moved sorted x =
+    let q : AddedRecord → Bool = λ r. not (is_lt (stored_order x r)) && not (is_lt (stored_order r x)) in
+    filter_map_is (record_of octets) q entries
+    ∙ ap (map (record_of octets)) (same_entries octets x before entries good rise moved sorted)
+    ∙ sym (filter_map_is (record_of octets) q before)
 
-pub stable_records : (octets : List ℕ) (before groups : List Group) → IsStored octets before → IsPermutation before groups → IsSorted (group_order octets) groups
-    → IsStable added_order (stored_records octets before) (stored_records octets groups)
-unfolding stored_records
-stable_records octets before groups is moved sorted = λ x.
-    let key : Group → List ℕ = λ g. key_at octets g.offset in
-    let parts : Group → List RecordParts = λ g. parts_at octets g.offset in
-    let test : List ℕ → Bool = λ k. not (less x.key k) && not (less k x.key) in
-    filter_all key parts less test groups
-    ∙ ap (flat_map (λ g. map (added_record (key g)) (parts g))) (same_groups octets x.key before groups is moved sorted)
-    ∙ sym (filter_all key parts less test before)
-
--- all that is said of a sort, for the groups as they are kept
-pub sorted_store : (octets : List ℕ) (before new kept : List Group) (all : List AddedRecord) → IsStored octets before → stored_records octets before ≡ all → kept ≡ new → IsPermutation before new → IsSorted (group_order octets) new
-    → (IsPermutation all (stored_records octets kept)) × (IsSorted added_order (stored_records octets kept)) × (IsStable added_order all (stored_records octets kept))
-sorted_store octets before new kept all is view e moved sorted =
-    subst (λ (gs : List Group). (IsPermutation all (stored_records octets gs)) × (IsSorted added_order (stored_records octets gs)) × (IsStable added_order all (stored_records octets gs))) (sym e)
-    (subst (λ (rs : List AddedRecord). (IsPermutation rs (stored_records octets new)) × (IsSorted added_order (stored_records octets new)) × (IsStable added_order rs (stored_records octets new))) view
-    (moved_records octets before new moved, sorted_records octets new sorted, stable_records octets before new is moved sorted))
+pub moved_records : (octets : List ℕ) (before entries : List Entry) → IsPermutation before entries → IsPermutation (stored_records octets before) (stored_records octets entries)
+moved_records octets before entries moved = IsPermutation-map (record_of octets) before entries moved

@@ -1,5 +1,5 @@
 pub mod Counted
-pub mod Groups
+pub mod Entries
 pub mod Parts
 pub mod Prefixes
 pub mod Rows

@@ -1,14 +1,12 @@
--- Worked rows of keys, groups and records.
-use Rattle.std.specs.Prelude.{◌≡◌, ℕ, true, false, List, [], ◌∷◌, ◌++◌, replicate, reverse, codes, refl}
-use Rattle.std.specs.List.{flat_map}
-use Rattle.std.specs.declared.cmp.Ordering.TheVariants.{Less, Equal, Greater}
+-- Worked rows of keys, records and entries.
+use Rattle.std.specs.Prelude.{◌≡◌, ℕ, true, false, List, [], ◌∷◌, ◌++◌, ◌+◌, ◌*◌, ◌^◌, replicate, codes, refl}
+use Rattle.std.specs.declared.cmp.Ordering.TheVariants.{Less, Greater}
 use Rattle.zone_store.specs.Counted.{counted_octets, first_counted, after_counted}
-use Rattle.zone_store.specs.Groups.{key_at, group_order, prefixed_order, has_lesser_key}
-use Rattle.zone_store.specs.Parts.{RecordParts, parts_octets, octets16, octets32, octets64, begins_parts, all_parts}
+use Rattle.zone_store.specs.Entries.{key_at, key_offset, parts_at, parts_offset, record_of}
+use Rattle.zone_store.specs.Parts.{RecordParts, parts_octets, octets16, octets32, octets64, begins_parts}
 use Rattle.zone_store.specs.Prefixes.{prefix_number}
-use Rattle.zone_store.specs.Stores.{OwnerRun, added_record, added_order, group_octets, run_groups, stored_records}
-use Rattle.zone_store.specs.Stored.{stored_octets}
-use Rattle.zone_store.specs.declared.groups.Group.{Group}
+use Rattle.zone_store.specs.Stored.{AddedRecord, added_record, absent_parts, has_stored_rrset, is_same_stored, record_at, stored_order}
+use Rattle.zone_store.specs.declared.entries.Entry.{Entry}
 
 -- of no octets, of one, of eight, and of nine, the last of which does not count
 none_prefix_row : prefix_number 8 [] ≡ 0
@@ -58,42 +56,6 @@ absent_row = refl
 cut_length_row : first_counted (255 ∷ 0 ∷ []) ≡ []
 cut_length_row = refl
 
--- the keys `b`, `a` and `b` at the offsets 0, 2 and 4
-abbrev three_keys : List ℕ
-three_keys = 1 ∷ (codes "b" ++ 1 ∷ (codes "a" ++ 1 ∷ codes "b"))
-
-abbrev group : ℕ → Group
-group offset = record { prefix = prefix_number 8 (key_at three_keys offset); offset = offset }
-
-key_row : key_at three_keys 2 ≡ codes "a"
-key_row = refl
-
-no_key_row : key_at three_keys 6 ≡ []
-no_key_row = refl
-
-keys_row : group_order three_keys (group 2) (group 0) ≡ Less
-keys_row = refl
-
--- of one key, by the offsets
-offsets_row : group_order three_keys (group 4) (group 0) ≡ Greater
-offsets_row = refl
-
-one_group_row : group_order three_keys (group 4) (group 4) ≡ Equal
-one_group_row = refl
-
-prefixes_row : prefixed_order three_keys (group 2) (group 0) ≡ Less
-prefixes_row = refl
-
-lesser_row : has_lesser_key three_keys (codes "b") (group 2) ≡ true
-lesser_row = refl
-
-not_lesser_row : has_lesser_key three_keys (codes "b") (group 0) ≡ false
-not_lesser_row = refl
-
--- A 192.0.2.1 under the third header, one line after the record before
-record_row : stored_octets 2 2 (192 ∷ 0 ∷ 2 ∷ 1 ∷ []) ≡ 2 ∷ 2 ∷ 4 ∷ 192 ∷ 0 ∷ 2 ∷ 1 ∷ []
-record_row = refl
-
 -- A 192.0.2.1 with the TTL 3600, at the offset 12 of the first file, of class IN and of class CH
 abbrev address : ℕ → RecordParts
 address class = record { code = 1; class = class; ttl = 3600; file = 0; offset = 12; rdata = 192 ∷ 0 ∷ 2 ∷ 1 ∷ [] }
@@ -106,28 +68,72 @@ long_record_row : parts_octets (address 3) ≡ 254 ∷ 0 ∷ 1 ∷ 0 ∷ 3 ∷ 0
 unfolding parts_octets octets16 octets32 octets64
 long_record_row = refl
 
--- neither a group nor octets that are cut off begin a record
-group_begins_row : begins_parts (255 ∷ replicate 30 0) ≡ false
-group_begins_row = refl
+-- neither a length nor octets that are cut off begin a record
+length_begins_row : begins_parts (30 ∷ replicate 30 0) ≡ false
+length_begins_row = refl
 
 cut_begins_row : begins_parts (253 ∷ replicate 9 0) ≡ false
 cut_begins_row = refl
 
--- a record of the owner `b`, then one of the owner `a`
-abbrev two_runs : List OwnerRun
-two_runs = record { key = codes "b"; records = address 1 ∷ [] } ∷ record { key = codes "a"; records = address 3 ∷ [] } ∷ []
+-- two records of the owner `b`: the key at 0, the first record at 2, the second at 18
+abbrev two_records : List ℕ
+two_records = 1 ∷ (codes "b" ++ (parts_octets (address 1) ++ parts_octets (address 3)))
 
-groups_row : run_groups 0 two_runs ≡ record { prefix = prefix_number 8 (codes "b"); offset = 1 } ∷ record { prefix = prefix_number 8 (codes "a"); offset = 20 } ∷ []
+abbrev entry : ℕ → Entry
+entry offset = record { prefix = prefix_number 8 (codes "b"); at = offset * 2 ^ 24 + offset }
+
+key_row : key_at two_records 0 ≡ codes "b"
+key_row = refl
+
+second_key_row : key_offset (entry 18) ≡ 0
+second_key_row = refl
+
+second_offset_row : parts_offset (entry 18) ≡ 18
+second_offset_row = refl
+
+first_of_two_row : record_of two_records (entry 2) ≡ added_record (codes "b") (address 1)
 unfolding parts_octets octets16 octets32 octets64
-groups_row = refl
+first_of_two_row = refl
 
-stored_row : stored_records (flat_map group_octets two_runs) (run_groups 0 two_runs) ≡ added_record (codes "b") (address 1) ∷ added_record (codes "a") (address 3) ∷ []
-unfolding parts_octets octets16 octets32 octets64 all_parts stored_records
-stored_row = refl
+second_of_two_row : record_of two_records (entry 18) ≡ added_record (codes "b") (address 3)
+unfolding parts_octets octets16 octets32 octets64
+second_of_two_row = refl
 
-sorted_row : stored_records (flat_map group_octets two_runs) (reverse (run_groups 0 two_runs)) ≡ added_record (codes "a") (address 3) ∷ added_record (codes "b") (address 1) ∷ []
-unfolding parts_octets octets16 octets32 octets64 all_parts stored_records
-sorted_row = refl
+no_record_row : parts_at two_records 1 ≡ absent_parts
+unfolding parts_octets octets16 octets32 octets64
+no_record_row = refl
 
-order_row : added_order (added_record (codes "a") (address 3)) (added_record (codes "b") (address 1)) ≡ Less
-order_row = refl
+-- by key, class, type and RDATA, but neither by TTL nor by file
+abbrev stored : List ℕ → ℕ → ℕ → List ℕ → AddedRecord
+stored key class code rdata = added_record key (record { code = code; class = class; ttl = 0; file = 0; offset = 0; rdata = rdata })
+
+keys_row : stored_order (stored (codes "a") 3 1 []) (stored (codes "b") 1 1 []) ≡ Less
+keys_row = refl
+
+classes_row : stored_order (stored (codes "a") 3 1 []) (stored (codes "a") 1 2 []) ≡ Greater
+classes_row = refl
+
+types_row : stored_order (stored (codes "a") 1 1 (9 ∷ [])) (stored (codes "a") 1 16 []) ≡ Less
+types_row = refl
+
+rdata_row : stored_order (stored (codes "a") 1 1 (128 ∷ [])) (stored (codes "a") 1 1 (127 ∷ 0 ∷ [])) ≡ Greater
+rdata_row = refl
+
+same_row : is_same_stored (stored (codes "a") 1 1 []) (added_record (codes "a") (record { code = 1; class = 1; ttl = 60; file = 2; offset = 7; rdata = [] })) ≡ true
+same_row = refl
+
+-- the record at an index, and an RRset among records
+abbrev some_records : List AddedRecord
+some_records = stored (codes "a") 1 1 [] ∷ stored (codes "b") 1 16 [] ∷ []
+
+at_row : record_at some_records 1 ≡ stored (codes "b") 1 16 []
+at_row = refl
+
+rrset_row : has_stored_rrset (codes "b") 1 16 some_records ≡ true
+rrset_row = refl
+
+other_key_row : has_stored_rrset (codes "a") 1 16 some_records ≡ false
+other_key_row = refl
+
+other_class_row : has_stored_rrset (codes "b") 3 16 some_records ≡ false
+other_class_row = refl

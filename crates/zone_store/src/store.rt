@@ -1,107 +1,69 @@
 //! A store: the records of a zone, in the order in which they were added.
-ghost use Rattle.std.specs.Prelude.{◌≡◌, ◌<◌, ◌^◌, ◌+◌, ◌++◌, [], ◌∷◌, length, true, OnOk, OnErr};
+ghost use Rattle.std.specs.Prelude.{◌≡◌, ◌<◌, ◌≤◌, ◌^◌, ◌++◌, [], ◌∷◌, All, length, true, IfOk, IfSome, OnOk, OnErr};
 ghost use Rattle.std.specs.List.Sorted.{IsPermutation, IsSorted, IsStable};
 ghost use Rattle.dns_octets.specs.Appending.{Extends};
 ghost use Rattle.zone_store.specs.Counted.{counted_octets};
-ghost use Rattle.zone_store.specs.Parts.{record_parts, parts_octets};
-ghost use Rattle.zone_store.specs.Stores.{added_order, added_record, run_group, EndsWithKey, IsStored, IsFromKey, StoresMore};
+ghost use Rattle.zone_store.specs.Entries.{key_at, key_offset, parts_offset, HasAt, IsEntryOf, IsStoreEntry};
+ghost use Rattle.zone_store.specs.Parts.{record_parts};
+ghost use Rattle.zone_store.specs.Stored.{added_record, stored_order};
+ghost use Rattle.zone_store.specs.Stores.{IsStored, StoresMore};
 
 use crate::counted::push_counted;
-use crate::cursor::Records;
-use crate::groups::{Group, key_at, key_prefix, lower_bound, sort_groups};
+use crate::entries::{Entry, REACH, key_of, key_prefix, sort_entries};
 use crate::records::{EntryHeader, GroupEntry, push_record};
+use crate::sorted::SortedStore;
 use std::alloc::{AllocError, Allocator, Global};
 use std::marker::Model;
 
-/// First octet of a group.
-const GROUP: u8 = 255;
-
-/// Appends a record, or nothing without memory.
-fn append_record<A: Allocator>(
-    added: &GroupEntry<'_>,
-    octets: &mut Vec<u8, A>,
-) -> Result<(), AllocError>
-    requires { length added.now.rdata.now < 2 ^ 16 }
-    ensures ok { OnOk result (octets.new.items ≡ octets.old.items ++ parts_octets (record_parts added.now)) }
-    ensures err { OnErr result (octets.new.items ≡ octets.old.items) }
+/// Returns whether an entry has a key.
+fn has_key(octets: &[u8], entry: &Entry, key: &[u8]) -> bool
+    ensures { result ≡ true → key_at octets.now (key_offset entry.now) ≡ key.now }
 {
-    let len = octets.len();
-    if let Err(error) = push_record(added, octets) {
-        octets.truncate(len);
-        return Err(error);
-    }
-    Ok(())
+    key_of(octets, entry) == key
 }
 
-/// Appends the first octet of a group, its key after the length, and its first record. Fails
-/// without memory; the first octets may then have been appended.
-fn push_run<A: Allocator>(
-    key: &[u8],
-    added: &GroupEntry<'_>,
-    octets: &mut Vec<u8, A>,
-) -> Result<(), AllocError>
-    requires key { length key.now < 2 ^ 16 }
-    requires rdata { length added.now.rdata.now < 2 ^ 16 }
-    ensures ok { OnOk result (octets.new.items ≡ octets.old.items ++ 255 ∷ (counted_octets key.now ++ parts_octets (record_parts added.now))) }
-    ensures err { OnErr result (Extends octets.old.items octets.new.items) }
+/// Returns the offset of the key of the last entry, if that is a given key and the octets that follow
+/// it are not too many for another record to share it.
+fn last_key(octets: &[u8], entries: &[Entry], key: &[u8]) -> Option<usize>
+    requires { All (IsStoreEntry octets.now) entries.now }
+    ensures { IfSome result (λ offset. HasAt octets.now offset (counted_octets key.now)) }
 {
-    octets.push(GROUP)?;
+    let (last, _) = entries.split_last()?;
+    let offset = last.key_offset();
+    if octets.len().saturating_sub(offset) as u64 >= REACH {
+        return None;
+    }
+    if has_key(octets, last, key) {
+        return Some(offset);
+    }
+    None
+}
+
+/// Returns the number of octets.
+fn count_of<A: Allocator>(octets: &Vec<u8, A>) -> usize
+    ensures { result ≡ length octets.now.items }
+{
+    octets.len()
+}
+
+/// Appends a key after its length, unless the last entry has it. Returns its offset. Fails without
+/// memory; the first octets may then have been appended.
+fn push_key<A: Allocator>(
+    key: &[u8],
+    octets: &mut Vec<u8, A>,
+    entries: &[Entry],
+) -> Result<usize, AllocError>
+    requires key { length key.now < 2 ^ 16 }
+    requires stored { All (IsStoreEntry octets.old.items) entries.now }
+    ensures ok { IfOk result (λ offset. HasAt octets.new.items offset (counted_octets key.now)) }
+    ensures more { Extends octets.old.items octets.new.items }
+{
+    if let Some(offset) = last_key(octets.as_slice(), entries, key) {
+        return Ok(offset);
+    }
+    let offset = octets.len();
     push_counted(key, octets)?;
-    push_record(added, octets)
-}
-
-/// Adds a group, or nothing without memory.
-fn push_group<A: Allocator>(
-    key: &[u8],
-    offset: usize,
-    groups: &mut Vec<Group, A>,
-) -> Result<(), AllocError>
-    requires { offset + 1 < 2 ^ 64 }
-    ensures ok { OnOk result (groups.new.items ≡ groups.old.items ++ run_group offset key.now ∷ []) }
-    ensures err { OnErr result (groups.new.items ≡ groups.old.items) }
-{
-    let group = Group {
-        prefix: key_prefix(key),
-        offset: offset + 1,
-    };
-    groups.push(group)?;
-    Ok(())
-}
-
-/// Appends a group of one record and adds it to the groups, or does nothing without memory.
-fn append_run<A: Allocator>(
-    key: &[u8],
-    added: &GroupEntry<'_>,
-    octets: &mut Vec<u8, A>,
-    groups: &mut Vec<Group, A>,
-) -> Result<(), AllocError>
-    requires key { length key.now < 2 ^ 16 }
-    requires rdata { length added.now.rdata.now < 2 ^ 16 }
-    ensures octets { OnOk result (octets.new.items ≡ octets.old.items ++ 255 ∷ (counted_octets key.now ++ parts_octets (record_parts added.now))) }
-    ensures groups { OnOk result (groups.new.items ≡ groups.old.items ++ run_group (length octets.old.items) key.now ∷ []) }
-    ensures same_octets { OnErr result (octets.new.items ≡ octets.old.items) }
-    ensures same_groups { OnErr result (groups.new.items ≡ groups.old.items) }
-{
-    let len = octets.len();
-    if let Err(error) = push_run(key, added, octets) {
-        octets.truncate(len);
-        return Err(error);
-    }
-    if let Err(error) = push_group(key, len, groups) {
-        octets.truncate(len);
-        return Err(error);
-    }
-    Ok(())
-}
-
-/// Returns whether the last group has a key.
-fn ends_with_key(octets: &[u8], groups: &[Group], key: &[u8]) -> bool
-    ensures { result ≡ true → EndsWithKey octets.now groups.now key.now }
-{
-    match groups.split_last() {
-        Some((last, _)) => key_at(octets, last.offset) == key,
-        None => false,
-    }
+    Ok(offset)
 }
 
 /// States that numbers of a record fit their octets.
@@ -130,47 +92,103 @@ fn header_fits(header: &EntryHeader)
     );
 }
 
-/// Adds a record to the last group if that has its key, and else a group, or does nothing without
-/// is no memory.
+/// Appends the octets of a record, and returns its entry. Fails without memory, and if the record
+/// would be at the offset 2^40 or after it; octets may then have been appended.
+fn push_octets<A: Allocator>(
+    key: &[u8],
+    added: &GroupEntry<'_>,
+    octets: &mut Vec<u8, A>,
+    entries: &[Entry],
+) -> Result<Entry, AllocError>
+    requires key { length key.now < 2 ^ 16 }
+    requires rdata { length added.now.rdata.now < 2 ^ 16 }
+    requires stored { All (IsStoreEntry octets.old.items) entries.now }
+    ensures ok { IfOk result (λ e. IsEntryOf octets.new.items e (added_record key.now (record_parts added.now))) }
+    ensures last { IfOk result (λ e. length octets.old.items ≤ parts_offset e) }
+    ensures more { Extends octets.old.items octets.new.items }
+{
+    header_fits(&added.header);
+    let key_offset = push_key(key, octets, entries)?;
+    let offset = count_of(octets);
+    push_record(added, octets)?;
+    match Entry::new(key_prefix(key), key_offset, offset) {
+        Some(entry) => Ok(entry),
+        None => Err(AllocError),
+    }
+}
+
+/// Adds an entry, or nothing without memory.
+fn push_entry<A: Allocator>(entry: Entry, entries: &mut Vec<Entry, A>) -> Result<(), AllocError>
+    ensures ok { OnOk result (entries.new.items ≡ entries.old.items ++ entry ∷ []) }
+    ensures err { OnErr result (entries.new.items ≡ entries.old.items) }
+{
+    entries.push(entry)?;
+    Ok(())
+}
+
+/// Adds the octets and the entry of a record. Fails without memory, and if the record would be at
+/// the offset 2^40 or after it; octets may then have been appended.
+fn push_added<A: Allocator>(
+    key: &[u8],
+    added: &GroupEntry<'_>,
+    octets: &mut Vec<u8, A>,
+    entries: &mut Vec<Entry, A>,
+) -> Result<(), AllocError>
+    requires key { length key.now < 2 ^ 16 }
+    requires rdata { length added.now.rdata.now < 2 ^ 16 }
+    requires stored { IsStored octets.old.items entries.old.items }
+    ensures ok { OnOk result (StoresMore octets.old.items entries.old.items octets.new.items entries.new.items (added_record key.now (record_parts added.now))) }
+    ensures octets { OnErr result (Extends octets.old.items octets.new.items) }
+    ensures entries { OnErr result (entries.new.items ≡ entries.old.items) }
+{
+    let entry = push_octets(key, added, octets, entries.as_slice())?;
+    push_entry(entry, entries)
+}
+
+/// Adds the octets and the entry of a record, or does nothing without memory, and if the record would
+/// be at the offset 2^40 or after it.
 fn append_added<A: Allocator>(
     key: &[u8],
     added: &GroupEntry<'_>,
     octets: &mut Vec<u8, A>,
-    groups: &mut Vec<Group, A>,
+    entries: &mut Vec<Entry, A>,
 ) -> Result<(), AllocError>
     requires key { length key.now < 2 ^ 16 }
     requires rdata { length added.now.rdata.now < 2 ^ 16 }
-    requires stored { IsStored octets.old.items groups.old.items }
-    ensures ok { OnOk result (StoresMore octets.old.items groups.old.items octets.new.items groups.new.items (added_record key.now (record_parts added.now))) }
+    requires stored { IsStored octets.old.items entries.old.items }
+    ensures ok { OnOk result (StoresMore octets.old.items entries.old.items octets.new.items entries.new.items (added_record key.now (record_parts added.now))) }
     ensures same_octets { OnErr result (octets.new.items ≡ octets.old.items) }
-    ensures same_groups { OnErr result (groups.new.items ≡ groups.old.items) }
+    ensures same_entries { OnErr result (entries.new.items ≡ entries.old.items) }
 {
-    header_fits(&added.header);
-    if ends_with_key(octets.as_slice(), groups.as_slice(), key) {
-        return append_record(added, octets);
+    let len = octets.len();
+    if let Err(error) = push_added(key, added, octets, entries) {
+        octets.truncate(len);
+        return Err(error);
     }
-    append_run(key, added, octets, groups)
+    Ok(())
 }
 
 /// The records of a zone, in the order in which they were added. A record is added with the order
 /// key of its owner ([`dns_canonical::push_order_key`]), or with what follows the zone's key in it.
 ///
-/// Records that are added one after another with one key share its octets.
+/// Records that are added one after another with one key share its octets. Besides its octets a
+/// record takes 16 octets.
 #[derive(Drop)]
 pub struct RecordStore<A: Allocator = Global> {
     octets: Vec<u8, A>,
-    groups: Vec<Group, A>,
+    entries: Vec<Entry, A>,
 }
 
 impl<A: Allocator> Model for RecordStore<A> {
     ghost use Rattle.std.specs.Prelude.{List};
-    ghost use Rattle.zone_store.specs.Stores.{AddedRecord, stored_records, IsStored};
+    ghost use Rattle.zone_store.specs.Stored.{AddedRecord};
+    ghost use Rattle.zone_store.specs.Stores.{stored_records, IsStored};
 
     ghost Value = { List AddedRecord };
 
-    ghost view = { λ s. stored_records s.octets.items s.groups.items };
+    ghost view = { λ s. stored_records s.octets.items s.entries.items };
 
-    ghost invariant = { λ s. IsStored s.octets.items s.groups.items };
+    ghost invariant = { λ s. IsStored s.octets.items s.entries.items };
 }
 
 impl<A: Allocator + Copy> RecordStore<A> {
@@ -180,78 +198,43 @@ impl<A: Allocator + Copy> RecordStore<A> {
     {
         RecordStore {
             octets: Vec::new(alloc),
-            groups: Vec::new(alloc),
+            entries: Vec::new(alloc),
         }
     }
 }
 
 impl<A: Allocator> RecordStore<A> {
-    /// Adds a record after all others. Fails without memory; the store is then unchanged.
+    /// Returns the number of records.
+    pub fn len(&self) -> usize
+        ensures { result ≡ length self.now }
+    {
+        self.entries.len()
+    }
+
+    /// Adds a record after all others. Fails without memory, and if the octets before the record
+    /// would be 2^40 or more; the store is then unchanged.
     pub fn add(&mut self, key: &[u8], added: &GroupEntry<'_>) -> Result<(), AllocError>
         requires key { length key.now < 2 ^ 16 }
         requires rdata { length added.now.rdata.now < 2 ^ 16 }
         ensures ok { OnOk result (self.new ≡ self.old ++ added_record key.now (record_parts added.now) ∷ []) }
         ensures err { OnErr result (self.new ≡ self.old) }
     {
-        append_added(key, added, &mut self.octets, &mut self.groups)
+        append_added(key, added, &mut self.octets, &mut self.entries)
     }
 
-    /// Returns the records in the order in which they were added.
-    pub fn records(&self) -> Records<'_>
-        ensures { result ≡ self.now }
-    {
-        Records::new(self.octets.as_slice(), self.groups.as_slice())
-    }
-
-    /// Sorts the records by their keys, which is the canonical order of their owners. Records with
-    /// one key stay in the order in which they were added. Uses no further memory.
+    /// Sorts the records into canonical order (RFC 4034 section 6): by the keys of their owners, then
+    /// by class, type and RDATA. Records that differ in their TTL and where they come from at most
+    /// stay in the order in which they were added.
+    ///
+    /// Uses memory for half of the entries if it can be allocated, and else none.
     pub fn sort(self) -> SortedStore<A>
         ensures permutation { IsPermutation self result }
-        ensures sorted { IsSorted added_order result }
-        ensures stable { IsStable added_order self result }
+        ensures sorted { IsSorted stored_order result }
+        ensures stable { IsStable stored_order self result }
     {
         let octets = self.octets;
-        let mut groups = self.groups;
-        sort_groups(octets.as_slice(), groups.as_mut_slice());
-        SortedStore { octets, groups }
-    }
-}
-
-/// The records of a zone, sorted by their keys.
-#[derive(Drop)]
-pub struct SortedStore<A: Allocator = Global> {
-    octets: Vec<u8, A>,
-    groups: Vec<Group, A>,
-}
-
-impl<A: Allocator> Model for SortedStore<A> {
-    ghost use Rattle.std.specs.Prelude.{List};
-    ghost use Rattle.zone_store.specs.Stores.{AddedRecord, stored_records, IsSortedStore};
-
-    ghost Value = { List AddedRecord };
-
-    ghost view = { λ s. stored_records s.octets.items s.groups.items };
-
-    ghost invariant = { λ s. IsSortedStore s.octets.items s.groups.items };
-}
-
-impl<A: Allocator> SortedStore<A> {
-    /// Returns the records in their order.
-    pub fn records(&self) -> Records<'_>
-        ensures { result ≡ self.now }
-    {
-        Records::new(self.octets.as_slice(), self.groups.as_slice())
-    }
-
-    /// Returns the records from the first on whose key is not less than a key. If there are records
-    /// with that key, they come first.
-    pub fn records_from(&self, key: &[u8]) -> Records<'_>
-        ensures { IsFromKey key.now self.now result }
-    {
-        let octets = self.octets.as_slice();
-        let groups = self.groups.as_slice();
-        let index = lower_bound(octets, groups, key);
-        let (_, rest) = groups.split_at(index);
-        Records::new(octets, rest)
+        let mut entries = self.entries;
+        sort_entries(octets.as_slice(), &mut entries);
+        SortedStore { octets, entries }
     }
 }

@@ -1,5 +1,5 @@
 //! Sets of records: in canonical order, compared and digested.
-use super::tell::{Octets, number16, origin_of};
+use super::tell::{Octets, number16, number32, origin_of};
 use arrayvec::ArrayVec;
 use dns_codec::base16;
 use dns_fields::RecordError;
@@ -267,17 +267,6 @@ fn check(inputs: &[Vec<u8>], answer: &mut Answer) {
             }
         }
         Err(error) => answer.refuse(&error),
-    }
-}
-
-/// Returns a number of 32 bits, from decimal digits.
-fn number32(digits: &[u8], answer: &mut Answer) -> u32 {
-    match u32::try_from(number_of(digits).unwrap_or(usize::MAX)) {
-        Ok(number) => number,
-        Err(_) => {
-            answer.fail(Failure::BadInputs);
-            0
-        }
     }
 }
 

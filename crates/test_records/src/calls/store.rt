@@ -1,30 +1,27 @@
-//! Calls of `zone_store`: groups of keys, and records as octets.
-ghost use Rattle.std.specs.Prelude.{◌≡◌, ◌^◌, All, OnOk, length, nat_lt};
-ghost use Rattle.zone_store.specs.Groups.{HasPrefix};
+//! Calls of `zone_store`: records in memory, and their octets.
+ghost use Rattle.std.specs.Prelude.{◌≡◌, ◌^◌, length, nat_lt};
 
-use super::canonical::tell_order;
-use super::tell::{Octets, number8};
+use super::tell::{Octets, number16, number32};
+use dns_kinds::{Class, RecordType};
 use dns_octets::ShortBuf;
 use row_table::input::number_of;
 use row_table::{Answer, Failure, Heap, Inputs};
 use std::alloc::AllocError;
 use zone_store::{
-    Group, compare_groups, group_at, key_at, lower_bound, push_counted, push_stored, sort_groups,
-    split_counted, split_stored,
+    EntryHeader, GroupEntry, RecordStore, SortedStore, push_counted, push_record, split_counted,
+    split_record,
 };
 
-/// Groups in memory of which one allocation may fail.
-type Groups<'a> = Vec<Group, &'a Heap>;
-
-/// Offsets in memory of which one allocation may fail.
-type Offsets<'a> = Vec<usize, &'a Heap>;
+/// A store in memory of which one allocation may fail.
+type Store<'a> = RecordStore<&'a Heap>;
 
 /// Answers a row: calls what it names.
 pub fn call(name: &str, inputs: &Inputs, answer: &mut Answer) {
     match name {
         "sort" => sort(inputs.all(), answer),
         "find" => find(inputs.all(), answer),
-        "order" => order(inputs.two(answer), answer),
+        "records" => records(inputs.all(), answer),
+        "type" => find_type(inputs.all(), answer),
         "counted" => counted(inputs.octets(answer), answer),
         "split" => split(inputs.octets(answer), answer),
         "record" => record(inputs.all(), answer),
@@ -44,78 +41,120 @@ fn is_counted(octets: &[u8], answer: &mut Answer) -> bool
     is_short
 }
 
-/// Appends keys after their lengths, and the offset of each.
-fn push_keys(
-    keys: &[Vec<u8>],
-    octets: &mut Octets<'_>,
-    offsets: &mut Offsets<'_>,
+/// Adds a record to a store.
+fn store_record(
+    key: &[u8],
+    header: EntryHeader,
+    rdata: &[u8],
+    store: &mut Store<'_>,
     answer: &mut Answer,
 ) -> Result<(), AllocError> {
-    for key in keys {
-        if is_counted(key.as_slice(), answer) {
-            offsets.push(octets.len())?;
-            push_counted(key.as_slice(), octets)?;
-        }
+    if is_counted(key, answer) && is_counted(rdata, answer) {
+        store.add(key, &GroupEntry { header, rdata })?;
     }
     Ok(())
 }
 
-/// Appends the groups at offsets.
-fn push_groups(octets: &[u8], offsets: &[usize], groups: &mut Groups<'_>) -> Result<(), AllocError>
-    requires { All (HasPrefix octets.now) groups.old.items }
-    ensures { OnOk result (All (HasPrefix octets.now) groups.new.items) }
-{
-    for offset in offsets {
-        groups.push(group_at(octets, *offset))?;
+/// Returns a header whose offset is an index.
+fn header_of(class: Class, rtype: RecordType, index: usize) -> EntryHeader {
+    EntryHeader {
+        rtype,
+        class,
+        ttl: 0,
+        file: 0,
+        offset: index as u64,
+    }
+}
+
+/// Adds a record to a store for each key.
+fn store_keys(
+    keys: &[Vec<u8>],
+    store: &mut Store<'_>,
+    answer: &mut Answer,
+) -> Result<(), AllocError> {
+    for index in 0..keys.len() {
+        store_record(
+            keys[index].as_slice(),
+            header_of(Class::IN, RecordType::A, index),
+            &[],
+            store,
+            answer,
+        )?;
     }
     Ok(())
 }
 
-/// Returns the index of the key whose group begins at an offset.
-fn index_of(offset: usize, offsets: &[usize]) -> usize {
-    offsets
-        .iter()
-        .position(|other| *other == offset)
-        .unwrap_or(usize::MAX)
+/// Adds the record with an index to a store, of records in four fields each: key, class, type and
+/// RDATA.
+fn store_fields(
+    index: usize,
+    fields: &[Vec<u8>],
+    store: &mut Store<'_>,
+    answer: &mut Answer,
+) -> Result<(), AllocError> {
+    let [key, class, rtype, rdata, ..] = fields else {
+        answer.fail(Failure::BadInputs);
+        return Ok(());
+    };
+    let class = Class(number16(class.as_slice(), answer));
+    let rtype = RecordType(number16(rtype.as_slice(), answer));
+    store_record(
+        key.as_slice(),
+        header_of(class, rtype, index),
+        rdata.as_slice(),
+        store,
+        answer,
+    )
 }
 
-/// Adds the sorted groups of keys: of each the index of its key as given, and the key.
-fn add_sorted<'a>(keys: &[Vec<u8>], answer: &mut Answer<'a>) -> Result<(), AllocError> {
-    let mut octets: Octets<'a> = Vec::new(answer.heap());
-    let mut offsets: Offsets<'a> = Vec::new(answer.heap());
-    let mut groups: Groups<'a> = Vec::new(answer.heap());
-    push_keys(keys, &mut octets, &mut offsets, answer)?;
-    push_groups(octets.as_slice(), offsets.as_slice(), &mut groups)?;
-    sort_groups(octets.as_slice(), groups.as_mut_slice());
-    for group in groups.as_slice() {
-        answer.add_number(index_of(group.offset, offsets.as_slice()));
+/// Adds records to a store, which are in four fields each.
+fn store_all(
+    inputs: &[Vec<u8>],
+    store: &mut Store<'_>,
+    answer: &mut Answer,
+) -> Result<(), AllocError> {
+    for index in 0..inputs.len().div_ceil(4) {
+        let fields = inputs.get(index.saturating_mul(4)..).unwrap_or(&[]);
+        store_fields(index, fields, store, answer)?;
+    }
+    Ok(())
+}
+
+/// Adds the records of a sorted store: of each its index as given, and its key.
+fn add_keys(sorted: &SortedStore<&Heap>, answer: &mut Answer) {
+    for index in 0..sorted.len() {
+        answer.add_number(sorted.entry(index).header.offset as usize);
         answer.add_text(" ");
-        answer.add(key_at(octets.as_slice(), group.offset));
+        answer.add(sorted.key(index));
         answer.add_text(";");
     }
+}
+
+/// Adds the records of keys, sorted.
+fn add_sorted<'a>(keys: &[Vec<u8>], answer: &mut Answer<'a>) -> Result<(), AllocError> {
+    let mut store: Store<'a> = RecordStore::new(answer.heap());
+    store_keys(keys, &mut store, answer)?;
+    answer.hold(store.len() == keys.len());
+    add_keys(&store.sort(), answer);
     Ok(())
 }
 
-/// Adds the groups of keys, sorted.
+/// Adds the records of keys, sorted.
 fn sort(keys: &[Vec<u8>], answer: &mut Answer) {
     if add_sorted(keys, answer).is_err() {
         answer.refuse(&ShortBuf);
     }
 }
 
-/// Adds the number of groups of keys, sorted, that are before a key.
+/// Adds the number of records with keys that are before a key.
 fn add_bound<'a>(key: &[u8], keys: &[Vec<u8>], answer: &mut Answer<'a>) -> Result<(), AllocError> {
-    let mut octets: Octets<'a> = Vec::new(answer.heap());
-    let mut offsets: Offsets<'a> = Vec::new(answer.heap());
-    let mut groups: Groups<'a> = Vec::new(answer.heap());
-    push_keys(keys, &mut octets, &mut offsets, answer)?;
-    push_groups(octets.as_slice(), offsets.as_slice(), &mut groups)?;
-    sort_groups(octets.as_slice(), groups.as_mut_slice());
-    answer.add_number(lower_bound(octets.as_slice(), groups.as_slice(), key));
+    let mut store: Store<'a> = RecordStore::new(answer.heap());
+    store_keys(keys, &mut store, answer)?;
+    answer.add_number(store.sort().count_before(key));
     Ok(())
 }
 
-/// Adds the number of groups before a key. The inputs are the key, and those of the groups.
+/// Adds the number of records before a key. The inputs are the key, and those of the records.
 fn find(inputs: &[Vec<u8>], answer: &mut Answer) {
     let [key, keys @ ..] = inputs else {
         return answer.fail(Failure::BadInputs);
@@ -125,22 +164,64 @@ fn find(inputs: &[Vec<u8>], answer: &mut Answer) {
     }
 }
 
-/// Adds the order of the groups of two keys, the first of which is stored first.
-fn order((left, right): (&[u8], &[u8]), answer: &mut Answer) {
-    if !is_counted(left, answer) || !is_counted(right, answer) {
-        return;
+/// Returns whether a record of a sorted store is equal to the one before it.
+fn is_repeated(sorted: &SortedStore<&Heap>, index: usize) -> bool {
+    index > 0 && index < sorted.len() && sorted.compare(index - 1, index).is_eq()
+}
+
+/// Adds the records of a sorted store: of each its index as given, and `=` if it is equal to the one
+/// before.
+fn add_indexes(sorted: &SortedStore<&Heap>, answer: &mut Answer) {
+    for index in 0..sorted.len() {
+        answer.add_text(if is_repeated(sorted, index) { "=" } else { "" });
+        answer.add_number(sorted.entry(index).header.offset as usize);
+        answer.add_text(";");
     }
-    let mut octets: Octets = Vec::new(answer.heap());
-    if push_counted(left, &mut octets).is_err() {
-        return answer.refuse(&ShortBuf);
+}
+
+/// Adds the indexes of records, sorted.
+fn add_order<'a>(inputs: &[Vec<u8>], answer: &mut Answer<'a>) -> Result<(), AllocError> {
+    let mut store: Store<'a> = RecordStore::new(answer.heap());
+    store_all(inputs, &mut store, answer)?;
+    add_indexes(&store.sort(), answer);
+    Ok(())
+}
+
+/// Adds the indexes of records, sorted. A record is four inputs: its key, class, type and RDATA.
+fn records(inputs: &[Vec<u8>], answer: &mut Answer) {
+    if add_order(inputs, answer).is_err() {
+        answer.refuse(&ShortBuf);
     }
-    let next = octets.len();
-    if push_counted(right, &mut octets).is_err() {
-        return answer.refuse(&ShortBuf);
+}
+
+/// Adds the number of records before an RRset, and whether there is a record of it.
+fn add_type<'a>(
+    key: &[u8],
+    class: Class,
+    rtype: RecordType,
+    inputs: &[Vec<u8>],
+    answer: &mut Answer<'a>,
+) -> Result<(), AllocError> {
+    let mut store: Store<'a> = RecordStore::new(answer.heap());
+    store_all(inputs, &mut store, answer)?;
+    let sorted = store.sort();
+    answer.add_number(sorted.count_before_type(key, class, rtype));
+    answer.add_text(" ");
+    answer.add_bool(sorted.has_type(key, class, rtype));
+    Ok(())
+}
+
+/// Adds the number of records before an RRset, and whether there is a record of it. The inputs are
+/// the key, class and type of the RRset, then the records.
+fn find_type(inputs: &[Vec<u8>], answer: &mut Answer) {
+    let [key, class, rtype, records @ ..] = inputs else {
+        return answer.fail(Failure::BadInputs);
+    };
+    let class = Class(number16(class.as_slice(), answer));
+    let rtype = RecordType(number16(rtype.as_slice(), answer));
+    if add_type(key.as_slice(), class, rtype, records, answer).is_err() {
+        answer.refuse(&ShortBuf);
     }
-    let first = group_at(octets.as_slice(), 0);
-    let second = group_at(octets.as_slice(), next);
-    tell_order(compare_groups(octets.as_slice(), &first, &second), answer);
 }
 
 /// Adds the length of octets as it is stored. The octets are found again between others.
@@ -157,7 +238,6 @@ fn add_counted<'a>(count: usize, answer: &mut Answer<'a>) -> Result<(), AllocErr
     let stored = out.as_slice().get(1..).unwrap_or(&[]);
     let (part, rest) = split_counted(stored);
     answer.hold(part == octets.as_slice() && rest == [5].as_slice());
-    answer.hold(key_at(out.as_slice(), 1) == octets.as_slice());
     let width = stored.len().saturating_sub(count + 1);
     answer.add(stored.get(..width).unwrap_or(&[]));
     Ok(())
@@ -184,47 +264,69 @@ fn split(octets: &[u8], answer: &mut Answer) {
     answer.add(rest);
 }
 
-/// Adds the octets of a record with a header, a position and RDATA. The record is found again
-/// before others.
-fn record(inputs: &[Vec<u8>], answer: &mut Answer) {
-    let [header, position, rdata] = inputs else {
-        return answer.fail(Failure::BadInputs);
-    };
-    let header = number8(header.as_slice(), answer);
-    let position = number8(position.as_slice(), answer);
-    if !is_counted(rdata.as_slice(), answer) {
-        return;
+/// Adds the octets of a record. It is found again before others.
+fn add_octets<'a>(
+    header: EntryHeader,
+    rdata: &[u8],
+    answer: &mut Answer<'a>,
+) -> Result<(), AllocError> {
+    if !is_counted(rdata, answer) {
+        return Ok(());
     }
-    let mut out: Octets = Vec::new(answer.heap());
-    if push_stored(header, position, rdata.as_slice(), &mut out).is_err() {
-        return answer.refuse(&ShortBuf);
-    }
+    let mut out: Octets<'a> = Vec::new(answer.heap());
+    push_record(&GroupEntry { header, rdata }, &mut out)?;
     answer.add(out.as_slice());
-    if out.push(5).is_err() {
-        return;
-    }
-    let is_same = match split_stored(out.as_slice()) {
-        Some(found) => {
-            found.header == header
-                && found.position == position
-                && found.rdata == rdata.as_slice()
-                && found.rest == [5].as_slice()
+    out.push(5)?;
+    let is_same = match split_record(out.as_slice()) {
+        Some((found, rest)) => {
+            found.header.rtype == header.rtype
+                && found.header.class == header.class
+                && found.header.ttl == header.ttl
+                && found.header.file == header.file
+                && found.header.offset == header.offset
+                && found.rdata == rdata
+                && rest == [5].as_slice()
         }
         None => false,
     };
     answer.hold(is_same);
+    Ok(())
 }
 
-/// Adds the record at the start of octets: header, position, RDATA and the rest, or `none`.
+/// Adds the octets of a record. The inputs are its class, type, TTL, file, offset and RDATA.
+fn record(inputs: &[Vec<u8>], answer: &mut Answer) {
+    let [class, rtype, ttl, file, offset, rdata] = inputs else {
+        return answer.fail(Failure::BadInputs);
+    };
+    let header = EntryHeader {
+        rtype: RecordType(number16(rtype.as_slice(), answer)),
+        class: Class(number16(class.as_slice(), answer)),
+        ttl: number32(ttl.as_slice(), answer),
+        file: number32(file.as_slice(), answer),
+        offset: number_of(offset.as_slice()).unwrap_or(0) as u64,
+    };
+    if add_octets(header, rdata.as_slice(), answer).is_err() {
+        answer.refuse(&ShortBuf);
+    }
+}
+
+/// Adds the record at the start of octets: class, type, TTL, file, offset, RDATA and the rest, or
+/// `none`.
 fn first(octets: &[u8], answer: &mut Answer) {
-    let Some(record) = split_stored(octets) else {
+    let Some((found, rest)) = split_record(octets) else {
         return answer.add_text("none");
     };
-    answer.add_number(usize::from(record.header));
+    answer.add_number(usize::from(found.header.class.0));
     answer.add_text(",");
-    answer.add_number(usize::from(record.position));
+    answer.add_number(usize::from(found.header.rtype.0));
     answer.add_text(",");
-    answer.add(record.rdata);
+    answer.add_number(found.header.ttl as usize);
+    answer.add_text(",");
+    answer.add_number(found.header.file as usize);
+    answer.add_text(",");
+    answer.add_number(found.header.offset as usize);
+    answer.add_text(",");
+    answer.add(found.rdata);
     answer.add_text("|");
-    answer.add(record.rest);
+    answer.add(rest);
 }

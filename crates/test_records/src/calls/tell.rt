@@ -47,6 +47,17 @@ pub fn number8(digits: &[u8], answer: &mut Answer) -> u8 {
     made.unwrap_or(0)
 }
 
+/// Returns a number of 32 bits, from decimal digits.
+pub fn number32(digits: &[u8], answer: &mut Answer) -> u32 {
+    match u32::try_from(number_of(digits).unwrap_or(usize::MAX)) {
+        Ok(number) => number,
+        Err(_) => {
+            answer.fail(Failure::BadInputs);
+            0
+        }
+    }
+}
+
 /// Returns the origin, if a row has one.
 pub fn origin_of<'a>(inputs: &'a [Vec<u8>], answer: &mut Answer) -> Option<Name<&'a [u8]>> {
     match inputs {

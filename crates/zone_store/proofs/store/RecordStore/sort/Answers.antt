@@ -1,35 +1,44 @@
-use Rattle.std.proofs.Common.{◌∙◌, sym, subst, List, ℕ}
+use Rattle.std.proofs.Common.{ℕ, List, sym, subst}
 use Rattle.std.specs.Prelude.{All}
-use Rattle.std.specs.List.Sorted.{IsPermutation, IsSorted}
-use Rattle.std.proofs.lemmas.List.{with_items_is}
-use Rattle.std.proofs.lemmas.List.Sorted.{length_permutation}
-use Rattle.zone_store.specs.Groups.{group_order, HasPrefix}
-use Rattle.zone_store.specs.declared.groups.Group.{Group}
-use Rattle.zone_store.proofs.StoreSorts.{stored_prefixes, sorted_store}
+use Rattle.std.specs.List.Sorted.{IsPermutation, IsSorted, IsStable}
+use Rattle.std.proofs.lemmas.List.Sorted.{All-permutation}
+use Rattle.zone_store.specs.Entries.{entry_order, IsStoreEntry}
+use Rattle.zone_store.specs.Stored.{AddedRecord, stored_order}
+use Rattle.zone_store.specs.Stores.{stored_records}
+use Rattle.zone_store.proofs.EntriesRead.{all_prefixes}
+use Rattle.zone_store.proofs.StoreSorts.{moved_records, sorted_records, stable_records}
 use Rattle.zone_store.proofs.store.RecordStore.sort.Goals as goal
 
-pub sort_groups-requires : goal.sort_groups-requires
-sort_groups-requires g c =
-    subst (λ (os : List ℕ). All (HasPrefix os) c.as_mut_slice.result.now) (sym c.as_slice.ensures.value)
-    (subst (λ (gs : List Group). All (HasPrefix c.self.inside.octets.items) gs) (sym c.as_mut_slice.ensures.value) (stored_prefixes c.self.inside.octets.items c.self.inside.groups.items c.self.invariant))
+pub sort_entries-requires : goal.sort_entries-requires
+sort_entries-requires g c = subst (λ (os : List ℕ). All (IsStoreEntry os) c.self.inside.entries.items) (sym c.as_slice.ensures.value) c.self.invariant.are
+
+pub invariant_of-result : goal.invariant_of-result
+invariant_of-result g c =
+    let octets = c.self.inside.octets.items in
+    let new = c.sort_entries.new.entries.items in
+    let sorted : IsSorted (entry_order octets) new = subst (λ (os : List ℕ). IsSorted (entry_order os) new) c.as_slice.ensures.value c.sort_entries.ensures.sorted in
+    record {
+      are = All-permutation (IsStoreEntry octets) c.self.inside.entries.items new c.sort_entries.ensures.permutation c.self.invariant.are;
+      sorted = sorted_records octets new sorted;
+    }
 
 pub returns-clause-permutation : goal.returns-clause-permutation
 returns-clause-permutation g c =
-    let moved : IsPermutation c.self.inside.groups.items c.sort_groups.new.groups = subst (λ (gs : List Group). IsPermutation gs c.sort_groups.new.groups) c.as_mut_slice.ensures.value c.sort_groups.ensures.permutation in
-    let sorted : IsSorted (group_order c.self.inside.octets.items) c.sort_groups.new.groups = subst (λ (os : List ℕ). IsSorted (group_order os) c.sort_groups.new.groups) c.as_slice.ensures.value c.sort_groups.ensures.sorted in
-    (sorted_store c.self.inside.octets.items c.self.inside.groups.items c.sort_groups.new.groups _ c.args.self c.self.invariant c.self.view_is
-    (with_items_is c.self.inside.groups c.sort_groups.new.groups (length_permutation c.self.inside.groups.items c.sort_groups.new.groups moved ∙ sym c.self.inside.groups.ok.0)) moved sorted).0
+    let octets = c.self.inside.octets.items in
+    let new = c.sort_entries.new.entries.items in
+    subst (λ (rs : List AddedRecord). IsPermutation rs (stored_records octets new)) c.self.view_is (moved_records octets c.self.inside.entries.items new c.sort_entries.ensures.permutation)
 
 pub returns-clause-sorted : goal.returns-clause-sorted
 returns-clause-sorted g c =
-    let moved : IsPermutation c.self.inside.groups.items c.sort_groups.new.groups = subst (λ (gs : List Group). IsPermutation gs c.sort_groups.new.groups) c.as_mut_slice.ensures.value c.sort_groups.ensures.permutation in
-    let sorted : IsSorted (group_order c.self.inside.octets.items) c.sort_groups.new.groups = subst (λ (os : List ℕ). IsSorted (group_order os) c.sort_groups.new.groups) c.as_slice.ensures.value c.sort_groups.ensures.sorted in
-    (sorted_store c.self.inside.octets.items c.self.inside.groups.items c.sort_groups.new.groups _ c.args.self c.self.invariant c.self.view_is
-    (with_items_is c.self.inside.groups c.sort_groups.new.groups (length_permutation c.self.inside.groups.items c.sort_groups.new.groups moved ∙ sym c.self.inside.groups.ok.0)) moved sorted).1
+    let new = c.sort_entries.new.entries.items in
+    let sorted : IsSorted (entry_order c.self.inside.octets.items) new = subst (λ (os : List ℕ). IsSorted (entry_order os) new) c.as_slice.ensures.value c.sort_entries.ensures.sorted in
+    sorted_records c.self.inside.octets.items new sorted
 
 pub returns-clause-stable : goal.returns-clause-stable
 returns-clause-stable g c =
-    let moved : IsPermutation c.self.inside.groups.items c.sort_groups.new.groups = subst (λ (gs : List Group). IsPermutation gs c.sort_groups.new.groups) c.as_mut_slice.ensures.value c.sort_groups.ensures.permutation in
-    let sorted : IsSorted (group_order c.self.inside.octets.items) c.sort_groups.new.groups = subst (λ (os : List ℕ). IsSorted (group_order os) c.sort_groups.new.groups) c.as_slice.ensures.value c.sort_groups.ensures.sorted in
-    (sorted_store c.self.inside.octets.items c.self.inside.groups.items c.sort_groups.new.groups _ c.args.self c.self.invariant c.self.view_is
-    (with_items_is c.self.inside.groups c.sort_groups.new.groups (length_permutation c.self.inside.groups.items c.sort_groups.new.groups moved ∙ sym c.self.inside.groups.ok.0)) moved sorted).2
+    let octets = c.self.inside.octets.items in
+    let old = c.self.inside.entries.items in
+    let new = c.sort_entries.new.entries.items in
+    let sorted : IsSorted (entry_order octets) new = subst (λ (os : List ℕ). IsSorted (entry_order os) new) c.as_slice.ensures.value c.sort_entries.ensures.sorted in
+    subst (λ (rs : List AddedRecord). IsStable stored_order rs (stored_records octets new)) c.self.view_is
+    (stable_records octets old new (all_prefixes octets old c.self.invariant.are) c.self.invariant.rise c.sort_entries.ensures.permutation sorted)
