@@ -20,9 +20,14 @@ EXPORTED = re.compile(
 
 
 def exported(path):
-    """Returns the names that a file exports: at its margin, or at that of a section with parameters."""
+    """Returns the names that a file exports."""
+    return exported_by(path.read_text(encoding="utf-8"))
+
+
+def exported_by(text):
+    """Returns the names that a text exports: at its margin, or at that of a section with parameters."""
     in_section = False
-    for line in path.read_text(encoding="utf-8").splitlines():
+    for line in text.splitlines():
         if line and not line[0].isspace() and not line.startswith("--"):
             in_section = line.startswith("module _ ")
         found = EXPORTED.match(line[2:] if in_section and line.startswith("  ") else line)

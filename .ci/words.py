@@ -1,0 +1,59 @@
+#!/usr/bin/env python3
+"""Lists exported names of specs/ that are built from words with no meaning in DNS.
+
+usage: .ci/words.py [--count]
+
+These are the forms of stand, tell, take, give, go, say, behind, left and front: GLOSSARY has a verb for each
+act (parse, print, return, report, append, skip, store, compare), and positions are before, after and at the
+end. A name that needs one is listed in .ci/words with its reason. Ends with status 1 if another name has
+one, if .ci/words lists a name that no file exports, or if it lists more than MOST. --count prints the
+number of such names alone.
+"""
+import re
+import sys
+
+import names
+
+MOST = 40
+FORMS = """stand stands standing stood tell tells telling told take takes taking took taken give gives giving
+gave given giver go goes going gone went say says said saying behind left front fronts""".split()
+LISTED = names.TOP.parent / ".ci/words"
+
+
+def parts(name):
+    """Returns the words that a name is built from."""
+    return [it.lower() for it in re.findall(r"[A-Z]+(?![a-z])|[A-Z]?[a-z]+|\d+", name)]
+
+
+def reasons():
+    """Returns the reason of each listed name."""
+    lines = LISTED.read_text(encoding="utf-8").splitlines() if LISTED.exists() else []
+    return dict(line.split("\t", 1) for line in lines[1:] if "\t" in line)
+
+
+def main():
+    found = {}
+    for path in sorted(names.TOP.glob("*/specs/**/*.antt")):
+        place = path.relative_to(names.TOP)
+        if place.parts[0] in names.SAME_AGAIN:
+            continue
+        for name in names.exported(path):
+            if set(parts(name)) & set(FORMS):
+                found[name] = str(place)
+    if sys.argv[1:] == ["--count"]:
+        print(len(found))
+        return 0
+    listed = reasons()
+    wrong = [f"crates/{place}: {name}" for name, place in sorted(found.items()) if name not in listed]
+    wrong += [f".ci/words: no file of specs/ exports {name}" for name in listed if name not in found]
+    wrong += [f".ci/words: {name} has no reason" for name, why in listed.items() if not why.strip()]
+    if len(listed) > MOST:
+        wrong.append(f".ci/words: {len(listed)} names, and {MOST} may be listed")
+    for line in wrong:
+        print(line)
+    print(f"{len(found)} such names, {len(listed)} of them listed")
+    return 1 if wrong else 0
+
+
+if __name__ == "__main__":
+    sys.exit(main())
