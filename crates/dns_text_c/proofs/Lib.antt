@@ -1,4 +1,5 @@
 mod Begun
+mod CutOff
 mod CutTexts
 mod Decimals
 mod InCalls

@@ -51,6 +51,18 @@ module _ (rtype : RecordType) (read : Result (Unit {0}) RecordError) (octets : L
   pub ended : (end : EndOfEntry) (after : SourceSeen) → FinishesEntry middle (Ok (Some end)) after → behind_left begun ≡ Ok (EndIs end) ∷ after.parts
   ended end after h = sym (rest_kept begun middle ends opened).1 ∙ h.1
 
+-- a syntax error that cuts off the entry is returned, whether or not its data is rejected
+pub faulted : (rtype : RecordType) (read : Result (Unit {0}) RecordError) (octets : List ℕ) (begun middle after : SourceSeen) → begun.is_open ≡ true → entry_end middle ≡ entry_end begun → (f : Fault) → FinishesEntry middle (Err f) after
+    → (e : RecordError) → e ≡ error_of_fault f → Err e ≡ data_answer rtype read octets (behind_left begun)
+faulted rtype (Ok u) octets begun middle after opened ends f h e is = ap Err is ∙ sym (ap (data_answer rtype (Ok u) octets) (sym (rest_kept begun middle ends opened).1 ∙ h.1))
+faulted rtype (Err r) octets begun middle after opened ends f h e is = ap Err is ∙ sym (ap (data_answer rtype (Err r) octets) (sym (rest_kept begun middle ends opened).1 ∙ h.1))
+
+-- after an entry that ended, the result is that of what comes after it
+pub read_ended : (rtype : RecordType) (u : Unit {0}) (octets : List ℕ) (begun middle after : SourceSeen) → begun.is_open ≡ true → entry_end middle ≡ entry_end begun → (x : Option EndOfEntry) → FinishesEntry middle (Ok x) after
+    → answer_before rtype octets after.parts ≡ data_answer rtype (Ok u) octets (behind_left begun)
+read_ended rtype u octets begun middle after opened ends None h = absurd (no_end rtype (Ok u) octets begun middle opened ends after h)
+read_ended rtype u octets begun middle after opened ends (Some end) h = sym (ap (data_answer rtype (Ok u) octets) (ended rtype (Ok u) octets begun middle opened ends end after h))
+
 -- without an entry, nothing comes after it
 pub nothing_after : (rtype : RecordType) (read : Result (Unit {0}) RecordError) (octets : List ℕ) (parts : Parts) → parts ≡ [] → answered read octets ≡ data_answer rtype read octets parts
 nothing_after rtype (Ok u) octets parts none = sym (ap (data_answer rtype (Ok u) octets) none)

@@ -1,9 +1,8 @@
 -- What is read is read alike with any capacity, unless octets don't fit or a syntax error comes.
 use Rattle.std.proofs.Common.{ℕ, ◌≡◌, ◌++◌, Bool, List, [], ◌∷◌, length, refl, ap, ◌∙◌, inl, inr, Option, Some, None, Result, Ok, Err}
-use Rattle.std.specs.Prelude.{◌⊎◌}
 use Rattle.std.specs.List.{AllByRecursion}
 use Rattle.dns_octets.specs.Room.{Room}
-use Rattle.dns_split.specs.EntryTokens.{PartSeen, TokenSeen}
+use Rattle.dns_split.specs.EntryTokens.{TokenSeen}
 use Rattle.dns_split.specs.declared.pieces.EndOfEntry.{EndOfEntry}
 use Rattle.dns_split.specs.declared.pieces.Fault.{Fault}
 use Rattle.dns_data.specs.ByType.{ReadsType, RefusesData, RefusesGeneric, shape_of_code}
@@ -29,13 +28,12 @@ use Rattle.dns_heads.specs.declared.head.WordsRefusal.{WordsRefusal}
 use Rattle.dns_reader.specs.EntryReading.{ReadsBehind, ReadsInclude, ReadsMeaning, ReadsRecordData, ReadsWords, ReadsZoneEntry}
 use Rattle.dns_reader.specs.Past.{known_name}
 use Rattle.dns_reader.specs.Records.{AreGivenInARow, EntryGiven, IsDirectiveGiven, ReadsBegun, ReadsNextEntry, ReadsNextRecord, StandsAfter, given_next, given_of, none_given}
-use Rattle.dns_reader.specs.Source.{SourceSeen, behind_left, entry_end, entry_left}
+use Rattle.dns_reader.specs.Source.{SourceSeen, entry_end, entry_left}
 use Rattle.dns_reader.specs.declared.entry.EntryRead.{EntryRead}
 use Rattle.dns_reader.specs.declared.known.Known.{Known}
 use Rattle.dns_reader.specs.declared.records.RecordReader.{RecordReader}
 use Rattle.dns_reader.specs.declared.source.StartOfEntry.{StartOfEntry}
 use Rattle.dns_reader.specs.declared.state.State.{State}
-use Rattle.dns_text_c.specs.DataText.{AnswerMayLackRoom, DataAnswer, ReadsDataText, ReadsFirstData, ReadsTokens, data_answer}
 use Rattle.dns_text_c.specs.Records.{MayLackRoom}
 
 -- all of a list with one more element at its end
@@ -48,7 +46,7 @@ directive_taken : (old : List ℕ) (g : EntryGiven) → IsDirectiveGiven old g �
 directive_taken old g h refused = let is = h.1 in let no = refused.1 in cc
 
 -- a result is not an error of octets that don't fit
-abbrev Fits : {X : Type 0} → Result X RecordError → Type 0
+abbrev pub Fits : {X : Type 0} → Result X RecordError → Type 0
 Fits result = (r : RecordError) → result ≡ Err r → r.kind ≡ ShortBuf → ⊥
 
 error_fits : {X : Type 0} (r : RecordError) → Fits {X = X} (Err r) → r.kind ≡ ShortBuf → ⊥
@@ -127,7 +125,7 @@ module _ (one other : Room) where
   refused_so origin rtype end tokens old r left new fits (inr (inr (inl h))) = inr (inr (inl h))
   refused_so origin rtype end tokens old r left new fits (inr (inr (inr h))) = inr (inr (inr (h.0, (h.1.0, h.1.1, shaped_so origin h.1.0 end tokens old r left new fits h.1.2))))
 
-  type_so : (origin : Option (List (List ℕ))) (rtype : RecordType) (end : ℕ) (tokens : List TokenSeen) (old : List ℕ) (read : Result (Unit {0}) RecordError) (left : List TokenSeen) (new : List ℕ) → Fits read
+  pub type_so : (origin : Option (List (List ℕ))) (rtype : RecordType) (end : ℕ) (tokens : List TokenSeen) (old : List ℕ) (read : Result (Unit {0}) RecordError) (left : List TokenSeen) (new : List ℕ) → Fits read
       → ReadsType origin one rtype end tokens old read left new → ReadsType origin other rtype end tokens old read left new
   type_so origin rtype end tokens old (Ok u) left new fits h = h
   type_so origin rtype end tokens old (Err r) left new fits h =
@@ -205,45 +203,4 @@ module _ (one other : Room) where
     are_directives = h.are_directives;
     last = next_so h.middle after old new result taken h.last;
     is_last = h.is_last;
-  }
-
-  -- ---- data
-
-  -- the error of data, or a syntax error that follows it
-  rejected_answer : (rtype : RecordType) (r : RecordError) (octets : List ℕ) (parts : List (Result PartSeen Fault))
-      → (data_answer rtype (Err r) octets parts ≡ Err r) ⊎ ((f : Fault) × (data_answer rtype (Err r) octets parts ≡ Err (error_of_fault f)))
-  rejected_answer rtype r octets [] = inl refl
-  rejected_answer rtype r octets (Ok p ∷ parts) = inl refl
-  rejected_answer rtype r octets (Err f ∷ parts) = inr (f, refl)
-
-  tokens_so : (rtype : RecordType) (origin : Option (List (List ℕ))) (begun : SourceSeen) (answer : DataAnswer) (read : Result (Unit {0}) RecordError) (left : List TokenSeen) (octets : List ℕ) → (AnswerMayLackRoom answer → ⊥)
-      → ReadsType origin one rtype (entry_end begun).at (entry_left begun) [] read left octets → answer ≡ data_answer rtype read octets (behind_left begun) → ReadsTokens other rtype origin begun answer
-  tokens_so rtype origin begun answer (Ok u) left octets taken reads is = (Ok u, left, octets, reads, is)
-  tokens_so rtype origin begun answer (Err r) left octets taken reads is = elim (rejected_answer rtype r octets (behind_left begun)) [
-    | inl e ↦ (
-      Err r,
-      left,
-      octets,
-      type_so origin rtype (entry_end begun).at (entry_left begun) [] (Err r) left octets (λ x same. let equal : r ≡ x = cc in λ k. taken (r, is ∙ e, inl (ap (λ (y : RecordError). y.kind) equal ∙ k))) reads,
-      is,
-    )
-    | inr fault ↦ absurd (taken (error_of_fault fault.0, is ∙ fault.1, inr (fault.0.wrong, refl)))
-  ]
-
-  first_so : (rtype : RecordType) (origin : Option (List (List ℕ))) (begun : SourceSeen) (answer : DataAnswer) (start : Result (Option StartOfEntry) Fault) → (AnswerMayLackRoom answer → ⊥)
-      → ReadsFirstData one rtype origin start begun answer → ReadsFirstData other rtype origin start begun answer
-  first_so rtype origin begun answer (Err f) taken h = h
-  first_so rtype origin begun answer (Ok found) taken h = tokens_so rtype origin begun answer h.0 h.1 h.2 taken h.3 h.4
-
-  pub any_data_room : (rtype : RecordType) (origin : Option (List (List ℕ))) (text : List ℕ) (answer : DataAnswer) → (AnswerMayLackRoom answer → ⊥) → ReadsDataText one rtype origin text answer
-      → ReadsDataText other rtype origin text answer
-  any_data_room rtype origin text answer taken h = record {
-    source = h.source;
-    seen = h.seen;
-    closed = h.closed;
-    at_start = h.at_start;
-    start = h.start;
-    begun = h.begun;
-    begins = h.begins;
-    reads = first_so rtype origin h.begun answer h.start taken h.reads;
   }

@@ -1,5 +1,5 @@
 -- The results of printing data of a type, and of parsing its text.
-use Rattle.std.specs.Prelude.{◌≡◌, ◌≢◌, ◌⊎◌, ◌+◌, ◌≤◌, ℕ, false, List, [], ◌∷◌, ◌++◌, length, take, drop, Option, Result, Ok, Err}
+use Rattle.std.specs.Prelude.{◌≡◌, ◌≢◌, ◌⊎◌, ◌+◌, ◌≤◌, ℕ, Bool, false, List, [], ◌∷◌, ◌++◌, length, take, drop, Option, Result, Ok, Err}
 use Rattle.std.specs.Borrow.{Bor}
 use Rattle.std.specs.Fmt.{WritesInCalls}
 use Rattle.std.specs.Option.{option_copied}
@@ -23,12 +23,14 @@ use Rattle.dns_wire.specs.FromOctets.{MakesName}
 use Rattle.dns_wire.specs.declared.error.NameError.{NameError}
 use Rattle.dns_zone.specs.Printed.{printed}
 use Rattle.dns_zone.specs.declared.zonefile_fmt.DisplayKind.TheVariants.{Simple}
+use Rattle.dns_text_c.specs.Capacity.{InCapacity}
 use Rattle.dns_text_c.specs.Kept.{IsOriginOf}
-use Rattle.dns_text_c.specs.Reasons.{ErrorMayLackRoom, TellsError, refusal_of_name}
+use Rattle.dns_text_c.specs.Reasons.{TellsError, refusal_of_name}
 use Rattle.dns_text_c.specs.Told.{TellsFault, TellsOctets, at_start}
 use Rattle.dns_text_c.specs.declared.outcome.Fault.{Fault}
 use Rattle.dns_text_c.specs.declared.outcome.Outcome.{Outcome}
 use Rattle.dns_text_c.specs.declared.outcome.Refusal.TheVariants.{BadData, TooLong}
+use Rattle.dns_text_c.specs.declared.reading.Rejected.{Rejected}
 
 -- the text of data: its tokens on one line
 abbrev pub data_text : TypeData → List ℕ
@@ -81,14 +83,19 @@ trailing_token rtype at = error_of_type rtype (error_at at TrailingToken)
 abbrev pub DataAnswer : Type 0
 DataAnswer = Result (List ℕ) RecordError
 
--- the answer is an error of octets that don't fit, or a syntax error
-abbrev pub AnswerMayLackRoom : DataAnswer → Type 0
-AnswerMayLackRoom answer = (e : RecordError) × (answer ≡ Err e) × ErrorMayLackRoom e
-
 -- the octets that were read, or the error
 abbrev pub answered : Result (Unit {0}) RecordError → List ℕ → DataAnswer
 answered (Ok _) octets = Ok octets
 answered (Err e) octets = Err e
+
+-- the error of a result alone; and whether octets don't fit
+abbrev pub error_alone : {X : Type 0} → Result X Rejected → Result X RecordError
+error_alone (Ok x) = Ok x
+error_alone (Err r) = Err r.error
+
+abbrev pub lacks_of : {X : Type 0} → Result X Rejected → Bool
+lacks_of (Ok x) = false
+lacks_of (Err r) = r.lacks
 
 -- the result by what comes after the entry of the octets: only entries without tokens; or a token, or a syntax error
 abbrev pub answer_before : RecordType → List ℕ → List (Result PartSeen TextFault) → DataAnswer
@@ -114,13 +121,13 @@ abbrev pub ReadsLeft : ℕ → RecordType → Option (Bor (List (List ℕ))) →
 ReadsLeft n rtype origin old result new =
     ReadsType (option_copied origin) (exactly n) rtype (entry_end old.0).at (entry_left old.0) old.1 result (entry_left new.0) new.1
 
--- the open entry is read, and what comes after it, with capacity n: the octets are the data, or an error is returned
-abbrev pub ReadsOpen : ℕ → RecordType → Option (Bor (List (List ℕ))) → SourceSeen → Result (Unit {0}) RecordError → List ℕ → Type 0
-ReadsOpen n rtype origin begun result octets = ReadsTokens (exactly n) rtype (option_copied origin) begun (answered result octets)
+-- the open entry is read, and what comes after it, with capacity n, and with any capacity unless octets don't fit: the octets are the data, or an error is returned
+abbrev pub ReadsOpen : ℕ → RecordType → Option (Bor (List (List ℕ))) → SourceSeen → Result (Unit {0}) Rejected → List ℕ → Type 0
+ReadsOpen n rtype origin begun result octets = InCapacity n (lacks_of result) (λ room. ReadsTokens room rtype (option_copied origin) begun (answered (error_alone result) octets))
 
 -- what comes after the entry of the data is read
-abbrev pub EndsText : RecordType → Result (Unit {0}) RecordError → List (Result PartSeen TextFault) → Type 0
-EndsText rtype result parts = (octets : List ℕ) → answered result octets ≡ answer_before rtype octets parts
+abbrev pub EndsText : RecordType → Result (Unit {0}) Rejected → List (Result PartSeen TextFault) → Type 0
+EndsText rtype result parts = (octets : List ℕ) → answered (error_alone result) octets ≡ answer_before rtype octets parts
 
 -- the first entry that has tokens is read, or no tokens if the text has no such entry; or a syntax error comes before its tokens
 abbrev pub ReadsFirstData : Room → RecordType → Option (List (List ℕ)) → Result (Option StartOfEntry) TextFault → SourceSeen → DataAnswer → Type 0
@@ -139,8 +146,8 @@ pub record ReadsDataText (room : Room) (rtype : RecordType) (origin : Option (Li
   pub reads : ReadsFirstData room rtype origin start begun answer
 
 -- the same, as a result and octets
-abbrev pub AnswersText : ℕ → RecordType → Option (Bor (List (List ℕ))) → List ℕ → Result (Unit {0}) RecordError → List ℕ → Type 0
-AnswersText n rtype origin text result octets = ReadsDataText (exactly n) rtype (option_copied origin) text (answered result octets)
+abbrev pub AnswersText : ℕ → RecordType → Option (Bor (List (List ℕ))) → List ℕ → Result (Unit {0}) Rejected → List ℕ → Type 0
+AnswersText n rtype origin text result octets = InCapacity n (lacks_of result) (λ room. ReadsDataText room rtype (option_copied origin) text (answered (error_alone result) octets))
 
 -- the octets are returned; or the error is reported
 abbrev pub TellsData : DataAnswer → List ℕ → ℕ → List ℕ → Outcome → Type 0
@@ -148,10 +155,10 @@ TellsData (Ok octets) old status new outcome = TellsOctets octets old status new
 TellsData (Err e) old status new outcome = TellsError e old status new outcome
 
 -- the octets of data are returned, with capacity n; or they are rejected, and nothing was written
-abbrev pub WritesData : ℕ → RecordType → Option (Bor (List (List ℕ))) → List ℕ → List ℕ → Result ℕ RecordError → List ℕ → Outcome → Type 0
+abbrev pub WritesData : ℕ → RecordType → Option (Bor (List (List ℕ))) → List ℕ → List ℕ → Result ℕ Rejected → List ℕ → Outcome → Type 0
 WritesData n rtype origin text old (Ok status) new outcome =
-    (octets : List ℕ) × ReadsDataText (exactly n) rtype (option_copied origin) text (Ok octets) × TellsOctets octets old status new outcome
-WritesData n rtype origin text old (Err e) new outcome = ReadsDataText (exactly n) rtype (option_copied origin) text (Err e) × (new ≡ old)
+    (octets : List ℕ) × InCapacity n false (λ room. ReadsDataText room rtype (option_copied origin) text (Ok octets)) × TellsOctets octets old status new outcome
+WritesData n rtype origin text old (Err r) new outcome = InCapacity n r.lacks (λ room. ReadsDataText room rtype (option_copied origin) text (Err r.error)) × (new ≡ old)
 
 -- a text is read, with an origin for relative names, and the result is reported
 abbrev pub TellsBelow : RecordType → List ℕ → Option (List (List ℕ)) → List ℕ → ℕ → List ℕ → Outcome → Type 0

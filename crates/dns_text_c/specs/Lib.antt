@@ -1,4 +1,5 @@
 pub mod Calls
+pub mod Capacity
 pub mod Codecs
 pub mod DataText
 pub mod Entries

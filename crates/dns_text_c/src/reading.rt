@@ -1,11 +1,12 @@
 //! Parses record data.
-ghost use Rattle.std.specs.Prelude.{◌≡◌, ◌≤◌, [], false, true};
+ghost use Rattle.std.specs.Prelude.{◌≡◌, ◌↔◌, ◌≤◌, IsTrue, [], false, true};
 ghost use Rattle.dns_reader.specs.Source.{entry_end};
+ghost use Rattle.dns_text_c.specs.Capacity.{ErrorLacksRoom};
 ghost use Rattle.dns_text_c.specs.DataText.{EndsText, ReadsLeft, ReadsOpen, AnswersText, TellsRead, TellsReadData, WritesData, trailing_token};
 
 use crate::kept::{name_of, refusal_of_name};
 use crate::outcome::{Fault, Outcome, give, refuse};
-use crate::reasons::{may_lack, tell_error};
+use crate::reasons::{lacks_room, tell_error};
 use arrayvec::ArrayVec;
 use dns_data::read_type;
 use dns_fields::{RecordError, TokenSource};
@@ -18,6 +19,24 @@ const MOST: usize = 65535;
 /// Number of octets that suffices for most record data.
 const FEW: usize = 1024;
 
+/// Why a text is rejected as data, and whether its octets don't fit, also if a syntax error follows
+/// them. Only if they don't may the result be another one with more capacity.
+#[derive(Drop)]
+struct Rejected {
+    error: RecordError,
+    lacks: bool,
+}
+
+/// Returns whether data is rejected because its octets don't fit.
+fn data_lacks(read: &Result<(), RecordError>) -> bool
+    ensures { IsTrue result ↔ ErrorLacksRoom read.now }
+{
+    match read {
+        Err(error) => lacks_room(error),
+        Ok(()) => false,
+    }
+}
+
 /// Returns the error of a token after the entry of the data.
 fn trailing_token(rtype: RecordType, at: usize) -> RecordError
     ensures { result ≡ trailing_token rtype at }
@@ -26,14 +45,20 @@ fn trailing_token(rtype: RecordType, at: usize) -> RecordError
 }
 
 /// Fails if anything but entries without tokens comes after the entry of the data.
-fn end_text(rtype: RecordType, source: &mut EntrySource) -> Result<(), RecordError>
+fn end_text(rtype: RecordType, source: &mut EntrySource) -> Result<(), Rejected>
     requires { source.old.is_open ≡ false }
     ensures { EndsText rtype result source.old.parts }
 {
     match source.begin() {
         Ok(None) => Ok(()),
-        Ok(Some(_)) => Err(trailing_token(rtype, source.place())),
-        Err(fault) => Err(RecordError::from(fault)),
+        Ok(Some(_)) => Err(Rejected {
+            error: trailing_token(rtype, source.place()),
+            lacks: false,
+        }),
+        Err(fault) => Err(Rejected {
+            error: RecordError::from(fault),
+            lacks: false,
+        }),
     }
 }
 
@@ -57,18 +82,20 @@ fn read_open<const N: usize>(
     origin: Option<&NameBuffer>,
     source: &mut EntrySource,
     target: &mut ArrayVec<u8, N>,
-) -> Result<(), RecordError>
+) -> Result<(), Rejected>
     requires opened { source.old.is_open ≡ true }
     requires none { target.old.items ≡ [] }
     ensures { ReadsOpen N rtype origin.entry source.old result target.new.items }
 {
     let read = read_tokens(rtype, origin, source, target);
+    let lacks = data_lacks(&read);
     if let Err(fault) = source.finish() {
-        return Err(RecordError::from(fault));
+        let error = RecordError::from(fault);
+        return Err(Rejected { error, lacks });
     }
     match read {
         Ok(()) => end_text(rtype, source),
-        Err(error) => Err(error),
+        Err(error) => Err(Rejected { error, lacks }),
     }
 }
 
@@ -78,13 +105,18 @@ fn read_nothing<const N: usize>(
     origin: Option<&NameBuffer>,
     source: &mut EntrySource,
     target: &mut ArrayVec<u8, N>,
-) -> Result<(), RecordError>
+) -> Result<(), Rejected>
     requires closed { source.old.is_open ≡ false }
     requires nothing { source.old.parts ≡ [] }
     requires none { target.old.items ≡ [] }
     ensures { ReadsOpen N rtype origin.entry source.old result target.new.items }
 {
-    read_tokens(rtype, origin, source, target)
+    let read = read_tokens(rtype, origin, source, target);
+    let lacks = data_lacks(&read);
+    match read {
+        Ok(()) => Ok(()),
+        Err(error) => Err(Rejected { error, lacks }),
+    }
 }
 
 /// Parses a text as data of a type.
@@ -93,7 +125,7 @@ fn read_text<const N: usize>(
     text: &[u8],
     origin: Option<&NameBuffer>,
     target: &mut ArrayVec<u8, N>,
-) -> Result<(), RecordError>
+) -> Result<(), Rejected>
     requires { target.old.items ≡ [] }
     ensures { AnswersText N rtype origin.entry text.now result target.new.items }
 {
@@ -101,7 +133,10 @@ fn read_text<const N: usize>(
     match source.begin() {
         Ok(Some(_)) => read_open(rtype, origin, &mut source, target),
         Ok(None) => read_nothing(rtype, origin, &mut source, target),
-        Err(fault) => Err(RecordError::from(fault)),
+        Err(fault) => Err(Rejected {
+            error: RecordError::from(fault),
+            lacks: false,
+        }),
     }
 }
 
@@ -116,14 +151,14 @@ fn read_in_room<const N: usize>(
     origin: Option<&NameBuffer>,
     octets: &mut [u8],
     outcome: &mut Outcome,
-) -> Result<u32, RecordError>
+) -> Result<u32, Rejected>
     requires { N ≤ 65535 }
     ensures { WritesData N rtype origin.entry text.now octets.old result octets.new outcome.new }
 {
     let mut content: ArrayVec<u8, N> = ArrayVec::new();
     match read_text(rtype, text, origin, &mut content) {
         Ok(()) => Ok(give(content.as_slice(), octets, outcome)),
-        Err(error) => Err(error),
+        Err(rejected) => Err(rejected),
     }
 }
 
@@ -140,7 +175,7 @@ fn read_long(
 {
     match read_in_room::<MOST>(rtype, text, origin, octets, outcome) {
         Ok(status) => status,
-        Err(error) => tell_error(&error, octets, outcome),
+        Err(rejected) => tell_error(&rejected.error, octets, outcome),
     }
 }
 
@@ -157,11 +192,11 @@ fn read_behind(
 {
     match read_in_room::<FEW>(rtype, text, origin, octets, outcome) {
         Ok(status) => status,
-        Err(error) => {
-            if may_lack(&error) {
+        Err(rejected) => {
+            if rejected.lacks {
                 return read_long(rtype, text, origin, octets, outcome);
             }
-            tell_error(&error, octets, outcome)
+            tell_error(&rejected.error, octets, outcome)
         }
     }
 }

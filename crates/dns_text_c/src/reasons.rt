@@ -1,6 +1,7 @@
 //! Reports why a text, an entry or data is rejected: by the status, and by the text of the error.
 ghost use Rattle.std.specs.Prelude.{◌≡◌, ◌↔◌, ◌+◌, ◌≤◌, ◌++◌, IsTrue, codes, length, take, option_copied};
 ghost use Rattle.dns_kinds.specs.Types.{type_text};
+ghost use Rattle.dns_kinds.specs.declared.error.ErrorKind.TheVariants.{ShortBuf};
 ghost use Rattle.dns_text_c.specs.Reasons.{AppendsCut, ErrorMayLackRoom, TellsError, TellsReason, call_error_text, data_error_text, field_name, part_prefix, part_text, reason_text, refusal_of_data, refusal_of_entry, refusal_of_head, spaced, syntax_of};
 
 use crate::kinds::numbered;
@@ -22,6 +23,16 @@ fn syntax_of(kind: ErrorKind) -> Option<Wrong>
     match kind {
         ErrorKind::Syntax(wrong) => Some(wrong),
         _ => None,
+    }
+}
+
+/// Returns whether an error is one of octets that don't fit.
+pub(crate) fn lacks_room(error: &RecordError) -> bool
+    ensures { IsTrue result ↔ (error.now.kind ≡ ShortBuf) }
+{
+    match error.kind {
+        ErrorKind::ShortBuf => true,
+        _ => false,
     }
 }
 
