@@ -158,7 +158,7 @@ def versions(text):
              'DNSTEXT_VERSION_NUMBER': said if int(number) == 1000000 * first + 1000 * second + third
              else number,
              'Makefile': re.search(r'^VERSION = (.*)$', read('Makefile'), re.M)[1],
-             'zonetext': re.search(r'\.version\("(.*)"\)', read('../crates/zonetext/src/command.rt'))[1]}
+             'zonetext': re.search(r'VERSION: &str = "(.*)"', read('../crates/zonetext/src/command.rt'))[1]}
     for name in 'dns-text', 'dns-text-sys':
         found[name] = re.search(r'^version = "(.*)"$', read(f'../rust/{name}/Cargo.toml'), re.M)[1]
     return found
