@@ -213,23 +213,6 @@ class Wave:
             text = re.sub(rf"(?<![\w'])({one_of(anywhere)})(?![\w'])", lambda it: anywhere[it[1]], text)
         return text
 
-    def rename_imports(self, text):
-        """Returns code with new paths of ghost imports, and new names in their braces."""
-
-        def braces(it):
-            words = self.specs.get((it[1], it[2]), {})
-            if it[3] is None or not words:
-                return it[0]
-            names = []
-            for name in it[3].split(","):
-                plain, as_, alias = name.strip().partition(" as ")
-                new = words.get(plain, plain) if as_ else plain
-                names.append(new + as_ + alias)
-            return it[0].replace("{" + it[3] + "}", "{" + ", ".join(names) + "}")
-
-        text = IMPORT.sub(braces, text)
-        return GHOST.sub(self.ghost_path, text)
-
     def ghost_path(self, it):
         crate, kind, parts = it[1], it[2], it[3][1:].split(".")
         if crate not in self.known:
@@ -353,7 +336,7 @@ class Wave:
         for line in text.split("\n"):
             if line.lstrip().startswith(mark):
                 flush()
-                lines.append(self.rename_crates(self.rename_imports(self.rename_comment(line, names))))
+                lines.append(self.rename_crates(GHOST.sub(self.ghost_path, self.rename_comment(line, names))))
             else:
                 code.append(line)
         flush()
@@ -595,17 +578,16 @@ class Wave:
             deps[new] += below.split()
         if "dns_lists_params" in self.known:
             deps[self.crate("dns_lists_params")] += ["dns_lists", "dns_kinds", "dns_octets"]
-        users = {it for it in self.known if it.startswith("dns_")}
-        lines, layers, done = [], table("layers.tsv"), set()
-        for name, layer in [*layers, *((it, "others") for it in deps if it not in dict(layers))]:
+        lines, layers = [], table("layers.tsv")
+        others = [it for it in deps if it not in dict(layers)]
+        for name, layer in [*layers, *((it, "" if number else "others") for number, it in enumerate(others))]:
             if name not in deps:
                 continue
             if layer:
                 lines.append(f"# {layer}")
             below = [self.crate(it) for it in deps[name]]
             below = [it for it in dict.fromkeys(below) if it != name]
-            lines.append(" ".join([*[f"{name} {' '.join(kinds[name])}".strip() + ":"], *below]))
-            done.add(name)
+            lines.append(" ".join([f"{name} {' '.join(kinds[name])}".strip() + ":", *below]))
         return "\n".join(lines) + "\n"
 
 
