@@ -1,4 +1,3 @@
-mod AddressReads
 pub mod FormLaws
 pub mod Refusals
 pub mod Refused

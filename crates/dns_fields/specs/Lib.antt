@@ -1,4 +1,3 @@
-pub mod Addresses
 pub mod Fields
 pub mod Forms
 pub mod RecordErrors
