@@ -1,0 +1,4 @@
+pub mod Digests
+pub mod Mistakes
+pub mod Rows
+pub mod Word

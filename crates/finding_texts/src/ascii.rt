@@ -1,0 +1,13 @@
+//! The ASCII form of names (RFC 5890).
+use idna::{AsciiDenyList, Errors, domain_to_ascii_cow};
+use std::alloc::{AllocError, Global};
+
+/// Returns the ASCII form of a name in UTF-8, in which each label with other characters is an
+/// A-label, or `None` if the name has none.
+pub fn ascii_name(alloc: Global, name: &[u8]) -> Result<Option<String>, AllocError> {
+    match domain_to_ascii_cow(alloc, name, AsciiDenyList::EMPTY) {
+        Ok(text) => Ok(Some(text.into_owned(alloc)?)),
+        Err(Errors::Invalid) => Ok(None),
+        Err(Errors::OutOfMemory) => Err(AllocError),
+    }
+}
