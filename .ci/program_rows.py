@@ -48,7 +48,7 @@ LACKS = {
         (rb"(\A|\n)(error: out of memory|zonetext: ([^\n]*: )?(out of|not enough) memory)\n"
          rb"(zonetext: (nothing is written|no origin: give --zone)\n)?\Z", {2, 3}),
         # An included file without memory is an error of the file that includes it.
-        (rb"(\A|\n)[^\n]*: error: cannot open [^\n]*: out of memory \[include\]\n", {1}),
+        (rb"(\A|\n)[^\n]*: error: not included: out of memory \[include\]\n", {1}),
     ],
 }
 

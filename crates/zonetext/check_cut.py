@@ -151,16 +151,16 @@ def rows():
     same('and none is left', parts(), ['part.001'])
     clear()
     same('no origin', run('cut', '2', 'zone', '-o', 'part'),
-         (1, b'', 'zone:1:1: error: relative name, and no origin \'@\' [no-origin]\n1 error, 0 warnings\n'
+         (1, b'', 'zone:1:1: error: relative name, and no origin [no-origin]\n1 error, 0 warnings\n'
           'zonetext: no origin: give --zone\n' + NOTHING))
     put('faulty', b'a. 60 A 192.0.2.1\nb. A 192.0.2.256\n$INCLUDE c\nd. TXT (\n')
     same('faults', run('cut', '2', 'faulty', '-o', 'part'),
-         (1, b'', 'faulty:2:6: error: b. A: address: expected IPv4 address \'192.0.2.256\' [data]\n'
-          'faulty:3:10: error: not included: a file that includes others is not cut \'c\' [include]\n'
-          'faulty:4:8: error: d. TXT: parenthesis is not closed [open-parenthesis]\nnote: the file ends at 5:1\n3 errors, 0 warnings\n' + NOTHING))
+         (1, b'', 'faulty:2:6: error: A address: expected IPv4 address [data]\n'
+          'faulty:3:10: error: not included: a file that includes others is not cut [include]\n'
+          'faulty:5:1: error: parenthesis is not closed, opened at 4:8 [open-parenthesis]\n3 errors, 0 warnings\n' + NOTHING))
     put('long', b'long. TXT' + b' aaaaaaaaaaaaaaaaaaaaaaaaaaaaaaaaaaaaaaa' * 1700 + b'\n')
     status, out, err = run('cut', '2', 'long', '-o', 'part')
-    same('data above 65,535 octets', (status, out, 'RDATA exceeds 65535 octets' in err, err.endswith(NOTHING)), (1, b'', True, True))
+    same('data above 65,535 octets', (status, out, 'data above 65535 octets' in err, err.endswith(NOTHING)), (1, b'', True, True))
     put('minimum', b'a. SOA b. c. 1 2 3 4 4294967295\n')
     same('a minimum of 2^31 and more is 0', (run('cut', '2', 'minimum', '-o', 'part'), get('part.000')),
          ((0, b'part.000\n', ''), b'$TTL 0\na. 0 IN SOA b. c. 1 2 3 4 4294967295\n'))

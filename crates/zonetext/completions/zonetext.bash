@@ -8,7 +8,7 @@ _zonetext() {
     case ${COMP_WORDS[1]} in
         check)
             options='--text --zone --zone-from-name --include --base --stdin-name --dnssec --within --now --deny --allow --strict'
-            options+=' --max-ttl --max-entry --class --format --json --excerpt --max --color --verbose --quiet -v'
+            options+=' --max-ttl --max-entry --class --format --json --max --color --verbose --quiet -v'
             ;;
         canon)
             options='--json --keep-order --memory --wire --type --only-dnssec --zone --class --include --base --max-entry'

@@ -109,11 +109,10 @@ fn form_of<'o>(rt: &HostRuntime, inner: &'o ArgMatches) -> Result<Form, Usage<'o
         Err(_) => false,
     };
     let value = inner.get_str("color").unwrap_or("auto");
-    let has_excerpt = is_terminal || inner.get_flag("excerpt");
     match value {
         "auto" => Ok(Form::Lines {
             is_coloured: is_terminal && !is_plain,
-            has_excerpt,
+            has_excerpt: is_terminal,
         }),
         "always" => Ok(Form::Lines {
             is_coloured: true,
@@ -121,7 +120,7 @@ fn form_of<'o>(rt: &HostRuntime, inner: &'o ArgMatches) -> Result<Form, Usage<'o
         }),
         "never" => Ok(Form::Lines {
             is_coloured: false,
-            has_excerpt,
+            has_excerpt: is_terminal,
         }),
         _ => Err(Usage::Value {
             option: "--color",
@@ -220,15 +219,9 @@ fn go_through(
         stdin_name: options.stdin_name,
         is_quiet: options.is_quiet,
     };
-    let read = match visit_file(rt, file, begin, checker) {
-        Ok(()) => checker.finish(),
-        Err(stop) => Err(stop),
-    };
-    checker.findings.reporter.flush()?;
-    if let Err(stop) = read {
-        return Err(stop);
-    }
-    checker.findings.reporter.summarize()?;
+    visit_file(rt, file, begin, checker)?;
+    checker.finish()?;
+    checker.reporter.summarize()?;
     if options.is_verbose {
         let name = shown_name(file, options.stdin_name);
         tell_zone(rt, name, checker, options.form)?;
@@ -290,12 +283,12 @@ fn check_file(rt: &HostRuntime, file: &str, options: &Options, totals: &mut Tota
     };
     let reporter = Reporter::new(rt, policy, options.form, options.most);
     let mut checker = Checker::new(rt, reporter, limits, zone);
-    checker.findings.reporter.before.has_finding = totals.has_finding;
+    checker.reporter.before.has_finding = totals.has_finding;
     let checked = go_through(rt, file, options, &mut checker, state);
-    let ended = checker.findings.reporter.end_file();
-    totals.add(&checker.findings.reporter);
+    let ended = checker.reporter.end_file();
+    totals.add(&checker.reporter);
     match checked.and(ended) {
-        Ok(()) => checker.findings.reporter.tally.status(),
+        Ok(()) => checker.reporter.tally.status(),
         Err(stop) => conclude(rt, name, stop),
     }
 }
@@ -305,8 +298,7 @@ fn check_file(rt: &HostRuntime, file: &str, options: &Options, totals: &mut Tota
 fn asks_for_findings(inner: &ArgMatches) -> bool {
     let has_codes = inner.get_strs("deny").is_some() || inner.get_strs("allow").is_some();
     let has_most = inner.get_str("max").is_some() || inner.get_str("color").is_some();
-    let has_form = machine::asked(inner).is_some() || inner.get_flag("excerpt");
-    has_codes || has_most || has_form || inner.get_flag("strict")
+    has_codes || has_most || machine::asked(inner).is_some() || inner.get_flag("strict")
 }
 
 /// Reports where files are not zone files, and returns the greatest status.

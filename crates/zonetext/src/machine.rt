@@ -50,17 +50,8 @@ fn is_error(severity: Severity) -> bool {
     severity == Severity::Error
 }
 
-/// Returns the octets of a text, unless it is empty.
-fn known(text: &str) -> Option<&[u8]> {
-    if text.is_empty() {
-        None
-    } else {
-        Some(text.as_bytes())
-    }
-}
-
 /// Returns a finding as the formats have it.
-fn formatted<'a>(finding: &'a Finding<'a>) -> finding_formats::Finding<'a> {
+fn formatted<'a>(file: &'a str, finding: &'a Finding<'a>) -> finding_formats::Finding<'a> {
     let opened = match finding.opened {
         Some(position) => Some(Opening {
             line: position.line,
@@ -69,17 +60,17 @@ fn formatted<'a>(finding: &'a Finding<'a>) -> finding_formats::Finding<'a> {
         None => None,
     };
     finding_formats::Finding {
-        file: finding.file.as_bytes(),
+        file: file.as_bytes(),
         line: finding.position.line,
         column: finding.position.column,
         end_column: finding.end_column,
         opened,
         is_error: is_error(finding.severity),
         code: finding.code.name().as_bytes(),
-        owner: known(finding.owner),
-        rtype: known(finding.rtype),
+        owner: None,
+        rtype: None,
         message: finding.message.as_bytes(),
-        help: known(finding.help),
+        help: None,
     }
 }
 
@@ -145,14 +136,15 @@ impl Before {
         &mut self,
         out: &mut Vec<u8>,
         format: Format,
+        file: &str,
         finding: &Finding<'_>,
     ) -> Result<(), AllocError> {
-        let formatted = formatted(finding);
+        let formatted = formatted(file, finding);
         match format {
             Format::Json => json::push_finding(out, &formatted)?,
             Format::Github => github::push_finding(out, &formatted)?,
             Format::Sarif => sarif::push_finding(out, !self.has_finding, &formatted)?,
-            Format::Checkstyle => self.push_checkstyle(out, finding.file, &formatted)?,
+            Format::Checkstyle => self.push_checkstyle(out, file, &formatted)?,
         }
         self.has_finding = true;
         Ok(())

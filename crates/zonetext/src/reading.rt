@@ -6,7 +6,7 @@ use crate::reporter::{Form, Reporter};
 use crate::shown::Shown;
 use crate::spots::position_at;
 use crate::stop::{Stop, conclude};
-use crate::zone_files::{Begin, Entry, Unfit, Visit, visit_file};
+use crate::zone_files::{Begin, Entry, Visit, visit_file};
 use dns_kinds::{Class, RecordType};
 use dns_reader::{EntryRead, NameBuffer, State};
 use dns_wire::DisplayWithDot;
@@ -125,12 +125,12 @@ impl<T: TakeEntry + Drop> Visit for Giver<'_, T> {
         self.taker.take_entry(entry)
     }
 
-    fn refuse(&mut self, entry: &Entry<'_>, unfit: &Unfit) -> Result<(), Stop> {
-        self.checker.refuse(entry, unfit)
+    fn refuse(&mut self, entry: &Entry<'_>, why: &str) -> Result<(), Stop> {
+        self.checker.refuse(entry, why)
     }
 
-    fn keep_ttl(&mut self, file: &str, number: usize, place: Place) -> Result<(), Stop> {
-        self.checker.keep_ttl(file, number, place)
+    fn keep_ttl(&mut self, file: &str, place: Place) -> Result<(), Stop> {
+        self.checker.keep_ttl(file, place)
     }
 }
 
@@ -183,10 +183,10 @@ fn give_files<T: TakeEntry + Drop>(
             }
         }
     }
-    if let Err(stop) = giver.checker.findings.reporter.summarize() {
+    if let Err(stop) = giver.checker.reporter.summarize() {
         return conclude(rt, "-", stop);
     }
-    let found = giver.checker.findings.reporter.tally.status();
+    let found = giver.checker.reporter.tally.status();
     found.max(u8::from(giver.has_other_soa)).max(status)
 }
 

@@ -1,13 +1,11 @@
 //! Reports findings.
 use crate::machine::{Before, Format};
 use crate::stop::Stop;
-use crate::waiting::Waiting;
 use dns_split::position::Position;
-use std::alloc::AllocError;
 use std::io::Write;
-use zonetext_report::code::{Code, Severity};
+use zonetext_report::code::Code;
 use zonetext_report::excerpt::push_excerpt;
-use zonetext_report::finding::{Finding, push_lines};
+use zonetext_report::finding::{Finding, push_line};
 use zonetext_report::policy::Policy;
 use zonetext_report::tally::Tally;
 
@@ -28,41 +26,11 @@ pub enum Form {
 #[derive(Clone, Copy)]
 pub struct Spot<'s> {
     pub file: &'s str,
-    /// Number of files that were opened before it.
-    pub number: usize,
     pub position: Position,
     pub end_column: usize,
     pub opened: Option<Position>,
     /// The line of the file, without its end, if it is known.
     pub line: Option<&'s [u8]>,
-}
-
-/// What a finding says. A text that it doesn't have is empty.
-#[derive(Clone, Copy)]
-pub struct Said<'s> {
-    /// Owner of the record that it is about, relative to the zone or in full.
-    pub owner: &'s str,
-    /// Type of that record.
-    pub rtype: &'s str,
-    /// Message, in words. The token that it is about comes last, in single quotes.
-    pub message: &'s str,
-    /// What to write instead.
-    pub help: &'s str,
-    /// Another position that explains the finding, in words.
-    pub note: &'s str,
-}
-
-impl<'s> Said<'s> {
-    /// Returns a message alone.
-    pub fn message(message: &'s str) -> Said<'s> {
-        Said {
-            owner: "",
-            rtype: "",
-            message,
-            help: "",
-            note: "",
-        }
-    }
 }
 
 /// Reports findings, and counts them.
@@ -75,8 +43,6 @@ pub struct Reporter<'a> {
     /// What the format for other programs depends on.
     pub before: Before,
     out: Vec<u8>,
-    /// The findings that are written at the end, in the order of the files, if they are.
-    waiting: Option<Waiting>,
 }
 
 impl<'a> Reporter<'a> {
@@ -90,15 +56,7 @@ impl<'a> Reporter<'a> {
             tally: Tally::new(most),
             before: Before::new(false),
             out: Vec::new(rt.alloc()),
-            waiting: None,
         }
-    }
-
-    /// Lets findings wait until [`Reporter::flush`], which sorts them. Findings of several records
-    /// come after those of entries, and are before them in the file.
-    pub fn wait(&mut self) {
-        let most = self.tally.most;
-        self.waiting = Some(Waiting::new(self.rt.alloc(), most));
     }
 
     /// Writes what was appended.
@@ -112,94 +70,48 @@ impl<'a> Reporter<'a> {
         Ok(())
     }
 
-    /// Writes the findings that wait, in the order of the files, lines and columns.
-    pub fn flush(&mut self) -> Result<(), Stop> {
-        let Some(mut waiting) = self.waiting.take() else {
-            return Ok(());
-        };
-        waiting.sort()?;
-        for number in 0..waiting.len() {
-            if let Some((finding, line)) = waiting.finding(number) {
-                self.push(&finding, line)?;
-                self.write()?;
-            }
-        }
-        Ok(())
-    }
-
-    /// Appends a finding as it is shown, with its line of the file if that is known.
-    fn push(&mut self, finding: &Finding<'_>, line: Option<&[u8]>) -> Result<(), AllocError> {
-        match self.form {
-            Form::Machine(format) => self.before.push(&mut self.out, format, finding),
-            Form::Lines {
-                is_coloured,
-                has_excerpt,
-            } => {
-                push_lines(&mut self.out, is_coloured, finding)?;
-                match line {
-                    Some(line) if has_excerpt => {
-                        let (column, end_column) = (finding.position.column, finding.end_column);
-                        push_excerpt(&mut self.out, is_coloured, line, column, end_column)
-                    }
-                    _ => Ok(()),
-                }
-            }
-        }
-    }
-
-    /// Counts a finding, and returns its severity if it is to be shown. A finding that keeps a
-    /// record from being read is an error, and is not omitted.
-    pub fn count(&mut self, spot: Spot<'_>, code: Code, is_refused: bool) -> Option<Severity> {
-        let severity = self.policy.severity(code, is_refused)?;
-        let has_room = self.tally.count(severity);
-        let is_shown = match &self.waiting {
-            Some(waiting) => waiting.takes(spot.number, spot.position),
-            None => has_room,
-        };
-        if is_shown { Some(severity) } else { None }
-    }
-
-    /// Shows a finding that was counted.
-    pub fn show(
-        &mut self,
-        severity: Severity,
-        spot: Spot<'_>,
-        code: Code,
-        said: Said<'_>,
-    ) -> Result<(), Stop> {
-        let finding = Finding {
-            file: spot.file,
-            severity,
-            code,
-            position: spot.position,
-            end_column: spot.end_column,
-            opened: spot.opened,
-            owner: said.owner,
-            rtype: said.rtype,
-            message: said.message,
-            help: said.help,
-            note: said.note,
-        };
-        if let Some(waiting) = &mut self.waiting {
-            waiting.add(spot.number, &finding, spot.line)?;
-            return Ok(());
-        }
-        self.push(&finding, spot.line)?;
-        self.write()
-    }
-
-    /// Counts and shows a finding.
+    /// Reports a finding, and counts it. A finding that keeps a record from being read is an error,
+    /// and is not omitted.
     pub fn tell(
         &mut self,
         spot: Spot<'_>,
         code: Code,
         is_refused: bool,
-        said: Said<'_>,
+        message: &str,
     ) -> Result<(), Stop> {
-        match self.count(spot, code, is_refused) {
-            Some(severity) => self.show(severity, spot, code, said),
-            None => Ok(()),
+        let Some(severity) = self.policy.severity(code, is_refused) else {
+            return Ok(());
+        };
+        if !self.tally.count(severity) {
+            return Ok(());
         }
+        let finding = Finding {
+            severity,
+            code,
+            position: spot.position,
+            end_column: spot.end_column,
+            opened: spot.opened,
+            message,
+        };
+        match self.form {
+            Form::Machine(format) => {
+                self.before
+                    .push(&mut self.out, format, spot.file, &finding)?;
+            }
+            Form::Lines {
+                is_coloured,
+                has_excerpt,
+            } => {
+                push_line(&mut self.out, is_coloured, spot.file, &finding)?;
+                if let Some(line) = spot.line {
+                    if has_excerpt {
+                        let column = spot.position.column;
+                        push_excerpt(&mut self.out, is_coloured, line, column, spot.end_column)?;
+                    }
+                }
+            }
+        }
+        self.write()
     }
 
     /// Returns whether lines of files are shown.
@@ -213,15 +125,14 @@ impl<'a> Reporter<'a> {
         )
     }
 
-    /// Returns whether equal findings about signatures are shown as one, with their number: in
-    /// lines, which people read.
-    pub fn joins_equal(&self) -> bool {
-        matches!(self.form, Form::Lines { .. })
-    }
-
     /// Returns whether a finding is an error because of the options.
     pub fn denies(&self, code: Code) -> bool {
         self.policy.is_strict || self.policy.denied.contains(&code)
+    }
+
+    /// Returns whether the next finding is shown, and keeps no record from being read.
+    pub fn shows(&self, code: Code) -> bool {
+        self.tally.has_room() && self.policy.severity(code, false).is_some()
     }
 
     /// Writes what comes after the findings of a file in a format for other programs.

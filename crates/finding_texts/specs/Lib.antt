@@ -1,4 +1,0 @@
-pub mod Digests
-pub mod Mistakes
-pub mod Rows
-pub mod Word
