@@ -137,6 +137,8 @@ impl<'a> Reporter<'a> {
 
     /// Writes what comes after the findings of a file in a format for other programs.
     pub fn end_file(&mut self) -> Result<(), Stop> {
+        // (what is left of a finding for which memory was short)
+        self.out.clear();
         self.before.push_file_end(&mut self.out)?;
         self.write()
     }
