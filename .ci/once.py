@@ -37,6 +37,8 @@ RULES = [
         places={
             "dns_symbol/src/chars.rt": 1,
             "dns_symbol/src/escape.rt": 1,
+            # an octet of an IPv4 address
+            "dns_fields/src/addresses.rt": 1,
         },
     ),
     Rule(

@@ -1,3 +1,4 @@
+mod AddressReads
 pub mod FormLaws
 pub mod Refusals
 pub mod Refused

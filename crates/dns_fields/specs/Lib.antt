@@ -1,3 +1,4 @@
+pub mod Addresses
 pub mod Fields
 pub mod Forms
 pub mod RecordErrors

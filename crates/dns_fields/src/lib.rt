@@ -1,6 +1,7 @@
 //! The fields of RDATA: which tokens spell each, its octets in wire format, and how it prints.
 #![tactic(auto)]
 
+mod addresses;
 pub mod field;
 pub mod laws;
 pub mod record_error;

@@ -15,11 +15,12 @@ ghost use Rattle.dns_kinds.specs.declared.error.ErrorKind.TheVariants.{ExpectedI
 ghost use Rattle.dns_fields.specs.Words.{SpellsBelow, NumberReason};
 ghost use Rattle.dns_fields.specs.WordLaws.{number8_is_kind, number16_is_kind, number32_is_kind, interval_is_kind, ipv4_is_word, ipv6_is_word, type_is_word, sig_type_is_word, algorithm_is_word, certificate_is_word, eui48_is_word, eui64_is_word, date_is_word, locator_is_word};
 
+use crate::addresses::{ipv4_from_text, ipv6_from_text};
 use crate::word::Word;
 use dns_kinds::numbers::{u8_from_text, u16_from_text, u32_from_text};
 use dns_kinds::{
     Algorithm, CertificateType, Date, ErrorKind, Eui48, Eui64, Ipv6Shown, Locator, PortableType,
-    RecordType, SigType, interval_from_text, ipv4_from_text, ipv6_from_text,
+    RecordType, SigType, interval_from_text,
 };
 use dns_octets::{OctetsBuilder, ShortBuf};
 use std::fmt;
