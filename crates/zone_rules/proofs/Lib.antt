@@ -8,6 +8,7 @@ pub mod Neighbours
 pub mod Searches
 pub mod SharedNames
 pub mod Steps
+pub mod Subjects
 mod ToldRules
 pub mod Wildcards
 pub mod Within

@@ -21,6 +21,7 @@ use Rattle.dns_canonical.specs.Records.{record_order}
 use Rattle.dns_canonical.proofs.Orders.{names_total}
 use Rattle.dns_resource.specs.CanonicalData.{record_key}
 use Rattle.dns_resource.specs.declared.record.Record.{Record}
+use Rattle.zone_rules.specs.Searches.{AreOwnedFrom}
 use Rattle.zone_rules.specs.Zones.{AreInOrder, has_type_among, has_type_at, type_of}
 
 -- ---- names that compare as equal are the same name
@@ -209,6 +210,17 @@ module _ {N O : Type 0} (name : List (List ℕ)) where
       ap (take count) whole
       ∙ owned_of rs from count within (omega (arith, few, ap length whole)) h
       (subst (λ l. IsPartitionPoint (λ r. is_le (name_order r.owner name) ≡ true) (λ r. is_le (name_order r.owner name) ≡ false) l count) whole k)
+
+  pub owned_places : (rs : List (Record N O)) (first past : ℕ) → past ≤ length rs
+      → IsPartitionPoint (λ r. is_lt (name_order r.owner name) ≡ true) (λ r. is_lt (name_order r.owner name) ≡ false) rs first
+      → IsPartitionPoint (λ r. is_le (name_order r.owner name) ≡ true) (λ r. is_le (name_order r.owner name) ≡ false) rs past
+      → AreOwnedFrom name rs first past
+  owned_places rs first past bound h k = record {
+    bound = bound;
+    before = λ i d low lt. same_is (get_or rs i d).owner name ∙ before_not (name_order (get_or rs i d).owner name) (h.0 i d low lt);
+    owned = λ i d low lt. same_is (get_or rs i d).owner name ∙ equal_of (name_order (get_or rs i d).owner name) (h.1 i d low (omega (arith, lt, bound))) (k.0 i d (omega arith) lt);
+    after = λ i d low lt. same_is (get_or rs i d).owner name ∙ behind_not (name_order (get_or rs i d).owner name) (k.1 i d low lt);
+  }
 
   pub front_parted : (rs : List (Record N O)) (few : ℕ) → IsPartitionedBy (λ r. is_le (name_order r.owner name)) rs → few ≤ length rs → IsPartitionedBy (λ r. is_le (name_order r.owner name)) (take few rs)
   front_parted rs few parted within i j d le lt t =

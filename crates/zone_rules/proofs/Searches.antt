@@ -22,7 +22,7 @@ use Rattle.zone_rules.proofs.Lookups.{same_is}
 -- ---- the first of those that pass a test
 
 module _ {X : Type 0} (p : X → Bool) where
-  none_passes : (xs : List X) → ((i : ℕ) (d : X) → i < length xs → p (get_or xs i d) ≡ false) → list_any p xs ≡ false
+  pub none_passes : (xs : List X) → ((i : ℕ) (d : X) → i < length xs → p (get_or xs i d) ≡ false) → list_any p xs ≡ false
   none_passes [] h = refl
   none_passes (x ∷ xs) h = ap (λ b. b || list_any p xs) (h 0 x (omega arith)) ∙ none_passes xs (λ i d lt. h (suc i) d (omega arith))
 

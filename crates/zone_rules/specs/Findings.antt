@@ -1,11 +1,12 @@
 -- The findings of a zone.
-use Rattle.std.specs.Prelude.{ℕ, ◌<◌, ◌↔◌, IsTrue, not, if◌then◌else◌, Bool, false, Option, Some, None, List, [], ◌∷◌, ◌++◌, length, slice_get}
+use Rattle.std.specs.Prelude.{ℕ, ◌≡◌, ◌<◌, ◌↔◌, IsTrue, not, if◌then◌else◌, Bool, false, Option, Some, None, List, [], ◌∷◌, ◌++◌, length, slice_get, Vec}
 use Rattle.std.specs.List.{Contains, flat_map, range_with_len}
 use Rattle.std.specs.Option.{option_map_or}
 use Rattle.dns_kinds.specs.Rtype as Rtype
 use Rattle.dns_resource.specs.declared.record.Record.{Record}
 use Rattle.zone_rules.specs.Present.{is_present}
 use Rattle.zone_rules.specs.Rules.{breaks}
+use Rattle.zone_rules.specs.Zones.{record_before}
 use Rattle.zone_rules.specs.declared.refused.RrsetName.{RrsetName}
 use Rattle.zone_rules.specs.declared.rule.Finding.{Finding}
 use Rattle.zone_rules.specs.declared.rule.Rule.{Rule}
@@ -27,7 +28,7 @@ record_rules =
 
 -- the record at an index breaks the rule
 abbrev pub breaks_at : {N O : Type 0} → List (List ℕ) → List (Record N O) → List RrsetName → ℕ → Rule → Bool
-breaks_at origin records refused place rule = option_map_or (breaks rule origin records refused place) (slice_get records place) false
+breaks_at origin records refused place rule = option_map_or (breaks rule origin records refused (record_before records place)) (slice_get records place) false
 
 -- a finding of a rule, if the record at an index breaks it
 abbrev pub found_of : {N O : Type 0} → List (List ℕ) → List (Record N O) → List RrsetName → ℕ → Rule → List Finding
@@ -40,6 +41,10 @@ found_at origin records refused place = flat_map (found_of origin records refuse
 -- what is missing at the apex, and then the rules that each record breaks, record by record
 abbrev pub found_in_zone : {N O : Type 0} → List (List ℕ) → List (Record N O) → List RrsetName → List Finding
 found_in_zone origin records refused = found_at_apex origin records refused ++ flat_map (found_at origin records refused) (range_with_len 0 (length records))
+
+-- a vector has exactly these findings, in this order
+abbrev pub HasZoneFindings : {N O A : Type 0} → List (List ℕ) → List (Record N O) → List RrsetName → Vec Finding A → Type 0
+HasZoneFindings origin records refused found = found.items ≡ found_in_zone origin records refused
 
 -- a finding names the record at an index and a rule for records if and only if the record breaks the rule
 abbrev pub TellsBrokenRules : {N O : Type 0} → List (List ℕ) → List (Record N O) → List RrsetName → List Finding → Type 0

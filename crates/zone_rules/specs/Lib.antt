@@ -7,4 +7,5 @@ pub mod Rows
 pub mod RuleNames
 pub mod Rules
 pub mod Searches
+pub mod Subjects
 pub mod Zones

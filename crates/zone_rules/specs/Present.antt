@@ -1,5 +1,5 @@
 -- The contents of a zone: records, and RRsets with a rejected entry, whose data is unknown.
-use Rattle.std.specs.Prelude.{ℕ, ◌==◌, ◌&&◌, ◌||◌, not, Bool, IsTrue, false, Option, List, [], ◌∷◌, length}
+use Rattle.std.specs.Prelude.{ℕ, ◌≡◌, ◌==◌, ◌&&◌, ◌||◌, not, Bool, IsTrue, false, Option, List, [], ◌∷◌, length}
 use Rattle.std.specs.List.{AllAdjacentBelow, find, list_any}
 use Rattle.std.specs.Option.{option_map_or}
 use Rattle.std.specs.Ordering.{is_le, nat_cmp, ordering_then}
@@ -9,7 +9,7 @@ use Rattle.dns_kinds.specs.Rtype as Rtype
 use Rattle.dns_kinds.specs.declared.types.RecordType.{RecordType}
 use Rattle.dns_canonical.specs.Names.{name_order}
 use Rattle.dns_resource.specs.declared.record.Record.{Record}
-use Rattle.zone_rules.specs.Above.{names_above, is_below, is_within}
+use Rattle.zone_rules.specs.Above.{closest_from, names_above, is_below, is_within}
 use Rattle.zone_rules.specs.Zones.{has_owner_within, has_type_at, type_of}
 use Rattle.zone_rules.specs.declared.refused.RrsetName.{RrsetName}
 
@@ -46,17 +46,29 @@ has_address_in name records refused = is_present Rtype.a name records refused ||
 abbrev pub is_existing : {N O : Type 0} → List (List ℕ) → List (Record N O) → List RrsetName → Bool
 is_existing name records refused = has_owner_within name records || is_listed_within name refused
 
+-- the closest name that exists, of a name and its ancestors
+abbrev pub closest_present : {N O : Type 0} → List (Record N O) → List RrsetName → List (List ℕ) → Option (List (List ℕ))
+closest_present records refused name = closest_from (λ above. is_existing above records refused) name
+
 -- the closest ancestor that exists (RFC 4592 section 3.3.1)
 abbrev pub closest_encloser : {N O : Type 0} → List (List ℕ) → List (Record N O) → List RrsetName → Option (List (List ℕ))
 closest_encloser name records refused = find (λ above. is_existing above records refused) (names_above name)
 
+-- the wildcard below a name has a type
+abbrev pub wildcard_has : {N O : Type 0} → RecordType → List (List ℕ) → List (Record N O) → List RrsetName → Bool
+wildcard_has rtype name records refused = is_present rtype ((42 ∷ []) ∷ name) records refused
+
 -- the wildcard below the closest encloser, which is the source of synthesis, has a type
 abbrev pub source_has : {N O : Type 0} → RecordType → List (List ℕ) → List (Record N O) → List RrsetName → Bool
-source_has rtype name records refused = option_map_or (λ encloser. is_present rtype ((42 ∷ []) ∷ encloser) records refused) (closest_encloser name records refused) false
+source_has rtype name records refused = option_map_or (λ encloser. wildcard_has rtype encloser records refused) (closest_encloser name records refused) false
 
 -- a name that doesn't exist has a type by synthesis from a wildcard
 abbrev pub is_synthesized : {N O : Type 0} → RecordType → List (List ℕ) → List (Record N O) → List RrsetName → Bool
 is_synthesized rtype name records refused = not (is_existing name records refused) && source_has rtype name records refused
+
+-- no name has a type by synthesis
+abbrev pub NothingIsSynthesized : {N O : Type 0} → List (Record N O) → List RrsetName → Type 0
+NothingIsSynthesized records refused = (rtype : RecordType) (name : List (List ℕ)) → is_synthesized rtype name records refused ≡ false
 
 -- a name has an address, of its own or from a wildcard
 abbrev pub gives_address : {N O : Type 0} → List (List ℕ) → List (Record N O) → List RrsetName → Bool

@@ -32,6 +32,9 @@ entry owner rtype octets = record { owner = owner; ttl = 60; class = 1; «data»
 abbrev slow_entry : List (List ℕ) → RecordType → List ℕ → Record ℕ ℕ
 slow_entry owner rtype octets = record { owner = owner; ttl = 3600; class = 1; «data» = record { rtype = rtype; octets = octets } }
 
+abbrev no_records : List (Record ℕ ℕ)
+no_records = []
+
 abbrev address : List ℕ
 address = 192 ∷ 0 ∷ 2 ∷ 1 ∷ []
 
@@ -206,7 +209,7 @@ no_glue_row : lacks_glue apex (delegation ∷ []) [] delegation ≡ true
 unfolding type_shapes labels_in_octets
 no_glue_row = refl
 
-beside_row : lacks_glue apex [] [] (entry (under (codes "sub")) Rtype.ns (wire (under (codes "ns")))) ≡ false
+beside_row : lacks_glue apex no_records [] (entry (under (codes "sub")) Rtype.ns (wire (under (codes "ns")))) ≡ false
 unfolding type_shapes labels_in_octets
 beside_row = refl
 
@@ -226,12 +229,12 @@ unfolding type_shapes labels_in_octets
 under_star_row = refl
 
 -- a target that is the root needs no address, also in a zone that has all names
-no_target_row : names_missing ([] ∷ []) [] [] (entry apex Rtype.srv (0 ∷ 0 ∷ 0 ∷ 0 ∷ 0 ∷ 0 ∷ 0 ∷ [])) ≡ false
+no_target_row : names_missing ([] ∷ []) no_records [] (entry apex Rtype.srv (0 ∷ 0 ∷ 0 ∷ 0 ∷ 0 ∷ 0 ∷ 0 ∷ [])) ≡ false
 unfolding type_shapes labels_in_octets
 no_target_row = refl
 
 -- nothing is known of hosts outside of the zone
-elsewhere_row : names_missing apex [] [] (mail_to (codes "mx" ∷ [] ∷ [])) ≡ false
+elsewhere_row : names_missing apex no_records [] (mail_to (codes "mx" ∷ [] ∷ [])) ≡ false
 unfolding type_shapes labels_in_octets
 elsewhere_row = refl
 
@@ -295,19 +298,19 @@ host_owner_row = refl
 -- ---- keys
 
 -- the one that asks to delete (RFC 8078 section 4), and another
-deletion_row : lacks_key apex [] [] (entry apex Rtype.cds (0 ∷ 0 ∷ 0 ∷ 0 ∷ 0 ∷ [])) ≡ false
+deletion_row : lacks_key apex no_records [] (entry apex Rtype.cds (0 ∷ 0 ∷ 0 ∷ 0 ∷ 0 ∷ [])) ≡ false
 deletion_row = refl
 
-key_row : lacks_key apex [] [] (entry apex Rtype.cdnskey (1 ∷ 1 ∷ 3 ∷ 8 ∷ 1 ∷ [])) ≡ true
+key_row : lacks_key apex no_records [] (entry apex Rtype.cdnskey (1 ∷ 1 ∷ 3 ∷ 8 ∷ 1 ∷ [])) ≡ true
 key_row = refl
 
-no_delegation_row : lacks_ns apex [] [] (entry (under (codes "d")) Rtype.ds []) ≡ true
+no_delegation_row : lacks_ns apex no_records [] (entry (under (codes "d")) Rtype.ds []) ≡ true
 no_delegation_row = refl
 
 key_at_cut_row : is_below_its_apex apex (entry (under (codes "d")) Rtype.ns [] ∷ []) [] (entry (under (codes "d")) Rtype.dnskey []) ≡ false
 key_at_cut_row = refl
 
-lower_key_row : is_below_its_apex apex [] [] (entry (under (codes "d")) Rtype.dnskey []) ≡ true
+lower_key_row : is_below_its_apex apex no_records [] (entry (under (codes "d")) Rtype.dnskey []) ≡ true
 lower_key_row = refl
 
 protocol_row : has_other_protocol (entry apex Rtype.dnskey (1 ∷ 0 ∷ 2 ∷ 8 ∷ 1 ∷ [])) ≡ true

@@ -9,7 +9,7 @@ use Rattle.dns_kinds.specs.Rtype as Rtype
 use Rattle.dns_kinds.specs.declared.types.RecordType.{RecordType}
 use Rattle.dns_resource.specs.Records.{data_of}
 use Rattle.dns_resource.specs.declared.record.Record.{Record}
-use Rattle.zone_rules.specs.Above.{first_label_of, is_below, is_within, is_wildcard}
+use Rattle.zone_rules.specs.Above.{first_label_of, is_below, is_within, is_wildcard, names_above}
 use Rattle.zone_rules.specs.Base32Texts.{is_base32_text}
 use Rattle.zone_rules.specs.HostNames.{is_bad_host_name}
 use Rattle.zone_rules.specs.Present.{closest_dname, gives_address, has_address_in, has_dname_above, is_own, is_present, is_renamed, is_synthesized}
@@ -34,20 +34,24 @@ are_two_of rtype a b = type_of a == rtype && (type_of b == rtype && (same_name a
 abbrev pub have_other_ttls : {N O : Type 0} → Record N O → Record N O → Bool
 have_other_ttls a b = is_one_set a b && not (a.ttl == b.ttl)
 
--- a record comes before the index, and it and this one pass the test
+-- a record comes before this one, and the two pass the test
+abbrev pub passes_after : {N O : Type 0} → (Record N O → Record N O → Bool) → Option (Record N O) → Record N O → Bool
+passes_after test before r = option_map_or (λ b. test b r) before false
+
+-- the record before the index and this one pass the test
 abbrev pub follows : {N O : Type 0} → (Record N O → Record N O → Bool) → List (Record N O) → ℕ → Record N O → Bool
-follows test records place r = option_map_or (λ before. test before r) (record_before records place) false
+follows test records place r = passes_after test (record_before records place) r
 
 -- the record has the same owner as an alias, isn't equal to it, and is neither an RRSIG nor an NSEC
-abbrev pub is_beside_alias : {N O : Type 0} → Record N O → Record N O → Bool
+abbrev pub is_beside_alias : {N O M P : Type 0} → Record N O → Record M P → Bool
 is_beside_alias alias r = same_name r.owner alias.owner && (not (type_of r == Rtype.rrsig) && (not (type_of r == Rtype.nsec) && not (is_equal_record alias r)))
 
 -- the record is an alias, and another record must not have the same owner
-abbrev pub is_alias_in_company : {N O : Type 0} → List (Record N O) → Record N O → Bool
+abbrev pub is_alias_in_company : {N O M P : Type 0} → List (Record N O) → Record M P → Bool
 is_alias_in_company records r = type_of r == Rtype.cname && list_any (is_beside_alias r) records
 
 -- an ancestor of the record's owner has a DNAME
-abbrev pub has_dname_over : {N O : Type 0} → List (Record N O) → Record N O → Bool
+abbrev pub has_dname_over : {N O M P : Type 0} → List (Record N O) → Record M P → Bool
 has_dname_over records r = has_dname_above r.owner records
 
 -- the record is an NSEC3, or an RRSIG that covers NSEC3
@@ -55,7 +59,7 @@ abbrev pub is_of_hashed_chain : {N O : Type 0} → Record N O → Bool
 is_of_hashed_chain r = type_of r == Rtype.nsec3 || set_type r == Rtype.nsec3
 
 -- the same, except for the chain of NSEC3, which is below the apex even if that has a DNAME (RFC 5155 section 3)
-abbrev pub is_below_dname : {N O : Type 0} → List (Record N O) → Record N O → Bool
+abbrev pub is_below_dname : {N O M P : Type 0} → List (Record N O) → Record M P → Bool
 is_below_dname records r = not (is_of_hashed_chain r) && has_dname_over records r
 
 -- the record is an SOA below the apex
@@ -76,8 +80,12 @@ is_unhashed_nsec3 r = type_of r == Rtype.nsec3 && not (is_base32_text (first_lab
 abbrev pub is_zone_cut : {N O : Type 0} → List (List ℕ) → List (Record N O) → List (List ℕ) → Bool
 is_zone_cut origin records name = is_below name origin && has_type_at Rtype.ns name records
 
+-- an ancestor of a name is a delegation
+abbrev pub is_below_zone_cut : {N O : Type 0} → List (List ℕ) → List (Record N O) → List (List ℕ) → Bool
+is_below_zone_cut origin records name = list_any (is_zone_cut origin records) (names_above name)
+
 -- the record is a DNAME at a delegation
-abbrev pub is_dname_at_cut : {N O : Type 0} → List (List ℕ) → List (Record N O) → Record N O → Bool
+abbrev pub is_dname_at_cut : {N O M P : Type 0} → List (List ℕ) → List (Record N O) → Record M P → Bool
 is_dname_at_cut origin records r = type_of r == Rtype.dname && is_zone_cut origin records r.owner
 
 -- ---- hosts
@@ -91,7 +99,7 @@ abbrev pub names_internet_host : {N O : Type 0} → (List (List ℕ) → Bool) �
 names_internet_host test r = r.class == internet && names_host test r
 
 -- the closest ancestor with a DNAME, of the host in a record's data
-abbrev pub dname_above_host : {N O : Type 0} → List (Record N O) → List RrsetName → Record N O → Option (List (List ℕ))
+abbrev pub dname_above_host : {N O M P : Type 0} → List (Record N O) → List RrsetName → Record M P → Option (List (List ℕ))
 dname_above_host records refused r = option_and_then (λ name. closest_dname name records refused) (host_of r)
 
 -- a name has a CNAME, of its own or, if the zone is authoritative for it, from a wildcard
@@ -107,7 +115,7 @@ abbrev pub lacks_address : {N O : Type 0} → List (List ℕ) → List (Record N
 lacks_address origin records refused name = (is_renamed name records refused || not (gives_address name records refused)) && is_own origin records refused name
 
 -- the host of an NS at the apex has no address
-abbrev pub lacks_ns_address : {N O : Type 0} → List (List ℕ) → List (Record N O) → List RrsetName → Record N O → Bool
+abbrev pub lacks_ns_address : {N O M P : Type 0} → List (List ℕ) → List (Record N O) → List RrsetName → Record M P → Bool
 lacks_ns_address origin records refused r = is_record_at_apex Rtype.ns origin r && names_internet_host (lacks_address origin records refused) r
 
 -- a name is at or below a delegation, and has no A or AAAA
@@ -115,15 +123,15 @@ abbrev pub is_without_glue : {N O : Type 0} → List (List ℕ) → List (Record
 is_without_glue delegation records refused name = is_within name delegation && not (has_address_in name records refused)
 
 -- the host of an NS below the apex is at or below its owner, and has no address
-abbrev pub lacks_glue : {N O : Type 0} → List (List ℕ) → List (Record N O) → List RrsetName → Record N O → Bool
+abbrev pub lacks_glue : {N O M P : Type 0} → List (List ℕ) → List (Record N O) → List RrsetName → Record M P → Bool
 lacks_glue origin records refused r = type_of r == Rtype.ns && (is_below r.owner origin && names_internet_host (is_without_glue r.owner records refused) r)
 
 -- the host of an MX, SRV or NS is an alias
-abbrev pub names_alias : {N O : Type 0} → List (List ℕ) → List (Record N O) → List RrsetName → Record N O → Bool
+abbrev pub names_alias : {N O M P : Type 0} → List (List ℕ) → List (Record N O) → List RrsetName → Record M P → Bool
 names_alias origin records refused r = names_host (is_alias origin records refused) r
 
 -- the host of an MX, SRV or NS is below a DNAME
-abbrev pub names_renamed : {N O : Type 0} → List (List ℕ) → List (Record N O) → List RrsetName → Record N O → Bool
+abbrev pub names_renamed : {N O M P : Type 0} → List (List ℕ) → List (Record N O) → List RrsetName → Record M P → Bool
 names_renamed origin records refused r = names_host (is_below_own_dname origin records refused) r
 
 -- the zone has no address for a name, which is neither an alias nor below a DNAME
@@ -131,7 +139,7 @@ abbrev pub is_missing : {N O : Type 0} → List (List ℕ) → List (Record N O)
 is_missing origin records refused name = lacks_address origin records refused name && (not (is_renamed name records refused) && not (is_alias origin records refused name))
 
 -- the host of an MX, SRV or NS is missing; for an NS at the apex that is an error of its own
-abbrev pub names_missing : {N O : Type 0} → List (List ℕ) → List (Record N O) → List RrsetName → Record N O → Bool
+abbrev pub names_missing : {N O M P : Type 0} → List (List ℕ) → List (Record N O) → List RrsetName → Record M P → Bool
 names_missing origin records refused r = not (is_record_at_apex Rtype.ns origin r) && names_internet_host (is_missing origin records refused) r
 
 -- ---- keys
@@ -142,11 +150,11 @@ is_delete_request r =
     (type_of r == Rtype.cds && pointwise nat_eq (data_of r).octets (0 ∷ 0 ∷ 0 ∷ 0 ∷ 0 ∷ [])) || (type_of r == Rtype.cdnskey && pointwise nat_eq (data_of r).octets (0 ∷ 0 ∷ 3 ∷ 0 ∷ 0 ∷ []))
 
 -- a CDS or CDNSKEY that is not a delete request (RFC 8078 section 4), and no DNSKEY at the apex
-abbrev pub lacks_key : {N O : Type 0} → List (List ℕ) → List (Record N O) → List RrsetName → Record N O → Bool
+abbrev pub lacks_key : {N O M P : Type 0} → List (List ℕ) → List (Record N O) → List RrsetName → Record M P → Bool
 lacks_key origin records refused r = (type_of r == Rtype.cds || type_of r == Rtype.cdnskey) && (not (is_delete_request r) && not (is_present Rtype.dnskey origin records refused))
 
 -- a DS below the apex, and no NS at its owner
-abbrev pub lacks_ns : {N O : Type 0} → List (List ℕ) → List (Record N O) → List RrsetName → Record N O → Bool
+abbrev pub lacks_ns : {N O M P : Type 0} → List (List ℕ) → List (Record N O) → List RrsetName → Record M P → Bool
 lacks_ns origin records refused r = type_of r == Rtype.ds && (is_below r.owner origin && not (is_present Rtype.ns r.owner records refused))
 
 -- the types that belong at an apex: NSEC3PARAM, CDS, CDNSKEY, CSYNC and ZONEMD
@@ -154,7 +162,7 @@ abbrev pub is_apex_type : RecordType → Bool
 is_apex_type rtype = rtype == Rtype.nsec3param || (rtype == Rtype.cds || (rtype == Rtype.cdnskey || (rtype == Rtype.csync || rtype == Rtype.zonemd)))
 
 -- a record of such a type is below the apex, or a DNSKEY below it is not at a delegation
-abbrev pub is_below_its_apex : {N O : Type 0} → List (List ℕ) → List (Record N O) → List RrsetName → Record N O → Bool
+abbrev pub is_below_its_apex : {N O M P : Type 0} → List (List ℕ) → List (Record N O) → List RrsetName → Record M P → Bool
 is_below_its_apex origin records refused r = (is_apex_type (type_of r) || (type_of r == Rtype.dnskey && not (is_present Rtype.ns r.owner records refused))) && is_below r.owner origin
 
 -- the octet at an offset of a record's data
@@ -171,30 +179,30 @@ has_no_algorithm r = (type_of r == Rtype.dnskey && has_octet_at (λ o. o == 0) 3
 
 -- ---- all rules
 
--- whether the record at an index breaks a rule; no record breaks the rules about what is missing at the apex
-abbrev pub breaks : {N O : Type 0} → Rule → List (List ℕ) → List (Record N O) → List RrsetName → ℕ → Record N O → Bool
-breaks NoSoa origin records refused place r = false
-breaks NoNs origin records refused place r = false
-breaks Outside origin records refused place r = is_out_of_zone origin r
-breaks TwoSoas origin records refused place r = follows (are_two_of Rtype.soa) records place r
-breaks NsAddress origin records refused place r = lacks_ns_address origin records refused r
-breaks Cname origin records refused place r = is_alias_in_company records r
-breaks TwoDnames origin records refused place r = follows (are_two_of Rtype.dname) records place r
-breaks BelowDname origin records refused place r = is_below_dname records r
-breaks DsAtApex origin records refused place r = is_record_at_apex Rtype.ds origin r
-breaks WildcardNs origin records refused place r = is_wildcard_ns r
-breaks SoaNotApex origin records refused place r = is_soa_below_apex origin r
-breaks NsBesideDname origin records refused place r = is_dname_at_cut origin records r
-breaks Nsec3Owner origin records refused place r = is_unhashed_nsec3 r
-breaks MissingGlue origin records refused place r = lacks_glue origin records refused r
-breaks HostIsAlias origin records refused place r = names_alias origin records refused r
-breaks HostBelowDname origin records refused place r = names_renamed origin records refused r
-breaks HostMissing origin records refused place r = names_missing origin records refused r
-breaks HostName origin records refused place r = is_bad_host_name r
-breaks CdsWithoutKey origin records refused place r = lacks_key origin records refused r
-breaks DsWithoutNs origin records refused place r = lacks_ns origin records refused r
-breaks NotAtApex origin records refused place r = is_below_its_apex origin records refused r
-breaks KeyProtocol origin records refused place r = has_other_protocol r
-breaks KeyAlgorithm origin records refused place r = has_no_algorithm r
-breaks TtlDiffers origin records refused place r = follows have_other_ttls records place r
-breaks Duplicate origin records refused place r = follows is_equal_record records place r
+-- whether a record breaks a rule after the one before it, if there is one; no record breaks the rules about what is missing at the apex
+abbrev pub breaks : {N O M P : Type 0} → Rule → List (List ℕ) → List (Record N O) → List RrsetName → Option (Record M P) → Record M P → Bool
+breaks NoSoa origin records refused before r = false
+breaks NoNs origin records refused before r = false
+breaks Outside origin records refused before r = is_out_of_zone origin r
+breaks TwoSoas origin records refused before r = passes_after (are_two_of Rtype.soa) before r
+breaks NsAddress origin records refused before r = lacks_ns_address origin records refused r
+breaks Cname origin records refused before r = is_alias_in_company records r
+breaks TwoDnames origin records refused before r = passes_after (are_two_of Rtype.dname) before r
+breaks BelowDname origin records refused before r = is_below_dname records r
+breaks DsAtApex origin records refused before r = is_record_at_apex Rtype.ds origin r
+breaks WildcardNs origin records refused before r = is_wildcard_ns r
+breaks SoaNotApex origin records refused before r = is_soa_below_apex origin r
+breaks NsBesideDname origin records refused before r = is_dname_at_cut origin records r
+breaks Nsec3Owner origin records refused before r = is_unhashed_nsec3 r
+breaks MissingGlue origin records refused before r = lacks_glue origin records refused r
+breaks HostIsAlias origin records refused before r = names_alias origin records refused r
+breaks HostBelowDname origin records refused before r = names_renamed origin records refused r
+breaks HostMissing origin records refused before r = names_missing origin records refused r
+breaks HostName origin records refused before r = is_bad_host_name r
+breaks CdsWithoutKey origin records refused before r = lacks_key origin records refused r
+breaks DsWithoutNs origin records refused before r = lacks_ns origin records refused r
+breaks NotAtApex origin records refused before r = is_below_its_apex origin records refused r
+breaks KeyProtocol origin records refused before r = has_other_protocol r
+breaks KeyAlgorithm origin records refused before r = has_no_algorithm r
+breaks TtlDiffers origin records refused before r = passes_after have_other_ttls before r
+breaks Duplicate origin records refused before r = passes_after is_equal_record before r

@@ -1,6 +1,6 @@
 -- Searches among owners in order.
-use Rattle.std.specs.Prelude.{ℕ, ◌≡◌, ◌-◌, ◌==◌, ◌&&◌, ◌||◌, nat_lt, if◌then◌else◌, Bool, IsTrue, true, false, Option, Some, None, List, length, slice_get}
-use Rattle.std.specs.List.{AllAdjacentBelow, find, list_any}
+use Rattle.std.specs.Prelude.{ℕ, ◌≡◌, ◌≤◌, ◌-◌, ◌==◌, ◌&&◌, ◌||◌, nat_lt, if◌then◌else◌, Bool, IsTrue, true, false, Option, Some, None, List, length, slice_get}
+use Rattle.std.specs.List.{AllAdjacentBelow, AllWithin, find, list_any}
 use Rattle.std.specs.List.Sorted.{IsPartitionPoint}
 use Rattle.std.specs.Ordering.{is_le, is_lt}
 use Rattle.dns_canonical.specs.Names.{name_order}
@@ -54,6 +54,13 @@ PartsBefore rrset name items count =
 abbrev pub PartsUpTo : {N O : Type 0} → List (List ℕ) → List (Record N O) → ℕ → Type 0
 PartsUpTo name records count =
     IsPartitionPoint (λ r. is_le (name_order r.owner name) ≡ true) (λ r. is_le (name_order r.owner name) ≡ false) records count
+
+-- the records whose owner is a name are those from one index up to another
+pub record AreOwnedFrom {N O : Type 0} (name : List (List ℕ)) (records : List (Record N O)) (first past : ℕ) : Type 0 where
+  pub bound : past ≤ length records
+  pub before : AllWithin (λ r. same_name r.owner name ≡ false) records 0 first
+  pub owned : AllWithin (λ r. same_name r.owner name ≡ true) records first past
+  pub after : AllWithin (λ r. same_name r.owner name ≡ false) records past (length records)
 
 -- the item before an index
 abbrev pub before_place : {X : Type 0} → List X → ℕ → Option X

@@ -14,7 +14,7 @@ use Rattle.dns_resource.specs.Parts.{data_part}
 use Rattle.dns_resource.specs.Records.{data_of}
 use Rattle.dns_resource.specs.TypeData.{TypeData}
 use Rattle.dns_resource.specs.declared.record.Record.{Record}
-use Rattle.zone_rules.specs.Above.{is_wildcard, is_within}
+use Rattle.zone_rules.specs.Above.{closest_from, is_wildcard, is_within}
 
 abbrev pub type_of : {N O : Type 0} → Record N O → RecordType
 type_of r = (data_of r).rtype
@@ -35,8 +35,16 @@ has_owner name records = list_any (λ r. same_name r.owner name) records
 abbrev pub has_owner_within : {N O : Type 0} → List (List ℕ) → List (Record N O) → Bool
 has_owner_within name records = list_any (λ r. is_within r.owner name) records
 
+-- the closest name, of a name and its ancestors, that has an owner at it or below it
+abbrev pub closest_owned : {N O : Type 0} → List (Record N O) → List (List ℕ) → Option (List (List ℕ))
+closest_owned records name = closest_from (λ above. has_owner_within above records) name
+
+-- the same record in a list whose octets are held in other types
+abbrev pub as_listed : {N O M P : Type 0} → Record N O → Record M P
+as_listed r = record { owner = r.owner; ttl = r.ttl; class = r.class; «data» = r.«data» }
+
 -- records are equal in canonical form, whatever their TTLs
-abbrev pub is_equal_record : {N O : Type 0} → Record N O → Record N O → Bool
+abbrev pub is_equal_record : {N O M P : Type 0} → Record N O → Record M P → Bool
 is_equal_record a b = is_eq (record_order (record_key a) (record_key b))
 
 -- records are in canonical order (RFC 4034 section 6)

@@ -1,15 +1,14 @@
 //! Checks a zone against the rules.
-ghost use Rattle.std.specs.Prelude.{◌≡◌, ◌++◌, OnOk, IfOk};
+ghost use Rattle.std.specs.Prelude.{◌≡◌, ◌<◌, ◌++◌, OnOk, IfOk, length};
 ghost use Rattle.std.specs.List.{flat_map};
-ghost use Rattle.zone_rules.specs.Findings.{breaks_at, found_at, found_at_apex, found_if, found_in_zone, found_of};
-ghost use Rattle.zone_rules.specs.Rules.{breaks};
+ghost use Rattle.std.specs.Option.{option_map};
+ghost use Rattle.zone_rules.specs.Findings.{found_at, found_at_apex, found_if, found_in_zone, found_of, HasZoneFindings};
+ghost use Rattle.zone_rules.specs.Subjects.{breaks_by, is_broken, HasItsFaults, IsSubject};
+ghost use Rattle.zone_rules.specs.Zones.{as_listed, record_before};
 
 use crate::hash_owners::is_nsec3_without_hash;
 use crate::host_names::is_no_host_name;
-use crate::hosts::{
-    is_dname_at_delegation, is_ns_without_address, is_ns_without_glue, is_to_alias, is_to_missing,
-    is_to_renamed,
-};
+use crate::hosts::{host_faults, is_dname_at_delegation};
 use crate::keys::{
     is_ds_without_ns, is_not_at_apex, is_of_other_protocol, is_without_algorithm, is_without_key,
 };
@@ -22,10 +21,10 @@ use crate::pairs::{has_other_ttl, is_duplicate, is_second};
 use crate::present::has_set;
 use crate::refused::SortedSets;
 use crate::rule::{Finding, Rule};
-use crate::sorted::SortedRecords;
+use crate::subject::Subject;
+use crate::zone_records::{OwnerBuffer, ZoneRecord, ZoneRecords};
 use dns_kinds::RecordType;
 use dns_octets::AsOctets;
-use dns_resource::Record;
 use dns_wire::Name;
 use std::alloc::{AllocError, Allocator};
 
@@ -56,59 +55,60 @@ const RECORD_RULES: [Rule; 23] = [
     Rule::Duplicate,
 ];
 
-/// Returns whether the record at an index breaks a rule.
-fn breaks_rule<Owner: AsOctets, Octets: AsOctets>(
+/// Returns whether the record of a subject breaks a rule.
+fn breaks_rule<Z: ZoneRecords>(
     rule: Rule,
     origin: &Name<&[u8]>,
-    records: &SortedRecords<'_, Owner, Octets>,
+    records: &Z,
     refused: &SortedSets<'_>,
-    place: usize,
-    record: &Record<Owner, Octets>,
+    subject: &Subject<'_>,
 ) -> bool
-    ensures { result ≡ breaks rule origin.now records.now refused.now place «record».now }
+    requires { HasItsFaults origin.now (Z.contents records.now) refused.now subject.now }
+    ensures { result ≡ breaks_by rule origin.now (Z.contents records.now) refused.now subject.now }
 {
+    let before = &subject.before;
+    let record = &subject.found;
+    let faults = &subject.faults;
     match rule {
         Rule::NoSoa | Rule::NoNs => false,
         Rule::Outside => is_outside_zone(origin, record),
-        Rule::TwoSoas => is_second(RecordType::SOA, records, place, record),
-        Rule::NsAddress => is_ns_without_address(origin, records, refused, record),
+        Rule::TwoSoas => is_second(RecordType::SOA, before, record),
+        Rule::NsAddress => faults.lacks_address,
         Rule::Cname => has_company(records, record),
-        Rule::TwoDnames => is_second(RecordType::DNAME, records, place, record),
+        Rule::TwoDnames => is_second(RecordType::DNAME, before, record),
         Rule::BelowDname => is_under_dname(records, record),
         Rule::DsAtApex => is_apex_record(RecordType::DS, origin, record),
         Rule::WildcardNs => is_ns_at_wildcard(record),
         Rule::SoaNotApex => is_soa_elsewhere(origin, record),
         Rule::NsBesideDname => is_dname_at_delegation(origin, records, record),
         Rule::Nsec3Owner => is_nsec3_without_hash(record),
-        Rule::MissingGlue => is_ns_without_glue(origin, records, refused, record),
-        Rule::HostIsAlias => is_to_alias(origin, records, refused, record),
-        Rule::HostBelowDname => is_to_renamed(origin, records, refused, record),
-        Rule::HostMissing => is_to_missing(origin, records, refused, record),
+        Rule::MissingGlue => faults.lacks_glue,
+        Rule::HostIsAlias => faults.is_alias,
+        Rule::HostBelowDname => faults.is_renamed,
+        Rule::HostMissing => faults.is_missing,
         Rule::HostName => is_no_host_name(record),
         Rule::CdsWithoutKey => is_without_key(origin, records, refused, record),
         Rule::DsWithoutNs => is_ds_without_ns(origin, records, refused, record),
         Rule::NotAtApex => is_not_at_apex(origin, records, refused, record),
         Rule::KeyProtocol => is_of_other_protocol(record),
         Rule::KeyAlgorithm => is_without_algorithm(record),
-        Rule::TtlDiffers => has_other_ttl(records, place, record),
-        Rule::Duplicate => is_duplicate(records, place, record),
+        Rule::TtlDiffers => has_other_ttl(before, record),
+        Rule::Duplicate => is_duplicate(before, record),
     }
 }
 
-/// Returns whether the record at an index breaks a rule. Returns false after the last record.
-fn is_broken_at<Owner: AsOctets, Octets: AsOctets>(
+/// Returns whether the record at an index breaks a rule.
+fn is_broken<Z: ZoneRecords>(
     rule: Rule,
     origin: &Name<&[u8]>,
-    records: &SortedRecords<'_, Owner, Octets>,
+    records: &Z,
     refused: &SortedSets<'_>,
-    place: usize,
+    subject: &Subject<'_>,
 ) -> bool
-    ensures { result ≡ breaks_at origin.now records.now refused.now place rule }
+    requires { IsSubject origin.now (Z.contents records.now) refused.now subject.now }
+    ensures { result ≡ is_broken rule origin.now (Z.contents records.now) refused.now subject.now }
 {
-    match records.as_slice().get(place) {
-        Some(record) => breaks_rule(rule, origin, records, refused, place, record),
-        None => false,
-    }
+    breaks_rule(rule, origin, records, refused, subject)
 }
 
 /// Appends a finding, if the rule is broken.
@@ -131,44 +131,71 @@ fn add_if<A: Allocator>(
 
 /// Appends findings of those of some rules that the record at an index breaks.
 #[tactic(auto, using(crate::proofs::Steps::found_more))]
-fn add_each<Owner: AsOctets, Octets: AsOctets, A: Allocator>(
+fn add_each<Z: ZoneRecords, A: Allocator>(
     rules: &[Rule],
     origin: &Name<&[u8]>,
-    records: &SortedRecords<'_, Owner, Octets>,
+    records: &Z,
     refused: &SortedSets<'_>,
-    place: usize,
+    subject: &Subject<'_>,
     found: &mut Vec<Finding, A>,
 ) -> Result<(), AllocError>
-    ensures { OnOk result (found.new.items ≡ found.old.items ++ flat_map (found_of origin.now records.now refused.now place) rules.now) }
+    requires { IsSubject origin.now (Z.contents records.now) refused.now subject.now }
+    ensures { OnOk result (found.new.items ≡ found.old.items ++ flat_map (found_of origin.now (Z.contents records.now) refused.now subject.now.place) rules.now) }
 {
     for rule in rules {
-        let is_broken = is_broken_at(*rule, origin, records, refused, place);
-        add_if(is_broken, *rule, Some(place), found)?;
+        let is_broken = is_broken(*rule, origin, records, refused, subject);
+        add_if(is_broken, *rule, Some(subject.place), found)?;
     }
     Ok(())
 }
 
+/// Returns the record before an index.
+fn record_before<'b, Z: ZoneRecords>(
+    records: &'b Z,
+    place: usize,
+    owner: &'b mut OwnerBuffer,
+) -> Option<ZoneRecord<'b>>
+    requires { place < length (Z.contents records.now) }
+    ensures { result ≡ option_map as_listed (record_before (Z.contents records.now) place) }
+{
+    if place == 0 {
+        return None;
+    }
+    Some(records.record(place - 1, owner))
+}
+
 /// Appends findings of all rules that the record at an index breaks.
-fn add_broken<Owner: AsOctets, Octets: AsOctets, A: Allocator>(
+fn add_broken<Z: ZoneRecords, A: Allocator>(
     origin: &Name<&[u8]>,
-    records: &SortedRecords<'_, Owner, Octets>,
+    records: &Z,
     refused: &SortedSets<'_>,
     place: usize,
     found: &mut Vec<Finding, A>,
 ) -> Result<(), AllocError>
-    ensures { OnOk result (found.new.items ≡ found.old.items ++ found_at origin.now records.now refused.now place) }
+    requires { place < length (Z.contents records.now) }
+    ensures { OnOk result (found.new.items ≡ found.old.items ++ found_at origin.now (Z.contents records.now) refused.now place) }
 {
-    add_each(&RECORD_RULES, origin, records, refused, place, found)
+    let mut owner = OwnerBuffer::new();
+    let mut owner_before = OwnerBuffer::new();
+    let one = records.record(place, &mut owner);
+    let faults = host_faults(origin, records, refused, &one);
+    let subject = Subject {
+        place,
+        before: record_before(records, place, &mut owner_before),
+        found: one,
+        faults,
+    };
+    add_each(&RECORD_RULES, origin, records, refused, &subject, found)
 }
 
 /// Appends findings of what is missing at the zone's apex.
-fn add_lacking<Owner: AsOctets, Octets: AsOctets, A: Allocator>(
+fn add_lacking<Z: ZoneRecords, A: Allocator>(
     origin: &Name<&[u8]>,
-    records: &SortedRecords<'_, Owner, Octets>,
+    records: &Z,
     refused: &SortedSets<'_>,
     found: &mut Vec<Finding, A>,
 ) -> Result<(), AllocError>
-    ensures { OnOk result (found.new.items ≡ found.old.items ++ found_at_apex origin.now records.now refused.now) }
+    ensures { OnOk result (found.new.items ≡ found.old.items ++ found_at_apex origin.now (Z.contents records.now) refused.now) }
 {
     add_if(
         !has_set(records, refused, origin, RecordType::SOA),
@@ -191,18 +218,18 @@ fn add_lacking<Owner: AsOctets, Octets: AsOctets, A: Allocator>(
 ///
 /// Fails if memory for the findings is out.
 #[tactic(auto, using(crate::proofs::Steps::zone_more))]
-pub fn check_zone<Owner: AsOctets, Octets: AsOctets, Origin: AsOctets, A: Allocator>(
+pub fn check_zone<Z: ZoneRecords, Origin: AsOctets, A: Allocator>(
     alloc: A,
     origin: &Name<Origin>,
-    records: &SortedRecords<'_, Owner, Octets>,
+    records: &Z,
     refused: &SortedSets<'_>,
 ) -> Result<Vec<Finding, A>, AllocError>
-    ensures { IfOk result (λ all. all.items ≡ found_in_zone origin.now records.now refused.now) }
+    ensures { IfOk result (HasZoneFindings origin.now (Z.contents records.now) refused.now) }
 {
     let apex = view(origin);
     let mut found = Vec::new(alloc);
     add_lacking(&apex, records, refused, &mut found)?;
-    for place in 0..records.as_slice().len() {
+    for place in 0..records.len() {
         add_broken(&apex, records, refused, place, &mut found)?;
     }
     Ok(found)

@@ -10,11 +10,12 @@ ghost use Rattle.zone_rules.specs.Above.{first_label_of, is_below, parent_of};
 ghost use Rattle.zone_rules.specs.HostNames.{asks_for_host, has_hyphen_at, is_address_type, is_bad_host_name, is_bad_mailbox, is_bad_owner, is_bad_target, is_catalog_name, is_graphic, is_host_label, is_host_name, is_host_octet, is_host_owner, is_mailbox_name, is_reverse_name, name_in, target_field, IsNameField};
 ghost use Rattle.zone_rules.specs.Zones.{type_of};
 
-use crate::names::{first_label, is_name_below, name_of, parent, view};
+use crate::names::{first_label, is_name_below, name_of, parent};
+use crate::zone_records::ZoneRecord;
 use dns_kinds::RecordType;
 use dns_octets::AsOctets;
 use dns_octets::lowered::same_octets;
-use dns_resource::{Data, Record};
+use dns_resource::Data;
 use dns_wire::Name;
 
 /// The top of the tree of IPv4 addresses (RFC 1035 section 3.5).
@@ -167,16 +168,16 @@ fn is_of_address(rtype: RecordType) -> bool
 }
 
 /// Returns whether the owner of a record must be a host name, and isn't.
-fn has_bad_owner<Owner: AsOctets, Octets: AsOctets>(record: &Record<Owner, Octets>) -> bool
+fn has_bad_owner(record: &ZoneRecord<'_>) -> bool
     ensures { result ≡ is_bad_owner «record».now }
 {
     let rtype = record.data.rtype();
     if !(is_of_address(rtype) || rtype == RecordType::MX) {
         return false;
     }
-    let owner = view(&record.owner);
-    !is_owner_of_host(&owner)
-        && !((rtype == RecordType::A || rtype == RecordType::AAAA) && is_catalog(&owner))
+    let owner = &record.owner;
+    !is_owner_of_host(owner)
+        && !((rtype == RecordType::A || rtype == RecordType::AAAA) && is_catalog(owner))
 }
 
 /// Returns the octets of a field of data that is a name.
@@ -207,9 +208,7 @@ fn host_place(rtype: RecordType) -> Option<usize>
 }
 
 /// Returns the name of a host in the data of a record, if its type names one.
-fn named_host<Owner: AsOctets, Octets: AsOctets>(
-    record: &Record<Owner, Octets>,
-) -> Option<Name<&[u8]>>
+fn named_host<'r>(record: &'r ZoneRecord<'_>) -> Option<Name<&'r [u8]>>
     ensures { result ≡ name_in «record».now (target_field (type_of «record».now)) }
 {
     let Some(field) = host_place(record.data.rtype()) else {
@@ -222,10 +221,10 @@ fn named_host<Owner: AsOctets, Octets: AsOctets>(
 }
 
 /// Returns whether a name in the data of a record must be a host name, and isn't.
-fn has_bad_target<Owner: AsOctets, Octets: AsOctets>(record: &Record<Owner, Octets>) -> bool
+fn has_bad_target(record: &ZoneRecord<'_>) -> bool
     ensures { result ≡ is_bad_target «record».now }
 {
-    if record.data.rtype() == RecordType::PTR && !is_reverse(&view(&record.owner)) {
+    if record.data.rtype() == RecordType::PTR && !is_reverse(&record.owner) {
         return false;
     }
     match named_host(record) {
@@ -235,7 +234,7 @@ fn has_bad_target<Owner: AsOctets, Octets: AsOctets>(record: &Record<Owner, Octe
 }
 
 /// Returns the name of the mailbox in the data of an SOA.
-fn mailbox<Owner: AsOctets, Octets: AsOctets>(record: &Record<Owner, Octets>) -> Option<Name<&[u8]>>
+fn mailbox<'r>(record: &'r ZoneRecord<'_>) -> Option<Name<&'r [u8]>>
     requires { type_of «record».now ≡ Rtype.soa }
     ensures { result ≡ name_in «record».now (Some 1) }
 {
@@ -246,7 +245,7 @@ fn mailbox<Owner: AsOctets, Octets: AsOctets>(record: &Record<Owner, Octets>) ->
 }
 
 /// Returns whether the mailbox of an SOA is not a mailbox name.
-fn has_bad_mailbox<Owner: AsOctets, Octets: AsOctets>(record: &Record<Owner, Octets>) -> bool
+fn has_bad_mailbox(record: &ZoneRecord<'_>) -> bool
     ensures { result ≡ is_bad_mailbox «record».now }
 {
     if record.data.rtype() != RecordType::SOA {
@@ -259,9 +258,7 @@ fn has_bad_mailbox<Owner: AsOctets, Octets: AsOctets>(record: &Record<Owner, Oct
 }
 
 /// Returns whether a name in a record must be a host name, and isn't.
-pub(crate) fn is_no_host_name<Owner: AsOctets, Octets: AsOctets>(
-    record: &Record<Owner, Octets>,
-) -> bool
+pub fn is_no_host_name(record: &ZoneRecord<'_>) -> bool
     ensures { result ≡ is_bad_host_name «record».now }
 {
     has_bad_owner(record) || has_bad_target(record) || has_bad_mailbox(record)

@@ -1,22 +1,22 @@
 //! Checks the hosts in records: that they have addresses, and are not aliases.
-ghost use Rattle.std.specs.Prelude.{◌≡◌, IfSome};
-ghost use Rattle.std.specs.List.{list_any};
+ghost use Rattle.std.specs.Prelude.{◌≡◌, ◌&&◌, ◌||◌, IfSome, Some, not};
 ghost use Rattle.std.specs.Option.{option_copied};
+ghost use Rattle.dns_kinds.specs.Rtype as Rtype;
 ghost use Rattle.dns_spelling.specs.NameSpelling.{IsWireName};
-ghost use Rattle.zone_rules.specs.Above.{names_above};
-ghost use Rattle.zone_rules.specs.Present.{is_own, is_renamed};
-ghost use Rattle.zone_rules.specs.Rules.{dname_above_host, is_alias, is_below_own_dname, is_dname_at_cut, is_missing, is_without_glue, is_zone_cut, lacks_address, lacks_glue, lacks_ns_address, names_alias, names_missing, names_renamed};
+ghost use Rattle.zone_rules.specs.Present.{has_address_in, is_listed, is_own, is_present, is_renamed};
+ghost use Rattle.zone_rules.specs.Rules.{dname_above_host, is_alias, is_below_own_dname, is_below_zone_cut, is_dname_at_cut, is_missing, is_zone_cut, lacks_address};
+ghost use Rattle.zone_rules.specs.Subjects.{has_a_in, has_aaaa_in, has_cname_in, is_apex_server, is_server_above, wants_host, AreHostFaults};
 ghost use Rattle.zone_rules.specs.Zones.{but_root, host_field, host_octets, host_of};
 
 use crate::host_names::name_part;
-use crate::names::{is_name_below, is_name_within, name_of, parent, view};
+use crate::names::{is_name_below, is_name_within, name_of, parent};
 use crate::owners::{has_dname_above, is_apex_record};
 use crate::present::{
-    dname_above, gets_address, gets_by_wildcard, has_address_set, has_set, is_delegated_name,
-    is_under_refused_dname,
+    dname_above, gets_address, gets_by_wildcard, is_delegated_name, is_under_refused_dname,
 };
-use crate::refused::SortedSets;
-use crate::sorted::{SortedRecords, has_type};
+use crate::refused::{SortedSets, lists_set};
+use crate::subject::HostFaults;
+use crate::zone_records::{HostTypes, ZoneRecord, ZoneRecords};
 use dns_kinds::{Class, RecordType};
 use dns_octets::AsOctets;
 use dns_resource::{Data, Record};
@@ -67,35 +67,27 @@ fn host<Owner: AsOctets, Octets: AsOctets>(record: &Record<Owner, Octets>) -> Op
 }
 
 /// Returns whether a name is a delegation.
-pub fn is_cut<Owner: AsOctets, Octets: AsOctets>(
-    origin: &Name<&[u8]>,
-    records: &SortedRecords<'_, Owner, Octets>,
-    name: &Name<&[u8]>,
-) -> bool
-    ensures { result ≡ is_zone_cut origin.now records.now name.now }
+pub fn is_cut<Z: ZoneRecords>(origin: &Name<&[u8]>, records: &Z, name: &Name<&[u8]>) -> bool
+    ensures { result ≡ is_zone_cut origin.now (Z.contents records.now) name.now }
 {
-    is_name_below(name, origin) && has_type(records, name, RecordType::NS)
+    is_name_below(name, origin) && records.has_type(name, RecordType::NS)
 }
 
 /// Returns whether a record is a DNAME at a delegation.
-pub(crate) fn is_dname_at_delegation<Owner: AsOctets, Octets: AsOctets>(
+pub(crate) fn is_dname_at_delegation<Z: ZoneRecords>(
     origin: &Name<&[u8]>,
-    records: &SortedRecords<'_, Owner, Octets>,
-    record: &Record<Owner, Octets>,
+    records: &Z,
+    record: &ZoneRecord<'_>,
 ) -> bool
-    ensures { result ≡ is_dname_at_cut origin.now records.now «record».now }
+    ensures { result ≡ is_dname_at_cut origin.now (Z.contents records.now) «record».now }
 {
-    record.data.rtype() == RecordType::DNAME && is_cut(origin, records, &view(&record.owner))
+    record.data.rtype() == RecordType::DNAME && is_cut(origin, records, &record.owner)
 }
 
 /// Returns whether an ancestor of a name is a delegation.
 #[tactic(auto, using(crate::proofs::Neighbours::zone_cuts_none, crate::proofs::Neighbours::found_fewer))]
-pub fn is_under_cut<Owner: AsOctets, Octets: AsOctets>(
-    origin: &Name<&[u8]>,
-    records: &SortedRecords<'_, Owner, Octets>,
-    name: &Name<&[u8]>,
-) -> bool
-    ensures { result ≡ list_any (is_zone_cut origin.now records.now) (names_above name.now) }
+pub fn is_under_cut<Z: ZoneRecords>(origin: &Name<&[u8]>, records: &Z, name: &Name<&[u8]>) -> bool
+    ensures { result ≡ is_below_zone_cut origin.now (Z.contents records.now) name.now }
 {
     match records.closest_before(name) {
         Some(above) => is_cut(origin, records, &above) || is_under_cut(origin, records, &above),
@@ -104,192 +96,208 @@ pub fn is_under_cut<Owner: AsOctets, Octets: AsOctets>(
 }
 
 /// Returns whether the zone is authoritative for a name.
-fn is_of_zone<Owner: AsOctets, Octets: AsOctets>(
+fn is_of_zone<Z: ZoneRecords>(
     origin: &Name<&[u8]>,
-    records: &SortedRecords<'_, Owner, Octets>,
+    records: &Z,
     refused: &SortedSets<'_>,
     name: &Name<&[u8]>,
 ) -> bool
-    ensures { result ≡ is_own origin.now records.now refused.now name.now }
+    ensures { result ≡ is_own origin.now (Z.contents records.now) refused.now name.now }
 {
     is_name_within(name, origin) && !is_delegated_name(origin, records, refused, name)
 }
 
 /// Returns whether an ancestor of a name has a DNAME.
-fn is_name_renamed<Owner: AsOctets, Octets: AsOctets>(
-    records: &SortedRecords<'_, Owner, Octets>,
+fn is_name_renamed<Z: ZoneRecords>(
+    records: &Z,
     refused: &SortedSets<'_>,
     name: &Name<&[u8]>,
 ) -> bool
-    ensures { result ≡ is_renamed name.now records.now refused.now }
+    ensures { result ≡ is_renamed name.now (Z.contents records.now) refused.now }
 {
     has_dname_above(records, name) || is_under_refused_dname(refused, name)
 }
 
 /// Returns whether a name has a CNAME, of its own or from a wildcard.
-fn is_alias_name<Owner: AsOctets, Octets: AsOctets>(
+fn is_alias_name<Z: ZoneRecords>(
     origin: &Name<&[u8]>,
-    records: &SortedRecords<'_, Owner, Octets>,
+    records: &Z,
     refused: &SortedSets<'_>,
     name: &Name<&[u8]>,
+    has_alias: bool,
 ) -> bool
-    ensures { result ≡ is_alias origin.now records.now refused.now name.now }
+    requires { has_alias ≡ is_present Rtype.cname name.now (Z.contents records.now) refused.now }
+    ensures { result ≡ is_alias origin.now (Z.contents records.now) refused.now name.now }
 {
-    has_set(records, refused, name, RecordType::CNAME)
+    has_alias
         || (gets_by_wildcard(records, refused, name, RecordType::CNAME)
             && is_of_zone(origin, records, refused, name))
 }
 
 /// Returns whether the zone is authoritative for a name, and an ancestor of it has a DNAME.
-fn is_name_below_dname<Owner: AsOctets, Octets: AsOctets>(
+fn is_name_below_dname<Z: ZoneRecords>(
     origin: &Name<&[u8]>,
-    records: &SortedRecords<'_, Owner, Octets>,
+    records: &Z,
     refused: &SortedSets<'_>,
     name: &Name<&[u8]>,
 ) -> bool
-    ensures { result ≡ is_below_own_dname origin.now records.now refused.now name.now }
+    ensures { result ≡ is_below_own_dname origin.now (Z.contents records.now) refused.now name.now }
 {
     is_name_renamed(records, refused, name) && is_of_zone(origin, records, refused, name)
 }
 
 /// Returns whether the zone is authoritative for a name, and has no address for it.
-fn is_without_address<Owner: AsOctets, Octets: AsOctets>(
+fn is_without_address<Z: ZoneRecords>(
     origin: &Name<&[u8]>,
-    records: &SortedRecords<'_, Owner, Octets>,
+    records: &Z,
     refused: &SortedSets<'_>,
     name: &Name<&[u8]>,
+    served: bool,
 ) -> bool
-    ensures { result ≡ lacks_address origin.now records.now refused.now name.now }
+    requires { served ≡ has_address_in name.now (Z.contents records.now) refused.now }
+    ensures { result ≡ lacks_address origin.now (Z.contents records.now) refused.now name.now }
 {
-    (is_name_renamed(records, refused, name) || !gets_address(records, refused, name))
+    (is_name_renamed(records, refused, name) || !gets_address(records, refused, name, served))
         && is_of_zone(origin, records, refused, name)
 }
 
-/// Returns whether the host of an NS at the apex has no address.
-pub(crate) fn is_ns_without_address<Owner: AsOctets, Octets: AsOctets>(
+/// Returns whether the zone has no address for a name, which is neither an alias nor below a DNAME.
+fn is_name_missing<Z: ZoneRecords>(
     origin: &Name<&[u8]>,
-    records: &SortedRecords<'_, Owner, Octets>,
-    refused: &SortedSets<'_>,
-    record: &Record<Owner, Octets>,
-) -> bool
-    ensures { result ≡ lacks_ns_address origin.now records.now refused.now «record».now }
-{
-    if !is_apex_record(RecordType::NS, origin, record) || record.class != Class::IN {
-        return false;
-    }
-    match host(record) {
-        Some(name) => is_without_address(origin, records, refused, &name),
-        None => false,
-    }
-}
-
-/// Returns whether a name is at or below a delegation, and has no A or AAAA.
-fn is_name_without_glue<Owner: AsOctets, Octets: AsOctets>(
-    delegation: &Name<&[u8]>,
-    records: &SortedRecords<'_, Owner, Octets>,
+    records: &Z,
     refused: &SortedSets<'_>,
     name: &Name<&[u8]>,
+    lacks: bool,
+    has_alias: bool,
 ) -> bool
-    ensures { result ≡ is_without_glue delegation.now records.now refused.now name.now }
+    requires none { lacks ≡ lacks_address origin.now (Z.contents records.now) refused.now name.now }
+    requires alias { has_alias ≡ is_alias origin.now (Z.contents records.now) refused.now name.now }
+    ensures { result ≡ is_missing origin.now (Z.contents records.now) refused.now name.now }
 {
-    is_name_within(name, delegation) && !has_address_set(records, refused, name)
+    lacks && !is_name_renamed(records, refused, name) && !has_alias
 }
 
-/// Returns whether the host of an NS below the apex is at or below its owner, and has no address.
-pub(crate) fn is_ns_without_glue<Owner: AsOctets, Octets: AsOctets>(
-    origin: &Name<&[u8]>,
-    records: &SortedRecords<'_, Owner, Octets>,
-    refused: &SortedSets<'_>,
-    record: &Record<Owner, Octets>,
-) -> bool
-    ensures { result ≡ lacks_glue origin.now records.now refused.now «record».now }
+/// Returns whether a record is an NS at the apex, of class IN, and its host has no address.
+fn is_apex_fault(origin: &Name<&[u8]>, record: &ZoneRecord<'_>, lacks: bool) -> bool
+    ensures { result ≡ (is_apex_server origin.now «record».now && lacks) }
 {
-    let owner = view(&record.owner);
-    if record.data.rtype() != RecordType::NS
-        || !is_name_below(&owner, origin)
-        || record.class != Class::IN
-    {
+    is_apex_record(RecordType::NS, origin, record) && record.class == Class::IN && lacks
+}
+
+/// Returns whether a record is an NS below the apex, of class IN, and its host is at or below its
+/// owner and has no address.
+fn is_glue_fault(
+    origin: &Name<&[u8]>,
+    record: &ZoneRecord<'_>,
+    name: &Name<&[u8]>,
+    served: bool,
+) -> bool
+    ensures { result ≡ (is_server_above origin.now «record».now name.now && not served) }
+{
+    if record.data.rtype() != RecordType::NS || record.class != Class::IN {
         return false;
     }
-    match host(record) {
-        Some(name) => is_name_without_glue(&owner, records, refused, &name),
-        None => false,
+    let owner = &record.owner;
+    is_name_below(owner, origin) && is_name_within(name, owner) && !served
+}
+
+/// Returns whether a record is of class IN, but not an NS at the apex, and its host is missing.
+fn is_missing_fault(origin: &Name<&[u8]>, record: &ZoneRecord<'_>, lacks: bool) -> bool
+    ensures { result ≡ (wants_host origin.now «record».now && lacks) }
+{
+    !is_apex_record(RecordType::NS, origin, record) && record.class == Class::IN && lacks
+}
+
+/// Returns whether an RRset is in the zone: if it isn't among the records, whether it has a rejected
+/// entry.
+fn is_there(is_among: bool, refused: &SortedSets<'_>, name: &Name<&[u8]>, rtype: RecordType) -> bool
+    ensures { result ≡ (is_among || is_listed rtype name.now refused.now) }
+{
+    is_among || lists_set(refused, name, rtype)
+}
+
+/// Returns which types a name has in the zone, of those that matter for a host.
+fn types_of_host<Z: ZoneRecords>(
+    records: &Z,
+    refused: &SortedSets<'_>,
+    name: &Name<&[u8]>,
+) -> HostTypes
+    ensures a { result.has_a ≡ has_a_in name.now (Z.contents records.now) refused.now }
+    ensures aaaa { result.has_aaaa ≡ has_aaaa_in name.now (Z.contents records.now) refused.now }
+    ensures cname { result.has_cname ≡ has_cname_in name.now (Z.contents records.now) refused.now }
+{
+    let types = records.host_types(name);
+    HostTypes {
+        has_a: is_there(types.has_a, refused, name, RecordType::A),
+        has_aaaa: is_there(types.has_aaaa, refused, name, RecordType::AAAA),
+        has_cname: is_there(types.has_cname, refused, name, RecordType::CNAME),
     }
 }
 
-/// Returns whether the host in a record's data is an alias.
-pub(crate) fn is_to_alias<Owner: AsOctets, Octets: AsOctets>(
-    origin: &Name<&[u8]>,
-    records: &SortedRecords<'_, Owner, Octets>,
-    refused: &SortedSets<'_>,
-    record: &Record<Owner, Octets>,
-) -> bool
-    ensures { result ≡ names_alias origin.now records.now refused.now «record».now }
+/// Returns whether A or AAAA is among types.
+fn has_address(types: &HostTypes) -> bool
+    ensures { result ≡ (types.now.has_a || types.now.has_aaaa) }
 {
-    match host(record) {
-        Some(name) => is_alias_name(origin, records, refused, &name),
-        None => false,
+    types.has_a || types.has_aaaa
+}
+
+/// Returns which rules a host in a record's data breaks.
+fn faults_of<Z: ZoneRecords>(
+    origin: &Name<&[u8]>,
+    records: &Z,
+    refused: &SortedSets<'_>,
+    record: &ZoneRecord<'_>,
+    name: &Name<&[u8]>,
+) -> HostFaults
+    requires { host_of «record».now ≡ Some name.now }
+    ensures { AreHostFaults origin.now (Z.contents records.now) refused.now «record».now result }
+{
+    let types = types_of_host(records, refused, name);
+    let served = has_address(&types);
+    let unserved = is_without_address(origin, records, refused, name, served);
+    let alias = is_alias_name(origin, records, refused, name, types.has_cname);
+    let missing = is_name_missing(origin, records, refused, name, unserved, alias);
+    HostFaults {
+        lacks_address: is_apex_fault(origin, record, unserved),
+        lacks_glue: is_glue_fault(origin, record, name, served),
+        is_alias: alias,
+        is_renamed: is_name_below_dname(origin, records, refused, name),
+        is_missing: is_missing_fault(origin, record, missing),
     }
 }
 
-/// Returns whether the host in a record's data is below a DNAME.
-pub(crate) fn is_to_renamed<Owner: AsOctets, Octets: AsOctets>(
+/// Returns which rules the host in a record's data breaks: none without a host. The host is looked
+/// up once.
+pub(crate) fn host_faults<Z: ZoneRecords>(
     origin: &Name<&[u8]>,
-    records: &SortedRecords<'_, Owner, Octets>,
+    records: &Z,
     refused: &SortedSets<'_>,
-    record: &Record<Owner, Octets>,
-) -> bool
-    ensures { result ≡ names_renamed origin.now records.now refused.now «record».now }
+    record: &ZoneRecord<'_>,
+) -> HostFaults
+    ensures { AreHostFaults origin.now (Z.contents records.now) refused.now «record».now result }
 {
     match host(record) {
-        Some(name) => is_name_below_dname(origin, records, refused, &name),
-        None => false,
+        Some(name) => faults_of(origin, records, refused, record, &name),
+        None => HostFaults {
+            lacks_address: false,
+            lacks_glue: false,
+            is_alias: false,
+            is_renamed: false,
+            is_missing: false,
+        },
     }
 }
 
 /// Returns the name of the closest DNAME above the host in a record's data.
-pub fn dname_over_host<'r, Owner: AsOctets, Octets: AsOctets>(
-    records: &SortedRecords<'_, Owner, Octets>,
+pub fn dname_over_host<'r, Z: ZoneRecords, Owner: AsOctets, Octets: AsOctets>(
+    records: &Z,
     refused: &SortedSets<'_>,
     record: &'r Record<Owner, Octets>,
 ) -> Option<Name<&'r [u8]>>
-    ensures { result ≡ dname_above_host records.now refused.now «record».now }
+    ensures { result ≡ dname_above_host (Z.contents records.now) refused.now «record».now }
 {
     match host(record) {
         Some(name) => dname_above(records, refused, &name),
         None => None,
-    }
-}
-
-/// Returns whether the zone has no address for a name, which is neither an alias nor below a DNAME.
-fn is_name_missing<Owner: AsOctets, Octets: AsOctets>(
-    origin: &Name<&[u8]>,
-    records: &SortedRecords<'_, Owner, Octets>,
-    refused: &SortedSets<'_>,
-    name: &Name<&[u8]>,
-) -> bool
-    ensures { result ≡ is_missing origin.now records.now refused.now name.now }
-{
-    is_without_address(origin, records, refused, name)
-        && !is_name_renamed(records, refused, name)
-        && !is_alias_name(origin, records, refused, name)
-}
-
-/// Returns whether the host in a record's data is missing. For an NS at the apex that is an error
-/// of its own.
-pub(crate) fn is_to_missing<Owner: AsOctets, Octets: AsOctets>(
-    origin: &Name<&[u8]>,
-    records: &SortedRecords<'_, Owner, Octets>,
-    refused: &SortedSets<'_>,
-    record: &Record<Owner, Octets>,
-) -> bool
-    ensures { result ≡ names_missing origin.now records.now refused.now «record».now }
-{
-    if is_apex_record(RecordType::NS, origin, record) || record.class != Class::IN {
-        return false;
-    }
-    match host(record) {
-        Some(name) => is_name_missing(origin, records, refused, &name),
-        None => false,
     }
 }

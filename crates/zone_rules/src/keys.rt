@@ -3,10 +3,10 @@ ghost use Rattle.std.specs.Prelude.{◌≡◌, ◌==◌, slice_get};
 ghost use Rattle.dns_resource.specs.Records.{data_of};
 ghost use Rattle.zone_rules.specs.Rules.{has_no_algorithm, has_octet_at, has_other_protocol, is_apex_type, is_below_its_apex, is_delete_request, lacks_key, lacks_ns};
 
-use crate::names::{is_name_below, view};
+use crate::names::is_name_below;
 use crate::present::has_set;
 use crate::refused::SortedSets;
-use crate::sorted::SortedRecords;
+use crate::zone_records::{ZoneRecord, ZoneRecords};
 use dns_kinds::RecordType;
 use dns_octets::AsOctets;
 use dns_resource::Record;
@@ -26,13 +26,13 @@ fn is_deletion<Owner: AsOctets, Octets: AsOctets>(record: &Record<Owner, Octets>
 
 /// Returns whether a record is a CDS or CDNSKEY other than a delete request, and the zone has no
 /// DNSKEY.
-pub(crate) fn is_without_key<Owner: AsOctets, Octets: AsOctets>(
+pub(crate) fn is_without_key<Z: ZoneRecords>(
     origin: &Name<&[u8]>,
-    records: &SortedRecords<'_, Owner, Octets>,
+    records: &Z,
     refused: &SortedSets<'_>,
-    record: &Record<Owner, Octets>,
+    record: &ZoneRecord<'_>,
 ) -> bool
-    ensures { result ≡ lacks_key origin.now records.now refused.now «record».now }
+    ensures { result ≡ lacks_key origin.now (Z.contents records.now) refused.now «record».now }
 {
     matches!(record.data.rtype(), RecordType::CDS | RecordType::CDNSKEY)
         && !is_deletion(record)
@@ -40,19 +40,19 @@ pub(crate) fn is_without_key<Owner: AsOctets, Octets: AsOctets>(
 }
 
 /// Returns whether a record is a DS below the apex, and its owner has no NS.
-pub(crate) fn is_ds_without_ns<Owner: AsOctets, Octets: AsOctets>(
+pub(crate) fn is_ds_without_ns<Z: ZoneRecords>(
     origin: &Name<&[u8]>,
-    records: &SortedRecords<'_, Owner, Octets>,
+    records: &Z,
     refused: &SortedSets<'_>,
-    record: &Record<Owner, Octets>,
+    record: &ZoneRecord<'_>,
 ) -> bool
-    ensures { result ≡ lacks_ns origin.now records.now refused.now «record».now }
+    ensures { result ≡ lacks_ns origin.now (Z.contents records.now) refused.now «record».now }
 {
     if record.data.rtype() != RecordType::DS {
         return false;
     }
-    let owner = view(&record.owner);
-    is_name_below(&owner, origin) && !has_set(records, refused, &owner, RecordType::NS)
+    let owner = &record.owner;
+    is_name_below(owner, origin) && !has_set(records, refused, owner, RecordType::NS)
 }
 
 /// Returns whether records of a type belong at an apex.
@@ -70,19 +70,19 @@ fn is_for_apex(rtype: RecordType) -> bool
 }
 
 /// Returns whether a record belongs at an apex, and is below it.
-pub(crate) fn is_not_at_apex<Owner: AsOctets, Octets: AsOctets>(
+pub(crate) fn is_not_at_apex<Z: ZoneRecords>(
     origin: &Name<&[u8]>,
-    records: &SortedRecords<'_, Owner, Octets>,
+    records: &Z,
     refused: &SortedSets<'_>,
-    record: &Record<Owner, Octets>,
+    one: &ZoneRecord<'_>,
 ) -> bool
-    ensures { result ≡ is_below_its_apex origin.now records.now refused.now «record».now }
+    ensures { result ≡ is_below_its_apex origin.now (Z.contents records.now) refused.now one.now }
 {
-    let rtype = record.data.rtype();
-    let owner = view(&record.owner);
+    let rtype = one.data.rtype();
+    let owner = &one.owner;
     (is_for_apex(rtype)
-        || (rtype == RecordType::DNSKEY && !has_set(records, refused, &owner, RecordType::NS)))
-        && is_name_below(&owner, origin)
+        || (rtype == RecordType::DNSKEY && !has_set(records, refused, owner, RecordType::NS)))
+        && is_name_below(owner, origin)
 }
 
 /// Returns the octet at an offset of a record's data.

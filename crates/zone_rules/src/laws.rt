@@ -2,16 +2,16 @@
 ghost use Rattle.zone_rules.specs.Findings.{BrokenRulesAreTold};
 
 use crate::refused::SortedSets;
-use crate::sorted::SortedRecords;
+use crate::zone_records::ZoneRecords;
 use dns_octets::AsOctets;
 use dns_wire::Name;
 
 /// States that a finding names a record and a rule if and only if the record breaks the rule. It
 /// does nothing else.
-pub fn broken_rules_are_told<Owner: AsOctets, Octets: AsOctets, Origin: AsOctets>(
+pub fn broken_rules_are_told<Z: ZoneRecords, Origin: AsOctets>(
     origin: &Name<Origin>,
-    records: &SortedRecords<'_, Owner, Octets>,
+    records: &Z,
     refused: &SortedSets<'_>,
 )
-    ensures { BrokenRulesAreTold origin.now records.now refused.now }
+    ensures { BrokenRulesAreTold origin.now (Z.contents records.now) refused.now }
 {}

@@ -3,7 +3,7 @@
 
 pub mod check;
 mod hash_owners;
-mod host_names;
+pub mod host_names;
 pub mod hosts;
 mod keys;
 pub mod laws;
@@ -13,10 +13,13 @@ pub mod pairs;
 mod present;
 pub mod refused;
 pub mod rule;
-mod search;
+pub mod search;
 pub mod sorted;
+pub mod subject;
+pub mod zone_records;
 
 pub use check::check_zone;
 pub use refused::{RrsetName, SortedSets};
 pub use rule::{Finding, Rule};
 pub use sorted::SortedRecords;
+pub use zone_records::ZoneRecords;

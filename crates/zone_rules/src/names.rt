@@ -26,7 +26,7 @@ pub fn octets_of<Octets: AsOctets>(name: &Name<Octets>) -> &[u8]
 }
 
 /// Returns the name that has these octets.
-pub(crate) fn name_of(octets: &[u8]) -> Name<&[u8]>
+pub fn name_of(octets: &[u8]) -> Name<&[u8]>
     requires { IsWireName octets.now }
     ensures { octets.now ≡ wire result }
 {
@@ -130,7 +130,7 @@ fn shared_length(name: &Name<&[u8]>, other: &Name<&[u8]>) -> usize
 }
 
 /// Returns the longest name that two names are at or below, as the end of the first.
-pub(crate) fn shared_name<'a>(name: &Name<&'a [u8]>, other: &Name<&[u8]>) -> Name<&'a [u8]>
+pub fn shared_name<'a>(name: &Name<&'a [u8]>, other: &Name<&[u8]>) -> Name<&'a [u8]>
     ensures { closest_from (is_within other.now) name.now ≡ Some result }
 {
     let _known = octets_of(name);

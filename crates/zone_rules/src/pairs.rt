@@ -2,7 +2,7 @@
 ghost use Rattle.std.specs.Prelude.{◌≡◌};
 ghost use Rattle.std.specs.Option.{option_copied};
 ghost use Rattle.dns_wire.specs.Order.{same_name};
-ghost use Rattle.zone_rules.specs.Rules.{are_two_of, have_other_ttls, follows};
+ghost use Rattle.zone_rules.specs.Rules.{are_two_of, have_other_ttls, passes_after};
 ghost use Rattle.zone_rules.specs.Zones.{covered_type, is_equal_record, is_one_set, record_before, set_type};
 
 use crate::names::{is_same, view};
@@ -79,13 +79,12 @@ pub fn are_one_set<Owner: AsOctets, Octets: AsOctets>(
 /// Returns whether a record and the one before it have a type and the same owner, and differ.
 pub(crate) fn is_second<Owner: AsOctets, Octets: AsOctets>(
     rtype: RecordType,
-    records: &SortedRecords<'_, Owner, Octets>,
-    place: usize,
+    before: &Option<Record<Owner, Octets>>,
     record: &Record<Owner, Octets>,
 ) -> bool
-    ensures { result ≡ follows (are_two_of rtype) records.now place «record».now }
+    ensures { result ≡ passes_after (are_two_of rtype) before.now «record».now }
 {
-    match before(records, place) {
+    match before {
         Some(earlier) => {
             earlier.data.rtype() == rtype
                 && record.data.rtype() == rtype
@@ -98,13 +97,12 @@ pub(crate) fn is_second<Owner: AsOctets, Octets: AsOctets>(
 
 /// Returns whether a record and the one before it are of one RRset, and their TTLs differ.
 pub(crate) fn has_other_ttl<Owner: AsOctets, Octets: AsOctets>(
-    records: &SortedRecords<'_, Owner, Octets>,
-    place: usize,
+    before: &Option<Record<Owner, Octets>>,
     record: &Record<Owner, Octets>,
 ) -> bool
-    ensures { result ≡ follows have_other_ttls records.now place «record».now }
+    ensures { result ≡ passes_after have_other_ttls before.now «record».now }
 {
-    match before(records, place) {
+    match before {
         Some(earlier) => are_one_set(earlier, record) && earlier.ttl != record.ttl,
         None => false,
     }
@@ -112,13 +110,12 @@ pub(crate) fn has_other_ttl<Owner: AsOctets, Octets: AsOctets>(
 
 /// Returns whether a record and the one before it are equal.
 pub(crate) fn is_duplicate<Owner: AsOctets, Octets: AsOctets>(
-    records: &SortedRecords<'_, Owner, Octets>,
-    place: usize,
+    before: &Option<Record<Owner, Octets>>,
     record: &Record<Owner, Octets>,
 ) -> bool
-    ensures { result ≡ follows is_equal_record records.now place «record».now }
+    ensures { result ≡ passes_after is_equal_record before.now «record».now }
 {
-    match before(records, place) {
+    match before {
         Some(earlier) => are_equal(earlier, record),
         None => false,
     }

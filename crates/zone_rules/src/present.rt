@@ -1,53 +1,38 @@
 //! The contents of a zone: records, and RRsets with a rejected entry.
-ghost use Rattle.std.specs.Prelude.{◌≡◌, ◌≤◌, ◌∷◌, [], IsTrue, List, false, length, ℕ};
+ghost use Rattle.std.specs.Prelude.{◌≡◌, ◌≤◌, ◌∷◌, IsTrue, length};
 ghost use Rattle.dns_kinds.specs.Rtype as Rtype;
-ghost use Rattle.dns_kinds.specs.declared.types.RecordType.{RecordType};
 ghost use Rattle.dns_wire.specs.Wire.{wire_length};
-ghost use Rattle.zone_rules.specs.Above.{closest_from};
-ghost use Rattle.zone_rules.specs.Present.{closest_dname, gives_address, has_address_in, is_below_cut_in, is_cut_in, is_delegated_in, is_existing, is_present, is_synthesized, lists_dname_above};
+ghost use Rattle.zone_rules.specs.Present.{closest_dname, gives_address, has_address_in, closest_present, is_below_cut_in, is_cut_in, is_delegated_in, is_present, is_synthesized, lists_dname_above, wildcard_has, NothingIsSynthesized};
 ghost use Rattle.zone_rules.specs.Searches.{closest_above_some};
 
 use crate::names::{is_name_below, name_of, octets_of};
 use crate::refused::{SortedSets, lists_set};
 use crate::search::longer;
-use crate::sorted::{SortedRecords, has_type};
+use crate::zone_records::ZoneRecords;
 use arrayvec::ArrayVec;
 use dns_kinds::RecordType;
-use dns_octets::AsOctets;
 use dns_wire::Name;
 
 /// Returns whether the zone has an RRset of a type at a name.
-pub(crate) fn has_set<Owner: AsOctets, Octets: AsOctets>(
-    records: &SortedRecords<'_, Owner, Octets>,
+pub(crate) fn has_set<Z: ZoneRecords>(
+    records: &Z,
     refused: &SortedSets<'_>,
     name: &Name<&[u8]>,
     rtype: RecordType,
 ) -> bool
-    ensures { result ≡ is_present rtype name.now records.now refused.now }
+    ensures { result ≡ is_present rtype name.now (Z.contents records.now) refused.now }
 {
-    has_type(records, name, rtype) || lists_set(refused, name, rtype)
-}
-
-/// Returns whether a name has A or AAAA.
-pub(crate) fn has_address_set<Owner: AsOctets, Octets: AsOctets>(
-    records: &SortedRecords<'_, Owner, Octets>,
-    refused: &SortedSets<'_>,
-    name: &Name<&[u8]>,
-) -> bool
-    ensures { result ≡ has_address_in name.now records.now refused.now }
-{
-    has_set(records, refused, name, RecordType::A)
-        || has_set(records, refused, name, RecordType::AAAA)
+    records.has_type(name, rtype) || lists_set(refused, name, rtype)
 }
 
 /// Returns the closest name at or above this one that exists: it is an owner, or has owners below it
 /// (RFC 4592 section 2.2.3).
-fn closest_existing<'a, Owner: AsOctets, Octets: AsOctets>(
-    records: &SortedRecords<'_, Owner, Octets>,
+fn closest_existing<'a, Z: ZoneRecords>(
+    records: &Z,
     refused: &SortedSets<'_>,
     name: &Name<&'a [u8]>,
 ) -> Option<Name<&'a [u8]>>
-    ensures { result ≡ closest_from (λ above. is_existing above records.now refused.now) name.now }
+    ensures { result ≡ closest_present (Z.contents records.now) refused.now name.now }
 {
     longer(records.closest(name), refused.closest(name))
 }
@@ -65,14 +50,14 @@ fn wildcard_octets(octets: &[u8]) -> ArrayVec<u8, 255>
 }
 
 /// Returns whether the wildcard below a name has a type.
-fn has_wildcard<Owner: AsOctets, Octets: AsOctets>(
-    records: &SortedRecords<'_, Owner, Octets>,
+fn has_wildcard<Z: ZoneRecords>(
+    records: &Z,
     refused: &SortedSets<'_>,
     name: &Name<&[u8]>,
     rtype: RecordType,
 ) -> bool
     requires { wire_length name.now ≤ 253 }
-    ensures { result ≡ is_present rtype ((42 ∷ []) ∷ name.now) records.now refused.now }
+    ensures { result ≡ wildcard_has rtype name.now (Z.contents records.now) refused.now }
 {
     let octets = wildcard_octets(octets_of(name));
     has_set(records, refused, &name_of(octets.as_slice()), rtype)
@@ -80,11 +65,8 @@ fn has_wildcard<Owner: AsOctets, Octets: AsOctets>(
 
 /// Returns whether the zone is known to have no wildcard.
 #[tactic(auto, using(crate::proofs::Wildcards::nothing_synthesized))]
-fn has_no_wildcard<Owner: AsOctets, Octets: AsOctets>(
-    records: &SortedRecords<'_, Owner, Octets>,
-    refused: &SortedSets<'_>,
-) -> bool
-    ensures { IsTrue result → (rtype : RecordType) (name : List (List ℕ)) → is_synthesized rtype name records.now refused.now ≡ false }
+fn has_no_wildcard<Z: ZoneRecords>(records: &Z, refused: &SortedSets<'_>) -> bool
+    ensures { IsTrue result → NothingIsSynthesized (Z.contents records.now) refused.now }
 {
     !records.has_wildcard() && refused.is_empty()
 }
@@ -92,13 +74,13 @@ fn has_no_wildcard<Owner: AsOctets, Octets: AsOctets>(
 /// Returns whether a name doesn't exist, and has a type from the wildcard below its closest
 /// ancestor that exists (RFC 4592 section 3.3.1).
 #[tactic(auto, using(crate::proofs::Neighbours::closest_short, crate::proofs::Neighbours::closest_above, crate::proofs::Neighbours::closest_nowhere))]
-pub(crate) fn gets_by_wildcard<Owner: AsOctets, Octets: AsOctets>(
-    records: &SortedRecords<'_, Owner, Octets>,
+pub(crate) fn gets_by_wildcard<Z: ZoneRecords>(
+    records: &Z,
     refused: &SortedSets<'_>,
     name: &Name<&[u8]>,
     rtype: RecordType,
 ) -> bool
-    ensures { result ≡ is_synthesized rtype name.now records.now refused.now }
+    ensures { result ≡ is_synthesized rtype name.now (Z.contents records.now) refused.now }
 {
     if has_no_wildcard(records, refused) {
         return false;
@@ -113,52 +95,54 @@ pub(crate) fn gets_by_wildcard<Owner: AsOctets, Octets: AsOctets>(
     }
 }
 
-/// Returns whether a name has an address, of its own or from a wildcard.
-pub(crate) fn gets_address<Owner: AsOctets, Octets: AsOctets>(
-    records: &SortedRecords<'_, Owner, Octets>,
+/// Returns whether a name has an address: of its own, as the caller knows, or from a wildcard.
+pub(crate) fn gets_address<Z: ZoneRecords>(
+    records: &Z,
     refused: &SortedSets<'_>,
     name: &Name<&[u8]>,
+    served: bool,
 ) -> bool
-    ensures { result ≡ gives_address name.now records.now refused.now }
+    requires { served ≡ has_address_in name.now (Z.contents records.now) refused.now }
+    ensures { result ≡ gives_address name.now (Z.contents records.now) refused.now }
 {
-    has_address_set(records, refused, name)
+    served
         || gets_by_wildcard(records, refused, name, RecordType::A)
         || gets_by_wildcard(records, refused, name, RecordType::AAAA)
 }
 
 /// Returns whether a name is a delegation.
-fn is_cut_name<Owner: AsOctets, Octets: AsOctets>(
+fn is_cut_name<Z: ZoneRecords>(
     origin: &Name<&[u8]>,
-    records: &SortedRecords<'_, Owner, Octets>,
+    records: &Z,
     refused: &SortedSets<'_>,
     name: &Name<&[u8]>,
 ) -> bool
-    ensures { result ≡ is_cut_in origin.now records.now refused.now name.now }
+    ensures { result ≡ is_cut_in origin.now (Z.contents records.now) refused.now name.now }
 {
     is_name_below(name, origin) && has_set(records, refused, name, RecordType::NS)
 }
 
 /// Returns the closest ancestor of a name that is at or above an owner before the name. Between
 /// them no name is an owner.
-fn owner_above<'a, Owner: AsOctets, Octets: AsOctets>(
-    records: &SortedRecords<'_, Owner, Octets>,
+fn owner_above<'a, Z: ZoneRecords>(
+    records: &Z,
     refused: &SortedSets<'_>,
     name: &Name<&'a [u8]>,
 ) -> Option<Name<&'a [u8]>>
-    ensures { result ≡ closest_above_some records.now refused.now name.now }
+    ensures { result ≡ closest_above_some (Z.contents records.now) refused.now name.now }
 {
     longer(records.closest_before(name), refused.closest_before(name))
 }
 
 /// Returns whether an ancestor of a name is a delegation.
 #[tactic(auto, using(crate::proofs::Neighbours::cuts_none, crate::proofs::Neighbours::found_fewer))]
-fn is_below_cut<Owner: AsOctets, Octets: AsOctets>(
+fn is_below_cut<Z: ZoneRecords>(
     origin: &Name<&[u8]>,
-    records: &SortedRecords<'_, Owner, Octets>,
+    records: &Z,
     refused: &SortedSets<'_>,
     name: &Name<&[u8]>,
 ) -> bool
-    ensures { result ≡ is_below_cut_in origin.now records.now refused.now name.now }
+    ensures { result ≡ is_below_cut_in origin.now (Z.contents records.now) refused.now name.now }
 {
     match owner_above(records, refused, name) {
         Some(above) => {
@@ -170,13 +154,13 @@ fn is_below_cut<Owner: AsOctets, Octets: AsOctets>(
 }
 
 /// Returns whether a name is a delegation or below one.
-pub(crate) fn is_delegated_name<Owner: AsOctets, Octets: AsOctets>(
+pub(crate) fn is_delegated_name<Z: ZoneRecords>(
     origin: &Name<&[u8]>,
-    records: &SortedRecords<'_, Owner, Octets>,
+    records: &Z,
     refused: &SortedSets<'_>,
     name: &Name<&[u8]>,
 ) -> bool
-    ensures { result ≡ is_delegated_in origin.now records.now refused.now name.now }
+    ensures { result ≡ is_delegated_in origin.now (Z.contents records.now) refused.now name.now }
 {
     is_cut_name(origin, records, refused, name) || is_below_cut(origin, records, refused, name)
 }
@@ -196,12 +180,12 @@ pub(crate) fn is_under_refused_dname(refused: &SortedSets<'_>, name: &Name<&[u8]
 
 /// Returns the closest ancestor of a name that has a DNAME.
 #[tactic(auto, using(crate::proofs::Neighbours::dname_none, crate::proofs::Neighbours::found_fewer))]
-pub(crate) fn dname_above<'a, Owner: AsOctets, Octets: AsOctets>(
-    records: &SortedRecords<'_, Owner, Octets>,
+pub(crate) fn dname_above<'a, Z: ZoneRecords>(
+    records: &Z,
     refused: &SortedSets<'_>,
     name: &Name<&'a [u8]>,
 ) -> Option<Name<&'a [u8]>>
-    ensures { result ≡ closest_dname name.now records.now refused.now }
+    ensures { result ≡ closest_dname name.now (Z.contents records.now) refused.now }
 {
     let Some(above) = owner_above(records, refused, name) else {
         return None;

@@ -85,7 +85,7 @@ fn shared_with<'a, T: OfRrset>(item: Option<&T>, name: &Name<&'a [u8]>) -> Optio
 }
 
 /// Returns the longer of two names, and the first of two of equal length.
-pub(crate) fn longer<'a>(
+pub fn longer<'a>(
     left: Option<Name<&'a [u8]>>,
     right: Option<Name<&'a [u8]>>,
 ) -> Option<Name<&'a [u8]>>

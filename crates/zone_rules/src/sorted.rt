@@ -1,19 +1,18 @@
 //! Records of a zone in canonical order, and lookups by owner and type.
-ghost use Rattle.std.specs.Prelude.{◌≡◌, ◌≤◌, ◌↔◌, ◌==◌, IfSome, IsSome, filter, length};
-ghost use Rattle.std.specs.List.{list_all, list_any};
+ghost use Rattle.std.specs.Prelude.{◌≡◌, ◌<◌, ◌≤◌, ◌↔◌, ◌==◌, IfSome, IsSome, Some, filter, length, slice_get};
+ghost use Rattle.std.specs.List.{list_all};
 ghost use Rattle.std.specs.List.Sorted.{IsPartitionedBy};
+ghost use Rattle.std.specs.Option.{option_map};
 ghost use Rattle.std.specs.Ordering.{is_le};
-ghost use Rattle.dns_kinds.specs.Rtype as Rtype;
 ghost use Rattle.dns_wire.specs.Order.{same_name};
 ghost use Rattle.dns_canonical.specs.Names.{name_order};
-ghost use Rattle.zone_rules.specs.Above.{closest_from, is_wildcard};
-ghost use Rattle.zone_rules.specs.Present.{rrset_of_record};
-ghost use Rattle.zone_rules.specs.Searches.{PartsUpTo, closest_above_earlier};
-ghost use Rattle.zone_rules.specs.Zones.{AreInOrder, has_owner_within, has_type_among, has_type_at, is_one_class};
+ghost use Rattle.zone_rules.specs.Searches.{AreOwnedFrom, PartsUpTo};
+ghost use Rattle.zone_rules.specs.Zones.{AreInOrder, as_listed, has_type_at, is_one_class};
 
 use crate::names::{is_wildcard_name, order_of, view};
 use crate::refused::RrsetName;
 use crate::search::{OfRrset, closest, closest_before, finds};
+use crate::zone_records::{HostTypes, OwnerBuffer, ZoneRecord, ZoneRecords, borrowed_record};
 use dns_kinds::{Class, RecordType};
 use dns_octets::AsOctets;
 use dns_resource::Record;
@@ -103,42 +102,11 @@ impl<'a, Owner: AsOctets, Octets: AsOctets> SortedRecords<'a, Owner, Octets> {
         })
     }
 
-    /// Returns whether one of the records is a DNAME, as `new` found.
-    pub(crate) fn has_dname(&self) -> bool
-        ensures { result ≡ has_type_among Rtype.dname self.now }
-    {
-        self.has_dname
-    }
-
-    /// Returns whether the owner of one of the records is a wildcard, as `new` found.
-    pub(crate) fn has_wildcard(&self) -> bool
-        ensures { result ≡ list_any (λ r. is_wildcard r.owner) self.now }
-    {
-        self.has_wildcard
-    }
-
     /// Returns whether the records are of one class, as `new` found.
     fn is_one_class(&self) -> bool
         ensures { result ≡ is_one_class self.now }
     {
         self.is_one_class
-    }
-
-    /// Returns the closest name, of this one and its ancestors, that has an owner at it or below
-    /// it.
-    #[tactic(auto, using(crate::proofs::Within::record_owners))]
-    pub(crate) fn closest<'n>(&self, name: &Name<&'n [u8]>) -> Option<Name<&'n [u8]>>
-        ensures { result ≡ closest_from (λ above. has_owner_within above self.now) name.now }
-    {
-        closest(self.records, name)
-    }
-
-    /// Returns the closest ancestor of this name that is at or above an owner before it.
-    #[tactic(auto, using(crate::proofs::Within::record_owners))]
-    pub(crate) fn closest_before<'n>(&self, name: &Name<&'n [u8]>) -> Option<Name<&'n [u8]>>
-        ensures { result ≡ closest_above_earlier rrset_of_record self.now name.now }
-    {
-        closest_before(self.records, name)
     }
 
     /// Returns the records.
@@ -185,6 +153,20 @@ pub fn owned_by<'a, Owner: AsOctets, Octets: AsOctets>(
     &rest[..count]
 }
 
+/// Returns the index of the first record whose owner is a name, ignoring letter case, and the index
+/// after the last one.
+fn places_of<Owner: AsOctets, Octets: AsOctets>(
+    records: &SortedRecords<'_, Owner, Octets>,
+    name: &Name<&[u8]>,
+) -> (usize, usize)
+    ensures { AreOwnedFrom name.now records.now result.0 result.1 }
+{
+    let all = records.as_slice();
+    let first = all.partition_point(|record| order_of(&record.owner, name).is_lt());
+    let past = all.partition_point(|record| order_of(&record.owner, name).is_le());
+    (first, past)
+}
+
 /// Returns whether a name has a record of a type.
 ///
 /// Makes one binary search. If records are of several classes, it scans those of the owner.
@@ -201,4 +183,65 @@ pub fn has_type<Owner: AsOctets, Octets: AsOctets>(
     owned_by(records, name)
         .iter()
         .any(|record| record.data.rtype() == rtype)
+}
+
+/// Returns the record at an index, over borrowed octets.
+fn record_at<Owner: AsOctets, Octets: AsOctets>(
+    records: &[Record<Owner, Octets>],
+    place: usize,
+) -> ZoneRecord<'_>
+    requires { place < length records.now }
+    ensures { Some result ≡ option_map as_listed (slice_get records.now place) }
+{
+    borrowed_record(&records[place])
+}
+
+impl<'a, Owner: AsOctets, Octets: AsOctets> ZoneRecords for SortedRecords<'a, Owner, Octets> {
+    type OwnerOctets = Owner;
+
+    type DataOctets = Octets;
+
+    ghost contents = { λ s. s };
+
+    fn len(&self) -> usize {
+        self.records.len()
+    }
+
+    fn record<'b>(&'b self, place: usize, _owner: &'b mut OwnerBuffer) -> ZoneRecord<'b> {
+        record_at(self.records, place)
+    }
+
+    fn places(&self, name: &Name<&[u8]>) -> (usize, usize) {
+        places_of(self, name)
+    }
+
+    fn has_type(&self, name: &Name<&[u8]>, rtype: RecordType) -> bool {
+        has_type(self, name, rtype)
+    }
+
+    fn host_types(&self, name: &Name<&[u8]>) -> HostTypes {
+        HostTypes {
+            has_a: has_type(self, name, RecordType::A),
+            has_aaaa: has_type(self, name, RecordType::AAAA),
+            has_cname: has_type(self, name, RecordType::CNAME),
+        }
+    }
+
+    fn has_dname(&self) -> bool {
+        self.has_dname
+    }
+
+    fn has_wildcard(&self) -> bool {
+        self.has_wildcard
+    }
+
+    #[tactic(auto, using(crate::proofs::Within::record_owners))]
+    fn closest<'n>(&self, name: &Name<&'n [u8]>) -> Option<Name<&'n [u8]>> {
+        closest(self.records, name)
+    }
+
+    #[tactic(auto, using(crate::proofs::Within::record_owners))]
+    fn closest_before<'n>(&self, name: &Name<&'n [u8]>) -> Option<Name<&'n [u8]>> {
+        closest_before(self.records, name)
+    }
 }

@@ -5,4 +5,4 @@ use Rattle.zone_rules.proofs.owners.has_dname_above.Goals as goal
 
 pub returns-else-has_dname : goal.returns-else-has_dname
 returns-else-has_dname g c =
-    c.if-has_dname.false ∙ sym (none_at_names 39 c.args.records.now (names_above c.args.name.now) (sym c.has_dname.ensures ∙ c.if-has_dname.false))
+    c.if-has_dname.false ∙ sym (none_at_names 39 (g.Z.ZoneRecords.contents c.args.records.now) (names_above c.args.name.now) (sym c.has_dname.ensures ∙ c.if-has_dname.false))

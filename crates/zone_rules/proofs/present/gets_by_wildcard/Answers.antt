@@ -7,12 +7,12 @@ use Rattle.zone_rules.proofs.present.gets_by_wildcard.Goals as goal
 
 pub has_wildcard-requires : goal.has_wildcard-requires
 has_wildcard-requires g c =
-    closest_short (λ above. is_existing above c.args.records.now c.args.refused.now) c.args.name.now c.in-Some.closest c.octets_of-octets.ensures.is_name (sym c.closest_existing.ensures ∙ c.in-Some.is)
+    closest_short (λ above. is_existing above (g.Z.ZoneRecords.contents c.args.records.now) c.args.refused.now) c.args.name.now c.in-Some.closest c.octets_of-octets.ensures.is_name (sym c.closest_existing.ensures ∙ c.in-Some.is)
     (omega (arith, c.if-len.true, c.len.ensures.value, c.len-in-Some.ensures.value))
 
 pub returns-else-len : goal.returns-else-len
 returns-else-len g c =
-    let has : List (List ℕ) → Bool = λ above. is_present c.args.rtype ((42 ∷ []) ∷ above) c.args.records.now c.args.refused.now in
+    let has : List (List ℕ) → Bool = λ above. is_present c.args.rtype ((42 ∷ []) ∷ above) (g.Z.ZoneRecords.contents c.args.records.now) c.args.refused.now in
     not_less_is c.len.result c.len-in-Some.result c.if-len.false
     ∙ sym (ap (λ b. b && has c.in-Some.closest) (not_less_is (wire_length c.in-Some.closest) (wire_length c.args.name.now) (omega (arith, c.if-len.false, c.len.ensures.value, c.len-in-Some.ensures.value))))
-    ∙ closest_above has (λ above. is_existing above c.args.records.now c.args.refused.now) c.args.name.now c.in-Some.closest (sym c.closest_existing.ensures ∙ c.in-Some.is)
+    ∙ closest_above has (λ above. is_existing above (g.Z.ZoneRecords.contents c.args.records.now) c.args.refused.now) c.args.name.now c.in-Some.closest (sym c.closest_existing.ensures ∙ c.in-Some.is)

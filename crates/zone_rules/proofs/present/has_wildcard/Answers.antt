@@ -18,6 +18,6 @@ name_of-requires g c =
 pub returns : goal.returns
 returns g c =
     c.has_set.ensures
-    ∙ ap (λ n. is_present c.args.rtype n c.args.records.now c.args.refused.now)
+    ∙ ap (λ n. is_present c.args.rtype n (g.Z.ZoneRecords.contents c.args.records.now) c.args.refused.now)
     (wire_same c.name_of.result ((42 ∷ []) ∷ c.args.name.now)
     (sym c.name_of.ensures ∙ c.as_slice.ensures.value ∙ c.wildcard_octets-octets.ensures ∙ ap (λ o. 1 ∷ 42 ∷ o) c.octets_of.ensures.value))

@@ -7,4 +7,4 @@ use Rattle.zone_rules.proofs.present.owner_above.Goals as goal
 pub returns : goal.returns
 returns g c =
     c.longer.ensures ∙ (λ i. longer_name (c.closest_before.ensures i) (c.closest_before-2.ensures i))
-    ∙ sym (find_either_above (is_above_earlier rrset_of_record c.args.records.now c.args.name.now) (is_above_earlier (λ s. s) c.args.refused.now c.args.name.now) c.args.name.now)
+    ∙ sym (find_either_above (is_above_earlier rrset_of_record (g.Z.ZoneRecords.contents c.args.records.now) c.args.name.now) (is_above_earlier (λ s. s) c.args.refused.now c.args.name.now) c.args.name.now)

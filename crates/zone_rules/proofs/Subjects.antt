@@ -1,0 +1,174 @@
+-- Records that a zone lends, with their octets in other types, and the rules of their hosts.
+use Rattle.std.proofs.Common.{ℕ, ◌≡◌, ◌+◌, ◌<◌, ◌≤◌, ◌⊎◌, inl, inr, Bool, true, false, Option, Some, None, List, length, get_or, refl, sym, ap, ◌∙◌, arith}
+use Rattle.std.specs.Prelude.{◌==◌, ◌&&◌, not, slice_get}
+use Rattle.std.specs.List.{AllWithin, list_any}
+use Rattle.std.specs.Option.{option_map, option_map_or}
+use Rattle.std.proofs.lemmas.Bool.{cases_lt}
+use Rattle.std.proofs.lemmas.Option.{slice_get-get_or}
+use Rattle.dns_kinds.specs.Classes.{internet}
+use Rattle.dns_kinds.specs.Rtype as Rtype
+use Rattle.dns_resource.specs.declared.record.Record.{Record}
+use Rattle.dns_wire.specs.Order.{same_name}
+use Rattle.zone_rules.specs.Above.{is_below, is_within}
+use Rattle.zone_rules.specs.Findings.{breaks_at}
+use Rattle.zone_rules.specs.Present.{has_address_in}
+use Rattle.zone_rules.specs.Rules.{breaks, is_alias, is_below_own_dname, is_beside_alias, is_missing, is_record_at_apex, is_without_glue, lacks_address, names_host}
+use Rattle.zone_rules.specs.Searches.{AreOwnedFrom}
+use Rattle.zone_rules.specs.Subjects.{is_apex_server, is_server_above, wants_host, AreHostFaults, IsSubject}
+use Rattle.zone_rules.specs.Zones.{as_listed, host_of, is_equal_record, record_before, type_of}
+use Rattle.zone_rules.specs.declared.refused.RrsetName.{RrsetName}
+use Rattle.zone_rules.specs.declared.rule.Rule.{Rule}
+use Rattle.zone_rules.specs.declared.rule.Rule.TheVariants.{NoSoa, NoNs, Outside, TwoSoas, NsAddress, Cname, TwoDnames, BelowDname, DsAtApex, WildcardNs, SoaNotApex, NsBesideDname, Nsec3Owner, MissingGlue, HostIsAlias, HostBelowDname, HostMissing, HostName, CdsWithoutKey, DsWithoutNs, NotAtApex, KeyProtocol, KeyAlgorithm, TtlDiffers, Duplicate}
+use Rattle.zone_rules.specs.declared.subject.HostFaults.{HostFaults}
+use Rattle.zone_rules.specs.declared.subject.Subject.{Subject}
+use Rattle.zone_rules.proofs.Searches.{none_passes}
+
+some_same : {X : Type 0} (x y : X) → Some x ≡ Some y → x ≡ y
+some_same x y h = cc
+
+-- ---- a record breaks the rules that it breaks in the list
+
+breaks_listed : {N O : Type 0} (R S : Type 0) (rule : Rule) (origin : List (List ℕ)) (records : List (Record N O)) (refused : List RrsetName) (before : Option (Record N O)) (r : Record N O)
+    → breaks {M = R} {P = S} rule origin records refused (option_map as_listed before) (as_listed r) ≡ breaks rule origin records refused before r
+breaks_listed R S NoSoa origin records refused before r = refl
+breaks_listed R S NoNs origin records refused before r = refl
+breaks_listed R S Outside origin records refused before r = refl
+breaks_listed R S TwoSoas origin records refused None r = refl
+breaks_listed R S TwoSoas origin records refused (Some b) r = refl
+breaks_listed R S NsAddress origin records refused before r = refl
+breaks_listed R S Cname origin records refused before r = refl
+breaks_listed R S TwoDnames origin records refused None r = refl
+breaks_listed R S TwoDnames origin records refused (Some b) r = refl
+breaks_listed R S BelowDname origin records refused before r = refl
+breaks_listed R S DsAtApex origin records refused before r = refl
+breaks_listed R S WildcardNs origin records refused before r = refl
+breaks_listed R S SoaNotApex origin records refused before r = refl
+breaks_listed R S NsBesideDname origin records refused before r = refl
+breaks_listed R S Nsec3Owner origin records refused before r = refl
+breaks_listed R S MissingGlue origin records refused before r = refl
+breaks_listed R S HostIsAlias origin records refused before r = refl
+breaks_listed R S HostBelowDname origin records refused before r = refl
+breaks_listed R S HostMissing origin records refused before r = refl
+breaks_listed R S HostName origin records refused before r = refl
+breaks_listed R S CdsWithoutKey origin records refused before r = refl
+breaks_listed R S DsWithoutNs origin records refused before r = refl
+breaks_listed R S NotAtApex origin records refused before r = refl
+breaks_listed R S KeyProtocol origin records refused before r = refl
+breaks_listed R S KeyAlgorithm origin records refused before r = refl
+breaks_listed R S TtlDiffers origin records refused None r = refl
+breaks_listed R S TtlDiffers origin records refused (Some b) r = refl
+breaks_listed R S Duplicate origin records refused None r = refl
+breaks_listed R S Duplicate origin records refused (Some b) r = refl
+
+broken_in : {N O R S : Type 0} (rule : Rule) (origin : List (List ℕ)) (records : List (Record N O)) (refused : List RrsetName) (before : Option (Record R S)) (found : Record R S) (place : ℕ) (o : Option (Record N O))
+    → Some found ≡ option_map as_listed o → before ≡ option_map as_listed (record_before records place)
+    → breaks rule origin records refused before found ≡ option_map_or (breaks rule origin records refused (record_before records place)) o false
+broken_in rule origin records refused before found place None e f = cc
+broken_in rule origin records refused before found place (Some r) e f =
+    let is : found ≡ as_listed r = some_same found (as_listed r) e in
+    (λ i. breaks rule origin records refused (f i) (is i)) ∙ breaks_listed _ _ rule origin records refused (record_before records place) r
+
+pub broken_at : {N O : Type 0} (rule : Rule) (origin : List (List ℕ)) (records : List (Record N O)) (refused : List RrsetName) (s : Subject) → IsSubject origin records refused s
+    → breaks rule origin records refused s.before s.found ≡ breaks_at origin records refused s.place rule
+broken_at rule origin records refused s h = broken_in rule origin records refused s.before s.found s.place (slice_get records s.place) h.found h.before
+
+-- ---- records beside an alias
+
+listed_beside : {N O M P : Type 0} (R S : Type 0) (alias : Record M P) (o : Option (Record N O))
+    → option_map_or (is_beside_alias {M = R} {P = S} alias) (option_map as_listed o) false ≡ option_map_or (is_beside_alias alias) o false
+listed_beside R S alias None = refl
+listed_beside R S alias (Some r) = refl
+
+pub beside_listed : {N O M P R S : Type 0} (alias : Record M P) (o : Option (Record N O)) (got : Option (Record R S)) → got ≡ option_map as_listed o
+    → option_map_or (is_beside_alias alias) got false ≡ option_map_or (is_beside_alias alias) o false
+beside_listed alias o got e = ap (λ g. option_map_or (is_beside_alias alias) g false) e ∙ listed_beside _ _ alias o
+
+-- one element more that does not pass a test
+pub one_more : {X : Type 0} (p : X → Bool) (xs : List X) (first place : ℕ) → place < length xs → AllWithin (λ x. p x ≡ false) xs first place → option_map_or p (slice_get xs place) false ≡ false
+    → AllWithin (λ x. p x ≡ false) xs first (place + 1)
+one_more p xs first place lt h e i d low less = by (cases_lt i place)
+  where
+    at : p (get_or xs place d) ≡ false
+    at = ap (λ o. option_map_or p o false) (sym (slice_get-get_or xs place d lt)) ∙ e
+
+    by : (i < place) ⊎ (place ≤ i) → p (get_or xs i d) ≡ false
+    by (inl before) = h i d low before
+    by (inr more) = let same : i ≡ place = omega (arith, less, more) in ap (λ j. p (get_or xs j d)) same ∙ at
+
+beside_owned : {N O M P : Type 0} (alias : Record M P) (r : Record N O) → same_name r.owner alias.owner ≡ false → is_beside_alias alias r ≡ false
+beside_owned alias r h = ap (λ b. b && (not (type_of r == Rtype.rrsig) && (not (type_of r == Rtype.nsec) && not (is_equal_record alias r)))) h
+
+-- no record is beside an alias if none of those at its owner is
+module _ {N O M P : Type 0} (alias : Record M P) (records : List (Record N O)) (first past : ℕ) (owned : AreOwnedFrom alias.owner records first past) (none : AllWithin (λ r. is_beside_alias alias r ≡ false) records first past) where
+  beside_later : (i : ℕ) (d : Record N O) → i < length records → first ≤ i → (i < past) ⊎ (past ≤ i) → is_beside_alias alias (get_or records i d) ≡ false
+  beside_later i d lt low (inl less) = none i d low less
+  beside_later i d lt low (inr more) = beside_owned alias (get_or records i d) (owned.after i d more lt)
+
+  beside_any : (i : ℕ) (d : Record N O) → i < length records → (i < first) ⊎ (first ≤ i) → is_beside_alias alias (get_or records i d) ≡ false
+  beside_any i d lt (inl less) = beside_owned alias (get_or records i d) (owned.before i d (omega arith) less)
+  beside_any i d lt (inr low) = beside_later i d lt low (cases_lt i past)
+
+  pub none_beside : list_any (is_beside_alias alias) records ≡ false
+  none_beside = none_passes (is_beside_alias alias) records (λ i d lt. beside_any i d lt (cases_lt i first))
+
+-- ---- the rules of a host
+
+and_two : (a b c : Bool) → ((a && b) && c) ≡ (a && (b && c))
+and_two true b c = refl
+and_two false b c = refl
+
+and_four : (a b c d e : Bool) → ((a && (b && (c && d))) && e) ≡ (a && (b && (c && (d && e))))
+and_four true true true d e = refl
+and_four true true false d e = refl
+and_four true false c d e = refl
+and_four false b c d e = refl
+
+and_none : (a b : Bool) → false ≡ (a && (b && false))
+and_none true true = refl
+and_none true false = refl
+and_none false b = refl
+
+and_none_more : (a b c : Bool) → false ≡ (a && (b && (c && false)))
+and_none_more true b c = and_none b c
+and_none_more false b c = refl
+
+named : {M P : Type 0} (r : Record M P) (name : List (List ℕ)) → host_of r ≡ Some name → (test : List (List ℕ) → Bool) → names_host test r ≡ test name
+named r name is test = ap (λ o. option_map_or test o false) is
+
+unnamed : {M P : Type 0} (r : Record M P) → host_of r ≡ None → (test : List (List ℕ) → Bool) → names_host test r ≡ false
+unnamed r is test = ap (λ o. option_map_or test o false) is
+
+pub faults_are : {N O M P : Type 0} (origin : List (List ℕ)) (records : List (Record N O)) (refused : List RrsetName) (r : Record M P) (name : List (List ℕ)) (f : HostFaults) → host_of r ≡ Some name
+    → f.lacks_address ≡ (is_apex_server origin r && lacks_address origin records refused name)
+    → f.lacks_glue ≡ (is_server_above origin r name && not (has_address_in name records refused))
+    → f.is_alias ≡ is_alias origin records refused name
+    → f.is_renamed ≡ is_below_own_dname origin records refused name
+    → f.is_missing ≡ (wants_host origin r && is_missing origin records refused name)
+    → AreHostFaults origin records refused r f
+faults_are origin records refused r name f is a b c d e =
+    let apex = is_record_at_apex Rtype.ns origin r in
+    let internal = r.class == internet in
+    record {
+      address = a ∙ and_two apex internal (lacks_address origin records refused name) ∙ sym (ap (λ t. apex && (internal && t)) (named r name is (lacks_address origin records refused)));
+      glue =
+          b ∙ and_four (type_of r == Rtype.ns) (is_below r.owner origin) internal (is_within name r.owner) (not (has_address_in name records refused))
+          ∙ sym (ap (λ t. type_of r == Rtype.ns && (is_below r.owner origin && (internal && t))) (named r name is (is_without_glue r.owner records refused)));
+      alias = c ∙ sym (named r name is (is_alias origin records refused));
+      renamed = d ∙ sym (named r name is (is_below_own_dname origin records refused));
+      missing = e ∙ and_two (not apex) internal (is_missing origin records refused name) ∙ sym (ap (λ t. not apex && (internal && t)) (named r name is (is_missing origin records refused)));
+    }
+
+pub no_faults : {N O M P : Type 0} (origin : List (List ℕ)) (records : List (Record N O)) (refused : List RrsetName) (r : Record M P) (f : HostFaults) → host_of r ≡ None
+    → f.lacks_address ≡ false → f.lacks_glue ≡ false → f.is_alias ≡ false → f.is_renamed ≡ false → f.is_missing ≡ false → AreHostFaults origin records refused r f
+no_faults origin records refused r f is a b c d e =
+    let apex = is_record_at_apex Rtype.ns origin r in
+    let internal = r.class == internet in
+    record {
+      address = a ∙ and_none apex internal ∙ sym (ap (λ t. apex && (internal && t)) (unnamed r is (lacks_address origin records refused)));
+      glue =
+          b ∙ and_none_more (type_of r == Rtype.ns) (is_below r.owner origin) internal
+          ∙ sym (ap (λ t. type_of r == Rtype.ns && (is_below r.owner origin && (internal && t))) (unnamed r is (is_without_glue r.owner records refused)));
+      alias = c ∙ sym (unnamed r is (is_alias origin records refused));
+      renamed = d ∙ sym (unnamed r is (is_below_own_dname origin records refused));
+      missing = e ∙ and_none (not apex) internal ∙ sym (ap (λ t. not apex && (internal && t)) (unnamed r is (is_missing origin records refused)));
+    }

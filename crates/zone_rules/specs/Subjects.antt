@@ -1,0 +1,67 @@
+-- A record at an index, with what rules ask of it: words for private functions.
+use Rattle.std.specs.Prelude.{◌≡◌, ℕ, ◌==◌, ◌&&◌, not, Bool, false, Some, List, slice_get}
+use Rattle.std.specs.Option.{option_map, option_map_or}
+use Rattle.dns_kinds.specs.Classes.{internet}
+use Rattle.dns_kinds.specs.Rtype as Rtype
+use Rattle.dns_resource.specs.declared.record.Record.{Record}
+use Rattle.zone_rules.specs.Above.{is_below, is_within}
+use Rattle.zone_rules.specs.Findings.{breaks_at}
+use Rattle.zone_rules.specs.Present.{is_present}
+use Rattle.zone_rules.specs.Rules.{breaks, is_beside_alias, is_record_at_apex, lacks_glue, lacks_ns_address, names_alias, names_missing, names_renamed}
+use Rattle.zone_rules.specs.Zones.{as_listed, record_before, type_of}
+use Rattle.zone_rules.specs.declared.refused.RrsetName.{RrsetName}
+use Rattle.zone_rules.specs.declared.rule.Rule.{Rule}
+use Rattle.zone_rules.specs.declared.subject.HostFaults.{HostFaults}
+use Rattle.zone_rules.specs.declared.subject.Subject.{Subject}
+
+-- an NS at the apex, of class IN
+abbrev pub is_apex_server : {N O : Type 0} → List (List ℕ) → Record N O → Bool
+is_apex_server origin r = is_record_at_apex Rtype.ns origin r && r.class == internet
+
+-- an NS below the apex, of class IN, with a name at or below its owner
+abbrev pub is_server_above : {N O : Type 0} → List (List ℕ) → Record N O → List (List ℕ) → Bool
+is_server_above origin r name = type_of r == Rtype.ns && (is_below r.owner origin && (r.class == internet && is_within name r.owner))
+
+-- of class IN, but not an NS at the apex
+abbrev pub wants_host : {N O : Type 0} → List (List ℕ) → Record N O → Bool
+wants_host origin r = not (is_record_at_apex Rtype.ns origin r) && r.class == internet
+
+-- a name has a type of those that matter for a host
+abbrev pub has_a_in : {N O : Type 0} → List (List ℕ) → List (Record N O) → List RrsetName → Bool
+has_a_in name records refused = is_present Rtype.a name records refused
+
+abbrev pub has_aaaa_in : {N O : Type 0} → List (List ℕ) → List (Record N O) → List RrsetName → Bool
+has_aaaa_in name records refused = is_present Rtype.aaaa name records refused
+
+abbrev pub has_cname_in : {N O : Type 0} → List (List ℕ) → List (Record N O) → List RrsetName → Bool
+has_cname_in name records refused = is_present Rtype.cname name records refused
+
+-- the record at an index has the same owner as an alias and must not
+abbrev pub is_beside_alias_at : {N O M P : Type 0} → Record M P → List (Record N O) → ℕ → Bool
+is_beside_alias_at alias records place = option_map_or (is_beside_alias alias) (slice_get records place) false
+
+-- the rules that the host in a record's data breaks
+pub record AreHostFaults {N O M P : Type 0} (origin : List (List ℕ)) (records : List (Record N O)) (refused : List RrsetName) (r : Record M P) (faults : HostFaults) : Type 0 where
+  pub address : faults.lacks_address ≡ lacks_ns_address origin records refused r
+  pub glue : faults.lacks_glue ≡ lacks_glue origin records refused r
+  pub alias : faults.is_alias ≡ names_alias origin records refused r
+  pub renamed : faults.is_renamed ≡ names_renamed origin records refused r
+  pub missing : faults.is_missing ≡ names_missing origin records refused r
+
+-- the record at an index, the one before it, and the rules that its host breaks
+pub record IsSubject {N O : Type 0} (origin : List (List ℕ)) (records : List (Record N O)) (refused : List RrsetName) (s : Subject) : Type 0 where
+  pub found : Some s.found ≡ option_map as_listed (slice_get records s.place)
+  pub before : s.before ≡ option_map as_listed (record_before records s.place)
+  pub faults : AreHostFaults origin records refused s.found s.faults
+
+-- the faults of a subject are those of its record
+abbrev pub HasItsFaults : {N O : Type 0} → List (List ℕ) → List (Record N O) → List RrsetName → Subject → Type 0
+HasItsFaults origin records refused s = AreHostFaults origin records refused s.found s.faults
+
+-- the record of a subject breaks a rule
+abbrev pub breaks_by : {N O : Type 0} → Rule → List (List ℕ) → List (Record N O) → List RrsetName → Subject → Bool
+breaks_by rule origin records refused s = breaks rule origin records refused s.before s.found
+
+-- the record at the index of a subject breaks a rule
+abbrev pub is_broken : {N O : Type 0} → Rule → List (List ℕ) → List (Record N O) → List RrsetName → Subject → Bool
+is_broken rule origin records refused s = breaks_at origin records refused s.place rule
