@@ -1,0 +1,7 @@
+pub mod Comments
+pub mod FoundAlone
+pub mod Labels
+pub mod LoneRuleNames
+pub mod LoneRules
+pub mod Rows
+pub mod Substitutions

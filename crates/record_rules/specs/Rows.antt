@@ -1,0 +1,524 @@
+-- Worked examples of the rules, each computed.
+use Rattle.std.specs.Prelude.{◌≡◌, ℕ, Bool, true, false, Some, None, List, [], ◌∷◌, ◌++◌, length, codes, refl}
+use Rattle.dns_fields.specs.declared.record_ref.RecordRef.{RecordRef}
+use Rattle.dns_kinds.specs.Rtype as Rtype
+use Rattle.dns_kinds.specs.declared.types.RecordType.{RecordType}
+use Rattle.dns_wire.specs.Wire.{wire}
+use Rattle.record_rules.specs.Comments.{has_word_at_comment}
+use Rattle.record_rules.specs.FoundAlone.{found_alone}
+use Rattle.record_rules.specs.Labels.{beyond_name, is_octet_label, name_labels}
+use Rattle.record_rules.specs.LoneRules.{breaks_alone}
+use Rattle.record_rules.specs.Substitutions.{group_count, is_substitution}
+use Rattle.record_rules.specs.declared.regexp.Spot.TheVariants.{Plain}
+use Rattle.record_rules.specs.declared.rule.RecordRule.{RecordRule}
+use Rattle.record_rules.specs.declared.rule.RecordRule.TheVariants.{SpfType, NaptrRegexp, NaptrBoth, CaaUnknown, CaaCritical, CaaCapitals, SoaMailAtSign, SoaMailOneLabel, SoaRetry, SoaExpire, SoaMinimum, ReverseName, WildcardInside, TargetAddress, TxtWords, CommentInData}
+use Rattle.record_rules.specs.declared.written.Written.{Written}
+
+-- `example.`, and names below it
+abbrev apex : List (List ℕ)
+apex = codes "example" ∷ [] ∷ []
+
+abbrev under : List ℕ → List (List ℕ)
+under label = label ∷ apex
+
+-- a rule is broken by a record at a name, whatever its text
+abbrev broken_at : RecordRule → List (List ℕ) → RecordType → List ℕ → Bool
+broken_at rule owner rtype octets = breaks_alone rule (wire owner) rtype octets None
+
+abbrev broken : RecordRule → RecordType → List ℕ → Bool
+broken rule = broken_at rule apex
+
+-- a character string
+abbrev text : List ℕ → List ℕ
+text octets = length octets ∷ octets
+
+-- ---- octets
+
+labels_row : name_labels (wire (under (codes "a")) ++ 1 ∷ 2 ∷ []) ≡ codes "a" ∷ codes "example" ∷ []
+unfolding name_labels
+labels_row = refl
+
+beyond_row : beyond_name (wire (under (codes "a")) ++ 1 ∷ 2 ∷ []) ≡ 1 ∷ 2 ∷ []
+unfolding beyond_name
+beyond_row = refl
+
+-- ---- SPF
+
+spf_row : broken SpfType Rtype.spf (text (codes "v=spf1 -all")) ≡ true
+spf_row = refl
+
+txt_row : broken SpfType Rtype.txt (text (codes "v=spf1 -all")) ≡ false
+txt_row = refl
+
+-- ---- NAPTR (RFC 3402 section 3.2); BIND 9.18 loads and rejects the same ones
+
+two_delimiters_row : is_substitution (codes "!a!b") ≡ false
+two_delimiters_row = refl
+
+three_delimiters_row : is_substitution (codes "!a!b!") ≡ true
+three_delimiters_row = refl
+
+flag_row : is_substitution (codes "!a!b!i") ≡ true
+flag_row = refl
+
+flags_row : is_substitution (codes "!a!b!ii") ≡ true
+flags_row = refl
+
+other_flag_row : is_substitution (codes "!a!b!x") ≡ false
+other_flag_row = refl
+
+four_delimiters_row : is_substitution (codes "!a!b!i!") ≡ false
+four_delimiters_row = refl
+
+no_expression_row : is_substitution (codes "!!b!") ≡ false
+no_expression_row = refl
+
+no_replacement_row : is_substitution (codes "!a!!") ≡ true
+no_replacement_row = refl
+
+digit_row : is_substitution (codes "1a1b1") ≡ false
+digit_row = refl
+
+letter_row : is_substitution (codes "iaibi") ≡ false
+letter_row = refl
+
+capital_row : is_substitution (codes "IaIbI") ≡ true
+capital_row = refl
+
+backslash_row : is_substitution (codes "\\a\\b\\") ≡ false
+backslash_row = refl
+
+nul_row : is_substitution (33 ∷ 97 ∷ 0 ∷ 33 ∷ 98 ∷ 33 ∷ []) ≡ false
+nul_row = refl
+
+nul_delimiter_row : is_substitution (0 ∷ 97 ∷ 0 ∷ 98 ∷ 0 ∷ []) ≡ false
+nul_delimiter_row = refl
+
+escaped_delimiter_row : is_substitution (codes "!a\\!b!x!") ≡ true
+escaped_delimiter_row = refl
+
+delimiter_in_brackets_row : is_substitution (codes "![!]!x!") ≡ false
+delimiter_in_brackets_row = refl
+
+escaped_end_row : is_substitution (codes "!a!b\\!") ≡ false
+escaped_end_row = refl
+
+group_row : is_substitution (codes "!(a)!\\1!") ≡ true
+group_row = refl
+
+no_group_row : is_substitution (codes "!a!\\1!") ≡ false
+no_group_row = refl
+
+second_group_row : is_substitution (codes "!(a)!\\2!") ≡ false
+second_group_row = refl
+
+nested_group_row : is_substitution (codes "!((a))!\\2!") ≡ true
+nested_group_row = refl
+
+group_zero_row : is_substitution (codes "!(a)!\\0!") ≡ false
+group_zero_row = refl
+
+escaped_backslash_row : is_substitution (codes "!a!\\\\1!") ≡ true
+escaped_backslash_row = refl
+
+escaped_group_row : is_substitution (codes "!\\(a\\)!\\1!") ≡ false
+escaped_group_row = refl
+
+listed_group_row : is_substitution (codes "![(]a!\\1!") ≡ false
+listed_group_row = refl
+
+first_bracket_row : group_count Plain (codes "[](]a") ≡ 0
+first_bracket_row = refl
+
+negated_bracket_row : group_count Plain (codes "[^](](a)") ≡ 1
+negated_bracket_row = refl
+
+class_row : group_count Plain (codes "[[:alpha:](]a") ≡ 0
+class_row = refl
+
+after_class_row : group_count Plain (codes "[[:alpha:]](x)") ≡ 1
+after_class_row = refl
+
+equivalence_row : group_count Plain (codes "[[=a=](](x)") ≡ 1
+equivalence_row = refl
+
+listed_backslash_row : group_count Plain (codes "[a\\](x)") ≡ 1
+listed_backslash_row = refl
+
+-- order, preference, flags, services
+abbrev naptr : List ℕ → List (List ℕ) → List ℕ
+naptr regexp replacement = 0 ∷ 1 ∷ 0 ∷ 1 ∷ (text (codes "u") ++ (text (codes "E2U+sip") ++ (text regexp ++ wire replacement)))
+
+naptr_row : broken NaptrRegexp Rtype.naptr (naptr (codes "!a!b") ([] ∷ [])) ≡ true
+naptr_row = refl
+
+no_regexp_row : broken NaptrRegexp Rtype.naptr (naptr [] apex) ≡ false
+no_regexp_row = refl
+
+both_row : broken NaptrBoth Rtype.naptr (naptr (codes "!a!b!") apex) ≡ true
+unfolding name_labels
+both_row = refl
+
+regexp_row : broken NaptrBoth Rtype.naptr (naptr (codes "!a!b!") ([] ∷ [])) ≡ false
+unfolding name_labels
+regexp_row = refl
+
+replacement_row : broken NaptrBoth Rtype.naptr (naptr [] apex) ≡ false
+unfolding name_labels
+replacement_row = refl
+
+-- ---- CAA
+
+abbrev caa : ℕ → List ℕ → List ℕ
+caa flags tag = flags ∷ (text tag ++ codes "ca.example")
+
+unknown_row : broken CaaUnknown Rtype.caa (caa 0 (codes "isue")) ≡ true
+unknown_row = refl
+
+unknown_not_critical_row : broken CaaCritical Rtype.caa (caa 127 (codes "isue")) ≡ false
+unknown_not_critical_row = refl
+
+critical_row : broken CaaCritical Rtype.caa (caa 128 (codes "isue")) ≡ true
+critical_row = refl
+
+critical_once_row : broken CaaUnknown Rtype.caa (caa 128 (codes "isue")) ≡ false
+critical_once_row = refl
+
+known_critical_row : broken CaaCritical Rtype.caa (caa 128 (codes "issue")) ≡ false
+known_critical_row = refl
+
+wild_row : broken CaaUnknown Rtype.caa (caa 0 (codes "IssueWild")) ≡ false
+wild_row = refl
+
+vmc_row : broken CaaUnknown Rtype.caa (caa 0 (codes "issuevmc")) ≡ false
+vmc_row = refl
+
+phone_row : broken CaaUnknown Rtype.caa (caa 0 (codes "contactphone")) ≡ false
+phone_row = refl
+
+capital_tag_row : broken CaaCapitals Rtype.caa (caa 0 (codes "Issue")) ≡ true
+capital_tag_row = refl
+
+small_tag_row : broken CaaCapitals Rtype.caa (caa 0 (codes "issue")) ≡ false
+small_tag_row = refl
+
+-- ---- SOA
+
+-- a mail name, and a serial with the four timers
+abbrev number : ℕ → ℕ → List ℕ
+number high low = 0 ∷ 0 ∷ high ∷ low ∷ []
+
+abbrev timers : List ℕ → List ℕ → List ℕ → List ℕ → List ℕ
+timers refresh retry expire minimum = number 0 1 ++ (refresh ++ (retry ++ (expire ++ minimum)))
+
+-- refresh 3600, retry 600, expire 2147483646, minimum 0 (RFC 9432 appendix A)
+abbrev catalog_timers : List ℕ
+catalog_timers = timers (number 14 16) (number 2 88) (127 ∷ 255 ∷ 255 ∷ 254 ∷ []) (number 0 0)
+
+abbrev soa : List (List ℕ) → List ℕ → List ℕ
+soa mail rest = wire (under (codes "ns")) ++ (wire mail ++ rest)
+
+-- admin@example., where BIND, NSD and ldns see no fault
+sign_row : broken SoaMailAtSign Rtype.soa (soa (codes "admin@example" ∷ [] ∷ []) catalog_timers) ≡ true
+unfolding beyond_name name_labels
+sign_row = refl
+
+sign_once_row : broken SoaMailOneLabel Rtype.soa (soa (codes "admin@example" ∷ [] ∷ []) catalog_timers) ≡ false
+unfolding beyond_name name_labels
+sign_once_row = refl
+
+relative_sign_row : broken SoaMailAtSign Rtype.soa (soa (under (codes "admin@example")) catalog_timers) ≡ true
+unfolding beyond_name name_labels
+relative_sign_row = refl
+
+mail_row : broken SoaMailAtSign Rtype.soa (soa (under (codes "admin")) catalog_timers) ≡ false
+unfolding beyond_name name_labels
+mail_row = refl
+
+one_label_row : broken SoaMailOneLabel Rtype.soa (soa (codes "admin" ∷ [] ∷ []) catalog_timers) ≡ true
+unfolding beyond_name name_labels
+one_label_row = refl
+
+two_labels_row : broken SoaMailOneLabel Rtype.soa (soa (under (codes "admin")) catalog_timers) ≡ false
+unfolding beyond_name name_labels
+two_labels_row = refl
+
+invalid_row : broken SoaMailOneLabel Rtype.soa (soa (codes "Invalid" ∷ [] ∷ []) catalog_timers) ≡ false
+unfolding beyond_name name_labels
+invalid_row = refl
+
+root_mail_row : broken SoaMailOneLabel Rtype.soa (soa ([] ∷ []) catalog_timers) ≡ false
+unfolding beyond_name name_labels
+root_mail_row = refl
+
+abbrev broken_timer : RecordRule → List ℕ → Bool
+broken_timer rule rest = broken rule Rtype.soa (soa (under (codes "admin")) rest)
+
+catalog_retry_row : broken_timer SoaRetry catalog_timers ≡ false
+unfolding beyond_name
+catalog_retry_row = refl
+
+catalog_expire_row : broken_timer SoaExpire catalog_timers ≡ false
+unfolding beyond_name
+catalog_expire_row = refl
+
+catalog_minimum_row : broken_timer SoaMinimum catalog_timers ≡ false
+unfolding beyond_name
+catalog_minimum_row = refl
+
+-- refresh 60, retry 3600, expire 60, minimum 604800
+abbrev bad_timers : List ℕ
+bad_timers = timers (number 0 60) (number 14 16) (number 0 60) (0 ∷ 9 ∷ 58 ∷ 128 ∷ [])
+
+late_retry_row : broken_timer SoaRetry bad_timers ≡ true
+unfolding beyond_name
+late_retry_row = refl
+
+early_expire_row : broken_timer SoaExpire bad_timers ≡ true
+unfolding beyond_name
+early_expire_row = refl
+
+long_minimum_row : broken_timer SoaMinimum bad_timers ≡ true
+unfolding beyond_name
+long_minimum_row = refl
+
+-- the bounds: refresh 60, retry 60, expire 120, minimum 86400
+abbrev edge_timers : List ℕ
+edge_timers = timers (number 0 60) (number 0 60) (number 0 120) (0 ∷ 1 ∷ 81 ∷ 128 ∷ [])
+
+equal_retry_row : broken_timer SoaRetry edge_timers ≡ true
+unfolding beyond_name
+equal_retry_row = refl
+
+least_expire_row : broken_timer SoaExpire edge_timers ≡ false
+unfolding beyond_name
+least_expire_row = refl
+
+one_day_row : broken_timer SoaMinimum edge_timers ≡ false
+unfolding beyond_name
+one_day_row = refl
+
+-- ---- reverse names
+
+octet_labels_row : (is_octet_label (codes "0") ≡ true) × (is_octet_label (codes "99") ≡ true) × (is_octet_label (codes "255") ≡ true)
+octet_labels_row = (refl, refl, refl)
+
+no_octet_labels_row : (is_octet_label (codes "256") ≡ false) × (is_octet_label (codes "01") ≡ false) × (is_octet_label (codes "1a") ≡ false) × (is_octet_label (codes "1000") ≡ false)
+no_octet_labels_row = (refl, refl, refl, refl)
+
+abbrev below_in_addr : List (List ℕ) → List (List ℕ)
+below_in_addr labels = labels ++ (codes "IN-ADDR" ∷ codes "arpa" ∷ [] ∷ [])
+
+abbrev below_ip6 : List (List ℕ) → List (List ℕ)
+below_ip6 labels = labels ++ (codes "ip6" ∷ codes "arpa" ∷ [] ∷ [])
+
+abbrev is_told : List (List ℕ) → Bool
+is_told owner = broken_at ReverseName owner Rtype.ptr (wire apex)
+
+address_row : is_told (below_in_addr (codes "1" ∷ codes "2" ∷ codes "0" ∷ codes "192" ∷ [])) ≡ false
+unfolding name_labels
+address_row = refl
+
+three_numbers_row : is_told (below_in_addr (codes "2" ∷ codes "0" ∷ codes "192" ∷ [])) ≡ true
+unfolding name_labels
+three_numbers_row = refl
+
+five_numbers_row : is_told (below_in_addr (codes "1" ∷ codes "1" ∷ codes "2" ∷ codes "0" ∷ codes "192" ∷ [])) ≡ true
+unfolding name_labels
+five_numbers_row = refl
+
+-- as `${0,3}` of `$GENERATE` makes it
+zeros_row : is_told (below_in_addr (codes "001" ∷ codes "2" ∷ codes "0" ∷ codes "192" ∷ [])) ≡ true
+unfolding name_labels
+zeros_row = refl
+
+high_number_row : is_told (below_in_addr (codes "256" ∷ codes "2" ∷ codes "0" ∷ codes "192" ∷ [])) ≡ true
+unfolding name_labels
+high_number_row = refl
+
+-- RFC 2317 section 4, and with a hyphen
+divided_row : is_told (below_in_addr (codes "1" ∷ codes "0/25" ∷ codes "2" ∷ codes "0" ∷ codes "192" ∷ [])) ≡ false
+unfolding name_labels
+divided_row = refl
+
+hyphen_row : is_told (below_in_addr (codes "1" ∷ codes "0-127" ∷ codes "2" ∷ codes "0" ∷ codes "192" ∷ [])) ≡ false
+unfolding name_labels
+hyphen_row = refl
+
+-- RFC 6763 section 11
+service_row : is_told (below_in_addr (codes "lb" ∷ codes "_dns-sd" ∷ codes "_udp" ∷ codes "0" ∷ codes "2" ∷ codes "0" ∷ codes "192" ∷ [])) ≡ false
+unfolding name_labels
+service_row = refl
+
+star_row : is_told (below_in_addr (codes "*" ∷ codes "2" ∷ codes "0" ∷ codes "192" ∷ [])) ≡ false
+unfolding name_labels
+star_row = refl
+
+-- `10.0.ip6.arpa.`, which no tool reports
+short_row : is_told (below_ip6 (codes "10" ∷ codes "0" ∷ [])) ≡ true
+unfolding name_labels
+short_row = refl
+
+abbrev eight : List (List ℕ)
+eight = codes "1" ∷ codes "0" ∷ codes "F" ∷ codes "a" ∷ codes "8" ∷ codes "9" ∷ codes "d" ∷ codes "0" ∷ []
+
+address6_row : is_told (below_ip6 (eight ++ (eight ++ (eight ++ eight)))) ≡ false
+unfolding name_labels
+address6_row = refl
+
+longer6_row : is_told (below_ip6 (codes "1" ∷ eight ++ (eight ++ (eight ++ eight)))) ≡ true
+unfolding name_labels
+longer6_row = refl
+
+top_row : is_told (below_in_addr []) ≡ false
+unfolding name_labels
+top_row = refl
+
+elsewhere_row : is_told (under (codes "a")) ≡ false
+unfolding name_labels
+elsewhere_row = refl
+
+-- ---- wildcards
+
+-- b.*.x
+inner_star_row : broken_at WildcardInside (codes "b" ∷ codes "*" ∷ under (codes "x")) Rtype.a [] ≡ true
+unfolding name_labels
+inner_star_row = refl
+
+first_star_row : broken_at WildcardInside (codes "*" ∷ under (codes "x")) Rtype.a [] ≡ false
+unfolding name_labels
+first_star_row = refl
+
+two_stars_row : broken_at WildcardInside (codes "*" ∷ under (codes "*")) Rtype.txt [] ≡ true
+unfolding name_labels
+two_stars_row = refl
+
+part_star_row : broken_at WildcardInside (codes "b" ∷ under (codes "a*")) Rtype.a [] ≡ false
+unfolding name_labels
+part_star_row = refl
+
+-- ---- targets
+
+abbrev address_before : List (List ℕ) → List (List ℕ)
+address_before labels = codes "192" ∷ codes "0" ∷ codes "2" ∷ codes "1" ∷ labels
+
+abbrev targets_address : List (List ℕ) → RecordType → List ℕ → Bool
+targets_address owner rtype octets = broken_at TargetAddress owner rtype octets
+
+-- MX 10 192.0.2.1.
+mx_dot_row : targets_address apex Rtype.mx (0 ∷ 10 ∷ wire (address_before ([] ∷ []))) ≡ true
+unfolding name_labels
+mx_dot_row = refl
+
+-- MX 10 192.0.2.1
+mx_row : targets_address (under (codes "m")) Rtype.mx (0 ∷ 10 ∷ wire (address_before apex)) ≡ true
+unfolding name_labels
+mx_row = refl
+
+ns_row : targets_address apex Rtype.ns (wire (address_before ([] ∷ []))) ≡ true
+unfolding name_labels
+ns_row = refl
+
+cname_row : targets_address (under (codes "c")) Rtype.cname (wire (address_before ([] ∷ []))) ≡ true
+unfolding name_labels
+cname_row = refl
+
+srv_row : targets_address (codes "_sip" ∷ under (codes "_udp")) Rtype.srv (0 ∷ 0 ∷ 0 ∷ 0 ∷ 0 ∷ 1 ∷ wire (address_before apex)) ≡ true
+unfolding name_labels
+srv_row = refl
+
+https_row : targets_address apex Rtype.https (0 ∷ 1 ∷ wire (address_before ([] ∷ [])) ++ 0 ∷ 3 ∷ 0 ∷ 2 ∷ 1 ∷ 187 ∷ []) ≡ true
+unfolding name_labels
+https_row = refl
+
+-- the root, a name of a host, and one that begins with an address elsewhere
+no_target_row : targets_address apex Rtype.mx (0 ∷ 0 ∷ 0 ∷ []) ≡ false
+unfolding name_labels
+no_target_row = refl
+
+host_row : targets_address apex Rtype.mx (0 ∷ 10 ∷ wire (under (codes "m"))) ≡ false
+unfolding name_labels
+host_row = refl
+
+elsewhere_target_row : targets_address apex Rtype.cname (wire (address_before (codes "nip" ∷ codes "io" ∷ [] ∷ []))) ≡ false
+unfolding name_labels
+elsewhere_target_row = refl
+
+-- RFC 2317 section 5.2 without a slash
+reverse_target_row : targets_address (below_in_addr (codes "1" ∷ codes "2" ∷ codes "0" ∷ codes "192" ∷ [])) Rtype.cname (wire (below_in_addr (codes "1" ∷ codes "3" ∷ codes "0" ∷ codes "192" ∷ []))) ≡ false
+unfolding name_labels
+reverse_target_row = refl
+
+-- ---- text
+
+abbrev from_text : Bool → List ℕ → Written
+from_text quotes last = record { has_quotes = quotes; last = record { ref_ptr = (0, 0); now = last } }
+
+-- TXT v=spf1 a -all
+abbrev words : List ℕ
+words = text (codes "v=spf1") ++ (text (codes "a") ++ text (codes "-all"))
+
+words_row : breaks_alone TxtWords (wire apex) Rtype.txt words (Some (from_text false (codes "-all\n"))) ≡ true
+words_row = refl
+
+quoted_words_row : breaks_alone TxtWords (wire apex) Rtype.txt words (Some (from_text true (codes "-all\n"))) ≡ false
+quoted_words_row = refl
+
+unknown_words_row : breaks_alone TxtWords (wire apex) Rtype.txt words None ≡ false
+unknown_words_row = refl
+
+one_word_row : breaks_alone TxtWords (wire apex) Rtype.txt (text (codes "v=spf1")) (Some (from_text false (codes "v=spf1\n"))) ≡ false
+one_word_row = refl
+
+other_words_row : breaks_alone TxtWords (wire apex) Rtype.txt (text (codes "a") ++ text (codes "b")) (Some (from_text false (codes "b\n"))) ≡ false
+other_words_row = refl
+
+-- v=DKIM1; p=..
+comment_row : has_word_at_comment (codes "v=DKIM1; p=abc\n") ≡ true
+comment_row = refl
+
+blank_row : has_word_at_comment (codes "v=DKIM1 ; p=abc\n") ≡ false
+blank_row = refl
+
+quoted_row : has_word_at_comment (codes "\"v=DKIM1\";p\n") ≡ false
+quoted_row = refl
+
+escaped_row : has_word_at_comment (codes "v=DKIM1\\; p\n") ≡ false
+escaped_row = refl
+
+number_escape_row : has_word_at_comment (codes "a\\059b;c\n") ≡ true
+number_escape_row = refl
+
+line_row : has_word_at_comment (codes "v=DKIM1\n; p\n") ≡ false
+line_row = refl
+
+parenthesis_row : has_word_at_comment (codes "v=DKIM1); p\n") ≡ false
+parenthesis_row = refl
+
+caa_comment_row : breaks_alone CommentInData (wire apex) Rtype.caa (caa 0 (codes "issue")) (Some (from_text false (codes "ca.example;x=y\n"))) ≡ true
+caa_comment_row = refl
+
+spf_comment_row : breaks_alone CommentInData (wire apex) Rtype.spf (text (codes "a")) (Some (from_text false (codes "a;b\n"))) ≡ true
+spf_comment_row = refl
+
+address_comment_row : breaks_alone CommentInData (wire apex) Rtype.a (192 ∷ 0 ∷ 2 ∷ 1 ∷ []) (Some (from_text false (codes "192.0.2.1;x\n"))) ≡ false
+address_comment_row = refl
+
+-- ---- all rules
+
+abbrev borrowed : List ℕ → RecordType → List ℕ → RecordRef
+borrowed owner rtype octets = record {
+  owner = record { ref_ptr = (0, 0); now = owner };
+  ttl = 60;
+  class = 1;
+  rtype = rtype;
+  «data» = record { ref_ptr = (0, 0); now = octets };
+}
+
+spf_found_row : found_alone (borrowed (wire apex) Rtype.spf (text (codes "v=spf1"))) (Some (from_text false (codes "v=spf1;\n"))) ≡ SpfType ∷ CommentInData ∷ []
+unfolding name_labels
+spf_found_row = refl
+
+soa_found_row : found_alone (borrowed (wire apex) Rtype.soa (soa (codes "admin" ∷ [] ∷ []) bad_timers)) None ≡ SoaMailOneLabel ∷ SoaRetry ∷ SoaExpire ∷ SoaMinimum ∷ []
+unfolding beyond_name name_labels
+soa_found_row = refl

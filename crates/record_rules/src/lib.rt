@@ -1,0 +1,19 @@
+//! Checks the rules of a record that need no other record.
+#![tactic(auto)]
+
+mod caa;
+mod check;
+mod comments;
+mod labels;
+mod laws;
+mod names;
+mod naptr;
+mod regexp;
+mod rule;
+mod soa;
+mod written;
+
+pub use check::{LONE_RULES, breaks_rule, broken_rules};
+pub use laws::broken_rules_are_found;
+pub use rule::RecordRule;
+pub use written::Written;
