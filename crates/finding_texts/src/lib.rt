@@ -1,0 +1,16 @@
+//! The words of findings in zone files: tokens as they are quoted, and mistakes that a message
+//! names. Pure functions, no files.
+//!
+//! - [`word::push_word`] quotes a token.
+//! - [`mistakes`] finds what was probably meant: a missing type, a comment of another language, a
+//!   conflict marker, a quotation mark.
+//! - [`similar`] finds names that differ little from another, and [`ascii`] the ASCII form of a
+//!   name.
+//! - [`digests`] names digest types.
+#![tactic(auto)]
+
+pub mod ascii;
+pub mod digests;
+pub mod mistakes;
+pub mod similar;
+pub mod word;
