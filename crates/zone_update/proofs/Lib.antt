@@ -1,0 +1,5 @@
+mod Apart
+mod Cutting
+mod Fitting
+mod Lasts
+mod Sending

@@ -1,0 +1,5 @@
+pub mod Messages
+pub mod Operations
+pub mod Parts
+pub mod Rows
+pub mod UpdateSerials
