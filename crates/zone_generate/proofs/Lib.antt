@@ -1,0 +1,4 @@
+pub mod DigitSteps
+pub mod DigitTexts
+pub mod PartSteps
+pub mod TokenSteps

@@ -1,0 +1,10 @@
+use Rattle.std.proofs.Common.{◌≡◌, ◌++◌, drop}
+use Rattle.dns_octets.specs.Appending.{Extends}
+use Rattle.zone_generate.specs.Directives.{word_texts, words_text}
+use Rattle.zone_generate.proofs.directive.append_words.Given as goal
+
+abbrev pub invariant-loop-word : goal.invariant-loop-word
+invariant-loop-word g l = record {
+  made : l.out.items ++ words_text (word_texts (drop l.word-index l.words)) ≡ l.initial.out.items ++ words_text (word_texts l.words);
+  extends : Extends l.initial.out.items l.out.items;
+}

@@ -1,0 +1,162 @@
+//! The parts of the owner and of the RDATA of a directive.
+ghost use Rattle.std.specs.Prelude.{◌≡◌, ◌++◌, ◌≤◌, ◌<◌, ◌+◌, IfOk, OnErr, OnOk, length};
+ghost use Rattle.dns_octets.specs.Appending.{Extends};
+ghost use Rattle.zone_generate.specs.Parts.{brace_part, dollar_part, escape_part, is_line_break, part_of, written_part, sum_fits};
+
+use crate::error::GenerateErrorKind;
+use crate::format::{NumberFormat, read_format};
+use crate::number::append_number;
+use crate::numeral::octet_index;
+use std::alloc::{AllocError, Allocator};
+
+/// A part of the owner or of the RDATA.
+#[derive(Clone, Copy, Debug, PartialEq, Eq)]
+pub enum Part {
+    /// An octet, written as it is.
+    Octet(u8),
+    /// An octet after a backslash, written with it.
+    Escape(u8),
+    /// A dollar sign, from two of them. It is written as an escape.
+    Dollar,
+    /// The number.
+    Number(NumberFormat),
+}
+
+/// The part with which a text begins.
+#[derive(Clone, Copy)]
+pub(crate) struct ReadPart {
+    /// The part.
+    pub(crate) part: Part,
+    /// Number of its octets.
+    pub(crate) len: usize,
+}
+
+/// The greatest sum of a number and an offset.
+const MOST: u64 = 0x7fff_ffff;
+
+/// Returns whether an octet is a line feed or a carriage return.
+fn is_line_break(octet: u8) -> bool
+    ensures { result ≡ is_line_break octet }
+{
+    octet == b'\n' || octet == b'\r'
+}
+
+/// Returns whether the sum of the last number and an offset is at most 2147483647.
+fn sum_fits(last: u32, format: NumberFormat) -> bool
+    ensures { result ≡ sum_fits last format }
+{
+    format.is_negative || u64::from(last) + u64::from(format.offset) <= MOST
+}
+
+/// Parses what comes after a backslash. In a quoted string, a double quote is written without it.
+fn escape_part(rest: &[u8], is_quoted: bool) -> Result<ReadPart, GenerateErrorKind>
+    ensures value { result ≡ escape_part is_quoted rest.now }
+    ensures within { IfOk result (λ p. (0 < p.len) × (p.len ≤ length rest.now + 1)) }
+{
+    let Some(&octet) = rest.first() else {
+        return Err(GenerateErrorKind::OpenEscape);
+    };
+    if is_line_break(octet) {
+        return Err(GenerateErrorKind::LineBreak);
+    }
+    if is_quoted && octet == b'"' {
+        return Ok(ReadPart {
+            part: Part::Octet(octet),
+            len: 2,
+        });
+    }
+    Ok(ReadPart {
+        part: Part::Escape(octet),
+        len: 2,
+    })
+}
+
+/// Parses what comes after a dollar sign and a brace.
+fn brace_part(rest: &[u8], last: u32) -> Result<ReadPart, GenerateErrorKind>
+    ensures value { result ≡ brace_part last rest.now }
+    ensures within { IfOk result (λ p. (0 < p.len) × (p.len ≤ length rest.now + 2)) }
+{
+    let brace = octet_index(b'}', rest);
+    if rest.len() <= brace {
+        return Err(GenerateErrorKind::OpenBrace);
+    }
+    let format = read_format(&rest[..brace])?;
+    if !sum_fits(last, format) {
+        return Err(GenerateErrorKind::LargeSum);
+    }
+    Ok(ReadPart {
+        part: Part::Number(format),
+        len: brace + 3,
+    })
+}
+
+/// Parses what comes after a dollar sign.
+fn dollar_part(rest: &[u8], last: u32) -> Result<ReadPart, GenerateErrorKind>
+    ensures value { result ≡ dollar_part last rest.now }
+    ensures within { IfOk result (λ p. (0 < p.len) × (p.len ≤ length rest.now + 1)) }
+{
+    match rest.first() {
+        Some(b'$') => Ok(ReadPart {
+            part: Part::Dollar,
+            len: 2,
+        }),
+        Some(b'{') => brace_part(&rest[1..], last),
+        _ => Ok(ReadPart {
+            part: Part::Number(NumberFormat::plain()),
+            len: 1,
+        }),
+    }
+}
+
+/// Parses the part with which a text begins.
+pub(crate) fn read_part(
+    text: &[u8],
+    is_quoted: bool,
+    last: u32,
+) -> Result<ReadPart, GenerateErrorKind>
+    ensures value { result ≡ part_of last is_quoted text.now }
+    ensures within { IfOk result (λ p. (0 < p.len) × (p.len ≤ length text.now)) }
+{
+    let Some(&octet) = text.first() else {
+        return Err(GenerateErrorKind::MissingToken);
+    };
+    if octet == b'\\' {
+        return escape_part(&text[1..], is_quoted);
+    }
+    if octet == b'$' {
+        return dollar_part(&text[1..], last);
+    }
+    if is_line_break(octet) {
+        return Err(GenerateErrorKind::LineBreak);
+    }
+    Ok(ReadPart {
+        part: Part::Octet(octet),
+        len: 1,
+    })
+}
+
+/// Appends the text of a part for a number. Without memory, the first octets may be appended.
+pub(crate) fn append_part<A: Allocator>(
+    part: Part,
+    number: u32,
+    out: &mut Vec<u8, A>,
+) -> Result<(), AllocError>
+    ensures made { OnOk result (out.new.items ≡ out.old.items ++ written_part number part) }
+    ensures err { OnErr result (Extends out.old.items out.new.items) }
+{
+    match part {
+        Part::Octet(octet) => {
+            out.push(octet)?;
+            Ok(())
+        }
+        Part::Escape(octet) => {
+            out.extend_from_slice(&[b'\\', octet])?;
+            Ok(())
+        }
+        Part::Dollar => {
+            out.extend_from_slice(b"\\$")?;
+            Ok(())
+        }
+        Part::Number(format) => append_number(format, number, out),
+    }
+}

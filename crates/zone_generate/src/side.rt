@@ -1,0 +1,119 @@
+//! The owner or the RDATA of a directive.
+ghost use Rattle.std.specs.Prelude.{◌≡◌, ◌++◌, IsOk, MatchResult, OnErr, OnOk, Err};
+ghost use Rattle.dns_octets.specs.Appending.{Extends};
+ghost use Rattle.zone_generate.specs.Parts.{side_parts, parts_or_none, side_text};
+
+use crate::error::GenerateErrorKind;
+use crate::part::{append_part, read_part};
+use std::alloc::{AllocError, Allocator};
+use std::marker::Model;
+
+/// Why the owner or the RDATA of a directive are rejected.
+#[derive(Clone, Copy, Debug, PartialEq, Eq)]
+pub struct SideError {
+    /// Offset of the part that is rejected, in the text.
+    pub offset: usize,
+    /// Why it is rejected.
+    pub kind: GenerateErrorKind,
+}
+
+/// Fails with the first part that is rejected.
+fn check_parts(text: &[u8], is_quoted: bool, last: u32) -> Result<(), SideError>
+    ensures { MatchResult result (λ _. IsOk (side_parts last is_quoted text.now))
+        (λ e. side_parts last is_quoted text.now ≡ Err e) }
+{
+    let mut at = 0;
+    while at < text.len() {
+        match read_part(&text[at..], is_quoted, last) {
+            Ok(part) => at += part.len,
+            Err(kind) => return Err(SideError { offset: at, kind }),
+        }
+    }
+    Ok(())
+}
+
+/// Appends the text of all parts for a number. Without memory, the first octets may be appended.
+fn append_parts<A: Allocator>(
+    text: &[u8],
+    is_quoted: bool,
+    last: u32,
+    number: u32,
+    out: &mut Vec<u8, A>,
+) -> Result<(), AllocError>
+    requires { IsOk (side_parts last is_quoted text.now) }
+    ensures made { OnOk result (out.new.items
+        ≡ out.old.items ++ side_text number (parts_or_none (side_parts last is_quoted text.now))) }
+    ensures err { OnErr result (Extends out.old.items out.new.items) }
+{
+    let mut at = 0;
+    while at < text.len() {
+        match read_part(&text[at..], is_quoted, last) {
+            Ok(part) => {
+                append_part(part.part, number, out)?;
+                at += part.len;
+            }
+            Err(_) => unreachable!(),
+        }
+    }
+    Ok(())
+}
+
+/// The owner or the RDATA of a directive: a text in which dollar signs are replaced.
+///
+/// - `$` is the number, and `${offset,width,base}` the number in a format ([`crate::format`]).
+/// - `$$` is a dollar sign. It is written `\$`, so that an entry never begins with a dollar sign.
+/// - A backslash and the octet after it are written as they are. In a quoted string, `\"` is
+///   written `"`, since the text of the string is read as RDATA.
+#[derive(Drop)]
+pub struct Side<'t> {
+    text: &'t [u8],
+    is_quoted: bool,
+    last: u32,
+}
+
+impl<'t> Model for Side<'t> {
+    ghost use Rattle.std.specs.Prelude.{List, IsOk};
+    ghost use Rattle.zone_generate.specs.Parts.{side_parts, parts_or_none};
+    ghost use Rattle.zone_generate.specs.declared.part.Part.{Part};
+
+    ghost Value = { List Part };
+
+    ghost view = { λ s. parts_or_none (side_parts s.last s.is_quoted s.text.now) };
+
+    ghost invariant = { λ s. IsOk (side_parts s.last s.is_quoted s.text.now) };
+}
+
+impl<'t> Side<'t> {
+    /// Parses the text of a token, for numbers up to `last`.
+    ///
+    /// Fails with the first part that is rejected: a format with its error, `OpenBrace`,
+    /// `LargeSum` if the sum of `last` and an offset exceeds 2147483647, `OpenEscape`, or
+    /// `LineBreak`.
+    pub fn new(text: &'t [u8], is_quoted: bool, last: u32) -> Result<Side<'t>, SideError>
+        ensures { result ≡ side_parts last is_quoted text.now }
+    {
+        match check_parts(text, is_quoted, last) {
+            Ok(()) => Ok(Side {
+                text,
+                is_quoted,
+                last,
+            }),
+            Err(error) => Err(error),
+        }
+    }
+
+    /// Appends the text for a number. If an allocation fails, `out` is unchanged.
+    pub fn append<A: Allocator>(&self, number: u32, out: &mut Vec<u8, A>) -> Result<(), AllocError>
+        ensures made { OnOk result (out.new.items ≡ out.old.items ++ side_text number self.now) }
+        ensures unchanged { OnErr result (out.new.items ≡ out.old.items) }
+    {
+        let before = out.len();
+        match append_parts(self.text, self.is_quoted, self.last, number, out) {
+            Ok(()) => Ok(()),
+            Err(error) => {
+                out.truncate(before);
+                Err(error)
+            }
+        }
+    }
+}
