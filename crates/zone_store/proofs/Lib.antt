@@ -1,6 +1,7 @@
+pub mod CanonicalOrders
 mod EntriesRead
 mod EntryOrders
-mod EntrySearches
+pub mod EntrySearches
 mod KeyPrefixes
 mod PartsRead
 mod Rising

@@ -1,5 +1,8 @@
+pub mod Canonical
 pub mod Counted
+pub mod Duplicates
 pub mod Entries
+pub mod Indexes
 pub mod Parts
 pub mod Prefixes
 pub mod Rows

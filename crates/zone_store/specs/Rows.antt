@@ -2,6 +2,7 @@
 use Rattle.std.specs.Prelude.{◌≡◌, ℕ, true, false, List, [], ◌∷◌, ◌++◌, ◌+◌, ◌*◌, ◌^◌, replicate, codes, refl}
 use Rattle.std.specs.declared.cmp.Ordering.TheVariants.{Less, Greater}
 use Rattle.zone_store.specs.Counted.{counted_octets, first_counted, after_counted}
+use Rattle.zone_store.specs.Duplicates.{is_duplicate_at}
 use Rattle.zone_store.specs.Entries.{key_at, key_offset, parts_at, parts_offset, record_of}
 use Rattle.zone_store.specs.Parts.{RecordParts, parts_octets, octets16, octets32, octets64, begins_parts}
 use Rattle.zone_store.specs.Prefixes.{prefix_number}
@@ -137,3 +138,16 @@ other_key_row = refl
 
 other_class_row : has_stored_rrset (codes "b") 3 16 some_records ≡ false
 other_class_row = refl
+
+-- the second of two records that are equal is a duplicate
+abbrev twice : List AddedRecord
+twice = stored (codes "a") 1 1 [] ∷ stored (codes "a") 1 1 [] ∷ stored (codes "b") 1 1 [] ∷ []
+
+first_once_row : is_duplicate_at twice 0 ≡ false
+first_once_row = refl
+
+second_row : is_duplicate_at twice 1 ≡ true
+second_row = refl
+
+other_row : is_duplicate_at twice 2 ≡ false
+other_row = refl

@@ -3,13 +3,14 @@ ghost use Rattle.std.specs.Prelude.{◌≡◌, ◌<◌, All, IfSome, OnErr, OnOk
 ghost use Rattle.std.specs.List.Sorted.{IsPermutation, IsSorted};
 ghost use Rattle.std.specs.Ordering.{nat_cmp, ordering_then};
 ghost use Rattle.zone_store.specs.Entries.{entry_order, key_at, key_offset, parts_at, parts_offset, parts_or_absent, prefixed_keys, prefixed_order, HasPrefix, IsStoreEntry, IsEntryFor};
+ghost use Rattle.zone_store.specs.Indexes.{stored_at};
 ghost use Rattle.zone_store.specs.Parts.{record_parts};
 ghost use Rattle.zone_store.specs.Prefixes.{prefix_number};
 ghost use Rattle.zone_store.specs.Stored.{absent_parts, parts_cmp, record_at};
 ghost use Rattle.zone_store.specs.Stores.{stored_records};
 
 use crate::counted::split_counted;
-use crate::records::{EntryHeader, GroupEntry, split_record};
+use crate::records::{EntryHeader, GroupEntry, first_type, split_record};
 use dns_kinds::{Class, RecordType};
 use dns_resource::compare_any_data;
 use std::alloc::{AllocError, Allocator};
@@ -112,6 +113,21 @@ fn parts_at(octets: &[u8], offset: usize) -> GroupEntry<'_>
     first_or_absent(rest_at(octets, offset))
 }
 
+/// Returns the class and the type of the record that octets begin with. If they begin with none, both
+/// are 0.
+fn first_type_or_absent(octets: &[u8]) -> (Class, RecordType)
+    ensures class { result.0 ≡ (parts_or_absent octets.now).class }
+    ensures rtype { result.1 ≡ (parts_or_absent octets.now).code }
+{
+    match first_type(octets) {
+        Some(found) => found,
+        None => {
+            let header = absent().header;
+            (header.class, header.rtype)
+        }
+    }
+}
+
 impl Entry {
     /// Returns the entry of a record whose key has an offset and whose other parts have another.
     /// Returns `None` if an offset is 2^40 or greater, or if the second is not after the first by
@@ -159,6 +175,14 @@ pub(crate) fn parts_of<'s>(octets: &'s [u8], entry: &Entry) -> GroupEntry<'s>
     parts_at(octets, entry.parts_offset())
 }
 
+/// Returns the class and the type of the record of an entry.
+pub(crate) fn type_of(octets: &[u8], entry: &Entry) -> (Class, RecordType)
+    ensures class { result.0 ≡ (parts_at octets.now (parts_offset entry.now)).class }
+    ensures rtype { result.1 ≡ (parts_at octets.now (parts_offset entry.now)).code }
+{
+    first_type_or_absent(rest_at(octets, entry.parts_offset()))
+}
+
 /// Compares the key of an entry with another one, first by their prefixes.
 pub(crate) fn compare_prefixed(octets: &[u8], entry: &Entry, prefix: u64, key: &[u8]) -> Ordering
     ensures { result ≡ prefixed_keys octets.now entry.now prefix key.now }
@@ -170,21 +194,18 @@ pub(crate) fn compare_prefixed(octets: &[u8], entry: &Entry, prefix: u64, key: &
 }
 
 /// Compares the class of a record with another, then the type.
-pub(crate) fn compare_type(header: &EntryHeader, class: Class, rtype: RecordType) -> Ordering
-    ensures { result ≡ ordering_then (nat_cmp header.now.class class) (nat_cmp header.now.rtype rtype) }
+pub(crate) fn compare_type(found: (Class, RecordType), class: Class, rtype: RecordType) -> Ordering
+    ensures { result ≡ ordering_then (nat_cmp found.0 class) (nat_cmp found.1 rtype) }
 {
-    header
-        .class
-        .0
-        .cmp(&class.0)
-        .then(header.rtype.0.cmp(&rtype.0))
+    found.0.0.cmp(&class.0).then(found.1.0.cmp(&rtype.0))
 }
 
 /// Compares two records without their owners: by class, type and RDATA in canonical form.
 pub(crate) fn compare_parts(left: &GroupEntry<'_>, right: &GroupEntry<'_>) -> Ordering
     ensures { result ≡ parts_cmp (record_parts left.now) (record_parts right.now) }
 {
-    match compare_type(&left.header, right.header.class, right.header.rtype) {
+    let found = (left.header.class, left.header.rtype);
+    match compare_type(found, right.header.class, right.header.rtype) {
         Ordering::Equal => compare_any_data(left.header.rtype, left.rdata, right.rdata),
         order => order,
     }
@@ -267,4 +288,13 @@ pub(crate) fn parts_by_index<'s>(
     ensures { record_parts result ≡ (record_at (stored_records octets.now entries.now) index).parts }
 {
     parts_of(octets, &entries[index])
+}
+
+/// Returns the class and the type of the record at an index.
+pub(crate) fn type_by_index(octets: &[u8], entries: &[Entry], index: usize) -> (Class, RecordType)
+    requires { index < length entries.now }
+    ensures class { result.0 ≡ (stored_at octets.now entries.now index).parts.class }
+    ensures rtype { result.1 ≡ (stored_at octets.now entries.now index).parts.code }
+{
+    type_of(octets, &entries[index])
 }

@@ -4,7 +4,7 @@ ghost use Rattle.zone_store.specs.Entries.{is_before_key, is_before_rrset};
 ghost use Rattle.zone_store.specs.Stored.{CountsBeforeKey, CountsBeforeRrset};
 ghost use Rattle.zone_store.specs.Stores.{stored_records, IsSortedStore};
 
-use crate::entries::{Entry, compare_prefixed, compare_type, key_prefix, parts_of};
+use crate::entries::{Entry, compare_prefixed, compare_type, key_prefix, type_of};
 use dns_kinds::{Class, RecordType};
 use std::cmp::Ordering;
 
@@ -27,7 +27,7 @@ fn is_before_rrset(
     ensures { result ≡ is_before_rrset octets.now prefix key.now class rtype entry.now }
 {
     match compare_prefixed(octets, entry, prefix, key) {
-        Ordering::Equal => compare_type(&parts_of(octets, entry).header, class, rtype).is_lt(),
+        Ordering::Equal => compare_type(type_of(octets, entry), class, rtype).is_lt(),
         order => order.is_lt(),
     }
 }

@@ -212,3 +212,43 @@ pub fn split_record(octets: &[u8]) -> Option<(GroupEntry<'_>, &[u8])>
         None => split_long(octets),
     }
 }
+
+/// Returns the class and the type of a short record that octets begin with.
+fn short_type(octets: &[u8]) -> Option<(Class, RecordType)>
+    ensures some { IsSome result ↔ (begins_short octets.now ≡ true) }
+    ensures class { IfSome result (λ t. t.0 ≡ (first_short octets.now).class) }
+    ensures rtype { IfSome result (λ t. t.1 ≡ (first_short octets.now).code) }
+{
+    let (head, _) = octets.split_first_chunk::<11>()?;
+    if head[0] != SHORT {
+        return None;
+    }
+    Some((Class::IN, RecordType(u16::from(head[1]))))
+}
+
+/// Returns the class and the type of a record that octets begin with and that is not short.
+fn long_type(octets: &[u8]) -> Option<(Class, RecordType)>
+    ensures some { IsSome result ↔ (begins_long octets.now ≡ true) }
+    ensures class { IfSome result (λ t. t.0 ≡ (first_whole octets.now).class) }
+    ensures rtype { IfSome result (λ t. t.1 ≡ (first_whole octets.now).code) }
+{
+    let (head, _) = octets.split_first_chunk::<21>()?;
+    if head[0] != LONG {
+        return None;
+    }
+    let rtype = RecordType(u16::from_be_bytes([head[1], head[2]]));
+    Some((Class(u16::from_be_bytes([head[3], head[4]])), rtype))
+}
+
+/// Returns the class and the type of the record that octets begin with. Returns `None` if they begin
+/// with none. Reads neither the RDATA nor their length.
+pub(crate) fn first_type(octets: &[u8]) -> Option<(Class, RecordType)>
+    ensures some { IsSome result ↔ (begins_parts octets.now ≡ true) }
+    ensures class { IfSome result (λ t. t.0 ≡ (first_parts octets.now).class) }
+    ensures rtype { IfSome result (λ t. t.1 ≡ (first_parts octets.now).code) }
+{
+    match short_type(octets) {
+        Some(found) => Some(found),
+        None => long_type(octets),
+    }
+}

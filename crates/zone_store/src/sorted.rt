@@ -2,10 +2,13 @@
 ghost use Rattle.std.specs.Prelude.{◌≡◌, ◌<◌, ◌≤◌, length};
 ghost use Rattle.std.specs.List.Sorted.{IsSorted};
 ghost use Rattle.std.specs.Ordering.{is_eq};
+ghost use Rattle.zone_store.specs.Duplicates.{is_duplicate_at};
 ghost use Rattle.zone_store.specs.Parts.{record_parts};
 ghost use Rattle.zone_store.specs.Stored.{has_stored_rrset, order_to_rrset, record_at, stored_order, CountsBeforeKey, CountsBeforeRrset};
 
-use crate::entries::{Entry, compare_parts, compare_type, key_by_index, parts_by_index};
+use crate::entries::{
+    Entry, compare_parts, compare_type, key_by_index, parts_by_index, type_by_index,
+};
 use crate::lookups::{count_before_key, count_before_rrset};
 use crate::records::GroupEntry;
 use dns_kinds::{Class, RecordType};
@@ -62,20 +65,32 @@ impl<A: Allocator> SortedStore<A> {
         parts_by_index(octets, entries, index)
     }
 
-    /// Returns the type of the record at an index.
+    /// Returns the class and the type of the record at an index. Reads neither the owner nor the
+    /// RDATA.
+    fn class_and_type(&self, index: usize) -> (Class, RecordType)
+        requires { index < length self.now }
+        ensures class { result.0 ≡ (record_at self.now index).parts.class }
+        ensures rtype { result.1 ≡ (record_at self.now index).parts.code }
+    {
+        let octets = self.octets.as_slice();
+        let entries = self.entries.as_slice();
+        type_by_index(octets, entries, index)
+    }
+
+    /// Returns the type of the record at an index. Reads neither the owner nor the RDATA.
     pub fn rtype(&self, index: usize) -> RecordType
         requires { index < length self.now }
         ensures { result ≡ (record_at self.now index).parts.code }
     {
-        self.entry(index).header.rtype
+        self.class_and_type(index).1
     }
 
-    /// Returns the class of the record at an index.
+    /// Returns the class of the record at an index. Reads neither the owner nor the RDATA.
     pub fn class(&self, index: usize) -> Class
         requires { index < length self.now }
         ensures { result ≡ (record_at self.now index).parts.class }
     {
-        self.entry(index).header.class
+        self.class_and_type(index).0
     }
 
     /// Compares the records at two indexes: by the keys of their owners, then by class, type and
@@ -89,6 +104,16 @@ impl<A: Allocator> SortedStore<A> {
             Ordering::Equal => compare_parts(&self.entry(left), &self.entry(right)),
             order => order,
         }
+    }
+
+    /// Returns whether the record at an index is a duplicate: whether the one before it is equal but
+    /// for its TTL and where it comes from. The records that are not duplicates are all records, each
+    /// once.
+    pub fn is_duplicate(&self, index: usize) -> bool
+        requires { index < length self.now }
+        ensures { result ≡ is_duplicate_at self.now index }
+    {
+        index > 0 && self.compare(index - 1, index).is_eq()
     }
 
     /// Returns the number of records whose key is less than a key. If there are records with that
@@ -120,7 +145,7 @@ impl<A: Allocator> SortedStore<A> {
         ensures { result ≡ is_eq (order_to_rrset (record_at self.now index) key.now class rtype) }
     {
         match self.key(index).cmp(key) {
-            Ordering::Equal => compare_type(&self.entry(index).header, class, rtype).is_eq(),
+            Ordering::Equal => compare_type(self.class_and_type(index), class, rtype).is_eq(),
             order => order.is_eq(),
         }
     }
