@@ -1,0 +1,5 @@
+pub mod FewTypes
+pub mod Listings
+pub mod Summed
+pub mod ZoneKeys
+pub mod ZoneNames

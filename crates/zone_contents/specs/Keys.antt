@@ -1,0 +1,41 @@
+-- Keys of the names in a zone.
+use Rattle.std.specs.Prelude.{◌≡◌, ℕ, ◌==◌, nat_eq, if◌then◌else◌, Bool, List, [], ◌∷◌, ◌++◌, length, take, drop}
+use Rattle.std.specs.Cmp.Lexicographic.{pointwise}
+use Rattle.std.specs.Ordering.{is_lt}
+use Rattle.dns_wire.specs.Wire.{wire}
+use Rattle.dns_spelling.specs.NameSpelling.{IsWireName}
+use Rattle.dns_canonical.specs.KeyNames.{key_name}
+use Rattle.dns_canonical.specs.Keys.{order_key}
+use Rattle.dns_canonical.specs.Names.{octet_order}
+
+abbrev pub begins_with : List ℕ → List ℕ → Bool
+begins_with octets front = pointwise nat_eq (take (length front) octets) front
+
+-- by the order keys of the apex and of a name: a mark, and what follows the apex's key or the whole key
+abbrev pub zone_key : List ℕ → List ℕ → List ℕ
+zone_key apex key = if begins_with key apex then 1 ∷ drop (length apex) key else (if is_lt (octet_order key apex) then 0 else 2) ∷ key
+
+-- the order key of the name with a key in a zone
+abbrev pub whole_key : List ℕ → List ℕ → List ℕ
+whole_key apex [] = []
+whole_key apex (mark ∷ rest) = if mark == 1 then apex ++ rest else rest
+
+-- the key of a name in a zone
+abbrev pub key_in_zone : List (List ℕ) → List (List ℕ) → List ℕ
+key_in_zone apex name = zone_key (order_key apex) (order_key name)
+
+-- the name with a key in a zone, in lower case
+abbrev pub name_in_zone : List (List ℕ) → List ℕ → List (List ℕ)
+name_in_zone apex key = key_name (whole_key (order_key apex) key)
+
+-- a key is that of a name
+pub record IsNameKey (apex : List (List ℕ)) (key : List ℕ) : Type 0 where
+  pub name : List (List ℕ)
+  pub is_name : IsWireName (wire name)
+  pub is : key ≡ key_in_zone apex name
+
+-- an order key, and the octets of the name that has it, in lower case
+pub record IsApex (key octets : List ℕ) : Type 0 where
+  pub is_name : IsWireName (wire (key_name key))
+  pub key_is : key ≡ order_key (key_name key)
+  pub octets_are : octets ≡ wire (key_name key)

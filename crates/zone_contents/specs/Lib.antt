@@ -1,0 +1,5 @@
+pub mod Contents
+pub mod Keys
+pub mod Rows
+pub mod Searches
+pub mod Summaries

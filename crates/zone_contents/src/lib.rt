@@ -1,0 +1,12 @@
+//! The records of a zone in little memory, as the rules of a zone read them.
+#![tactic(auto)]
+
+pub mod lookups;
+pub mod records;
+pub mod searches;
+pub mod stored;
+pub mod summary;
+pub mod zone_key;
+
+pub use stored::{StoredZone, ZoneStore};
+pub use zone_key::{Apex, ZoneKey};

@@ -1,0 +1,183 @@
+//! Searches among the sorted records of a zone.
+ghost use Rattle.std.specs.Prelude.{◌≡◌, ◌<◌, ◌≤◌, All, IfSome, Some, true, false, length, slice_get};
+ghost use Rattle.zone_contents.specs.Contents.{listed_record, listing, AreSortedRecords, IsZoneRecord};
+ghost use Rattle.zone_contents.specs.Searches.{closest_earlier, shared_by, EndsKey};
+ghost use Rattle.zone_rules.specs.Present.{rrset_of_record};
+ghost use Rattle.zone_rules.specs.Searches.{before_place, AreOwnedFrom, PartsBefore};
+ghost use Rattle.zone_rules.specs.Zones.{closest_owned};
+ghost use Rattle.zone_store.specs.Stored.{record_at};
+
+use crate::zone_key::{Apex, ZoneKey, write_name};
+use dns_wire::Name;
+use std::alloc::Allocator;
+use zone_rules::names::{name_of, octets_of, shared_name};
+use zone_rules::search::longer;
+use zone_rules::zone_records::OwnerBuffer;
+use zone_store::SortedStore;
+
+/// Greatest number of records of one owner that are looked at one after another.
+const FEW: usize = 8;
+
+/// Returns the number of records whose owners are before a name in canonical order.
+fn count_before<A: Allocator>(apex: &Apex, store: &SortedStore<A>, name: &Name<&[u8]>) -> usize
+    requires { AreSortedRecords apex.now store.now }
+    ensures bound { result ≤ length store.now }
+    ensures point { PartsBefore rrset_of_record name.now (listing apex.now store.now) result }
+{
+    let key = ZoneKey::of(apex, name);
+    store.count_before(key.as_slice())
+}
+
+/// Returns the owner of the record at an index, in lower case.
+pub(crate) fn owner_at<'b, A: Allocator>(
+    apex: &Apex,
+    store: &SortedStore<A>,
+    place: usize,
+    owner: &'b mut OwnerBuffer,
+) -> Name<&'b [u8]>
+    requires place { place < length store.now }
+    requires are { All (IsZoneRecord apex.now) store.now }
+    ensures { result ≡ (listed_record apex.now (record_at store.now place)).owner }
+{
+    write_name(apex, store.key(place), owner);
+    name_of(owner.as_slice())
+}
+
+/// Returns the longest name that a name and the owner of the record at an index are at or below.
+fn shared_at<'n, A: Allocator>(
+    apex: &Apex,
+    store: &SortedStore<A>,
+    place: usize,
+    name: &Name<&'n [u8]>,
+) -> Name<&'n [u8]>
+    requires place { place < length store.now }
+    requires are { All (IsZoneRecord apex.now) store.now }
+    ensures { Some result ≡ shared_by name.now (slice_get (listing apex.now store.now) place) }
+{
+    let mut owner = OwnerBuffer::new();
+    shared_name(name, &owner_at(apex, store, place, &mut owner))
+}
+
+/// Returns the longest name that a name and the owner of the record at an index are at or below, or
+/// `None` after the last record.
+fn shared_from<'n, A: Allocator>(
+    apex: &Apex,
+    store: &SortedStore<A>,
+    place: usize,
+    name: &Name<&'n [u8]>,
+) -> Option<Name<&'n [u8]>>
+    requires { All (IsZoneRecord apex.now) store.now }
+    ensures { result ≡ shared_by name.now (slice_get (listing apex.now store.now) place) }
+{
+    if place >= store.len() {
+        return None;
+    }
+    Some(shared_at(apex, store, place, name))
+}
+
+/// Returns the longest name that a name and the owner of the record before an index are at or below.
+fn shared_before<'n, A: Allocator>(
+    apex: &Apex,
+    store: &SortedStore<A>,
+    place: usize,
+    name: &Name<&'n [u8]>,
+) -> Option<Name<&'n [u8]>>
+    requires { All (IsZoneRecord apex.now) store.now }
+    ensures { result ≡ shared_by name.now (before_place (listing apex.now store.now) place) }
+{
+    if place == 0 {
+        return None;
+    }
+    shared_from(apex, store, place - 1, name)
+}
+
+/// Returns the closest name, of a name and its ancestors, that has an owner at it or below it.
+pub(crate) fn closest<'n, A: Allocator>(
+    apex: &Apex,
+    store: &SortedStore<A>,
+    name: &Name<&'n [u8]>,
+) -> Option<Name<&'n [u8]>>
+    requires { AreSortedRecords apex.now store.now }
+    ensures { result ≡ closest_owned (listing apex.now store.now) name.now }
+{
+    // No effect at run time: the proof reads that the name ends in the root.
+    let _octets = octets_of(name);
+    let place = count_before(apex, store, name);
+    longer(
+        shared_before(apex, store, place, name),
+        shared_from(apex, store, place, name),
+    )
+}
+
+/// Returns the closest ancestor of a name that is at or above an owner before the name.
+pub(crate) fn closest_before<'n, A: Allocator>(
+    apex: &Apex,
+    store: &SortedStore<A>,
+    name: &Name<&'n [u8]>,
+) -> Option<Name<&'n [u8]>>
+    requires { AreSortedRecords apex.now store.now }
+    ensures { result ≡ closest_earlier (listing apex.now store.now) name.now }
+{
+    // No effect at run time: the proof reads that the name ends in the root.
+    let _octets = octets_of(name);
+    let place = count_before(apex, store, name);
+    shared_before(apex, store, place, name)
+}
+
+/// Returns whether the record at an index has a key.
+fn has_key<A: Allocator>(store: &SortedStore<A>, place: usize, key: &[u8]) -> bool
+    requires { place < length store.now }
+    ensures has { result ≡ true → (record_at store.now place).key ≡ key.now }
+    ensures lacks { result ≡ false → (record_at store.now place).key ≡ key.now → ⊥ }
+{
+    store.key(place) == key
+}
+
+/// Returns the index after the records with a key, of which the first has this index.
+fn past_key<A: Allocator>(store: &SortedStore<A>, first: usize, key: &[u8]) -> usize
+    requires { first ≤ length store.now }
+    ensures { EndsKey key.now store.now first result }
+{
+    for place in first..store.len() {
+        if !has_key(store, place, key) {
+            return place;
+        }
+    }
+    store.len()
+}
+
+/// Returns the index after the records with a key, of which the first has this index, or `None` if
+/// there are more than [`FEW`].
+pub(crate) fn past_few<A: Allocator>(
+    store: &SortedStore<A>,
+    first: usize,
+    key: &[u8],
+) -> Option<usize>
+    requires { first ≤ length store.now }
+    ensures { IfSome result (EndsKey key.now store.now first) }
+{
+    for place in first..store.len() {
+        if !has_key(store, place, key) {
+            return Some(place);
+        }
+        if place - first >= FEW {
+            return None;
+        }
+    }
+    Some(store.len())
+}
+
+/// Returns the index of the first record whose owner is a name, and the index after the last one.
+pub(crate) fn places<A: Allocator>(
+    apex: &Apex,
+    store: &SortedStore<A>,
+    name: &Name<&[u8]>,
+) -> (usize, usize)
+    requires { AreSortedRecords apex.now store.now }
+    ensures from { result.0 ≤ result.1 }
+    ensures owned { AreOwnedFrom name.now (listing apex.now store.now) result.0 result.1 }
+{
+    let key = ZoneKey::of(apex, name);
+    let first = store.count_before(key.as_slice());
+    (first, past_key(store, first, key.as_slice()))
+}

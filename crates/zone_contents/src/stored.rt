@@ -1,0 +1,147 @@
+//! Collects the records of a zone in a store, and sorts them.
+ghost use Rattle.std.specs.Prelude.{◌≡◌, ◌<◌, [], OnOk, OnErr, length, map};
+ghost use Rattle.std.specs.List.Sorted.{IsPermutation, IsSorted, IsStable};
+ghost use Rattle.dns_octets.specs.Lowered.{lowered};
+ghost use Rattle.zone_contents.specs.Contents.{stored_in_zone, AddsRecord, AddsStored, IsZoneRecord};
+ghost use Rattle.zone_store.specs.Stored.{record_at, stored_order};
+
+use crate::summary::Summary;
+use crate::zone_key::{Apex, ZoneKey};
+use dns_octets::AsOctets;
+use dns_resource::Record;
+use dns_wire::Name;
+use std::alloc::{AllocError, Allocator, Global};
+use std::marker::Model;
+use zone_rules::names::octets_of;
+use zone_store::{EntryHeader, GroupEntry, RecordStore, SortedStore};
+
+/// Adds a record to a store, with the key of its owner in a zone. Fails without memory; the store is
+/// then unchanged.
+fn add_record<A: Allocator, Owner: AsOctets, Octets: AsOctets>(
+    apex: &Apex,
+    store: &mut RecordStore<A>,
+    record: &Record<Owner, Octets>,
+    file: u32,
+    offset: u64,
+) -> Result<(), AllocError>
+    ensures valid { IsZoneRecord apex.now (stored_in_zone apex.now «record».now file offset) }
+    ensures ok { OnOk result (AddsStored apex.now store.old store.new «record».now file offset) }
+    ensures err { OnErr result (store.new ≡ store.old) }
+{
+    // No effect at run time: the proof reads that the octets are those of a name.
+    let _owner = octets_of(&record.owner);
+    let key = ZoneKey::of(apex, &record.owner);
+    let header = EntryHeader {
+        rtype: record.data.rtype(),
+        class: record.class,
+        ttl: record.ttl,
+        file,
+        offset,
+    };
+    let rdata = record.data.as_slice();
+    store.add(key.as_slice(), &GroupEntry { header, rdata })
+}
+
+/// The records of a zone, in the order in which they were added, with the file and the position of
+/// each.
+#[derive(Drop)]
+pub struct ZoneStore<A: Allocator = Global> {
+    apex: Apex,
+    store: RecordStore<A>,
+    summary: Summary,
+}
+
+impl<A: Allocator> Model for ZoneStore<A> {
+    ghost use Rattle.zone_contents.specs.Contents.{ZoneValue, AreZoneRecords};
+
+    ghost Value = { ZoneValue };
+
+    ghost view = { λ s. record { apex = s.apex; records = s.store } };
+
+    ghost invariant = { λ s. AreZoneRecords s.apex s.store s.summary };
+}
+
+impl<A: Allocator + Copy> ZoneStore<A> {
+    /// Returns a collection without records, of a zone with this apex. Records at other names can be
+    /// added too.
+    pub fn new<Octets: AsOctets>(alloc: A, apex: &Name<Octets>) -> Self
+        ensures { result ≡ record { apex = map lowered apex.now; records = [] } }
+    {
+        ZoneStore {
+            apex: Apex::of(apex),
+            store: RecordStore::new(alloc),
+            summary: Summary::none(),
+        }
+    }
+}
+
+impl<A: Allocator> ZoneStore<A> {
+    /// Returns the number of records.
+    pub fn len(&self) -> usize
+        ensures { result ≡ length self.now.records }
+    {
+        self.store.len()
+    }
+
+    /// Adds a record. The letter case of its owner is not kept. Fails without memory; the collection
+    /// is then unchanged.
+    pub fn add<Owner: AsOctets, Octets: AsOctets>(
+        &mut self,
+        record: &Record<Owner, Octets>,
+        file: u32,
+        offset: u64,
+    ) -> Result<(), AllocError>
+        ensures ok { OnOk result (AddsRecord self.old self.new «record».now file offset) }
+        ensures err { OnErr result (self.new ≡ self.old) }
+    {
+        add_record(&self.apex, &mut self.store, record, file, offset)?;
+        self.summary = self.summary.with(record);
+        Ok(())
+    }
+
+    /// Sorts the records into canonical order (RFC 4034 section 6). Records that differ at most in
+    /// their TTL and position stay in the order in which they were added.
+    pub fn sort(self) -> StoredZone<A>
+        ensures apex { result.apex ≡ self.apex }
+        ensures permutation { IsPermutation self.records result.records }
+        ensures sorted { IsSorted stored_order result.records }
+        ensures stable { IsStable stored_order self.records result.records }
+    {
+        StoredZone {
+            apex: self.apex,
+            store: self.store.sort(),
+            summary: self.summary,
+        }
+    }
+}
+
+/// The records of a zone in canonical order, with the file and the position of each.
+#[derive(Drop)]
+pub struct StoredZone<A: Allocator = Global> {
+    pub(crate) apex: Apex,
+    pub(crate) store: SortedStore<A>,
+    pub(crate) summary: Summary,
+}
+
+impl<A: Allocator> Model for StoredZone<A> {
+    ghost use Rattle.zone_contents.specs.Contents.{ZoneValue, IsStoredZone};
+
+    ghost Value = { ZoneValue };
+
+    ghost view = { λ s. record { apex = s.apex; records = s.store } };
+
+    ghost invariant = { λ s. IsStoredZone s.apex s.store s.summary };
+}
+
+impl<A: Allocator> StoredZone<A> {
+    /// Returns the number of the file of the record at an index, and its position there, as they
+    /// were added.
+    pub fn position(&self, place: usize) -> (u32, u64)
+        requires { place < length self.now.records }
+        ensures file { result.0 ≡ (record_at self.now.records place).parts.file }
+        ensures offset { result.1 ≡ (record_at self.now.records place).parts.offset }
+    {
+        let header = self.store.entry(place).header;
+        (header.file, header.offset)
+    }
+}

@@ -1,0 +1,163 @@
+//! Keys of the names in a zone, whose first octets differ.
+ghost use Rattle.std.specs.Prelude.{◌≡◌, ◌≤◌, ◌+◌, ◌∷◌, ◌++◌, length, map};
+ghost use Rattle.dns_octets.specs.Lowered.{lowered};
+ghost use Rattle.dns_wire.specs.Wire.{wire};
+ghost use Rattle.dns_canonical.specs.Keys.{order_key};
+ghost use Rattle.zone_contents.specs.Keys.{key_in_zone, name_in_zone, zone_key, IsNameKey};
+
+use arrayvec::ArrayVec;
+use dns_canonical::{OrderKey, push_key_name};
+use dns_octets::AsOctets;
+use dns_wire::{MAX_NAME, Name};
+use std::cmp::Ordering;
+use std::marker::Model;
+use zone_rules::names::octets_of;
+
+/// Maximum length of the key of a name in a zone, in octets.
+pub const MAX_ZONE_KEY: usize = 510;
+
+/// First octet of the key of a name that is before the apex in canonical order.
+const BEFORE: u8 = 0;
+
+/// First octet of the key of a name at the apex or below it.
+const WITHIN: u8 = 1;
+
+/// First octet of the key of a name that is after all names of the zone.
+const AFTER: u8 = 2;
+
+/// The name of a zone.
+#[derive(Drop)]
+pub struct Apex {
+    key: OrderKey,
+    /// The name in wire format and in lower case.
+    octets: ArrayVec<u8, MAX_NAME>,
+}
+
+impl Model for Apex {
+    ghost use Rattle.std.specs.Prelude.{List, ℕ};
+    ghost use Rattle.dns_canonical.specs.KeyNames.{key_name};
+    ghost use Rattle.zone_contents.specs.Keys.{IsApex};
+
+    ghost Value = { List (List ℕ) };
+
+    ghost view = { λ a. key_name a.key };
+
+    ghost invariant = { λ a. IsApex a.key a.octets.items };
+}
+
+impl Apex {
+    /// Returns the name of a zone, in lower case.
+    pub fn of<Octets: AsOctets>(name: &Name<Octets>) -> Apex
+        ensures { result ≡ map lowered name.now }
+    {
+        // No effect at run time: the proof reads that the octets are those of a name.
+        let _octets = octets_of(name);
+        let key = OrderKey::of(name);
+        let mut octets = ArrayVec::new();
+        push_key_name(key.as_slice(), &mut octets);
+        Apex { key, octets }
+    }
+
+    /// Returns the order key of the name.
+    fn key(&self) -> &[u8]
+        ensures { result.now ≡ order_key self.now }
+    {
+        self.key.as_slice()
+    }
+
+    /// Returns the name in wire format.
+    fn octets(&self) -> &[u8]
+        ensures value { result.now ≡ wire self.now }
+        ensures lower { map lowered self.now ≡ self.now }
+    {
+        self.octets.as_slice()
+    }
+}
+
+/// Returns a mark and then octets.
+fn marked(mark: u8, octets: &[u8]) -> ArrayVec<u8, MAX_ZONE_KEY>
+    requires { length octets.now ≤ 509 }
+    ensures { result.items ≡ mark ∷ octets.now }
+{
+    let mut key = ArrayVec::new();
+    key.push(mark);
+    key.try_extend_from_slice(octets).unwrap();
+    key
+}
+
+/// Returns the key of a name in a zone, by the order keys of the apex and of the name.
+fn zone_key(apex: &[u8], key: &[u8]) -> ArrayVec<u8, MAX_ZONE_KEY>
+    requires { length key.now ≤ 509 }
+    ensures { result.items ≡ zone_key apex.now key.now }
+{
+    if let Some(rest) = key.strip_prefix(apex) {
+        return marked(WITHIN, rest);
+    }
+    match key.cmp(apex) {
+        Ordering::Less => marked(BEFORE, key),
+        _ => marked(AFTER, key),
+    }
+}
+
+/// The key of a name in a zone. Keys compare octet by octet as their names do in canonical order.
+///
+/// At the apex and below it, the key is a 1 and what follows the apex's order key in that of the
+/// name. Any other name has a 0 or a 2, by whether it is before the apex, and its order key.
+#[derive(Drop)]
+pub struct ZoneKey {
+    octets: ArrayVec<u8, MAX_ZONE_KEY>,
+}
+
+impl Model for ZoneKey {
+    ghost use Rattle.std.specs.Prelude.{List, ℕ};
+
+    ghost Value = { List ℕ };
+
+    ghost view = { λ k. k.octets.items };
+}
+
+impl ZoneKey {
+    /// Returns the key of a name in a zone.
+    pub fn of<Octets: AsOctets>(apex: &Apex, name: &Name<Octets>) -> ZoneKey
+        ensures { result ≡ key_in_zone apex.now name.now }
+    {
+        let key = OrderKey::of(name);
+        ZoneKey {
+            octets: zone_key(apex.key(), key.as_slice()),
+        }
+    }
+
+    /// Returns the octets of the key.
+    pub fn as_slice(&self) -> &[u8]
+        ensures value { result.now ≡ self.now }
+        ensures length { length result.now ≤ 510 }
+    {
+        self.octets.as_slice()
+    }
+}
+
+/// Appends octets to those of a buffer.
+fn append(octets: &[u8], name: &mut ArrayVec<u8, MAX_NAME>)
+    requires { length name.old.items + length octets.now ≤ 255 }
+    ensures { name.new.items ≡ name.old.items ++ octets.now }
+{
+    name.try_extend_from_slice(octets).unwrap();
+}
+
+/// Writes the name that has a key in a zone, in lower case, in place of what a buffer holds.
+pub fn write_name(apex: &Apex, key: &[u8], name: &mut ArrayVec<u8, MAX_NAME>)
+    requires { IsNameKey apex.now key.now }
+    ensures { name.new.items ≡ wire (name_in_zone apex.now key.now) }
+{
+    name.clear();
+    let Some((mark, rest)) = key.split_first() else {
+        return;
+    };
+    if *mark == WITHIN {
+        let octets = apex.octets();
+        push_key_name(rest, name);
+        append(octets, name);
+    } else {
+        push_key_name(rest, name);
+    }
+}
