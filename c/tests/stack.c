@@ -1,10 +1,18 @@
-/* The stack that a call uses: at most 16 KB, also if dnstext_data_read reports a syntax error. */
+/* The stack that a call uses: at most 16 KB, also if it reports an error; but up to 18 KB for a record
+ * with service parameters out of order, and up to 80 KB for RDATA of more than 1,024 octets. */
 #define _XOPEN_SOURCE 600
 #define TESTS "tests/stack.c"
 #include "expect.h"
 #include <pthread.h>
 
-enum { STACK = 1 << 18, MOST = 16 * 1024, PAINT = 0xA5 };
+enum {
+    STACK = 1 << 18,
+    MOST = 16 * 1024,
+    MOST_UNSORTED = 18 * 1024,
+    MOST_LONG = 80 * 1024,
+    LONG = 1200,
+    PAINT = 0xA5
+};
 
 /* The text of RDATA of a type; or of an entry, if the type is 0; and the status of parsing it. */
 struct row {
@@ -16,8 +24,35 @@ struct row {
 static const struct row ROWS[] = {
     {0, DNSTEXT_OK, "a. 60 IN A 192.0.2.1\n"},
     {0, DNSTEXT_OK, "a. 60 IN SVCB ( 1 .\n alpn=h2 )\n"},
+    {0, DNSTEXT_OK, "$TTL 60\n$ORIGIN example.\n@ SOA ns admin ( 1 2 3\n 4 5 )\n"},
+    {0, DNSTEXT_OK, "( a. 60 IN TXT x )\n"},
+    {0, DNSTEXT_END, "; a comment\n"},
+    {0, DNSTEXT_INCLUDE, "$INCLUDE file example.\n"},
     {0, DNSTEXT_BAD_DATA, "a. 60 IN A 192.0.2\n"},
+    {0, DNSTEXT_BAD_DATA, "a. 60 IN SVCB 1 . alpn=h2 alpn=h3\n"},
+    {0, DNSTEXT_BAD_DATA, "a. 60 IN NSEC b. A NOSUCH\n"},
+    {0, DNSTEXT_BAD_HEAD, "a. 60 IN NOSUCH x\n"},
+    {0, DNSTEXT_BAD_HEAD, "$INCLUDE\n"},
+    {0, DNSTEXT_NO_OWNER, " 60 IN A 192.0.2.1\n"},
+    {0, DNSTEXT_NO_ORIGIN, "a 60 IN A 192.0.2.1\n"},
+    {0, DNSTEXT_NO_TTL, "a. IN A 192.0.2.1\n"},
+    {0, DNSTEXT_OPEN_QUOTE, "\"a"},
+    {0, DNSTEXT_OPEN_QUOTE, "a. 60 IN TXT \"x\n"},
+    {0, DNSTEXT_OPEN_QUOTE, "a. 60 IN SVCB 1 . alpn=\"h2\n"},
+    {0, DNSTEXT_OPEN_QUOTE, "$INCLUDE \"file\n"},
+    {0, DNSTEXT_BAD_ESCAPE, "a. 60 IN TXT \\25x\n"},
+    {0, DNSTEXT_BAD_ESCAPE, "$ORIGIN \\256.\n"},
+    {0, DNSTEXT_LONE_RETURN, "a. 60 IN TXT x\ry\n"},
+    {0, DNSTEXT_CLOSING, "a. 60 IN A 192.0.2.1 )\n"},
+    {0, DNSTEXT_CLOSING, "a. 60 IN NOSUCH x )\n"},
+    {0, DNSTEXT_CLOSING, "60 IN A 192.0.2.1 )\n"},
+    {0, DNSTEXT_OPEN_PARENTHESIS, "a. 60 IN A ( 192.0.2.1\n"},
+    {0, DNSTEXT_OPEN_PARENTHESIS, "a. 60 IN SOA ( ns. admin. 1 2 3 4 5\n"},
+    {0, DNSTEXT_OPEN_PARENTHESIS, "a. 60 IN SVCB ( 1 . alpn=h2 ipv6hint=2001:db8::1\n"},
+    {0, DNSTEXT_OPEN_PARENTHESIS, "a. 60 IN SVCB ( 1 . no-default-alpn alpn=h2\n"},
+    {0, DNSTEXT_OPEN_PARENTHESIS, "a. 60 IN LOC ( 42 21 54 N 71 06 18 W -24m\n"},
     {1, DNSTEXT_OK, "192.0.2.1"},
+    {64, DNSTEXT_OK, "1 . no-default-alpn alpn=h2"},
     {1, DNSTEXT_BAD_DATA, "192.0.2"},
     {1, DNSTEXT_OPEN_PARENTHESIS, "( 192.0.2.1"},
     {1, DNSTEXT_CLOSING, ")"},
@@ -36,10 +71,12 @@ static void *nothing(void *unused) {
 static void *parse(void *unused) {
     static struct dnstext_record found;
     static uint8_t octets[1024];
-    struct dnstext_zone zone = DNSTEXT_ZONE_INIT;
-    struct dnstext_outcome outcome;
+    static const struct dnstext_zone start = DNSTEXT_ZONE_INIT;
+    static struct dnstext_zone zone;
+    static struct dnstext_outcome outcome;
     const uint8_t *text = (const uint8_t *)row.text;
     size_t length = strlen(row.text);
+    zone = start;
     if (row.type == 0)
         status = dnstext_record_next(text, length, &zone, &found, octets, sizeof octets, &outcome);
     else
@@ -61,27 +98,60 @@ static size_t written(void *(*body)(void *)) {
     return STACK - left;
 }
 
+static size_t least;
+static int is_shown;
+
+/* Parses the row, with the expected status and at most this many octets of stack. */
+static void check(size_t most) {
+    size_t used = written(parse) - least;
+    if (is_shown)
+        printf("%6zu octets, status %2u: %.60s\n", used, (unsigned)status, row.text);
+    if (status == row.status && used <= most)
+        return;
+    fprintf(stderr, "%s: status %u, %zu octets of stack: %.60s\n", TESTS, (unsigned)status, used, row.text);
+    failures++;
+}
+
+/* Parses a record with service parameters out of order. */
+static void check_unsorted(const char *text) {
+    row.type = 0;
+    row.status = DNSTEXT_OK;
+    row.text = text;
+    check(MOST_UNSORTED);
+}
+
+/* Parses RDATA of more than 1,024 octets. */
+static void check_long(const char *before, const char *after, uint32_t expected) {
+    static char text[2 * LONG + 100];
+    size_t length = strlen(before);
+    memcpy(text, before, length);
+    memset(text + length, '0', 2 * LONG);
+    strcpy(text + length + 2 * LONG, after);
+    row.type = 0;
+    row.status = expected;
+    row.text = text;
+    check(MOST_LONG);
+}
+
 int main(int count, char **arguments) {
-    size_t least, used, at;
+    size_t at;
     void *memory;
     (void)arguments;
     if (posix_memalign(&memory, 4096, STACK) != 0)
         return 1;
     stack = (uint8_t *)memory;
+    is_shown = count > 1;
     row = ROWS[0];
     written(parse); /* the first call finds the symbols of the C library */
     least = written(nothing);
     for (at = 0; at < sizeof ROWS / sizeof *ROWS; at++) {
         row = ROWS[at];
-        used = written(parse) - least;
-        if (count > 1)
-            printf("%6zu octets, status %2u: %s\n", used, (unsigned)status, row.text);
-        if (status != row.status || used > MOST) {
-            fprintf(stderr, "%s: row %zu: status %u, %zu octets of stack\n", TESTS, at, (unsigned)status,
-                    used);
-            failures++;
-        }
+        check(MOST);
     }
+    check_unsorted("a. 60 IN SVCB 1 . no-default-alpn alpn=h2\n");
+    check_unsorted("a. 60 IN SVCB ( 1 .\n no-default-alpn alpn=h2 )\n");
+    check_long("a. 60 IN TYPE65280 \\# 1200 ", "\n", DNSTEXT_NO_ROOM);
+    check_long("a. 60 IN TYPE65280 \\# 1200 ", " )\n", DNSTEXT_CLOSING);
     free(stack);
     return failures != 0;
 }

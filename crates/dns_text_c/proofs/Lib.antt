@@ -20,3 +20,4 @@ mod Rooms
 mod Row
 mod ToldTexts
 mod Written
+mod ZoneReads

@@ -1,5 +1,5 @@
 -- A record that is read of a line is the next record of the text.
-use Rattle.std.proofs.Common.{◌≡◌, ◌≢◌, ℕ, List, [], ap, refl, sym, ◌∙◌, subst, Some, None, Ok, Err}
+use Rattle.std.proofs.Common.{◌≡◌, ◌≢◌, ℕ, List, [], ap, sym, ◌∙◌, subst, Some, Ok, Err}
 use Rattle.dns_octets.specs.Room.{exactly}
 use Rattle.dns_reader.specs.Line.{ReadsLine}
 use Rattle.dns_reader.specs.Past.{seconds_of}
@@ -9,9 +9,9 @@ use Rattle.dns_reader.specs.declared.entry.EntryRead.TheVariants.{Nothing, Direc
 use Rattle.dns_reader.specs.declared.line.LineRead.{LineRead}
 use Rattle.dns_reader.specs.declared.records.RecordReader.{RecordReader}
 use Rattle.dns_reader.specs.declared.state.State.{State}
-use Rattle.dns_text_c.specs.Records.{IsHeadOfLine, MayLackRoom, ReadsZone, RecordCall, TellsFound, TellsGiven, TellsLine, head_in, head_with}
+use Rattle.dns_text_c.specs.Records.{IsHeadOfLine, ReadsZone, RecordCall, TellsFound, TellsGiven, TellsLine, head_in, head_with}
 use Rattle.dns_text_c.specs.declared.records.Head.{Head}
-use Rattle.dns_text_c.proofs.Rooms.{any_room}
+use Rattle.dns_text_c.proofs.Rooms.{IsNoError, any_room}
 
 module _ (head : Head) where
   record_told : (read : EntryRead) (reader : RecordReader) (octets : List ℕ) (call : RecordCall) → head_in read ≡ Some head → TellsFound 0 reader octets reader.state.owner head call → TellsGiven (Some (Ok read)) reader octets call
@@ -28,8 +28,8 @@ module _ (head : Head) where
   no_directive Directive is e = cc
 
   module _ (text : List ℕ) (state after : State) (line : LineRead) (octets : List ℕ) (call : RecordCall) (is : IsHeadOfLine head line) where
-    fits : MayLackRoom (Some line.read) → ⊥
-    fits lack = let one : Some (Ok is.0) ≡ Some (Err lack.0) = ap Some (sym is.1) ∙ lack.1 in cc
+    fits : IsNoError (Some line.read)
+    fits e err = let one : Some (Ok is.0) ≡ Some (Err e) = ap Some (sym is.1) ∙ err in cc
 
     never : Some line.read ≢ Some (Ok Directive)
     never e =

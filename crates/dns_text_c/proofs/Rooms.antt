@@ -1,4 +1,4 @@
--- What is read is read alike with any capacity, unless octets don't fit or a syntax error comes.
+-- What is read is read alike with any capacity, unless octets don't fit.
 use Rattle.std.proofs.Common.{ℕ, ◌≡◌, ◌++◌, Bool, List, [], ◌∷◌, length, refl, ap, ◌∙◌, inl, inr, Option, Some, None, Result, Ok, Err}
 use Rattle.std.specs.List.{AllByRecursion}
 use Rattle.dns_octets.specs.Room.{Room}
@@ -34,16 +34,19 @@ use Rattle.dns_reader.specs.declared.known.Known.{Known}
 use Rattle.dns_reader.specs.declared.records.RecordReader.{RecordReader}
 use Rattle.dns_reader.specs.declared.source.StartOfEntry.{StartOfEntry}
 use Rattle.dns_reader.specs.declared.state.State.{State}
-use Rattle.dns_text_c.specs.Records.{MayLackRoom}
 
 -- all of a list with one more element at its end
 all_before : {X : Type 0} (P : X → Type 0) (xs : List X) (x : X) → AllByRecursion P (xs ++ x ∷ []) → AllByRecursion P xs × P x
 all_before P [] x h = (tt, h.0)
 all_before P (y ∷ xs) x h = let more = all_before P xs x h.1 in ((h.0, more.0), more.1)
 
+-- a result is not an error
+abbrev pub IsNoError : Option (Result EntryRead RecordError) → Type 0
+IsNoError result = (e : RecordError) → result ≡ Some (Err e) → ⊥
+
 -- a directive is not an error
-directive_taken : (old : List ℕ) (g : EntryGiven) → IsDirectiveGiven old g → MayLackRoom (Some g.result) → ⊥
-directive_taken old g h refused = let is = h.1 in let no = refused.1 in cc
+directive_taken : (old : List ℕ) (g : EntryGiven) → IsDirectiveGiven old g → IsNoError (Some g.result)
+directive_taken old g h e err = let is = h.1 in cc
 
 -- a result is not an error of octets that don't fit
 abbrev pub Fits : {X : Type 0} → Result X RecordError → Type 0
@@ -161,24 +164,24 @@ module _ (one other : Room) where
   meaning_so before end tokens (says_record token words left) old new result owner fits h = (h.0, h.1, words_so before _ end h.0 words left old new result fits h.2)
   meaning_so before end tokens (says_refused r) old new result owner fits h = h
 
-  entry_so : (blank : Bool) (end : ℕ) (tokens : List TokenSeen) (before after : State) (old new : List ℕ) (result : Result EntryRead RecordError) → Fits result → ReadsZoneEntry one blank end tokens before old result after new
+  pub entry_so : (blank : Bool) (end : ℕ) (tokens : List TokenSeen) (before after : State) (old new : List ℕ) (result : Result EntryRead RecordError) → Fits result → ReadsZoneEntry one blank end tokens before old result after new
       → ReadsZoneEntry other blank end tokens before old result after new
   entry_so blank end tokens before after old new result fits h =
       record { meaning = h.meaning; says = h.says; reads = meaning_so before end tokens h.meaning old new result after.owner fits h.reads; extends = h.extends; learns = h.learns }
 
   begun_so : (octets : List ℕ) (begun : SourceSeen) (start : Result (Option StartOfEntry) Fault) (before : State) (old new : List ℕ) (result : Option (Result EntryRead RecordError)) (after : RecordReader)
-      → (MayLackRoom result → ⊥) → ReadsBegun one octets begun start before old result after new → ReadsBegun other octets begun start before old result after new
+      → IsNoError result → ReadsBegun one octets begun start before old result after new → ReadsBegun other octets begun start before old result after new
   begun_so octets begun (Ok (Some start)) before old new result after taken h = go h.0 h.1 h.2 h.3 h.4
     where
       go : (read : Result EntryRead RecordError) (end : Result EndOfEntry Fault) → ReadsZoneEntry one start.begins_blank (entry_end begun).at (entry_left begun) before old read after.state new
           → StandsAfter octets begun end after.source → result ≡ Some (given_of end read) → ReadsBegun other octets begun (Ok (Some start)) before old result after new
       go read (Ok end) reads stands is =
-          (read, Ok end, entry_so start.begins_blank _ _ before after.state old new read (λ r e k. taken (r, is ∙ ap Some e, inl k)) reads, stands, is)
-      go read (Err f) reads stands is = absurd (taken (error_of_fault f, is, inr (f.wrong, refl)))
+          (read, Ok end, entry_so start.begins_blank _ _ before after.state old new read (λ r e k. taken r (is ∙ ap Some e)) reads, stands, is)
+      go read (Err f) reads stands is = absurd (taken (error_of_fault f) is)
   begun_so octets begun (Ok None) before old new result after taken h = h
   begun_so octets begun (Err fault) before old new result after taken h = h
 
-  next_so : (before after : RecordReader) (old new : List ℕ) (result : Option (Result EntryRead RecordError)) → (MayLackRoom result → ⊥) → ReadsNextEntry one before old result after new
+  next_so : (before after : RecordReader) (old new : List ℕ) (result : Option (Result EntryRead RecordError)) → IsNoError result → ReadsNextEntry one before old result after new
       → ReadsNextEntry other before old result after new
   next_so before after old new result taken h = record {
     start = h.start;
@@ -188,13 +191,13 @@ module _ (one other : Room) where
     octets_stay = h.octets_stay;
   }
 
-  row_so : (old : List ℕ) (first last : RecordReader) (given : List EntryGiven) → AllByRecursion (IsDirectiveGiven old) given → AreGivenInARow one first given last → AreGivenInARow other first given last
+  pub row_so : (old : List ℕ) (first last : RecordReader) (given : List EntryGiven) → AllByRecursion (IsDirectiveGiven old) given → AreGivenInARow one first given last → AreGivenInARow other first given last
   row_so old first last given are none_given = none_given
   row_so old first last given are (given_next front middle end g row next state) =
       let both = all_before (IsDirectiveGiven old) front g are in
       given_next front middle end g (row_so old first middle front both.0 row) (next_so middle end g.old g.new (Some g.result) (directive_taken old g both.1) next) state
 
-  pub any_room : (before after : RecordReader) (old new : List ℕ) (result : Option (Result EntryRead RecordError)) → (MayLackRoom result → ⊥) → ReadsNextRecord one before old result after new
+  pub any_room : (before after : RecordReader) (old new : List ℕ) (result : Option (Result EntryRead RecordError)) → IsNoError result → ReadsNextRecord one before old result after new
       → ReadsNextRecord other before old result after new
   any_room before after old new result taken h = record {
     directives = h.directives;

@@ -1,5 +1,5 @@
 -- Why a text, an entry or data is rejected: the status, and the text of the error.
-use Rattle.std.specs.Prelude.{◌≡◌, ◌⊎◌, ℕ, List, [], ◌++◌, codes, take, Option, Some, None}
+use Rattle.std.specs.Prelude.{◌≡◌, ℕ, List, [], ◌++◌, codes, take, Option, Some, None}
 use Rattle.dns_data.specs.ByType.{name_of_field, shape_of_code}
 use Rattle.dns_fields.specs.declared.record_error.FieldName.{FieldName}
 use Rattle.dns_fields.specs.declared.record_error.RecordError.{RecordError}
@@ -18,10 +18,6 @@ use Rattle.dns_text_c.specs.declared.outcome.Outcome.{Outcome}
 use Rattle.dns_text_c.specs.declared.outcome.Refusal.{Refusal}
 use Rattle.dns_text_c.specs.declared.outcome.Refusal.TheVariants.{BadLabel, Pointer, TooLong, TrailingOctets, ShortInput, RelativeName}
 use Rattle.dns_text_c.specs.declared.outcome.Refusal.TheVariants.{BadHead, NotSupported, BadName, NoOrigin, NoOwner, RefusedOwner, BadData, NoTtl}
-
--- octets that don't fit, or a syntax error, before which some may not fit
-abbrev pub ErrorMayLackRoom : RecordError → Type 0
-ErrorMayLackRoom e = (e.kind ≡ ShortBuf) ⊎ ((wrong : Wrong) × (e.kind ≡ Syntax wrong))
 
 -- why octets are not an absolute name
 abbrev pub refusal_of_name : NameError → Refusal

@@ -15,7 +15,7 @@ use Rattle.dns_reader.specs.declared.line.LineRead.{LineRead}
 use Rattle.dns_reader.specs.declared.records.RecordReader.{RecordReader}
 use Rattle.dns_reader.specs.declared.state.State.{State}
 use Rattle.dns_text_c.specs.Kept.{HoldsState, KeepsName, KeepsState, said_origin}
-use Rattle.dns_text_c.specs.Reasons.{ErrorMayLackRoom, TellsError}
+use Rattle.dns_text_c.specs.Reasons.{TellsError}
 use Rattle.dns_text_c.specs.Told.{TellsFault, at_start, number_of}
 use Rattle.dns_text_c.specs.declared.kept.Zone.{Zone}
 use Rattle.dns_text_c.specs.declared.outcome.Outcome.{Outcome}
@@ -105,10 +105,6 @@ TellsGiven (Some (Ok (Include file has_origin))) reader octets call = (read : Is
 TellsGiven (Some (Ok Nothing)) reader octets call = ⊥
 TellsGiven (Some (Ok Directive)) reader octets call = ⊥
 
--- the reader's result is an error of octets that don't fit, or a syntax error
-abbrev pub MayLackRoom : Option (Result EntryRead RecordError) → Type 0
-MayLackRoom given = (e : RecordError) × (given ≡ Some (Err e)) × ErrorMayLackRoom e
-
 -- a reader at the zone's offset, with the state that the zone holds, returns the next record, and this is reported
 pub record ReadsZone (text : List ℕ) (state : State) (call : RecordCall) : Type 0 where
   pub before : RecordReader
@@ -124,3 +120,8 @@ abbrev pub NextRecord : List ℕ → RecordCall → Type 0
 NextRecord text call =
     ((HoldsState call.before.zone None ⊎ (length text < call.before.zone.at)) × TellsFault (at_start BadCursor) call.status call.outcome × (call.after ≡ call.before))
     ⊎ ((state : State) × HoldsState call.before.zone (Some state) × (call.before.zone.at ≤ length text) × ReadsZone text state call)
+
+-- a call that returns a status reads the next record, and one that returns none changes nothing
+abbrev pub NextIfRead : List ℕ → Option ℕ → (ℕ → RecordCall) → Type 0
+NextIfRead text (Some status) call = NextRecord text (call status)
+NextIfRead text None call = (status : ℕ) → (call status).after ≡ (call status).before

@@ -23,3 +23,4 @@ pub mod records;
 pub mod status;
 pub mod strings;
 pub mod tokens;
+mod zone_reader;

@@ -1,12 +1,11 @@
 //! Parses record data.
-ghost use Rattle.std.specs.Prelude.{◌≡◌, ◌↔◌, ◌≤◌, IsTrue, [], false, true};
+ghost use Rattle.std.specs.Prelude.{◌≡◌, ◌≤◌, [], false, true};
 ghost use Rattle.dns_reader.specs.Source.{entry_end};
-ghost use Rattle.dns_text_c.specs.Capacity.{ErrorLacksRoom};
 ghost use Rattle.dns_text_c.specs.DataText.{EndsText, ReadsLeft, ReadsOpen, AnswersText, TellsRead, TellsReadData, WritesData, trailing_token};
 
 use crate::kept::{name_of, refusal_of_name};
 use crate::outcome::{Fault, Outcome, give, refuse};
-use crate::reasons::{lacks_room, tell_error};
+use crate::reasons::{read_lacks, tell_error};
 use arrayvec::ArrayVec;
 use dns_data::read_type;
 use dns_fields::{RecordError, TokenSource};
@@ -25,16 +24,6 @@ const FEW: usize = 1024;
 struct Rejected {
     error: RecordError,
     lacks: bool,
-}
-
-/// Returns whether data is rejected because its octets don't fit.
-fn data_lacks(read: &Result<(), RecordError>) -> bool
-    ensures { IsTrue result ↔ ErrorLacksRoom read.now }
-{
-    match read {
-        Err(error) => lacks_room(error),
-        Ok(()) => false,
-    }
 }
 
 /// Returns the error of a token after the entry of the data.
@@ -88,7 +77,7 @@ fn read_open<const N: usize>(
     ensures { ReadsOpen N rtype origin.entry source.old result target.new.items }
 {
     let read = read_tokens(rtype, origin, source, target);
-    let lacks = data_lacks(&read);
+    let lacks = read_lacks(&read);
     if let Err(fault) = source.finish() {
         let error = RecordError::from(fault);
         return Err(Rejected { error, lacks });
@@ -112,7 +101,7 @@ fn read_nothing<const N: usize>(
     ensures { ReadsOpen N rtype origin.entry source.old result target.new.items }
 {
     let read = read_tokens(rtype, origin, source, target);
-    let lacks = data_lacks(&read);
+    let lacks = read_lacks(&read);
     match read {
         Ok(()) => Ok(()),
         Err(error) => Err(Rejected { error, lacks }),

@@ -2,7 +2,8 @@
 ghost use Rattle.std.specs.Prelude.{◌≡◌, ◌↔◌, ◌+◌, ◌≤◌, ◌++◌, IsTrue, codes, length, take, option_copied};
 ghost use Rattle.dns_kinds.specs.Types.{type_text};
 ghost use Rattle.dns_kinds.specs.declared.error.ErrorKind.TheVariants.{ShortBuf};
-ghost use Rattle.dns_text_c.specs.Reasons.{AppendsCut, ErrorMayLackRoom, TellsError, TellsReason, call_error_text, data_error_text, field_name, part_prefix, part_text, reason_text, refusal_of_data, refusal_of_entry, refusal_of_head, spaced, syntax_of};
+ghost use Rattle.dns_text_c.specs.Capacity.{ErrorLacksRoom};
+ghost use Rattle.dns_text_c.specs.Reasons.{AppendsCut, TellsError, TellsReason, call_error_text, data_error_text, field_name, part_prefix, part_text, reason_text, refusal_of_data, refusal_of_entry, refusal_of_head, spaced, syntax_of};
 
 use crate::kinds::numbered;
 use crate::outcome::{Fault, Outcome, Refusal, give_cut, number_of, refuse};
@@ -27,7 +28,7 @@ fn syntax_of(kind: ErrorKind) -> Option<Wrong>
 }
 
 /// Returns whether an error is one of octets that don't fit.
-pub(crate) fn lacks_room(error: &RecordError) -> bool
+fn lacks_room(error: &RecordError) -> bool
     ensures { IsTrue result ↔ (error.now.kind ≡ ShortBuf) }
 {
     match error.kind {
@@ -36,14 +37,13 @@ pub(crate) fn lacks_room(error: &RecordError) -> bool
     }
 }
 
-/// Returns whether an error is one of octets that don't fit, or a syntax error, before which some
-/// may not fit. Only then may the result be another one with more capacity.
-pub(crate) fn may_lack(error: &RecordError) -> bool
-    ensures { IsTrue result ↔ ErrorMayLackRoom error.now }
+/// Returns whether data or an entry is rejected because its octets don't fit.
+pub(crate) fn read_lacks<X>(read: &Result<X, RecordError>) -> bool
+    ensures { IsTrue result ↔ ErrorLacksRoom read.now }
 {
-    match error.kind {
-        ErrorKind::ShortBuf | ErrorKind::Syntax(_) => true,
-        _ => false,
+    match read {
+        Err(error) => lacks_room(error),
+        Ok(_) => false,
     }
 }
 

@@ -1,21 +1,23 @@
 //! Reads the records of a zone file, one by one and without allocating memory (RFC 1035 section
 //! 5.1).
-ghost use Rattle.std.specs.Prelude.{◌≡◌, ◌≢◌, ◌↔◌, ℕ, IfSome, IsTrue, List, Ok, Option, Some, false};
+ghost use Rattle.std.specs.Prelude.{◌≡◌, ◌≢◌, ℕ, IfSome, List, Ok, Option, Some, false};
 ghost use Rattle.dns_reader.specs.Included.{OriginAppended};
 ghost use Rattle.dns_reader.specs.declared.entry.EntryRead.TheVariants.{Nothing, Directive};
+ghost use Rattle.dns_text_c.specs.Capacity.{as_reader};
 ghost use Rattle.dns_text_c.specs.Kept.{KeepsName, said_origin};
 ghost use Rattle.dns_text_c.specs.Told.{TellsFault, at_start};
 ghost use Rattle.dns_text_c.specs.declared.outcome.Refusal.TheVariants.{BadCursor};
 ghost use Rattle.dns_text_c.specs.declared.records.Record.{Record};
-ghost use Rattle.dns_text_c.specs.Records.{HasIncluded, IsHeadOfLine, KeepsReader, MayLackRoom, NextRecord, TellsFound, TellsGiven, TellsLine, TellsRefused, head_in, head_of, memory};
+ghost use Rattle.dns_text_c.specs.Records.{HasIncluded, IsHeadOfLine, KeepsReader, NextIfRead, NextRecord, TellsFound, TellsGiven, TellsLine, TellsRefused, head_in, head_of, memory};
 
 use crate::kept::{KeptName, Zone, keep_name, keep_state, load_state, name_of, put_over};
 use crate::outcome::{END, Fault, INCLUDE, OK, Outcome, Refusal, number_of, refuse};
-use crate::reasons::{may_lack, tell_error};
+use crate::reasons::tell_error;
+use crate::zone_reader::ZoneReader;
 use arrayvec::ArrayVec;
 use dns_fields::RecordError;
 use dns_kinds::{Class, RecordType};
-use dns_reader::{EntryRead, Known, LineRead, RecordReader, State, include_parts, read_line};
+use dns_reader::{EntryRead, Known, LineRead, State, include_parts, read_line};
 
 /// Greatest number of octets of record data (RFC 1035 section 3.2.1).
 const MOST: usize = 65535;
@@ -68,9 +70,9 @@ fn head_in(read: &EntryRead) -> Option<Head>
 }
 
 /// Stores a reader's state, and its offset.
-fn keep_reader(reader: &RecordReader, zone: &mut Zone)
+fn keep_reader(reader: &ZoneReader, zone: &mut Zone)
     requires { reader.now.source.is_open ≡ false }
-    ensures { KeepsReader reader.now zone.old zone.new }
+    ensures { KeepsReader (as_reader reader.now) zone.old zone.new }
 {
     keep_state(&reader.state, reader.place(), zone);
 }
@@ -90,7 +92,7 @@ fn write_record(head: Head, name: &Known, found: &mut Record)
 /// Reports a record or a file, with a status of its own.
 fn tell_found(
     status: u32,
-    reader: &RecordReader,
+    reader: &ZoneReader,
     content: &[u8],
     name: &Known,
     head: Head,
@@ -100,7 +102,7 @@ fn tell_found(
     outcome: &mut Outcome,
 ) -> u32
     requires { reader.now.source.is_open ≡ false }
-    ensures { TellsFound status reader.now content.now name.now head (record {
+    ensures { TellsFound status (as_reader reader.now) content.now name.now head (record {
       before = memory zone.old found.old octets.old;
       after = memory zone.new found.new octets.new;
       status = result;
@@ -122,14 +124,14 @@ fn tell_found(
 
 /// Reports why an entry is rejected, or a syntax error of the text.
 fn tell_refused(
-    reader: &RecordReader,
+    reader: &ZoneReader,
     error: &RecordError,
     zone: &mut Zone,
     octets: &mut [u8],
     outcome: &mut Outcome,
 ) -> u32
     requires { reader.now.source.is_open ≡ false }
-    ensures { (found : Record) → TellsRefused reader.now error.now (record {
+    ensures { (found : Record) → TellsRefused (as_reader reader.now) error.now (record {
       before = memory zone.old found octets.old;
       after = memory zone.new found octets.new;
       status = result;
@@ -157,7 +159,7 @@ fn included_origin(has_origin: bool, octets: &[u8]) -> Known
 /// nothing is left.
 fn tell_given(
     given: Option<Result<EntryRead, RecordError>>,
-    reader: &RecordReader,
+    reader: &ZoneReader,
     content: &[u8],
     zone: &mut Zone,
     found: &mut Record,
@@ -168,7 +170,7 @@ fn tell_given(
     requires some { given ≢ Some (Ok Nothing) }
     requires last { given ≢ Some (Ok Directive) }
     requires included { HasIncluded given content.now }
-    ensures { TellsGiven given reader.now content.now (record {
+    ensures { TellsGiven given (as_reader reader.now) content.now (record {
       before = memory zone.old found.old octets.old;
       after = memory zone.new found.new octets.new;
       status = result;
@@ -218,16 +220,6 @@ fn refuse_zone(outcome: &mut Outcome) -> u32
     refuse(Fault { refusal, place: 0 }, outcome)
 }
 
-/// Returns whether a reader's result is an error for which more capacity may be needed.
-fn may_lack_room(given: &Option<Result<EntryRead, RecordError>>) -> bool
-    ensures { IsTrue result ↔ MayLackRoom given.now }
-{
-    match given {
-        Some(Err(error)) => may_lack(error),
-        _ => false,
-    }
-}
-
 /// Reads the next record as [`dnstext_record_next`] does, with capacity for the longest data.
 ///
 /// It is a function of its own, since the compiler fills its buffer with zeros at each call.
@@ -247,18 +239,18 @@ fn next_with_all_room(
       outcome = outcome.new;
     }) }
 {
-    let mut state = State::new(Class(zone.class_code));
-    if !load_state(zone, &mut state) {
-        return refuse_zone(outcome);
-    }
     if zone.at > text.len() {
         return refuse_zone(outcome);
     }
+    let state = State::new(Class(zone.class_code));
+    let mut reader = ZoneReader::starting_at(text, zone.at, state);
+    if !load_state(zone, &mut reader.state) {
+        return refuse_zone(outcome);
+    }
     let mut data: ArrayVec<u8, MOST> = ArrayVec::new();
-    let mut reader = RecordReader::starting_at(text, zone.at, state);
-    let given = reader.next_record(&mut data);
+    let read = reader.next_record(&mut data);
     tell_given(
-        given,
+        read.given,
         &reader,
         data.as_slice(),
         zone,
@@ -268,7 +260,10 @@ fn next_with_all_room(
     )
 }
 
-/// Reads the next record as [`dnstext_record_next`] does, in any text.
+/// Reads the next record as [`dnstext_record_next`] does, in any text. Returns `None`, and changes
+/// nothing, if octets don't fit.
+///
+/// It is a function of its own, so that the call with more capacity doesn't use its stack space too.
 #[inline(never)]
 fn next_of_any(
     text: &[u8],
@@ -276,36 +271,36 @@ fn next_of_any(
     found: &mut Record,
     octets: &mut [u8],
     outcome: &mut Outcome,
-) -> u32
-    ensures { NextRecord text.now (record {
+) -> Option<u32>
+    ensures { NextIfRead text.now result (λ status. record {
       before = memory zone.old found.old octets.old;
       after = memory zone.new found.new octets.new;
-      status = result;
+      status = status;
       outcome = outcome.new;
     }) }
 {
-    let mut state = State::new(Class(zone.class_code));
-    if !load_state(zone, &mut state) {
-        return refuse_zone(outcome);
-    }
     if zone.at > text.len() {
-        return refuse_zone(outcome);
+        return Some(refuse_zone(outcome));
+    }
+    let state = State::new(Class(zone.class_code));
+    let mut reader = ZoneReader::starting_at(text, zone.at, state);
+    if !load_state(zone, &mut reader.state) {
+        return Some(refuse_zone(outcome));
     }
     let mut data: ArrayVec<u8, FEW> = ArrayVec::new();
-    let mut reader = RecordReader::starting_at(text, zone.at, state);
-    let given = reader.next_record(&mut data);
-    if may_lack_room(&given) {
-        return next_with_all_room(text, zone, found, octets, outcome);
+    let read = reader.next_record(&mut data);
+    if read.lacks {
+        return None;
     }
-    tell_given(
-        given,
+    Some(tell_given(
+        read.given,
         &reader,
         data.as_slice(),
         zone,
         found,
         octets,
         outcome,
-    )
+    ))
 }
 
 /// Reports a record that was read of a line, and stores the state, and the offset of the line's
@@ -350,6 +345,49 @@ fn head_of_line(line: &LineRead) -> Option<Head>
     }
 }
 
+/// Reads the next record as [`dnstext_record_next`] does, if it is on one line. Returns `None`, and
+/// changes nothing, for other entries, and if octets don't fit.
+#[inline(never)]
+fn next_of_line(
+    text: &[u8],
+    zone: &mut Zone,
+    found: &mut Record,
+    octets: &mut [u8],
+    outcome: &mut Outcome,
+) -> Option<u32>
+    ensures { NextIfRead text.now result (λ status. record {
+      before = memory zone.old found.old octets.old;
+      after = memory zone.new found.new octets.new;
+      status = status;
+      outcome = outcome.new;
+    }) }
+{
+    let mut state = State::new(Class(zone.class_code));
+    if !load_state(zone, &mut state) {
+        return Some(refuse_zone(outcome));
+    }
+    if zone.at > text.len() {
+        return Some(refuse_zone(outcome));
+    }
+    let mut data: ArrayVec<u8, FEW> = ArrayVec::new();
+    let Some(line) = read_line(text, zone.at, &mut state, &mut data) else {
+        return None;
+    };
+    let Some(head) = head_of_line(&line) else {
+        return None;
+    };
+    Some(tell_line(
+        &state,
+        line.end,
+        data.as_slice(),
+        head,
+        zone,
+        found,
+        octets,
+        outcome,
+    ))
+}
+
 /// Reads the next record of a zone file, and advances the zone (RFC 1035 section 5.1, RFC 2308
 /// section 4). `$ORIGIN` and `$TTL` are processed on the way.
 ///
@@ -373,28 +411,11 @@ pub extern "C" fn dnstext_record_next(
       outcome = outcome.new;
     }) }
 {
-    let mut state = State::new(Class(zone.class_code));
-    if !load_state(zone, &mut state) {
-        return refuse_zone(outcome);
+    if let Some(status) = next_of_line(text, zone, found, octets, outcome) {
+        return status;
     }
-    if zone.at > text.len() {
-        return refuse_zone(outcome);
+    if let Some(status) = next_of_any(text, zone, found, octets, outcome) {
+        return status;
     }
-    let mut data: ArrayVec<u8, FEW> = ArrayVec::new();
-    let Some(line) = read_line(text, zone.at, &mut state, &mut data) else {
-        return next_of_any(text, zone, found, octets, outcome);
-    };
-    let Some(head) = head_of_line(&line) else {
-        return next_of_any(text, zone, found, octets, outcome);
-    };
-    tell_line(
-        &state,
-        line.end,
-        data.as_slice(),
-        head,
-        zone,
-        found,
-        octets,
-        outcome,
-    )
+    next_with_all_room(text, zone, found, octets, outcome)
 }

@@ -15,7 +15,7 @@ returns-in-Ok g c =
 pub returns-in-Err : goal.returns-in-Err
 returns-in-Err g c =
     let items = c.read_tokens-read.new.target.items in
-    tokens_in g.row.N c.data_lacks-lacks.result c.args.rtype (option_copied c.args.origin) c.args.source.now _ (Err c.in-Err.error) _ items
-    (fits_if (Err c.in-Err.error) c.data_lacks-lacks.result (rw c.in-Err.is at c.data_lacks-lacks.ensures))
+    tokens_in g.row.N c.read_lacks-lacks.result c.args.rtype (option_copied c.args.origin) c.args.source.now _ (Err c.in-Err.error) _ items
+    (fits_if (Err c.in-Err.error) c.read_lacks-lacks.result (rw c.in-Err.is at c.read_lacks-lacks.ensures))
     (rw c.requires.none at (rw c.in-Err.is at c.read_tokens-read.ensures.reads))
     (nothing_after c.args.rtype (Err c.in-Err.error) items _ (closed_left c.args.source.now c.requires.closed ∙ c.requires.nothing))

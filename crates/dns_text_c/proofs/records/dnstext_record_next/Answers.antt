@@ -1,15 +1,15 @@
-use Rattle.std.proofs.Common.{◌≡◌, [], inr, arith, rules}
-use Rattle.dns_text_c.proofs.KeptNames.{loaded}
-use Rattle.dns_text_c.proofs.LinesTold.{line_told}
+use Rattle.std.proofs.Common.{◌∙◌, subst}
+use Rattle.dns_text_c.specs.Records.{NextRecord, memory}
 use Rattle.dns_text_c.proofs.records.dnstext_record_next.Goals as goal
+
+pub returns-in-Some-next_of_any : goal.returns-in-Some-next_of_any
+returns-in-Some-next_of_any c =
+    let next = c.next_of_any in
+    subst (λ before. NextRecord c.args.text.now (record { before = before; after = memory next.new.zone next.new.found next.new.octets; status = c.in-Some-next_of_any.status; outcome = next.new.outcome }))
+    (c.in_default.ensures 0) c.in-Some-next_of_any.ensures
 
 pub returns : goal.returns
 returns c =
-    let none : c.new-data.result.items ≡ [] = search rules in
-    let all : c.read_line.new.target.items ≡ c.as_slice.result.now = search rules in
-    inr (
-      c.load_state.new.state,
-      loaded c.args.zone.now c.load_state.result c.load_state.new.state c.if-not-load_state.false c.load_state.ensures,
-      omega (arith, c.if-zone-text.false),
-      line_told c.in-Some-head_of_line.head _ _ c.read_line.new.state c.in-Some.line c.as_slice.result.now _ c.in-Some-head_of_line.ensures (rw (none, all) at c.in-Some.ensures.reads) c.tell_line.ensures,
-    )
+    let next = c.next_with_all_room in
+    subst (λ before. NextRecord c.args.text.now (record { before = before; after = memory next.new.zone next.new.found next.new.octets; status = next.result; outcome = next.new.outcome }))
+    (c.in_default-next_of_any.ensures 0 ∙ c.in_default.ensures 0) next.ensures
