@@ -95,6 +95,20 @@ pub fn summary_of(code: Code) -> &'static str {
         Code::Nsec3Iterations0 => "An NSEC3PARAM has iterations",
         Code::NsecTtl => "The TTL of an NSEC or NSEC3 is not that of negative answers",
         Code::CdsDelete => "A CDS or CDNSKEY asks to delete, and another asks for keys",
+        Code::SpfType => "A record has the type SPF",
+        Code::NaptrRegexp => "The regexp of a NAPTR is not a substitution expression",
+        Code::NaptrBoth => "A NAPTR has both a regexp and a replacement",
+        Code::CaaTag => "The tag of a CAA is not known, or has capital letters",
+        Code::SoaMail => "The mail name of an SOA has an @, or is one label",
+        Code::SoaTimers =>
+            "The timers of an SOA contradict each other, or its minimum is above a day",
+        Code::ReverseName => "The owner of a PTR in a reverse tree is not the name of an address",
+        Code::WildcardInside => "A label of an owner after the first is an asterisk",
+        Code::TargetAddress => "The target of a record is the text of an IPv4 address",
+        Code::TxtWords => "A TXT that begins with v= has several strings without quotes",
+        Code::CommentInData => "A comment begins where a word of a TXT, SPF or CAA ends",
+        Code::Exception => "An exception in a comment is malformed, or names an unknown code",
+        Code::UnusedAllow => "An exception in a comment excepts no finding",
     }
 }
 
@@ -265,6 +279,30 @@ pub fn text_of(code: Code) -> &'static str {
             "It is the lesser of the TTL and the minimum of the SOA (RFC 9077 section 3).",
         Code::CdsDelete =>
             "A request to delete the DS RRset is the only CDS and CDNSKEY of the zone (RFC 8078 section 4).",
+        Code::SpfType => "No receiver looks it up: SPF is published as TXT (RFC 7208 section 3.1).",
+        Code::NaptrRegexp =>
+            "It is empty, or as !ERE!REPLACEMENT!FLAGS: its first octet delimits three parts, and the last is empty or i (RFC 3402 section 3.2). BIND rejects another one.",
+        Code::NaptrBoth =>
+            "One of them is empty: the regexp as \"\", or the replacement as a dot (RFC 3403 section 4.1).",
+        Code::CaaTag =>
+            "A certification authority ignores an unknown tag, or issues no certificate if the flag 128 is set (RFC 8659 section 4.1). NSD rejects capital letters in a tag.",
+        Code::SoaMail =>
+            "The mail address hostmaster@example.org is written as hostmaster.example.org. (RFC 1035 section 8).",
+        Code::SoaTimers =>
+            "Retry is less than refresh, and expire at least their sum (RFC 1912 section 2.2). The minimum is the TTL of negative answers (RFC 2308 section 5).",
+        Code::ReverseName =>
+            "Below in-addr.arpa it is four numbers up to 255 (RFC 1035 section 3.5), below ip6.arpa 32 hexadecimal digits (RFC 3596 section 2.5), except below a label with a slash or a hyphen (RFC 2317 section 4).",
+        Code::WildcardInside => "Only a first label * makes a wildcard (RFC 4592 section 2.1.1).",
+        Code::TargetAddress =>
+            "It is a name, which has the address in an A record (RFC 1035 section 3.3).",
+        Code::TxtWords =>
+            "Receivers join the strings without blanks (RFC 7208 section 3.3, RFC 6376 section 3.6.2.2). Write the text in quotes.",
+        Code::CommentInData =>
+            "The text from the semicolon on is a comment (RFC 1035 section 5.1). Write the text in quotes.",
+        Code::Exception =>
+            "It is written as '; zonetext: allow CODE, CODE' in a comment of the entry whose findings it excepts. A second semicolon begins a remark.",
+        Code::UnusedAllow =>
+            "The entry has no finding of that code, or one that can't be excepted because it keeps the record from being read. Remove the exception.",
     }
 }
 
@@ -294,15 +332,15 @@ pub fn example_of(code: Code) -> &'static str {
         Code::NoTtl => "a A 192.0.2.2",
         Code::OtherClass => "a CH TXT \"b\"",
         Code::NoSoa => "$TTL 60\n@ NS ns\nns A 192.0.2.1",
-        Code::TwoSoas => "@ SOA ns h 2 2 3 4 5",
-        Code::NoNs => "$TTL 60\n@ SOA ns h 1 2 3 4 5\nns A 192.0.2.1",
+        Code::TwoSoas => "@ SOA ns h 2 4 2 9 5",
+        Code::NoNs => "$TTL 60\n@ SOA ns h 1 4 2 9 5\nns A 192.0.2.1",
         Code::NsAddress => "@ NS ns2",
         Code::Cname => "a CNAME ns\na TXT \"b\"",
         Code::Dname => "a DNAME ns\na DNAME b.example.",
         Code::DsApex =>
             "@ DS 1 8 2 0000000000000000000000000000000000000000000000000000000000000000",
         Code::WildcardNs => "*.a NS ns",
-        Code::SoaNotApex => "a SOA ns h 1 2 3 4 5",
+        Code::SoaNotApex => "a SOA ns h 1 4 2 9 5",
         Code::NsBesideDname => "a DNAME b.example.\na NS ns",
         Code::Nsec3Wildcard => "*.a NSEC3 1 0 0 - 0P9MHAVEQVM6T7VBL5LOP2U3T2RP3TOM A",
         Code::BelowDname => "a DNAME b.example.\nc.a A 192.0.2.2",
@@ -317,7 +355,7 @@ pub fn example_of(code: Code) -> &'static str {
         Code::AdjacentTokens => "a TXT \"b\"\"c\"",
         Code::NoFinalNewline => "a TXT \"b\"%",
         Code::RelativeOrigin => "$ORIGIN a\nb A 192.0.2.2",
-        Code::SoaMinimumTtl => "@ SOA ns h 1 2 3 4 5\n@ NS ns\nns A 192.0.2.1",
+        Code::SoaMinimumTtl => "@ SOA ns h 1 4 2 9 5\n@ NS ns\nns A 192.0.2.1",
         Code::IncludeTtl => "$INCLUDE sub.db",
         Code::MissingDot => "a MX 10 ns.example",
         Code::EmptyUri => "a URI 10 1 \"\"",
@@ -379,5 +417,18 @@ pub fn example_of(code: Code) -> &'static str {
         Code::NsecTtl => "a 7200 NSEC example. A RRSIG NSEC",
         Code::CdsDelete =>
             "@ CDS 0 0 0 00\n@ CDS 1 8 2 0000000000000000000000000000000000000000000000000000000000000000",
+        Code::SpfType => "a SPF \"v=spf1 -all\"",
+        Code::NaptrRegexp => "a NAPTR 1 1 \"u\" \"x\" \"!a!b\" .",
+        Code::NaptrBoth => "a NAPTR 1 1 \"u\" \"x\" \"!a!b!\" b.example.",
+        Code::CaaTag => "a CAA 0 isue \"ca.example\"",
+        Code::SoaMail => "@ SOA ns admin\\@example 1 4 2 9 5",
+        Code::SoaTimers => "@ SOA ns h 1 2 4 9 5",
+        Code::ReverseName => "1.2.in-addr.arpa. PTR ns",
+        Code::WildcardInside => "b.*.a TXT \"c\"",
+        Code::TargetAddress => "a MX 10 192.0.2.1",
+        Code::TxtWords => "a TXT v=spf1 -all",
+        Code::CommentInData => "a TXT v=DKIM1; p=abc",
+        Code::Exception => "a A 192.0.2.2 ; zonetext: allow tll",
+        Code::UnusedAllow => "a A 192.0.2.2 ; zonetext: allow host-name",
     }
 }

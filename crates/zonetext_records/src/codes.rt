@@ -1,5 +1,6 @@
 //! The codes of findings in the entries of zone files.
 ghost use Rattle.std.specs.Prelude.{◌≡◌};
+ghost use Rattle.record_rules.specs.LoneRuleNames.{lone_rule_name};
 ghost use Rattle.zone_dnssec.specs.SecurityNames.{security_name};
 ghost use Rattle.zone_rules.specs.RuleNames.{rule_name};
 ghost use Rattle.zonetext_records.specs.Codes.{code_of_entry, code_of_fault, code_of_front, code_of_part};
@@ -8,6 +9,7 @@ ghost use Rattle.zonetext_report.specs.Code.{code_name};
 use dns_fields::RecordError;
 use dns_kinds::ErrorKind;
 use dns_split::pieces::Wrong;
+use record_rules::RecordRule;
 use zone_dnssec::SecurityRule;
 use zone_rules::Rule;
 use zonetext_report::code::Code;
@@ -59,6 +61,25 @@ pub fn code_of_entry(is_directive: bool, error: &RecordError) -> Code
         ErrorKind::NoOwner | ErrorKind::RefusedOwner => Code::NoOwner,
         ErrorKind::NoTtl => Code::NoTtl,
         _ => code_of_part(is_directive, error),
+    }
+}
+
+/// Returns the code of a rule that a record alone breaks, which has the rule's name.
+pub fn code_of_record_rule(rule: RecordRule) -> Code
+    ensures { code_name result ≡ lone_rule_name rule }
+{
+    match rule {
+        RecordRule::SpfType => Code::SpfType,
+        RecordRule::NaptrRegexp => Code::NaptrRegexp,
+        RecordRule::NaptrBoth => Code::NaptrBoth,
+        RecordRule::CaaUnknown | RecordRule::CaaCritical | RecordRule::CaaCapitals => Code::CaaTag,
+        RecordRule::SoaMailAtSign | RecordRule::SoaMailOneLabel => Code::SoaMail,
+        RecordRule::SoaRetry | RecordRule::SoaExpire | RecordRule::SoaMinimum => Code::SoaTimers,
+        RecordRule::ReverseName => Code::ReverseName,
+        RecordRule::WildcardInside => Code::WildcardInside,
+        RecordRule::TargetAddress => Code::TargetAddress,
+        RecordRule::TxtWords => Code::TxtWords,
+        RecordRule::CommentInData => Code::CommentInData,
     }
 }
 

@@ -17,12 +17,12 @@ two_members r p old one new a b =
     append_last r old (line ++ codes ",\"opened_column\":") (one ++ codes ",\"opened_column\":") (decimal p.column) new between b
 
 -- the members of a finding
-pub all_members : {T E : Type 0} (r : Result T E) (f : Finding) (file old t1 t2 t3 t4 t5 t6 t7 t8 new : List ℕ) → t1 ≡ old ++ codes "{\"file\":\"" → t2 ≡ t1 ++ json_text file → t3 ≡ t2 ++ json_position f.position f.end_column
+pub all_members : {T E : Type 0} (r : Result T E) (f : Finding) (old t1 t2 t3 t4 t5 t6 t7 t8 new : List ℕ) → t1 ≡ old ++ codes "{\"file\":\"" → t2 ≡ t1 ++ json_text f.file.now → t3 ≡ t2 ++ json_position f.position f.end_column
     → t4 ≡ t3 ++ json_opened f.opened → t5 ≡ (t4 ++ codes ",\"severity\":\"") ++ severity_name f.severity → t6 ≡ (t5 ++ codes "\",\"code\":\"") ++ code_name f.code → t7 ≡ t6 ++ codes "\",\"message\":\""
-    → t8 ≡ t7 ++ json_text f.message.now → OnOk r (new ≡ t8 ++ codes "\"}\n") → OnOk r (new ≡ old ++ json_finding file f)
-all_members r f file old t1 t2 t3 t4 t5 t6 t7 t8 new e1 e2 e3 e4 e5 e6 e7 e8 e9 =
+    → t8 ≡ t7 ++ json_text f.message.now → OnOk r (new ≡ t8 ++ codes "\"}\n") → OnOk r (new ≡ old ++ json_finding f)
+all_members r f old t1 t2 t3 t4 t5 t6 t7 t8 new e1 e2 e3 e4 e5 e6 e7 e8 e9 =
     let a : List ℕ = codes "{\"file\":\"" in
-    let b : List ℕ = a ++ json_text file in
+    let b : List ℕ = a ++ json_text f.file.now in
     let c : List ℕ = b ++ json_position f.position f.end_column in
     let d : List ℕ = c ++ json_opened f.opened in
     let s : List ℕ = codes ",\"severity\":\"" in
@@ -30,7 +30,7 @@ all_members r f file old t1 t2 t3 t4 t5 t6 t7 t8 new e1 e2 e3 e4 e5 e6 e7 e8 e9 
     let k : List ℕ = codes "\",\"code\":\"" in
     let m : List ℕ = (n ++ k) ++ code_name f.code in
     let w : List ℕ = codes "\",\"message\":\"" in
-    let two = append_more old a t1 (json_text file) t2 e1 e2 in
+    let two = append_more old a t1 (json_text f.file.now) t2 e1 e2 in
     let three = append_more old b t2 (json_position f.position f.end_column) t3 two e3 in
     let four = append_more old c t3 (json_opened f.opened) t4 three e4 in
     let five = append_more old (d ++ s) (t4 ++ s) (severity_name f.severity) t5 (append_more old d t4 s (t4 ++ s) four refl) e5 in

@@ -15,7 +15,7 @@ use Rattle.zonetext_report.specs.declared.code.Severity.TheVariants.{Error, Warn
 use Rattle.zonetext_report.specs.declared.finding.Finding.{Finding}
 use Rattle.zonetext_report.specs.declared.json.Charset.TheVariants.{Utf8}
 use Rattle.zonetext_report.specs.Code.{code_name, severity_name}
-use Rattle.zonetext_report.specs.Finding.{IsOneLine, bold, bracketed_code, finding_line, opened_text, place_text, position_text, severity_style, severity_text, style_if, unstyled}
+use Rattle.zonetext_report.specs.Finding.{FindingsAreLines, IsOneLine, IsUpToOneLine, bold, bracketed_code, finding_line, further_line, opened_text, place_text, position_text, severity_style, severity_text, style_if, subject_part, subject_text, unstyled}
 use Rattle.zonetext_report.specs.Json.{hex_digit, json_finding, json_octet, json_opened, json_position, json_text, stands_plain}
 use Rattle.zone_format.specs.Place.{begins_character}
 use Rattle.zonetext_report.specs.Shown.{is_control, shown_octet, shown_text}
@@ -142,14 +142,33 @@ code_none _ = refl
 bracketed_none : (c : Code) → HasNone (bracketed_code c)
 bracketed_none c = both (codes " [" ++ code_name c) (codes "]") (both (codes " [") (code_name c) refl (code_none c)) refl
 
-pub finding_is_line : (b : Bool) (file : List ℕ) (f : Finding) → IsOneLine (finding_line b file f)
-finding_is_line b file f =
-    let weighed : HasNone (place_text b file f.position ++ severity_text b f.severity) = both (place_text b file f.position) (severity_text b f.severity) (place_none b file f.position) (weight_none b f.severity) in
-    let told : HasNone ((place_text b file f.position ++ severity_text b f.severity) ++ shown_text true f.message.now) =
-    both (place_text b file f.position ++ severity_text b f.severity) (shown_text true f.message.now) weighed (shown_none true f.message.now) in
-    let why : List ℕ = ((place_text b file f.position ++ severity_text b f.severity) ++ shown_text true f.message.now) ++ opened_text f.opened in
-    let opened : HasNone why = both ((place_text b file f.position ++ severity_text b f.severity) ++ shown_text true f.message.now) (opened_text f.opened) told (opened_none f.opened) in
+part_none : (part after : List ℕ) → HasNone after → HasNone (subject_part part after)
+part_none [] after h = refl
+part_none (c ∷ cs) after h = both (shown_text true (c ∷ cs)) after (shown_none true (c ∷ cs)) h
+
+subject_none : (owner rtype : List ℕ) → HasNone (subject_text owner rtype)
+subject_none owner [] = part_none owner (codes ": ") refl
+subject_none owner (c ∷ cs) = both (subject_part owner (codes " ")) (subject_part (c ∷ cs) (codes ": ")) (part_none owner (codes " ") refl) (part_none (c ∷ cs) (codes ": ") refl)
+
+pub finding_is_line : (b : Bool) (f : Finding) → IsOneLine (finding_line b f)
+finding_is_line b f =
+    let place : List ℕ = place_text b f.file.now f.position ++ severity_text b f.severity in
+    let weighed : HasNone place = both (place_text b f.file.now f.position) (severity_text b f.severity) (place_none b f.file.now f.position) (weight_none b f.severity) in
+    let subject : List ℕ = place ++ subject_text f.owner.now f.rtype.now in
+    let named : HasNone subject = both place (subject_text f.owner.now f.rtype.now) weighed (subject_none f.owner.now f.rtype.now) in
+    let message : List ℕ = subject ++ shown_text true f.message.now in
+    let told : HasNone message = both subject (shown_text true f.message.now) named (shown_none true f.message.now) in
+    let why : List ℕ = message ++ opened_text f.opened in
+    let opened : HasNone why = both message (opened_text f.opened) told (opened_none f.opened) in
     (why ++ bracketed_code f.code, refl, both why (bracketed_code f.code) opened (bracketed_none f.code))
+
+-- and of a help or a note
+pub further_is_line : (word text : List ℕ) → HasNone word → IsUpToOneLine (further_line word text)
+further_is_line word [] h = inl refl
+further_is_line word (c ∷ cs) h = inr (word ++ shown_text true (c ∷ cs), refl, both word (shown_text true (c ∷ cs)) h (shown_none true (c ∷ cs)))
+
+pub findings_are_lines : FindingsAreLines
+findings_are_lines = record { first = finding_is_line; help = λ text. further_is_line (codes "help: ") text refl; note = λ text. further_is_line (codes "note: ") text refl }
 
 -- in the parts of an object
 json_position_none : (p : Position) (n : ℕ) → HasNone (json_position p n)
@@ -168,9 +187,9 @@ json_opened_none (Some p) =
     let comma : HasNone ((codes ",\"opened_line\":" ++ decimal p.line) ++ codes ",\"opened_column\":") = both (codes ",\"opened_line\":" ++ decimal p.line) (codes ",\"opened_column\":") line refl in
     both ((codes ",\"opened_line\":" ++ decimal p.line) ++ codes ",\"opened_column\":") (decimal p.column) comma (decimal_none p.column)
 
-pub object_is_line : (file : List ℕ) (f : Finding) → IsOneLine (json_finding file f)
-object_is_line file f =
-    let a : List ℕ = codes "{\"file\":\"" ++ json_text file in
+pub object_is_line : (f : Finding) → IsOneLine (json_finding f)
+object_is_line f =
+    let a : List ℕ = codes "{\"file\":\"" ++ json_text f.file.now in
     let b : List ℕ = a ++ json_position f.position f.end_column in
     let c : List ℕ = b ++ json_opened f.opened in
     let d : List ℕ = c ++ codes ",\"severity\":\"" in
@@ -179,7 +198,7 @@ object_is_line file f =
     let k : List ℕ = s ++ code_name f.code in
     let m : List ℕ = k ++ codes "\",\"message\":\"" in
     let t : List ℕ = m ++ json_text f.message.now in
-    let ha : HasNone a = both (codes "{\"file\":\"") (json_text file) refl (json_none file) in
+    let ha : HasNone a = both (codes "{\"file\":\"") (json_text f.file.now) refl (json_none f.file.now) in
     let hb : HasNone b = both a (json_position f.position f.end_column) ha (json_position_none f.position f.end_column) in
     let hc : HasNone c = both b (json_opened f.opened) hb (json_opened_none f.opened) in
     let hd : HasNone d = both c (codes ",\"severity\":\"") hc refl in

@@ -3,7 +3,7 @@ use Rattle.std.specs.Prelude.{ℕ, Bool, true, false, List, codes}
 use Rattle.zonetext_report.specs.declared.code.Severity.{Severity}
 use Rattle.zonetext_report.specs.declared.code.Severity.TheVariants.{Error, Warning}
 use Rattle.zonetext_report.specs.declared.code.Code.{Code}
-use Rattle.zonetext_report.specs.declared.code.Code.TheVariants.{OpenQuote, OpenParenthesis, ClosingParenthesis, LoneReturn, BadEscape, Nul, ByteOrderMark, ControlZ, MaxEntry, Directive, Owner, Ttl, Class, RecordType, Data, Include, NoOwner, NoTtl, OtherClass, NoSoa, TwoSoas, NoNs, NsAddress, Cname, Dname, DsApex, WildcardNs, SoaNotApex, NsBesideDname, Nsec3Wildcard, BelowDname, Outside, MaxTtl, NoOrigin, HighOctet, ControlOctet, Crlf, NestedParentheses, LeadingParenthesis, AdjacentTokens, NoFinalNewline, RelativeOrigin, SoaMinimumTtl, IncludeTtl, MissingDot, EmptyUri, TlsaLength, IpseckeyAlgorithm, OhttpValue, Glue, TargetCname, TargetMissing, HostName, Cds, TtlDiffers, Duplicate, NotAtApex, KeyProtocol, KeyAlgorithm, NoDnskey, Expired, ExpiresSoon, NotYetValid, RrsigTimes, RrsigSigner, RrsigLabels, OriginalTtl, RrsigTtl, Unsigned, NoKey, KeyMissing, RrsigKey, SignsNothing, OccludedDnssec, NoNsec, NsecNext, NsecTypes, DsWithoutNs, NoNsec3, Nsec3Next, Nsec3Types, Nsec3Owner, Nsec3Iterations, Nsec3Iterations50, Nsec3Iterations0, NsecTtl, CdsDelete}
+use Rattle.zonetext_report.specs.declared.code.Code.TheVariants.{OpenQuote, OpenParenthesis, ClosingParenthesis, LoneReturn, BadEscape, Nul, ByteOrderMark, ControlZ, MaxEntry, Directive, Owner, Ttl, Class, RecordType, Data, Include, NoOwner, NoTtl, OtherClass, NoSoa, TwoSoas, NoNs, NsAddress, Cname, Dname, DsApex, WildcardNs, SoaNotApex, NsBesideDname, Nsec3Wildcard, BelowDname, Outside, MaxTtl, NoOrigin, HighOctet, ControlOctet, Crlf, NestedParentheses, LeadingParenthesis, AdjacentTokens, NoFinalNewline, RelativeOrigin, SoaMinimumTtl, IncludeTtl, MissingDot, EmptyUri, TlsaLength, IpseckeyAlgorithm, OhttpValue, Glue, TargetCname, TargetMissing, HostName, Cds, TtlDiffers, Duplicate, NotAtApex, KeyProtocol, KeyAlgorithm, NoDnskey, Expired, ExpiresSoon, NotYetValid, RrsigTimes, RrsigSigner, RrsigLabels, OriginalTtl, RrsigTtl, Unsigned, NoKey, KeyMissing, RrsigKey, SignsNothing, OccludedDnssec, NoNsec, NsecNext, NsecTypes, DsWithoutNs, NoNsec3, Nsec3Next, Nsec3Types, Nsec3Owner, Nsec3Iterations, Nsec3Iterations50, Nsec3Iterations0, NsecTtl, CdsDelete, SpfType, NaptrRegexp, NaptrBoth, CaaTag, SoaMail, SoaTimers, ReverseName, WildcardInside, TargetAddress, TxtWords, CommentInData, Exception, UnusedAllow}
 
 abbrev pub severity_name : Severity → List ℕ
 severity_name Error = codes "error"
@@ -98,6 +98,19 @@ code_name Nsec3Iterations50 = codes "nsec3-iterations-50"
 code_name Nsec3Iterations0 = codes "nsec3-iterations-0"
 code_name NsecTtl = codes "nsec-ttl"
 code_name CdsDelete = codes "cds-delete"
+code_name SpfType = codes "spf-type"
+code_name NaptrRegexp = codes "naptr-regexp"
+code_name NaptrBoth = codes "naptr-both"
+code_name CaaTag = codes "caa-tag"
+code_name SoaMail = codes "soa-mail"
+code_name SoaTimers = codes "soa-timers"
+code_name ReverseName = codes "reverse-name"
+code_name WildcardInside = codes "wildcard-inside"
+code_name TargetAddress = codes "target-address"
+code_name TxtWords = codes "txt-words"
+code_name CommentInData = codes "comment-in-data"
+code_name Exception = codes "exception"
+code_name UnusedAllow = codes "unused-allow"
 
 -- the text can't be read as entries, or not safely
 abbrev pub is_text_fault : Code → Bool
@@ -131,6 +144,17 @@ default_severity EmptyUri = Warning
 default_severity TlsaLength = Warning
 default_severity IpseckeyAlgorithm = Warning
 default_severity OhttpValue = Warning
+default_severity UnusedAllow = Warning
+default_severity SpfType = Warning
+default_severity NaptrBoth = Warning
+default_severity CaaTag = Warning
+default_severity SoaMail = Warning
+default_severity SoaTimers = Warning
+default_severity ReverseName = Warning
+default_severity WildcardInside = Warning
+default_severity TargetAddress = Warning
+default_severity TxtWords = Warning
+default_severity CommentInData = Warning
 default_severity Glue = Warning
 default_severity TargetCname = Warning
 default_severity TargetMissing = Warning

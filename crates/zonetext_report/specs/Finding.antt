@@ -1,5 +1,5 @@
 -- The line of a finding.
-use Rattle.std.specs.Prelude.{◌≡◌, ℕ, ◌==◌, not, if◌then◌else◌, Bool, true, List, [], ◌∷◌, ◌++◌, codes, Option, Some, None}
+use Rattle.std.specs.Prelude.{◌≡◌, ◌⊎◌, ℕ, ◌==◌, not, if◌then◌else◌, Bool, true, List, [], ◌∷◌, ◌++◌, codes, Option, Some, None}
 use Rattle.std.specs.List.{list_all}
 use Rattle.std.specs.Fmt.{decimal}
 use Rattle.dns_symbol.specs.Characters.{line_feed}
@@ -53,14 +53,39 @@ opened_text (Some p) = codes ", opened at " ++ position_text p
 abbrev pub bracketed_code : Code → List ℕ
 bracketed_code c = codes " [" ++ code_name c ++ codes "]"
 
--- `FILE:LINE:COLUMN: error: why [code]`
-abbrev pub finding_line : (is_coloured : Bool) → (file : List ℕ) → Finding → List ℕ
-finding_line is_coloured file f = place_text is_coloured file f.position ++ severity_text is_coloured f.severity ++ shown_text true f.message.now ++ opened_text f.opened ++ bracketed_code f.code ++ codes "\n"
+-- a part of the subject, and what separates it from the next one
+abbrev pub subject_part : (part after : List ℕ) → List ℕ
+subject_part [] after = []
+subject_part (c ∷ cs) after = shown_text true (c ∷ cs) ++ after
+
+-- `OWNER TYPE: `, or one of them, or nothing
+abbrev pub subject_text : (owner rtype : List ℕ) → List ℕ
+subject_text owner [] = subject_part owner (codes ": ")
+subject_text owner (c ∷ cs) = subject_part owner (codes " ") ++ subject_part (c ∷ cs) (codes ": ")
+
+-- `FILE:LINE:COLUMN: error: OWNER TYPE: why [code]`
+abbrev pub finding_line : (is_coloured : Bool) → Finding → List ℕ
+finding_line is_coloured f = place_text is_coloured f.file.now f.position ++ severity_text is_coloured f.severity ++ subject_text f.owner.now f.rtype.now ++ shown_text true f.message.now ++ opened_text f.opened ++ bracketed_code f.code ++ codes "\n"
+
+-- a line with a word before a text, or nothing if the text is empty
+abbrev pub further_line : (word text : List ℕ) → List ℕ
+further_line word [] = []
+further_line word (c ∷ cs) = word ++ shown_text true (c ∷ cs) ++ codes "\n"
+
+-- the line of a finding, and those of its help and its note
+abbrev pub finding_lines : (is_coloured : Bool) → Finding → List ℕ
+finding_lines is_coloured f = finding_line is_coloured f ++ further_line (codes "help: ") f.help.now ++ further_line (codes "note: ") f.note.now
 
 -- the last octet is a line feed, and no other
 abbrev pub IsOneLine : List ℕ → Type 0
 IsOneLine text = (front : List ℕ) × (text ≡ front ++ line_feed ∷ []) × (list_all (λ c. not (c == line_feed)) front ≡ true)
 
--- this holds for every file name and every message
-abbrev pub FindingsAreLines : Type 0
-FindingsAreLines = (is_coloured : Bool) (file : List ℕ) (f : Finding) → IsOneLine (finding_line is_coloured file f)
+-- nothing, or one line
+abbrev pub IsUpToOneLine : List ℕ → Type 0
+IsUpToOneLine text = (text ≡ []) ⊎ IsOneLine text
+
+-- this holds for every finding; a help and a note are at most one line each
+pub record FindingsAreLines : Type 0 where
+  pub first : (is_coloured : Bool) (f : Finding) → IsOneLine (finding_line is_coloured f)
+  pub help : (text : List ℕ) → IsUpToOneLine (further_line (codes "help: ") text)
+  pub note : (text : List ℕ) → IsUpToOneLine (further_line (codes "note: ") text)

@@ -34,10 +34,10 @@ abbrev pub json_opened : Option Position → List ℕ
 json_opened None = []
 json_opened (Some p) = codes ",\"opened_line\":" ++ decimal p.line ++ codes ",\"opened_column\":" ++ decimal p.column
 
-abbrev pub json_finding : (file : List ℕ) → Finding → List ℕ
-json_finding file f = codes "{\"file\":\"" ++ json_text file ++ json_position f.position f.end_column ++ json_opened f.opened
+abbrev pub json_finding : Finding → List ℕ
+json_finding f = codes "{\"file\":\"" ++ json_text f.file.now ++ json_position f.position f.end_column ++ json_opened f.opened
     ++ codes ",\"severity\":\"" ++ severity_name f.severity ++ codes "\",\"code\":\"" ++ code_name f.code ++ codes "\",\"message\":\"" ++ json_text f.message.now ++ codes "\"}\n"
 
--- this holds for every file name and every message
+-- this holds for every finding
 abbrev pub ObjectsAreLines : Type 0
-ObjectsAreLines = (file : List ℕ) (f : Finding) → IsOneLine (json_finding file f)
+ObjectsAreLines = (f : Finding) → IsOneLine (json_finding f)

@@ -204,6 +204,32 @@ pub enum Code {
     NsecTtl,
     /// A CDS or CDNSKEY asks to delete, and another asks for keys.
     CdsDelete,
+    /// A record has the type SPF, which no receiver looks up.
+    SpfType,
+    /// The regexp of a NAPTR is not a substitution expression.
+    NaptrRegexp,
+    /// A NAPTR has both a regexp and a replacement.
+    NaptrBoth,
+    /// The tag of a CAA is not known, or has capital letters.
+    CaaTag,
+    /// The mail name of an SOA has an `@`, or is one label.
+    SoaMail,
+    /// The timers of an SOA contradict each other, or its minimum is long.
+    SoaTimers,
+    /// The owner of a PTR in a reverse tree is not the name of an address.
+    ReverseName,
+    /// A label of an owner after the first is an asterisk.
+    WildcardInside,
+    /// The host or target of a record is the text of an IPv4 address.
+    TargetAddress,
+    /// A TXT that begins with `v=` has several strings without quotes.
+    TxtWords,
+    /// A comment begins inside of a word of a TXT, SPF or CAA.
+    CommentInData,
+    /// An exception in a comment is malformed, or names an unknown code.
+    Exception,
+    /// An exception excepts no finding.
+    UnusedAllow,
 }
 
 /// Returns the first of some codes that has a name.
@@ -215,7 +241,7 @@ fn find_named(codes: &[Code], name: &str) -> Option<Code>
 
 impl Code {
     /// Every code.
-    pub const ALL: [Code; 87] = [
+    pub const ALL: [Code; 100] = [
         Code::OpenQuote,
         Code::OpenParenthesis,
         Code::ClosingParenthesis,
@@ -303,6 +329,19 @@ impl Code {
         Code::Nsec3Iterations0,
         Code::NsecTtl,
         Code::CdsDelete,
+        Code::SpfType,
+        Code::NaptrRegexp,
+        Code::NaptrBoth,
+        Code::CaaTag,
+        Code::SoaMail,
+        Code::SoaTimers,
+        Code::ReverseName,
+        Code::WildcardInside,
+        Code::TargetAddress,
+        Code::TxtWords,
+        Code::CommentInData,
+        Code::Exception,
+        Code::UnusedAllow,
     ];
 
     /// Returns the name of a code, in lowercase letters and dashes.
@@ -397,6 +436,19 @@ impl Code {
             Code::Nsec3Iterations0 => "nsec3-iterations-0",
             Code::NsecTtl => "nsec-ttl",
             Code::CdsDelete => "cds-delete",
+            Code::SpfType => "spf-type",
+            Code::NaptrRegexp => "naptr-regexp",
+            Code::NaptrBoth => "naptr-both",
+            Code::CaaTag => "caa-tag",
+            Code::SoaMail => "soa-mail",
+            Code::SoaTimers => "soa-timers",
+            Code::ReverseName => "reverse-name",
+            Code::WildcardInside => "wildcard-inside",
+            Code::TargetAddress => "target-address",
+            Code::TxtWords => "txt-words",
+            Code::CommentInData => "comment-in-data",
+            Code::Exception => "exception",
+            Code::UnusedAllow => "unused-allow",
         }
     }
 
@@ -448,7 +500,19 @@ impl Code {
             | Code::EmptyUri
             | Code::TlsaLength
             | Code::IpseckeyAlgorithm
-            | Code::OhttpValue => Severity::Warning,
+            | Code::OhttpValue
+            | Code::UnusedAllow => Severity::Warning,
+            // (the rules of a record alone)
+            Code::SpfType
+            | Code::NaptrBoth
+            | Code::CaaTag
+            | Code::SoaMail
+            | Code::SoaTimers
+            | Code::ReverseName
+            | Code::WildcardInside
+            | Code::TargetAddress
+            | Code::TxtWords
+            | Code::CommentInData => Severity::Warning,
             // (the rules of a zone)
             Code::Glue
             | Code::TargetCname

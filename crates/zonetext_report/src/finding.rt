@@ -1,6 +1,6 @@
-//! A finding, and its line of output.
+//! A finding, and its lines of output.
 ghost use Rattle.std.specs.Prelude.{◌≡◌, ◌++◌, OnOk};
-ghost use Rattle.zonetext_report.specs.Finding.{bracketed_code, finding_line, opened_text, place_text, position_text, severity_style, severity_text, style_if};
+ghost use Rattle.zonetext_report.specs.Finding.{bracketed_code, finding_line, finding_lines, further_line, opened_text, place_text, position_text, severity_style, severity_text, style_if, subject_part, subject_text};
 
 use crate::code::{Code, Severity};
 use crate::push::push_number;
@@ -9,9 +9,11 @@ use dns_split::position::Position;
 use std::alloc::{AllocError, Allocator};
 
 /// A finding in a file, with its position. Lines and columns are counted from 1; columns count the
-/// octets that begin a character of UTF-8.
+/// octets that begin a character of UTF-8. A text that a finding doesn't have is empty.
 #[derive(Clone, Copy)]
 pub struct Finding<'a> {
+    /// Path of the file, or `-` for standard input.
+    pub file: &'a str,
     pub severity: Severity,
     pub code: Code,
     /// Position where it begins.
@@ -20,8 +22,16 @@ pub struct Finding<'a> {
     pub end_column: usize,
     /// Position where an open quote or parenthesis was opened.
     pub opened: Option<Position>,
-    /// Message, in words.
+    /// Owner of the record, relative to the zone or in full.
+    pub owner: &'a str,
+    /// Type of the record.
+    pub rtype: &'a str,
+    /// Message, in words. The token that it is about comes last, in single quotes.
     pub message: &'a str,
+    /// What to write instead.
+    pub help: &'a str,
+    /// Another position that explains the finding, in words.
+    pub note: &'a str,
 }
 
 /// Appends the escape sequence that begins or ends a style, in colour.
@@ -117,24 +127,81 @@ fn push_code<A: Allocator>(out: &mut Vec<u8, A>, code: Code) -> Result<(), Alloc
     out.extend_from_slice(b"]")
 }
 
-/// Appends the line `FILE:LINE:COLUMN: error: message [code]`, in the form of the GNU coding
-/// standards. If `opened` is set, `, opened at LINE:COLUMN` comes after the message.
-///
-/// Control octets of ASCII in the file's name and the message are shown as question marks, so that
-/// a finding is one line. In colour the position is bold, `error:` red, `warning:` magenta.
-pub fn push_line<A: Allocator>(
+/// Appends a part of the subject and what separates it from the next one, unless it is empty.
+fn push_part<A: Allocator>(out: &mut Vec<u8, A>, part: &str, after: &[u8]) -> Result<(), AllocError>
+    ensures { OnOk result (out.new.items ≡ out.old.items ++ subject_part part.now after.now) }
+{
+    if part.is_empty() {
+        return Ok(());
+    }
+    push_shown(out, true, part.as_bytes())?;
+    out.extend_from_slice(after)
+}
+
+/// Appends the owner and the type that a finding is about, as far as it has them, and a colon.
+fn push_subject<A: Allocator>(
+    out: &mut Vec<u8, A>,
+    owner: &str,
+    rtype: &str,
+) -> Result<(), AllocError>
+    ensures { OnOk result (out.new.items ≡ out.old.items ++ subject_text owner.now rtype.now) }
+{
+    if rtype.is_empty() {
+        return push_part(out, owner, b": ");
+    }
+    push_part(out, owner, b" ")?;
+    push_part(out, rtype, b": ")
+}
+
+/// Appends the line `FILE:LINE:COLUMN: error: OWNER TYPE: message [code]`.
+fn push_first_line<A: Allocator>(
     out: &mut Vec<u8, A>,
     is_coloured: bool,
-    file: &str,
     finding: &Finding<'_>,
 ) -> Result<(), AllocError>
     ensures { OnOk result (out.new.items
-        ≡ out.old.items ++ finding_line is_coloured file.now finding.now) }
+        ≡ out.old.items ++ finding_line is_coloured finding.now) }
 {
-    push_place(out, is_coloured, file, finding.position)?;
+    push_place(out, is_coloured, finding.file, finding.position)?;
     push_severity(out, is_coloured, finding.severity)?;
+    push_subject(out, finding.owner, finding.rtype)?;
     push_shown(out, true, finding.message.as_bytes())?;
     push_opened(out, finding.opened)?;
     push_code(out, finding.code)?;
     out.extend_from_slice(b"\n")
+}
+
+/// Appends a line with a word and a text, unless the text is empty.
+fn push_further_line<A: Allocator>(
+    out: &mut Vec<u8, A>,
+    word: &[u8],
+    text: &str,
+) -> Result<(), AllocError>
+    ensures { OnOk result (out.new.items ≡ out.old.items ++ further_line word.now text.now) }
+{
+    if text.is_empty() {
+        return Ok(());
+    }
+    out.extend_from_slice(word)?;
+    push_shown(out, true, text.as_bytes())?;
+    out.extend_from_slice(b"\n")
+}
+
+/// Appends the line `FILE:LINE:COLUMN: error: OWNER TYPE: message [code]`, in the form of the GNU
+/// coding standards. If `opened` is set, `, opened at LINE:COLUMN` comes after the message. A help
+/// and a note come on lines of their own, as `help: ..` and `note: ..`.
+///
+/// Control octets of ASCII in the texts are shown as question marks, so that a finding is one line,
+/// and a help or a note another. In colour the position is bold, `error:` red, `warning:` magenta.
+pub fn push_lines<A: Allocator>(
+    out: &mut Vec<u8, A>,
+    is_coloured: bool,
+    finding: &Finding<'_>,
+) -> Result<(), AllocError>
+    ensures { OnOk result (out.new.items
+        ≡ out.old.items ++ finding_lines is_coloured finding.now) }
+{
+    push_first_line(out, is_coloured, finding)?;
+    push_further_line(out, b"help: ", finding.help)?;
+    push_further_line(out, b"note: ", finding.note)
 }

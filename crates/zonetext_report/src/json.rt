@@ -139,13 +139,12 @@ fn push_opened<A: Allocator>(
 /// something is left open, `opened_line` and `opened_column` come after `end_column`.
 pub fn push_json<A: Allocator>(
     out: &mut Vec<u8, A>,
-    file: &str,
     finding: &Finding<'_>,
 ) -> Result<(), AllocError>
-    ensures { OnOk result (out.new.items ≡ out.old.items ++ json_finding file.now finding.now) }
+    ensures { OnOk result (out.new.items ≡ out.old.items ++ json_finding finding.now) }
 {
     out.extend_from_slice(b"{\"file\":\"")?;
-    push_string(out, Charset::Utf8, file.as_bytes())?;
+    push_string(out, Charset::Utf8, finding.file.as_bytes())?;
     push_position(out, finding.position, finding.end_column)?;
     push_opened(out, finding.opened)?;
     push_text(out, b",\"severity\":\"", finding.severity.name())?;

@@ -12,7 +12,7 @@ returns g c =
     let t4 = c.push_opened.new.out.items in
     let t5 = c.push_text.new.out.items in
     let t7 = c.extend_from_slice-2.new.self.items in
-    all_members last.result c.args.finding.now c.args.file.now c.args.out.now.items t1 c.push_string.new.out.items c.push_position.new.out.items t4 t5 c.push_text-2.new.out.items t7
+    all_members last.result c.args.finding.now c.args.out.now.items t1 c.push_string.new.out.items c.push_position.new.out.items t4 t5 c.push_text-2.new.out.items t7
     c.push_string-2.new.out.items last.new.self.items
     c.in_ok-extend_from_slice.ensures.items
     (c.in_ok-push_string.ensures ∙ ap (λ l. t1 ++ json_text l) c.as_bytes.ensures.value)

@@ -1,5 +1,5 @@
-use Rattle.zonetext_report.proofs.OneLine.{finding_is_line}
+use Rattle.zonetext_report.proofs.OneLine.{findings_are_lines}
 use Rattle.zonetext_report.proofs.laws.findings_are_lines.Goals as goal
 
 pub returns : goal.returns
-returns c = finding_is_line
+returns c = findings_are_lines
