@@ -112,11 +112,11 @@ def canon_rows():
     put('includes', '$INCLUDE part\n')
     same('an included file', run('canon', 'includes'), (0, text('mail.example.\t60\tIN\tMX\t10 web.example.'), ''))
     same('no origin', run('canon', given='a 60 A 192.0.2.1\nb 60 A 192.0.2.1\n'),
-         (1, '', '-:1:1: error: relative name, and no origin [no-origin]\n1 error, 0 warnings\nzonetext: no origin: give --zone\n'))
+         (1, '', '-:1:1: error: relative name, and no origin \'a\' [no-origin]\n1 error, 0 warnings\nzonetext: no origin: give --zone\n'))
     same('a fault', run('canon', given='a. 60 A 192.0.2.256\na. 60 A 192.0.2.1\n'),
-         (1, '', '-:1:9: error: A address: expected IPv4 address [data]\n1 error, 0 warnings\n'))
+         (1, '', '-:1:9: error: a. A: address: expected IPv4 address \'192.0.2.256\' [data]\n1 error, 0 warnings\n'))
     same('another class', run('canon', given='a. 60 CH A 192.0.2.1\n'),
-         (1, '', '-:1:7: error: another class than the zone\'s [other-class]\n1 error, 0 warnings\n'))
+         (1, '', '-:1:7: error: a. A: another class than the zone\'s \'CH\' [other-class]\n1 error, 0 warnings\n'))
     same('that class', run('canon', '--class', 'CH', given='a. 60 CH TXT x\n'), (0, 'a.\t60\tCH\tTXT\t"x"\n', ''))
     same('an absent file', run('canon', 'absent')[:2], (3, ''))
     same('no such type', run('canon', '--type', 'CNMAE', 'zone'), (2, '', 'zonetext: --type CNMAE: wants a type, as MX or TYPE15\n'))
@@ -192,7 +192,7 @@ def transfer_rows():
         + ';; Query time: 0 msec\n;; SERVER: 127.0.0.1#53(127.0.0.1) (TCP)\n;; XFR size: 4 records (messages 1, bytes 198)\n\n')
     put('plain', text(*lines))
     same('check of a transfer', run('check', '--zone', 'example.', 'sent'),
-         (0, '', 'sent:7:1: warning: record stands twice [duplicate]\n0 errors, 1 warning\n'))
+         (0, '', 'sent:7:1: warning: example. SOA: record stands twice [duplicate]\n0 errors, 1 warning\n'))
     same('records', run('records', 'sent'), (0, text(*lines, SOA), ''))
     same('canon', run('canon', 'sent'), (0, text(*lines), 'zonetext: 1 duplicate left out\n'))
     same('diff', run('diff', 'plain', 'sent'), (0, '', ''))
@@ -237,7 +237,7 @@ def memory_rows():
     same('records as long as memory', run('canon', '--zone', 'example.', *small, given=long), run('canon', '--zone', 'example.', given=long))
     same('what is behind', os.listdir('runs'), [])
     same('a fault', run('canon', '--zone', 'example.', *small, 'big', '-', given='a. 60 A 192.0.2.256\n', **where),
-         (1, '', '-:1:9: error: A address: expected IPv4 address [data]\n1 error, 0 warnings\n'))
+         (1, '', '-:1:9: error: a. A: address: expected IPv4 address \'192.0.2.256\' [data]\n1 error, 0 warnings\n'))
     same('an absent file', run('canon', '--zone', 'example.', *small, 'big', 'absent', **where)[:2], (3, ''))
     absent = {'env': {**os.environ, 'TMPDIR': '/absent'}}
     same('no folder', run('canon', '--zone', 'example.', *small, 'big', **absent),

@@ -132,15 +132,15 @@ def beside_bind():
 
 
 def rows():
-    put('zone', b'@ 60 SOA ns h 1 2 3 4 5\n@ NS ns\nns A 192.0.2.1\n')
+    put('zone', b'@ 60 SOA ns h 1 4 2 9 5\n@ NS ns\nns A 192.0.2.1\n')
     same('an origin that is given', run('cut', '9', '--zone', 'example', '--soa', 'zone', '-o', 'part'),
          (0, b'part.000\npart.001\n', ''))
-    soa = b'$ORIGIN example.\nexample. 60 IN SOA ns.example. h.example. 1 2 3 4 5\n'
+    soa = b'$ORIGIN example.\nexample. 60 IN SOA ns.example. h.example. 1 4 2 9 5\n'
     same('the SOA', (get('part.000'), get('part.001')), (soa + b'@ NS ns\n', soa + b'ns.example. 60 IN A 192.0.2.1\n'))
     there = run('cut', '1', '--origin', 'example', 'zone', '-o', 'part')
     same('nothing is replaced', (there[:2], there[2].split(': ')[:2], there[2].endswith(NOTHING)), ((3, b''), ['zonetext', 'part.000'], True))
     same('and all is as it was', (parts(), get('part.000')), (['part.000', 'part.001'], soa + b'@ NS ns\n'))
-    put('two', b'a. 60 SOA b. c. 1 2 3 4 5\nb. 60 SOA b. c. 1 2 3 4 5\n')
+    put('two', b'a. 60 SOA b. c. 1 4 2 9 5\nb. 60 SOA b. c. 1 4 2 9 5\n')
     same('SOAs of two zones', run('cut', '2', 'two', '--soa', '-o', 'other'), (1, b'', 'two:2:1: error: SOA of b., and the zone is a.\n' + NOTHING))
     same('another zone than is given', run('cut', '2', 'two', '--zone', 'b.', '--soa', '-o', 'other'), (1, b'', 'two:1:1: error: SOA of a., and the zone is b.\n' + NOTHING))
     same('which are cut without their SOA', (run('cut', '1', 'two', '-o', 'other'), get('other.000').count(b'SOA')), ((0, b'other.000\n', ''), 2))
@@ -151,16 +151,16 @@ def rows():
     same('and none is left', parts(), ['part.001'])
     clear()
     same('no origin', run('cut', '2', 'zone', '-o', 'part'),
-         (1, b'', 'zone:1:1: error: relative name, and no origin [no-origin]\n1 error, 0 warnings\n'
+         (1, b'', 'zone:1:1: error: relative name, and no origin \'@\' [no-origin]\n1 error, 0 warnings\n'
           'zonetext: no origin: give --zone\n' + NOTHING))
     put('faulty', b'a. 60 A 192.0.2.1\nb. A 192.0.2.256\n$INCLUDE c\nd. TXT (\n')
     same('faults', run('cut', '2', 'faulty', '-o', 'part'),
-         (1, b'', 'faulty:2:6: error: A address: expected IPv4 address [data]\n'
-          'faulty:3:10: error: not included: a file that includes others is not cut [include]\n'
-          'faulty:5:1: error: parenthesis is not closed, opened at 4:8 [open-parenthesis]\n3 errors, 0 warnings\n' + NOTHING))
+         (1, b'', 'faulty:2:6: error: b. A: address: expected IPv4 address \'192.0.2.256\' [data]\n'
+          'faulty:3:10: error: not included: a file that includes others is not cut \'c\' [include]\n'
+          'faulty:4:8: error: d. TXT: parenthesis is not closed [open-parenthesis]\nnote: the file ends at 5:1\n3 errors, 0 warnings\n' + NOTHING))
     put('long', b'long. TXT' + b' aaaaaaaaaaaaaaaaaaaaaaaaaaaaaaaaaaaaaaa' * 1700 + b'\n')
     status, out, err = run('cut', '2', 'long', '-o', 'part')
-    same('data above 65,535 octets', (status, out, 'data above 65535 octets' in err, err.endswith(NOTHING)), (1, b'', True, True))
+    same('data above 65,535 octets', (status, out, 'RDATA exceeds 65535 octets' in err, err.endswith(NOTHING)), (1, b'', True, True))
     put('minimum', b'a. SOA b. c. 1 2 3 4 4294967295\n')
     same('a minimum of 2^31 and more is 0', (run('cut', '2', 'minimum', '-o', 'part'), get('part.000')),
          ((0, b'part.000\n', ''), b'$TTL 0\na. 0 IN SOA b. c. 1 2 3 4 4294967295\n'))

@@ -251,7 +251,7 @@ def refusal_rows():
     same('--hash alone', run('digest', '--hash', 'sha384', 'zone')[:2], (2, ''))
     same('--force alone', run('digest', '--force', 'zone')[:2], (2, ''))
     refused('a fault', whole + 'a A 192.0.2.256\n',
-            'zone:6:5: error: A address: expected IPv4 address [data]\n1 error, 0 warnings\n' + NOTHING, status=1)
+            'zone:6:5: error: a A: address: expected IPv4 address \'192.0.2.256\' [data]\n1 error, 0 warnings\n' + NOTHING, status=1)
     refused('a byte order mark', '\xef\xbb\xbf' + whole,
             'zone:1:1: error: byte order mark [byte-order-mark]\n1 error, 0 warnings\n' + NOTHING, status=1)
     refused('no SOA', 'a 60 A 192.0.2.1\n', 'zonetext: zone: no SOA\n' + NOTHING)

@@ -17,7 +17,7 @@ from xml.etree import ElementTree
 from xml.sax.saxutils import escape
 
 HERE = os.path.dirname(os.path.abspath(__file__))
-FRONT = b"$TTL 60\n@ SOA ns h 1 2 3 4 5\n@ NS ns\nns A 192.0.2.1\n"
+FRONT = b"$TTL 60\n@ SOA ns h 1 4 2 9 5\n@ NS ns\nns A 192.0.2.1\n"
 FORMATS = ["json", "github", "sarif", "checkstyle"]
 MEMBERS = ["file", "line", "column", "end_column", "opened_line", "opened_column", "severity", "code", "owner", "type",
            "message", "help"]
@@ -34,6 +34,8 @@ ZONES = [
     ("two.zone", b"a A 192.0.2.2\na A 192.0.2.2\nb A x\n( c A 192.0.2.3 )\n",
      [(6, "duplicate"), (7, "data"), (8, "leading-parenthesis")]),
 ]
+# Numbers of the types of the zone that is printed as records.
+NUMBERS = {"SOA": 6, "NS": 2, "A": 1, "TXT": 16, "CAA": 257}
 wrong = []
 count = 0
 
@@ -212,17 +214,26 @@ def check_records(program, folder):
     status, out, err = run(program, "records", "--zone", "example.", "--json", "zone", cwd=folder)
     wanted = [{**it, "file": "zone", "line": line} for line, it in enumerate(parted(plain[1].splitlines()), 2)]
     expect("records --json", (status, objects(out), err), (0, wanted, ""))
+    lines = {(it["owner"], it["type"]): it["line"] for it in wanted}
     for words in [], ["--wire"], ["--keep-order"], ["--memory", "1M"]:
         plain = run(program, "canon", "--zone", "example.", *words, "zone", cwd=folder)
         status, out, err = run(program, "canon", "--zone", "example.", "--json", *words, "zone", cwd=folder)
-        expect(f"canon --json {words}", (status, objects(out), err), (0, parted(plain[1].splitlines()), ""))
+        wanted = parted(plain[1].splitlines())
+        if "--memory" not in words:
+            # (with --wire the types are printed as TYPEn)
+            own = lines if "--wire" not in words else {(owner, f"TYPE{NUMBERS[rtype]}"): line
+                                                       for (owner, rtype), line in lines.items()}
+            wanted = [{**it, "file": "zone", "line": own[it["owner"], it["type"]]} for it in wanted]
+        expect(f"canon --json {words}", (status, objects(out), err), (0, wanted, ""))
     plain = run(program, "diff", "--zone", "example.", "zone", "changed", cwd=folder)
-    lines = []
+    places, lines = lines, []
     for line in plain[1].splitlines():
         found = re.fullmatch(r"~ (\d+) -> (\d+) (\S+)\t\d+\t(.*)", line)
         lines += [f"- {found[3]}\t{found[1]}\t{found[4]}", f"+ {found[3]}\t{found[2]}\t{found[4]}"] if found else [line]
     status, out, err = run(program, "diff", "--zone", "example.", "--json", "zone", "changed", cwd=folder)
-    expect("diff --json", (status, objects(out), err), (1, parted(lines, True), plain[2]))
+    wanted = [{**it, "file": "zone" if it["change"] == "delete" else "changed", "line": places[it["owner"], it["type"]]}
+              for it in parted(lines, True)]
+    expect("diff --json", (status, objects(out), err), (1, wanted, plain[2]))
     expect("diff --json --summary", run(program, "diff", "--json", "--summary", "zone", "zone", cwd=folder)[0], 2)
     with open(os.path.join(folder, "signed"), "wb") as file:
         file.write(zone + b"@ ZONEMD 1 1 1 " + b"00" * 48 + b"\n@ ZONEMD 2 1 2 " + b"00" * 64 + b"\n")

@@ -18,7 +18,7 @@ ORIGIN = "example."
 # An apex, a host, a wildcard, empty non-terminals (c.b, b, y, z.y, x.z.y), delegations with and without DS, and glue.
 ZONE = """\
 $TTL 300
-@ SOA ns h 1 2 3 4 5
+@ SOA ns h 1 4 2 9 5
 @ NS ns
 @ MX 10 Mail
 ns A 192.0.2.1

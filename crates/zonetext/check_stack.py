@@ -17,7 +17,7 @@ WORDS = [word for word in sys.argv[1:] if word != '--least']
 PROGRAM = os.path.abspath(WORDS[0] if WORDS else f'{HERE}/out/zonetext')
 LEAST = '--least' in sys.argv
 LIMIT = 128
-SOA = '$ORIGIN example.\n$TTL 60\n@ SOA ns h 1 2 3 4 5\n@ NS ns\nns A 192.0.2.1\n'
+SOA = '$ORIGIN example.\n$TTL 60\n@ SOA ns h 1 4 2 9 5\n@ NS ns\nns A 192.0.2.1\n'
 LONG = '.'.join('a' * 127) + '.'
 DATA = [
     'A 192.0.2.1', 'AAAA 2001:db8::1', 'MX 1 m', 'TXT "a" b', 'SRV 1 2 3 t', 'CAA 0 issue "ca"', 'LOC 1 N 2 E 3m',
@@ -39,7 +39,7 @@ def put(name, text):
 
 def write_zones():
     put('data', SOA + ''.join(f'd{number} IN {it}\n' for number, it in enumerate(DATA)))
-    put('labels', SOA + f'{LONG} NS {LONG}\n{LONG[2:]} MX 1 {LONG}\n{LONG} SOA {LONG} {LONG} 1 2 3 4 5\n' * 20)
+    put('labels', SOA + f'{LONG} NS {LONG}\n{LONG[2:]} MX 1 {LONG}\n{LONG} SOA {LONG} {LONG} 1 4 2 9 5\n' * 20)
     put('many', SOA + ''.join(f'h{number} IN A 192.0.2.{number % 256}\n' for number in range(20000)))
     put('other', SOA + ''.join(f'h{number} IN A 192.0.2.{number % 255}\n' for number in range(10000, 0, -1)))
     put('long', SOA + 'l TXT ( ' + ('a ' * 70 + '\n') * 8000 + ')\nk TXT ( ' + ('"a b" ' * 70 + '\n') * 150 + ')\n')

@@ -1,7 +1,8 @@
 #!/usr/bin/env python3
 """Runs `check --zone example. --json` of the built program over each zone file of zones.tsv, and compares severity,
 line and code of all findings with those of the row. A finding without a code in a row matches any code; words after
-the code are the expected message.
+the code are the expected message. If a row has them, all lines that the program prints without --json are compared
+too. Words in parentheses at the end of a row's name are further options.
 
 usage: crates/zonetext/check_zones.py [--peers] [PROGRAM]
 
@@ -19,7 +20,7 @@ import tempfile
 from urllib.parse import unquote_to_bytes
 
 HERE = os.path.dirname(os.path.abspath(__file__))
-FRONT = b"$TTL 60\n@ SOA ns h 1 2 3 4 5\n@ NS ns\nns A 192.0.2.1\n"
+FRONT = b"$TTL 60\n@ SOA ns h 1 4 2 9 5\n@ NS ns\nns A 192.0.2.1\n"
 ORIGIN = "example."
 # Octets of stack that the program has.
 STACK = 128 * 1024
@@ -33,13 +34,19 @@ PEERS = {
 
 
 def rows():
-    """Name, octets, findings and what the peers say, of each row."""
+    """Name, octets, findings, what the peers say, and the lines if there are any, of each row."""
     with open(os.path.join(HERE, "zones.tsv"), encoding="utf-8") as table:
         for line in table:
             if not line.startswith("#"):
-                name, text, wanted, *said = line.rstrip("\n").split("\t")
+                name, text, wanted, *rest = line.rstrip("\n").split("\t")
                 octets = unquote_to_bytes(text.removeprefix("+"))
-                yield name, (FRONT if text.startswith("+") else b"") + octets, wanted, said
+                lines = unquote_to_bytes(rest[len(PEERS)]).decode() if len(rest) > len(PEERS) else None
+                yield name, (FRONT if text.startswith("+") else b"") + octets, wanted, rest[:len(PEERS)], lines
+
+
+def options_of(name):
+    """The options at the end of a row's name."""
+    return name[:-1].partition(" (--")[2].join(["--", ""]).split() if name.endswith(")") and " (--" in name else []
 
 
 def limit_stack():
@@ -47,12 +54,19 @@ def limit_stack():
         resource.setrlimit(resource.RLIMIT_STACK, (STACK, STACK))
 
 
-def found(program, path):
+def found(program, path, options):
     """The status, and line, code, severity and text of each finding."""
-    words = [program, "check", "--zone", ORIGIN, "--json", "--max", "0", path]
+    words = [program, "check", "--zone", ORIGIN, *options, "--json", "--max", "0", path]
     run = subprocess.run(words, capture_output=True, check=False, preexec_fn=limit_stack)
     findings = [json.loads(line) for line in run.stdout.splitlines()]
     return run.returncode, sorted((it["line"], it["code"], it["severity"], it["message"]) for it in findings)
+
+
+def printed(program, path, options):
+    """The lines of the findings, without the name of the file and without the last line."""
+    words = [program, "check", "--zone", ORIGIN, *options, "--max", "0", path]
+    run = subprocess.run(words, capture_output=True, text=True, check=False, preexec_fn=limit_stack)
+    return "\n".join(line.removeprefix(path + ":") for line in run.stderr.splitlines()[:-1])
 
 
 def is_wanted(wanted, status, findings):
@@ -86,15 +100,19 @@ def main(words):
     count = wrong = 0
     with tempfile.TemporaryDirectory() as folder:
         path = os.path.join(folder, "zone")
-        for name, octets, wanted, said in rows():
+        for name, octets, wanted, said, lines in rows():
             with open(path, "wb") as file:
                 file.write(octets)
-            status, findings = found(program, path)
+            options = options_of(name)
+            status, findings = found(program, path, options)
             count += 1
             if not is_wanted(wanted, status, findings):
                 wrong += 1
                 got = ", ".join(f"{severity} {line} {code}" for line, code, severity, _ in findings)
                 print(f"differs: {name}\n  wanted {wanted}\n  found  {got or 'good'}, status {status}")
+            if lines is not None and printed(program, path, options) != lines:
+                wrong += 1
+                print(f"differs: {name}\n  wanted {lines}\n  found  {printed(program, path, options)}")
             for peer, column in zip(PEERS, said):
                 if peer in peers and says(peer, path, octets) != column:
                     wrong += 1

@@ -8,15 +8,15 @@ _zonetext() {
     case ${COMP_WORDS[1]} in
         check)
             options='--text --zone --zone-from-name --include --base --stdin-name --dnssec --within --now --deny --allow --strict'
-            options+=' --max-ttl --max-entry --class --format --json --max --color --verbose --quiet -v'
+            options+=' --max-ttl --max-entry --class --format --json --excerpt --max --color --verbose --quiet -v'
             ;;
         canon)
-            options='--json --keep-order --memory --wire --type --only-dnssec --zone --class --include --base --max-entry'
+            options='--json --keep-order --lenient --memory --wire --type --only-dnssec --zone --class --include --base --max-entry'
             options+=' --no-dnssec --no-soa --quiet'
             ;;
         diff)
-            options='--json --entries --summary --max-changes --zone --class --include --base --max-entry'
-            options+=' --no-dnssec --no-soa --quiet'
+            options='--json --entries --summary --max-changes --need-serial --nsupdate --no-prereq --update-keys'
+            options+=' --zone --class --include --base --max-entry --no-dnssec --no-soa --quiet'
             ;;
         tokens) options='--json --quiet' ;;
         fmt) options='--write --check --diff --force --quiet -w' ;;

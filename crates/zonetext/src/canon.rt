@@ -62,14 +62,15 @@ fn soa_first(alloc: Global, records: &[NumberedRecord<'_>]) -> Result<Vec<usize>
     Ok(order)
 }
 
-/// Appends the line of a record.
+/// Appends the line of a record, with its place if that is known.
 fn push_line<Owner: AsOctets, Octets: AsOctets>(
     text: &mut String,
     record: &Record<Owner, Octets>,
     form: Form,
+    place: Option<(&str, usize)>,
 ) -> Result<(), AllocError> {
     if form.is_json {
-        push_json_record(text, record, form.is_generic, None)
+        push_json_record(text, record, form.is_generic, None, place)
     } else if form.is_generic {
         push_generic(text, record)
     } else {
@@ -77,13 +78,14 @@ fn push_line<Owner: AsOctets, Octets: AsOctets>(
     }
 }
 
-/// Writes records to standard output. `count` is their number before duplicates were omitted.
+/// Writes records to standard output.
 fn write_records(
     rt: &HostRuntime,
+    gathered: &Gathered,
     records: &[NumberedRecord<'_>],
-    count: usize,
     form: Form,
 ) -> Result<(), Stop> {
+    let count = gathered.len();
     let order = if form.keeps_order {
         by_number(rt.alloc(), records, count)?
     } else {
@@ -92,7 +94,8 @@ fn write_records(
     let mut lines = Lines::new(rt);
     for place in &order {
         if let Some(record) = records.get(*place) {
-            push_line(&mut lines.text, record, form)?;
+            let place = gathered.place(record.owner.as_octets().tag);
+            push_line(&mut lines.text, record, form, place)?;
             lines.flush_block()?;
         }
     }
@@ -112,7 +115,7 @@ fn tell_duplicates(rt: &HostRuntime, duplicates: u64) -> io::Result<()> {
 /// Writes the records of files, and reports how many duplicates were omitted.
 fn write_gathered(rt: &HostRuntime, gathered: &Gathered, form: Form) -> Result<(), Stop> {
     let (set, duplicates) = gathered.set()?;
-    write_records(rt, set.as_slice(), gathered.len(), form)?;
+    write_records(rt, gathered, set.as_slice(), form)?;
     tell_duplicates(rt, duplicates as u64)?;
     Ok(())
 }
@@ -126,7 +129,7 @@ pub fn run(
     selection: Selection<'_>,
     form: Form,
 ) -> u8 {
-    let gathered = match gather(rt, files, reading, selection) {
+    let gathered = match gather(rt, files, reading, selection, form.is_json) {
         Ok(gathered) => gathered,
         Err(status) => return status,
     };
@@ -148,7 +151,7 @@ impl TakeRecord for LineWriter<'_> {
         &mut self,
         one: &Record<Owner, Octets>,
     ) -> Result<(), Stop> {
-        push_line(&mut self.lines.text, one, self.form)?;
+        push_line(&mut self.lines.text, one, self.form, None)?;
         self.lines.flush_block()?;
         Ok(())
     }

@@ -9,7 +9,7 @@ use dns_octets::AsOctets;
 use std::alloc::{AllocError, Global};
 use std::collections::BTreeMap;
 use std::io;
-use zone_set::{Change, Selection, changes_between, push_change, serial_rises};
+use zone_set::{Change, Selection, TaggedOctets, changes_between, push_change, serial_rises};
 
 /// What is written about changes.
 #[derive(Clone, Copy)]
@@ -20,7 +20,12 @@ pub struct Output {
     pub is_json: bool,
     /// At most `most` changes, if it is set.
     pub most: Option<u32>,
+    /// Whether the status is [`UNFIT`] if the serial did not rise.
+    pub needs_serial: bool,
 }
+
+/// The status if the serial did not rise, or if an update can't make the changes.
+pub const UNFIT: u8 = 4;
 
 /// The number of changes of records of a type.
 #[derive(Clone, Copy)]
@@ -85,10 +90,12 @@ fn write_summary(rt: &HostRuntime, counts: &BTreeMap<u16, Count>) -> io::Result<
     Ok(())
 }
 
-/// Writes changes, and reports how many more there are.
-fn write_changes<Owner: AsOctets, Octets: AsOctets>(
+/// Writes changes between two zones, and reports how many more there are.
+fn write_changes<'h>(
     rt: &HostRuntime,
-    changes: &[Change<'_, Owner, Octets>],
+    old: &'h Gathered,
+    new: &'h Gathered,
+    changes: &[Change<'_, TaggedOctets<'h, usize>, &'h [u8]>],
     output: Output,
 ) -> Result<(), Stop> {
     let count = match output.most {
@@ -98,7 +105,7 @@ fn write_changes<Owner: AsOctets, Octets: AsOctets>(
     let mut lines = Lines::new(rt);
     for change in changes.iter().take(count) {
         if output.is_json {
-            push_json_change(&mut lines.text, change)?;
+            push_json_change(&mut lines.text, old, new, change)?;
         } else {
             push_change(&mut lines.text, change)?;
         }
@@ -112,37 +119,40 @@ fn write_changes<Owner: AsOctets, Octets: AsOctets>(
     Ok(())
 }
 
-/// Reports if the serial of the second zone is not greater than that of the first.
-fn tell_serial(rt: &HostRuntime, old: &Gathered, new: &Gathered) -> io::Result<()> {
+/// Reports if the serial of the second zone is not greater than that of the first, and returns
+/// whether it is so.
+pub fn tell_serial(rt: &HostRuntime, old: &Gathered, new: &Gathered) -> io::Result<bool> {
     let (Some(old), Some(new)) = (&old.seen, &new.seen) else {
-        return Ok(());
+        return Ok(false);
     };
     let (old, new) = (old.serial, new.serial);
     if serial_rises(old, new) {
-        return Ok(());
+        return Ok(false);
     }
-    eprintln!(rt; "zonetext: serial did not rise: {old} -> {new}")
+    eprintln!(rt; "zonetext: serial did not rise: {old} -> {new}")?;
+    Ok(true)
 }
 
-/// Writes the differences between two zones, and returns whether there are any.
-fn compare(rt: &HostRuntime, old: &Gathered, new: &Gathered, output: Output) -> Result<bool, Stop> {
+/// Writes the differences between two zones, and returns the status: 1 if there are any.
+fn compare(rt: &HostRuntime, old: &Gathered, new: &Gathered, output: Output) -> Result<u8, Stop> {
     let (old_set, _) = old.set()?;
     let (new_set, _) = new.set()?;
     let changes = changes_between(rt.alloc(), &old_set, &new_set)?;
     let changes = changes.as_slice();
     if changes.is_empty() {
-        return Ok(false);
+        return Ok(0);
     }
     if output.is_summary {
         write_summary(rt, &counts_of(rt.alloc(), changes)?)?;
     } else {
-        write_changes(rt, changes, output)?;
+        write_changes(rt, old, new, changes, output)?;
     }
-    tell_serial(rt, old, new)?;
-    Ok(true)
+    let lacks_serial = tell_serial(rt, old, new)? && output.needs_serial;
+    Ok(if lacks_serial { UNFIT } else { 1 })
 }
 
-/// Compares two files, and returns the status: 1 if their records differ, or an entry is rejected.
+/// Compares two files, and returns the status: 1 if their records differ, or an entry is rejected;
+/// with `needs_serial`, [`UNFIT`] if they differ and the serial did not rise.
 #[inline(never)]
 pub fn run(
     rt: &HostRuntime,
@@ -152,15 +162,15 @@ pub fn run(
     selection: Selection<'_>,
     output: Output,
 ) -> u8 {
-    let old = gather(rt, &[first], reading, selection);
-    let new = gather(rt, &[second], reading, selection);
+    let old = gather(rt, &[first], reading, selection, output.is_json);
+    let new = gather(rt, &[second], reading, selection, output.is_json);
     let (old, new) = match (old, new) {
         (Ok(old), Ok(new)) => (old, new),
         (Err(status), Err(other)) => return status.max(other),
         (Err(status), Ok(_)) | (Ok(_), Err(status)) => return status,
     };
     match compare(rt, &old, &new, output) {
-        Ok(differ) => u8::from(differ),
+        Ok(status) => status,
         Err(stop) => conclude(rt, "-", stop),
     }
 }

@@ -3,6 +3,8 @@ use crate::checking::{Checker, Limits};
 use crate::files::check_text;
 use crate::options::{USAGE, Usage, class_of, max_entry_of, name_of, number_of, seconds_of};
 use crate::reporter::{Form, Reporter};
+use crate::scopes::is_of_text;
+use crate::settings::{Settings, Unusable, settings_path};
 use crate::shown::Shown;
 use crate::stop::{Stop, conclude};
 use crate::times::times_of;
@@ -56,20 +58,6 @@ struct Options<'o> {
     is_quiet: bool,
 }
 
-/// Returns whether a finding is about the text alone.
-fn is_of_text(code: Code) -> bool {
-    code.is_text_fault()
-        || matches!(
-            code,
-            Code::HighOctet
-                | Code::ControlOctet
-                | Code::Crlf
-                | Code::NestedParentheses
-                | Code::LeadingParenthesis
-                | Code::NoFinalNewline
-        )
-}
-
 /// Returns the code that an option names.
 fn code_of<'o>(value: &'o str, option: &'static str, is_text: bool) -> Result<Code, Usage<'o>> {
     match Code::named(value) {
@@ -109,10 +97,11 @@ fn form_of<'o>(rt: &HostRuntime, inner: &'o ArgMatches) -> Result<Form, Usage<'o
         Err(_) => false,
     };
     let value = inner.get_str("color").unwrap_or("auto");
+    let has_excerpt = is_terminal || inner.get_flag("excerpt");
     match value {
         "auto" => Ok(Form::Lines {
             is_coloured: is_terminal && !is_plain,
-            has_excerpt: is_terminal,
+            has_excerpt,
         }),
         "always" => Ok(Form::Lines {
             is_coloured: true,
@@ -120,7 +109,7 @@ fn form_of<'o>(rt: &HostRuntime, inner: &'o ArgMatches) -> Result<Form, Usage<'o
         }),
         "never" => Ok(Form::Lines {
             is_coloured: false,
-            has_excerpt: is_terminal,
+            has_excerpt,
         }),
         _ => Err(Usage::Value {
             option: "--color",
@@ -202,26 +191,64 @@ fn tell_zone(rt: &HostRuntime, file: &str, checker: &Checker, form: Form) -> Res
     Ok(())
 }
 
+/// Returns the settings of a file's folder, with the options of the command line added to them: an
+/// option with one value comes before that of the settings.
+fn settings_of(rt: &HostRuntime, path: &str, options: &Options) -> Result<Settings, Unusable> {
+    let alloc = rt.alloc();
+    let mut settings = Settings::read(rt, path)?;
+    settings
+        .allowed
+        .extend_from_slice(options.allowed.as_slice())?;
+    settings
+        .denied
+        .extend_from_slice(options.denied.as_slice())?;
+    settings.max_ttl = options.max_ttl.or(settings.max_ttl);
+    for folder in options.folders {
+        settings.folders.push(String::from_str(alloc, folder)?)?;
+    }
+    if let Some(base) = options.base {
+        settings.base = Some(String::from_str(alloc, base)?);
+    }
+    Ok(settings)
+}
+
+/// Returns the paths of directories.
+fn paths_of(alloc: Global, folders: &[String]) -> Result<Vec<&str>, AllocError> {
+    let mut paths = Vec::new(alloc);
+    for folder in folders {
+        paths.push(folder.as_str())?;
+    }
+    Ok(paths)
+}
+
 /// Checks a file, and reports the findings.
 fn go_through(
     rt: &HostRuntime,
     file: &str,
     options: &Options,
+    settings: &Settings,
     checker: &mut Checker,
     state: State,
 ) -> Result<(), Stop> {
+    let folders = paths_of(rt.alloc(), settings.folders.as_slice())?;
     let begin = Begin {
         includes: !options.is_text,
         max_entry: options.max_entry,
         state,
-        folders: options.folders,
-        base: options.base,
+        folders: folders.as_slice(),
+        base: settings.base.as_ref().map(|base| base.as_str()),
         stdin_name: options.stdin_name,
         is_quiet: options.is_quiet,
     };
-    visit_file(rt, file, begin, checker)?;
-    checker.finish()?;
-    checker.reporter.summarize()?;
+    let read = match visit_file(rt, file, begin, checker) {
+        Ok(()) => checker.finish(),
+        Err(stop) => Err(stop),
+    };
+    checker.findings.reporter.flush()?;
+    if let Err(stop) = read {
+        return Err(stop);
+    }
+    checker.findings.reporter.summarize()?;
     if options.is_verbose {
         let name = shown_name(file, options.stdin_name);
         tell_zone(rt, name, checker, options.form)?;
@@ -257,18 +284,43 @@ fn names_no_zone(name: &str, options: &Options) -> bool {
     matches!(options.zone, Zone::InName) && origin_of(name, options.zone).is_none()
 }
 
-/// Checks a file, and returns the status.
+/// Checks a file with the settings of its folder, and returns the status.
 fn check_file(rt: &HostRuntime, file: &str, options: &Options, totals: &mut Totals) -> u8 {
+    let name = shown_name(file, options.stdin_name);
+    let path = if name == "-" {
+        Ok(None)
+    } else {
+        settings_path(rt, name)
+    };
+    let path = match path {
+        Ok(Some(path)) => path,
+        Ok(None) => String::new(rt.alloc()),
+        Err(_) => return Unusable::OutOfMemory.conclude(rt, name),
+    };
+    match settings_of(rt, path.as_str(), options) {
+        Ok(settings) => check_with(rt, file, options, &settings, totals),
+        Err(error) => error.conclude(rt, path.as_str()),
+    }
+}
+
+/// Checks a file, and returns the status.
+fn check_with(
+    rt: &HostRuntime,
+    file: &str,
+    options: &Options,
+    settings: &Settings,
+    totals: &mut Totals,
+) -> u8 {
     let policy = Policy {
-        allowed: options.allowed.as_slice(),
-        denied: options.denied.as_slice(),
+        allowed: settings.allowed.as_slice(),
+        denied: settings.denied.as_slice(),
         is_strict: options.is_strict,
     };
     let name = shown_name(file, options.stdin_name);
     let zone = origin_of(name, options.zone);
     let limits = Limits {
         class: options.class,
-        max_ttl: options.max_ttl,
+        max_ttl: settings.max_ttl,
         assumes_root: zone.is_none(),
         is_strict: options.is_strict,
         tells_slips: true,
@@ -283,12 +335,12 @@ fn check_file(rt: &HostRuntime, file: &str, options: &Options, totals: &mut Tota
     };
     let reporter = Reporter::new(rt, policy, options.form, options.most);
     let mut checker = Checker::new(rt, reporter, limits, zone);
-    checker.reporter.before.has_finding = totals.has_finding;
-    let checked = go_through(rt, file, options, &mut checker, state);
-    let ended = checker.reporter.end_file();
-    totals.add(&checker.reporter);
+    checker.findings.reporter.before.has_finding = totals.has_finding;
+    let checked = go_through(rt, file, options, settings, &mut checker, state);
+    let ended = checker.findings.reporter.end_file();
+    totals.add(&checker.findings.reporter);
     match checked.and(ended) {
-        Ok(()) => checker.reporter.tally.status(),
+        Ok(()) => checker.findings.reporter.tally.status(),
         Err(stop) => conclude(rt, name, stop),
     }
 }
@@ -298,7 +350,8 @@ fn check_file(rt: &HostRuntime, file: &str, options: &Options, totals: &mut Tota
 fn asks_for_findings(inner: &ArgMatches) -> bool {
     let has_codes = inner.get_strs("deny").is_some() || inner.get_strs("allow").is_some();
     let has_most = inner.get_str("max").is_some() || inner.get_str("color").is_some();
-    has_codes || has_most || machine::asked(inner).is_some() || inner.get_flag("strict")
+    let has_form = machine::asked(inner).is_some() || inner.get_flag("excerpt");
+    has_codes || has_most || has_form || inner.get_flag("strict")
 }
 
 /// Reports where files are not zone files, and returns the greatest status.

@@ -1,31 +1,38 @@
 //! Checks the entries of zone files, for the command `check`.
-use crate::file_lines::FileLines;
+use crate::exceptions::{may_except, stated_of};
+use crate::explain::Refusal;
+use crate::findings::Findings;
 use crate::held_zone::{
-    HeldZone, Stand, StandingRecord, dname_text, is_of_absence, is_of_signed_absence, other_soa,
+    HeldZone, Stand, StandingRecord, is_of_absence, is_of_signed_absence, other_soa,
 };
+use crate::lone_rules::{breaks_none, lone_rules, token_of_rule};
 use crate::long_ttls::{long_ttl, long_ttl_of};
+use crate::octet_texts::{is_name, is_of_file, remark_text};
 use crate::open_file::first_place;
-use crate::refusals::{refusal_text, refused_type};
-use crate::reporter::{Reporter, Spot};
+use crate::refusals::refused_type;
+use crate::reporter::{Reporter, Said};
+use crate::rule_texts::ZoneRecords;
 use crate::scan::{OctetScan, ends_twice, needs_lint, repeats_origin, scan_octets};
+use crate::scopes::{Scope, scope_of};
+use crate::signature_groups::{groups_of, is_of_time};
 use crate::slips::{is_of_parameters, slip_of};
 use crate::spots::{
-    beginning, begins_blank, data_start, fault_at, line_spot, long_at, octet_at, position_at,
-    spot_at, token_at, tokens_of,
+    beginning, begins_blank, data_start, line_spot, long_at, octet_at, position_at, spot_at,
+    target_position, token_at, tokens_of,
 };
 use crate::stop::Stop;
-use crate::zone_files::{Entry, Visit};
-use dns_data::type_row;
-use dns_fields::{Field, RecordError};
+use crate::subjects::{Text, quoted};
+use crate::zone_files::{Entry, Unfit, Visit};
+use dns_fields::RecordError;
 use dns_heads::{class_word, directive_word};
-use dns_kinds::{Class, ErrorKind, RecordType};
+use dns_kinds::{Class, RecordType};
 use dns_octets::AsOctets;
 use dns_reader::{EntryRead, NameBuffer, RecordTtl};
 use dns_resource::Data;
 use dns_split::entry_tokens::EntryToken;
-use dns_split::pieces::Fault;
 use dns_wire::{DisplayWithDot, DisplayWithoutDot, Name};
 use dns_zonefile::BlockRefusal;
+use record_rules::RecordRule;
 use std::alloc::Global;
 use zone_dnssec::{Times, check_signed};
 use zone_format::place::Place;
@@ -33,9 +40,8 @@ use zone_rules::names::view;
 use zone_rules::sorted::has_type;
 use zone_rules::{Rule, SortedRecords, SortedSets, check_zone};
 use zone_set::{TaggedOctets, serial_of};
-use zonetext_records::codes::{code_of_entry, code_of_fault, code_of_rule, code_of_security};
+use zonetext_records::codes::{code_of_entry, code_of_rule, code_of_security};
 use zonetext_records::names::{ends_in_dot, ends_like};
-use zonetext_records::texts::code_text;
 use zonetext_report::code::Code;
 use zonetext_report::lint::{Block, lint};
 
@@ -76,8 +82,7 @@ pub struct Seen {
 #[derive(Drop)]
 pub struct Checker<'a> {
     alloc: Global,
-    lines: FileLines<'a>,
-    pub reporter: Reporter<'a>,
+    pub findings: Findings<'a>,
     limits: Limits,
     /// The zone whose rules are checked.
     zone: Option<NameBuffer>,
@@ -112,12 +117,9 @@ fn directive_of<'e>(tokens: &[EntryToken<'e>], begins_blank: bool) -> Option<Ent
     }
 }
 
-/// Returns whether the token with this index, in data of a type, is a name.
-fn is_name(rtype: RecordType, number: usize) -> bool {
-    match type_row(rtype) {
-        Some(row) => matches!(row.1.get(number), Some(Field::Name)),
-        None => false,
-    }
+/// Returns whether the comments of an entry may contain exceptions.
+fn has_exceptions(entry: &Entry<'_>, scan: OctetScan) -> bool {
+    scan.has_semicolon && may_except(entry.octets)
 }
 
 impl<'a> Checker<'a> {
@@ -130,10 +132,18 @@ impl<'a> Checker<'a> {
     ) -> Checker<'a> {
         let alloc = rt.alloc();
         let holds = !limits.is_text && (limits.is_strict || zone.is_some());
+        let mut reporter = reporter;
+        if holds {
+            reporter.wait();
+        }
+        let named = match &zone {
+            Some(zone) => NameBuffer::from_labels((), zone).ok(),
+            None => None,
+        };
+        let findings = Findings::new(rt, reporter, named, limits.is_standard, !limits.is_text);
         Checker {
             alloc,
-            lines: FileLines::new(rt),
-            reporter,
+            findings,
             limits,
             zone,
             held: if holds {
@@ -151,25 +161,15 @@ impl<'a> Checker<'a> {
         }
     }
 
-    /// Reports a finding that only has a code.
-    pub fn tell(&mut self, spot: Spot<'_>, code: Code) -> Result<(), Stop> {
-        self.reporter.tell(spot, code, false, code_text(code))
-    }
-
-    /// Reports a syntax error of the text.
-    fn tell_fault(&mut self, entry: &Entry<'_>, fault: Fault) -> Result<(), Stop> {
-        let code = code_of_fault(fault.wrong);
-        let text = ErrorKind::Syntax(fault.wrong).as_str();
-        self.reporter.tell(fault_at(entry, fault), code, true, text)
-    }
-
     /// Reports an entry that is too long.
     fn tell_long(&mut self, entry: &Entry<'_>) -> Result<(), Stop> {
         self.has_gap = true;
         let limit = entry.reader.limit();
         let text = format!(in self.alloc; "entry longer than {limit} octets")?;
-        self.reporter
-            .tell(long_at(entry), Code::MaxEntry, true, text.as_str())
+        let said = Said::message(text.as_str());
+        self.findings
+            .reporter
+            .tell(long_at(entry), Code::MaxEntry, true, said)
     }
 
     /// Returns whether a rejected entry is reported: a relative name without an origin is reported
@@ -206,12 +206,14 @@ impl<'a> Checker<'a> {
         if !self.is_news(code) {
             return Ok(());
         }
-        let text = refusal_text(self.alloc, error, code)?;
-        self.reporter.tell(
-            spot_at(entry, tokens.as_slice(), error.offset),
-            code,
-            true,
-            text.as_str(),
+        self.findings.tell_explained(
+            entry,
+            Refusal {
+                tokens: tokens.as_slice(),
+                is_blank: begins_blank(entry),
+                error,
+                code,
+            },
         )
     }
 
@@ -225,7 +227,7 @@ impl<'a> Checker<'a> {
         };
         if self.limits.assumes_root && origin.len() < 2 {
             return if self.is_news(Code::NoOrigin) {
-                self.tell(token_at(entry, token), Code::NoOrigin)
+                self.findings.tell_token(entry, token, Code::NoOrigin)
             } else {
                 Ok(())
             };
@@ -235,7 +237,7 @@ impl<'a> Checker<'a> {
         }
         let text = DisplayWithoutDot::new(origin).to_string(self.alloc)?;
         if ends_like(token.text, text.as_bytes()) {
-            return self.tell(token_at(entry, token), Code::MissingDot);
+            return self.findings.tell_token(entry, token, Code::MissingDot);
         }
         Ok(())
     }
@@ -288,11 +290,12 @@ impl<'a> Checker<'a> {
         let words = tokens
             .get(usize::from(!begins_blank(entry))..)
             .unwrap_or(&[]);
-        let spot = match words.iter().find(|token| class_word(token).is_some()) {
-            Some(token) => token_at(entry, token),
-            None => beginning(entry),
-        };
-        self.tell(spot, Code::OtherClass)
+        match words.iter().find(|token| class_word(token).is_some()) {
+            Some(token) => self.findings.tell_token(entry, token, Code::OtherClass),
+            None => self
+                .findings
+                .tell_word(entry, beginning(entry), Code::OtherClass, None),
+        }
     }
 
     /// Stores the first SOA. Fails with `Damaged` if its octets are not an SOA.
@@ -309,6 +312,9 @@ impl<'a> Checker<'a> {
         let (Ok(zone), Some(serial)) = (NameBuffer::from_labels((), owner), serial_of(&data)) else {
             return Err(Stop::Damaged);
         };
+        if self.findings.zone.is_none() {
+            self.findings.zone = NameBuffer::from_labels((), owner).ok();
+        }
         self.seen = Some(Seen { zone, serial });
         Ok(())
     }
@@ -316,7 +322,8 @@ impl<'a> Checker<'a> {
     /// Reports a finding about a record as a whole, at its first token.
     fn tell_record(&mut self, entry: &Entry<'_>, at: usize, code: Code) -> Result<(), Stop> {
         let tokens = tokens_of(self.alloc, entry)?;
-        self.tell(spot_at(entry, tokens.as_slice(), at), code)
+        self.findings
+            .tell_word(entry, spot_at(entry, tokens.as_slice(), at), code, None)
     }
 
     /// Reports a token that spells a TTL of 2^31 or more, if there is one.
@@ -326,7 +333,7 @@ impl<'a> Checker<'a> {
         token: Option<EntryToken<'_>>,
     ) -> Result<(), Stop> {
         match token {
-            Some(token) => self.tell(token_at(entry, &token), Code::Ttl),
+            Some(token) => self.findings.tell_token(entry, &token, Code::Ttl),
             None => Ok(()),
         }
     }
@@ -349,11 +356,43 @@ impl<'a> Checker<'a> {
         }
         if let Some(most) = self.limits.max_ttl {
             if ttl.seconds() > most {
-                self.tell_record(entry, at, Code::MaxTtl)?;
+                self.findings.tell_max_ttl(entry, at, ttl.seconds(), most)?;
             }
         }
         if let Some(code) = slip_of(rtype, entry.data) {
             self.tell_record(entry, at, code)?;
+        }
+        Ok(())
+    }
+
+    /// Returns whether the root is appended to relative names of an entry because no origin is known.
+    fn is_below_root(&self, entry: &Entry<'_>) -> bool {
+        match entry.state.origin.name() {
+            Some(origin) => self.limits.assumes_root && origin.len() < 2,
+            None => true,
+        }
+    }
+
+    /// Reports which rules a record alone breaks. `at` is the offset of its type.
+    fn check_lone_rules(
+        &mut self,
+        entry: &Entry<'_>,
+        scan: OctetScan,
+        at: usize,
+        rtype: RecordType,
+    ) -> Result<(), Stop> {
+        if breaks_none(entry, scan, rtype)? {
+            return Ok(());
+        }
+        let tokens = tokens_of(self.alloc, entry)?;
+        let tokens = tokens.as_slice();
+        for rule in &lone_rules(entry, tokens)? {
+            if *rule == RecordRule::SoaMailOneLabel && self.is_below_root(entry) {
+                continue;
+            }
+            let token = token_of_rule(entry, tokens, *rule, rtype);
+            self.findings
+                .tell_lone_rule(entry, tokens, at, *rule, token)?;
         }
         Ok(())
     }
@@ -395,6 +434,7 @@ impl<'a> Checker<'a> {
                     && (!self.limits.tells_slips
                         || (self.is_usual_ttl(*ttl)
                             && slip_of(*rtype, entry.data).is_none()
+                            && breaks_none(entry, scan, *rtype).unwrap_or(false)
                             && !self.may_show_names(entry, scan)))
             }
             _ => false,
@@ -416,13 +456,12 @@ impl<'a> Checker<'a> {
             return Ok(());
         };
         let position = position_at(entry, at.saturating_sub(entry.offset));
-        held.records.add(
-            given,
-            Stand {
-                file: entry.number,
-                position,
-            },
-        )
+        let stand = Stand {
+            file: entry.number,
+            position,
+            target: target_position(entry, position),
+        };
+        held.records.add(given, stand)
     }
 
     /// Stores the RRset of a rejected record, if records are stored and its owner and its type are
@@ -462,6 +501,7 @@ impl<'a> Checker<'a> {
             return self.tell_class(entry, tokens.as_slice());
         }
         self.check_values(entry, at, ttl, rtype)?;
+        self.check_lone_rules(entry, scan, at, rtype)?;
         self.hold_record(entry, at)
     }
 
@@ -473,10 +513,9 @@ impl<'a> Checker<'a> {
         place: usize,
     ) -> Result<(), Stop> {
         match tokens.get(place) {
-            Some(token) if !ends_in_dot(token.text) => self.tell(
-                token_at(entry, token),
-                Code::RelativeOrigin,
-            ),
+            Some(token) if !ends_in_dot(token.text) => {
+                self.findings.tell_token(entry, token, Code::RelativeOrigin)
+            }
             _ => Ok(()),
         }
     }
@@ -501,17 +540,121 @@ impl<'a> Checker<'a> {
         }
     }
 
-    /// Reports findings about several records, once all were read.
+    /// Reports findings about several records, once all were read, and the exceptions that were not
+    /// used.
     pub fn finish(&mut self) -> Result<(), Stop> {
         let Some(held) = self.held.take() else {
             return Ok(());
         };
-        if self.is_cut {
+        let has_zone = self.zone.is_some() && !self.is_cut;
+        self.findings.reporter.exceptions.sort()?;
+        if !self.is_cut {
+            self.check_held(&held)?;
+        }
+        self.findings.reporter.exceptions.begin();
+        let count = self.findings.reporter.exceptions.all().len();
+        for number in 0..count {
+            self.end_exception(&held, number, has_zone)?;
+        }
+        Ok(())
+    }
+
+    /// Reports findings about the records that are held.
+    fn check_held(&mut self, held: &HeldZone) -> Result<(), Stop> {
+        match self.zone.take() {
+            Some(zone) => self.check_zone(held, &zone, true),
+            None => self.check_zone(held, &Name::root_ref(), false),
+        }
+    }
+
+    /// Reports an exception, by its number, if it was not used.
+    fn end_exception(
+        &mut self,
+        held: &HeldZone,
+        number: usize,
+        has_zone: bool,
+    ) -> Result<(), Stop> {
+        let found = self.findings.reporter.exceptions.all().get(number).copied();
+        match found {
+            Some(exception) if !exception.is_used() && self.looks_for(exception.code, has_zone) => {
+                self.findings
+                    .tell_unused(held.file(exception.number), exception)
+            }
+            _ => Ok(()),
+        }
+    }
+
+    /// Returns whether findings with a code were looked for, so that an exception which excepts none
+    /// is not used. `has_zone` says whether the rules of a zone were checked.
+    fn looks_for(&self, code: Code, has_zone: bool) -> bool {
+        let is_whole = has_zone && !self.has_gap;
+        match scope_of(code) {
+            Scope::Text => self.tells_octets(code),
+            Scope::Records => !self.limits.is_text,
+            Scope::MaxTtl => self.limits.max_ttl.is_some(),
+            Scope::Zone => is_whole,
+            Scope::Signed => is_whole && self.limits.times.is_some(),
+        }
+    }
+
+    /// Puts the exceptions of an entry in effect, and reports what is malformed in them.
+    fn begin_exceptions(&mut self, entry: &Entry<'_>) -> Result<(), Stop> {
+        let stated = stated_of(self.alloc, entry.octets)?;
+        let record = match entry.read {
+            Ok(EntryRead::Record { at, .. }) => {
+                Some(position_at(entry, at.saturating_sub(entry.offset)))
+            }
+            _ => None,
+        };
+        for (code, part) in &stated.codes {
+            let position = position_at(entry, part.at);
+            self.findings
+                .reporter
+                .exceptions
+                .add(*code, entry.number, position, record)?;
+        }
+        for slip in &stated.slips {
+            self.findings.tell_slip(entry, *slip)?;
+        }
+        Ok(())
+    }
+
+    /// Reports the exceptions of an entry that were not used, unless records are held, and drops
+    /// them.
+    fn end_exceptions(&mut self, entry: &Entry<'_>) -> Result<(), Stop> {
+        if self.held.is_some() {
             return Ok(());
         }
-        match self.zone.take() {
-            Some(zone) => self.check_zone(&held, &zone, true),
-            None => self.check_zone(&held, &Name::root_ref(), false),
+        let count = self.findings.reporter.exceptions.current().len();
+        for number in 0..count {
+            let found = self
+                .findings
+                .reporter
+                .exceptions
+                .current()
+                .get(number)
+                .copied();
+            if let Some(exception) = found {
+                if !exception.is_used() && self.looks_for(exception.code, false) {
+                    self.findings.tell_unused(entry.file, exception)?;
+                }
+            }
+        }
+        self.findings.reporter.exceptions.drop_current();
+        Ok(())
+    }
+
+    /// Processes an entry, with its exceptions in effect.
+    fn take_entry(&mut self, entry: &Entry<'_>, scan: OctetScan) -> Result<(), Stop> {
+        if !self.shows_nothing(entry, scan) {
+            return self.check_entry(entry, scan);
+        }
+        match entry.read {
+            Ok(EntryRead::Record { at, .. }) => {
+                self.count_record();
+                self.hold_record(entry, *at)
+            }
+            _ => Ok(()),
         }
     }
 
@@ -541,12 +684,12 @@ impl<'a> Checker<'a> {
         }
         for finding in &found {
             if self.tells_rule(finding.rule, is_zone) {
-                let record = finding.record.and_then(|place| records.get(place));
-                let code = code_of_rule(finding.rule);
-                match dname_text(self.alloc, finding, &sorted, &refused)? {
-                    Some(text) => self.tell_at(held, code, record, text.as_str())?,
-                    None => self.tell_broken(held, code, record)?,
-                }
+                let records = ZoneRecords {
+                    zone,
+                    sorted: &sorted,
+                    refused: &refused,
+                };
+                self.findings.tell_rule(held, &records, finding)?;
             }
         }
         match self.limits.times {
@@ -573,8 +716,9 @@ impl<'a> Checker<'a> {
         zone: &Name<Origin>,
     ) -> Result<(), Stop> {
         let zone = DisplayWithDot::new(zone);
-        let text = format!(in self.alloc; "the SOA is not that of the zone {zone}")?;
-        self.tell_at(held, code, record, text.as_str())
+        let message = format!(in self.alloc; "the SOA is not that of the zone {zone}")?;
+        self.findings
+            .tell_at(held, code, record, false, &Text::new(self.alloc, message))
     }
 
     /// Reports which rules of DNSSEC the records of a zone break.
@@ -589,63 +733,29 @@ impl<'a> Checker<'a> {
         let is_whole = !self.has_gap && held.refused.is_empty();
         if !has_type(records, &view(zone), RecordType::DNSKEY) {
             return if is_whole {
-                self.tell_broken(held, Code::NoDnskey, None)
+                self.findings.tell_broken(held, Code::NoDnskey, None)
             } else {
                 Ok(())
             };
         }
         let found = check_signed(self.alloc, zone, times, records)?;
         for finding in &found {
-            if !is_whole && is_of_signed_absence(finding.rule) {
+            if (!is_whole && is_of_signed_absence(finding.rule)) || is_of_time(finding.rule) {
                 continue;
             }
             let record = records.as_slice().get(finding.record);
-            self.tell_broken(held, code_of_security(finding.rule), record)?;
+            self.findings
+                .tell_broken(held, code_of_security(finding.rule), record)?;
+        }
+        let joins = self.findings.reporter.joins_equal();
+        let groups = groups_of(self.alloc, found.as_slice(), records.as_slice(), joins)?;
+        for group in &groups {
+            let text = group.text(self.alloc)?;
+            let record = records.as_slice().get(group.record);
+            self.findings
+                .tell_at(held, code_of_security(group.rule), record, false, &text)?;
         }
         Ok(())
-    }
-
-    /// Reports that a rule is broken, by a record or by what is missing in the zone.
-    fn tell_broken(
-        &mut self,
-        held: &HeldZone,
-        code: Code,
-        record: Option<&StandingRecord<'_>>,
-    ) -> Result<(), Stop> {
-        self.tell_at(held, code, record, code_text(code))
-    }
-
-    /// Reports a finding at a record, or at the first file's start.
-    fn tell_at(
-        &mut self,
-        held: &HeldZone,
-        code: Code,
-        record: Option<&StandingRecord<'_>>,
-        text: &str,
-    ) -> Result<(), Stop> {
-        let stand = match record {
-            Some(record) => record.owner.as_octets().tag,
-            None => Stand {
-                file: 0,
-                position: first_place().position,
-            },
-        };
-        let position = stand.position;
-        let name = held.file(stand.file);
-        let line = if self.reads_line(code, stand.file) {
-            self.lines.line(stand.file, name, position.line)?
-        } else {
-            None
-        };
-        let octets = line.as_ref().map(|line| line.as_slice());
-        self.reporter
-            .tell(line_spot(name, position, octets), code, false, text)
-    }
-
-    /// Returns whether a line of a file, by its number, must be read again for the next finding.
-    fn reads_line(&self, code: Code, file: usize) -> bool {
-        let can_be_read = file > 0 || !self.limits.is_standard;
-        can_be_read && self.reporter.shows_lines() && self.reporter.shows(code)
     }
 
     /// Returns whether CR LF at line ends of an entry's file is reported: once a file, and not if a
@@ -660,7 +770,7 @@ impl<'a> Checker<'a> {
     /// Returns whether a finding about octets is reported: if only the text is checked, it must be
     /// denied.
     fn tells_octets(&self, code: Code) -> bool {
-        !self.limits.is_text || self.reporter.denies(code)
+        !self.limits.is_text || self.findings.reporter.denies(code)
     }
 
     /// Returns whether a finding in the octets of an entry is reported. If the entry begins with
@@ -700,8 +810,17 @@ impl<'a> Checker<'a> {
             }
             let is_fault = remark.code.is_text_fault();
             let spot = octet_at(entry, entry.offset.saturating_add(remark.at));
-            self.reporter
-                .tell(spot, remark.code, is_fault, code_text(remark.code))?;
+            if let Some(severity) = self.findings.reporter.count(spot, remark.code, is_fault) {
+                let (spot, text) = remark_text(self.alloc, entry, spot, remark)?;
+                if is_of_file(remark.code) {
+                    self.findings
+                        .reporter
+                        .show(severity, spot, remark.code, text.said())?;
+                } else {
+                    self.findings
+                        .show_entry(entry, severity, spot, remark.code, &text)?;
+                }
+            }
         }
         Ok(is_end)
     }
@@ -712,7 +831,7 @@ impl<'a> Checker<'a> {
         let is_end = self.lint(entry, scan)?;
         match entry.read {
             _ if is_end => Ok(()),
-            Err(BlockRefusal::Text(fault)) => self.tell_fault(entry, *fault),
+            Err(BlockRefusal::Text(fault)) => self.findings.tell_fault(entry, *fault),
             Err(BlockRefusal::LongEntry) => self.tell_long(entry),
             _ if self.limits.is_text => Ok(()),
             Ok(EntryRead::Nothing) => Ok(()),
@@ -732,7 +851,7 @@ impl<'a> Checker<'a> {
 }
 
 impl<'a> Visit for Checker<'a> {
-    fn begin(&mut self, file: &str, _number: usize, mark: &[u8]) -> Result<(), Stop> {
+    fn begin(&mut self, file: &str, number: usize, mark: &[u8]) -> Result<(), Stop> {
         if let Some(held) = &mut self.held {
             let name = String::from_str(self.alloc, file)?;
             held.files.push(name)?;
@@ -744,15 +863,19 @@ impl<'a> Visit for Checker<'a> {
         if !self.tells_octets(Code::ByteOrderMark) {
             return Ok(());
         }
-        self.tell(
-            line_spot(file, first_place().position, None),
+        self.findings.tell(
+            line_spot(file, number, first_place().position, None),
             Code::ByteOrderMark,
         )
     }
 
     fn is_quiet(&self, entry: &Entry<'_>) -> bool {
         // A record is stored with its position.
-        self.held.is_none() && self.shows_nothing(entry, scan_octets(entry.octets))
+        if self.held.is_some() {
+            return false;
+        }
+        let scan = scan_octets(entry.octets);
+        !has_exceptions(entry, scan) && self.shows_nothing(entry, scan)
     }
 
     fn take_quiet(&mut self, entry: &Entry<'_>) -> Result<(), Stop> {
@@ -764,33 +887,35 @@ impl<'a> Visit for Checker<'a> {
 
     fn take(&mut self, entry: &Entry<'_>) -> Result<(), Stop> {
         let scan = scan_octets(entry.octets);
-        if !self.shows_nothing(entry, scan) {
-            return self.check_entry(entry, scan);
+        self.findings.reporter.exceptions.begin();
+        if !has_exceptions(entry, scan) {
+            return self.take_entry(entry, scan);
         }
-        match entry.read {
-            Ok(EntryRead::Record { at, .. }) => {
-                self.count_record();
-                self.hold_record(entry, *at)
-            }
-            _ => Ok(()),
-        }
+        self.begin_exceptions(entry)?;
+        self.take_entry(entry, scan)?;
+        self.end_exceptions(entry)
     }
 
-    fn refuse(&mut self, entry: &Entry<'_>, why: &str) -> Result<(), Stop> {
+    fn refuse(&mut self, entry: &Entry<'_>, unfit: &Unfit) -> Result<(), Stop> {
         if self.limits.is_text {
             return Ok(());
         }
         self.has_gap = true;
         let tokens = tokens_of(self.alloc, entry)?;
-        let spot = match tokens.as_slice().get(1) {
-            Some(token) => token_at(entry, token),
-            None => beginning(entry),
+        let (spot, word) = match tokens.as_slice().get(1) {
+            Some(token) => (token_at(entry, token), token.text),
+            None => (beginning(entry), b"".as_slice()),
         };
-        let text = format!(in self.alloc; "not included: {why}")?;
-        self.reporter.tell(spot, Code::Include, true, text.as_str())
+        let word = quoted(self.alloc, word)?;
+        let text = unfit.text(self.alloc, word.as_str())?;
+        let said = Said::message(text.as_str());
+        self.findings.reporter.tell(spot, Code::Include, true, said)
     }
 
-    fn keep_ttl(&mut self, file: &str, place: Place) -> Result<(), Stop> {
-        self.tell(line_spot(file, place.position, None), Code::IncludeTtl)
+    fn keep_ttl(&mut self, file: &str, number: usize, place: Place) -> Result<(), Stop> {
+        self.findings.tell(
+            line_spot(file, number, place.position, None),
+            Code::IncludeTtl,
+        )
     }
 }

@@ -124,9 +124,11 @@ fn with_forms<'a>(alloc: Global, command: Command<'a>) -> Result<Command<'a>, Al
         "WHEN",
         "when to print findings in colour, with their lines",
     );
+    let excerpt = "print the line of each finding, with a caret, also without a terminal";
     command
         .arg(with_format(alloc)?)?
         .arg(flag(alloc, "json", "the same as --format json"))?
+        .arg(flag(alloc, "excerpt", excerpt))?
         .arg(valued(alloc, "max", "N", most))?
         .arg(color.value_parser(WHEN.as_slice()))?
         .arg(flag(alloc, "verbose", verbose).short('v'))

@@ -60,6 +60,7 @@ fn cut_by<'o>(rt: &HostRuntime, inner: &'o ArgMatches) -> Result<u8, Usage<'o>> 
         base,
         is_one_zone: inner.get_flag("soa"),
         is_quiet: inner.get_flag("quiet"),
+        is_lenient: false,
     };
     let work = cut::Work {
         count: count_of(inner.get_str("N").unwrap_or(""))?,

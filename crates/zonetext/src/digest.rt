@@ -168,7 +168,7 @@ fn check(rt: &HostRuntime, file: &str, gathered: &Gathered, work: Work) -> Resul
 /// others of a known scheme and hash algorithm do too, unless one is enough.
 #[inline(never)]
 pub fn run(rt: &HostRuntime, file: &str, reading: &Reading<'_>, work: Work) -> u8 {
-    let gathered = match gather(rt, &[file], reading, Selection::all()) {
+    let gathered = match gather(rt, &[file], reading, Selection::all(), false) {
         Ok(gathered) => gathered,
         Err(status) => return status,
     };

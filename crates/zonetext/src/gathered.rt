@@ -7,13 +7,15 @@ use crate::zone_files::Entry;
 use dns_canonical::append_lowered;
 use dns_fields::RecordRef;
 use dns_resource::{Record, append_canonical_data};
-use std::alloc::Global;
+use std::alloc::{AllocError, Global};
 use zone_set::{CanonicalSet, Selection, TaggedOctets};
 
-/// Records in canonical form (RFC 4034 section 6.2), each with the number of records before it.
+/// Records in canonical form (RFC 4034 section 6.2) or as they are spelled, each with the number of
+/// records before it.
 #[derive(Drop)]
 pub struct Gathered {
     held: Held<usize>,
+    places: Places,
     /// The first SOA, also if SOAs are omitted.
     pub seen: Option<Seen>,
 }
@@ -24,7 +26,48 @@ pub type NumberedRecord<'h> = Record<TaggedOctets<'h, usize>, &'h [u8]>;
 /// Records in canonical order, without duplicates.
 pub type NumberedSet<'h> = CanonicalSet<TaggedOctets<'h, usize>, &'h [u8]>;
 
+/// Where the entries of records begin, by the numbers of the records.
+#[derive(Drop)]
+struct Places {
+    /// The paths of the files.
+    files: Vec<String>,
+    /// The number of the file among these, and the line.
+    lines: Vec<(usize, usize)>,
+}
+
+impl Places {
+    /// Returns no places.
+    fn new(alloc: Global) -> Places {
+        Places {
+            files: Vec::new(alloc),
+            lines: Vec::new(alloc),
+        }
+    }
+
+    /// Adds the place of the next record.
+    fn add(&mut self, alloc: Global, entry: &Entry<'_>) -> Result<(), AllocError> {
+        let is_same = match self.files.last() {
+            Some(file) => file.as_str() == entry.file,
+            None => false,
+        };
+        if !is_same {
+            self.files.push(String::from_str(alloc, entry.file)?)?;
+        }
+        let file = self.files.len().saturating_sub(1);
+        self.lines.push((file, entry.place().position.line))?;
+        Ok(())
+    }
+}
+
 impl Gathered {
+    /// Returns the file and the line where the entry of a record begins, by the record's number, if
+    /// places were kept.
+    pub fn place(&self, number: usize) -> Option<(&str, usize)> {
+        let (file, line) = *self.places.lines.get(number)?;
+        let file = self.places.files.get(file)?;
+        Some((file.as_str(), line))
+    }
+
     /// Returns the number of records.
     pub fn len(&self) -> usize {
         self.held.len()
@@ -74,11 +117,17 @@ impl Lowerer {
     }
 }
 
-/// Collects the records of files in canonical form.
+/// Collects the records of files.
 #[derive(Drop)]
 pub struct Gatherer<'s> {
     selection: Selection<'s>,
+    /// Whether names keep their letter case.
+    keeps_case: bool,
+    /// Whether the places of records are kept.
+    keeps_places: bool,
     held: Held<usize>,
+    places: Places,
+    alloc: Global,
     lowerer: Lowerer,
 }
 
@@ -87,15 +136,32 @@ impl<'s> Gatherer<'s> {
     pub fn new(alloc: Global, selection: Selection<'s>) -> Gatherer<'s> {
         Gatherer {
             selection,
+            keeps_case: false,
+            keeps_places: false,
             held: Held::new(alloc),
+            places: Places::new(alloc),
+            alloc,
             lowerer: Lowerer::new(alloc),
         }
+    }
+
+    /// Returns the same collection, in which names keep their letter case.
+    pub fn keeping_case(mut self) -> Gatherer<'s> {
+        self.keeps_case = true;
+        self
+    }
+
+    /// Returns the same collection, which keeps the places of records if that is wanted.
+    pub fn with_places(mut self, keeps_places: bool) -> Gatherer<'s> {
+        self.keeps_places = keeps_places;
+        self
     }
 
     /// Returns the records that were collected, and the first SOA.
     pub fn gathered(self, seen: Option<Seen>) -> Gathered {
         Gathered {
             held: self.held,
+            places: self.places,
             seen,
         }
     }
@@ -110,27 +176,46 @@ impl TakeEntry for Gatherer<'_> {
             return Ok(());
         }
         let number = self.held.len();
+        if self.keeps_places {
+            self.places.add(self.alloc, entry)?;
+        }
+        if self.keeps_case {
+            return self.held.add(given, number);
+        }
         let lowered = self.lowerer.lower(given)?;
         self.held.add(lowered, number)
     }
 }
 
-/// Returns the selected records of files. If an entry is rejected, that is reported, and the status
-/// is returned in place of them: 1, or 3 if a file can't be read.
-pub fn gather(
+/// Passes the records of files to a collection, and returns them. If an entry is rejected, that is
+/// reported, and the status is returned in place of them: 1, or 3 if a file can't be read.
+pub fn gather_by(
     rt: &HostRuntime,
     files: &[&str],
     reading: &Reading<'_>,
-    selection: Selection<'_>,
+    gatherer: Gatherer<'_>,
 ) -> Result<Gathered, u8> {
-    let gatherer = Gatherer::new(rt.alloc(), selection);
     let Outcome {
         status,
         seen,
         taker,
     } = give_entries(rt, files, reading, gatherer);
-    if status > 0 {
+    if reading.fails(status) {
         return Err(status);
     }
     Ok(taker.gathered(seen))
+}
+
+/// Returns the selected records of files, in canonical form, with their places if these are kept. If
+/// an entry is rejected, that is reported, and the status is returned in place of them: 1, or 3 if a
+/// file can't be read.
+pub fn gather(
+    rt: &HostRuntime,
+    files: &[&str],
+    reading: &Reading<'_>,
+    selection: Selection<'_>,
+    keeps_places: bool,
+) -> Result<Gathered, u8> {
+    let gatherer = Gatherer::new(rt.alloc(), selection).with_places(keeps_places);
+    gather_by(rt, files, reading, gatherer)
 }

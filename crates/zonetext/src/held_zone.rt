@@ -4,11 +4,9 @@ use crate::refused_sets::RefusedSets;
 use dns_kinds::RecordType;
 use dns_resource::Record;
 use dns_split::position::Position;
-use dns_wire::DisplayWithDot;
-use std::alloc::{AllocError, Global};
+use std::alloc::Global;
 use zone_dnssec::SecurityRule;
-use zone_rules::hosts::dname_over_host;
-use zone_rules::{Finding, Rule, SortedRecords, SortedSets};
+use zone_rules::{Finding, Rule};
 use zone_set::TaggedOctets;
 
 /// The position of a record.
@@ -17,6 +15,8 @@ pub struct Stand {
     /// The number of its file.
     pub file: usize,
     pub position: Position,
+    /// Position of the target in its data, if it has one, and otherwise that of the record.
+    pub target: Position,
 }
 
 /// A record with its position.
@@ -103,27 +103,4 @@ pub fn is_of_signed_absence(rule: SecurityRule) -> bool {
         | SecurityRule::OtherHashedTypes => true,
         _ => false,
     }
-}
-
-/// Returns the text of a finding that a host is below a DNAME, with the name of the DNAME.
-pub fn dname_text(
-    alloc: Global,
-    finding: &Finding,
-    records: &SortedRecords<'_, TaggedOctets<'_, Stand>, &[u8]>,
-    refused: &SortedSets<'_>,
-) -> Result<Option<String>, AllocError> {
-    if finding.rule != Rule::HostBelowDname {
-        return Ok(None);
-    }
-    let Some(record) = finding
-        .record
-        .and_then(|place| records.as_slice().get(place))
-    else {
-        return Ok(None);
-    };
-    let Some(name) = dname_over_host(records, refused, record) else {
-        return Ok(None);
-    };
-    let name = DisplayWithDot::new(&name);
-    Ok(Some(format!(in alloc; "target is below the DNAME {name}")?))
 }

@@ -1,4 +1,5 @@
 //! Records, and digests of zones, as JSON objects, one a line.
+use crate::gathered::{Gathered, NumberedRecord};
 use crate::lines::Lines;
 use crate::reading::{Reading, TakeEntry, give_entries};
 use crate::spots::beginning;
@@ -10,7 +11,7 @@ use dns_resource::{Record, record_of};
 use finding_formats::record_json::{DigestFields, RecordFields, push_digest, push_fields};
 use std::alloc::{AllocError, Global};
 use zone_digest::Zonemd;
-use zone_set::{Change, push_generic, push_record};
+use zone_set::{Change, TaggedOctets, push_generic, push_record};
 
 /// Returns the option for JSON.
 pub fn option<'a>(alloc: Global) -> Arg<'a> {
@@ -71,6 +72,7 @@ pub fn push_json_record<Owner: AsOctets, Octets: AsOctets>(
     record: &Record<Owner, Octets>,
     is_generic: bool,
     change: Option<&str>,
+    place: Option<(&str, usize)>,
 ) -> Result<(), AllocError> {
     let mut line = String::new(*text.allocator());
     if is_generic {
@@ -78,20 +80,36 @@ pub fn push_json_record<Owner: AsOctets, Octets: AsOctets>(
     } else {
         push_record(&mut line, record)?;
     }
-    push_object(text, line.as_str(), change, None, None)
+    match place {
+        Some((file, number)) => push_object(text, line.as_str(), change, Some(file), Some(number)),
+        None => push_object(text, line.as_str(), change, None, None),
+    }
 }
 
-/// Appends a change as JSON objects: a new TTL is a deletion and an addition.
-pub fn push_json_change<Owner: AsOctets, Octets: AsOctets>(
+/// Appends a record of a zone as a JSON object, with its place if that is known.
+fn push_gathered(
     text: &mut String,
-    change: &Change<'_, Owner, Octets>,
+    zone: &Gathered,
+    record: &NumberedRecord<'_>,
+    change: &str,
+) -> Result<(), AllocError> {
+    let place = zone.place(record.owner.as_octets().tag);
+    push_json_record(text, record, false, Some(change), place)
+}
+
+/// Appends a change between two zones as JSON objects: a new TTL is a deletion and an addition.
+pub fn push_json_change<'h>(
+    text: &mut String,
+    old: &'h Gathered,
+    new: &'h Gathered,
+    change: &Change<'_, TaggedOctets<'h, usize>, &'h [u8]>,
 ) -> Result<(), AllocError> {
     match *change {
-        Change::Removed(record) => push_json_record(text, record, false, Some("delete")),
-        Change::Added(record) => push_json_record(text, record, false, Some("add")),
-        Change::NewTtl(old, new) => {
-            push_json_record(text, old, false, Some("delete"))?;
-            push_json_record(text, new, false, Some("add"))
+        Change::Removed(record) => push_gathered(text, old, record, "delete"),
+        Change::Added(record) => push_gathered(text, new, record, "add"),
+        Change::NewTtl(was, is) => {
+            push_gathered(text, old, was, "delete")?;
+            push_gathered(text, new, is, "add")
         }
     }
 }

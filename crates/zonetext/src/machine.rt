@@ -50,8 +50,17 @@ fn is_error(severity: Severity) -> bool {
     severity == Severity::Error
 }
 
+/// Returns the octets of a text, unless it is empty.
+fn known(text: &str) -> Option<&[u8]> {
+    if text.is_empty() {
+        None
+    } else {
+        Some(text.as_bytes())
+    }
+}
+
 /// Returns a finding as the formats have it.
-fn formatted<'a>(file: &'a str, finding: &'a Finding<'a>) -> finding_formats::Finding<'a> {
+fn formatted<'a>(finding: &'a Finding<'a>) -> finding_formats::Finding<'a> {
     let opened = match finding.opened {
         Some(position) => Some(Opening {
             line: position.line,
@@ -60,17 +69,17 @@ fn formatted<'a>(file: &'a str, finding: &'a Finding<'a>) -> finding_formats::Fi
         None => None,
     };
     finding_formats::Finding {
-        file: file.as_bytes(),
+        file: finding.file.as_bytes(),
         line: finding.position.line,
         column: finding.position.column,
         end_column: finding.end_column,
         opened,
         is_error: is_error(finding.severity),
         code: finding.code.name().as_bytes(),
-        owner: None,
-        rtype: None,
+        owner: known(finding.owner),
+        rtype: known(finding.rtype),
         message: finding.message.as_bytes(),
-        help: None,
+        help: known(finding.help),
     }
 }
 
@@ -136,15 +145,14 @@ impl Before {
         &mut self,
         out: &mut Vec<u8>,
         format: Format,
-        file: &str,
         finding: &Finding<'_>,
     ) -> Result<(), AllocError> {
-        let formatted = formatted(file, finding);
+        let formatted = formatted(finding);
         match format {
             Format::Json => json::push_finding(out, &formatted)?,
             Format::Github => github::push_finding(out, &formatted)?,
             Format::Sarif => sarif::push_finding(out, !self.has_finding, &formatted)?,
-            Format::Checkstyle => self.push_checkstyle(out, file, &formatted)?,
+            Format::Checkstyle => self.push_checkstyle(out, finding.file, &formatted)?,
         }
         self.has_finding = true;
         Ok(())

@@ -83,6 +83,11 @@ pub fn number_of<'o>(
     }
 }
 
+/// Parses seconds, such as `86400` or `1d`.
+pub fn seconds_in(text: &str) -> Option<u32> {
+    interval_from_text(text.as_bytes()).ok()
+}
+
 /// Parses the seconds of an option, such as `86400` or `1d`, if it is set.
 pub fn seconds_of<'o>(
     text: Option<&'o str>,
@@ -91,9 +96,9 @@ pub fn seconds_of<'o>(
     let Some(value) = text else {
         return Ok(None);
     };
-    match interval_from_text(value.as_bytes()) {
-        Ok(seconds) => Ok(Some(seconds)),
-        Err(_) => Err(Usage::Value {
+    match seconds_in(value) {
+        Some(seconds) => Ok(Some(seconds)),
+        None => Err(Usage::Value {
             option,
             value,
             wants: "a time in seconds, or as 7d or 12h30m",

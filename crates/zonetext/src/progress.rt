@@ -1,5 +1,6 @@
 //! Shows on a terminal how much was read.
 use crate::shown::Shown;
+use std::fs::metadata;
 use std::io;
 use std::io::{IsTerminal, Write};
 use std::time::Instant;
@@ -15,8 +16,18 @@ pub struct Progress<'a> {
     /// When reading began, if progress is shown at all.
     start: Option<Instant>,
     octets: u64,
+    /// Number of octets of the file, if that is known.
+    total: Option<u64>,
     /// The second at which it was shown last.
     said: u64,
+}
+
+/// Returns the number of octets of a file, if that is known.
+fn total_of(rt: &HostRuntime, file: &str) -> Option<u64> {
+    match metadata(rt, file) {
+        Ok(found) if found.is_file() => Some(found.len()),
+        _ => None,
+    }
 }
 
 impl<'a> Progress<'a> {
@@ -27,11 +38,17 @@ impl<'a> Progress<'a> {
         } else {
             Some(Instant::now(rt)?)
         };
+        let total = if start.is_some() && file != "-" {
+            total_of(rt, file)
+        } else {
+            None
+        };
         Ok(Progress {
             rt,
             file,
             start,
             octets: 0,
+            total,
             said: 0,
         })
     }
@@ -47,10 +64,37 @@ impl<'a> Progress<'a> {
             return Ok(());
         }
         self.said = seconds;
-        let megabytes = self.octets / 1_000_000;
-        let file = Shown(self.file);
-        eprint!(self.rt; "\r{file}: {megabytes} MB read")?;
+        self.show(seconds)?;
         self.rt.stderr().flush()
+    }
+
+    /// Shows how much was read in a number of seconds: if the size is known, the share of it and the
+    /// time that is left. With included files more may be read.
+    fn show(&self, seconds: u64) -> io::Result<()> {
+        let file = Shown(self.file);
+        let rest = match self.total {
+            Some(total) if self.octets > 0 => total.checked_sub(self.octets),
+            _ => None,
+        };
+        match (self.total, rest) {
+            (Some(total), Some(rest)) => {
+                let megabytes = total / 1_000_000;
+                let share = self
+                    .octets
+                    .saturating_mul(100)
+                    .checked_div(total)
+                    .unwrap_or(100);
+                let left = seconds
+                    .saturating_mul(rest)
+                    .checked_div(self.octets)
+                    .unwrap_or(0);
+                eprint!(self.rt; "\r{file}: {share} % of {megabytes} MB, {left} s left\u{1b}[K")
+            }
+            _ => {
+                let megabytes = self.octets / 1_000_000;
+                eprint!(self.rt; "\r{file}: {megabytes} MB read\u{1b}[K")
+            }
+        }
     }
 
     /// Removes what was shown.

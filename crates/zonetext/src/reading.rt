@@ -6,7 +6,7 @@ use crate::reporter::{Form, Reporter};
 use crate::shown::Shown;
 use crate::spots::position_at;
 use crate::stop::{Stop, conclude};
-use crate::zone_files::{Begin, Entry, Visit, visit_file};
+use crate::zone_files::{Begin, Entry, Unfit, Visit, visit_file};
 use dns_kinds::{Class, RecordType};
 use dns_reader::{EntryRead, NameBuffer, State};
 use dns_wire::DisplayWithDot;
@@ -42,6 +42,16 @@ pub struct Reading<'o> {
     pub is_one_zone: bool,
     /// Whether progress is not shown.
     pub is_quiet: bool,
+    /// Whether rejected entries are written to standard output, as comments, and the others are
+    /// used.
+    pub is_lenient: bool,
+}
+
+impl Reading<'_> {
+    /// Returns whether records are not used because of a status.
+    pub fn fails(&self, status: u8) -> bool {
+        status > u8::from(self.is_lenient)
+    }
 }
 
 /// A consumer of the entries of files, including rejected ones.
@@ -125,12 +135,12 @@ impl<T: TakeEntry + Drop> Visit for Giver<'_, T> {
         self.taker.take_entry(entry)
     }
 
-    fn refuse(&mut self, entry: &Entry<'_>, why: &str) -> Result<(), Stop> {
-        self.checker.refuse(entry, why)
+    fn refuse(&mut self, entry: &Entry<'_>, unfit: &Unfit) -> Result<(), Stop> {
+        self.checker.refuse(entry, unfit)
     }
 
-    fn keep_ttl(&mut self, file: &str, place: Place) -> Result<(), Stop> {
-        self.checker.keep_ttl(file, place)
+    fn keep_ttl(&mut self, file: &str, number: usize, place: Place) -> Result<(), Stop> {
+        self.checker.keep_ttl(file, number, place)
     }
 }
 
@@ -183,10 +193,10 @@ fn give_files<T: TakeEntry + Drop>(
             }
         }
     }
-    if let Err(stop) = giver.checker.reporter.summarize() {
+    if let Err(stop) = giver.checker.findings.reporter.summarize() {
         return conclude(rt, "-", stop);
     }
-    let found = giver.checker.reporter.tally.status();
+    let found = giver.checker.findings.reporter.tally.status();
     found.max(u8::from(giver.has_other_soa)).max(status)
 }
 
@@ -253,7 +263,11 @@ pub fn give_entries<T: TakeEntry + Drop>(
         is_standard: true,
         is_text: false,
     };
-    let reporter = Reporter::new(rt, policy, form, MOST);
+    let reporter = if reading.is_lenient {
+        Reporter::new(rt, policy, form, 0).as_comments()
+    } else {
+        Reporter::new(rt, policy, form, MOST)
+    };
     let checker = Checker::new(rt, reporter, limits, None);
     let mut giver = Giver {
         rt,

@@ -1,38 +1,8 @@
-//! The messages about rejected entries.
-use dns_data::field_text;
+//! The types of rejected entries.
 use dns_fields::RecordError;
 use dns_heads::{class_word, type_word};
-use dns_kinds::{ErrorKind, RecordType};
+use dns_kinds::RecordType;
 use dns_split::entry_tokens::EntryToken;
-use std::alloc::{AllocError, Global};
-use zonetext_report::code::Code;
-
-/// Returns why an entry is rejected. Its octets don't fit only if they exceed the limit of record
-/// data.
-fn reason_of(kind: ErrorKind) -> &'static str {
-    match kind {
-        ErrorKind::ShortBuf => "data above 65535 octets",
-        _ => kind.as_str(),
-    }
-}
-
-/// Returns the name of the field that is rejected, in the data of a type.
-fn refused_field(error: &RecordError, rtype: RecordType) -> Option<&'static str> {
-    field_text(rtype, error.field?)
-}
-
-/// Returns the message about a rejected entry.
-pub fn refusal_text(alloc: Global, error: &RecordError, code: Code) -> Result<String, AllocError> {
-    let why = reason_of(error.kind);
-    match error.rtype {
-        Some(rtype) => match refused_field(error, rtype) {
-            Some(field) => format!(in alloc; "{rtype} {field}: {why}"),
-            None => format!(in alloc; "{rtype}: {why}"),
-        },
-        None if code == Code::Owner => format!(in alloc; "owner: {why}"),
-        None => String::from_str(alloc, why),
-    }
-}
 
 /// Returns whether a token may come before the type of a record: a class, or a word that begins
 /// with a digit.

@@ -1,11 +1,14 @@
 //! Reports findings.
+use crate::exceptions::Exceptions;
 use crate::machine::{Before, Format};
 use crate::stop::Stop;
+use crate::waiting::Waiting;
 use dns_split::position::Position;
+use std::alloc::AllocError;
 use std::io::Write;
-use zonetext_report::code::Code;
+use zonetext_report::code::{Code, Severity};
 use zonetext_report::excerpt::push_excerpt;
-use zonetext_report::finding::{Finding, push_line};
+use zonetext_report::finding::{Finding, push_lines};
 use zonetext_report::policy::Policy;
 use zonetext_report::tally::Tally;
 
@@ -26,11 +29,54 @@ pub enum Form {
 #[derive(Clone, Copy)]
 pub struct Spot<'s> {
     pub file: &'s str,
+    /// Number of files that were opened before it.
+    pub number: usize,
     pub position: Position,
     pub end_column: usize,
     pub opened: Option<Position>,
     /// The line of the file, without its end, if it is known.
     pub line: Option<&'s [u8]>,
+}
+
+/// What a finding says. A text that it doesn't have is empty.
+#[derive(Clone, Copy)]
+pub struct Said<'s> {
+    /// Owner of the record that it is about, relative to the zone or in full.
+    pub owner: &'s str,
+    /// Type of that record.
+    pub rtype: &'s str,
+    /// Message, in words. The token that it is about comes last, in single quotes.
+    pub message: &'s str,
+    /// What to write instead.
+    pub help: &'s str,
+    /// Another position that explains the finding, in words.
+    pub note: &'s str,
+}
+
+impl<'s> Said<'s> {
+    /// Returns a message alone.
+    pub fn message(message: &'s str) -> Said<'s> {
+        Said {
+            owner: "",
+            rtype: "",
+            message,
+            help: "",
+            note: "",
+        }
+    }
+}
+
+/// Appends lines, each as a comment of a zone file.
+fn push_comments(lines: &[u8], out: &mut Vec<u8>) -> Result<(), AllocError> {
+    let mut begins_line = true;
+    for octet in lines {
+        if begins_line {
+            out.extend_from_slice(b"; ")?;
+        }
+        out.push(*octet)?;
+        begins_line = *octet == b'\n';
+    }
+    Ok(())
 }
 
 /// Reports findings, and counts them.
@@ -42,7 +88,12 @@ pub struct Reporter<'a> {
     pub tally: Tally,
     /// What the format for other programs depends on.
     pub before: Before,
+    /// Whether findings are written to standard output, as comments of a zone file.
+    writes_comments: bool,
+    pub exceptions: Exceptions,
     out: Vec<u8>,
+    /// The findings that are written at the end, in the order of the files, if they are.
+    waiting: Option<Waiting>,
 }
 
 impl<'a> Reporter<'a> {
@@ -55,12 +106,32 @@ impl<'a> Reporter<'a> {
             form,
             tally: Tally::new(most),
             before: Before::new(false),
+            writes_comments: false,
+            exceptions: Exceptions::new(rt.alloc()),
             out: Vec::new(rt.alloc()),
+            waiting: None,
         }
+    }
+
+    /// Lets findings wait until [`Reporter::flush`], which sorts them. Findings of several records
+    /// come after those of entries, and are before them in the file.
+    pub fn wait(&mut self) {
+        let most = self.tally.most;
+        self.waiting = Some(Waiting::new(self.rt.alloc(), most));
+    }
+
+    /// Returns the same reporter, which writes findings to standard output, as comments of a zone
+    /// file.
+    pub fn as_comments(mut self) -> Reporter<'a> {
+        self.writes_comments = true;
+        self
     }
 
     /// Writes what was appended.
     fn write(&mut self) -> Result<(), Stop> {
+        if self.writes_comments {
+            return self.write_comments();
+        }
         let octets = self.out.as_slice();
         match self.form {
             Form::Machine(_) => self.rt.stdout().write_all(octets)?,
@@ -70,48 +141,108 @@ impl<'a> Reporter<'a> {
         Ok(())
     }
 
-    /// Reports a finding, and counts it. A finding that keeps a record from being read is an error,
-    /// and is not omitted.
-    pub fn tell(
-        &mut self,
-        spot: Spot<'_>,
-        code: Code,
-        is_refused: bool,
-        message: &str,
-    ) -> Result<(), Stop> {
-        let Some(severity) = self.policy.severity(code, is_refused) else {
+    /// Writes what was appended to standard output, as comments.
+    fn write_comments(&mut self) -> Result<(), Stop> {
+        let mut comments = Vec::new(self.rt.alloc());
+        push_comments(self.out.as_slice(), &mut comments)?;
+        self.rt.stdout().write_all(comments.as_slice())?;
+        self.out.truncate(0);
+        Ok(())
+    }
+
+    /// Writes the findings that wait, in the order of the files, lines and columns.
+    pub fn flush(&mut self) -> Result<(), Stop> {
+        let Some(mut waiting) = self.waiting.take() else {
             return Ok(());
         };
-        if !self.tally.count(severity) {
-            return Ok(());
+        waiting.sort()?;
+        for number in 0..waiting.len() {
+            if let Some((finding, line)) = waiting.finding(number) {
+                self.push(&finding, line)?;
+                self.write()?;
+            }
         }
+        Ok(())
+    }
+
+    /// Appends a finding as it is shown, with its line of the file if that is known.
+    fn push(&mut self, finding: &Finding<'_>, line: Option<&[u8]>) -> Result<(), AllocError> {
+        match self.form {
+            Form::Machine(format) => self.before.push(&mut self.out, format, finding),
+            Form::Lines {
+                is_coloured,
+                has_excerpt,
+            } => {
+                push_lines(&mut self.out, is_coloured, finding)?;
+                match line {
+                    Some(line) if has_excerpt => {
+                        let (column, end_column) = (finding.position.column, finding.end_column);
+                        push_excerpt(&mut self.out, is_coloured, line, column, end_column)
+                    }
+                    _ => Ok(()),
+                }
+            }
+        }
+    }
+
+    /// Counts a finding, and returns its severity if it is to be shown. A finding that an exception
+    /// in effect names is omitted. A finding that keeps a record from being read is an error, and is
+    /// not omitted.
+    pub fn count(&mut self, spot: Spot<'_>, code: Code, is_refused: bool) -> Option<Severity> {
+        let can_be_excepted = !is_refused && !code.is_text_fault();
+        if can_be_excepted && self.exceptions.excepts(code) {
+            return None;
+        }
+        let severity = self.policy.severity(code, is_refused)?;
+        let has_room = self.tally.count(severity);
+        let is_shown = match &self.waiting {
+            Some(waiting) => waiting.takes(spot.number, spot.position),
+            None => has_room,
+        };
+        if is_shown { Some(severity) } else { None }
+    }
+
+    /// Shows a finding that was counted.
+    pub fn show(
+        &mut self,
+        severity: Severity,
+        spot: Spot<'_>,
+        code: Code,
+        said: Said<'_>,
+    ) -> Result<(), Stop> {
         let finding = Finding {
+            file: spot.file,
             severity,
             code,
             position: spot.position,
             end_column: spot.end_column,
             opened: spot.opened,
-            message,
+            owner: said.owner,
+            rtype: said.rtype,
+            message: said.message,
+            help: said.help,
+            note: said.note,
         };
-        match self.form {
-            Form::Machine(format) => {
-                self.before
-                    .push(&mut self.out, format, spot.file, &finding)?;
-            }
-            Form::Lines {
-                is_coloured,
-                has_excerpt,
-            } => {
-                push_line(&mut self.out, is_coloured, spot.file, &finding)?;
-                if let Some(line) = spot.line {
-                    if has_excerpt {
-                        let column = spot.position.column;
-                        push_excerpt(&mut self.out, is_coloured, line, column, spot.end_column)?;
-                    }
-                }
-            }
+        if let Some(waiting) = &mut self.waiting {
+            waiting.add(spot.number, &finding, spot.line)?;
+            return Ok(());
         }
+        self.push(&finding, spot.line)?;
         self.write()
+    }
+
+    /// Counts and shows a finding.
+    pub fn tell(
+        &mut self,
+        spot: Spot<'_>,
+        code: Code,
+        is_refused: bool,
+        said: Said<'_>,
+    ) -> Result<(), Stop> {
+        match self.count(spot, code, is_refused) {
+            Some(severity) => self.show(severity, spot, code, said),
+            None => Ok(()),
+        }
     }
 
     /// Returns whether lines of files are shown.
@@ -125,14 +256,15 @@ impl<'a> Reporter<'a> {
         )
     }
 
+    /// Returns whether equal findings about signatures are shown as one, with their number: in
+    /// lines, which people read.
+    pub fn joins_equal(&self) -> bool {
+        matches!(self.form, Form::Lines { .. })
+    }
+
     /// Returns whether a finding is an error because of the options.
     pub fn denies(&self, code: Code) -> bool {
         self.policy.is_strict || self.policy.denied.contains(&code)
-    }
-
-    /// Returns whether the next finding is shown, and keeps no record from being read.
-    pub fn shows(&self, code: Code) -> bool {
-        self.tally.has_room() && self.policy.severity(code, false).is_some()
     }
 
     /// Writes what comes after the findings of a file in a format for other programs.
@@ -146,7 +278,8 @@ impl<'a> Reporter<'a> {
     /// Reports the number of findings, unless it is 0. In a format for other programs it is
     /// reported only if a finding is not shown.
     pub fn summarize(&mut self) -> Result<(), Stop> {
-        if matches!(self.form, Form::Machine(_)) && self.tally.hidden() == 0 {
+        let is_silent = matches!(self.form, Form::Machine(_)) && self.tally.hidden() == 0;
+        if is_silent || self.writes_comments {
             return Ok(());
         }
         self.tally.push_summary(&mut self.out)?;

@@ -17,6 +17,8 @@ pub struct OctetScan {
     pub has_quote: bool,
     /// Whether one of them is a backslash.
     pub has_backslash: bool,
+    /// Whether one of them is a semicolon.
+    pub has_semicolon: bool,
 }
 
 /// Returns whether an octet is plain: printable ASCII, a tab or a line feed.
@@ -25,16 +27,19 @@ fn is_plain(octet: u8) -> bool {
 }
 
 /// The classes of octets by their low four bits and by their high four bits: an octet has those that
-/// are in both. 7 is of octets that are not plain, 24 of `(`, `"` and the backslash.
-const LOW_CLASSES: [u8; 16] = [3, 3, 11, 3, 3, 3, 3, 3, 11, 2, 2, 3, 19, 3, 3, 7];
+/// are in both. 7 is of octets that are not plain, 24 of `(`, `"` and the backslash, 32 of `;`.
+const LOW_CLASSES: [u8; 16] = [3, 3, 11, 3, 3, 3, 3, 3, 11, 2, 2, 35, 19, 3, 3, 7];
 
-const HIGH_CLASSES: [u8; 16] = [1, 2, 8, 0, 0, 16, 0, 4, 2, 2, 2, 2, 2, 2, 2, 2];
+const HIGH_CLASSES: [u8; 16] = [1, 2, 8, 32, 0, 16, 0, 4, 2, 2, 2, 2, 2, 2, 2, 2];
 
 /// The classes of octets that are not plain.
 const OTHERS: u8 = 7;
 
 /// The classes of `(`, `"` and the backslash.
 const MARKS: u8 = 24;
+
+/// The class of `;`.
+const SEMICOLONS: u8 = 32;
 
 /// Returns the classes of each octet of a load.
 #[inline(always)]
@@ -51,7 +56,7 @@ fn has_class(found: u8x16, wanted: u8) -> bool {
         .any()
 }
 
-/// Returns which of `(`, `"` and the backslash octets contain. `is_plain` is known of them.
+/// Returns which of `(`, `"`, `;` and the backslash octets contain. `is_plain` is known of them.
 #[inline(never)]
 fn scan_marks(octets: &[u8], is_plain: bool) -> OctetScan {
     OctetScan {
@@ -59,6 +64,7 @@ fn scan_marks(octets: &[u8], is_plain: bool) -> OctetScan {
         has_parenthesis: !skip_to(octets, b'(').is_empty(),
         has_quote: !skip_to(octets, b'"').is_empty(),
         has_backslash: !skip_to(octets, b'\\').is_empty(),
+        has_semicolon: !skip_to(octets, b';').is_empty(),
     }
 }
 
@@ -85,6 +91,7 @@ pub fn scan_octets(octets: &[u8]) -> OctetScan {
         has_parenthesis: false,
         has_quote: false,
         has_backslash: false,
+        has_semicolon: has_class(found, SEMICOLONS),
     }
 }
 

@@ -74,7 +74,7 @@ pub fn gather_sorting<'s>(
 ) -> Result<Sorting<'s>, u8> {
     let sorting = Sorting::new(rt, selection, size);
     let Outcome { status, taker, .. } = give_entries(rt, files, reading, sorting);
-    if status > 0 {
+    if reading.fails(status) {
         return Err(status);
     }
     Ok(taker)

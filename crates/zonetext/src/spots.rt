@@ -5,7 +5,9 @@ use crate::open_file::behind;
 use crate::reporter::Spot;
 use crate::zone_files::Entry;
 use dns_heads::type_word;
-use dns_split::entry_tokens::{EntryToken, EntryTokens, NextEntryError};
+use dns_kinds::RecordType;
+use dns_reader::EntryRead;
+use dns_split::entry_tokens::{EntryPart, EntryToken, EntryTokens, NextEntryError};
 use dns_split::opening::outermost_open_of_octets;
 use dns_split::pieces::{Fault, Wrong};
 use dns_split::position::Position;
@@ -26,14 +28,64 @@ pub fn begins_blank(entry: &Entry<'_>) -> bool {
     matches!(entry.octets.first(), Some(b' ' | b'\t'))
 }
 
-/// Returns a column of a line, with the line.
-pub fn line_spot<'s>(file: &'s str, position: Position, line: Option<&'s [u8]>) -> Spot<'s> {
+/// Returns a column of a line, with the line. `number` is that of the file.
+pub fn line_spot<'s>(
+    file: &'s str,
+    number: usize,
+    position: Position,
+    line: Option<&'s [u8]>,
+) -> Spot<'s> {
     Spot {
         file,
+        number,
         position,
         end_column: position.column.saturating_add(1),
         opened: None,
         line,
+    }
+}
+
+/// Returns the number of the field of a type's data that is a target: the host of NS, MX and SRV.
+fn target_number(rtype: RecordType) -> Option<usize> {
+    match rtype {
+        RecordType::NS => Some(0),
+        RecordType::MX => Some(1),
+        RecordType::SRV => Some(3),
+        _ => None,
+    }
+}
+
+/// Returns the offset, from the beginning of an entry, of the token after the type that has a
+/// number, counted from 0.
+fn offset_after_type(entry: &Entry<'_>, number: usize) -> Option<usize> {
+    let mut tokens = EntryTokens::of_octets(entry.octets);
+    let mut may_be_type = begins_blank(entry);
+    let mut passed: Option<usize> = None;
+    for _ in 0..entry.octets.len() {
+        let Some(Ok(EntryPart::Token { token, .. })) = tokens.next_token() else {
+            return None;
+        };
+        match passed {
+            Some(count) if count == number => return Some(token.at),
+            Some(count) => passed = Some(count.saturating_add(1)),
+            None if may_be_type && type_word(&token).is_some() => passed = Some(0),
+            None => may_be_type = true,
+        }
+    }
+    None
+}
+
+/// Returns the position of the target of a record, or that of its first token if it has none.
+pub fn target_position(entry: &Entry<'_>, first: Position) -> Position {
+    let Ok(EntryRead::Record { rtype, .. }) = entry.read else {
+        return first;
+    };
+    let Some(number) = target_number(*rtype) else {
+        return first;
+    };
+    match offset_after_type(entry, number) {
+        Some(at) => position_at(entry, at),
+        None => first,
     }
 }
 
@@ -44,6 +96,26 @@ pub fn tokens_of<'e>(alloc: Global, entry: &Entry<'e>) -> Result<Vec<EntryToken<
         Err(NextEntryError::ShortBuf) => Err(AllocError),
         _ => Ok(tokens),
     }
+}
+
+/// Number of the first tokens of an entry among which its owner and its type are: an owner, a TTL, a
+/// class and a type.
+const OF_HEADER: usize = 4;
+
+/// Returns the first tokens of an entry, among which its owner and its type are.
+pub fn first_tokens<'e>(
+    alloc: Global,
+    entry: &Entry<'e>,
+) -> Result<Vec<EntryToken<'e>>, AllocError> {
+    let mut source = EntryTokens::of_octets(entry.octets);
+    let mut tokens = Vec::new(alloc);
+    for _ in 0..OF_HEADER {
+        match source.next_token() {
+            Some(Ok(EntryPart::Token { token, .. })) => tokens.push(token)?,
+            _ => return Ok(tokens),
+        }
+    }
+    Ok(tokens)
 }
 
 /// Returns the number of octets of a token, with its double quotes.
@@ -100,6 +172,7 @@ fn spot<'e>(entry: &Entry<'e>, at: usize, width: usize) -> Spot<'e> {
     let next = position.column.saturating_add(1);
     Spot {
         file: entry.file,
+        number: entry.number,
         position,
         end_column: if end.line == position.line {
             end.column.max(next)
@@ -134,22 +207,37 @@ pub fn token_at<'e>(entry: &Entry<'e>, token: &EntryToken<'_>) -> Spot<'e> {
     spot(entry, token.at, width(token))
 }
 
-/// Returns the position where a quote or parenthesis was opened, if a syntax error of an entry is
-/// that it is left open.
-fn opened_at(entry: &Entry<'_>, wrong: Wrong) -> Option<Position> {
-    let at = match wrong {
-        Wrong::OpenQuote(at) => at.saturating_sub(entry.offset),
-        Wrong::OpenParenthesis => outermost_open_of_octets(entry.octets)?,
-        _ => return None,
-    };
-    Some(position_at(entry, at))
+/// Returns the location of `count` octets of an entry, from an offset on that is counted from its
+/// beginning.
+pub fn part_at<'e>(entry: &Entry<'e>, at: usize, count: usize) -> Spot<'e> {
+    spot(entry, at, count)
 }
 
-/// Returns the location of a syntax error of an entry.
+/// Returns the location of `count` octets of a token of an entry, from an offset of the token on. A
+/// quoted string begins with its double quote.
+pub fn token_part<'e>(
+    entry: &Entry<'e>,
+    token: &EntryToken<'_>,
+    offset: usize,
+    count: usize,
+) -> Spot<'e> {
+    spot(entry, token.at.saturating_add(offset), count)
+}
+
+/// Returns the location of a syntax error of an entry: of a parenthesis that is left open, or of the
+/// octet that is wrong, with the position where a quote was opened.
 pub fn fault_at<'e>(entry: &Entry<'e>, fault: Fault) -> Spot<'e> {
-    let opened = opened_at(entry, fault.wrong);
-    let spot = octet_at(entry, fault.at);
-    Spot { opened, ..spot }
+    match fault.wrong {
+        Wrong::OpenParenthesis => match outermost_open_of_octets(entry.octets) {
+            Some(at) => spot(entry, at, 1),
+            None => octet_at(entry, fault.at),
+        },
+        Wrong::OpenQuote(at) => Spot {
+            opened: Some(position_at(entry, at.saturating_sub(entry.offset))),
+            ..octet_at(entry, fault.at)
+        },
+        _ => octet_at(entry, fault.at),
+    }
 }
 
 /// Returns the location of the beginning of an entry that is too long, and of the outermost

@@ -84,10 +84,11 @@ pub trait Visit {
     fn take(&mut self, entry: &Entry<'_>) -> Result<(), Stop>;
 
     /// Reports that the file that an entry names is not included, and why.
-    fn refuse(&mut self, entry: &Entry<'_>, why: &str) -> Result<(), Stop>;
+    fn refuse(&mut self, entry: &Entry<'_>, unfit: &Unfit) -> Result<(), Stop>;
 
     /// Reports that the `$TTL` of the file that the entry at a place includes stays in effect.
-    fn keep_ttl(&mut self, file: &str, place: Place) -> Result<(), Stop>;
+    /// `number` is that of the file with the entry.
+    fn keep_ttl(&mut self, file: &str, number: usize, place: Place) -> Result<(), Stop>;
 }
 
 /// Open zone files, and the state after their entries so far.
@@ -175,7 +176,7 @@ fn open_first(rt: &HostRuntime, file: &str, name: &str, max_entry: usize) -> io:
 
 /// Why a file is not included.
 #[derive(Drop)]
-enum Unfit {
+pub enum Unfit {
     Told(&'static str),
     /// Too many files were included before it.
     Full,
@@ -194,13 +195,28 @@ impl From<AllocError> for Unfit {
     }
 }
 
+/// Returns why a file can't be opened.
+fn open_error(alloc: Global, error: &io::Error) -> Result<String, AllocError> {
+    match error.kind() {
+        ErrorKind::NotFound => String::from_str(alloc, "no such file"),
+        ErrorKind::PermissionDenied => String::from_str(alloc, "permission denied"),
+        _ => error.to_string(alloc),
+    }
+}
+
 impl Unfit {
-    /// Returns the text of the error.
-    fn text(&self, alloc: Global) -> Result<String, AllocError> {
+    /// Returns the text of the error. `word` is the file, in single quotes.
+    pub fn text(&self, alloc: Global, word: &str) -> Result<String, AllocError> {
         match self {
-            Unfit::Told(why) => String::from_str(alloc, why),
-            Unfit::Full => String::from_str(alloc, "10000 files are included already"),
-            Unfit::Io(error) => error.to_string(alloc),
+            Unfit::Told(why) => format!(in alloc; "not included: {why} {word}"),
+            Unfit::Full => {
+                format!(in alloc; "not included: 10000 files are included already {word}")
+            }
+            Unfit::Io(error) => {
+                let why = open_error(alloc, error)?;
+                let why = why.as_str();
+                format!(in alloc; "cannot open {word}: {why}")
+            }
         }
     }
 }
@@ -458,8 +474,7 @@ impl<'a> ZoneFiles<'a> {
         let is_full = matches!(found, Err(Unfit::Full));
         if let Err(unfit) = &found {
             if !is_full || !self.is_full {
-                let why = unfit.text(self.rt.alloc())?;
-                visitor.refuse(&entry, why.as_str())?;
+                visitor.refuse(&entry, unfit)?;
             }
         }
         self.is_full = self.is_full || is_full;
@@ -581,7 +596,7 @@ impl<'a> ZoneFiles<'a> {
         self.state.restore(mark);
         if self.state.default_ttl != default_ttl {
             if let Some(outer) = self.files.last() {
-                visitor.keep_ttl(outer.name.as_str(), place)?;
+                visitor.keep_ttl(outer.name.as_str(), outer.number, place)?;
             }
         }
         Ok(())

@@ -2,7 +2,7 @@
 use crate::command::{BASE, QUIET, flag, max_entry, over_files, required_file, valued, values};
 use crate::options::{Usage, class_of, max_entry_of, number_of, size_of, status_of, zone_of};
 use crate::reading::Reading;
-use crate::{canon, changes, digest, digest_writing, json_records, records};
+use crate::{canon, changes, digest, digest_writing, json_records, records, update};
 use clap::{ArgMatches, Command};
 use dns_kinds::RecordType;
 use std::alloc::{AllocError, Global};
@@ -19,6 +19,18 @@ const CLASS: &str = "class of records without one (default IN)";
 
 /// The help text of the memory of `canon`.
 const MEMORY: &str = "sort with at most this memory, as 64M, and with files in TMPDIR";
+
+/// The help text of `canon --lenient`.
+const LENIENT: &str = "print rejected entries as comments, and status 0";
+
+/// The help texts of the options of `diff --nsupdate`.
+const NSUPDATE: &str = "print the changes as commands of nsupdate (RFC 2136)";
+
+const NO_PREREQ: &str = "don't require the SOA of the old zone on the server";
+
+const UPDATE_KEYS: &str = "also update DNSKEY, CDS, CDNSKEY and NSEC3PARAM";
+
+const NEED_SERIAL: &str = "status 4 if records differ and the serial did not rise";
 
 /// Adds the options of all of them.
 fn with_reading<'a>(alloc: Global, command: Command<'a>) -> Result<Command<'a>, AllocError> {
@@ -55,6 +67,7 @@ pub fn canon_command<'a>(alloc: Global, name: &'a str) -> Result<Command<'a>, Al
         .arg(json_records::option(alloc))?
         .arg(flag(alloc, "keep-order", "keep the order of the files"))?
         .arg(memory)?
+        .arg(flag(alloc, "lenient", LENIENT))?
         .arg(flag(
             alloc,
             "wire",
@@ -63,6 +76,18 @@ pub fn canon_command<'a>(alloc: Global, name: &'a str) -> Result<Command<'a>, Al
         .arg(values(alloc, "type", "TYPE", "print only records of this type"))?
         .arg(flag(alloc, "only-dnssec", only_dnssec).conflicts_with("no-dnssec")?)?;
     with_selection(alloc, with_reading(alloc, command)?)
+}
+
+/// Adds the options of updates.
+fn with_update<'a>(alloc: Global, command: Command<'a>) -> Result<Command<'a>, AllocError> {
+    let update = flag(alloc, "nsupdate", NSUPDATE)
+        .conflicts_with("entries")?
+        .conflicts_with("summary")?
+        .conflicts_with("max-changes")?;
+    command
+        .arg(update)?
+        .arg(flag(alloc, "no-prereq", NO_PREREQ).requires_arg("nsupdate")?)?
+        .arg(flag(alloc, "update-keys", UPDATE_KEYS).requires_arg("nsupdate")?)
 }
 
 /// Returns the command that compares two files.
@@ -81,8 +106,9 @@ pub fn diff_command<'a>(alloc: Global, name: &'a str) -> Result<Command<'a>, All
             "print only the number of changes for each type",
         ))?
         .arg(valued(alloc, "max-changes", "N", "print at most N changes"))?
+        .arg(flag(alloc, "need-serial", NEED_SERIAL))?
         .arg(flag(alloc, "quiet", QUIET))?;
-    with_selection(alloc, with_reading(alloc, command)?)
+    with_update(alloc, with_selection(alloc, with_reading(alloc, command)?)?)
 }
 
 /// The hash algorithms of digests.
@@ -151,7 +177,18 @@ fn reading_of<'o>(inner: &'o ArgMatches, is_one_zone: bool) -> Result<Reading<'o
         base: inner.get_str("base"),
         is_one_zone,
         is_quiet: inner.get_flag("quiet"),
+        is_lenient: false,
     })
+}
+
+/// Returns how files are read if rejected entries are printed as comments. Without an origin, the
+/// root is appended to relative names.
+fn lenient(reading: Reading<'_>) -> Reading<'_> {
+    Reading {
+        origin: Some(reading.origin.unwrap_or(".")),
+        is_lenient: true,
+        ..reading
+    }
 }
 
 /// Writes the records of files as they come.
@@ -181,7 +218,9 @@ fn write_canonical<'o>(
         keeps_order: inner.get_flag("keep-order"),
         is_json: inner.get_flag("json"),
     };
-    let reading = match reading_of(inner, true) {
+    let is_lenient = inner.get_flag("lenient");
+    let reading = match reading_of(inner, !is_lenient) {
+        Ok(reading) if is_lenient => lenient(reading),
         Ok(reading) => reading,
         Err(usage) => return Err(usage),
     };
@@ -202,11 +241,28 @@ fn compare<'o>(rt: &HostRuntime, inner: &'o ArgMatches) -> Result<u8, Usage<'o>>
         is_summary: inner.get_flag("summary"),
         is_json: inner.get_flag("json"),
         most: number_of(inner.get_str("max-changes"), "--max-changes")?,
+        needs_serial: inner.get_flag("need-serial"),
     };
     let first = inner.get_str("A").unwrap_or("-");
     let second = inner.get_str("B").unwrap_or("-");
     match reading_of(inner, true) {
         Ok(reading) => Ok(changes::run(rt, first, second, &reading, selection, output)),
+        Err(usage) => Err(usage),
+    }
+}
+
+/// Writes the changes from one file to another as an update.
+fn write_update<'o>(rt: &HostRuntime, inner: &'o ArgMatches) -> Result<u8, Usage<'o>> {
+    let work = update::Work {
+        has_prereq: !inner.get_flag("no-prereq"),
+        has_soa: !inner.get_flag("no-soa"),
+        has_keys: inner.get_flag("update-keys"),
+        has_signing: !inner.get_flag("no-dnssec"),
+    };
+    let first = inner.get_str("A").unwrap_or("-");
+    let second = inner.get_str("B").unwrap_or("-");
+    match reading_of(inner, true) {
+        Ok(reading) => Ok(update::run(rt, first, second, &reading, work)),
         Err(usage) => Err(usage),
     }
 }
@@ -237,6 +293,9 @@ pub fn run_canon(rt: &HostRuntime, inner: &ArgMatches, files: &[&str]) -> io::Re
 
 /// Runs the command `diff` over records, and returns the status.
 pub fn run_diff(rt: &HostRuntime, inner: &ArgMatches) -> io::Result<u8> {
+    if inner.get_flag("nsupdate") {
+        return status_of(rt, write_update(rt, inner));
+    }
     status_of(rt, compare(rt, inner))
 }
 

@@ -1,0 +1,319 @@
+//! Reports findings with the owners and the types of the records that they are about.
+use crate::exceptions::{Exception, Slip};
+use crate::explain::{Refusal, explain};
+use crate::file_lines::FileLines;
+use crate::held_zone::{HeldZone, StandingRecord};
+use crate::lone_rules::lone_text;
+use crate::octet_texts::fault_text;
+use crate::open_file::first_place;
+use crate::reporter::{Reporter, Said, Spot};
+use crate::rule_texts::{ZoneRecords, is_at_target, rule_text};
+use crate::spots::{
+    begins_blank, fault_at, first_tokens, line_spot, part_at, spot_at, token_at, tokens_of,
+};
+use crate::stop::Stop;
+use crate::subjects::{Subject, Text};
+use crate::zone_files::Entry;
+use dns_octets::AsOctets;
+use dns_reader::NameBuffer;
+use dns_split::entry_tokens::EntryToken;
+use dns_split::pieces::Fault;
+use record_rules::RecordRule;
+use std::alloc::{AllocError, Global};
+use zone_rules::Finding;
+use zonetext_records::codes::{code_of_fault, code_of_record_rule, code_of_rule};
+use zonetext_records::texts::code_text;
+use zonetext_report::code::{Code, Severity};
+
+/// Returns the location of the code of an exception.
+fn code_spot<'s>(file: &'s str, exception: Exception, line: Option<&'s [u8]>) -> Spot<'s> {
+    let (number, position) = (exception.number, exception.position);
+    let width = exception.code.name().len();
+    Spot {
+        end_column: position.column.saturating_add(width),
+        ..line_spot(file, number, position, line)
+    }
+}
+
+/// Reports findings with their subjects.
+#[derive(Drop)]
+pub struct Findings<'a> {
+    alloc: Global,
+    pub reporter: Reporter<'a>,
+    lines: FileLines<'a>,
+    /// The zone to which owners are relative in messages: that of the option, or that of the first
+    /// SOA.
+    pub zone: Option<NameBuffer>,
+    /// Whether the first file is standard input, which can't be read again.
+    is_standard: bool,
+    /// Whether findings have owners and types: if only the text is checked, they don't.
+    has_subjects: bool,
+}
+
+impl<'a> Findings<'a> {
+    /// Returns a value before the first finding.
+    pub fn new(
+        rt: &'a HostRuntime,
+        reporter: Reporter<'a>,
+        zone: Option<NameBuffer>,
+        is_standard: bool,
+        has_subjects: bool,
+    ) -> Findings<'a> {
+        Findings {
+            alloc: rt.alloc(),
+            reporter,
+            lines: FileLines::new(rt),
+            zone,
+            is_standard,
+            has_subjects,
+        }
+    }
+
+    /// Reports a finding that only has a code.
+    pub fn tell(&mut self, spot: Spot<'_>, code: Code) -> Result<(), Stop> {
+        self.reporter
+            .tell(spot, code, false, Said::message(code_text(code)))
+    }
+
+    /// Returns the owner and the type of an entry, as they are shown.
+    fn subject_of(&self, entry: &Entry<'_>) -> Result<Subject, AllocError> {
+        if !self.has_subjects {
+            return Ok(Subject::none(self.alloc));
+        }
+        let tokens = first_tokens(self.alloc, entry)?;
+        let is_blank = begins_blank(entry);
+        let zone = self.zone.as_ref();
+        Subject::of_entry(self.alloc, entry, tokens.as_slice(), is_blank, zone)
+    }
+
+    /// Shows a finding about an entry, with its owner and its type.
+    pub fn show_entry(
+        &mut self,
+        entry: &Entry<'_>,
+        severity: Severity,
+        spot: Spot<'_>,
+        code: Code,
+        text: &Text,
+    ) -> Result<(), Stop> {
+        let subject = self.subject_of(entry)?;
+        let note = text.note.as_str();
+        let said = subject.said(text.message.as_str(), text.help.as_str());
+        self.reporter
+            .show(severity, spot, code, Said { note, ..said })
+    }
+
+    /// Reports a finding about a token of an entry, or about the entry.
+    pub fn tell_word(
+        &mut self,
+        entry: &Entry<'_>,
+        spot: Spot<'_>,
+        code: Code,
+        word: Option<&[u8]>,
+    ) -> Result<(), Stop> {
+        let Some(severity) = self.reporter.count(spot, code, false) else {
+            return Ok(());
+        };
+        let text = Text::worded(self.alloc, code_text(code), word)?;
+        self.show_entry(entry, severity, spot, code, &text)
+    }
+
+    /// Reports a finding about a token of an entry, at it.
+    pub fn tell_token(
+        &mut self,
+        entry: &Entry<'_>,
+        token: &EntryToken<'_>,
+        code: Code,
+    ) -> Result<(), Stop> {
+        self.tell_word(entry, token_at(entry, token), code, Some(token.text))
+    }
+
+    /// Reports a rule that a record alone breaks: at a token, or at an offset of the file.
+    pub fn tell_lone_rule(
+        &mut self,
+        entry: &Entry<'_>,
+        tokens: &[EntryToken<'_>],
+        at: usize,
+        rule: RecordRule,
+        token: Option<EntryToken<'_>>,
+    ) -> Result<(), Stop> {
+        let code = code_of_record_rule(rule);
+        let (spot, word) = match token {
+            Some(token) => (token_at(entry, &token), Some(token.text)),
+            None => (spot_at(entry, tokens, at), None),
+        };
+        let Some(severity) = self.reporter.count(spot, code, false) else {
+            return Ok(());
+        };
+        let text = Text::worded(self.alloc, lone_text(rule), word)?;
+        self.show_entry(entry, severity, spot, code, &text)
+    }
+
+    /// Reports a syntax error of the text.
+    pub fn tell_fault(&mut self, entry: &Entry<'_>, fault: Fault) -> Result<(), Stop> {
+        let code = code_of_fault(fault.wrong);
+        let spot = fault_at(entry, fault);
+        let Some(severity) = self.reporter.count(spot, code, true) else {
+            return Ok(());
+        };
+        let (spot, text) = fault_text(self.alloc, entry, fault)?;
+        self.show_entry(entry, severity, spot, code, &text)
+    }
+
+    /// Reports a rejected entry with what was probably meant.
+    pub fn tell_explained(
+        &mut self,
+        entry: &Entry<'_>,
+        refusal: Refusal<'_, '_>,
+    ) -> Result<(), Stop> {
+        let spot = spot_at(entry, refusal.tokens, refusal.error.offset);
+        let Some(severity) = self.reporter.count(spot, refusal.code, true) else {
+            return Ok(());
+        };
+        let found = explain(self.alloc, entry, refusal)?;
+        if found.is_record {
+            return self.show_entry(entry, severity, found.spot, found.code, &found.text);
+        }
+        let said = found.text.said();
+        self.reporter.show(severity, found.spot, found.code, said)
+    }
+
+    /// Reports that the TTL of a record exceeds the limit, at its first token.
+    pub fn tell_max_ttl(
+        &mut self,
+        entry: &Entry<'_>,
+        at: usize,
+        ttl: u32,
+        most: u32,
+    ) -> Result<(), Stop> {
+        let tokens = tokens_of(self.alloc, entry)?;
+        let spot = spot_at(entry, tokens.as_slice(), at);
+        let Some(severity) = self.reporter.count(spot, Code::MaxTtl, false) else {
+            return Ok(());
+        };
+        let message = format!(in self.alloc; "TTL {ttl} exceeds --max-ttl {most}")?;
+        let text = Text::new(self.alloc, message);
+        self.show_entry(entry, severity, spot, Code::MaxTtl, &text)
+    }
+
+    /// Reports a part of an entry's comment that is not as exceptions are written.
+    pub fn tell_slip(&mut self, entry: &Entry<'_>, slip: Slip<'_>) -> Result<(), Stop> {
+        let (part, message) = match slip {
+            Slip::Word(part) => (part, "exceptions begin with 'allow', and not with"),
+            Slip::Code(part) => (part, "unknown code in an exception"),
+        };
+        let spot = part_at(entry, part.at, part.octets.len());
+        let Some(severity) = self.reporter.count(spot, Code::Exception, false) else {
+            return Ok(());
+        };
+        let text = Text::worded(self.alloc, message, Some(part.octets))?;
+        self.show_entry(entry, severity, spot, Code::Exception, &text)
+    }
+
+    /// Reports an exception that excepts no finding. `file` is the path of its file.
+    pub fn tell_unused(&mut self, file: &str, exception: Exception) -> Result<(), Stop> {
+        let name = exception.code.name();
+        let number = exception.number;
+        let spot = code_spot(file, exception, None);
+        let Some(severity) = self.reporter.count(spot, Code::UnusedAllow, false) else {
+            return Ok(());
+        };
+        let line = if self.reads_line(number) {
+            self.lines.line(number, file, exception.position.line)?
+        } else {
+            None
+        };
+        let octets = line.as_ref().map(|line| line.as_slice());
+        let spot = code_spot(file, exception, octets);
+        let text = Text::worded(self.alloc, "no finding to except", Some(name.as_bytes()))?;
+        self.reporter
+            .show(severity, spot, Code::UnusedAllow, text.said())
+    }
+
+    /// Reports that a rule is broken, by a record or by what is missing in the zone.
+    pub fn tell_broken(
+        &mut self,
+        held: &HeldZone,
+        code: Code,
+        record: Option<&StandingRecord<'_>>,
+    ) -> Result<(), Stop> {
+        let text = Text::worded(self.alloc, code_text(code), None)?;
+        self.tell_at(held, code, record, false, &text)
+    }
+
+    /// Reports that records break a rule of zones.
+    pub fn tell_rule<Origin: AsOctets>(
+        &mut self,
+        held: &HeldZone,
+        records: &ZoneRecords<'_, '_, Origin>,
+        finding: &Finding,
+    ) -> Result<(), Stop> {
+        let text = rule_text(self.alloc, records, finding)?;
+        let record = finding
+            .record
+            .and_then(|place| records.sorted.as_slice().get(place));
+        let at_target = is_at_target(finding.rule);
+        self.tell_at(held, code_of_rule(finding.rule), record, at_target, &text)
+    }
+
+    /// Reports a finding at a record, or at its target, or at the first file's start.
+    pub fn tell_at(
+        &mut self,
+        held: &HeldZone,
+        code: Code,
+        record: Option<&StandingRecord<'_>>,
+        at_target: bool,
+        text: &Text,
+    ) -> Result<(), Stop> {
+        let (file, position) = match record {
+            Some(record) => {
+                let stand = record.owner.as_octets().tag;
+                let position = if at_target {
+                    stand.target
+                } else {
+                    stand.position
+                };
+                (stand.file, position)
+            }
+            None => (0, first_place().position),
+        };
+        self.select_exceptions(record);
+        let name = held.file(file);
+        let spot = line_spot(name, file, position, None);
+        let Some(severity) = self.reporter.count(spot, code, false) else {
+            return Ok(());
+        };
+        let line = if self.reads_line(file) {
+            self.lines.line(file, name, position.line)?
+        } else {
+            None
+        };
+        let subject = match record {
+            Some(record) => {
+                let rtype = Some(record.data.rtype());
+                Subject::new(self.alloc, &record.owner, rtype, self.zone.as_ref())?
+            }
+            None => Subject::none(self.alloc),
+        };
+        let octets = line.as_ref().map(|line| line.as_slice());
+        let spot = line_spot(name, file, position, octets);
+        let said = subject.said(text.message.as_str(), text.help.as_str());
+        self.reporter.show(severity, spot, code, said)
+    }
+
+    /// Puts the exceptions of a record in effect, or none.
+    fn select_exceptions(&mut self, record: Option<&StandingRecord<'_>>) {
+        match record {
+            Some(record) => {
+                let stand = record.owner.as_octets().tag;
+                self.reporter.exceptions.select(stand.file, stand.position);
+            }
+            None => self.reporter.exceptions.begin(),
+        }
+    }
+
+    /// Returns whether a line of a file, by its number, can be read again for a finding.
+    fn reads_line(&self, file: usize) -> bool {
+        let can_be_read = file > 0 || !self.is_standard;
+        can_be_read && self.reporter.shows_lines()
+    }
+}
