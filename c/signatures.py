@@ -1,7 +1,6 @@
 #!/usr/bin/env python3
 """Compares the declarations of the library in several places: the prototypes, structs and statuses of
-the header, of the source, of status.c and of the Rust crate, the symbols of the named archive, and the
-versions."""
+the header, of the source, of status.c and of the Rust crate, and the symbols of the named archive."""
 import glob
 import os
 import re
@@ -149,21 +148,6 @@ def symbols(archive):
     return {words[2]: 'there' for words in found if len(words) == 3}
 
 
-def versions(text):
-    """Returns the version in each place."""
-    said = re.search(r'DNSTEXT_VERSION "(.*)"', text)[1]
-    first, second, third = (int(part) for part in said.split('.'))
-    number = re.search(r'DNSTEXT_VERSION_NUMBER (\d+)', text)[1]
-    found = {'include/dnstext.h': said,
-             'DNSTEXT_VERSION_NUMBER': said if int(number) == 1000000 * first + 1000 * second + third
-             else number,
-             'Makefile': re.search(r'^VERSION = (.*)$', read('Makefile'), re.M)[1],
-             'zonetext': re.search(r'VERSION: &str = "(.*)"', read('../crates/zonetext/src/command.rt'))[1]}
-    for name in 'dns-text', 'dns-text-sys':
-        found[name] = re.search(r'^version = "(.*)"$', read(f'../rust/{name}/Cargo.toml'), re.M)[1]
-    return found
-
-
 def main():
     text, bad = header(), []
     prototypes, structs, statuses = declared(text, r'\);'), fields_of_header(text), statuses_of_header(text)
@@ -184,8 +168,6 @@ def main():
     page = re.findall(r'^\.It Fn (\w+)$', read('dnstext.3'), re.M)
     compare('dnstext.3', {name: 'there' for name in page}, {name: 'there' for name in prototypes})
     compare('prefix', {name: 'another prefix' for name in foreign(read('include/dnstext.h'))}, {})
-    said = versions(text)
-    compare('version', said, {place: said['include/dnstext.h'] for place in said})
     for line in bad:
         print('signatures.py: ' + line, file=sys.stderr)
     print(f'signatures.py: {len(prototypes)} functions, {len(structs)} structs and {len(statuses)} '
