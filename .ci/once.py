@@ -98,6 +98,8 @@ RULES = [
             "dns_fields/src/record_error.rt": 1,  # (the one)
             "dns_split/src/pieces.rt": 1,
             "dns_text_c/src/outcome.rt": 1,
+            "zone_generate/src/error.rt": 1,  # (below dns_fields)
+            "zone_generate/src/side.rt": 1,
             "zonetext_lib/src/replace.rt": 1,
         },
     ),
@@ -133,6 +135,7 @@ RULES = [
             "zone_dnssec/src/hashed.rt": 1,
             "zone_edit/src/edit.rt": 1,
             "zone_edit/src/tokens.rt": 1,
+            "zone_update/src/messages.rt": 1,
             "zone_format/src/refusal.rt": 1,
             "zonetext_lib/src/replace.rt": 1,
         },

@@ -102,13 +102,45 @@ def lines(octets):
 
 
 def error_lines(ran):
-    """Returns the findings on standard error: file, position, severity, message and code."""
+    """Returns the findings on standard error: file, position, severity, message and code. The message has the owner
+    and the type of the record before it, and the token after it."""
     found = []
     for line in lines(ran.err):
         reported = re.fullmatch(rb"([^:]*):([0-9]+:[0-9]+): (error|warning): (.*) \[([a-z0-9-]+)\]", line)
         if reported:
             found.append(reported.groups())
     return found
+
+
+# Messages that name what was probably meant, and what the library says: any text, or one that fits.
+NAMED = [
+    (rb"no record type: is '[A-Z]+' missing before '.*'\?", rb"expected time to live|unknown record type"),
+    (rb"'(#|//)' is no comment|merge conflict marker '.*'", rb".*"),
+    (rb"character string of [0-9]+ octets \(at most 255\)", rb"character string with more than 255 octets"),
+    (rb"digest of [0-9]+ octets; type .*", rb"wrong number of octets"),
+    (rb"escape \\[0-9]{3} is above \\255", rb"illegal escape sequence|bad escape"),
+]
+# Reasons whose message is about another token than the one at the error's offset, and names no field.
+ELSEWHERE = rb"mandatory names [^ ]+, which is missing"
+
+
+def says(message, reason):
+    """Whether a message, without owner, type and token, is a reason, which may have type and field before it."""
+    for named, reasons in NAMED:
+        if re.fullmatch(rb"(.*: )?" + named, message):
+            return re.fullmatch(rb"(.*: )?(" + reasons + rb")", reason) is not None
+    bare = re.sub(rb" '[^']*('[^']*)*'(\.\.)?$", b"", message)
+    kind, colon, why = reason.partition(b": ")
+    if re.fullmatch(ELSEWHERE, why):
+        return bare.endswith(b": " + why)
+    field = kind.partition(b" ")[2]
+    short = (field + b": " if field else b"") + why if colon else reason
+    return any(bare == it or bare.endswith(b": " + it) for it in (reason, short))
+
+
+def is_named(message):
+    """Whether a message names what was probably meant, at a position of its own."""
+    return any(re.fullmatch(rb"(.*: )?" + named, message) for named in [ELSEWHERE, *(it[0] for it in NAMED)])
 
 
 def findings(ran, codes):

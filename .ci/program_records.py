@@ -3,8 +3,8 @@ import re
 
 import as_data
 import zone_text
-from program_calls import (Plan, at, error_lines, exact, findings, items, judged, labels_of, lines, origin_words,
-                           position, short, spelled, zonetext)
+from program_calls import (Plan, at, error_lines, exact, findings, is_named, items, judged, labels_of, lines, origin_words,
+                           position, says, short, spelled, zonetext)
 from row_file import octets_of
 
 RULES = {
@@ -79,13 +79,20 @@ def data_row(row):
     return judged({"f": text}, data_words(origin), "status 0, two lines that are the same", agrees)
 
 
+def are_said(found, reported):
+    """Whether findings have these files, positions, severities and reasons."""
+    return len(found) == len(reported) and all(
+        (it[0], it[2]) == (to[0], to[2]) and (it[1] == to[1] or is_named(it[3])) and says(it[3], to[3])
+        for it, to in zip(found, reported))
+
+
 def data_why(row):
     kind, text, *origin = row.inputs
     reason, place = row.wanted[1:].rsplit(b"|", 1)
     line = data_line(kind, text)
     reported = (b"f", spot(line, len(line) - len(text) - 1 + int(place), reason), b"error", reason)
     return judged({"f": line}, data_words(origin), f"status 1, no output, {short(b': '.join(reported))}",
-                  lambda ran: ran.status == 1 and not ran.out and [it[:4] for it in error_lines(ran)] == [reported])
+                  lambda ran: ran.status == 1 and not ran.out and are_said(error_lines(ran), [reported]))
 
 
 def data_print(row):
@@ -292,11 +299,11 @@ def entries_row(row):
 
     def agrees(rans):
         whole, apart = rans
-        found = [(it[1], FAULTS.get(it[4], it[3])) for it in error_lines(whole) if it[2] == b"error"]
-        # Errors of an owner have a prefix.
+        found = [it for it in error_lines(whole) if it[2] == b"error"]
         are_told = len(found) == len(reported) and all(
-            place == at_place and (message == reason or message.endswith(b": " + reason))
-            for (place, message), (at_place, reason) in zip(found, reported))
+            FAULTS[it[4]] == reason if it[4] in FAULTS else
+            (it[1] == place or is_named(it[3])) and says(it[3], reason)
+            for it, (place, reason) in zip(found, reported))
         return are_told and (whole.out, whole.status, apart.status) == (apart.out, 1 if reported else 0, 0)
 
     return Plan({"f": text, "g": records}, [words + [b"f"], words + [b"g"]], f"the records of g, and {reported}", agrees)
@@ -345,7 +352,7 @@ def head_row(row):
         reason, place = row.wanted[1:].split(b"|")[:2]
         reported = (spot(files["main"], len(BEFORE) + int(place), reason), reason)
         return judged(files, words, f"status 1, an error {short(b': '.join(reported))}",
-                      lambda ran: ran.status == 1 and [(it[1], it[3]) for it in error_lines(ran)] == [reported])
+                      lambda ran: ran.status == 1 and are_said(error_lines(ran), [(b"main", reported[0], b"error", reported[1])]))
     address = b"a A 192.0.2.1\n"
     if row.wanted.startswith(b"ttl "):
         files["main"] += address
@@ -440,7 +447,7 @@ def hash_row(row):
     other = (b"1" if row.wanted.startswith(b"0") else b"0") + row.wanted[1:]
 
     def text(hashed):
-        begin = b"$TTL 60\n$ORIGIN " + zone + b"\n@ SOA ns.example.net. h 1 2 3 4 5\n@ NS ns.example.net.\n"
+        begin = b"$TTL 60\n$ORIGIN " + zone + b"\n@ SOA ns.example.net. h 1 4 2 9 5\n@ NS ns.example.net.\n"
         signed = b"@ DNSKEY 256 3 8 AQID\n@ NSEC3PARAM 1 0 " + reported + b"\n"
         chain = hashed + b" NSEC3 1 0 " + reported + b" 2T7B4G4VSA5SMI47K61MV5BV1A22BOJR A\n"
         return begin + signed + chain + (b"" if is_apex else owner + b" A 192.0.2.1\n")
