@@ -8,7 +8,7 @@ use std::alloc::AllocError;
 use std::str;
 use zonetext_report::code::{Code, Severity};
 use zonetext_report::excerpt::push_excerpt;
-use zonetext_report::finding::{Finding, push_line};
+use zonetext_report::finding::{Finding, push_lines};
 use zonetext_report::json::push_json;
 use zonetext_report::lint::{Block, lint, order_mark_len};
 use zonetext_report::policy::Policy;
@@ -101,6 +101,7 @@ fn tell(form: Form, fields: &[Vec<u8>], answer: &mut Answer) {
     };
     let code = code_of(code.as_slice(), answer);
     let finding = Finding {
+        file: text_of(file.as_slice(), answer),
         severity: code.default_severity(),
         code,
         position: Position {
@@ -109,14 +110,17 @@ fn tell(form: Form, fields: &[Vec<u8>], answer: &mut Answer) {
         },
         end_column: number(end_column.as_slice(), answer),
         opened: opened_at(opened, answer),
+        owner: "",
+        rtype: "",
         message: text_of(message.as_slice(), answer),
+        help: "",
+        note: "",
     };
-    let file = text_of(file.as_slice(), answer);
     let mut out = Vec::new(answer.heap());
     let told = match form {
-        Form::Line => push_line(&mut out, false, file, &finding),
-        Form::Coloured => push_line(&mut out, true, file, &finding),
-        Form::Json => push_json(&mut out, file, &finding),
+        Form::Line => push_lines(&mut out, false, &finding),
+        Form::Coloured => push_lines(&mut out, true, &finding),
+        Form::Json => push_json(&mut out, &finding),
     };
     add_told(told, out.as_slice(), answer);
 }
