@@ -128,6 +128,9 @@ fn take_nothing(text: &[u8]) -> Result<(), ErrorKind>
 }
 
 /// Parses a value, and appends it in wire format.
+///
+/// It is not inlined, since it has the set of all keys on the stack.
+#[inline(never)]
 pub(crate) fn append_value<B: OctetsBuilder>(
     kind: ValueKind,
     text: &[u8],
