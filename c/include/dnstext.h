@@ -282,7 +282,7 @@ uint32_t dnstext_tokens_next(const uint8_t *text, size_t text_len, struct dnstex
  *
  * A zone holds all state between two calls. It may be copied, stored and used again, and its fields may
  * be set. There is no other state, and no call allocates. A call uses at most 16 KB of stack, but up to
- * 18 KB for service parameters out of order, and up to 80 KB for RDATA of more than 1,024 octets. */
+ * 80 KB for RDATA of more than 1,024 octets. */
 struct dnstext_kept_name {
     size_t length;       /* its length in octets, at most 255; 0 if there is no name */
     bool is_refused;     /* whether the last such name was rejected */

@@ -1,18 +1,11 @@
-/* The stack that a call uses: at most 16 KB, also if it reports an error; but up to 18 KB for a record
- * with service parameters out of order, and up to 80 KB for RDATA of more than 1,024 octets. */
+/* The stack that a call uses: at most 16 KB, also if it reports an error; but up to 80 KB for RDATA of
+ * more than 1,024 octets. */
 #define _XOPEN_SOURCE 600
 #define TESTS "tests/stack.c"
 #include "expect.h"
 #include <pthread.h>
 
-enum {
-    STACK = 1 << 18,
-    MOST = 16 * 1024,
-    MOST_UNSORTED = 18 * 1024,
-    MOST_LONG = 80 * 1024,
-    LONG = 1200,
-    PAINT = 0xA5
-};
+enum { STACK = 1 << 18, MOST = 16 * 1024, MOST_LONG = 80 * 1024, LONG = 1200, PAINT = 0xA5 };
 
 /* The text of RDATA of a type; or of an entry, if the type is 0; and the status of parsing it. */
 struct row {
@@ -117,7 +110,7 @@ static void check_unsorted(const char *text) {
     row.type = 0;
     row.status = DNSTEXT_OK;
     row.text = text;
-    check(MOST_UNSORTED);
+    check(MOST);
 }
 
 /* Parses RDATA of more than 1,024 octets. */
