@@ -1,0 +1,13 @@
+pub mod Clauses
+pub mod Keywords
+pub mod Lexemes
+pub mod Nsd
+pub mod NsdLexemes
+pub mod Rows
+pub mod Settings
+pub mod Statements
+pub mod States
+pub mod Steps
+pub mod Strings
+pub mod Tokens
+pub mod ZonePaths
