@@ -98,8 +98,6 @@ RULES = [
             "dns_fields/src/record_error.rt": 1,  # (the one)
             "dns_split/src/pieces.rt": 1,
             "dns_text_c/src/outcome.rt": 1,
-            "server_config/src/error.rt": 1,  # (of configurations)
-            "server_config/src/token.rt": 1,  # (a token, no error)
             "zone_generate/src/error.rt": 1,  # (below dns_fields)
             "zone_generate/src/side.rt": 1,
             "zonetext_lib/src/replace.rt": 1,

@@ -1,3 +1,0 @@
-pub mod ClauseSteps
-pub mod PathSteps
-pub mod TokenSteps
