@@ -85,7 +85,9 @@ pub fn is_of_absence(rule: Rule) -> bool {
         | Rule::MissingGlue
         | Rule::HostMissing
         | Rule::CdsWithoutKey
-        | Rule::DsWithoutNs => true,
+        | Rule::DsWithoutNs
+        | Rule::CnameTargetMissing
+        | Rule::WeakDigest => true,
         _ => false,
     }
 }

@@ -45,10 +45,11 @@ pub fn line_spot<'s>(
     }
 }
 
-/// Returns the number of the field of a type's data that is a target: the host of NS, MX and SRV.
+/// Returns the number of the field of a type's data that is a target: the host of NS, MX and SRV, and
+/// the target of CNAME.
 fn target_number(rtype: RecordType) -> Option<usize> {
     match rtype {
-        RecordType::NS => Some(0),
+        RecordType::NS | RecordType::CNAME => Some(0),
         RecordType::MX => Some(1),
         RecordType::SRV => Some(3),
         _ => None,
