@@ -11,7 +11,7 @@ RULES = {
     "no-soa", "no-ns", "outside", "two-soas", "ns-address", "cname", "dname", "below-dname", "ds-apex", "wildcard-ns",
     "soa-not-apex", "ns-beside-dname", "nsec3-wildcard",
     "glue", "target-cname", "target-missing", "host-name", "cds", "ds-without-ns", "not-at-apex", "key-protocol",
-    "key-algorithm", "cname-target-missing", "cname-loop", "two-spf", "weak-digest", "ttl-differs", "duplicate",
+    "key-algorithm", "ttl-differs", "duplicate",
 }
 SECURITY = {
     "expired", "expires-soon", "not-yet-valid", "rrsig-times", "rrsig-signer", "rrsig-labels", "original-ttl",

@@ -28,8 +28,8 @@ COMMENTS = [
     ("a MX 10 mial", ZONE, [(1, 9, "warning", "target-missing", None)]),
     ("a MX 10 mial ; zonetext: allow target-missing", ZONE, []),
     ("a MX 10 mial ; zonetext: allow target-missing\nb MX 10 mial", ZONE, [(2, 9, "warning", "target-missing", None)]),
-    ("a CNAME b. ; zonetext: allow cname\na TXT b", ZONE, []),
-    ("a CNAME b.\na TXT b ; zonetext: allow cname", ZONE,
+    ("a CNAME b ; zonetext: allow cname\na TXT b", ZONE, []),
+    ("a CNAME b\na TXT b ; zonetext: allow cname", ZONE,
      [(1, 1, "error", "cname", None), (2, 27, "warning", "unused-allow", "cname")]),
     # in the comments of an entry of several lines
     ("a MX ( 10 ; zonetext: allow target-missing\n mial )", ZONE, []),

@@ -68,10 +68,6 @@ pub mailbox_named : IsNameField Rtype.soa 1
 unfolding type_shapes
 mailbox_named = refl
 
-pub alias_named : IsNameField Rtype.cname 0
-unfolding type_shapes
-alias_named = refl
-
 -- ---- constants
 
 value_test : (o : ℕ) → nat_lt o 256 ≡ true → o < 256

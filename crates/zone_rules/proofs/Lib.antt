@@ -1,5 +1,4 @@
 mod BelowNames
-pub mod CnameTargets
 mod FieldNames
 pub mod HostNameParts
 mod HostParts

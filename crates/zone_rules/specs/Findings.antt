@@ -10,7 +10,7 @@ use Rattle.zone_rules.specs.Zones.{record_before}
 use Rattle.zone_rules.specs.declared.refused.RrsetName.{RrsetName}
 use Rattle.zone_rules.specs.declared.rule.Finding.{Finding}
 use Rattle.zone_rules.specs.declared.rule.Rule.{Rule}
-use Rattle.zone_rules.specs.declared.rule.Rule.TheVariants.{NoSoa, NoNs, Outside, TwoSoas, NsAddress, Cname, TwoDnames, BelowDname, DsAtApex, WildcardNs, SoaNotApex, NsBesideDname, Nsec3Owner, MissingGlue, HostIsAlias, HostBelowDname, HostMissing, HostName, CdsWithoutKey, DsWithoutNs, NotAtApex, KeyProtocol, KeyAlgorithm, CnameTargetMissing, CnameLoop, TwoSpf, WeakDigest, TtlDiffers, Duplicate}
+use Rattle.zone_rules.specs.declared.rule.Rule.TheVariants.{NoSoa, NoNs, Outside, TwoSoas, NsAddress, Cname, TwoDnames, BelowDname, DsAtApex, WildcardNs, SoaNotApex, NsBesideDname, Nsec3Owner, MissingGlue, HostIsAlias, HostBelowDname, HostMissing, HostName, CdsWithoutKey, DsWithoutNs, NotAtApex, KeyProtocol, KeyAlgorithm, TtlDiffers, Duplicate}
 
 -- a finding of a rule, if the rule is broken
 abbrev pub found_if : Bool → Rule → Option ℕ → List Finding
@@ -24,7 +24,7 @@ found_at_apex origin records refused = found_if (not (is_present Rtype.soa origi
 abbrev pub record_rules : List Rule
 record_rules =
     Outside ∷ TwoSoas ∷ NsAddress ∷ Cname ∷ TwoDnames ∷ BelowDname ∷ DsAtApex ∷ WildcardNs ∷ SoaNotApex ∷ NsBesideDname ∷ Nsec3Owner ∷ MissingGlue ∷ HostIsAlias
-    ∷ HostBelowDname ∷ HostMissing ∷ HostName ∷ CdsWithoutKey ∷ DsWithoutNs ∷ NotAtApex ∷ KeyProtocol ∷ KeyAlgorithm ∷ CnameTargetMissing ∷ CnameLoop ∷ TwoSpf ∷ WeakDigest ∷ TtlDiffers ∷ Duplicate ∷ []
+    ∷ HostBelowDname ∷ HostMissing ∷ HostName ∷ CdsWithoutKey ∷ DsWithoutNs ∷ NotAtApex ∷ KeyProtocol ∷ KeyAlgorithm ∷ TtlDiffers ∷ Duplicate ∷ []
 
 -- the record at an index breaks the rule
 abbrev pub breaks_at : {N O : Type 0} → List (List ℕ) → List (Record N O) → List RrsetName → ℕ → Rule → Bool

@@ -96,7 +96,7 @@ pub fn is_under_cut<Z: ZoneRecords>(origin: &Name<&[u8]>, records: &Z, name: &Na
 }
 
 /// Returns whether the zone is authoritative for a name.
-pub(crate) fn is_of_zone<Z: ZoneRecords>(
+fn is_of_zone<Z: ZoneRecords>(
     origin: &Name<&[u8]>,
     records: &Z,
     refused: &SortedSets<'_>,
@@ -108,7 +108,7 @@ pub(crate) fn is_of_zone<Z: ZoneRecords>(
 }
 
 /// Returns whether an ancestor of a name has a DNAME.
-pub(crate) fn is_name_renamed<Z: ZoneRecords>(
+fn is_name_renamed<Z: ZoneRecords>(
     records: &Z,
     refused: &SortedSets<'_>,
     name: &Name<&[u8]>,

@@ -85,9 +85,7 @@ pub fn is_of_absence(rule: Rule) -> bool {
         | Rule::MissingGlue
         | Rule::HostMissing
         | Rule::CdsWithoutKey
-        | Rule::DsWithoutNs
-        | Rule::CnameTargetMissing
-        | Rule::WeakDigest => true,
+        | Rule::DsWithoutNs => true,
         _ => false,
     }
 }

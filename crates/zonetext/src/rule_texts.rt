@@ -31,14 +31,13 @@ pub fn is_at_target(rule: Rule) -> bool {
             | Rule::HostIsAlias
             | Rule::HostBelowDname
             | Rule::HostMissing
-            | Rule::CnameTargetMissing
     )
 }
 
-/// Returns the target of a record: the host of NS, MX and SRV, and that of CNAME.
+/// Returns the target of a record: the host of NS, MX and SRV.
 fn target_of<'r>(record: &'r StandingRecord<'_>) -> Option<Name<&'r [u8]>> {
     let place = match record.data.rtype() {
-        RecordType::NS | RecordType::CNAME => 0,
+        RecordType::NS => 0,
         RecordType::MX => 1,
         RecordType::SRV => 3,
         _ => return None,
@@ -104,14 +103,12 @@ fn relative_text(
     String::from_str(alloc, text.as_str().get(..count).unwrap_or(""))
 }
 
-/// Returns the message about a target without an address, or without records. If `may_search` is
-/// set, its help has the name that was probably meant.
+/// Returns the message about a target without an address.
 fn missing_target<Origin: AsOctets>(
     alloc: Global,
     records: &ZoneRecords<'_, '_, Origin>,
     record: &StandingRecord<'_>,
     rule: Rule,
-    may_search: bool,
 ) -> Result<Option<Text>, AllocError> {
     let Some(target) = target_of(record) else {
         return Ok(None);
@@ -120,16 +117,10 @@ fn missing_target<Origin: AsOctets>(
     let name = DisplayWithDot::new(&target);
     let message = match rule {
         Rule::HostMissing => format!(in alloc; "{rtype} target {name} has no address in the zone")?,
-        Rule::CnameTargetMissing => {
-            format!(in alloc; "{rtype} target {name} has no records in the zone")?
-        }
         Rule::NsAddress => format!(in alloc; "name server {name} has no address in the zone")?,
         _ => format!(in alloc; "name server {name} below the delegation has no address")?,
     };
     let text = Text::new(alloc, message);
-    if !may_search {
-        return Ok(Some(text));
-    }
     match nearest(alloc, records, &target)? {
         Some(near) => {
             let name = near.name.as_str();
@@ -216,11 +207,11 @@ fn own_text<'r, 'h, Origin: AsOctets>(
     records: &ZoneRecords<'r, 'h, Origin>,
     record: &'r StandingRecord<'h>,
     rule: Rule,
-    may_search: bool,
 ) -> Result<Option<Text>, AllocError> {
     match rule {
-        Rule::HostMissing | Rule::NsAddress | Rule::MissingGlue | Rule::CnameTargetMissing =>
-            missing_target(alloc, records, record, rule, may_search),
+        Rule::HostMissing | Rule::NsAddress | Rule::MissingGlue => {
+            missing_target(alloc, records, record, rule)
+        }
         Rule::HostIsAlias => cname_target(alloc, record),
         Rule::HostBelowDname => dname_target(alloc, records.sorted, records.refused, record),
         Rule::Cname => second_cname(alloc, records, record),
@@ -228,19 +219,17 @@ fn own_text<'r, 'h, Origin: AsOctets>(
     }
 }
 
-/// Returns the text of a broken rule. If `may_search` is set, a name like a missing target is looked
-/// for.
+/// Returns the text of a broken rule.
 pub fn rule_text<Origin: AsOctets>(
     alloc: Global,
     records: &ZoneRecords<'_, '_, Origin>,
     finding: &Finding,
-    may_search: bool,
 ) -> Result<Text, AllocError> {
     let record = finding
         .record
         .and_then(|place| records.sorted.as_slice().get(place));
     if let Some(record) = record {
-        if let Some(text) = own_text(alloc, records, record, finding.rule, may_search)? {
+        if let Some(text) = own_text(alloc, records, record, finding.rule)? {
             return Ok(text);
         }
     }

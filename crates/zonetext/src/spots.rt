@@ -45,11 +45,10 @@ pub fn line_spot<'s>(
     }
 }
 
-/// Returns the number of the field of a type's data that is a target: the host of NS, MX and SRV, and
-/// the target of CNAME.
+/// Returns the number of the field of a type's data that is a target: the host of NS, MX and SRV.
 fn target_number(rtype: RecordType) -> Option<usize> {
     match rtype {
-        RecordType::NS | RecordType::CNAME => Some(0),
+        RecordType::NS => Some(0),
         RecordType::MX => Some(1),
         RecordType::SRV => Some(3),
         _ => None,

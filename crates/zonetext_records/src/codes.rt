@@ -110,10 +110,6 @@ pub fn code_of_rule(rule: Rule) -> Code
         Rule::NotAtApex => Code::NotAtApex,
         Rule::KeyProtocol => Code::KeyProtocol,
         Rule::KeyAlgorithm => Code::KeyAlgorithm,
-        Rule::CnameTargetMissing => Code::CnameTargetMissing,
-        Rule::CnameLoop => Code::CnameLoop,
-        Rule::TwoSpf => Code::TwoSpf,
-        Rule::WeakDigest => Code::WeakDigest,
         Rule::TtlDiffers => Code::TtlDiffers,
         Rule::Duplicate => Code::Duplicate,
     }

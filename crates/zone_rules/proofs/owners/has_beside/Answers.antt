@@ -3,9 +3,9 @@ use Rattle.std.specs.Prelude.{◌||◌, slice_get}
 use Rattle.std.specs.List.{list_any}
 use Rattle.std.specs.Option.{option_map_or}
 use Rattle.std.proofs.lemmas.Bool.{false≢true}
-use Rattle.zone_rules.specs.Subjects.{relates}
-use Rattle.zone_rules.proofs.Subjects.{none_related}
-use Rattle.zone_rules.proofs.beside.has_related.Goals as goal
+use Rattle.zone_rules.specs.Rules.{is_beside_alias}
+use Rattle.zone_rules.proofs.Subjects.{none_beside}
+use Rattle.zone_rules.proofs.owners.has_beside.Goals as goal
 
 or_first : (b c : Bool) → b ≡ true → (b || c) ≡ true
 or_first true c h = refl
@@ -20,11 +20,11 @@ any_found p [] k h = absurd (false≢true h)
 any_found p (x ∷ xs) zero h = or_first (p x) (list_any p xs) h
 any_found p (x ∷ xs) (suc k) h = or_second (p x) (list_any p xs) (any_found p xs k h)
 
-pub returns-then-is_related_at : goal.returns-then-is_related_at
-returns-then-is_related_at g c =
-    sym (any_found (relates c.args.relation c.args.one.now) (g.Z.ZoneRecords.contents c.args.records.now) c.loop-place.place (sym c.is_related_at.ensures ∙ c.if-is_related_at.true))
+pub returns-then-is_beside_at : goal.returns-then-is_beside_at
+returns-then-is_beside_at g c =
+    sym (any_found (is_beside_alias c.args.alias.now) (g.Z.ZoneRecords.contents c.args.records.now) c.loop-place.place (sym c.is_beside_at.ensures ∙ c.if-is_beside_at.true))
 
 pub returns : goal.returns
 returns g c =
-    sym (none_related c.args.relation c.args.one.now (g.Z.ZoneRecords.contents c.args.records.now) c.places-first.result.0 c.places-first.result.1 c.places-first.ensures
+    sym (none_beside c.args.alias.now (g.Z.ZoneRecords.contents c.args.records.now) c.places-first.result.0 c.places-first.result.1 c.places-first.ensures
     (λ i d low lt. c.loop-place.invariant i d low (omega (arith, lt, c.loop-place-test.false))))
