@@ -18,12 +18,30 @@ use dns_octets::AsOctets;
 use dns_reader::NameBuffer;
 use dns_split::entry_tokens::EntryToken;
 use dns_split::pieces::Fault;
+use dns_split::position::Position;
 use record_rules::RecordRule;
 use std::alloc::{AllocError, Global};
 use zone_rules::Finding;
 use zonetext_records::codes::{code_of_fault, code_of_record_rule, code_of_rule};
 use zonetext_records::texts::code_text;
 use zonetext_report::code::{Code, Severity};
+
+/// Greatest number of records among which names like others are looked for, in all.
+const MOST_SEARCHED: usize = 200_000;
+
+/// Returns the number of the file and the position of a finding at a record, or at its target, or at
+/// the first file's start.
+fn place_of(record: Option<&StandingRecord<'_>>, at_target: bool) -> (usize, Position) {
+    let Some(record) = record else {
+        return (0, first_place().position);
+    };
+    let stand = record.owner.as_octets().tag;
+    if at_target {
+        (stand.file, stand.target)
+    } else {
+        (stand.file, stand.position)
+    }
+}
 
 /// Returns the location of the code of an exception.
 fn code_spot<'s>(file: &'s str, exception: Exception, line: Option<&'s [u8]>) -> Spot<'s> {
@@ -48,6 +66,8 @@ pub struct Findings<'a> {
     is_standard: bool,
     /// Whether findings have owners and types: if only the text is checked, they don't.
     has_subjects: bool,
+    /// Number of records among which names like others were looked for.
+    searched: usize,
 }
 
 impl<'a> Findings<'a> {
@@ -66,6 +86,7 @@ impl<'a> Findings<'a> {
             zone,
             is_standard,
             has_subjects,
+            searched: 0,
         }
     }
 
@@ -240,48 +261,64 @@ impl<'a> Findings<'a> {
         self.tell_at(held, code, record, false, &text)
     }
 
-    /// Reports that records break a rule of zones.
+    /// Reports that records break a rule of zones. Its text is made only if it may be shown.
     pub fn tell_rule<Origin: AsOctets>(
         &mut self,
         held: &HeldZone,
         records: &ZoneRecords<'_, '_, Origin>,
         finding: &Finding,
     ) -> Result<(), Stop> {
-        let text = rule_text(self.alloc, records, finding)?;
         let record = finding
             .record
             .and_then(|place| records.sorted.as_slice().get(place));
         let at_target = is_at_target(finding.rule);
-        self.tell_at(held, code_of_rule(finding.rule), record, at_target, &text)
+        let code = code_of_rule(finding.rule);
+        let Some(severity) = self.count_at(held, code, record, at_target) else {
+            return Ok(());
+        };
+        let may_search = at_target && self.may_search(records.sorted.as_slice().len());
+        let text = rule_text(self.alloc, records, finding, may_search)?;
+        self.show_at(held, severity, code, record, at_target, &text)
     }
 
-    /// Reports a finding at a record, or at its target, or at the first file's start.
-    pub fn tell_at(
+    /// Returns whether a name like another is looked for among a number of records.
+    fn may_search(&mut self, count: usize) -> bool {
+        match self.searched.checked_add(count) {
+            Some(sum) if sum <= MOST_SEARCHED => {
+                self.searched = sum;
+                true
+            }
+            _ => false,
+        }
+    }
+
+    /// Counts a finding at a record, or at its target, or at the first file's start. Returns its
+    /// severity if it may be shown.
+    fn count_at(
         &mut self,
         held: &HeldZone,
         code: Code,
         record: Option<&StandingRecord<'_>>,
         at_target: bool,
+    ) -> Option<Severity> {
+        let (file, position) = place_of(record, at_target);
+        self.select_exceptions(record);
+        let spot = line_spot(held.file(file), file, position, None);
+        self.reporter.count(spot, code, false)
+    }
+
+    /// Shows a finding that was counted at a record, or at its target, or at the first file's start.
+    fn show_at(
+        &mut self,
+        held: &HeldZone,
+        severity: Severity,
+        code: Code,
+        record: Option<&StandingRecord<'_>>,
+        at_target: bool,
         text: &Text,
     ) -> Result<(), Stop> {
-        let (file, position) = match record {
-            Some(record) => {
-                let stand = record.owner.as_octets().tag;
-                let position = if at_target {
-                    stand.target
-                } else {
-                    stand.position
-                };
-                (stand.file, position)
-            }
-            None => (0, first_place().position),
-        };
-        self.select_exceptions(record);
+        let (file, position) = place_of(record, at_target);
         let name = held.file(file);
-        let spot = line_spot(name, file, position, None);
-        let Some(severity) = self.reporter.count(spot, code, false) else {
-            return Ok(());
-        };
         let line = if self.reads_line(file) {
             self.lines.line(file, name, position.line)?
         } else {
@@ -298,6 +335,21 @@ impl<'a> Findings<'a> {
         let spot = line_spot(name, file, position, octets);
         let said = subject.said(text.message.as_str(), text.help.as_str());
         self.reporter.show(severity, spot, code, said)
+    }
+
+    /// Reports a finding at a record, or at its target, or at the first file's start.
+    pub fn tell_at(
+        &mut self,
+        held: &HeldZone,
+        code: Code,
+        record: Option<&StandingRecord<'_>>,
+        at_target: bool,
+        text: &Text,
+    ) -> Result<(), Stop> {
+        match self.count_at(held, code, record, at_target) {
+            Some(severity) => self.show_at(held, severity, code, record, at_target, text),
+            None => Ok(()),
+        }
     }
 
     /// Puts the exceptions of a record in effect, or none.

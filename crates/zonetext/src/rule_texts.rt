@@ -103,12 +103,14 @@ fn relative_text(
     String::from_str(alloc, text.as_str().get(..count).unwrap_or(""))
 }
 
-/// Returns the message about a target without an address.
+/// Returns the message about a target without an address. If `may_search` is set, its help has the
+/// name that was probably meant.
 fn missing_target<Origin: AsOctets>(
     alloc: Global,
     records: &ZoneRecords<'_, '_, Origin>,
     record: &StandingRecord<'_>,
     rule: Rule,
+    may_search: bool,
 ) -> Result<Option<Text>, AllocError> {
     let Some(target) = target_of(record) else {
         return Ok(None);
@@ -121,6 +123,9 @@ fn missing_target<Origin: AsOctets>(
         _ => format!(in alloc; "name server {name} below the delegation has no address")?,
     };
     let text = Text::new(alloc, message);
+    if !may_search {
+        return Ok(Some(text));
+    }
     match nearest(alloc, records, &target)? {
         Some(near) => {
             let name = near.name.as_str();
@@ -207,10 +212,11 @@ fn own_text<'r, 'h, Origin: AsOctets>(
     records: &ZoneRecords<'r, 'h, Origin>,
     record: &'r StandingRecord<'h>,
     rule: Rule,
+    may_search: bool,
 ) -> Result<Option<Text>, AllocError> {
     match rule {
         Rule::HostMissing | Rule::NsAddress | Rule::MissingGlue => {
-            missing_target(alloc, records, record, rule)
+            missing_target(alloc, records, record, rule, may_search)
         }
         Rule::HostIsAlias => cname_target(alloc, record),
         Rule::HostBelowDname => dname_target(alloc, records.sorted, records.refused, record),
@@ -219,17 +225,19 @@ fn own_text<'r, 'h, Origin: AsOctets>(
     }
 }
 
-/// Returns the text of a broken rule.
+/// Returns the text of a broken rule. If `may_search` is set, a name like a missing target is looked
+/// for.
 pub fn rule_text<Origin: AsOctets>(
     alloc: Global,
     records: &ZoneRecords<'_, '_, Origin>,
     finding: &Finding,
+    may_search: bool,
 ) -> Result<Text, AllocError> {
     let record = finding
         .record
         .and_then(|place| records.sorted.as_slice().get(place));
     if let Some(record) = record {
-        if let Some(text) = own_text(alloc, records, record, finding.rule)? {
+        if let Some(text) = own_text(alloc, records, record, finding.rule, may_search)? {
             return Ok(text);
         }
     }
