@@ -1,0 +1,3 @@
+pub mod ClauseSteps
+pub mod PathSteps
+pub mod TokenSteps

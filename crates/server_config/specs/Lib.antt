@@ -1,0 +1,16 @@
+pub mod Clauses
+pub mod Keywords
+pub mod Lexemes
+pub mod NameRows
+pub mod Nsd
+pub mod NsdLexemes
+pub mod Rows
+pub mod Settings
+pub mod Statements
+pub mod States
+pub mod Steps
+pub mod Strings
+pub mod Tokens
+pub mod ZoneLists
+pub mod ZoneNames
+pub mod ZonePaths
