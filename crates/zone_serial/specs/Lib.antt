@@ -1,0 +1,4 @@
+pub mod NextSerials
+pub mod Rows
+pub mod SerialArithmetic
+pub mod SerialLaws
