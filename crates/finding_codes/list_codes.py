@@ -15,11 +15,11 @@ import tempfile
 from urllib.parse import unquote_to_bytes
 
 CRATES = os.path.dirname(os.path.dirname(os.path.abspath(__file__)))
-FRONT = b"$TTL 60\n@ SOA ns h 1 4 2 9 5\n@ NS ns\nns A 192.0.2.1\n"
+FRONT = b"@ 60 SOA ns h 1 4 2 9 5\n@ NS ns\n@ NS ns.o.\nns A 192.0.2.1\n"
 TIMES = "20260601000000 20251201000000 1037 example. AA=="
-SIGNED = f"""$TTL 60
-@ SOA ns h 1 4 2 9 60
+SIGNED = f"""@ 60 SOA ns h 1 4 2 9 60
 @ NS ns
+@ NS ns.o.
 @ DNSKEY 256 3 13 AA==
 @ NSEC ns.example. NS SOA RRSIG NSEC DNSKEY
 @ RRSIG SOA 13 1 60 {TIMES}

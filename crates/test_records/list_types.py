@@ -3,8 +3,8 @@
 
 usage: crates/test_records/list_types.py [--check PAGE]
 
-Names, standards and order come from `TYPES` of `dns_data`, the codes and the types that are printed by
-name everywhere from `dns_kinds`, and an example with its octets from the type's first row in `stdin` that
+Names, standards and order come from `TYPES` of `rdata`, the codes and the types that are printed by
+name everywhere from `rdata_values`, and an example with its octets from the type's first row in `stdin` that
 is short enough. With --check the page must have exactly this table.
 """
 import re
@@ -22,19 +22,19 @@ def read(path):
 
 def types():
     """Returns names and standards of the rows of `TYPES`, in their order."""
-    table = read("dns_data/src/types.rt").partition("pub static TYPES")[2].partition("\n];")[0]
+    table = read("rdata/src/types.rt").partition("pub static TYPES")[2].partition("\n];")[0]
     found = re.findall(r"^    // (.*)\.\n    TypeRow\(\n        RecordType::(\w+)\.0,$", table, re.M)
     return [(name.replace("_", "-"), re.sub("^Draft", "draft", standard)) for standard, name in found]
 
 
 def portable():
     """Returns the codes of the types that are printed by name everywhere."""
-    numbers = read("dns_kinds/src/types.rt").partition("const PORTABLE")[2].partition("= [")[2].partition("]")[0]
+    numbers = read("rdata_values/src/types.rt").partition("const PORTABLE")[2].partition("= [")[2].partition("]")[0]
     return {int(it) for it in re.findall(r"\d+", numbers)}
 
 
 def codes():
-    return {name: int(code) for code, name in re.findall(r'Named\((\d+), "(.*?)"\)', read("dns_kinds/src/types.rt"))}
+    return {name: int(code) for code, name in re.findall(r'Named\((\d+), "(.*?)"\)', read("rdata_values/src/types.rt"))}
 
 
 def rows():

@@ -5,7 +5,7 @@ use Rattle.dns_symbol.specs.Symbol.{octet_of}
 use Rattle.dns_symbol.specs.declared.symbol.Symbol.{Symbol}
 use Rattle.dns_symbol.specs.declared.error.BadSymbol.{BadSymbol}
 use Rattle.dns_symbol.proofs.Unique.{symbols_same}
-use Rattle.dns_charstr.specs.Reading.{HasOctets, GoesOnWithSymbol, ReadsText}
+use Rattle.dns_charstr.specs.Reading.{HasOctets, NextSymbolIs, ReadsText}
 use Rattle.dns_charstr.specs.declared.charstr.error.FromStrError.{FromStrError}
 use Rattle.dns_charstr.specs.declared.charstr.error.FromStrError.TheVariants.{Presentation, ShortBuf}
 use Rattle.dns_charstr.specs.declared.charstr.error.PresentationError.TheVariants.{LongString, SymbolChars, BadSymbol as Bad}
@@ -37,14 +37,14 @@ one_list text xs ys a b =
     same_octets xs ys (sym a.octets_are ∙ ap (map octet_of) (symbols_same text a.symbols b.symbols None None a.read b.read).0 ∙ b.octets_are)
 
 -- a text that is all symbols with octets, and some of these
-count_before : (text octets begun : List ℕ) (x : Symbol) → HasOctets text octets → GoesOnWithSymbol text begun x → length begun < length octets
+count_before : (text octets begun : List ℕ) (x : Symbol) → HasOctets text octets → NextSymbolIs text begun x → length begun < length octets
 count_before text octets begun x whole part =
     let same = (symbols_same text whole.symbols (part.front ++ x ∷ part.others) None part.error whole.read part.read).0 in
     let n = octets_count whole.symbols octets whole.octets_are in
     let m = octets_count part.front begun part.octets_are in
     omega (arith, n, m, ap length same, length-append part.front (x ∷ part.others))
 
-octet_next : (text octets begun : List ℕ) (x : Symbol) → HasOctets text octets → GoesOnWithSymbol text begun x → (o : ℕ) × (octet_of x ≡ Ok o)
+octet_next : (text octets begun : List ℕ) (x : Symbol) → HasOctets text octets → NextSymbolIs text begun x → (o : ℕ) × (octet_of x ≡ Ok o)
 octet_next text octets begun x whole part =
     let same = (symbols_same text whole.symbols (part.front ++ x ∷ part.others) None part.error whole.read part.read).0 in
     octets_each part.front x part.others octets (sym (ap (map octet_of) same) ∙ whole.octets_are)

@@ -22,7 +22,7 @@ use Rattle.dns_symbol.specs.declared.error.SymbolCharsError.{SymbolCharsError}
 use Rattle.dns_symbol.proofs.Escapes.{bytes_simple, bytes_decimal}
 use Rattle.dns_symbol.proofs.Unique.{bytes_some}
 use Rattle.dns_charstr.specs.OctetText.{SpellsOctet, SpellsOctets, SpellsNone, SpellsMore, SpellsUntil, ReadsOctetText}
-use Rattle.dns_charstr.specs.Reading.{HasOctets, BreaksOff, GoesOnWithSymbol, ReadsText}
+use Rattle.dns_charstr.specs.Reading.{HasOctets, BreaksOff, NextSymbolIs, ReadsText}
 use Rattle.dns_charstr.proofs.SoFar.{HasRead, read_all, read_broken, read_next}
 use Rattle.dns_charstr.specs.declared.charstr.error.FromStrError.{FromStrError}
 use Rattle.dns_charstr.specs.declared.charstr.error.FromStrError.TheVariants.{Presentation, ShortBuf}
@@ -167,7 +167,7 @@ pub record Another (text octets : List ℕ) (x : Symbol) : Type 0 where
   pub octet : ℕ
   pub is : octet_of x ≡ Ok octet
 
-another : (text octets : List ℕ) (x : Symbol) → Printable text → GoesOnWithSymbol text octets x → Another text octets x
+another : (text octets : List ℕ) (x : Symbol) → Printable text → NextSymbolIs text octets x → Another text octets x
 another text octets x p h =
     let readable = and_parts (list_all is_readable h.front) (list_all is_readable (x ∷ h.others)) (sym (list_all-append is_readable h.front (x ∷ h.others)) ∙ h.read.readable) in
     let first = and_parts (is_readable x) (list_all is_readable h.others) readable.1 in
@@ -191,7 +191,7 @@ another text octets x p h =
     regroup : (xs ys : List Symbol) (rest : List ℕ) → flat_map bytes (xs ++ x ∷ ys) ++ rest ≡ flat_map bytes xs ++ (bytes x ++ (flat_map bytes ys ++ rest))
     regroup xs ys rest = Prim.grind (arith, common_steps, flat_map-append)
 
-goes_on : (text octets : List ℕ) → Printable text → (h : SpellsMore text octets) → (x : Symbol) × GoesOnWithSymbol text octets x × (octet_of x ≡ Ok h.next)
+goes_on : (text octets : List ℕ) → Printable text → (h : SpellsMore text octets) → (x : Symbol) × NextSymbolIs text octets x × (octet_of x ≡ Ok h.next)
 goes_on text octets p h =
     let read = are_symbols octets text h.rest p h.front in
     let x = spelling_begins h.rest h.after h.next (left_printable octets text h.rest p read) h.goes_on in

@@ -12,7 +12,7 @@ use Rattle.dns_symbol.specs.declared.symbol.Symbol.{Symbol}
 use Rattle.dns_symbol.specs.declared.error.SymbolCharsError.{SymbolCharsError}
 use Rattle.dns_symbol.proofs.Texts.{symbols_exist, rest_utf8}
 use Rattle.dns_symbol.proofs.Unique.{symbols_more}
-use Rattle.dns_charstr.specs.Reading.{HasOctets, BreaksOff, GoesOnWithSymbol}
+use Rattle.dns_charstr.specs.Reading.{HasOctets, BreaksOff, NextSymbolIs}
 
 -- the symbols before the rest have these octets
 pub record HasRead (text octets rest : List ℕ) : Type 0 where
@@ -67,7 +67,7 @@ read_broken text octets rest e read h =
     record { symbols = read.front; read = ends_here text octets rest (Some e) read h; octets_are = read.octets_are }
 
 -- if one follows
-pub read_next : (text octets rest after : List ℕ) (x : Symbol) → HasRead text octets rest → BeginsWith rest x after → GoesOnWithSymbol text octets x
+pub read_next : (text octets rest after : List ℕ) (x : Symbol) → HasRead text octets rest → BeginsWith rest x after → NextSymbolIs text octets x
 read_next text octets rest after x read begins =
     let more = symbols_exist (length after) after (omega arith) (rest_utf8 (spell x) rest after read.characters begins.spelled) in
     record {

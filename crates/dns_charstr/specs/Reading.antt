@@ -23,7 +23,7 @@ pub record BreaksOff (text octets : List ℕ) (error : SymbolCharsError) : Type 
   pub octets_are : map octet_of symbols ≡ map Ok octets
 
 -- the text's first symbols have these octets, and the symbol x is the next one
-pub record GoesOnWithSymbol (text octets : List ℕ) (x : Symbol) : Type 0 where
+pub record NextSymbolIs (text octets : List ℕ) (x : Symbol) : Type 0 where
   pub front : List Symbol
   pub octets_are : map octet_of front ≡ map Ok octets
   pub others : List Symbol
@@ -36,9 +36,9 @@ ReadsText room text (Ok octets) = HasOctets text octets × (length octets ≤ ma
 ReadsText room text (Err (Presentation (SymbolChars e))) =
     (octets : List ℕ) × BreaksOff text octets e × (length octets ≤ max_string) × (length octets ≤ room.capacity)
 ReadsText room text (Err (Presentation LongString)) =
-    (octets : List ℕ) × (x : Symbol) × GoesOnWithSymbol text octets x × (length octets ≡ max_string) × (length octets ≤ room.capacity)
+    (octets : List ℕ) × (x : Symbol) × NextSymbolIs text octets x × (length octets ≡ max_string) × (length octets ≤ room.capacity)
 ReadsText room text (Err (Presentation (BadSymbol e))) =
-    (octets : List ℕ) × (x : Symbol) × GoesOnWithSymbol text octets x × (length octets < max_string) × (length octets ≤ room.capacity) × (octet_of x ≡ Err e)
+    (octets : List ℕ) × (x : Symbol) × NextSymbolIs text octets x × (length octets < max_string) × (length octets ≤ room.capacity) × (octet_of x ≡ Err e)
 ReadsText room text (Err ShortBuf) =
-    (octets : List ℕ) × (x : Symbol) × (octet : ℕ) × GoesOnWithSymbol text octets x × (length octets < max_string) × (length octets ≤ room.capacity) × (octet_of x ≡ Ok octet)
+    (octets : List ℕ) × (x : Symbol) × (octet : ℕ) × NextSymbolIs text octets x × (length octets < max_string) × (length octets ≤ room.capacity) × (octet_of x ≡ Ok octet)
     × (room.fits ≤ length octets)

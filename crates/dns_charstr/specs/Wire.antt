@@ -11,6 +11,6 @@ abbrev pub BeginsNoWireForm : List ℕ → Type 0
 BeginsNoWireForm front = (octets more : List ℕ) → front ≡ wire_of octets ++ more → ⊥
 
 -- the octets after a failed append: the old ones, if the length octet exceeds the guaranteed capacity; or these and the length octet, if the whole does
-abbrev pub IsLeftByRefusal : Room → List ℕ → List ℕ → List ℕ → Type 0
-IsLeftByRefusal room octets old new =
+abbrev pub IsAfterFailedAppend : Room → List ℕ → List ℕ → List ℕ → Type 0
+IsAfterFailedAppend room octets old new =
     ((new ≡ old) × (room.fits ≤ length old)) ⊎ ((new ≡ old ++ length octets ∷ []) × (length new ≤ room.capacity) × (room.fits < length old + length (wire_of octets)))

@@ -9,9 +9,9 @@ use Rattle.dns_codec.specs.Bits.{whole}
 use Rattle.dns_codec.specs.Base.{Base, IsEncoding}
 use Rattle.dns_codec.specs.Grammar.{Decodes}
 use Rattle.dns_codec.specs.Errors.{answer, or_else}
-use Rattle.dns_codec.specs.Front.{ReadsFront}
+use Rattle.dns_codec.specs.Front.{ReadsWholeGroups}
 use Rattle.dns_codec.specs.Group.{Group, CharacterStep, character_step, is_complete}
-use Rattle.dns_codec.specs.Decoding.{DecoderState, IsNew, TakesStep, PushesAfter, Pushes, short, Ends}
+use Rattle.dns_codec.specs.Decoding.{DecoderState, IsNew, AppliesStep, PushesAfter, Pushes, short, Ends}
 use Rattle.dns_codec.specs.Outcome.{char_error, refusal, Outcome, IsRefusedBy}
 use Rattle.dns_codec.specs.Limit.{IsLimit}
 use Rattle.dns_codec.specs.declared.error.DecodeError.{DecodeError}
@@ -50,7 +50,7 @@ pub one_push : (b : Base) → IsEncoding b → (room : Room) (text : List ℕ) (
     → Stands b room (text ++ c ∷ []) j ⊎ Refuses b room text c d j
 one_push b known room text d c j at push =
     let s : CharacterStep = character_step b d.group c in
-    let t : TakesStep room d.octets s j = subst (λ (x : Option DecodeError). PushesAfter b room x d c j) at.quiet push in
+    let t : AppliesStep room d.octets s j = subst (λ (x : Option DecodeError). PushesAfter b room x d c j) at.quiet push in
     let next = stepped b known text d.octets d.group.digits d.group.padding c at.read in
     elim (appends_cases room s.octets d.octets j.octets s.error j.error t.appends at.held) [
       | inl all ↦ elim (cases_error s.error) [
@@ -124,7 +124,7 @@ decoded b known room text d (Err f) at (inr end) =
 -- ---- what `decode` asks
 
 -- after characters that were read at once
-pub starts : (b : Base) → IsEncoding b → (room : Room) (text rest new : List ℕ) (d : DecoderState) → IsNew d → (at : ReadsFront b room text d.octets rest new)
+pub starts : (b : Base) → IsEncoding b → (room : Room) (text rest new : List ℕ) (d : DecoderState) → IsNew d → (at : ReadsWholeGroups b room text d.octets rest new)
     → Stands b room (at.front ++ []) (record { octets = new; group = d.group; error = d.error })
 starts b known room text rest new d is at =
     let len : length at.digits ≡ length at.front = sym (HaveValues-length b at.front at.digits at.valued) in

@@ -11,7 +11,7 @@ ghost use Rattle.dns_symbol.specs.declared.symbol.Symbol.{Symbol};
 ghost use Rattle.dns_symbol.specs.declared.symbol.Symbol.TheVariants.{Char};
 ghost use Rattle.dns_codec.specs.Base.{Base, IsEncoding, value, encoded};
 ghost use Rattle.dns_codec.specs.Conversions.{entry_symbols, Agrees};
-ghost use Rattle.dns_codec.specs.Conversions.{converts, converted, takes_all_of};
+ghost use Rattle.dns_codec.specs.Conversions.{converts, converted, accepts_all};
 ghost use Rattle.dns_codec.specs.Converting.{convert_entry, convert_tail};
 ghost use Rattle.dns_codec.specs.Group.{fresh};
 ghost use Rattle.dns_codec.specs.Grammar.{Decodes};
@@ -101,7 +101,7 @@ pub fn converters_decode()
 /// prefix.
 pub fn converters_stop()
     ensures { (b : Base) → IsEncoding b → (text : List ℕ) (limit : ℕ) → length text + 3 ≤ limit
-        → takes_all_of b (map Char text) ≡ is_none (first_char_error (char_error b limit) [] text) }
+        → accepts_all b (map Char text) ≡ is_none (first_char_error (char_error b limit) [] text) }
 {}
 
 /// The tokens of an entry convert as their concatenation.

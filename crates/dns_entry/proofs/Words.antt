@@ -20,7 +20,7 @@ use Rattle.dns_codec.specs.Base.{Base, base16, base64, digit_char, padded, encod
 use Rattle.dns_codec.specs.Grammar.{Decodes}
 use Rattle.dns_codec.proofs.RoundTrip.{encoded16-decodes, encoded64-decodes}
 use Rattle.dns_codec.proofs.Unique.{one_value, no_mark16, no_mark64}
-use Rattle.dns_split.specs.Token.{IsWord, IsToken}
+use Rattle.dns_lexer.specs.Token.{IsWord, IsToken}
 use Rattle.dns_zone.specs.Layout.{end}
 use Rattle.dns_zone.specs.Documents.{IsProper, IsWellFormed}
 use Rattle.dns_entry.specs.Field.{Content, number, hex_octets, base64_octets, text_octets, IsContent, IsPrintable, field_text}

@@ -1,7 +1,7 @@
 //! Laws of entry lines.
 //! Each function's contract is the law; calling it has no useful effect.
 ghost use Rattle.std.specs.Prelude.{ℕ, List};
-ghost use Rattle.dns_split.specs.Token.{IsToken};
+ghost use Rattle.dns_lexer.specs.Token.{IsToken};
 ghost use Rattle.dns_zone.specs.Documents.{IsWellFormed};
 ghost use Rattle.dns_entry.specs.Field.{Content, content_of, field_text, IsContent, IsPrintable};
 ghost use Rattle.dns_entry.specs.Line.{AreContents, IsFirstEmpty, IsLine, line_document};

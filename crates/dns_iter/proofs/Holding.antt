@@ -7,12 +7,12 @@ use Rattle.std.specs.Iterator.{AlwaysYields}
 use Rattle.dns_scan.specs.Tokens.{Token}
 use Rattle.dns_symbol.specs.Symbol.{bytes}
 use Rattle.dns_symbol.specs.Text.{SymbolsOf}
-use Rattle.dns_split.specs.Token.{IsWord, IsQuote, IsToken}
-use Rattle.dns_split.specs.Answer.{texts, entries_of}
-use Rattle.dns_split.specs.Splitting.{Entries, Splits}
-use Rattle.dns_split.proofs.Complete.{one_way}
-use Rattle.dns_split.proofs.Entries.{splits_into_tokens}
-use Rattle.dns_split.proofs.Content.{word_first, quote_first, between_quotes, word_symbols, quote_symbols}
+use Rattle.dns_lexer.specs.Token.{IsWord, IsQuote, IsToken}
+use Rattle.dns_lexer.specs.Answer.{texts, entries_of}
+use Rattle.dns_lexer.specs.Splitting.{Entries, Splits}
+use Rattle.dns_lexer.proofs.Complete.{one_way}
+use Rattle.dns_lexer.proofs.Entries.{splits_into_tokens}
+use Rattle.dns_lexer.proofs.Content.{word_first, quote_first, between_quotes, word_symbols, quote_symbols}
 use Rattle.dns_scan.specs.Join.{IsSymbols}
 use Rattle.dns_iter.specs.Contents.{HasContent, HaveContents, HoldsAt, HoldsOnly, content_next}
 

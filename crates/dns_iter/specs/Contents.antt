@@ -5,8 +5,8 @@ use Rattle.std.specs.List.{AllZip, flat_map}
 use Rattle.dns_symbol.specs.Symbol.{bytes}
 use Rattle.dns_scan.specs.Join.{AreSymbols}
 use Rattle.dns_scan.specs.Tokens.{Token}
-use Rattle.dns_split.specs.Splitting.{Entries}
-use Rattle.dns_split.specs.Token.{IsWord, IsQuote}
+use Rattle.dns_lexer.specs.Splitting.{Entries}
+use Rattle.dns_lexer.specs.Token.{IsWord, IsQuote}
 
 -- the content of a word is the word, that of a quoted string is between its double quotes
 abbrev pub HasContent : Token → List ℕ → Type 0

@@ -1,7 +1,7 @@
 //! Scanners over the entries of zone files.
 //!
-//! [`dns_split::splitting::split`] returns each entry as a list of strings. A caller that uses the
-//! iterator [`dns_split::pieces::Pieces`] collects a list of slices instead, and copies no text:
+//! [`dns_lexer::splitting::split`] returns each entry as a list of strings. A caller that uses the
+//! iterator [`dns_lexer::pieces::Pieces`] collects a list of slices instead, and copies no text:
 //!
 //! ```text
 //! for piece in Pieces::new(text) {
@@ -18,25 +18,25 @@
 //! ```
 ghost use Rattle.std.specs.Prelude.{◌≡◌, ◌≤◌, ◌↔◌, List, ℕ, IfSome, IsNone, false, length, map, string_bytes};
 ghost use Rattle.std.specs.List.{AllByRecursion};
-ghost use Rattle.dns_split.specs.Answer.{entries_of};
-ghost use Rattle.dns_split.specs.Splitting.{Entries, Splits};
-ghost use Rattle.dns_split.specs.Token.{IsToken};
-ghost use Rattle.dns_scan.specs.Stands.{HasTokens};
+ghost use Rattle.dns_lexer.specs.Answer.{entries_of};
+ghost use Rattle.dns_lexer.specs.Splitting.{Entries, Splits};
+ghost use Rattle.dns_lexer.specs.Token.{IsToken};
+ghost use Rattle.dns_scan.specs.Unread.{HasTokens};
 ghost use Rattle.dns_scan.specs.Tokens.{Token};
 ghost use Rattle.dns_iter.specs.Contents.{HaveContents, HoldSymbols, HoldTexts};
-ghost use Rattle.dns_iter.specs.Entry.{AreOfOneText, StandsAt, StandsAtOnly, entry_next};
+ghost use Rattle.dns_iter.specs.Entry.{AreOfOneText, IsAtEntry, IsAtTexts, entry_next};
 ghost use Rattle.dns_iter.specs.TokenNext.{is_after_space};
 ghost use Rattle.dns_scan.specs.Reads.{HasOneAnswer};
 
 use crate::scanner::{IterScanner, ScanOctets};
+use dns_lexer::token::content;
 use dns_octets::EmptyBuilder;
 use dns_scan::{Scanner, ScannerError, StrError};
-use dns_split::token::content;
 use std::alloc::Allocator;
 
 /// A token of a zone file as it is spelled, with its double quotes.
 ///
-/// [`dns_split::splitting::split`] returns strings, and the spans of [`dns_split::pieces::Pieces`]
+/// [`dns_lexer::splitting::split`] returns strings, and the spans of [`dns_lexer::pieces::Pieces`]
 /// are slices of the text.
 pub trait TokenText {
     // The text's bytes.
@@ -125,7 +125,7 @@ pub fn entry_scanner<'a, T: TokenText, Octets: ScanOctets, E: ScannerError>(
 }
 
 /// Returns a scanner over an entry, given by its index from 0, of those that
-/// [`dns_split::splitting::split`] returned. Returns `None` if there are too few entries.
+/// [`dns_lexer::splitting::split`] returned. Returns `None` if there are too few entries.
 ///
 /// If the entries are those that a text splits into, the scanner has the contents of that entry's
 /// tokens: one list of texts, each of which consists of symbols. `split` doesn't return whether an
@@ -138,11 +138,11 @@ pub fn entry_at<'a, A: Allocator, Octets: ScanOctets, E: ScannerError>(
     ensures none { IsNone result ↔ (length entries.now ≤ place) }
     ensures ready { IfSome result
         (λ s. ⟦<EntryScanner<'a, String<A>, Octets, E> as Scanner>⟧.can_scan s) }
-    ensures stands { StandsAt (entry_next string_bytes) (entries_of entries.now) place result }
+    ensures stands { IsAtEntry (entry_next string_bytes) (entries_of entries.now) place result }
     ensures splits { (found : Entries) → AreOfOneText (entries_of entries.now) found
-        → StandsAt (entry_next string_bytes) found place result }
+        → IsAtEntry (entry_next string_bytes) found place result }
     ensures holds { (text : List ℕ) → Splits text (entries_of entries.now)
-        → IfSome result (StandsAtOnly (entry_next string_bytes) (entries_of entries.now) place) }
+        → IfSome result (IsAtTexts (entry_next string_bytes) (entries_of entries.now) place) }
     ensures spaced { IfSome result (λ s. is_after_space s ≡ false) }
 {
     let tokens = entries.get(place)?;

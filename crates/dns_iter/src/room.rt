@@ -4,7 +4,7 @@ ghost use Rattle.std.specs.List.{AllZip, flat_map};
 ghost use Rattle.dns_charstr.specs.Reading.{HasOctets};
 ghost use Rattle.dns_charstr.specs.Wire.{wire_of};
 ghost use Rattle.dns_scan.specs.Reads.{NameReads, ReadsFirstToken, ReadsInOneWay, NamesInOneWay};
-ghost use Rattle.dns_scan.specs.Stands.{HasTokens};
+ghost use Rattle.dns_scan.specs.Unread.{HasTokens};
 ghost use Rattle.dns_scan.specs.Tokens.{Token};
 ghost use Rattle.dns_charstr.specs.Limits.{max_string};
 ghost use Rattle.dns_iter.specs.Entry.{entry_next};

@@ -4,7 +4,7 @@ ghost use Rattle.std.specs.Iterator.{IsFinite};
 ghost use Rattle.dns_symbol.specs.Cause.{end_of_entry};
 ghost use Rattle.dns_scan.specs.Entries.{ScansEntry};
 ghost use Rattle.dns_scan.specs.Tokens.{Token, Peeks, LooksAhead};
-ghost use Rattle.dns_iter.specs.TokenNext.{token_next, spaced_after, FillsAhead, HasFewerLeft, StandsBeforeItems, TakesNext, count_left, is_after_space};
+ghost use Rattle.dns_iter.specs.TokenNext.{token_next, spaced_after, FillsAhead, HasFewerUnread, HasUnreadItems, ConsumesNext, unread_count, is_after_space};
 ghost use Rattle.dns_iter.specs.Name.{ReadsToken};
 ghost use Rattle.dns_iter.specs.Ahead.{IsReady, token_of};
 
@@ -65,7 +65,7 @@ impl<'a, Iter: Iterator<Item = &'a str>, Octets: ScanOctets, E: ScannerError> It
         requires can { Iter.can_next iter }
         requires ends { IsFinite (Iter.remaining iter) }
         ensures ready { ⟦<Self as Scanner>⟧.can_scan result }
-        ensures stands { StandsBeforeItems Iter.next_gives iter result }
+        ensures stands { HasUnreadItems Iter.next_gives iter result }
         ensures spaced { ⟦<Self as Scanner>⟧.is_spaced result ≡ false }
     {
         IterScanner::spaced(alloc, iter, false)
@@ -77,7 +77,7 @@ impl<'a, Iter: Iterator<Item = &'a str>, Octets: ScanOctets, E: ScannerError> It
         requires can { Iter.can_next iter }
         requires ends { IsFinite (Iter.remaining iter) }
         ensures ready { ⟦<Self as Scanner>⟧.can_scan result }
-        ensures stands { StandsBeforeItems Iter.next_gives iter result }
+        ensures stands { HasUnreadItems Iter.next_gives iter result }
         ensures spaced { ⟦<Self as Scanner>⟧.is_spaced result ≡ spaced }
     {
         IterScanner {
@@ -124,7 +124,7 @@ where
     fn fill(&mut self)
         requires { IsReady Iter.can_next Iter.remaining self.old.iter self.old.ahead }
         ensures ready { IsReady Iter.can_next Iter.remaining self.new.iter self.new.ahead }
-        ensures left { count_left Iter.remaining self.new ≤ count_left Iter.remaining self.old }
+        ensures left { unread_count Iter.remaining self.new ≤ unread_count Iter.remaining self.old }
         ensures fills { FillsAhead Iter.next_gives self.old self.new }
         ensures spaced { self.new.spaced ≡ self.old.spaced }
     {
@@ -140,8 +140,8 @@ where
     fn take(&mut self) -> Option<&'a str>
         requires { IsReady Iter.can_next Iter.remaining self.old.iter self.old.ahead }
         ensures ready { IsReady Iter.can_next Iter.remaining self.new.iter self.new.ahead }
-        ensures fewer { OnSome result (HasFewerLeft Iter.remaining self.old self.new) }
-        ensures takes { TakesNext Iter.next_gives self.old result self.new }
+        ensures fewer { OnSome result (HasFewerUnread Iter.remaining self.old self.new) }
+        ensures takes { ConsumesNext Iter.next_gives self.old result self.new }
         ensures spaced { self.new.spaced ≡ spaced_after self.old.spaced result }
     {
         self.fill();

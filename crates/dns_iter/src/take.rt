@@ -1,7 +1,7 @@
 //! Traits of the consumers of symbols and tokens.
 ghost use Rattle.std.specs.Prelude.{◌≡◌, ◌≤◌, ◌-◌, ◌++◌, IsOk, OnErr, OnOk, Result, length, ⊤};
 ghost use Rattle.dns_scan.specs.Entries.{AsksToken, ConvertInEntry, ConvertStep, ConvertTail, StringStep};
-ghost use Rattle.dns_scan.specs.Steps.{GivesStep, octet_given, text_given, Grows};
+ghost use Rattle.dns_scan.specs.Steps.{HasStepOctets, step_octet, step_text, Grows};
 ghost use Rattle.dns_scan.specs.Tokens.{Token};
 
 use crate::token::each_symbol;
@@ -78,7 +78,7 @@ pub(crate) struct AsOctet;
 impl<B: OctetsBuilder, E: ScannerError> TakeSymbol<Symbol, E, B> for AsOctet {
     ghost can_take = { λ _. ⊤ };
 
-    ghost step = { λ p x r q. GivesStep E.cause B.room octet_given (B.octets p.1) x r (B.octets q.1) };
+    ghost step = { λ p x r q. HasStepOctets E.cause B.room step_octet (B.octets p.1) x r (B.octets q.1) };
 
     fn take_symbol(&mut self, built: &mut B, symbol: Symbol) -> Result<(), E> {
         match symbol.into_octet() {
@@ -98,7 +98,7 @@ pub(crate) struct AsText;
 impl<B: OctetsBuilder, E: ScannerError> TakeSymbol<Symbol, E, B> for AsText {
     ghost can_take = { λ _. ⊤ };
 
-    ghost step = { λ p x r q. GivesStep E.cause B.room text_given (B.octets p.1) x r (B.octets q.1) };
+    ghost step = { λ p x r q. HasStepOctets E.cause B.room step_text (B.octets p.1) x r (B.octets q.1) };
 
     fn take_symbol(&mut self, built: &mut B, symbol: Symbol) -> Result<(), E> {
         match symbol.into_char() {

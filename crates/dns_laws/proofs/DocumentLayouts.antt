@@ -5,25 +5,25 @@ use Rattle.std.specs.List.{flat_map, list_any, AllByRecursion}
 use Rattle.std.proofs.lemmas.Bool.{and_from}
 use lib.Utf8.{encode}
 use Rattle.dns_symbol.specs.Characters.{tab, line_feed, space, open_parenthesis, close_parenthesis, semicolon}
-use Rattle.dns_split.proofs.Tight.{tight_all}
-use Rattle.dns_split.specs.Splitting.{BeginsNoBlank, is_tight, is_outside, Splits, may_precede, are_lexemes, nests, with_token, entries, Entries}
-use Rattle.dns_split.specs.Lexeme.{Lexeme, Blank, Line, Open, Close, Note, Word, Quote, lexeme_bytes}
+use Rattle.dns_lexer.proofs.Tight.{tight_all}
+use Rattle.dns_lexer.specs.Splitting.{BeginsNoBlank, is_tight, is_outside, Splits, may_precede, are_lexemes, nests, with_token, entries, Entries}
+use Rattle.dns_lexer.specs.Lexeme.{Lexeme, Blank, Line, Open, Close, Note, Word, Quote, lexeme_bytes}
 use Rattle.dns_zone.specs.Layout.{Step, token, begin, end, comment, newline, layout, text_of_steps, depth, is_line_start, is_block_start, simple_piece, tabbed_piece, multiline_piece, is_shown}
 use Rattle.dns_zone.specs.Layout.{is_row_start, is_word, since, ends_row, indent}
 use Rattle.dns_zone.specs.Documents.{IsCommentText, IsProper, IsWellFormed}
 use Rattle.dns_zone.specs.Nesting.{is_nested, from_none_test}
 use Rattle.dns_zone.proofs.Nested.{nested_end, nested_in, nested_newline, nested_out}
 use Rattle.dns_laws.specs.Entries.{document_entries}
-use Rattle.dns_split.proofs.Tokens.{is_token_lexeme, token_one}
-use Rattle.dns_split.specs.Token.{IsToken}
-use Rattle.dns_split.specs.Viable.{IsBad}
-use Rattle.dns_split.specs.Answer.{IsSplitOf}
-use Rattle.dns_split.specs.declared.error.SplitError.{SplitError}
-use Rattle.dns_split.specs.declared.error.SplitError.TheVariants.{BadText, ShortBuf}
+use Rattle.dns_lexer.proofs.Tokens.{is_token_lexeme, token_one}
+use Rattle.dns_lexer.specs.Token.{IsToken}
+use Rattle.dns_lexer.specs.Viable.{IsBad}
+use Rattle.dns_lexer.specs.Answer.{IsSplitOf}
+use Rattle.dns_lexer.specs.declared.error.SplitError.{SplitError}
+use Rattle.dns_lexer.specs.declared.error.SplitError.TheVariants.{BadText, ShortBuf}
 use Rattle.dns_laws.specs.Refusal.{IsDocumentRefusal}
 use Rattle.dns_laws.specs.declared.layouts.Refusal.TheVariants.{Split}
 use Rattle.std.specs.Prelude.{Err}
-use Rattle.dns_split.proofs.Complete.{no_word, one_way}
+use Rattle.dns_lexer.proofs.Complete.{no_word, one_way}
 use Rattle.dns_zone.specs.Printed.{printed}
 use Rattle.dns_zone.specs.declared.zonefile_fmt.DisplayKind.{DisplayKind}
 use Rattle.dns_zone.specs.declared.zonefile_fmt.DisplayKind.TheVariants.{Simple, Tabbed, Multiline}

@@ -12,7 +12,7 @@ use Rattle.dns_codec.specs.Converting.{char_in}
 use Rattle.dns_codec.specs.Grammar.{Decodes, IsEncodingOf}
 use Rattle.dns_symbol.specs.Cause.{Cause}
 use Rattle.dns_scan.specs.Join.{IsJoin, IsSymbols}
-use Rattle.dns_scan.specs.Octets.{GivesWhere}
+use Rattle.dns_scan.specs.Octets.{ReturnsWhere}
 use Rattle.dns_scan.specs.Tokens.{Token}
 use Rattle.dns_scan.proofs.Joined.{whole_join}
 use Rattle.dns_entry.specs.Codecs.{Codec, converted_symbols, AnswersConverted}
@@ -37,11 +37,11 @@ module _ (codec : Codec) (same_step : (held : codec.Held) (x : Symbol) (c : ℕ)
     (only : (text octets : List ℕ) → converted_symbols codec codec.start [] (plain_symbols text) None ≡ Ok octets → Decodes b text octets)
     {O E : Type 0} (cause : E → Cause) (value : O → List ℕ) (room : Room) (r : Result O E) (tokens : List Token)
     (answer : (text : List ℕ) → IsJoin tokens text → AnswersConverted codec cause value room text r) where
-  pub entry_whole : (octets : List ℕ) → AllByRecursion IsSymbols tokens → IsEncodingOf b (concat tokens) octets → GivesWhere cause value room octets r
+  pub entry_whole : (octets : List ℕ) → AllByRecursion IsSymbols tokens → IsEncodingOf b (concat tokens) octets → ReturnsWhere cause value room octets r
   entry_whole octets all is =
       gives_value codec same_step needs_char b texts only cause value room (concat tokens) octets r is (answer (concat tokens) (whole_join tokens all))
 
-  pub entry_back : (octets : List ℕ) → list_all is_plain b.alphabet ≡ true → IsEncodingOf b (encoded b octets) octets → concat tokens ≡ encoded b octets → GivesWhere cause value room octets r
+  pub entry_back : (octets : List ℕ) → list_all is_plain b.alphabet ≡ true → IsEncodingOf b (encoded b octets) octets → concat tokens ≡ encoded b octets → ReturnsWhere cause value room octets r
   entry_back octets plain encoding is =
       entry_whole octets (plain_parts tokens (ap (list_all is_plain) is ∙ encoded_plain b octets plain)) (subst (λ (t : List ℕ). IsEncodingOf b t octets) (sym is) encoding)
 

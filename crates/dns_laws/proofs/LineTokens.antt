@@ -9,17 +9,17 @@ use Rattle.dns_octets.specs.Room.{Room, within}
 use Rattle.dns_codec.specs.Base.{base16, base64, encoded}
 use Rattle.dns_symbol.specs.declared.symbol.Symbol.{Symbol}
 use Rattle.dns_symbol.specs.declared.symbol.Symbol.TheVariants.{Char}
-use Rattle.dns_symbol.specs.Symbol.{bytes, is_readable, stands_in_word, is_word_symbol}
+use Rattle.dns_symbol.specs.Symbol.{bytes, is_readable, may_be_in_word, is_word_symbol}
 use Rattle.dns_symbol.proofs.Unique.{bytes_same}
 use Rattle.std.specs.declared.alloc.Global.{Global}
-use Rattle.dns_split.specs.Answer.{IsSplitOf}
-use Rattle.dns_split.specs.declared.error.SplitError.{SplitError}
-use Rattle.dns_split.specs.declared.error.SplitError.TheVariants.{BadText, ShortBuf}
-use Rattle.dns_split.specs.Splitting.{Entries, Splits, SplitsOnlyInto, with_token}
-use Rattle.dns_split.specs.Token.{IsWord}
+use Rattle.dns_lexer.specs.Answer.{IsSplitOf}
+use Rattle.dns_lexer.specs.declared.error.SplitError.{SplitError}
+use Rattle.dns_lexer.specs.declared.error.SplitError.TheVariants.{BadText, ShortBuf}
+use Rattle.dns_lexer.specs.Splitting.{Entries, Splits, SplitsOnlyInto, with_token}
+use Rattle.dns_lexer.specs.Token.{IsWord}
 use Rattle.dns_symbol.specs.Cause.{Cause}
 use Rattle.dns_scan.specs.Numbers.{by_cause, greatest}
-use Rattle.dns_scan.specs.Octets.{GivesWhere, StringBack, unquoted_token}
+use Rattle.dns_scan.specs.Octets.{ReturnsWhere, StringBack, unquoted_token}
 use Rattle.dns_scan.specs.Reads.{NumberReads}
 use Rattle.dns_scan.specs.Tokens.{Token}
 use Rattle.dns_scan.proofs.Decimal.{decimal_read}
@@ -34,7 +34,7 @@ use Rattle.dns_entry.specs.Line.{AreContents, IsLine, field_step, line_document}
 use Rattle.dns_entry.proofs.Words.{line_formed, number_word, hex_word, base64_word, text_word}
 use Rattle.dns_laws.specs.declared.lines.Refusal.TheVariants.{Split}
 use Rattle.dns_laws.specs.Encodings.{EncodingBack}
-use Rattle.dns_laws.specs.Lines.{line_entries, kind_of, IsLineRefusal, IsScannedOf, GivesField, GivesOctets}
+use Rattle.dns_laws.specs.Lines.{line_entries, kind_of, IsLineRefusal, IsScannedOf, ReturnsField, ReturnsOctets}
 use Rattle.dns_entry.specs.declared.entry.FieldKind.TheVariants.{Number, Hex, Base64, Text}
 use Rattle.dns_laws.specs.declared.lines.Scanned.{Scanned}
 use Rattle.dns_laws.specs.declared.lines.Scanned.TheVariants.{Number as NumberScanned, Octets, Text as TextScanned}
@@ -69,7 +69,7 @@ word_unquoted text rest word e = by word.symbols word.some word.valid word.spell
     by [] some valid spelled = absurd (omega (arith, some))
     by (s ∷ ss) some valid spelled =
         let first = (and_parts (is_word_symbol s) (list_all is_word_symbol ss) valid).0 in
-        let readable = (and_parts (stands_in_word s) (is_readable s) first).1 in
+        let readable = (and_parts (may_be_in_word s) (is_readable s) first).1 in
         let front : bytes s ++ flat_map bytes ss ≡ bytes (Char 34) ++ rest = sym spelled ∙ e ∙ ap (λ l. (l ++ []) ++ rest) (sym (encode_ascii 34 (omega arith))) in
         let same = bytes_same s (Char 34) (flat_map bytes ss) rest readable refl front in
         quote_no_word (subst (λ x. is_word_symbol x ≡ true) same.0 first)
@@ -115,13 +115,13 @@ as_text (Ok o) = Ok (TextScanned o)
 as_text (Err e) = Err e
 
 module _ {O E : Type 0} (cause : E → Cause) (octets : O → List ℕ) (room : Room) where
-  octets_back : (os : List ℕ) (r : Result O E) → GivesWhere cause octets room os r → GivesOctets cause octets room os (as_octets r)
+  octets_back : (os : List ℕ) (r : Result O E) → ReturnsWhere cause octets room os r → ReturnsOctets cause octets room os (as_octets r)
   octets_back os (Ok o) (inl h) = inl (o, refl, h)
   octets_back os (Ok o) (inr h) = absurd h.0
   octets_back os (Err e) (inl h) = absurd h
   octets_back os (Err e) (inr h) = inr h
 
-  text_back : (os : List ℕ) (r : Result (List ℕ) E) → length os ≤ 255 → GivesWhere cause (λ o. o) (within 255 room) os r → GivesField cause octets room (text_octets os) (as_text r)
+  text_back : (os : List ℕ) (r : Result (List ℕ) E) → length os ≤ 255 → ReturnsWhere cause (λ o. o) (within 255 room) os r → ReturnsField cause octets room (text_octets os) (as_text r)
   text_back os (Ok o) short (inl h) = inl (ap (λ l. Ok (TextScanned l)) h)
   text_back os (Ok o) short (inr h) = absurd h.0
   text_back os (Err e) short (inl h) = absurd h
@@ -130,7 +130,7 @@ module _ {O E : Type 0} (cause : E → Cause) (octets : O → List ℕ) (room : 
   -- what was scanned of a field's token
   module _ (text : Token) where
     pub number_field : (field : Content) (r : Result ℕ E) → IsContent field → kind_of field ≡ Number → IsScannedOf (field_text field) text
-        → NumberReads (greatest 32) text (by_cause cause r) → GivesField cause octets room field (as_number r)
+        → NumberReads (greatest 32) text (by_cause cause r) → ReturnsField cause octets room field (as_number r)
     number_field (number n) r is kind scanned reads =
         let same = scanned_word (decimal n) text (number_word n is) scanned in
         ap as_number (number_back cause n r is (subst (λ t. NumberReads (greatest 32) t (by_cause cause r)) same reads))
@@ -139,7 +139,7 @@ module _ {O E : Type 0} (cause : E → Cause) (octets : O → List ℕ) (room : 
     number_field (text_octets os) r is kind scanned reads = cc
 
     pub hex_field : (field : Content) (r : Result O E) → IsContent field → IsPrintable field → kind_of field ≡ Hex → IsScannedOf (field_text field) text
-        → EncodingBack base16 cause octets room text r → GivesField cause octets room field (as_octets r)
+        → EncodingBack base16 cause octets room text r → ReturnsField cause octets room field (as_octets r)
     hex_field (hex_octets os) r is can kind scanned back =
         octets_back os r (back.back os (recursion_from_All (λ o. o < 256) os is) (scanned_word (encoded base16 os) text (hex_word os is can) scanned))
     hex_field (number n) r is can kind scanned back = cc
@@ -147,7 +147,7 @@ module _ {O E : Type 0} (cause : E → Cause) (octets : O → List ℕ) (room : 
     hex_field (text_octets os) r is can kind scanned back = cc
 
     pub base64_field : (field : Content) (r : Result O E) → IsContent field → IsPrintable field → kind_of field ≡ Base64 → IsScannedOf (field_text field) text
-        → EncodingBack base64 cause octets room text r → GivesField cause octets room field (as_octets r)
+        → EncodingBack base64 cause octets room text r → ReturnsField cause octets room field (as_octets r)
     base64_field (base64_octets os) r is can kind scanned back =
         octets_back os r (back.back os (recursion_from_All (λ o. o < 256) os is) (scanned_word (encoded base64 os) text (base64_word os is can) scanned))
     base64_field (number n) r is can kind scanned back = cc
@@ -155,7 +155,7 @@ module _ {O E : Type 0} (cause : E → Cause) (octets : O → List ℕ) (room : 
     base64_field (text_octets os) r is can kind scanned back = cc
 
     pub text_field : (field : Content) (r : Result (List ℕ) E) → IsContent field → kind_of field ≡ Text → IsScannedOf (field_text field) text
-        → StringBack cause (within 255 room) text r → GivesField cause octets room field (as_text r)
+        → StringBack cause (within 255 room) text r → ReturnsField cause octets room field (as_text r)
     text_field (text_octets []) r is kind scanned back = text_back [] r is.1 (back.printed [] is.0 (inl (scanned_quotes text scanned)))
     text_field (text_octets (o ∷ os)) r is kind scanned back =
         text_back (o ∷ os) r is.1 (back.printed (o ∷ os) is.0 (inl (scanned_word (unquoted_token (o ∷ os)) text (text_word o os is.0) scanned)))

@@ -14,7 +14,7 @@ use Rattle.dns_name.specs.declared.name.UncertainName.TheVariants.{Absolute, Rel
 use Rattle.dns_name.specs.declared.name.error.FromStrError.{FromStrError}
 use Rattle.dns_name.specs.declared.name.error.FromStrError.TheVariants.{Symbol, BadOctet, BinaryLabel, EmptyLabel, LongLabel, LongName, ShortBuf}
 use Rattle.dns_name.proofs.WholeName.{whole_reads}
-use Rattle.dns_laws.specs.Names.{GivesName}
+use Rattle.dns_laws.specs.Names.{ReturnsName}
 
 module _ (O : Type 0) {E : Type 0} (cause : E → Cause) (room : Room) (token : List ℕ) (n : UncertainName O) (is : ReadsAs token n) where
   -- the labels of the name that is read
@@ -57,11 +57,11 @@ module _ (O : Type 0) {E : Type 0} (cause : E → Cause) (room : Room) (token : 
       by (Err ShortBuf) h a = lacks (short h) a
 
 module _ (O : Type 0) {E : Type 0} (cause : E → Cause) (room : Room) (token : List ℕ) (name : List (List ℕ)) where
-  pub name_back : ReadsAs {O = O} token (Absolute name) → (r : Result (List (List ℕ)) E) → ReadsToken O cause room token r → GivesName cause room name r
-  name_back is r = answered O cause room token (Absolute name) is r (GivesName cause room name r) (λ a. inl a) (λ less a. inr (a, less))
+  pub name_back : ReadsAs {O = O} token (Absolute name) → (r : Result (List (List ℕ)) E) → ReadsToken O cause room token r → ReturnsName cause room name r
+  name_back is r = answered O cause room token (Absolute name) is r (ReturnsName cause room name r) (λ a. inl a) (λ less a. inr (a, less))
 
   -- a relative name gets the root
-  pub relative_back : ReadsAs {O = O} token (Relative name) → (name ≡ [] → ⊥) → (r : Result (List (List ℕ)) E) → ReadsToken O cause room token r → GivesName cause room (name ++ [] ∷ []) r
-  relative_back is some r = answered O cause room token (Relative name) is r (GivesName cause room (name ++ [] ∷ []) r)
+  pub relative_back : ReadsAs {O = O} token (Relative name) → (name ≡ [] → ⊥) → (r : Result (List (List ℕ)) E) → ReadsToken O cause room token r → ReturnsName cause room (name ++ [] ∷ []) r
+  relative_back is some r = answered O cause room token (Relative name) is r (ReturnsName cause room (name ++ [] ∷ []) r)
       (λ a. ⊎_elim (λ none. absurd (some none.0)) (λ b. ⊎_elim (λ ok. inl ok.1) (λ lack. inr (lack.2, omega (arith, lack.1, wire_length_append name ([] ∷ [])))) b) a)
       (λ less a. inr (a, omega (arith, less, wire_length_append name ([] ∷ []))))

@@ -1,14 +1,14 @@
 -- The entries of a text are a document, whose simple layout is the normal form.
 use Rattle.std.proofs.Common.{◌≡◌, ℕ, zero, suc, true, ◌&&◌, List, [], ◌∷◌, ◌++◌, refl, sym, ap, ◌∙◌, subst, append-nil}
 use Rattle.std.proofs.lemmas.Bool.{and_parts}
-use Rattle.dns_split.specs.Lexeme.{Lexeme, Blank, Line, Open, Close, Note, Word, Quote, lexeme_bytes, is_lexeme}
-use Rattle.dns_split.specs.Splitting.{Splits, may_precede, are_lexemes, with_token, entries, Entries}
+use Rattle.dns_lexer.specs.Lexeme.{Lexeme, Blank, Line, Open, Close, Note, Word, Quote, lexeme_bytes, is_lexeme}
+use Rattle.dns_lexer.specs.Splitting.{Splits, may_precede, are_lexemes, with_token, entries, Entries}
 use Rattle.dns_zone.specs.Layout.{Step, newline, layout, simple_piece}
 use Rattle.dns_zone.specs.Documents.{IsWellFormed}
 use Rattle.dns_laws.specs.Entries.{document_entries, tokens, document_of}
-use Rattle.dns_split.proofs.Tokens.{one_token}
-use Rattle.dns_split.specs.Token.{IsToken}
-use Rattle.dns_split.proofs.Complete.{one_way}
+use Rattle.dns_lexer.proofs.Tokens.{one_token}
+use Rattle.dns_lexer.specs.Token.{IsToken}
+use Rattle.dns_lexer.proofs.Complete.{one_way}
 use Rattle.dns_laws.proofs.DocumentLayouts.{simple_splits}
 
 abbrev pub AreTokens : List (List ℕ) → Type 0

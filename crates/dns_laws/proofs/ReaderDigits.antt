@@ -20,8 +20,8 @@ use Rattle.dns_codec.proofs.Each.{once}
 use Rattle.dns_codec.proofs.Wholes.{HaveValues-length, length-whole}
 use Rattle.dns_scan.specs.Join.{IsSymbols}
 use Rattle.dns_scan.specs.Tokens.{Token}
-use Rattle.dns_digits.specs.Spelled.{SpellsDigits, opens_group}
-use Rattle.dns_digits.proofs.Spelling.{folding16, folding32, plain_chars as chars_alone, spelled_decodes, whole_spells}
+use Rattle.rdata_tokens.specs.Spelled.{SpellsDigits, opens_group}
+use Rattle.rdata_tokens.proofs.Spelling.{folding16, folding32, plain_chars as chars_alone, spelled_decodes, whole_spells}
 use Rattle.dns_laws.specs.Readers.{HasNoBackslash}
 use Rattle.dns_laws.proofs.Converted.{plain_symbols, is_plain, plain_read}
 use Rattle.dns_laws.proofs.EntryTexts.{plain_parts}

@@ -19,9 +19,9 @@ use Rattle.dns_name.specs.declared.name.UncertainName.TheVariants.{Absolute, Rel
 use Rattle.dns_name.proofs.Naming.{dot_bytes}
 use Rattle.dns_name.proofs.WholeName.{named_empty}
 use Rattle.dns_symbol.specs.Escape.{is_spelling, octet_for}
-use Rattle.dns_spelling.specs.NameSpelling.{is_plain_dot, is_label_spelling, AreLabelSpellings, IsLabelPart, dotted_parts, part_labels, SpellsParts, SpellsLabels, root_alone, origin_alone, absolute, relative, SpellsName, IsRelative}
-use Rattle.dns_spelling.proofs.LabelParts.{labels_are_spellings, dotted_cons}
-use Rattle.dns_spelling.proofs.NameReadings.{parts_once, root_no_parts}
+use Rattle.rdata_tokens.specs.NameSpelling.{is_plain_dot, is_label_spelling, AreLabelSpellings, IsLabelPart, dotted_parts, part_labels, SpellsParts, SpellsLabels, root_alone, origin_alone, absolute, relative, SpellsName, IsRelative}
+use Rattle.rdata_tokens.proofs.LabelParts.{labels_are_spellings, dotted_cons}
+use Rattle.rdata_tokens.proofs.NameReadings.{parts_once, root_no_parts}
 use Rattle.dns_laws.specs.Readers.{IsNoBinary, HasNoBinary}
 use Rattle.dns_laws.proofs.ReaderSymbols.{Printable, AllAlike, all_read, all_spelled}
 

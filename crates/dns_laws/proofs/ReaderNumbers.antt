@@ -15,8 +15,8 @@ use Rattle.dns_symbol.specs.declared.symbol.Symbol.TheVariants.{Char, SimpleEsca
 use Rattle.dns_scan.specs.Numbers.{greatest, plain_digit_of, value_of}
 use Rattle.dns_scan.specs.Reads.{NumberReads}
 use Rattle.dns_scan.specs.Tokens.{Token}
-use Rattle.dns_kinds.specs.Numbers.{SpellsNumber}
-use Rattle.dns_fields.specs.Words.{SpellsAs, SpellsBelow}
+use Rattle.rdata_values.specs.Numbers.{SpellsNumber}
+use Rattle.rdata_fields.specs.Words.{SpellsAs, SpellsBelow}
 use Rattle.dns_entry.proofs.Words.{ascii_bytes}
 use Rattle.dns_laws.specs.Readers.{ReadsWire}
 use Rattle.dns_laws.proofs.Converted.{plain_symbols, is_plain, plain_read}

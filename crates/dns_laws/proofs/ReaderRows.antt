@@ -12,17 +12,17 @@ use Rattle.dns_charstr.specs.declared.charstr.error.PresentationError.TheVariant
 use Rattle.dns_codec.specs.Bits.{bits, joined, digits_from_bits, filled, digits, whole}
 use Rattle.dns_codec.specs.Base.{base16, base64, digit_char, value, padded, encoded}
 use Rattle.dns_codec.specs.Grammar.{IsEncodingOf}
-use Rattle.dns_digits.specs.Spelled.{SpellsDigits}
-use Rattle.dns_digits.proofs.Spelling.{spelled_decodes}
-use Rattle.dns_fields.specs.Words.{NumberReason}
-use Rattle.dns_kinds.specs.declared.error.ErrorKind.TheVariants.{ExpectedNumber, EmptyLabel}
+use Rattle.rdata_tokens.specs.Spelled.{SpellsDigits}
+use Rattle.rdata_tokens.proofs.Spelling.{spelled_decodes}
+use Rattle.rdata_fields.specs.Words.{NumberReason}
+use Rattle.rdata_values.specs.declared.error.ErrorKind.TheVariants.{ExpectedNumber, EmptyLabel}
 use Rattle.dns_name.specs.Reading.{Names, ReadsAs, ReadsName}
 use Rattle.dns_name.specs.declared.name.UncertainName.TheVariants.{Relative}
 use Rattle.dns_name.specs.declared.name.error.FromStrError.TheVariants.{BadOctet, BinaryLabel}
 use Rattle.dns_name.proofs.Naming.{named_none, spelling_none}
 use Rattle.dns_scan.specs.Reads.{NumberReads}
-use Rattle.dns_spelling.specs.NameSpelling.{IsLabelPart, SpellsLabels, WhyNoName, origin_alone, absolute}
-use Rattle.dns_spelling.specs.Spelling.{SpellsOctetList}
+use Rattle.rdata_tokens.specs.NameSpelling.{IsLabelPart, SpellsLabels, WhyNoName, origin_alone, absolute}
+use Rattle.rdata_tokens.specs.Spelling.{SpellsOctetList}
 use Rattle.dns_laws.proofs.ReaderDigits.{digits_same, decoded_plain}
 use Rattle.dns_laws.proofs.ReaderNumbers.{nothing_read}
 

@@ -13,7 +13,7 @@ use Rattle.dns_symbol.specs.declared.error.BadSymbol.TheVariants.{NonAscii}
 use Rattle.dns_symbol.proofs.Escapes.{bytes_simple, bytes_decimal}
 use Rattle.dns_charstr.specs.Reading.{HasOctets}
 use Rattle.dns_symbol.specs.Escape.{is_spelling, octet_for}
-use Rattle.dns_spelling.specs.Spelling.{SpellsOctetList}
+use Rattle.rdata_tokens.specs.Spelling.{SpellsOctetList}
 
 abbrev pub Printable : List ℕ → Type 0
 Printable text = list_all is_printable text ≡ true

@@ -17,7 +17,7 @@ use Rattle.dns_codec.specs.Converting.{char_in, made, convert_char}
 use Rattle.dns_codec.specs.Grammar.{Decodes, IsEncodingOf}
 use Rattle.dns_codec.proofs.Each.{decodes}
 use Rattle.dns_symbol.specs.Cause.{Cause}
-use Rattle.dns_scan.specs.Octets.{GivesWhere}
+use Rattle.dns_scan.specs.Octets.{ReturnsWhere}
 use Rattle.dns_scan.specs.Tokens.{Token}
 use Rattle.dns_entry.specs.Codecs.{Codec, then_made, then_more, converted_symbols, made_of, ConvertsTo, MadeOf, AnswersConverted, codec_of}
 use Rattle.dns_laws.proofs.Converted.{plain_symbols, is_plain, plain_read, plain_alphabet, encoded_plain}
@@ -97,7 +97,7 @@ module _ (codec : Codec) where
 
   -- a token that converts to octets is parsed as them, if they fit
   pub gives_octets : {O E : Type 0} (cause : E → Cause) (value : O → List ℕ) (room : Room) (token : Token) (octets : List ℕ) (r : Result O E) → ConvertsTo codec token (Ok octets)
-      → AnswersConverted codec cause value room token r → GivesWhere cause value room octets r
+      → AnswersConverted codec cause value room token r → ReturnsWhere cause value room octets r
   gives_octets cause value room token octets (Ok x) h k =
       let same = converts_once token (Ok (value x)) (Ok octets) k.2.0 h in
       let is : value x ≡ octets = cc same in
@@ -154,7 +154,7 @@ module _ (codec : Codec) where
 
       -- the result of a scanner for a text of the encoding, and for any token
       pub gives_value : {O E : Type 0} (cause : E → Cause) (value : O → List ℕ) (room : Room) (token : Token) (octets : List ℕ) (r : Result O E) → IsEncodingOf b token octets
-          → AnswersConverted codec cause value room token r → GivesWhere cause value room octets r
+          → AnswersConverted codec cause value room token r → ReturnsWhere cause value room octets r
       gives_value cause value room token octets r h k = gives_octets cause value room token octets r (converts token octets h) k
 
       pub gives_only : {O E : Type 0} (cause : E → Cause) (value : O → List ℕ) (room : Room) (token : Token) (r : Result O E) → AnswersConverted codec cause value room token r

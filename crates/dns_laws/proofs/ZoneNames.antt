@@ -10,7 +10,7 @@ use Rattle.std.proofs.lemmas.Bool.Decides.{nat_tests}
 use Rattle.dns_symbol.specs.Symbol.{bytes, spell, is_word_symbol}
 use Rattle.dns_symbol.specs.declared.symbol.Symbol.{Symbol}
 use Rattle.dns_symbol.specs.declared.symbol.Symbol.TheVariants.{Char, SimpleEscape, DecimalEscape}
-use Rattle.dns_split.specs.Token.{IsWord}
+use Rattle.dns_lexer.specs.Token.{IsWord}
 use Rattle.dns_wire.specs.Printed.{joined_by}
 use Rattle.dns_wire.specs.Wire.{wire}
 use Rattle.dns_wire.specs.ZoneText.{is_zone_escape, zone_symbol, zone_label, zone_text}

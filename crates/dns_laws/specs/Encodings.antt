@@ -10,7 +10,7 @@ use Rattle.dns_symbol.specs.declared.error.SymbolCharsError.{SymbolCharsError}
 use Rattle.dns_codec.specs.Base.{Base, encoded}
 use Rattle.dns_codec.specs.Grammar.{Decodes, IsEncodingOf}
 use Rattle.dns_scan.specs.Join.{IsJoin, IsSymbols}
-use Rattle.dns_scan.specs.Octets.{GivesWhere}
+use Rattle.dns_scan.specs.Octets.{ReturnsWhere}
 use Rattle.dns_scan.specs.Tokens.{Token}
 use Rattle.dns_entry.specs.Codecs.{Codec, ConvertsTo}
 
@@ -76,9 +76,9 @@ pub record AnswersEncoding {O E : Type 0} (b : Base) (cause : E → Cause) (valu
 -- r is the result of parsing a token that is a text of an encoding: its octets, if they fit
 pub record EncodingBack {O E : Type 0} (b : Base) (cause : E → Cause) (value : O → List ℕ) (room : Room) (token : Token) (r : Result O E) : Type 0 where
   -- of any text of the encoding
-  pub whole : (octets : List ℕ) → IsEncodingOf b token octets → GivesWhere cause value room octets r
+  pub whole : (octets : List ℕ) → IsEncodingOf b token octets → ReturnsWhere cause value room octets r
   -- of the text that octets are printed as
-  pub back : (octets : List ℕ) → AllByRecursion (λ o. o < 256) octets → token ≡ encoded b octets → GivesWhere cause value room octets r
+  pub back : (octets : List ℕ) → AllByRecursion (λ o. o < 256) octets → token ≡ encoded b octets → ReturnsWhere cause value room octets r
   -- and else an error, with its cause
   pub answer : AnswersEncoding b cause value room token r
   -- no other token is accepted
@@ -87,9 +87,9 @@ pub record EncodingBack {O E : Type 0} (b : Base) (cause : E → Cause) (value :
 -- r is the result of parsing all remaining tokens, whose join is a text of an encoding
 pub record EntryBack {O E : Type 0} (b : Base) (cause : E → Cause) (value : O → List ℕ) (room : Room) (tokens : List Token) (r : Result O E) : Type 0 where
   -- of any text of the encoding, cut into tokens anywhere
-  pub whole : (octets : List ℕ) → AllByRecursion IsSymbols tokens → IsEncodingOf b (concat tokens) octets → GivesWhere cause value room octets r
+  pub whole : (octets : List ℕ) → AllByRecursion IsSymbols tokens → IsEncodingOf b (concat tokens) octets → ReturnsWhere cause value room octets r
   -- of the text that octets are printed as
-  pub back : (octets : List ℕ) → AllByRecursion (λ o. o < 256) octets → concat tokens ≡ encoded b octets → GivesWhere cause value room octets r
+  pub back : (octets : List ℕ) → AllByRecursion (λ o. o < 256) octets → concat tokens ≡ encoded b octets → ReturnsWhere cause value room octets r
   -- and else the error of the join as one token
   pub answer : (text : List ℕ) → IsJoin tokens text → AnswersEncoding b cause value room text r
   -- no other tokens are accepted

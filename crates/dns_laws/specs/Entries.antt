@@ -1,6 +1,6 @@
 -- The entries of a document, and the document of entries.
 use Rattle.std.specs.Prelude.{ℕ, List, [], ◌∷◌, ◌++◌, ◌≡◌, Result, IfOk, IsOk}
-use Rattle.dns_split.specs.Splitting.{Entries, with_token, SplitsOnlyInto}
+use Rattle.dns_lexer.specs.Splitting.{Entries, with_token, SplitsOnlyInto}
 use Rattle.dns_zone.specs.Layout.{Step, token, begin, end, comment, newline, layout, simple_piece}
 use Rattle.dns_zone.specs.Documents.{item_steps}
 use Rattle.dns_zone.specs.DocumentSteps.{document_steps}
@@ -40,5 +40,5 @@ abbrev pub item_entries : {A : Type 0} → List (Item A) → Entries
 item_entries items = document_entries (item_steps items)
 
 -- a text is accepted as a document, whose one step is the token of that text
-abbrev pub IsTakenAlone : {A E : Type 0} → List ℕ → Result (Document A) E → Type 0
-IsTakenAlone text taken = IsOk taken × IfOk taken (λ document. document_steps document ≡ token text ∷ [])
+abbrev pub IsAcceptedAlone : {A E : Type 0} → List ℕ → Result (Document A) E → Type 0
+IsAcceptedAlone text taken = IsOk taken × IfOk taken (λ document. document_steps document ≡ token text ∷ [])

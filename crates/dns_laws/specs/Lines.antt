@@ -2,14 +2,14 @@
 use Rattle.std.specs.Prelude.{⊤, ◌≡◌, ◌<◌, ◌⊎◌, ℕ, List, [], ◌∷◌, ◌++◌, length, map, Result, Ok}
 use Rattle.dns_octets.specs.Room.{Room}
 use Rattle.dns_symbol.specs.Characters.{double_quote}
-use Rattle.dns_split.specs.Splitting.{Entries}
-use Rattle.dns_split.specs.Token.{IsWord}
+use Rattle.dns_lexer.specs.Splitting.{Entries}
+use Rattle.dns_lexer.specs.Token.{IsWord}
 use Rattle.dns_symbol.specs.Cause.{Cause, short_buf, IsCause}
 use Rattle.dns_scan.specs.Tokens.{Token}
 use Rattle.dns_entry.specs.Field.{Content, number, hex_octets, base64_octets, text_octets, field_text, IsContent, IsPrintable, contents_of}
 use Rattle.dns_entry.specs.Line.{line_document}
 use Rattle.dns_entry.specs.EntryError.{IsEntryFault}
-use Rattle.dns_split.specs.declared.error.SplitError.TheVariants.{BadText, ShortBuf}
+use Rattle.dns_lexer.specs.declared.error.SplitError.TheVariants.{BadText, ShortBuf}
 use Rattle.dns_laws.specs.declared.lines.Refusal.{Refusal}
 use Rattle.dns_laws.specs.declared.lines.Refusal.TheVariants.{Line, Split}
 use Rattle.dns_entry.specs.declared.entry.FieldKind.{FieldKind}
@@ -41,20 +41,20 @@ kind_of (base64_octets os) = Base64
 kind_of (text_octets os) = Text
 
 -- the result has these octets, or is "short buffer" if they exceed the guaranteed capacity
-abbrev pub GivesOctets : {O E : Type 0} → (E → Cause) → (O → List ℕ) → Room → List ℕ → Result (Scanned O) E → Type 0
-GivesOctets {O} cause octets room os r = ((o : O) × (r ≡ Ok (Octets o)) × (octets o ≡ os)) ⊎ (IsCause cause r short_buf × (room.fits < length os))
+abbrev pub ReturnsOctets : {O E : Type 0} → (E → Cause) → (O → List ℕ) → Room → List ℕ → Result (Scanned O) E → Type 0
+ReturnsOctets {O} cause octets room os r = ((o : O) × (r ≡ Ok (Octets o)) × (octets o ≡ os)) ⊎ (IsCause cause r short_buf × (room.fits < length os))
 
 -- the result is the field's value, if its octets fit
-abbrev pub GivesField : {O E : Type 0} → (E → Cause) → (O → List ℕ) → Room → Content → Result (Scanned O) E → Type 0
-GivesField cause octets room (number n) r = r ≡ Ok (NumberScanned n)
-GivesField cause octets room (hex_octets os) r = GivesOctets cause octets room os r
-GivesField cause octets room (base64_octets os) r = GivesOctets cause octets room os r
-GivesField cause octets room (text_octets os) r = (r ≡ Ok (TextScanned os)) ⊎ (IsCause cause r short_buf × (room.fits < length os))
+abbrev pub ReturnsField : {O E : Type 0} → (E → Cause) → (O → List ℕ) → Room → Content → Result (Scanned O) E → Type 0
+ReturnsField cause octets room (number n) r = r ≡ Ok (NumberScanned n)
+ReturnsField cause octets room (hex_octets os) r = ReturnsOctets cause octets room os r
+ReturnsField cause octets room (base64_octets os) r = ReturnsOctets cause octets room os r
+ReturnsField cause octets room (text_octets os) r = (r ≡ Ok (TextScanned os)) ⊎ (IsCause cause r short_buf × (room.fits < length os))
 
 -- r is the result of parsing the token of a field of that kind: the field's value, if its octets fit
 abbrev pub KindBack : {O E : Type 0} → FieldKind → (E → Cause) → (O → List ℕ) → Room → Token → Result (Scanned O) E → Type 0
 KindBack kind cause octets room token r =
-    (field : Content) → IsContent field → IsPrintable field → kind_of field ≡ kind → IsScannedOf (field_text field) token → GivesField cause octets room field r
+    (field : Content) → IsContent field → IsPrintable field → kind_of field ≡ kind → IsScannedOf (field_text field) token → ReturnsField cause octets room field r
 
 -- the document of a line of fields
 abbrev pub fields_steps : {A : Type 0} → List (Field A) → List Step

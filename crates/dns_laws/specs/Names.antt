@@ -12,8 +12,8 @@ use Rattle.dns_scan.specs.Tokens.{Token}
 use Rattle.dns_iter.specs.Name.{invalid_name}
 
 -- the result is this name, or an error if its octets exceed the guaranteed capacity
-abbrev pub GivesName : {E : Type 0} → (E → Cause) → Room → List (List ℕ) → Result (List (List ℕ)) E → Type 0
-GivesName cause room name r = (r ≡ Ok name) ⊎ (IsCause cause r invalid_name × (room.fits < wire_length name))
+abbrev pub ReturnsName : {E : Type 0} → (E → Cause) → Room → List (List ℕ) → Result (List (List ℕ)) E → Type 0
+ReturnsName cause room name r = (r ≡ Ok name) ⊎ (IsCause cause r invalid_name × (room.fits < wire_length name))
 
 -- the result of parsing a token that is a name: that name, with the root appended if the text is relative
 pub record NameBack (O : Type 0) (Gives : List (List ℕ) → Type 0) (token : Token) : Type 0 where

@@ -7,13 +7,13 @@ use Rattle.dns_name.specs.Reading.{bracket, ReadsAs}
 use Rattle.dns_scan.specs.Numbers.{greatest}
 use Rattle.dns_scan.specs.Reads.{NumberReads}
 use Rattle.dns_scan.specs.Tokens.{Token}
-use Rattle.dns_spelling.specs.NameSpelling.{SpellsParts}
+use Rattle.rdata_tokens.specs.NameSpelling.{SpellsParts}
 use Rattle.dns_symbol.specs.Symbol.{is_printable}
 use Rattle.dns_name.specs.declared.name.UncertainName.TheVariants.{Relative}
 use Rattle.dns_wire.specs.Limits.{max_name}
 use Rattle.dns_wire.specs.Wire.{wire, wire_length}
-use Rattle.dns_fields.specs.Fields.{field_form}
-use Rattle.dns_fields.specs.declared.field.Field.{Field}
+use Rattle.rdata_fields.specs.Fields.{field_form}
+use Rattle.rdata_fields.specs.declared.field.Field.{Field}
 
 -- a text of printable ASCII
 abbrev pub IsPrintableText : List ℕ → Type 0

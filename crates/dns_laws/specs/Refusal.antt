@@ -1,7 +1,7 @@
 -- The errors of printing and splitting a list of items.
 use Rattle.std.specs.Prelude.{⊤, ℕ, List}
-use Rattle.dns_split.specs.Answer.{split_error_text}
-use Rattle.dns_split.specs.declared.error.SplitError.TheVariants.{BadText, ShortBuf}
+use Rattle.dns_lexer.specs.Answer.{split_error_text}
+use Rattle.dns_lexer.specs.declared.error.SplitError.TheVariants.{BadText, ShortBuf}
 use Rattle.dns_zone.specs.Layout.{Step}
 use Rattle.dns_zone.specs.Documents.{IsFaultIn, fault_text}
 use Rattle.dns_laws.specs.declared.layouts.Refusal.{Refusal}

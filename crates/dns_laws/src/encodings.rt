@@ -4,7 +4,7 @@ ghost use Rattle.dns_octets.specs.Room.{Room, exactly};
 ghost use Rattle.dns_codec.specs.Base.{Base, IsEncoding, base16, base32hex, base64, encoded};
 ghost use Rattle.dns_codec.specs.Grammar.{IsEncodingOf};
 ghost use Rattle.dns_symbol.specs.Cause.{Cause};
-ghost use Rattle.dns_scan.specs.Stands.{TakesAs};
+ghost use Rattle.dns_scan.specs.Unread.{ConsumesAs};
 ghost use Rattle.dns_scan.specs.Tokens.{Token};
 ghost use Rattle.dns_entry.specs.Codecs.{AnswersConverted, ConvertsTo, codec_of};
 ghost use Rattle.dns_laws.specs.Encodings.{AnswersEncoding, EncodingBack, ConvertsOnlyTo};
@@ -26,7 +26,7 @@ pub fn encoding_is_scanned_back<K: Encoding, S: Scanner>(
 ) -> Result<S::Octets, S::Error>
     requires { S.can_scan scanner.old }
     ensures ready { S.can_scan scanner.new }
-    ensures takes { TakesAs S.next_token
+    ensures takes { ConsumesAs S.next_token
         (EncodingBack K.base S.Error.cause S.Octets.octets S.OctetsBuilder.room)
         scanner.old result scanner.new }
 {
@@ -42,7 +42,7 @@ pub fn encoding_is_scanned_back<K: Encoding, S: Scanner>(
 pub fn hex_is_scanned_back<S: Scanner>(scanner: &mut S) -> Result<S::Octets, S::Error>
     requires { S.can_scan scanner.old }
     ensures ready { S.can_scan scanner.new }
-    ensures takes { TakesAs S.next_token
+    ensures takes { ConsumesAs S.next_token
         (EncodingBack base16 S.Error.cause S.Octets.octets S.OctetsBuilder.room)
         scanner.old result scanner.new }
 {
@@ -54,7 +54,7 @@ pub fn hex_is_scanned_back<S: Scanner>(scanner: &mut S) -> Result<S::Octets, S::
 pub fn base32hex_is_scanned_back<S: Scanner>(scanner: &mut S) -> Result<S::Octets, S::Error>
     requires { S.can_scan scanner.old }
     ensures ready { S.can_scan scanner.new }
-    ensures takes { TakesAs S.next_token
+    ensures takes { ConsumesAs S.next_token
         (EncodingBack base32hex S.Error.cause S.Octets.octets S.OctetsBuilder.room)
         scanner.old result scanner.new }
 {
@@ -67,7 +67,7 @@ pub fn base32hex_is_scanned_back<S: Scanner>(scanner: &mut S) -> Result<S::Octet
 pub fn base64_is_scanned_back<S: Scanner>(scanner: &mut S) -> Result<S::Octets, S::Error>
     requires { S.can_scan scanner.old }
     ensures ready { S.can_scan scanner.new }
-    ensures takes { TakesAs S.next_token
+    ensures takes { ConsumesAs S.next_token
         (EncodingBack base64 S.Error.cause S.Octets.octets S.OctetsBuilder.room)
         scanner.old result scanner.new }
 {

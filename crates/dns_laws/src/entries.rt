@@ -2,7 +2,7 @@
 ghost use Rattle.std.specs.Prelude.{List};
 ghost use Rattle.dns_codec.specs.Base.{base16, base32hex, base64};
 ghost use Rattle.dns_scan.specs.Join.{LeavesOf};
-ghost use Rattle.dns_scan.specs.Stands.{HasTokens};
+ghost use Rattle.dns_scan.specs.Unread.{HasTokens};
 ghost use Rattle.dns_scan.specs.Tokens.{Token};
 ghost use Rattle.dns_laws.specs.Encodings.{EntryBack};
 

@@ -1,8 +1,8 @@
 //! Laws of layouts and splitting.
 ghost use Rattle.std.specs.Prelude.{◌≡◌, ◌≢◌, ◌↔◌, ◌<◌, List, [], ℕ, All, IfOk, IfErr, IsOk, Some, string_bytes};
-ghost use Rattle.dns_split.specs.Answer.{entries_of};
-ghost use Rattle.dns_split.specs.Splitting.{BeginsNoBlank, Entries, Splits};
-ghost use Rattle.dns_split.specs.Token.{IsWord};
+ghost use Rattle.dns_lexer.specs.Answer.{entries_of};
+ghost use Rattle.dns_lexer.specs.Splitting.{BeginsNoBlank, Entries, Splits};
+ghost use Rattle.dns_lexer.specs.Token.{IsWord};
 ghost use Rattle.dns_wire.specs.Wire.{wire};
 ghost use Rattle.dns_wire.specs.ZoneText.{zone_text};
 ghost use Rattle.dns_zone.specs.Documents.{IsWellFormed, item_steps};
@@ -12,7 +12,7 @@ ghost use Rattle.dns_zone.specs.declared.zonefile_fmt.DisplayKind.{DisplayKind};
 ghost use Rattle.dns_laws.specs.Entries.{document_of, normal_text, MeansOnly, item_entries};
 ghost use Rattle.dns_laws.specs.Refusal.{IsDocumentRefusal};
 
-use dns_split::splitting::{SplitError, split};
+use dns_lexer::splitting::{SplitError, split};
 use dns_zone::document::{Document, DocumentError, Item};
 use dns_zone::tokens::ZoneTokens;
 use dns_zone::zonefile_fmt::{DisplayKind, ZonefileFmt};
@@ -104,7 +104,7 @@ impl fmt::Display for Refusal {
 impl Error for Refusal {}
 
 impl From<AllocError> for Refusal {
-    ghost use Rattle.dns_split.specs.declared.error.SplitError.TheVariants.{ShortBuf};
+    ghost use Rattle.dns_lexer.specs.declared.error.SplitError.TheVariants.{ShortBuf};
     ghost use Rattle.dns_laws.specs.declared.layouts.Refusal.TheVariants.{Split};
 
     ghost from_gives = { λ _ e. e ≡ Split ShortBuf };

@@ -1,9 +1,9 @@
 //! Laws of entry lines: each layout is one entry with a token for each field, and each token parses
 //! as its field.
 ghost use Rattle.std.specs.Prelude.{◌≡◌, List, IfErr, IfOk, IsOk, string_bytes};
-ghost use Rattle.dns_scan.specs.Stands.{TakesAs};
-ghost use Rattle.dns_split.specs.Answer.{entries_of};
-ghost use Rattle.dns_split.specs.Splitting.{SplitsOnlyInto};
+ghost use Rattle.dns_scan.specs.Unread.{ConsumesAs};
+ghost use Rattle.dns_lexer.specs.Answer.{entries_of};
+ghost use Rattle.dns_lexer.specs.Splitting.{SplitsOnlyInto};
 ghost use Rattle.dns_zone.specs.Printed.{printed};
 ghost use Rattle.dns_zone.specs.declared.zonefile_fmt.DisplayKind.{DisplayKind};
 ghost use Rattle.dns_entry.specs.Field.{Content, contents_of};
@@ -15,10 +15,10 @@ use crate::layouts::values_split;
 use dns_charstr::charstr::CharStr;
 use dns_entry::entry::{EntryError, EntryLine, Field, FieldKind};
 use dns_entry::laws::lines_are_lines;
+use dns_lexer::splitting::{SplitError, split};
 use dns_octets::AsOctets;
 use dns_scan::laws::character_strings_are_scanned_back;
 use dns_scan::{Scan, Scanner};
-use dns_split::splitting::{SplitError, split};
 use dns_zone::zonefile_fmt::DisplayKind;
 use std::alloc::{AllocError, Allocator};
 
@@ -101,7 +101,7 @@ pub fn fields_are_scanned_back<S: Scanner>(
 ) -> Result<Scanned<S::Octets>, S::Error>
     requires { S.can_scan scanner.old }
     ensures ready { S.can_scan scanner.new }
-    ensures takes { TakesAs S.next_token
+    ensures takes { ConsumesAs S.next_token
         (KindBack kind S.Error.cause S.Octets.octets S.OctetsBuilder.room)
         scanner.old result scanner.new }
 {

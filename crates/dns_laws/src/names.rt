@@ -1,8 +1,8 @@
 //! Laws of the presentation format of names.
 ghost use Rattle.std.specs.Prelude.{◌≡◌, ◌≤◌, Ok};
-ghost use Rattle.dns_scan.specs.Stands.{TakesOne};
+ghost use Rattle.dns_scan.specs.Unread.{ConsumesOne};
 ghost use Rattle.dns_wire.specs.Wire.{wire_length};
-ghost use Rattle.dns_laws.specs.Names.{GivesName, NameBack};
+ghost use Rattle.dns_laws.specs.Names.{ReturnsName, NameBack};
 ghost use Rattle.dns_iter.specs.TokenNext.{token_next};
 
 use dns_iter::{IterScanner, ScanOctets};
@@ -20,8 +20,8 @@ pub fn names_are_scanned_back<
 >(scanner: &mut IterScanner<Iter, Octets, E>) -> Result<Name<Octets>, E>
     requires { ⟦<IterScanner<Iter, Octets, E> as Scanner>⟧.can_scan scanner.old }
     ensures ready { ⟦<IterScanner<Iter, Octets, E> as Scanner>⟧.can_scan scanner.new }
-    ensures takes { TakesOne (token_next Iter.next_gives) scanner.old scanner.new
-        (NameBack Octets (λ name. GivesName E.cause Octets.Builder.room name result)) }
+    ensures takes { ConsumesOne (token_next Iter.next_gives) scanner.old scanner.new
+        (NameBack Octets (λ name. ReturnsName E.cause Octets.Builder.room name result)) }
 {
     scanner.scan_name()
 }
@@ -37,7 +37,7 @@ pub fn fitting_names_are_answered<
 >(scanner: &mut IterScanner<Iter, Octets, E>) -> Result<Name<Octets>, E>
     requires { ⟦<IterScanner<Iter, Octets, E> as Scanner>⟧.can_scan scanner.old }
     ensures ready { ⟦<IterScanner<Iter, Octets, E> as Scanner>⟧.can_scan scanner.new }
-    ensures takes { TakesOne (token_next Iter.next_gives) scanner.old scanner.new
+    ensures takes { ConsumesOne (token_next Iter.next_gives) scanner.old scanner.new
         (NameBack Octets (λ name. wire_length name ≤ Octets.Builder.room.fits → result ≡ Ok name)) }
 {
     names_are_scanned_back(scanner)

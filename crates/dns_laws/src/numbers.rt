@@ -3,7 +3,7 @@ ghost use Rattle.std.specs.Prelude.{◌≡◌, ℕ, List, ◌∷◌, Result};
 ghost use Rattle.std.proofs.Common.{lit<};
 ghost use Rattle.dns_symbol.specs.Cause.{Cause};
 ghost use Rattle.dns_scan.specs.Numbers.{greatest};
-ghost use Rattle.dns_scan.specs.Stands.{TakesAs};
+ghost use Rattle.dns_scan.specs.Unread.{ConsumesAs};
 ghost use Rattle.dns_scan.specs.Tokens.{Token};
 ghost use Rattle.dns_laws.specs.Numbers.{NumberBack};
 ghost use Rattle.dns_laws.specs.NumberLaws.{read_of};
@@ -81,7 +81,7 @@ impl<S: Scanner> Number<S> for Ttl {
 pub fn number_is_scanned_back<N: Number<S>, S: Scanner>(scanner: &mut S) -> Result<N, S::Error>
     requires { S.can_scan scanner.old }
     ensures ready { S.can_scan scanner.new }
-    ensures takes { TakesAs S.next_token (NumberBack N.limit N.number S.Error.cause)
+    ensures takes { ConsumesAs S.next_token (NumberBack N.limit N.number S.Error.cause)
         scanner.old result scanner.new }
 {
     N::scan(scanner)

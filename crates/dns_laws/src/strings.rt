@@ -2,7 +2,7 @@
 ghost use Rattle.std.specs.Prelude.{◌<◌, length, IfOk};
 ghost use Rattle.dns_zone.specs.Layout.{token};
 ghost use Rattle.dns_scan.specs.Octets.{unquoted_token};
-ghost use Rattle.dns_laws.specs.Entries.{IsTakenAlone};
+ghost use Rattle.dns_laws.specs.Entries.{IsAcceptedAlone};
 
 use dns_charstr::charstr::CharStr;
 use dns_octets::AsOctets;
@@ -15,7 +15,7 @@ pub fn unquoted_text_is_a_token<A: Allocator + Copy, Octs: AsOctets>(
     string: &CharStr<Octs>,
 ) -> Result<Result<Document<A>, (DocumentError, Vec<Item<A>, A>)>, AllocError>
     requires { 0 < length string.now }
-    ensures { IfOk result (λ taken. IsTakenAlone (unquoted_token string.now) taken) }
+    ensures { IfOk result (λ taken. IsAcceptedAlone (unquoted_token string.now) taken) }
 {
     let _octets = string.as_slice();
     let mut items = Vec::new(alloc);

@@ -19,7 +19,7 @@ use Rattle.dns_wire.specs.Wire.{wire_length}
 use Rattle.dns_wire.specs.Building.{Naming, closed, all_labels, with_octet, ended, no_labels}
 use Rattle.dns_wire.proofs.Wires.{wire_length_append}
 use Rattle.dns_name.specs.Reading.{is_dot, HasNamed, HasNamedBefore, ReadsName, ReadsChars}
-use Rattle.dns_name.specs.ReadingSteps.{TakesSymbol, GivesOctet, MakesAbsolute, Finishes}
+use Rattle.dns_name.specs.ReadingSteps.{PushesSymbol, SymbolHasOctet, MakesAbsolute, Finishes}
 use Rattle.dns_name.specs.declared.name.UncertainName.{UncertainName}
 use Rattle.dns_name.specs.declared.name.UncertainName.TheVariants.{Absolute, Relative}
 use Rattle.dns_name.specs.declared.name.error.FromStrError.{FromStrError}
@@ -39,7 +39,7 @@ module _ {S : Type 0} (steps : S → Option ℕ → S → Type 0) where
     pub within : wire_length (all_labels b) ≤ room.capacity
 
   module _ (room : Room) (s t u : S) (b : Naming) (h : Taken room s t b) where
-    pub taken_octet : (x : Symbol) (octet : ℕ) → (is_readable x ≡ true) × Yields steps t (spell x) u → is_dot x ≡ false → GivesOctet b x octet
+    pub taken_octet : (x : Symbol) (octet : ℕ) → (is_readable x ≡ true) × Yields steps t (spell x) u → is_dot x ≡ false → SymbolHasOctet b x octet
         → wire_length (all_labels (with_octet b octet)) ≤ 254 → length b.current < 63 → wire_length (all_labels (with_octet b octet)) ≤ room.capacity
         → Taken room s u (with_octet b octet)
     taken_octet x octet read no_dot gives fits short within = record {
@@ -85,11 +85,11 @@ module _ {S : Type 0} (steps : S → Option ℕ → S → Type 0) where
 
     module _ (O : Type 0) where
       pub refused_symbol : (x : Symbol) (e : FromStrError) (new : Naming) → (is_readable x ≡ true) × Yields steps t (spell x) u → is_dot x ≡ false
-          → TakesSymbol room b x (Err e) new → ReadsChars {O = O} steps s room (Err e)
+          → PushesSymbol room b x (Err e) new → ReadsChars {O = O} steps s room (Err e)
       refused_symbol x e new read no_dot refuses =
           (h.taken ++ spell x, inr (u, joined h.taken (spell x) s t u h.given read.1, λ more. by e (before x more read.0 no_dot) refuses))
         where
-          by : {text : List ℕ} (e : FromStrError) → HasNamedBefore text b.labels b.current x → TakesSymbol room b x (Err e) new
+          by : {text : List ℕ} (e : FromStrError) → HasNamedBefore text b.labels b.current x → PushesSymbol room b x (Err e) new
               → ReadsName {O = O} room text (Err e)
           by {text} BinaryLabel f r =
               (b.labels, subst (λ y. HasNamedBefore text b.labels [] y) r.1 (subst (λ c. HasNamedBefore text b.labels c x) r.0 f), within_closed r.0)

@@ -14,24 +14,24 @@ use Rattle.dns_name.specs.declared.name.error.FromStrError.TheVariants.{Symbol a
 use Rattle.dns_wire.specs.Limits.{max_label, max_relative}
 
 -- the symbol has that octet, and may come next
-abbrev pub GivesOctet : Naming → Symbol → ℕ → Type 0
-GivesOctet b x octet = (octet_of x ≡ Ok octet) × (b.current ≡ [] → x ≢ bracket)
+abbrev pub SymbolHasOctet : Naming → Symbol → ℕ → Type 0
+SymbolHasOctet b x octet = (octet_of x ≡ Ok octet) × (b.current ≡ [] → x ≢ bracket)
 
 -- the result of a symbol other than a plain dot, and the state of the builder after it
-abbrev pub TakesSymbol : Room → Naming → Symbol → Result (Unit {0}) FromStrError → Naming → Type 0
-TakesSymbol room b x (Ok _) new =
-    (octet : ℕ) × GivesOctet b x octet × (new ≡ with_octet b octet) × (wire_length (all_labels (with_octet b octet)) ≤ max_relative)
+abbrev pub PushesSymbol : Room → Naming → Symbol → Result (Unit {0}) FromStrError → Naming → Type 0
+PushesSymbol room b x (Ok _) new =
+    (octet : ℕ) × SymbolHasOctet b x octet × (new ≡ with_octet b octet) × (wire_length (all_labels (with_octet b octet)) ≤ max_relative)
     × (length b.current < max_label) × (wire_length (all_labels (with_octet b octet)) ≤ room.capacity)
-TakesSymbol room b x (Err BinaryLabel) new = (b.current ≡ []) × (x ≡ bracket)
-TakesSymbol room b x (Err BadOctet) new = (e : BadSymbol) × (octet_of x ≡ Err e)
-TakesSymbol room b x (Err LongName) new = (octet : ℕ) × GivesOctet b x octet × (max_relative < wire_length (all_labels (with_octet b octet)))
-TakesSymbol room b x (Err LongLabel) new =
-    (octet : ℕ) × GivesOctet b x octet × (wire_length (all_labels (with_octet b octet)) ≤ max_relative) × (max_label ≤ length b.current)
-TakesSymbol room b x (Err ShortBuf) new =
-    (octet : ℕ) × GivesOctet b x octet × (wire_length (all_labels (with_octet b octet)) ≤ max_relative) × (length b.current < max_label)
+PushesSymbol room b x (Err BinaryLabel) new = (b.current ≡ []) × (x ≡ bracket)
+PushesSymbol room b x (Err BadOctet) new = (e : BadSymbol) × (octet_of x ≡ Err e)
+PushesSymbol room b x (Err LongName) new = (octet : ℕ) × SymbolHasOctet b x octet × (max_relative < wire_length (all_labels (with_octet b octet)))
+PushesSymbol room b x (Err LongLabel) new =
+    (octet : ℕ) × SymbolHasOctet b x octet × (wire_length (all_labels (with_octet b octet)) ≤ max_relative) × (max_label ≤ length b.current)
+PushesSymbol room b x (Err ShortBuf) new =
+    (octet : ℕ) × SymbolHasOctet b x octet × (wire_length (all_labels (with_octet b octet)) ≤ max_relative) × (length b.current < max_label)
     × (room.fits < wire_length (all_labels (with_octet b octet)))
-TakesSymbol room b x (Err EmptyLabel) new = ⊥
-TakesSymbol room b x (Err (NoSymbol e)) new = ⊥
+PushesSymbol room b x (Err EmptyLabel) new = ⊥
+PushesSymbol room b x (Err (NoSymbol e)) new = ⊥
 
 module _ {O : Type 0} where
   -- the result of appending the root after the labels

@@ -10,5 +10,5 @@ abbrev pub rest : Parsing → List ℕ
 rest p = drop p.place p.octets
 
 -- the same octets, with the offset increased by a count
-abbrev pub gone_on : ℕ → Parsing → Parsing
-gone_on count p = record p { place = p.place + count }
+abbrev pub advanced_by : ℕ → Parsing → Parsing
+advanced_by count p = record p { place = p.place + count }

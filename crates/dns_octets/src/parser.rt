@@ -1,6 +1,6 @@
 //! A parser that reads octets from the beginning.
 ghost use Rattle.std.specs.Prelude.{◌≡◌, ◌∷◌, ◌≤◌, ◌<◌, ◌↔◌, length, take, IsOk, IfOk, is_ok, if◌then◌else◌};
-ghost use Rattle.dns_octets.specs.Parsing.{Parsing, rest, gone_on};
+ghost use Rattle.dns_octets.specs.Parsing.{Parsing, rest, advanced_by};
 
 pub use crate::error::ParseError;
 use std::marker::Model;
@@ -48,7 +48,7 @@ impl<'a> Parser<'a> {
     /// Skips `len` octets. Fails with [`ParseError::ShortInput`] if fewer remain.
     pub fn advance(&mut self, len: usize) -> Result<(), ParseError>
         ensures ok { IsOk result ↔ (len ≤ length (rest self.old)) }
-        ensures moved { self.new ≡ (if is_ok result then gone_on len self.old else self.old) }
+        ensures moved { self.new ≡ (if is_ok result then advanced_by len self.old else self.old) }
     {
         self.parse_octets(len)?;
         Ok(())
@@ -58,7 +58,7 @@ impl<'a> Parser<'a> {
     pub fn parse_u8(&mut self) -> Result<u8, ParseError>
         ensures ok { IsOk result ↔ (1 ≤ length (rest self.old)) }
         ensures value { IfOk result (λ octet. rest self.old ≡ octet ∷ rest self.new) }
-        ensures moved { self.new ≡ (if is_ok result then gone_on 1 self.old else self.old) }
+        ensures moved { self.new ≡ (if is_ok result then advanced_by 1 self.old else self.old) }
     {
         let octets = self.parse_octets(1)?;
         Ok(octets[0])
@@ -68,7 +68,7 @@ impl<'a> Parser<'a> {
     pub fn parse_octets(&mut self, len: usize) -> Result<&'a [u8], ParseError>
         ensures ok { IsOk result ↔ (len ≤ length (rest self.old)) }
         ensures value { IfOk result (λ octets. octets.now ≡ take len (rest self.old)) }
-        ensures moved { self.new ≡ (if is_ok result then gone_on len self.old else self.old) }
+        ensures moved { self.new ≡ (if is_ok result then advanced_by len self.old else self.old) }
     {
         let left = self.peek_all();
         if left.len() < len {

@@ -11,8 +11,8 @@ use Rattle.dns_symbol.proofs.Unique.{symbols_same}
 use Rattle.dns_symbol.specs.Cause.{Cause, custom_text, short_buf}
 use Rattle.dns_scan.specs.Tokens.{Token}
 use Rattle.dns_scan.specs.Asks.{Builds, CallsEach, EndsAfterSymbols}
-use Rattle.dns_scan.specs.Steps.{GivesStep, AppendsSymbol}
-use Rattle.dns_scan.specs.Answers.{IsSymbolFault, FirstFault, AllGiven, AnswersGiven}
+use Rattle.dns_scan.specs.Steps.{HasStepOctets, AppendsSymbol}
+use Rattle.dns_scan.specs.Answers.{IsSymbolFault, FirstFault, AllOctetsFit, AnswersOctets}
 
 module _ {E : Type 0} (cause : E → Cause) (given : Symbol → Result (List ℕ) (List ℕ)) (room : Room) where
   -- all went well from b on
@@ -48,7 +48,7 @@ module _ {E : Type 0} (cause : E → Cause) (given : Symbol → Result (List ℕ
   refused b c e (Err text) h = h.0
 
   run_answer : (symbols : List Symbol) (error : Option SymbolCharsError) (b c : List ℕ) (u : Result (Unit {0}) E) → length b ≤ room.capacity
-      → CallsEach (GivesStep cause room given) symbols (EndsAfterSymbols cause error) b u c
+      → CallsEach (HasStepOctets cause room given) symbols (EndsAfterSymbols cause error) b u c
       → MatchResult u (λ _. Went symbols error b c) (λ e. Stopped symbols error b (cause e))
   run_answer [] None b c (Ok v) small h = record { parts = []; gives = refl; joined = h.0 ∙ sym (append-nil b); ends = refl; fits = omega (arith, ap length h.0) }
   run_answer [] None b c (Err e) small h = let z = h.1 in cc
@@ -83,22 +83,22 @@ module _ {E : Type 0} (cause : E → Cause) (given : Symbol → Result (List ℕ
             fault = subst (λ n. IsSymbolFault given room n rest.rest error (cause e)) count rest.fault;
           }
 
-      stopped : (u : Result (Unit {0}) E) → IsErr u → GivesStep cause room given b x u c → MatchResult u (λ _. Went (x ∷ xs) error b c) (λ e. Stopped (x ∷ xs) error b (cause e))
+      stopped : (u : Result (Unit {0}) E) → IsErr u → HasStepOctets cause room given b x u c → MatchResult u (λ _. Went (x ∷ xs) error b c) (λ e. Stopped (x ∷ xs) error b (cause e))
       stopped (Ok v) is k = cc
       stopped (Err e) is k = record { front = []; rest = x ∷ xs; parts = []; whole = refl; gives = refl; fits = omega arith; fault = refused b c e (given x) k }
 
   -- what was built of a token is the answer of its symbols
-  pub builds_answer : {O : Type 0} (octets : O → List ℕ) (t : Token) (r : Result O E) → Builds cause (GivesStep cause room given) octets t r
-      → (symbols : List Symbol) (error : Option SymbolCharsError) → SymbolsOf t symbols error → AnswersGiven given room cause octets symbols error r
+  pub builds_answer : {O : Type 0} (octets : O → List ℕ) (t : Token) (r : Result O E) → Builds cause (HasStepOctets cause room given) octets t r
+      → (symbols : List Symbol) (error : Option SymbolCharsError) → SymbolsOf t symbols error → AnswersOctets given room cause octets symbols error r
   builds_answer {O} octets t r h symbols error read =
       let same = symbols_same t h.asks.symbols symbols h.asks.error error h.asks.read read in
-      let ran : CallsEach (GivesStep cause room given) symbols (EndsAfterSymbols cause error) [] h.answer h.built =
-      subst (λ ss. CallsEach (GivesStep cause room given) ss (EndsAfterSymbols cause error) [] h.answer h.built) same.0
-      (subst (λ e. CallsEach (GivesStep cause room given) h.asks.symbols (EndsAfterSymbols cause e) [] h.answer h.built) same.1 h.asks.asked) in
+      let ran : CallsEach (HasStepOctets cause room given) symbols (EndsAfterSymbols cause error) [] h.answer h.built =
+      subst (λ ss. CallsEach (HasStepOctets cause room given) ss (EndsAfterSymbols cause error) [] h.answer h.built) same.0
+      (subst (λ e. CallsEach (HasStepOctets cause room given) h.asks.symbols (EndsAfterSymbols cause e) [] h.answer h.built) same.1 h.asks.asked) in
       by h.answer r h.gives (run_answer symbols error [] h.built h.answer (omega arith) ran)
     where
       by : (u : Result (Unit {0}) E) (r : Result O E) → MatchResult u (λ _. IsOkAnd r (λ x. octets x ≡ h.built)) (λ e. r ≡ Err e)
-          → MatchResult u (λ _. Went symbols error [] h.built) (λ e. Stopped symbols error [] (cause e)) → AnswersGiven given room cause octets symbols error r
+          → MatchResult u (λ _. Went symbols error [] h.built) (λ e. Stopped symbols error [] (cause e)) → AnswersOctets given room cause octets symbols error r
       by (Ok v) (Ok x) g k = record { parts = k.parts; gives = k.gives; joined = g ∙ k.joined; ends = k.ends; fits = omega (arith, ap length g, k.fits) }
       by (Ok v) (Err e) g k = absurd g
       by (Err f) (Ok x) g k = cc
@@ -116,13 +116,13 @@ module _ {E : Type 0} (cause : E → Cause) (given : Symbol → Result (List ℕ
           }
 
   -- the same, with the symbols that were read
-  pub builds_read : {O : Type 0} (octets : O → List ℕ) (t : Token) (r : Result O E) → Builds cause (GivesStep cause room given) octets t r
-      → (symbols : List Symbol) × (error : Option SymbolCharsError) × SymbolsOf t symbols error × AnswersGiven given room cause octets symbols error r
+  pub builds_read : {O : Type 0} (octets : O → List ℕ) (t : Token) (r : Result O E) → Builds cause (HasStepOctets cause room given) octets t r
+      → (symbols : List Symbol) × (error : Option SymbolCharsError) × SymbolsOf t symbols error × AnswersOctets given room cause octets symbols error r
   builds_read octets t r h = (h.asks.symbols, h.asks.error, h.asks.read, builds_answer octets t r h h.asks.symbols h.asks.error h.asks.read)
 
 -- unless an allocation fails, a builder of smaller guaranteed capacity has the result of a full one
 module _ (given : Symbol → Result (List ℕ) (List ℕ)) (room : Room) (size : ℕ) (small : room.capacity ≤ size) (symbols : List Symbol) (error : Option SymbolCharsError) where
-  pub all_given_in : (octets : List ℕ) → AllGiven given room symbols error octets → AllGiven given (exactly size) symbols error octets
+  pub all_given_in : (octets : List ℕ) → AllOctetsFit given room symbols error octets → AllOctetsFit given (exactly size) symbols error octets
   all_given_in octets h = record { parts = h.parts; gives = h.gives; joined = h.joined; ends = h.ends; fits = omega (arith, small, h.fits) }
 
   fault_in : (count : ℕ) (rest : List Symbol) (why : Cause) → IsSymbolFault given room count rest error why → IsSymbolFault given (exactly size) count rest error why ⊎ (why ≡ short_buf)

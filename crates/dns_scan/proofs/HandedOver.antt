@@ -11,7 +11,7 @@ use Rattle.dns_scan.specs.Asks.{CallsEachSymbol, CallsEach, EndsAfterSymbols}
 use Rattle.dns_symbol.specs.Cause.{Cause}
 use Rattle.dns_scan.specs.Entries.{AsksToken, ScansEntry}
 use Rattle.dns_scan.specs.Join.{CallsTokens, handed_over}
-use Rattle.dns_scan.specs.Stands.{HasTokens}
+use Rattle.dns_scan.specs.Unread.{HasTokens}
 use Rattle.dns_scan.specs.Tokens.{Token}
 use Rattle.dns_scan.proofs.InTurn.{in_turn}
 use Rattle.dns_scan.proofs.Whole.{not_err}

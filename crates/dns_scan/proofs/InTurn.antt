@@ -1,19 +1,19 @@
 -- The effect of an entry call on a scanner, as calls for the tokens that remain.
 use Rattle.std.proofs.Common.{List, [], ◌∷◌, ◌++◌, ◌≡◌, refl, sym, ap, subst, inl, inr, ⊎_elim, Option, Some, None, Result, Ok, Err}
 use Rattle.std.specs.Prelude.{IsErr, IsOk, MatchResult}
-use Rattle.dns_scan.specs.Entries.{TakesEach, ScansEntry}
+use Rattle.dns_scan.specs.Entries.{ScansEach, ScansEntry}
 use Rattle.dns_scan.specs.Join.{CallsTokens, LeavesOf}
-use Rattle.dns_scan.specs.Stands.{HasTokens, stands_takes}
+use Rattle.dns_scan.specs.Unread.{HasTokens, consumes_first}
 use Rattle.dns_scan.specs.Tokens.{Token}
 
 module _ {S F E : Type 0} (next : S → Option Token → S → Type 0) (call : F → Token → Result (Unit {0}) E → F → Type 0) where
-  takes_in_turn : (ts : List Token) (s : S) (f : F) (r : Result (Unit {0}) E) (u : S) (g : F) → TakesEach next call ts s f r u g → (tokens : List Token) → HasTokens next s tokens
+  takes_in_turn : (ts : List Token) (s : S) (f : F) (r : Result (Unit {0}) E) (u : S) (g : F) → ScansEach next call ts s f r u g → (tokens : List Token) → HasTokens next s tokens
       → (rest : List Token) × CallsTokens call tokens f r rest g × HasTokens next u rest
-  takes_in_turn [] s f r u g h [] stands = let took = stands_takes next s [] None u stands h.0 in ([], (h.2, refl, h.1), took.1)
-  takes_in_turn [] s f r u g h (x ∷ xs) stands = let took = (stands_takes next s (x ∷ xs) None u stands h.0).0 in cc took
-  takes_in_turn (t ∷ ts) s f r u g h [] stands = let took = (stands_takes next s [] (Some t) h.0 stands h.1).0 in cc took
+  takes_in_turn [] s f r u g h [] stands = let took = consumes_first next s [] None u stands h.0 in ([], (h.2, refl, h.1), took.1)
+  takes_in_turn [] s f r u g h (x ∷ xs) stands = let took = (consumes_first next s (x ∷ xs) None u stands h.0).0 in cc took
+  takes_in_turn (t ∷ ts) s f r u g h [] stands = let took = (consumes_first next s [] (Some t) h.0 stands h.1).0 in cc took
   takes_in_turn (t ∷ ts) s f r u g h (x ∷ xs) stands =
-      let took = stands_takes next s (x ∷ xs) (Some t) h.0 stands h.1 in
+      let took = consumes_first next s (x ∷ xs) (Some t) h.0 stands h.1 in
       let same : t ≡ x = let is = took.0 in cc is in
       ⊎_elim
       (λ k. let more = takes_in_turn ts h.0 k.0 r u g k.2 xs took.1 in (more.0, inl (k.0, subst (λ a. call f a (Ok tt) k.0) same k.1, more.1), more.2))

@@ -17,7 +17,7 @@ use Rattle.dns_scan.specs.Asks.{CallsEachSymbol, CallsEach, EndsAfterSymbols}
 use Rattle.dns_symbol.specs.Cause.{Cause}
 use Rattle.dns_scan.specs.Entries.{Converts, ConvertsEntry, ConvertInEntry}
 use Rattle.dns_scan.specs.Join.{CallsTokens, HasBadEscape, IsJoin, IsSymbols, LeavesOf}
-use Rattle.dns_scan.specs.Stands.{HasTokens}
+use Rattle.dns_scan.specs.Unread.{HasTokens}
 use Rattle.dns_scan.specs.Tokens.{Token}
 use Rattle.dns_scan.proofs.InTurn.{in_turn, leaves, ok_before}
 use Rattle.dns_scan.proofs.Whole.{not_err}

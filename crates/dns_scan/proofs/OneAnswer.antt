@@ -8,10 +8,10 @@ use Rattle.dns_symbol.specs.declared.symbol.Symbol.{Symbol}
 use Rattle.dns_symbol.specs.declared.error.SymbolCharsError.{SymbolCharsError}
 use Rattle.dns_symbol.specs.Symbol.{chars_error_text}
 use Rattle.dns_symbol.proofs.Unique.{symbols_same}
-use Rattle.dns_scan.specs.Answers.{IsSymbolFault, FirstFault, AllGiven, AnswersGiven}
+use Rattle.dns_scan.specs.Answers.{IsSymbolFault, FirstFault, AllOctetsFit, AnswersOctets}
 use Rattle.dns_symbol.specs.Cause.{Cause, custom_text, short_buf}
 use Rattle.dns_scan.specs.Reads.{OctetsRead}
-use Rattle.dns_scan.specs.Steps.{octet_given}
+use Rattle.dns_scan.specs.Steps.{step_octet}
 use Rattle.dns_scan.specs.Tokens.{Token}
 
 module _ (given : Symbol → Result (List ℕ) (List ℕ)) (size : ℕ) where
@@ -56,7 +56,7 @@ module _ (given : Symbol → Result (List ℕ) (List ℕ)) (size : ℕ) where
       ap (λ l. fault_of 0 l error) h.whole ∙ passed h.front h.rest error h.parts 0 h.gives (omega (arith, h.fits))
       ∙ at_fault (0 + length (concat h.parts)) h.rest error why (subst (λ n. IsSymbolFault given (exactly size) n h.rest error why) (omega arith) h.fault)
 
-  none_refused : (symbols : List Symbol) (error : Option SymbolCharsError) (octets : List ℕ) → AllGiven given (exactly size) symbols error octets → fault_of 0 symbols error ≡ None
+  none_refused : (symbols : List Symbol) (error : Option SymbolCharsError) (octets : List ℕ) → AllOctetsFit given (exactly size) symbols error octets → fault_of 0 symbols error ≡ None
   none_refused symbols error octets h =
       ap (λ l. fault_of 0 l error) (sym (append-nil symbols)) ∙ passed symbols [] error h.parts 0 h.gives (omega (arith, h.fits, ap length h.joined))
       ∙ ap (λ e. fault_of (0 + length (concat h.parts)) [] e) h.ends
@@ -79,8 +79,8 @@ module _ (given : Symbol → Result (List ℕ) (List ℕ)) (size : ℕ) where
   clash x why none some = cc
 
   -- two answers are one
-  pub one_answer : (symbols : List Symbol) (error : Option SymbolCharsError) (q r : Result (List ℕ) Cause) → AnswersGiven given (exactly size) (λ why. why) (λ s. s) symbols error q
-      → AnswersGiven given (exactly size) (λ why. why) (λ s. s) symbols error r → q ≡ r
+  pub one_answer : (symbols : List Symbol) (error : Option SymbolCharsError) (q r : Result (List ℕ) Cause) → AnswersOctets given (exactly size) (λ why. why) (λ s. s) symbols error q
+      → AnswersOctets given (exactly size) (λ why. why) (λ s. s) symbols error r → q ≡ r
   one_answer symbols error (Ok a) (Ok b) h k = ap (λ o. Ok o) (h.joined ∙ ap concat (same_parts symbols h.parts k.parts h.gives k.gives) ∙ sym k.joined)
   one_answer symbols error (Ok a) (Err e) h k = absurd (clash _ e (none_refused symbols error a h) (refused_by symbols error e k))
   one_answer symbols error (Err d) (Ok b) h k = absurd (clash _ d (none_refused symbols error b k) (refused_by symbols error d h))
@@ -92,5 +92,5 @@ module _ (given : Symbol → Result (List ℕ) (List ℕ)) (size : ℕ) where
 pub one_reading : (size : ℕ) (token : Token) (q r : Result (List ℕ) Cause) → OctetsRead (exactly size) token q → OctetsRead (exactly size) token r → q ≡ r
 one_reading size token q r h k =
     let same = symbols_same token h.0 k.0 h.1 k.1 h.2 k.2 in
-    one_answer octet_given size k.0 k.1 q r
-    (subst (λ e. AnswersGiven octet_given (exactly size) (λ why. why) (λ s. s) k.0 e q) same.1 (subst (λ xs. AnswersGiven octet_given (exactly size) (λ why. why) (λ s. s) xs h.1 q) same.0 h.3)) k.3
+    one_answer step_octet size k.0 k.1 q r
+    (subst (λ e. AnswersOctets step_octet (exactly size) (λ why. why) (λ s. s) k.0 e q) same.1 (subst (λ xs. AnswersOctets step_octet (exactly size) (λ why. why) (λ s. s) xs h.1 q) same.0 h.3)) k.3

@@ -13,8 +13,8 @@ use Rattle.dns_charstr.specs.Reading.{HasOctets}
 use Rattle.dns_charstr.specs.Wire.{wire_of}
 use Rattle.dns_scan.specs.Answers.{FirstFault, IsSymbolFault}
 use Rattle.dns_symbol.specs.Cause.{Cause, custom_text, short_buf}
-use Rattle.dns_scan.specs.Octets.{GivesWhere, IsPrinted, quoted_token, unquoted_token}
-use Rattle.dns_scan.specs.Steps.{octet_given, bad_or}
+use Rattle.dns_scan.specs.Octets.{ReturnsWhere, IsPrinted, quoted_token, unquoted_token}
+use Rattle.dns_scan.specs.Steps.{step_octet, bad_or}
 use Rattle.dns_scan.specs.Strings.{AnswersStrings, IsStringFault}
 use Rattle.dns_scan.specs.Tokens.{Token}
 use Rattle.dns_scan.proofs.OneAnswer.{one_reading, same_parts}
@@ -28,7 +28,7 @@ concat_ones : (os : List ℕ) → concat (ones os) ≡ os
 concat_ones [] = refl
 concat_ones (o ∷ os) = ap (λ l. o ∷ l) (concat_ones os)
 
-given_ones : (symbols : List Symbol) (os : List ℕ) → map octet_of symbols ≡ map Ok os → map octet_given symbols ≡ map Ok (ones os)
+given_ones : (symbols : List Symbol) (os : List ℕ) → map octet_of symbols ≡ map Ok os → map step_octet symbols ≡ map Ok (ones os)
 given_ones [] [] e = refl
 given_ones [] (o ∷ os) e = cc
 given_ones (x ∷ xs) [] e = cc
@@ -70,13 +70,13 @@ module _ (given : Symbol → Result (List ℕ) (List ℕ)) (room : Room) where
       (short.0, omega (arith, short.1, split.2))
 
 -- a token has one list of octets
-given_same : (symbols : List Symbol) (a b : List ℕ) → map octet_given symbols ≡ map Ok (ones a) → map octet_given symbols ≡ map Ok (ones b) → a ≡ b
-given_same symbols a b h k = sym (concat_ones a) ∙ ap concat (same_parts octet_given 0 symbols (ones a) (ones b) h k) ∙ concat_ones b
+given_same : (symbols : List Symbol) (a b : List ℕ) → map step_octet symbols ≡ map Ok (ones a) → map step_octet symbols ≡ map Ok (ones b) → a ≡ b
+given_same symbols a b h k = sym (concat_ones a) ∙ ap concat (same_parts step_octet 0 symbols (ones a) (ones b) h k) ∙ concat_ones b
 
 octets_same : (t : Token) (a b : List ℕ) → HasOctets t a → HasOctets t b → a ≡ b
 octets_same t a b h k =
     let same = symbols_same t h.symbols k.symbols None None h.read k.read in
-    given_same k.symbols a b (subst (λ ss. map octet_given ss ≡ map Ok (ones a)) same.0 (given_ones h.symbols a h.octets_are)) (given_ones k.symbols b k.octets_are)
+    given_same k.symbols a b (subst (λ ss. map step_octet ss ≡ map Ok (ones a)) same.0 (given_ones h.symbols a h.octets_are)) (given_ones k.symbols b k.octets_are)
 
 pub strings_same : (tokens : List Token) (a b : List (List ℕ)) → AllZip HasOctets tokens a → AllZip HasOctets tokens b → a ≡ b
 strings_same [] [] [] h k = refl
@@ -110,9 +110,9 @@ module _ (room : Room) where
   pub string_fault : (t : Token) (o : List ℕ) (count : ℕ) (why : Cause) → HasOctets t o → Short o → IsStringFault room count t why → (why ≡ short_buf) × (room.fits < count + length (wire_of o))
   string_fault t o count why has short (inl h) =
       let same = symbols_same t h.0 has.symbols h.1 None h.2 has.read in
-      let fault : FirstFault octet_given (within 255 room) has.symbols None why =
-      subst (λ ss. FirstFault octet_given (within 255 room) ss None why) same.0 (subst (λ e. FirstFault octet_given (within 255 room) h.0 e why) same.1 h.3) in
-      let no = fault_given octet_given (within 255 room) has.symbols (ones o) why (given_ones has.symbols o has.octets_are) fault in
+      let fault : FirstFault step_octet (within 255 room) has.symbols None why =
+      subst (λ ss. FirstFault step_octet (within 255 room) ss None why) same.0 (subst (λ e. FirstFault step_octet (within 255 room) h.0 e why) same.1 h.3) in
+      let no = fault_given step_octet (within 255 room) has.symbols (ones o) why (given_ones has.symbols o has.octets_are) fault in
       (no.0, less (length (concat (ones o))) (ap length (concat_ones o)) no.1)
     where
       less : (n : ℕ) → n ≡ length o → min room.fits 255 < n → room.fits < count + length (wire_of o)
@@ -120,8 +120,8 @@ module _ (room : Room) where
   string_fault t o count why has short (inr h) =
       let same = symbols_same t h.1.0 has.symbols h.1.1 None h.1.2 has.read in
       let given = h.1.3 in
-      let gives : map octet_given has.symbols ≡ map Ok given.parts = subst (λ ss. map octet_given ss ≡ map Ok given.parts) same.0 given.gives in
-      let parts = same_parts octet_given 0 has.symbols given.parts (ones o) gives (given_ones has.symbols o has.octets_are) in
+      let gives : map step_octet has.symbols ≡ map Ok given.parts = subst (λ ss. map step_octet ss ≡ map Ok given.parts) same.0 given.gives in
+      let parts = same_parts step_octet 0 has.symbols given.parts (ones o) gives (given_ones has.symbols o has.octets_are) in
       let is : h.0 ≡ o = given.joined ∙ ap concat parts ∙ concat_ones o in
       (h.2, omega (arith, h.3, ap length is))
 
@@ -137,7 +137,7 @@ module _ (room : Room) where
 
   -- tokens that are character strings are parsed as their wire formats, or fail with "short buffer"
   pub strings_whole : {O E : Type 0} (cause : E → Cause) (value : O → List ℕ) (tokens : List Token) (strings : List (List ℕ)) (r : Result O E) (rest : List Token)
-      → AllZip HasOctets tokens strings → All Short strings → AnswersStrings room cause value tokens r rest → GivesWhere cause value room (wires strings) r
+      → AllZip HasOctets tokens strings → All Short strings → AnswersStrings room cause value tokens r rest → ReturnsWhere cause value room (wires strings) r
   strings_whole cause value tokens strings (Ok x) rest read short h = inl (h.0.joined ∙ ap wires (strings_same tokens h.0.strings strings h.0.read read))
   strings_whole cause value tokens strings (Err e) rest read short h =
       let cut = cut_at h.front h.token rest strings (subst (λ (l : List Token). AllZip HasOctets l strings) h.whole read) short in
@@ -146,7 +146,7 @@ module _ (room : Room) where
       inr (no.0, omega (arith, no.1, cut.5, ap length h.before.joined, ap (λ l. length (wires l)) same))
 
   pub strings_printed : {O E : Type 0} (cause : E → Cause) (value : O → List ℕ) (tokens : List Token) (strings : List (List ℕ)) (r : Result O E) (rest : List Token)
-      → AllZip IsPrinted tokens strings → All (All (λ o. o < 256)) strings → All Short strings → AnswersStrings room cause value tokens r rest → GivesWhere cause value room (wires strings) r
+      → AllZip IsPrinted tokens strings → All (All (λ o. o < 256)) strings → All Short strings → AnswersStrings room cause value tokens r rest → ReturnsWhere cause value room (wires strings) r
   strings_printed cause value tokens strings r rest printed bytes short h = strings_whole cause value tokens strings r rest (printed_read tokens strings printed bytes) short h
 
 -- if the capacity is known exactly, parsing tokens has one result
@@ -195,7 +195,7 @@ module _ (size : ℕ) where
   not_both tokens a e rest others h k =
       by (strings_whole (exactly size) (λ why. why) (λ s. s) tokens h.0.strings (Err e) others h.0.read h.0.short k)
     where
-      by : GivesWhere {O = List ℕ} (λ why. why) (λ s. s) (exactly size) (wires h.0.strings) (Err e) → ⊥
+      by : ReturnsWhere {O = List ℕ} (λ why. why) (λ s. s) (exactly size) (wires h.0.strings) (Err e) → ⊥
       by (inl is) = absurd is
       by (inr is) = omega (arith, is.1, h.1, ap length h.0.joined)
 

@@ -8,7 +8,7 @@ use Rattle.dns_symbol.specs.Cause.{Cause, end_of_entry}
 use Rattle.dns_scan.specs.Kinds.{KindReads, ReadsAsKind}
 use Rattle.dns_scan.specs.Numbers.{by_cause, greatest}
 use Rattle.dns_scan.specs.Reads.{NameReads, NumberReads, OctetsRead, ReadInOneWay, ReadsBoth, ReadsEach, ReadsFirstToken, ReadsInOneWay, ReadsInTurn}
-use Rattle.dns_scan.specs.Stands.{first_of}
+use Rattle.dns_scan.specs.Unread.{first_of}
 use Rattle.dns_scan.specs.Tokens.{Token}
 use Rattle.dns_scan.proofs.Once.{numbers_once}
 use Rattle.dns_scan.proofs.OneAnswer.{one_reading}

@@ -4,13 +4,13 @@ use Rattle.std.specs.Prelude.{IsErrAnd, MatchOption}
 use Rattle.dns_octets.specs.Room.{Room}
 use Rattle.dns_symbol.specs.declared.symbol.Symbol.{Symbol}
 use Rattle.dns_symbol.specs.declared.error.SymbolCharsError.{SymbolCharsError}
-use Rattle.dns_scan.specs.Answers.{AnswersGiven}
+use Rattle.dns_scan.specs.Answers.{AnswersOctets}
 use Rattle.dns_scan.specs.Asks.{Builds}
 use Rattle.dns_symbol.specs.Cause.{Cause, end_of_entry, IsCause}
 use Rattle.dns_scan.specs.Numbers.{ScannedNumber, by_cause}
 use Rattle.dns_scan.specs.Reads.{ReadsEach, ReadsInTurn, ReadsFirstToken, NumberReads, OctetsRead}
-use Rattle.dns_scan.specs.Stands.{HasTokens, stands_takes, others_of}
-use Rattle.dns_scan.specs.Steps.{GivesStep, octet_given}
+use Rattle.dns_scan.specs.Unread.{HasTokens, consumes_first, others_of}
+use Rattle.dns_scan.specs.Steps.{HasStepOctets, step_octet}
 use Rattle.dns_scan.specs.Tokens.{Token, ScansToken}
 use Rattle.dns_scan.proofs.Answered.{builds_read}
 
@@ -19,7 +19,7 @@ module _ {S V E : Type 0} (next : S → Option Token → S → Type 0) (cause : 
   pub reads_first : (old : S) (r : Result V E) (new : S) → ScansToken next cause answers old r new → (tokens : List Token) → HasTokens next old tokens
       → (rest : List Token) × ReadsFirstToken reads tokens (by_cause cause r) rest × HasTokens next new rest
   reads_first old r new scans tokens stands =
-      let took = stands_takes next old tokens scans.token new stands scans.taken in
+      let took = consumes_first next old tokens scans.token new stands scans.taken in
       (others_of tokens, (subst (λ o. MatchOption o (by_cause cause r ≡ Err end_of_entry) (λ t. reads t (by_cause cause r))) took.0 (by scans.token r scans.answer), refl), took.1)
     where
       by : (o : Option Token) (r : Result V E) → MatchOption o (IsCause cause r end_of_entry) (λ t. answers t r) → MatchOption o (by_cause cause r ≡ Err end_of_entry) (λ t. reads t (by_cause cause r))
@@ -28,11 +28,11 @@ module _ {S V E : Type 0} (next : S → Option Token → S → Type 0) (cause : 
       by (Some t) r h = shows t r h
 
 module _ {E : Type 0} (cause : E → Cause) where
-  pub octets_show : (room : Room) (t : Token) (r : Result (List ℕ) E) → Builds cause (GivesStep cause room octet_given) (λ s. s) t r → OctetsRead room t (by_cause cause r)
-  octets_show room t r h = let read = builds_read cause octet_given room (λ s. s) t r h in (read.0, read.1, read.2, by r read.0 read.1 read.3)
+  pub octets_show : (room : Room) (t : Token) (r : Result (List ℕ) E) → Builds cause (HasStepOctets cause room step_octet) (λ s. s) t r → OctetsRead room t (by_cause cause r)
+  octets_show room t r h = let read = builds_read cause step_octet room (λ s. s) t r h in (read.0, read.1, read.2, by r read.0 read.1 read.3)
     where
-      by : (r : Result (List ℕ) E) (symbols : List Symbol) (error : Option SymbolCharsError) → AnswersGiven octet_given room cause (λ s. s) symbols error r
-          → AnswersGiven octet_given room (λ why. why) (λ s. s) symbols error (by_cause cause r)
+      by : (r : Result (List ℕ) E) (symbols : List Symbol) (error : Option SymbolCharsError) → AnswersOctets step_octet room cause (λ s. s) symbols error r
+          → AnswersOctets step_octet room (λ why. why) (λ s. s) symbols error (by_cause cause r)
       by (Ok v) symbols error k = k
       by (Err e) symbols error k = k
 
@@ -52,9 +52,9 @@ module _ {S E : Type 0} (next : S → Option Token → S → Type 0) (cause : E 
   number_refused limit old e (Err y) new same scans =
       number_first limit old (Err y) new (subst (λ (x : E). ScansToken next cause (ScannedNumber cause limit) old (Err x) new) (sym same) scans)
 
-  pub octets_first : (room : Room) (old : S) (r : Result (List ℕ) E) (new : S) → ScansToken next cause (Builds cause (GivesStep cause room octet_given) (λ s. s)) old r new
+  pub octets_first : (room : Room) (old : S) (r : Result (List ℕ) E) (new : S) → ScansToken next cause (Builds cause (HasStepOctets cause room step_octet) (λ s. s)) old r new
       → (tokens : List Token) → HasTokens next old tokens → (rest : List Token) × ReadsFirstToken (OctetsRead room) tokens (by_cause cause r) rest × HasTokens next new rest
-  octets_first room = reads_first next cause (Builds cause (GivesStep cause room octet_given) (λ s. s)) (OctetsRead room) (octets_show cause room)
+  octets_first room = reads_first next cause (Builds cause (HasStepOctets cause room step_octet) (λ s. s)) (OctetsRead room) (octets_show cause room)
 
 -- readings in turn, from the first one on
 module _ {V : Type 0} (reads : List Token → Result V Cause → List Token → Type 0) where

@@ -13,8 +13,8 @@ use Rattle.dns_symbol.specs.Cause.{Cause, short_buf, IsCause}
 use Rattle.dns_scan.specs.Entries.{BuildsEntry, StringStep}
 use Rattle.dns_scan.specs.Join.{CallsTokens, LeavesOf}
 use Rattle.dns_scan.specs.Reads.{OctetsRead}
-use Rattle.dns_scan.specs.Stands.{HasTokens}
-use Rattle.dns_scan.specs.Steps.{GivesStep, octet_given}
+use Rattle.dns_scan.specs.Unread.{HasTokens}
+use Rattle.dns_scan.specs.Steps.{HasStepOctets, step_octet}
 use Rattle.dns_scan.specs.Strings.{AnswersStrings, IsStringFault}
 use Rattle.dns_scan.specs.Tokens.{Token}
 use Rattle.dns_scan.proofs.InTurn.{in_turn, leaves, ok_before}
@@ -62,7 +62,7 @@ module _ {E : Type 0} (cause : E → Cause) (room : Room) where
   step_read : (b : List ℕ) (t : Token) (r : Result (Unit {0}) E) (c : List ℕ) → StringStep cause room b t r c → One b t r c
   step_read b t r c h = by h.answer h.built (record { answer = h.answer; built = h.built; asks = h.asks; gives = replied h.answer h.built }) r h.gives
     where
-      by : (a : Result (Unit {0}) E) (built : List ℕ) → Builds cause (GivesStep cause (within 255 room) octet_given) (λ s. s) t (reply a built) → (r : Result (Unit {0}) E)
+      by : (a : Result (Unit {0}) E) (built : List ℕ) → Builds cause (HasStepOctets cause (within 255 room) step_octet) (λ s. s) t (reply a built) → (r : Result (Unit {0}) E)
           → MatchResult a (λ _. ((r ≡ Ok tt) × (c ≡ b ++ wire_of built) × (length c ≤ room.capacity)) ⊎ (IsCause cause r short_buf × (room.fits < length b + length (wire_of built))))
           (λ e. (r ≡ Err e) × (c ≡ b))
           → One b t r c

@@ -12,20 +12,20 @@ use Rattle.dns_charstr.specs.Reading.{HasOctets}
 use Rattle.dns_symbol.specs.Cause.{Cause, short_buf, IsCause}
 use Rattle.dns_scan.specs.Join.{LeavesOf}
 use Rattle.dns_scan.specs.Reads.{OctetsRead, ReadsFirstToken, ReadsSome, ReadsRest}
-use Rattle.dns_scan.specs.Stands.{HasTokens}
-use Rattle.dns_scan.specs.Steps.{octet_given, bad_or}
+use Rattle.dns_scan.specs.Unread.{HasTokens}
+use Rattle.dns_scan.specs.Steps.{step_octet, bad_or}
 use Rattle.dns_scan.specs.Tokens.{Token}
 use Rattle.dns_scan.proofs.OneEntry.{strings_same, string_fault, cut_at}
 use Rattle.dns_scan.proofs.StringRuns.{Short}
 
 -- the octets of symbols, from those of each
-octets_of : (symbols : List Symbol) (parts : List (List ℕ)) → map octet_given symbols ≡ map Ok parts → map octet_of symbols ≡ map Ok (concat parts)
+octets_of : (symbols : List Symbol) (parts : List (List ℕ)) → map step_octet symbols ≡ map Ok parts → map octet_of symbols ≡ map Ok (concat parts)
 octets_of [] [] e = refl
 octets_of [] (p ∷ ps) e = cc
 octets_of (x ∷ xs) [] e = cc
 octets_of (x ∷ xs) (p ∷ ps) e =
-    let first : octet_given x ≡ Ok p = cc in
-    let others : map octet_given xs ≡ map Ok ps = cc in
+    let first : step_octet x ≡ Ok p = cc in
+    let others : map step_octet xs ≡ map Ok ps = cc in
     by (octet_of x) refl first (octets_of xs ps others)
   where
     by : (q : Result ℕ BadSymbol) → octet_of x ≡ q → bad_or (λ n. n ∷ []) q ≡ Ok p → map octet_of xs ≡ map Ok (concat ps) → map octet_of (x ∷ xs) ≡ map Ok (p ++ concat ps)

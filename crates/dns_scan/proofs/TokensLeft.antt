@@ -3,12 +3,12 @@ use Rattle.std.proofs.Common.{◌≡◌, List, [], ◌∷◌, ◌++◌, true, fa
 use Rattle.std.specs.Prelude.{◌≢◌, is_some, IsOkAnd, MatchOption, MatchResult}
 use Rattle.dns_symbol.specs.Cause.{Cause}
 use Rattle.dns_scan.specs.Reads.{ReadsRest, ReadsSome}
-use Rattle.dns_scan.specs.Stands.{HasTokens, stands_takes, stands_same, first_of}
+use Rattle.dns_scan.specs.Unread.{HasTokens, consumes_first, consumes_none, first_of}
 use Rattle.dns_scan.specs.Tokens.{Token, Peeks}
 
 -- a look ahead finds the first token, and consumes none
 pub peeked : {S : Type 0} (next : S → Option Token → S → Type 0) (u v : S) (o : Option Token) (ts : List Token) → HasTokens next u ts → Peeks next u v o → (o ≡ first_of ts) × HasTokens next v ts
-peeked next u v o ts stands p = let at = stands_same next u v ts stands p.same in ((stands_takes next v ts o p.shown.0 at p.shown.1).0, at)
+peeked next u v o ts stands p = let at = consumes_none next u v ts stands p.same in ((consumes_first next v ts o p.shown.0 at p.shown.1).0, at)
 
 pub none_left : (ts : List Token) (o : Option Token) → o ≡ first_of ts → false ≡ is_some o → ts ≡ []
 none_left [] o is h = refl

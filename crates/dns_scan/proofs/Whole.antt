@@ -14,10 +14,10 @@ use Rattle.dns_symbol.proofs.PrintedForms.{IsForm, printed_symbols, printed_octe
 use Rattle.dns_symbol.specs.Cause.{Cause, short_buf, end_of_entry, IsCause}
 use Rattle.dns_scan.specs.Tokens.{Token, ScansToken}
 use Rattle.dns_scan.specs.Asks.{Builds, CallsEach, EndsAfterSymbols}
-use Rattle.dns_scan.specs.Steps.{GivesStep, AppendsSymbol, octet_given, bad_or}
+use Rattle.dns_scan.specs.Steps.{HasStepOctets, AppendsSymbol, step_octet, bad_or}
 use Rattle.dns_charstr.specs.Reading.{HasOctets}
-use Rattle.dns_scan.specs.Octets.{GivesWhere}
-use Rattle.dns_scan.specs.Stands.{HasTokens, stands_takes}
+use Rattle.dns_scan.specs.Octets.{ReturnsWhere}
+use Rattle.dns_scan.specs.Unread.{HasTokens, consumes_first}
 
 pub not_err : {E : Type 0} (u : Result (Unit {0}) E) → u ≡ Ok tt → IsErr u → ⊥
 not_err (Ok v) e h = cc
@@ -26,7 +26,7 @@ not_err (Err x) e h = cc
 module _ {E : Type 0} (cause : E → Cause) (room : Room) where
   -- octets of symbols that all have one: all were appended, or some didn't fit
   run_whole : (symbols : List Symbol) (os : List ℕ) (b c : List ℕ) (u : Result (Unit {0}) E) → map octet_of symbols ≡ map Ok os
-      → CallsEach (GivesStep cause room octet_given) symbols (EndsAfterSymbols cause None) b u c
+      → CallsEach (HasStepOctets cause room step_octet) symbols (EndsAfterSymbols cause None) b u c
       → ((u ≡ Ok tt) × (c ≡ b ++ os)) ⊎ (IsCause cause u short_buf × (room.fits < length b + length os))
   run_whole [] [] b c u is h = inl (h.1, h.0 ∙ sym (append-nil b))
   run_whole [] (o ∷ os) b c u is h = cc
@@ -53,7 +53,7 @@ module _ {E : Type 0} (cause : E → Cause) (room : Room) where
       appended o b c r a = a
 
   -- octets of a whole run, and their count
-  run_ok : (symbols : List Symbol) (e : Option SymbolCharsError) (b c : List ℕ) → length b ≤ room.capacity → CallsEach (GivesStep cause room octet_given) symbols (EndsAfterSymbols cause e) b (Ok tt) c
+  run_ok : (symbols : List Symbol) (e : Option SymbolCharsError) (b c : List ℕ) → length b ≤ room.capacity → CallsEach (HasStepOctets cause room step_octet) symbols (EndsAfterSymbols cause e) b (Ok tt) c
       → (os : List ℕ) × (map octet_of symbols ≡ map Ok os) × (c ≡ b ++ os) × (e ≡ None) × (length c ≤ room.capacity)
   run_ok [] None b c small h = ([], refl, h.0 ∙ sym (append-nil b), refl, omega (arith, ap length h.0))
   run_ok [] (Some e) b c small h = absurd h.1
@@ -71,34 +71,34 @@ module _ {E : Type 0} (cause : E → Cause) (room : Room) where
       given b c (Err e) h = absurd h.0
 
   module _ {O : Type 0} (octets : O → List ℕ) (t : Token) where
-    pub builds_whole : (r : Result O E) → Builds cause (GivesStep cause room octet_given) octets t r → (symbols : List Symbol) (os : List ℕ) → SymbolsOf t symbols None
-        → map octet_of symbols ≡ map Ok os → GivesWhere cause octets room os r
+    pub builds_whole : (r : Result O E) → Builds cause (HasStepOctets cause room step_octet) octets t r → (symbols : List Symbol) (os : List ℕ) → SymbolsOf t symbols None
+        → map octet_of symbols ≡ map Ok os → ReturnsWhere cause octets room os r
     builds_whole r h symbols os read is =
         let same = symbols_same t h.asks.symbols symbols h.asks.error None h.asks.read read in
-        let ran : CallsEach (GivesStep cause room octet_given) symbols (EndsAfterSymbols cause None) [] h.answer h.built =
-        subst (λ ss. CallsEach (GivesStep cause room octet_given) ss (EndsAfterSymbols cause None) [] h.answer h.built) same.0
-        (subst (λ e. CallsEach (GivesStep cause room octet_given) h.asks.symbols (EndsAfterSymbols cause e) [] h.answer h.built) same.1 h.asks.asked) in
+        let ran : CallsEach (HasStepOctets cause room step_octet) symbols (EndsAfterSymbols cause None) [] h.answer h.built =
+        subst (λ ss. CallsEach (HasStepOctets cause room step_octet) ss (EndsAfterSymbols cause None) [] h.answer h.built) same.0
+        (subst (λ e. CallsEach (HasStepOctets cause room step_octet) h.asks.symbols (EndsAfterSymbols cause e) [] h.answer h.built) same.1 h.asks.asked) in
         by h.answer h.gives (run_whole symbols os _ h.built h.answer is ran)
       where
         by : (u : Result (Unit {0}) E) → MatchResult u (λ _. IsOkAnd r (λ x. octets x ≡ h.built)) (λ e. r ≡ Err e)
-            → ((u ≡ Ok tt) × (h.built ≡ os)) ⊎ (IsCause cause u short_buf × (room.fits < 0 + length os)) → GivesWhere cause octets room os r
+            → ((u ≡ Ok tt) × (h.built ≡ os)) ⊎ (IsCause cause u short_buf × (room.fits < 0 + length os)) → ReturnsWhere cause octets room os r
         by (Ok v) g (inl k) = inl (rw k.1 at g)
         by (Ok v) g (inr k) = absurd k.0
         by (Err e) g (inl k) = let z = k.0 in cc
         by (Err e) g (inr k) = inr (rw g k.0, omega (arith, k.1))
 
-    pub builds_only : (r : Result O E) → Builds cause (GivesStep cause room octet_given) octets t r → (symbols : List Symbol) (error : Option SymbolCharsError) → SymbolsOf t symbols error
+    pub builds_only : (r : Result O E) → Builds cause (HasStepOctets cause room step_octet) octets t r → (symbols : List Symbol) (error : Option SymbolCharsError) → SymbolsOf t symbols error
         → IfOk r (λ x. (error ≡ None) × (map octet_of symbols ≡ map Ok (octets x)) × (length (octets x) ≤ room.capacity))
     builds_only (Err e) h symbols error read = tt
     builds_only (Ok x) h symbols error read =
         let same = symbols_same t h.asks.symbols symbols h.asks.error error h.asks.read read in
-        let ran : CallsEach (GivesStep cause room octet_given) symbols (EndsAfterSymbols cause error) [] h.answer h.built =
-        subst (λ ss. CallsEach (GivesStep cause room octet_given) ss (EndsAfterSymbols cause error) [] h.answer h.built) same.0
-        (subst (λ e. CallsEach (GivesStep cause room octet_given) h.asks.symbols (EndsAfterSymbols cause e) [] h.answer h.built) same.1 h.asks.asked) in
+        let ran : CallsEach (HasStepOctets cause room step_octet) symbols (EndsAfterSymbols cause error) [] h.answer h.built =
+        subst (λ ss. CallsEach (HasStepOctets cause room step_octet) ss (EndsAfterSymbols cause error) [] h.answer h.built) same.0
+        (subst (λ e. CallsEach (HasStepOctets cause room step_octet) h.asks.symbols (EndsAfterSymbols cause e) [] h.answer h.built) same.1 h.asks.asked) in
         by h.answer (Ok x) refl h.gives ran
       where
         by : (u : Result (Unit {0}) E) (r : Result O E) → r ≡ Ok x → MatchResult u (λ _. IsOkAnd r (λ y. octets y ≡ h.built)) (λ e. r ≡ Err e)
-            → CallsEach (GivesStep cause room octet_given) symbols (EndsAfterSymbols cause error) [] u h.built
+            → CallsEach (HasStepOctets cause room step_octet) symbols (EndsAfterSymbols cause error) [] u h.built
             → (error ≡ None) × (map octet_of symbols ≡ map Ok (octets x)) × (length (octets x) ≤ room.capacity)
         by (Ok v) (Ok y) is g k =
             let ran = run_ok symbols error [] h.built (omega arith) k in
@@ -112,18 +112,18 @@ module _ {E : Type 0} (cause : E → Cause) (room : Room) where
 pub of_first : {S V E : Type 0} (next : S → Option Token → S → Type 0) (cause : E → Cause) (answers : Token → Result V E → Type 0)
     (old : S) (r : Result V E) (new : S) (t : Token) (ts : List Token) → HasTokens next old (t ∷ ts) → ScansToken next cause answers old r new → answers t r × HasTokens next new ts
 of_first next cause answers old r new t ts stands scans =
-    let took = stands_takes next old (t ∷ ts) scans.token new stands scans.taken in
+    let took = consumes_first next old (t ∷ ts) scans.token new stands scans.taken in
     let answered : answers t r = subst (λ o. MatchOption o (IsCause cause r end_of_entry) (λ t. answers t r)) took.0 scans.answer in
     (answered, took.1)
 
 -- a call for the octets of one token, the next of the scanner
 module _ {S O E : Type 0} (next : S → Option Token → S → Type 0) (cause : E → Cause) (room : Room) (octets : O → List ℕ)
-    (old : S) (r : Result O E) (new : S) (scans : ScansToken next cause (Builds cause (GivesStep cause room octet_given) octets) old r new) where
-  pub scans_whole : (t : Token) (ts : List Token) (os : List ℕ) → HasTokens next old (t ∷ ts) → HasOctets t os → GivesWhere cause octets room os r
+    (old : S) (r : Result O E) (new : S) (scans : ScansToken next cause (Builds cause (HasStepOctets cause room step_octet) octets) old r new) where
+  pub scans_whole : (t : Token) (ts : List Token) (os : List ℕ) → HasTokens next old (t ∷ ts) → HasOctets t os → ReturnsWhere cause octets room os r
   scans_whole t ts os stands has = builds_whole cause room octets t r (of_first next cause _ old r new t ts stands scans).0 has.symbols os has.read has.octets_are
 
   pub scans_printed : (f : ℕ → Bool) → IsForm f → (os : List ℕ) (ts : List Token) → All (λ o. o < 256) os → HasTokens next old (encode_utf8_all (text_of f os) ∷ ts)
-      → GivesWhere cause octets room os r
+      → ReturnsWhere cause octets room os r
   scans_printed f form os ts bytes stands =
       scans_whole (encode_utf8_all (text_of f os)) ts os stands (record { symbols = map (symbol_of f) os; read = printed_symbols f form os bytes; octets_are = printed_octets f os })
 

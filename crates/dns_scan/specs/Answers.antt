@@ -26,7 +26,7 @@ module _ (given : Symbol → Result (List ℕ) (List ℕ)) (room : Room) where
     pub fault : IsSymbolFault (length (concat parts)) rest error c
 
   -- the octets of all symbols joined: nothing else is in the token, and they fit
-  pub record AllGiven (symbols : List Symbol) (error : Option SymbolCharsError) (octets : List ℕ) : Type 0 where
+  pub record AllOctetsFit (symbols : List Symbol) (error : Option SymbolCharsError) (octets : List ℕ) : Type 0 where
     pub parts : List (List ℕ)
     pub gives : map given symbols ≡ map Ok parts
     pub joined : octets ≡ concat parts
@@ -34,5 +34,5 @@ module _ (given : Symbol → Result (List ℕ) (List ℕ)) (room : Room) where
     pub fits : length octets ≤ room.capacity
 
   -- the answer: all octets, or the first error
-  abbrev pub AnswersGiven : {O E : Type 0} → (E → Cause) → (O → List ℕ) → List Symbol → Option SymbolCharsError → Result O E → Type 0
-  AnswersGiven cause value symbols error r = MatchResult r (λ x. AllGiven symbols error (value x)) (λ e. FirstFault symbols error (cause e))
+  abbrev pub AnswersOctets : {O E : Type 0} → (E → Cause) → (O → List ℕ) → List Symbol → Option SymbolCharsError → Result O E → Type 0
+  AnswersOctets cause value symbols error r = MatchResult r (λ x. AllOctetsFit symbols error (value x)) (λ e. FirstFault symbols error (cause e))

@@ -8,7 +8,7 @@ use Rattle.dns_symbol.specs.Cause.{Cause, custom_text, end_of_entry, IsCause}
 use Rattle.dns_scan.specs.Tokens.{Token}
 use Rattle.dns_octets.specs.Room.{Room, within}
 use Rattle.dns_charstr.specs.Limits.{max_string}
-use Rattle.dns_scan.specs.Steps.{GivesStep, octet_given, text_given}
+use Rattle.dns_scan.specs.Steps.{HasStepOctets, step_octet, step_text}
 
 module _ {F X E : Type 0} (step : F → X → Result (Unit {0}) E → F → Type 0) where
   -- f was called for each of xs in order, until it failed with r; without an error r ends as Last states
@@ -46,7 +46,7 @@ pub record Builds {O E : Type 0} (cause : E → Cause) (step : List ℕ → Symb
 
 -- the octets of a token's symbols, in a builder with that room
 abbrev pub BuildsOctets : {O E : Type 0} → (E → Cause) → Room → (O → List ℕ) → Token → Result O E → Type 0
-BuildsOctets cause room = Builds cause (GivesStep cause room octet_given)
+BuildsOctets cause room = Builds cause (HasStepOctets cause room step_octet)
 
 -- the same of a character string, which has at most 255
 abbrev pub BuildsString : {E : Type 0} → (E → Cause) → Room → Token → Result (List ℕ) E → Type 0
@@ -54,4 +54,4 @@ BuildsString cause room = BuildsOctets cause (within max_string room) (λ s. s)
 
 -- the characters of a token's symbols, in UTF-8
 abbrev pub BuildsText : {E : Type 0} → (E → Cause) → Room → Token → Result (List ℕ) E → Type 0
-BuildsText cause room = Builds cause (GivesStep cause room text_given) (λ s. s)
+BuildsText cause room = Builds cause (HasStepOctets cause room step_text) (λ s. s)

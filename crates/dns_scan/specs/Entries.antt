@@ -9,20 +9,20 @@ use Rattle.dns_charstr.specs.Wire.{wire_of}
 use Rattle.dns_symbol.specs.Cause.{Cause, custom_text, short_buf, IsCause}
 use Rattle.dns_scan.specs.Tokens.{Token}
 use Rattle.dns_scan.specs.Asks.{CallsEachSymbol}
-use Rattle.dns_scan.specs.Steps.{Adds, GivesStep, octet_given, text_given}
+use Rattle.dns_scan.specs.Steps.{Adds, HasStepOctets, step_octet, step_text}
 use Rattle.dns_charstr.specs.Limits.{max_string}
 
 -- each token in order is consumed and passed to a call, until one is rejected: that is the last one, and without an error none remains
 module _ {S F E : Type 0} (next : S → Option Token → S → Type 0) (call : F → Token → Result (Unit {0}) E → F → Type 0) where
-  abbrev pub TakesEach : List Token → S → F → Result (Unit {0}) E → S → F → Type 0
-  TakesEach [] s f r u g = next s None u × (g ≡ f) × (r ≡ Ok tt)
-  TakesEach (t ∷ ts) s f r u g = (m : S) × next s (Some t) m × (((h : F) × call f t (Ok tt) h × TakesEach ts m h r u g) ⊎ (IsErr r × call f t r g × (u ≡ m)))
+  abbrev pub ScansEach : List Token → S → F → Result (Unit {0}) E → S → F → Type 0
+  ScansEach [] s f r u g = next s None u × (g ≡ f) × (r ≡ Ok tt)
+  ScansEach (t ∷ ts) s f r u g = (m : S) × next s (Some t) m × (((h : F) × call f t (Ok tt) h × ScansEach ts m h r u g) ⊎ (IsErr r × call f t r g × (u ≡ m)))
 
 -- a call that consumes all tokens, up to the first that is rejected
 pub record ScansEntry {S F E : Type 0} (next : S → Option Token → S → Type 0) (call : F → Token → Result (Unit {0}) E → F → Type 0)
     (old : S) (f : F) (r : Result (Unit {0}) E) (new : S) (g : F) : Type 0 where
   pub tokens : List Token
-  pub taken : TakesEach next call tokens old f r new g
+  pub taken : ScansEach next call tokens old f r new g
 
 -- the symbols of a token and then its end, until one is rejected
 abbrev pub AsksToken : {F E : Type 0} → (E → Cause) → (F → EntrySymbol → Result (Unit {0}) E → F → Type 0) → F → Token → Result (Unit {0}) E → F → Type 0
@@ -66,7 +66,7 @@ module _ {E : Type 0} (cause : E → Cause) (room : Room) where
   pub record StringStep (b : List ℕ) (t : Token) (r : Result (Unit {0}) E) (c : List ℕ) : Type 0 where
     pub answer : Result (Unit {0}) E
     pub built : List ℕ
-    pub asks : CallsEachSymbol cause (GivesStep cause (within max_string room) octet_given) t [] answer built
+    pub asks : CallsEachSymbol cause (HasStepOctets cause (within max_string room) step_octet) t [] answer built
     pub gives : MatchResult answer
         (λ _. ((r ≡ Ok tt) × (c ≡ b ++ wire_of built) × (length c ≤ room.capacity)) ⊎ (IsCause cause r short_buf × (room.fits < length b + length (wire_of built))))
         (λ e. (r ≡ Err e) × (c ≡ b))
@@ -75,7 +75,7 @@ module _ {E : Type 0} (cause : E → Cause) (room : Room) where
   pub record AsciiText {V : Type 0} (returns : List ℕ → Result V E → Type 0) (t : Token) (r : Result V E) : Type 0 where
     pub answer : Result (Unit {0}) E
     pub built : List ℕ
-    pub asks : CallsEachSymbol cause (GivesStep cause room text_given) t [] answer built
+    pub asks : CallsEachSymbol cause (HasStepOctets cause room step_text) t [] answer built
     pub gives : MatchResult answer
         (λ _. (IsAscii built × returns built r) ⊎ (IsNotAscii built × IsCause cause r (custom_text (codes "non-ASCII characters"))))
         (λ e. r ≡ Err e)

@@ -9,7 +9,7 @@ use Rattle.dns_symbol.specs.declared.symbol.EntrySymbol.{EntrySymbol}
 use Rattle.dns_symbol.specs.declared.symbol.EntrySymbol.TheVariants.{EndOfToken, Symbol as Of}
 use Rattle.dns_symbol.specs.Cause.{Cause}
 use Rattle.dns_scan.specs.Entries.{Converts, ConvertInEntry}
-use Rattle.dns_scan.specs.Stands.{HasTokens, OfTokens, first_of}
+use Rattle.dns_scan.specs.Unread.{HasTokens, OfTokens, first_of}
 use Rattle.dns_scan.specs.Tokens.{Token, marker}
 
 -- each token in order by a call, until one is rejected: then the tokens after that one remain, and else none

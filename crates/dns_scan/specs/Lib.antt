@@ -6,7 +6,7 @@ pub mod Kinds
 pub mod Numbers
 pub mod Octets
 pub mod Reads
-pub mod Stands
+pub mod Unread
 pub mod Steps
 pub mod StrError
 pub mod Strings

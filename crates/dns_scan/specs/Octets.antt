@@ -9,8 +9,8 @@ use Rattle.dns_symbol.specs.Symbol.{octet_of}
 use Rattle.dns_symbol.specs.Text.{SymbolsOf}
 use Rattle.dns_charstr.specs.Limits.{max_string}
 use Rattle.dns_charstr.specs.Reading.{HasOctets}
-use Rattle.dns_scan.specs.Answers.{AnswersGiven}
-use Rattle.dns_scan.specs.Steps.{octet_given}
+use Rattle.dns_scan.specs.Answers.{AnswersOctets}
+use Rattle.dns_scan.specs.Steps.{step_octet}
 use Rattle.dns_scan.specs.Tokens.{Token}
 
 -- the token that octets print as in the unquoted form
@@ -26,18 +26,18 @@ abbrev pub IsPrinted : Token → List ℕ → Type 0
 IsPrinted token octets = (token ≡ unquoted_token octets) ⊎ (token ≡ quoted_token octets)
 
 -- the result is these octets, or "short buffer" if they exceed the guaranteed capacity
-abbrev pub GivesWhere : {O E : Type 0} → (E → Cause) → (O → List ℕ) → Room → List ℕ → Result O E → Type 0
-GivesWhere cause value room octets r = IsOkAnd r (λ x. value x ≡ octets) ⊎ (IsCause cause r short_buf × (room.fits < length octets))
+abbrev pub ReturnsWhere : {O E : Type 0} → (E → Cause) → (O → List ℕ) → Room → List ℕ → Result O E → Type 0
+ReturnsWhere cause value room octets r = IsOkAnd r (λ x. value x ≡ octets) ⊎ (IsCause cause r short_buf × (room.fits < length octets))
 
 -- r is the result of parsing a token that is a character string: its octets, if they fit
 pub record StringBack {E : Type 0} (cause : E → Cause) (room : Room) (token : Token) (r : Result (List ℕ) E) : Type 0 where
   -- of any token that has octets
-  pub whole : (octets : List ℕ) → HasOctets token octets → GivesWhere cause (λ s. s) room octets r
+  pub whole : (octets : List ℕ) → HasOctets token octets → ReturnsWhere cause (λ s. s) room octets r
   -- of a printed text
-  pub printed : (octets : List ℕ) → All (λ o. o < 256) octets → IsPrinted token octets → GivesWhere cause (λ s. s) room octets r
+  pub printed : (octets : List ℕ) → All (λ o. o < 256) octets → IsPrinted token octets → ReturnsWhere cause (λ s. s) room octets r
   -- and else its first error
   pub answer : (symbols : List PlainSymbol) (error : Option SymbolCharsError) → SymbolsOf token symbols error
-      → AnswersGiven octet_given room cause (λ s. s) symbols error r
+      → AnswersOctets step_octet room cause (λ s. s) symbols error r
   -- no other token is accepted
   pub only : (symbols : List PlainSymbol) (error : Option SymbolCharsError) → SymbolsOf token symbols error
       → IfOk r (λ s. (error ≡ None) × (map octet_of symbols ≡ map Ok s) × (length symbols ≤ max_string))

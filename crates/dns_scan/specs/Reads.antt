@@ -5,11 +5,11 @@ use Rattle.dns_octets.specs.Room.{Room}
 use Rattle.dns_symbol.specs.declared.symbol.Symbol.{Symbol}
 use Rattle.dns_symbol.specs.declared.error.SymbolCharsError.{SymbolCharsError}
 use Rattle.dns_symbol.specs.Text.{SymbolsOf}
-use Rattle.dns_scan.specs.Answers.{AnswersGiven}
+use Rattle.dns_scan.specs.Answers.{AnswersOctets}
 use Rattle.dns_symbol.specs.Cause.{Cause, end_of_entry, short_buf}
 use Rattle.dns_scan.specs.Numbers.{ScannedNumber, by_cause}
-use Rattle.dns_scan.specs.Stands.{first_of, others_of}
-use Rattle.dns_scan.specs.Steps.{octet_given}
+use Rattle.dns_scan.specs.Unread.{first_of, others_of}
+use Rattle.dns_scan.specs.Steps.{step_octet}
 use Rattle.dns_scan.specs.Tokens.{Token}
 
 -- the first token was parsed, or none was left, and the others remain
@@ -23,7 +23,7 @@ NumberReads limit = ScannedNumber (λ why. why) limit
 -- a token that is parsed as octets, with a builder of that room
 abbrev pub OctetsRead : Room → Token → Result (List ℕ) Cause → Type 0
 OctetsRead room token r =
-    (symbols : List Symbol) × (error : Option SymbolCharsError) × SymbolsOf token symbols error × AnswersGiven octet_given room (λ why. why) (λ s. s) symbols error r
+    (symbols : List Symbol) × (error : Option SymbolCharsError) × SymbolsOf token symbols error × AnswersOctets step_octet room (λ why. why) (λ s. s) symbols error r
 
 -- a token that a scanner parses as a name
 abbrev pub NameReads : {N E : Type 0} → (E → Cause) → (Token → Result N E → Type 0) → Token → Result N Cause → Type 0
@@ -62,9 +62,9 @@ abbrev pub HasOneAnswer : {A : Type 0} → (A → Type 0) → Type 0
 HasOneAnswer {A} answers = (q r : A) → answers q → answers r → q ≡ r
 
 -- symbols have at most one result, whatever octets each has, with a builder of that room
-abbrev pub GivenInOneWay : (Symbol → Result (List ℕ) (List ℕ)) → Room → Type 0
-GivenInOneWay given room =
-    (symbols : List Symbol) (error : Option SymbolCharsError) → HasOneAnswer {A = Result (List ℕ) Cause} (AnswersGiven given room (λ why. why) (λ s. s) symbols error)
+abbrev pub HaveOneResult : (Symbol → Result (List ℕ) (List ℕ)) → Room → Type 0
+HaveOneResult given room =
+    (symbols : List Symbol) (error : Option SymbolCharsError) → HasOneAnswer {A = Result (List ℕ) Cause} (AnswersOctets given room (λ why. why) (λ s. s) symbols error)
 
 -- parsing a token as a name has at most one result
 abbrev pub NamesInOneWay : {N E : Type 0} → (E → Cause) → (Token → Result N E → Type 0) → Type 0

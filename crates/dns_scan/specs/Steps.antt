@@ -12,12 +12,12 @@ bad_or octets (Ok x) = Ok (octets x)
 bad_or octets (Err e) = Err (codes "bad symbol")
 
 -- a symbol's octet
-abbrev pub octet_given : Symbol → Result (List ℕ) (List ℕ)
-octet_given x = bad_or (λ o. o ∷ []) (octet_of x)
+abbrev pub step_octet : Symbol → Result (List ℕ) (List ℕ)
+step_octet x = bad_or (λ o. o ∷ []) (octet_of x)
 
 -- a symbol's character, in UTF-8
-abbrev pub text_given : Symbol → Result (List ℕ) (List ℕ)
-text_given x = bad_or encode_utf8 (char_of x)
+abbrev pub step_text : Symbol → Result (List ℕ) (List ℕ)
+step_text x = bad_or encode_utf8 (char_of x)
 
 -- a builder with that room
 module _ {E : Type 0} (cause : E → Cause) (room : Room) where
@@ -36,5 +36,5 @@ module _ {E : Type 0} (cause : E → Cause) (room : Room) where
   Adds (Err e) b r c = (r ≡ Err e) × (c ≡ b)
 
   -- the octets of a symbol
-  abbrev pub GivesStep : (Symbol → Result (List ℕ) (List ℕ)) → List ℕ → Symbol → Result (Unit {0}) E → List ℕ → Type 0
-  GivesStep given b x r c = AppendsSymbol (given x) b r c
+  abbrev pub HasStepOctets : (Symbol → Result (List ℕ) (List ℕ)) → List ℕ → Symbol → Result (Unit {0}) E → List ℕ → Type 0
+  HasStepOctets given b x r c = AppendsSymbol (given x) b r c

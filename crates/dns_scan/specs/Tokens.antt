@@ -7,12 +7,12 @@ abbrev pub Token : Type 0
 Token = List ℕ
 
 -- a call that consumed no token: what may come next after it might have come next before it
-abbrev pub TakesNothing : {S : Type 0} → (S → Option Token → S → Type 0) → S → S → Type 0
-TakesNothing {S} next old new = (o : Option Token) (u : S) → next new o u → next old o u
+abbrev pub ConsumesNothing : {S : Type 0} → (S → Option Token → S → Type 0) → S → S → Type 0
+ConsumesNothing {S} next old new = (o : Option Token) (u : S) → next new o u → next old o u
 
 -- a call that looked ahead and consumed nothing: o is what comes next, or none if no token remains
 pub record Peeks {S : Type 0} (next : S → Option Token → S → Type 0) (old new : S) (o : Option Token) : Type 0 where
-  pub same : TakesNothing next old new
+  pub same : ConsumesNothing next old new
   pub shown : (u : S) × next new o u
   pub only : (p : Option Token) (u : S) → next new p u → p ≡ o
 

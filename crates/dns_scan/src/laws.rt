@@ -12,9 +12,9 @@ ghost use Rattle.dns_scan.specs.Entries.{AsksToken, Converts, ConvertInEntry};
 ghost use Rattle.dns_scan.specs.Join.{CallsTokens, ConvertsTokens, IsJoin, handed_over, AreSymbols, FindsMarker, HaveJoin, HaveSymbols, LeavesLast};
 ghost use Rattle.dns_scan.specs.Kinds.{KindReads};
 ghost use Rattle.dns_scan.specs.Numbers.{OnlyNumber};
-ghost use Rattle.dns_scan.specs.Octets.{GivesWhere, IsPrinted, StringBack};
-ghost use Rattle.dns_scan.specs.Reads.{NameReads, NumberReads, OctetsRead, ReadInOneWay, ReadsBoth, ReadsEach, ReadsFirstToken, ReadsInOneWay, ReadsInTurn, AreReadAs, GivenInOneWay, HasOneAnswer, NamesInOneWay};
-ghost use Rattle.dns_scan.specs.Stands.{HasTokens, first_of, OfTokens, TakesAs, TakesToken};
+ghost use Rattle.dns_scan.specs.Octets.{ReturnsWhere, IsPrinted, StringBack};
+ghost use Rattle.dns_scan.specs.Reads.{NameReads, NumberReads, OctetsRead, ReadInOneWay, ReadsBoth, ReadsEach, ReadsFirstToken, ReadsInOneWay, ReadsInTurn, AreReadAs, HaveOneResult, HasOneAnswer, NamesInOneWay};
+ghost use Rattle.dns_scan.specs.Unread.{HasTokens, first_of, OfTokens, ConsumesAs, ConsumesToken};
 ghost use Rattle.dns_scan.specs.Strings.{AnswersStrings, AreShort};
 ghost use Rattle.dns_scan.specs.Tokens.{Token, marker};
 ghost use Rattle.dns_charstr.specs.Limits.{max_string};
@@ -37,7 +37,7 @@ pub fn character_strings_are_scanned_back<S: Scanner>(
 ) -> Result<CharStr<S::Octets>, S::Error>
     requires { S.can_scan scanner.old }
     ensures ready { S.can_scan scanner.new }
-    ensures takes { TakesAs S.next_token
+    ensures takes { ConsumesAs S.next_token
         (StringBack S.Error.cause (within max_string S.OctetsBuilder.room))
         scanner.old result scanner.new }
 {
@@ -49,7 +49,7 @@ pub fn character_strings_are_scanned_back<S: Scanner>(
 /// of an entry as character strings, together with the remaining tokens.
 pub fn octets_are_answered_in_one_way()
     ensures symbols { (given : PlainSymbol → Result (List ℕ) (List ℕ)) (size : ℕ)
-        → GivenInOneWay given (exactly size) }
+        → HaveOneResult given (exactly size) }
     ensures token { (size : ℕ) (token : Token) → HasOneAnswer (OctetsRead (exactly size) token) }
     ensures entry { (size : ℕ)
         → ReadsInOneWay (AnswersStrings (exactly size) {O = List ℕ} (λ why. why) (λ s. s)) }
@@ -134,7 +134,7 @@ pub fn markers_are_found<S: Scanner>(scanner: &mut S) -> Result<bool, S::Error>
     requires { S.can_scan scanner.old }
     ensures ready { S.can_scan scanner.new }
     ensures found { OfTokens S.next_token scanner.old (λ tokens. FindsMarker tokens result) }
-    ensures taken { TakesToken S.next_token marker scanner.old scanner.new }
+    ensures taken { ConsumesToken S.next_token marker scanner.old scanner.new }
     ensures left { OfTokens S.next_token scanner.old (λ tokens. first_of tokens ≢ Some marker
         → HasTokens S.next_token scanner.new tokens × (S.is_spaced scanner.new ≡ S.is_spaced scanner.old)) }
 {
@@ -206,11 +206,11 @@ pub fn string_entries_are_scanned_back<S: Scanner>(scanner: &mut S) -> Result<S:
     ensures ready { S.can_scan scanner.new }
     ensures whole { (tokens : List Token) (strings : List (List ℕ))
         → HasTokens S.next_token scanner.old tokens → AllZip HasOctets tokens strings → AreShort strings
-        → GivesWhere S.Error.cause S.Octets.octets S.OctetsBuilder.room (flat_map wire_of strings) result }
+        → ReturnsWhere S.Error.cause S.Octets.octets S.OctetsBuilder.room (flat_map wire_of strings) result }
     ensures printed { (tokens : List Token) (strings : List (List ℕ))
         → HasTokens S.next_token scanner.old tokens → AllZip IsPrinted tokens strings
         → All (All (λ o. o < 256)) strings → AreShort strings
-        → GivesWhere S.Error.cause S.Octets.octets S.OctetsBuilder.room (flat_map wire_of strings) result }
+        → ReturnsWhere S.Error.cause S.Octets.octets S.OctetsBuilder.room (flat_map wire_of strings) result }
     ensures answer { (tokens : List Token) → HasTokens S.next_token scanner.old tokens
         → (rest : List Token) × AnswersStrings S.OctetsBuilder.room S.Error.cause S.Octets.octets tokens result rest × HasTokens S.next_token scanner.new rest }
     ensures rest { LeavesLast S.next_token scanner.old result scanner.new }

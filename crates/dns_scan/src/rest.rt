@@ -5,7 +5,7 @@ ghost use Rattle.dns_charstr.specs.Reading.{HasOctets};
 ghost use Rattle.dns_symbol.specs.Cause.{IsCause, short_buf, trailing_tokens};
 ghost use Rattle.dns_scan.specs.Join.{ConvertsTokens, LeavesLast};
 ghost use Rattle.dns_scan.specs.Reads.{ReadsRest};
-ghost use Rattle.dns_scan.specs.Stands.{HasTokens, first_of, OfTokens};
+ghost use Rattle.dns_scan.specs.Unread.{HasTokens, first_of, OfTokens};
 ghost use Rattle.dns_scan.specs.Tokens.{Token, LooksAhead, AtEnd};
 ghost use Rattle.dns_scan.specs.Strings.{AreShort, HaveStrings};
 

@@ -4,7 +4,7 @@ ghost use Rattle.dns_octets.specs.Room.{within};
 ghost use Rattle.dns_symbol.specs.Cause.{Cause};
 ghost use Rattle.dns_scan.specs.Numbers.{by_cause, greatest};
 ghost use Rattle.dns_scan.specs.Reads.{ReadsFirstToken, NameReads, NumberReads, OctetsRead, ReadsBoth};
-ghost use Rattle.dns_scan.specs.Stands.{HasTokens};
+ghost use Rattle.dns_scan.specs.Unread.{HasTokens};
 ghost use Rattle.dns_scan.specs.Tokens.{Token};
 ghost use Rattle.dns_charstr.specs.Limits.{max_string};
 

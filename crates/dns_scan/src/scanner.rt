@@ -4,7 +4,7 @@ ghost use Rattle.dns_scan.specs.Asks.{ScansSymbols, BuildsOctets, BuildsString, 
 ghost use Rattle.std.specs.Fn.{FnOnceReturnsAt};
 ghost use Rattle.dns_symbol.specs.Cause.{IsCause};
 ghost use Rattle.dns_scan.specs.Entries.{AsciiText, AsksToken, BuildsEntry, ConvertsEntry, ScansEntry, StringStep, ConvertsOneToken};
-ghost use Rattle.dns_scan.specs.Tokens.{Token, TakesNothing, ScansToken, MarkerCall, LooksAhead, no_svcb_octets};
+ghost use Rattle.dns_scan.specs.Tokens.{Token, ConsumesNothing, ScansToken, MarkerCall, LooksAhead, no_svcb_octets};
 
 use dns_charstr::charstr::CharStr;
 use dns_octets::str::Str;
@@ -121,7 +121,7 @@ pub trait Scanner {
     fn scan_svcb_octets(&mut self) -> Result<Self::Octets, Self::Error>
         requires { can_scan self.old }
         ensures ready { can_scan self.new }
-        ensures same { TakesNothing next_token self.old self.new }
+        ensures same { ConsumesNothing next_token self.old self.new }
         ensures space { is_spaced self.new ≡ is_spaced self.old }
         ensures answer { IsCause Self.Error.cause result no_svcb_octets }
     {
@@ -180,7 +180,7 @@ pub trait Scanner {
     fn octets_builder(&mut self) -> Result<Self::OctetsBuilder, Self::Error>
         requires { can_scan self.old }
         ensures ready { can_scan self.new }
-        ensures same { TakesNothing next_token self.old self.new }
+        ensures same { ConsumesNothing next_token self.old self.new }
         ensures space { is_spaced self.new ≡ is_spaced self.old }
         ensures empty { IsOkAnd result (λ b. Self.OctetsBuilder.octets b ≡ []) };
 

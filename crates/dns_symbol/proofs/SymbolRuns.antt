@@ -9,7 +9,7 @@ use Rattle.std.specs.declared.str.Chars.{Chars}
 use Rattle.std.proofs.lemmas.Str.{encodes-append}
 use Rattle.dns_symbol.specs.Symbol.{spell, bytes, is_readable}
 use Rattle.dns_symbol.specs.Text.{SymbolsOf, EndsAs}
-use Rattle.dns_symbol.specs.Symbols.{GivesSymbol, HasSymbols, answer_of, error_of}
+use Rattle.dns_symbol.specs.Symbols.{YieldsSymbol, HasSymbols, answer_of, error_of}
 use Rattle.dns_symbol.specs.declared.symbol.Symbol.{Symbol}
 use Rattle.dns_symbol.specs.declared.error.SymbolCharsError.{SymbolCharsError}
 use Rattle.dns_symbol.specs.declared.error.SymbolCharsError.TheVariants.{BadEscape, ShortInput}
@@ -41,19 +41,19 @@ module _ {S : Type 0} (steps : S → Option ℕ → S → Type 0) where
   abbrev Taken : List Symbol → S → Result S SymbolCharsError → Type 0
   Taken symbols s u = (t : S) × (u ≡ Ok t) × (list_all is_readable symbols ≡ true) × Yields steps s (flat_map spell symbols) t
 
-  taken_first : (x : Symbol) (xs : List Symbol) (s : S) (u j : Result S SymbolCharsError) → GivesSymbol steps (Ok s) (Some x) j → ((t : S) → j ≡ Ok t → Taken xs t u) → Taken (x ∷ xs) s u
+  taken_first : (x : Symbol) (xs : List Symbol) (s : S) (u j : Result S SymbolCharsError) → YieldsSymbol steps (Ok s) (Some x) j → ((t : S) → j ≡ Ok t → Taken xs t u) → Taken (x ∷ xs) s u
   taken_first x xs s u (Ok j) g others =
       let m = others j refl in
       (m.0, m.1, rw (g.0, m.2) refl, joined (spell x) (flat_map spell xs) s j m.0 g.1 m.3)
   taken_first x xs s u (Err e) g others = absurd g
 
   -- the yielded symbols are readable, and their spellings were consumed
-  pub taken_of : (symbols : List Symbol) (s : S) (u : Result S SymbolCharsError) → Yields (GivesSymbol steps) (Ok s) symbols u → Taken symbols s u
+  pub taken_of : (symbols : List Symbol) (s : S) (u : Result S SymbolCharsError) → Yields (YieldsSymbol steps) (Ok s) symbols u → Taken symbols s u
   taken_of [] s u h = (s, sym h, refl, refl)
-  taken_of (x ∷ xs) s u h = taken_first x xs s u h.0 h.1 (λ t is. taken_of xs t u (subst (λ j. Yields (GivesSymbol steps) j xs u) is h.2))
+  taken_of (x ∷ xs) s u h = taken_first x xs s u h.0 h.1 (λ t is. taken_of xs t u (subst (λ j. Yields (YieldsSymbol steps) j xs u) is h.2))
 
   last_of : (symbols : List Symbol) (s t : S) (u : Result S SymbolCharsError) → list_all is_readable symbols ≡ true → Yields steps s (flat_map spell symbols) t
-      → GivesSymbol steps (Ok t) None u → HasSymbols steps s symbols (error_of u)
+      → YieldsSymbol steps (Ok t) None u → HasSymbols steps s symbols (error_of u)
   last_of symbols s t (Ok v) are front h = (
     flat_map spell symbols,
     (v, (t, front, h)),
@@ -75,11 +75,11 @@ module _ {S : Type 0} (steps : S → Option ℕ → S → Type 0) where
       )
 
   -- all that calls yielded, up to the end
-  pub source_symbols : (s : S) (symbols : List Symbol) (u : Result S SymbolCharsError) → YieldsThen (GivesSymbol steps) (Ok s) symbols None u
+  pub source_symbols : (s : S) (symbols : List Symbol) (u : Result S SymbolCharsError) → YieldsThen (YieldsSymbol steps) (Ok s) symbols None u
       → HasSymbols steps s symbols (error_of u)
   source_symbols s symbols u h =
       let m = taken_of symbols s h.0 h.1 in
-      last_of symbols s m.0 u m.2 m.3 (subst (λ j. GivesSymbol steps j None u) m.1 h.2)
+      last_of symbols s m.0 u m.2 m.3 (subst (λ j. YieldsSymbol steps j None u) m.1 h.2)
 
 -- of a text they are the text's symbols
 text_symbols_of : (text : List ℕ) (s : Chars) (symbols : List Symbol) (e : Option SymbolCharsError) → IsUtf8 text → chars_rest s ≡ text → HasSymbols chars_steps s symbols e
@@ -94,7 +94,7 @@ text_symbols_of text s symbols (Some BadEscape) u is h =
     subst (λ l. SymbolsOf l symbols (Some BadEscape)) whole (h.3 more.0)
 
 pub text_symbols : (text : List ℕ) (s : Chars) (symbols : List Symbol) (u : Result Chars SymbolCharsError) → IsUtf8 text → chars_rest s ≡ text
-    → YieldsThen (GivesSymbol chars_steps) (Ok s) symbols None u → SymbolsOf text symbols (error_of u)
+    → YieldsThen (YieldsSymbol chars_steps) (Ok s) symbols None u → SymbolsOf text symbols (error_of u)
 text_symbols text s symbols u utf8 is h = text_symbols_of text s symbols (error_of u) utf8 is (source_symbols chars_steps s symbols u h)
 
 -- the error that ended the symbols is the one that `ok` answers

@@ -1,7 +1,7 @@
 -- Computed examples of the definitions.
 use Rattle.std.specs.Prelude.{◌≡◌, true, false, [], ◌∷◌, map, None, Ok, Err, codes, refl}
 use Rattle.std.specs.Char.{encode_utf8}
-use Rattle.dns_symbol.specs.Symbol.{spell, is_escape_by, is_readable, octet_of, ascii_of, char_of, digit_of, is_word_char, stands_in_word}
+use Rattle.dns_symbol.specs.Symbol.{spell, is_escape_by, is_readable, octet_of, ascii_of, char_of, digit_of, is_word_char, may_be_in_word}
 use Rattle.dns_symbol.specs.Printed.{text_of, is_unquoted_escape, is_quoted_escape, is_plain_escape}
 use Rattle.dns_symbol.specs.Index.{BeginsWith, octets_error}
 use Rattle.dns_symbol.specs.Text.{SymbolsOf, chars_error}
@@ -61,7 +61,7 @@ digit_ten = refl
 word_not : map is_word_char (32 ∷ 9 ∷ 13 ∷ 10 ∷ 40 ∷ 41 ∷ 59 ∷ 34 ∷ []) ≡ false ∷ false ∷ false ∷ false ∷ false ∷ false ∷ false ∷ false ∷ []
 word_not = refl
 
-word_escapes : map stands_in_word (SimpleEscape 40 ∷ DecimalEscape 40 ∷ Char 233 ∷ []) ≡ true ∷ true ∷ true ∷ []
+word_escapes : map may_be_in_word (SimpleEscape 40 ∷ DecimalEscape 40 ∷ Char 233 ∷ []) ≡ true ∷ true ∷ true ∷ []
 word_escapes = refl
 
 -- ---- printed forms

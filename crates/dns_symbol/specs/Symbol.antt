@@ -96,11 +96,11 @@ abbrev pub is_word_char : ℕ → Bool
 is_word_char c = not (c == space || c == tab || c == line_feed || c == carriage_return || c == open_parenthesis || c == close_parenthesis || c == semicolon || c == double_quote)
 
 -- a symbol that may be part of a word: an escape always may
-abbrev pub stands_in_word : Symbol → Bool
-stands_in_word (Char c) = is_word_char c
-stands_in_word (SimpleEscape o) = true
-stands_in_word (DecimalEscape o) = true
+abbrev pub may_be_in_word : Symbol → Bool
+may_be_in_word (Char c) = is_word_char c
+may_be_in_word (SimpleEscape o) = true
+may_be_in_word (DecimalEscape o) = true
 
 -- the symbols of words: readable ones that may be part of a word
 abbrev pub is_word_symbol : Symbol → Bool
-is_word_symbol s = stands_in_word s && is_readable s
+is_word_symbol s = may_be_in_word s && is_readable s

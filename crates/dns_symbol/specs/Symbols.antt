@@ -10,9 +10,9 @@ use Rattle.dns_symbol.specs.declared.error.SymbolCharsError.{SymbolCharsError}
 use Rattle.dns_symbol.specs.declared.error.SymbolCharsError.TheVariants.{BadEscape, ShortInput}
 
 -- the source may be called; after an error there is no source
-abbrev pub CanGive : {S : Type 0} → (S → Type 0) → Result S SymbolCharsError → Type 0
-CanGive can (Ok s) = can s
-CanGive can (Err e) = ⊤
+abbrev pub CanYield : {S : Type 0} → (S → Type 0) → Result S SymbolCharsError → Type 0
+CanYield can (Ok s) = can s
+CanYield can (Err e) = ⊤
 
 -- at most one symbol for each character, and none after an error
 abbrev pub count_of : {S : Type 0} → (S → Count) → Result S SymbolCharsError → Count
@@ -30,13 +30,13 @@ answer_of (Ok s) = Ok tt
 answer_of (Err e) = Err e
 
 -- a call returned what one parse from the source returns; an error ends the symbols for good
-abbrev pub GivesSymbol : {S : Type 0} → (S → Option ℕ → S → Type 0) → Result S SymbolCharsError → Option Symbol → Result S SymbolCharsError → Type 0
-GivesSymbol steps (Ok s) r (Ok t) = ReadsSymbol steps s (Ok r) t
-GivesSymbol steps (Ok s) None (Err e) = (t : _) × ReadsSymbol steps s (Err e) t
-GivesSymbol steps (Err e) None (Err f) = f ≡ e
-GivesSymbol steps (Ok s) (Some x) (Err e) = ⊥
-GivesSymbol steps (Err e) r (Ok t) = ⊥
-GivesSymbol steps (Err e) (Some x) (Err f) = ⊥
+abbrev pub YieldsSymbol : {S : Type 0} → (S → Option ℕ → S → Type 0) → Result S SymbolCharsError → Option Symbol → Result S SymbolCharsError → Type 0
+YieldsSymbol steps (Ok s) r (Ok t) = ReadsSymbol steps s (Ok r) t
+YieldsSymbol steps (Ok s) None (Err e) = (t : _) × ReadsSymbol steps s (Err e) t
+YieldsSymbol steps (Err e) None (Err f) = f ≡ e
+YieldsSymbol steps (Ok s) (Some x) (Err e) = ⊥
+YieldsSymbol steps (Err e) r (Ok t) = ⊥
+YieldsSymbol steps (Err e) (Some x) (Err f) = ⊥
 
 -- a clone of the source, or the same error
 abbrev pub IsCloneOf : {S : Type 0} → (S → S → Type 0) → Result S SymbolCharsError → Result S SymbolCharsError → Type 0

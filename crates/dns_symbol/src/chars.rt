@@ -1,5 +1,5 @@
 //! Parses symbols from characters.
-ghost use Rattle.dns_symbol.specs.Reading.{ReadsSymbol, TakesOnFrom};
+ghost use Rattle.dns_symbol.specs.Reading.{ReadsSymbol, AdvancesFrom};
 
 use crate::symbol::{Symbol, SymbolCharsError};
 
@@ -18,7 +18,7 @@ impl Symbol {
     ) -> Result<Option<Symbol>, SymbolCharsError>
         requires { C.can_next chars.old }
         ensures reads { ReadsSymbol C.next_gives chars.old result chars.new }
-        ensures goes { TakesOnFrom C.can_next C.remaining chars.old result chars.new }
+        ensures goes { AdvancesFrom C.can_next C.remaining chars.old result chars.new }
     {
         let Some(first) = chars.next() else {
             return Ok(None);

@@ -2,7 +2,7 @@
 ghost use Rattle.std.specs.Prelude.{◌≡◌, Result, IfOk, IsOk};
 ghost use Rattle.std.specs.Fn.{FnOnceTakesAtMut};
 ghost use Rattle.dns_symbol.specs.declared.error.SymbolCharsError.{SymbolCharsError};
-ghost use Rattle.dns_symbol.specs.Symbols.{CanGive, GivesSymbol, count_of, answer_of, AnswersWith, IsCloneOf};
+ghost use Rattle.dns_symbol.specs.Symbols.{CanYield, YieldsSymbol, count_of, answer_of, AnswersWith, IsCloneOf};
 
 use crate::symbol::{Symbol, SymbolCharsError};
 use std::alloc::AllocError;
@@ -76,9 +76,9 @@ impl<Chars: Iterator<Item = char>> Symbols<Chars> {
 impl<Chars: Iterator<Item = char>> Iterator for Symbols<Chars> {
     type Item = Symbol;
 
-    ghost can_next = { CanGive Chars.can_next };
+    ghost can_next = { CanYield Chars.can_next };
 
-    ghost next_gives = { GivesSymbol Chars.next_gives };
+    ghost next_gives = { YieldsSymbol Chars.next_gives };
 
     ghost remaining = { count_of Chars.remaining };
 

@@ -47,24 +47,24 @@ pub mod wire {
 
 /// Zone files piece by piece or token by token, without allocating, and the positions in them.
 pub mod cursor {
-    pub use dns_split::entry_tokens::{EntryPart, EntryToken, EntryTokens, NextEntryError};
-    pub use dns_split::opening::{outermost_open, outermost_open_of_octets};
-    pub use dns_split::pieces::{EndOfEntry, Fault, Piece, Pieces, Span, Wrong};
-    pub use dns_split::position::{Position, line_and_column, line_and_column_of_octets};
-    pub use dns_split::standing::{Standing, next_of_octets};
-    pub use dns_split::token::{content, is_token};
+    pub use dns_lexer::cursor_state::{CursorState, next_of_octets};
+    pub use dns_lexer::entry_tokens::{EntryPart, EntryToken, EntryTokens, NextEntryError};
+    pub use dns_lexer::pieces::{EndOfEntry, Fault, Piece, Pieces, Span, Wrong};
+    pub use dns_lexer::position::{Position, line_and_column, line_and_column_of_octets};
+    pub use dns_lexer::token::{content, is_token};
+    pub use dns_lexer::unclosed::{outermost_open, outermost_open_of_octets};
 }
 
 /// Conversion between RDATA in presentation format and values.
 pub mod record {
-    pub use dns_record::fields::{
+    pub use custom_record::fields::{
         Field, FieldValue, LongText, scan_fields, scan_five, scan_three, write_long_text,
         write_quoted, write_unquoted,
     };
-    pub use dns_record::record::{
+    pub use custom_record::record::{
         RecordData, expect_no_marker, record_reads_back, record_reads_back_in_room, scan_record,
     };
-    pub use dns_record::several::{SomeOctets, Strings, base64_rest, hex_rest, strings_rest};
+    pub use custom_record::several::{SomeOctets, Strings, base64_rest, hex_rest, strings_rest};
 }
 
 /// Typed values parsed from the tokens of an entry.

@@ -7,17 +7,17 @@ use Rattle.std.proofs.lemmas.Bool.{and_parts, and_from}
 use Rattle.std.proofs.lemmas.List.{length-map, length-take-le, take-append-drop}
 use Rattle.std.proofs.lemmas.Str.{encodes-append}
 use Rattle.std.proofs.Math.Seq.{take-append-add}
-use Rattle.dns_split.specs.Lexeme.{Lexeme, Blank, Line, Open, Close, Note, Word, Quote, lexeme_bytes, is_lexeme}
-use Rattle.dns_split.specs.Opening.{IsOpener}
-use Rattle.dns_split.specs.Pieces.{AreOctets, IsGiven, IsPieces, Reads, end_at, moved, pieces, place_of}
-use Rattle.dns_split.specs.Splitting.{Entries, Splits, are_lexemes, entries, may_precede, nests}
-use Rattle.dns_split.specs.declared.pieces.Fault.{Fault as TextFault}
-use Rattle.dns_split.specs.declared.pieces.Piece.{Piece}
-use Rattle.dns_split.specs.declared.pieces.Piece.TheVariants.{End as EndAt}
-use Rattle.dns_split.proofs.Blocks.{entries_stay, first_fault}
-use Rattle.dns_split.proofs.FaultJoins.{opener_joined}
-use Rattle.dns_split.proofs.PieceGiven.{first_of, tail_of as given_tail}
-use Rattle.dns_split.proofs.Joins.{join_bytes, last_before, split_joined}
+use Rattle.dns_lexer.specs.Lexeme.{Lexeme, Blank, Line, Open, Close, Note, Word, Quote, lexeme_bytes, is_lexeme}
+use Rattle.dns_lexer.specs.Unclosed.{IsOpener}
+use Rattle.dns_lexer.specs.Pieces.{AreOctets, AreItemsOf, IsPieces, Reads, end_at, moved, pieces, place_of}
+use Rattle.dns_lexer.specs.Splitting.{Entries, Splits, are_lexemes, entries, may_precede, nests}
+use Rattle.dns_lexer.specs.declared.pieces.Fault.{Fault as TextFault}
+use Rattle.dns_lexer.specs.declared.pieces.Piece.{Piece}
+use Rattle.dns_lexer.specs.declared.pieces.Piece.TheVariants.{End as EndAt}
+use Rattle.dns_lexer.proofs.Blocks.{entries_stay, first_fault}
+use Rattle.dns_lexer.proofs.FaultJoins.{opener_joined}
+use Rattle.dns_lexer.proofs.PieceGiven.{first_of, tail_of as given_tail}
+use Rattle.dns_lexer.proofs.Joins.{join_bytes, last_before, split_joined}
 
 abbrev Given : Type 0
 Given = List (Result Piece TextFault)
@@ -118,13 +118,13 @@ last_fault : (found : List Piece) (f : TextFault) → first_fault (map Ok found 
 last_fault [] f = refl
 last_fault (p ∷ found) f = last_fault found f
 
-nothing_given : IsGiven [] (Ok (end_at 0 false) ∷ [])
+nothing_given : AreItemsOf [] (Ok (end_at 0 false) ∷ [])
 nothing_given = (inl (record { found = end_at 0 false ∷ []; is = refl; placed = record { lexemes = []; spelled = refl; valid = refl; nested = refl; placed = refl } }), (omega arith, tt))
 
 -- the octets up to the end of an entry that is not the last
 pub ends_with_line : (octets : List ℕ) (alone left : Given) (front : List Piece) (end : ℕ) (blank : Bool) → AreOctets octets → end ≤ length octets
-    → alone ≡ map Ok front ++ Ok (end_at end blank) ∷ left → 0 < length left → IsGiven octets alone → SplitsBeforeLine (encode_utf8_all (take end octets))
-ends_with_line octets alone left front end blank o fits is some g = go (subst (λ l. IsGiven l given) (append-nil begin) stay).0
+    → alone ≡ map Ok front ++ Ok (end_at end blank) ∷ left → 0 < length left → AreItemsOf octets alone → SplitsBeforeLine (encode_utf8_all (take end octets))
+ends_with_line octets alone left front end blank o fits is some g = go (subst (λ l. AreItemsOf l given) (append-nil begin) stay).0
   where
     begin : List ℕ
     begin = take end octets
@@ -132,8 +132,8 @@ ends_with_line octets alone left front end blank o fits is some g = go (subst (�
     given : Given
     given = map Ok front ++ Ok (end_at end blank) ∷ Ok (end_at (end + 0) false) ∷ []
 
-    stay : IsGiven (begin ++ []) given
-    stay = entries_stay octets [] front end blank left (Ok (end_at 0 false) ∷ []) o refl (subst (IsGiven octets) is g) some nothing_given
+    stay : AreItemsOf (begin ++ []) given
+    stay = entries_stay octets [] front end blank left (Ok (end_at 0 false) ∷ []) o refl (subst (AreItemsOf octets) is g) some nothing_given
 
     whole : place_of begin end ≡ length (encode_utf8_all begin)
     whole = ap (λ l. length (encode_utf8_all l)) (take_all end begin (omega (arith, length-take-le end octets fits)))

@@ -3,14 +3,14 @@ use Rattle.std.proofs.Common.{ℕ, ◌≡◌, false, Bool, List, [], sym, ap, �
 use Rattle.std.proofs.lemmas.Bool.{false≢true}
 use Rattle.std.specs.Prelude.{IsTrue, ◌↔◌}
 use Rattle.dns_octets.specs.Room.{Room, exactly}
-use Rattle.dns_data.specs.ByType.{ReadsType}
-use Rattle.dns_kinds.specs.declared.types.RecordType.{RecordType}
-use Rattle.dns_split.specs.EntryTokens.{IsSeen, TokenSeen}
-use Rattle.dns_split.specs.declared.pieces.Fault.{Fault}
-use Rattle.dns_fields.specs.RecordErrors.{error_of_fault}
-use Rattle.dns_fields.specs.declared.record_error.RecordError.{RecordError}
-use Rattle.dns_reader.specs.Source.{BeginsEntry, SourceSeen, behind_left, entry_end, entry_left}
-use Rattle.dns_reader.specs.declared.source.StartOfEntry.{StartOfEntry}
+use Rattle.rdata.specs.ByType.{ReadsType}
+use Rattle.rdata_values.specs.declared.types.RecordType.{RecordType}
+use Rattle.dns_lexer.specs.EntryTokens.{IsSeen, TokenSeen}
+use Rattle.dns_lexer.specs.declared.pieces.Fault.{Fault}
+use Rattle.rdata_fields.specs.RecordErrors.{error_of_fault}
+use Rattle.rdata_fields.specs.declared.record_error.RecordError.{RecordError}
+use Rattle.zone_reader.specs.Source.{BeginsEntry, SourceSeen, parts_after_unread, entry_end, unread_entry_tokens}
+use Rattle.zone_reader.specs.declared.source.StartOfEntry.{StartOfEntry}
 use Rattle.dns_text_c.specs.Capacity.{ErrorLacksRoom, InCapacity}
 use Rattle.dns_text_c.specs.DataText.{DataAnswer, ReadsDataText, ReadsTokens, data_answer}
 use Rattle.dns_text_c.proofs.Rooms.{Fits, type_so}
@@ -25,10 +25,10 @@ fits_if read lacks tells fit r is short = false≢true (sym fit ∙ tells.1 (r, 
 
 -- tokens are read with any capacity, unless their octets don't fit
 pub tokens_in : (n : ℕ) (lacks : Bool) (rtype : RecordType) (origin : Option (List (List ℕ))) (begun : SourceSeen) (answer : DataAnswer) (read : Result (Unit {0}) RecordError) (left : List TokenSeen) (octets : List ℕ) → (lacks ≡ false → Fits read)
-    → ReadsType origin (exactly n) rtype (entry_end begun).at (entry_left begun) [] read left octets → answer ≡ data_answer rtype read octets (behind_left begun) → InCapacity n lacks (λ room. ReadsTokens room rtype origin begun answer)
+    → ReadsType origin (exactly n) rtype (entry_end begun).at (unread_entry_tokens begun) [] read left octets → answer ≡ data_answer rtype read octets (parts_after_unread begun) → InCapacity n lacks (λ room. ReadsTokens room rtype origin begun answer)
 tokens_in n lacks rtype origin begun answer read left octets fits reads is = (
   (read, left, octets, reads, is),
-  λ fit room. (read, left, octets, type_so (exactly n) room origin rtype (entry_end begun).at (entry_left begun) [] read left octets (fits fit) reads, is),
+  λ fit room. (read, left, octets, type_so (exactly n) room origin rtype (entry_end begun).at (unread_entry_tokens begun) [] read left octets (fits fit) reads, is),
 )
 
 -- and so is a text

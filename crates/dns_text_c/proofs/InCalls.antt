@@ -4,31 +4,31 @@ use Rattle.std.specs.Prelude.{map, min, nat_lt, encode_utf8_all}
 use Rattle.std.proofs.lemmas.Bool.{and_parts, cases_lt}
 use Rattle.std.proofs.lemmas.List.{length-drop, take-append-drop}
 use Rattle.dns_octets.specs.Octets.{greatest_length}
-use Rattle.dns_split.specs.Opening.{IsOpener}
-use Rattle.dns_split.specs.Pieces.{AreOctets, EachWithin, IsGiven, ReadsOctetsFrom, between, tokens_by_entry, end_at, later, moved, moved_fault, moved_piece, place_of}
-use Rattle.dns_split.specs.declared.pieces.Fault.{Fault as TextFault}
-use Rattle.dns_split.specs.declared.pieces.Piece.{Piece}
-use Rattle.dns_split.specs.declared.pieces.Piece.TheVariants.{Word as WordAt, Quote as QuoteAt, Comment as CommentAt, End as EndAt}
-use Rattle.dns_split.specs.Splitting.{Entries, Splits, with_token}
-use Rattle.dns_split.proofs.Agree.{octets_have_pieces}
-use Rattle.dns_split.proofs.Blocks.{entries_stay, later_later, nothing_given}
-use Rattle.dns_split.proofs.OctetsOnce.{given_once, octet_scalars, run_given}
-use Rattle.dns_split.proofs.PieceGiven.{tail_of}
-use Rattle.dns_split.proofs.PieceParts.{each_within}
-use Rattle.dns_split.proofs.PieceSplit.{split_pieces}
-use Rattle.dns_split.proofs.PieceWhole.{pieces_run}
-use Rattle.dns_split.specs.declared.pieces.Wrong.{Wrong}
-use Rattle.dns_split.specs.declared.pieces.Wrong.TheVariants.{Closing as NoneOpen, OpenParenthesis as NotClosed, OpenQuote as NotQuoted, LoneReturn as NoFeed, BadEscape as NoEscape}
-use Rattle.dns_text_c.specs.Calls.{ToldEntry, told, with_told_token, told_entries, Tells, Calls, last_status, token_octets}
-use Rattle.dns_text_c.specs.Entries.{bit, counted, is_nothing, refusal_of_wrong, stop_of, token_between, tokens_of, written_over_start, TellsEntry, Opens, ReadsEntry}
+use Rattle.dns_lexer.specs.Unclosed.{IsOpener}
+use Rattle.dns_lexer.specs.Pieces.{AreOctets, EachWithin, AreItemsOf, ReadsOctetsFrom, between, tokens_by_entry, end_at, later, moved, moved_fault, moved_piece, place_of}
+use Rattle.dns_lexer.specs.declared.pieces.Fault.{Fault as TextFault}
+use Rattle.dns_lexer.specs.declared.pieces.Piece.{Piece}
+use Rattle.dns_lexer.specs.declared.pieces.Piece.TheVariants.{Word as WordAt, Quote as QuoteAt, Comment as CommentAt, End as EndAt}
+use Rattle.dns_lexer.specs.Splitting.{Entries, Splits, with_token}
+use Rattle.dns_lexer.proofs.Agree.{octets_have_pieces}
+use Rattle.dns_lexer.proofs.Blocks.{entries_stay, later_later, nothing_given}
+use Rattle.dns_lexer.proofs.OctetsOnce.{given_once, octet_scalars, run_given}
+use Rattle.dns_lexer.proofs.PieceGiven.{tail_of}
+use Rattle.dns_lexer.proofs.PieceParts.{each_within}
+use Rattle.dns_lexer.proofs.PieceSplit.{split_pieces}
+use Rattle.dns_lexer.proofs.PieceWhole.{pieces_run}
+use Rattle.dns_lexer.specs.declared.pieces.Wrong.{Wrong}
+use Rattle.dns_lexer.specs.declared.pieces.Wrong.TheVariants.{Closing as NoneOpen, OpenParenthesis as NotClosed, OpenQuote as NotQuoted, LoneReturn as NoFeed, BadEscape as NoEscape}
+use Rattle.dns_text_c.specs.Calls.{EntryReport, entry_report, with_token_before, reported_entries, CallReports, Calls, last_status, token_octets}
+use Rattle.dns_text_c.specs.Entries.{bit, counted, is_nothing, refusal_of_wrong, stop_of, token_between, tokens_of, written_over_start, ReportsEntry, Opens, ReadsEntry}
 use Rattle.dns_text_c.specs.declared.outcome.Refusal.TheVariants.{OpenParenthesis}
 use Rattle.dns_text_c.proofs.Row.{map_ok}
 use Rattle.dns_text_c.proofs.Begun.{Begins, begins_next, ends_with_line, opener_of_text}
-use Rattle.dns_text_c.specs.Told.{number_of}
+use Rattle.dns_text_c.specs.Reports.{number_of}
 use Rattle.dns_text_c.specs.declared.outcome.Outcome.{Outcome}
 use Rattle.dns_text_c.specs.declared.tokens.Cursor.{Cursor}
-use Rattle.dns_text_c.specs.declared.tokens.Stop.{Stop}
-use Rattle.dns_text_c.specs.declared.tokens.Stop.TheVariants.{End, Fault, Nothing}
+use Rattle.dns_text_c.specs.declared.tokens.EntryEnd.{EntryEnd}
+use Rattle.dns_text_c.specs.declared.tokens.EntryEnd.TheVariants.{End, Fault, Nothing}
 use Rattle.dns_text_c.specs.declared.tokens.Token.{Token as TokenAt}
 
 abbrev Given : Type 0
@@ -55,11 +55,11 @@ end_within : (n : ℕ) (front : List Piece) (at : ℕ) (b : Bool) (left : Given)
 end_within n [] at b left w = w.0
 end_within n (p ∷ front) at b left w = end_within n front at b left w.1
 
-some_given : (octets : List ℕ) → AreOctets octets → (given : Given) × IsGiven octets given
+some_given : (octets : List ℕ) → AreOctets octets → (given : Given) × AreItemsOf octets given
 some_given octets o = (_, run_given octets o)
 
 -- the pieces from an offset on are those of the octets from there
-once : (text : List ℕ) (at : ℕ) (given alone : Given) → ReadsOctetsFrom text at given → EachWithin (length text) given → IsGiven (drop at text) alone → given ≡ later at alone
+once : (text : List ℕ) (at : ℕ) (given alone : Given) → ReadsOctetsFrom text at given → EachWithin (length text) given → AreItemsOf (drop at text) alone → given ≡ later at alone
 once text at given alone r w g =
     let far = within_back (length text) at r.0 (subst (EachWithin (length text)) r.2 w) in
     let here = subst (λ n. EachWithin n r.0) (sym (length-drop at text)) far in
@@ -67,11 +67,11 @@ once text at given alone r w g =
 
 -- the pieces after an entry's end are those of the octets from there
 follows : (octets : List ℕ) (alone next left : Given) (front : List Piece) (end : ℕ) (blank : Bool) → AreOctets octets → alone ≡ map Ok front ++ Ok (end_at end blank) ∷ left → 0 < length left
-    → IsGiven octets alone → IsGiven (drop end octets) next → left ≡ later end next
+    → AreItemsOf octets alone → AreItemsOf (drop end octets) next → left ≡ later end next
 follows octets alone next left front end blank o is some g h =
-    let here = subst (IsGiven octets) is g in
+    let here = subst (AreItemsOf octets) is g in
     let stay = entries_stay octets (drop end octets) front end blank left next o (drop_octets end octets o) here some h in
-    let there = subst (λ l. IsGiven l (map Ok front ++ Ok (end_at end blank) ∷ later end next)) (take-append-drop end octets) stay in
+    let there = subst (λ l. AreItemsOf l (map Ok front ++ Ok (end_at end blank) ∷ later end next)) (take-append-drop end octets) stay in
     ap tail_of (cancel (map Ok front) (Ok (end_at end blank) ∷ left) (Ok (end_at end blank) ∷ later end next)
     (given_once octets (map Ok front ++ Ok (end_at end blank) ∷ left) (map Ok front ++ Ok (end_at end blank) ∷ later end next) here there))
 
@@ -83,12 +83,12 @@ record Ends (at : ℕ) (alone : Given) : Type 0 where
   left : Given
   is : alone ≡ map Ok front ++ Ok (end_at end blank) ∷ left
   stops : stop_of (later at alone) ≡ End (record { at = at + end; begins_blank = blank }) (is_nothing left)
-  tells : told_entries (later at alone) ≡ told (tokens_of (later at alone)) 0 0 ∷ told_entries (later at left)
+  tells : reported_entries (later at alone) ≡ entry_report (tokens_of (later at alone)) 0 0 ∷ reported_entries (later at left)
 
 record Fails (at : ℕ) (alone : Given) : Type 0 where
   fault : TextFault
   stops : stop_of (later at alone) ≡ Fault fault
-  tells : told_entries (later at alone) ≡ told (tokens_of (later at alone)) (number_of (refusal_of_wrong fault.wrong)) fault.at ∷ []
+  tells : reported_entries (later at alone) ≡ entry_report (tokens_of (later at alone)) (number_of (refusal_of_wrong fault.wrong)) fault.at ∷ []
 
 abbrev Heads : ℕ → Given → Type 0
 Heads at alone = Ends at alone ⊎ Fails at alone ⊎ (stop_of (later at alone) ≡ Nothing)
@@ -105,8 +105,8 @@ heads at (Ok (WordAt p) ∷ alone) = go (heads at alone)
     t = token_between (at + p.start) (at + p.end) 0
 
     go : Heads at alone → Heads at (Ok (WordAt p) ∷ alone)
-    go (inl e) = inl (record { front = WordAt p ∷ e.front; end = e.end; blank = e.blank; left = e.left; is = ap (λ l. Ok (WordAt p) ∷ l) e.is; stops = e.stops; tells = ap (with_told_token t) e.tells })
-    go (inr (inl f)) = inr (inl (record { fault = f.fault; stops = f.stops; tells = ap (with_told_token t) f.tells }))
+    go (inl e) = inl (record { front = WordAt p ∷ e.front; end = e.end; blank = e.blank; left = e.left; is = ap (λ l. Ok (WordAt p) ∷ l) e.is; stops = e.stops; tells = ap (with_token_before t) e.tells })
+    go (inr (inl f)) = inr (inl (record { fault = f.fault; stops = f.stops; tells = ap (with_token_before t) f.tells }))
     go (inr (inr n)) = inr (inr n)
 heads at (Ok (QuoteAt p) ∷ alone) = go (heads at alone)
   where
@@ -114,8 +114,8 @@ heads at (Ok (QuoteAt p) ∷ alone) = go (heads at alone)
     t = token_between (at + p.start) (at + p.end) 1
 
     go : Heads at alone → Heads at (Ok (QuoteAt p) ∷ alone)
-    go (inl e) = inl (record { front = QuoteAt p ∷ e.front; end = e.end; blank = e.blank; left = e.left; is = ap (λ l. Ok (QuoteAt p) ∷ l) e.is; stops = e.stops; tells = ap (with_told_token t) e.tells })
-    go (inr (inl f)) = inr (inl (record { fault = f.fault; stops = f.stops; tells = ap (with_told_token t) f.tells }))
+    go (inl e) = inl (record { front = QuoteAt p ∷ e.front; end = e.end; blank = e.blank; left = e.left; is = ap (λ l. Ok (QuoteAt p) ∷ l) e.is; stops = e.stops; tells = ap (with_token_before t) e.tells })
+    go (inr (inl f)) = inr (inl (record { fault = f.fault; stops = f.stops; tells = ap (with_token_before t) f.tells }))
     go (inr (inr n)) = inr (inr n)
 heads at (Ok (CommentAt p) ∷ alone) = go (heads at alone)
   where
@@ -147,9 +147,9 @@ all_taken tokens before after count n is counts same fits few =
     let all : n ≡ length tokens = omega (arith, counts, same, fits, few) in
     ap (take n) is ∙ ap (λ k. take k (written_over_start tokens before)) all ∙ written_take tokens before (omega (arith, all, fits))
 
-same_entry : (entry : ToldEntry) (tokens : List TokenAt) (status place : ℕ) → entry.tokens ≡ tokens → entry.status ≡ status → entry.place ≡ place → entry ≡ told tokens status place
+same_entry : (entry : EntryReport) (tokens : List TokenAt) (status place : ℕ) → entry.tokens ≡ tokens → entry.status ≡ status → entry.place ≡ place → entry ≡ entry_report tokens status place
 same_entry entry tokens status place t s p =
-    ap (λ l. told l entry.status entry.place) t ∙ ap (λ n. told tokens n entry.place) s ∙ ap (told tokens status) p
+    ap (λ l. entry_report l entry.status entry.place) t ∙ ap (λ n. entry_report tokens n entry.place) s ∙ ap (entry_report tokens status) p
 
 -- the status of a syntax error is not 0
 some_status : (w : Wrong) → number_of (refusal_of_wrong w) ≡ 0 → ⊥
@@ -168,22 +168,22 @@ open_status NoFeed e = cc
 open_status NoEscape e = cc
 
 module _ (text : List ℕ) (o : AreOctets text) (last : Cursor) where
-  abbrev Opened : List ToldEntry → ℕ → Type 0
+  abbrev Opened : List EntryReport → ℕ → Type 0
   Opened entries at = last_status entries ≡ number_of OpenParenthesis → Begins text at → IsOpener (encode_utf8_all text) (place_of text last.opened)
 
-  abbrev Right : List ToldEntry → Type 0
-  Right entries = (cursor : Cursor) (alone : Given) → cursor.at ≤ length text → IsGiven (drop cursor.at text) alone → cursor.is_done ≡ 0 → Calls text cursor entries last
-      → (entries ≡ told_entries (later cursor.at alone)) × Opened entries cursor.at
+  abbrev Right : List EntryReport → Type 0
+  Right entries = (cursor : Cursor) (alone : Given) → cursor.at ≤ length text → AreItemsOf (drop cursor.at text) alone → cursor.is_done ≡ 0 → Calls text cursor entries last
+      → (entries ≡ reported_entries (later cursor.at alone)) × Opened entries cursor.at
 
   -- once the text is done, calls find no further entry
-  none_more : (cursor : Cursor) (more : List ToldEntry) → cursor.is_done ≡ 1 → Calls text cursor more last → (more ≡ []) × (cursor ≡ last)
+  none_more : (cursor : Cursor) (more : List EntryReport) → cursor.is_done ≡ 1 → Calls text cursor more last → (more ≡ []) × (cursor ≡ last)
   none_more cursor [] d c = (refl, c.1)
   none_more cursor (e ∷ more) d c = absurd (c.1.some ((c.1.answers.done (λ z. omega (arith, d, z))).0))
 
-  module _ (entry : ToldEntry) (more : List ToldEntry) (right : Right more) (cursor new : Cursor) (alone : Given) (within : cursor.at ≤ length text) (g : IsGiven (drop cursor.at text) alone)
-      (going : cursor.is_done ≡ 0) (tells : Tells text cursor new entry) (calls : Calls text new more last) where
+  module _ (entry : EntryReport) (more : List EntryReport) (right : Right more) (cursor new : Cursor) (alone : Given) (within : cursor.at ≤ length text) (g : AreItemsOf (drop cursor.at text) alone)
+      (going : cursor.is_done ≡ 0) (tells : CallReports text cursor new entry) (calls : Calls text new more last) where
     abbrev Answer : Type 0
-    Answer = (entry ∷ more ≡ told_entries (later cursor.at alone)) × Opened (entry ∷ more) cursor.at
+    Answer = (entry ∷ more ≡ reported_entries (later cursor.at alone)) × Opened (entry ∷ more) cursor.at
 
     abbrev octets : List ℕ
     octets = drop cursor.at text
@@ -197,8 +197,8 @@ module _ (text : List ℕ) (o : AreOctets text) (last : Cursor) where
     same : read.given ≡ later cursor.at alone
     same = once text cursor.at read.given alone read.reads read.within g
 
-    stopped : (stop : Stop) → stop_of (later cursor.at alone) ≡ stop → TellsEntry text read.count stop (length tells.before) entry.status cursor new tells.outcome
-    stopped stop is = subst (λ s. TellsEntry text read.count s (length tells.before) entry.status cursor new tells.outcome) (read.entry.stop_is ∙ ap stop_of same ∙ is) read.told
+    stopped : (stop : EntryEnd) → stop_of (later cursor.at alone) ≡ stop → ReportsEntry text read.count stop (length tells.before) entry.status cursor new tells.outcome
+    stopped stop is = subst (λ s. ReportsEntry text read.count s (length tells.before) entry.status cursor new tells.outcome) (read.entry.stop_is ∙ ap stop_of same ∙ is) read.told
 
     all : tells.outcome.length ≡ read.count → tells.outcome.length ≤ length tells.before → entry.tokens ≡ tokens
     all counts fits =
@@ -206,9 +206,9 @@ module _ (text : List ℕ) (o : AreOctets text) (last : Cursor) where
         ∙ ap tokens_of same
 
     by_end : Ends cursor.at alone → Answer
-    by_end e = (ap (λ x. x ∷ more) here ∙ ap (λ l. told tokens 0 0 ∷ l) (rest e.left refl).0 ∙ sym e.tells, (rest e.left refl).1)
+    by_end e = (ap (λ x. x ∷ more) here ∙ ap (λ l. entry_report tokens 0 0 ∷ l) (rest e.left refl).0 ∙ sym e.tells, (rest e.left refl).1)
       where
-        s : TellsEntry text read.count (End (record { at = cursor.at + e.end; begins_blank = e.blank }) (is_nothing e.left)) (length tells.before) entry.status cursor new tells.outcome
+        s : ReportsEntry text read.count (End (record { at = cursor.at + e.end; begins_blank = e.blank }) (is_nothing e.left)) (length tells.before) entry.status cursor new tells.outcome
         s = stopped (End (record { at = cursor.at + e.end; begins_blank = e.blank }) (is_nothing e.left)) e.stops
 
         counts : tells.outcome.length ≡ read.count
@@ -227,7 +227,7 @@ module _ (text : List ℕ) (o : AreOctets text) (last : Cursor) where
         ok : (entry.status ≡ 0) × (new ≡ record { at = cursor.at + e.end; begins_blank = bit e.blank; is_done = bit (is_nothing e.left); opened = cursor.opened })
         ok = s.1 fits
 
-        here : entry ≡ told tokens 0 0
+        here : entry ≡ entry_report tokens 0 0
         here = same_entry entry tokens 0 0 (all counts (omega (arith, counts, fits))) ok.0 (tells.place ∙ ap (λ (x : Outcome). x.place) s.0)
 
         at : new.at ≡ cursor.at + e.end
@@ -237,14 +237,14 @@ module _ (text : List ℕ) (o : AreOctets text) (last : Cursor) where
         done = ap (λ (c : Cursor). c.is_done) ok.1
 
         -- a call after this one has that status
-        after : (l : List ToldEntry) → last_status (entry ∷ l) ≡ number_of OpenParenthesis → last_status l ≡ number_of OpenParenthesis
+        after : (l : List EntryReport) → last_status (entry ∷ l) ≡ number_of OpenParenthesis → last_status l ≡ number_of OpenParenthesis
         after [] h = absurd (omega (arith, h, ok.0))
         after (x ∷ l) h = h
 
-        rest : (left : Given) → left ≡ e.left → (more ≡ told_entries (later cursor.at e.left)) × Opened (entry ∷ more) cursor.at
+        rest : (left : Given) → left ≡ e.left → (more ≡ reported_entries (later cursor.at e.left)) × Opened (entry ∷ more) cursor.at
         rest [] is =
             let none = none_more new more (done ∙ ap (λ l. bit (is_nothing l)) (sym is)) calls in
-            (none.0 ∙ ap (λ l. told_entries (later cursor.at l)) is, λ h b. absurd (omega (arith, after [] (ap (λ l. last_status (entry ∷ l)) (sym none.0) ∙ h))))
+            (none.0 ∙ ap (λ l. reported_entries (later cursor.at l)) is, λ h b. absurd (omega (arith, after [] (ap (λ l. last_status (entry ∷ l)) (sym none.0) ∙ h))))
         rest (x ∷ left) is =
             let there : drop e.end octets ≡ drop (cursor.at + e.end) text = drop-drop e.end cursor.at text in
             let then = some_given (drop e.end octets) (drop_octets e.end octets (drop_octets cursor.at text o)) in
@@ -253,9 +253,9 @@ module _ (text : List ℕ) (o : AreOctets text) (last : Cursor) where
             let some : 0 < length e.left = omega (arith, ap length is) in
             let left_is : e.left ≡ later e.end next = follows octets alone next e.left e.front e.end e.blank (drop_octets cursor.at text o) e.is some g then.1 in
             let line = ends_with_line octets alone e.left e.front e.end e.blank (drop_octets cursor.at text o) fits e.is some g in
-            let r = right new next (omega (arith, at, fits, within, length-drop cursor.at text)) (subst (λ t. IsGiven t next) (there ∙ ap (λ n. drop n text) (sym at)) then.1)
+            let r = right new next (omega (arith, at, fits, within, length-drop cursor.at text)) (subst (λ t. AreItemsOf t next) (there ∙ ap (λ n. drop n text) (sym at)) then.1)
             (done ∙ ap (λ l. bit (is_nothing l)) (sym is)) calls in (
-              r.0 ∙ ap (λ n. told_entries (later n next)) at ∙ ap told_entries (sym (later_later cursor.at e.end next) ∙ ap (later cursor.at) (sym left_is)),
+              r.0 ∙ ap (λ n. reported_entries (later n next)) at ∙ ap reported_entries (sym (later_later cursor.at e.end next) ∙ ap (later cursor.at) (sym left_is)),
               λ h b. r.1 (after more h) (subst (Begins text) (sym at) (begins_next text cursor.at within e.end b line)),
             )
 
@@ -266,9 +266,9 @@ module _ (text : List ℕ) (o : AreOctets text) (last : Cursor) where
         let less = tells.fits (λ z. some_status f.fault.wrong (sym s.1 ∙ z)) in
         let cut : tells.outcome.length ≡ min read.count (length tells.before) = ap (λ (x : Outcome). x.length) s.0 in
         let counts : tells.outcome.length ≡ read.count = omega (arith, cut, less) in
-        let here : entry ≡ told tokens status f.fault.at = same_entry entry tokens status f.fault.at (all counts (omega (arith, less))) s.1 (tells.place ∙ ap (λ (x : Outcome). x.place) s.0) in
+        let here : entry ≡ entry_report tokens status f.fault.at = same_entry entry tokens status f.fault.at (all counts (omega (arith, less))) s.1 (tells.place ∙ ap (λ (x : Outcome). x.place) s.0) in
         let none = none_more new more (ap (λ (c : Cursor). c.is_done) s.2) calls in (
-          ap (λ x. x ∷ more) here ∙ ap (λ l. told tokens status f.fault.at ∷ l) none.0 ∙ sym f.tells,
+          ap (λ x. x ∷ more) here ∙ ap (λ l. entry_report tokens status f.fault.at ∷ l) none.0 ∙ sym f.tells,
           λ h b.
               let w : f.fault.wrong ≡ NotClosed = open_status f.fault.wrong (sym s.1 ∙ ap (λ l. last_status (entry ∷ l)) (sym none.0) ∙ h) in
               let opens : Opens text cursor.at NotClosed cursor.opened new.opened = subst (λ v. Opens text cursor.at v cursor.opened new.opened) w s.3 in
@@ -281,29 +281,29 @@ module _ (text : List ℕ) (o : AreOctets text) (last : Cursor) where
     by_head (inr (inl f)) = by_fault f
     by_head (inr (inr n)) = absurd (tells.some ((stopped Nothing n).1))
 
-  right : (entries : List ToldEntry) → Right entries
+  right : (entries : List EntryReport) → Right entries
   right [] cursor alone within g going calls = absurd (calls.0 going)
   right (entry ∷ more) cursor alone within g going calls = by_head entry more (right more) cursor calls.0 alone within g going calls.1 calls.2 (heads cursor.at alone)
 
-later_zero : (text : List ℕ) (given : Given) → AreOctets text → IsGiven text given → later 0 given ≡ given
+later_zero : (text : List ℕ) (given : Given) → AreOctets text → AreItemsOf text given → later 0 given ≡ given
 later_zero text given o g = sym (given_once text given (later 0 given) g (nothing_given text given o g))
 
 -- the tokens of pieces are the text between their offsets
-with_token_octets : (text : List ℕ) (t : TokenAt) (es : List ToldEntry) → map (token_octets text) (with_told_token t es) ≡ with_token (between text t.start t.end) (map (token_octets text) es)
+with_token_octets : (text : List ℕ) (t : TokenAt) (es : List EntryReport) → map (token_octets text) (with_token_before t es) ≡ with_token (between text t.start t.end) (map (token_octets text) es)
 with_token_octets text t [] = refl
 with_token_octets text t (e ∷ es) = refl
 
-told_cut : (text : List ℕ) (found : List Piece) → map (token_octets text) (told_entries (map Ok found)) ≡ tokens_by_entry text found
+told_cut : (text : List ℕ) (found : List Piece) → map (token_octets text) (reported_entries (map Ok found)) ≡ tokens_by_entry text found
 told_cut text [] = refl
 told_cut text (WordAt p ∷ found) =
-    with_token_octets text (token_between p.start p.end 0) (told_entries (map Ok found)) ∙ ap (with_token (between text p.start p.end)) (told_cut text found)
+    with_token_octets text (token_between p.start p.end 0) (reported_entries (map Ok found)) ∙ ap (with_token (between text p.start p.end)) (told_cut text found)
 told_cut text (QuoteAt p ∷ found) =
-    with_token_octets text (token_between p.start p.end 1) (told_entries (map Ok found)) ∙ ap (with_token (between text p.start p.end)) (told_cut text found)
+    with_token_octets text (token_between p.start p.end 1) (reported_entries (map Ok found)) ∙ ap (with_token (between text p.start p.end)) (told_cut text found)
 told_cut text (CommentAt p ∷ found) = told_cut text found
 told_cut text (EndAt p ∷ found) = ap (λ l. [] ∷ l) (told_cut text found)
 
 -- the pieces of a text that splits, cut where entries end, are its entries
-pub split_given : (text : List ℕ) (e : Entries) → AreOctets text → Splits text e → (found : List Piece) × IsGiven text (map Ok found) × (tokens_by_entry text found ≡ e)
+pub split_given : (text : List ℕ) (e : Entries) → AreOctets text → Splits text e → (found : List Piece) × AreItemsOf text (map Ok found) × (tokens_by_entry text found ≡ e)
 split_given text e o s =
     let p = split_pieces text e s in
     let octets = octets_have_pieces text (octet_scalars text o) p.0 p.1 in
@@ -311,13 +311,13 @@ split_given text e o s =
     let is : map (moved (place_of text)) (map Ok p.0) ≡ map Ok (map (moved_piece (place_of text)) p.0) = map_ok (place_of text) p.0 in
     (p.0, (inl (record { found = map (moved_piece (place_of text)) p.0; is = is; placed = octets }), within), p.2)
 
-module _ (text : List ℕ) (cursor last : Cursor) (entries : List ToldEntry) (o : AreOctets text) (start : cursor.at ≡ 0) (going : cursor.is_done ≡ 0) (calls : Calls text cursor entries last) where
-  from_start : (given : Given) → IsGiven text given → (entries ≡ told_entries (later cursor.at given)) × Opened text o last entries cursor.at
-  from_start given g = right text o last entries cursor given (omega (arith, start)) (subst (λ n. IsGiven (drop n text) given) (sym start) g) going calls
+module _ (text : List ℕ) (cursor last : Cursor) (entries : List EntryReport) (o : AreOctets text) (start : cursor.at ≡ 0) (going : cursor.is_done ≡ 0) (calls : Calls text cursor entries last) where
+  from_start : (given : Given) → AreItemsOf text given → (entries ≡ reported_entries (later cursor.at given)) × Opened text o last entries cursor.at
+  from_start given g = right text o last entries cursor given (omega (arith, start)) (subst (λ n. AreItemsOf (drop n text) given) (sym start) g) going calls
 
   -- calls from the start of a text return all its entries
-  pub tell_all : (given : Given) → IsGiven text given → entries ≡ told_entries given
-  tell_all given g = (from_start given g).0 ∙ ap (λ n. told_entries (later n given)) start ∙ ap told_entries (later_zero text given o g)
+  pub tell_all : (given : Given) → AreItemsOf text given → entries ≡ reported_entries given
+  tell_all given g = (from_start given g).0 ∙ ap (λ n. reported_entries (later n given)) start ∙ ap reported_entries (later_zero text given o g)
 
   -- so they return the entries of a text that splits
   pub tell_entries : (e : Entries) → Splits text e → map (token_octets text) entries ≡ e

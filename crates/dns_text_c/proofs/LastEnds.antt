@@ -3,13 +3,13 @@ use Rattle.std.proofs.Common.{ℕ, ◌≡◌, ◌+◌, Bool, false, List, [], �
 use Rattle.std.specs.Prelude.{map, encode_utf8, encode_utf8_all}
 use Rattle.std.proofs.lemmas.List.{take-append-drop}
 use Rattle.std.proofs.lemmas.Str.{encodes-append, length-encode, len_utf8_bounds}
-use Rattle.dns_split.specs.EntryTokens.{seen_from}
-use Rattle.dns_split.specs.Pieces.{IsPieces, IsGiven, end_at, moved, place_of}
-use Rattle.dns_split.specs.declared.pieces.EndOfEntry.{EndOfEntry}
-use Rattle.dns_split.specs.declared.pieces.Fault.{Fault}
-use Rattle.dns_split.specs.declared.pieces.Piece.{Piece}
-use Rattle.dns_split.specs.declared.pieces.Piece.TheVariants.{Word as WordAt, Quote as QuoteAt, Comment as CommentAt, End as EndAt}
-use Rattle.dns_split.proofs.PieceJoins.{pieces_joined}
+use Rattle.dns_lexer.specs.EntryTokens.{seen_from}
+use Rattle.dns_lexer.specs.Pieces.{IsPieces, AreItemsOf, end_at, moved, place_of}
+use Rattle.dns_lexer.specs.declared.pieces.EndOfEntry.{EndOfEntry}
+use Rattle.dns_lexer.specs.declared.pieces.Fault.{Fault}
+use Rattle.dns_lexer.specs.declared.pieces.Piece.{Piece}
+use Rattle.dns_lexer.specs.declared.pieces.Piece.TheVariants.{Word as WordAt, Quote as QuoteAt, Comment as CommentAt, End as EndAt}
+use Rattle.dns_lexer.proofs.PieceJoins.{pieces_joined}
 
 abbrev Given : Type 0
 Given = List (Result Piece Fault)
@@ -77,7 +77,7 @@ module _ (octets : List ℕ) (f : ℕ → ℕ) where
     no_fault (z ∷ found) (y ∷ front) x is =
         let more : map (moved f) (map Ok found ++ Ok (EndAt e) ∷ rest) ≡ map Ok front ++ Err x ∷ [] = cc in no_fault found front x more
 
-pub nothing_behind : (octets : List ℕ) (given : Given) (found : List Piece) (e : EndOfEntry) (rest : Given) → IsGiven octets given → given ≡ map Ok found ++ Ok (EndAt e) ∷ rest
+pub nothing_behind : (octets : List ℕ) (given : Given) (found : List Piece) (e : EndOfEntry) (rest : Given) → AreItemsOf octets given → given ≡ map Ok found ++ Ok (EndAt e) ∷ rest
     → [] ≡ seen_from octets e.at None rest → drop e.at octets ≡ []
 nothing_behind octets given found e rest g is none =
     ⊎_elim

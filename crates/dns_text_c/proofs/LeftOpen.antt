@@ -2,23 +2,23 @@
 use Rattle.std.proofs.Common.{◌≡◌, ℕ, ◌+◌, List, [], ◌∷◌, ◌++◌, take, drop, refl, sym, ap, subst, ◌∙◌, append-nil, inl, inr, Result, Ok, Err}
 use Rattle.std.specs.Prelude.{map, encode_utf8_all}
 use Rattle.std.proofs.lemmas.List.{take-append-drop}
-use Rattle.dns_split.specs.Opening.{IsLeftOpen}
-use Rattle.dns_split.specs.Pieces.{IsWrong, ReadsOctets, ReadsOctetsFrom, later, moved, moved_fault, moved_wrong, place_of}
-use Rattle.dns_split.specs.declared.pieces.Fault.{Fault as TextFault}
-use Rattle.dns_split.specs.declared.pieces.Piece.{Piece}
-use Rattle.dns_split.specs.declared.pieces.Piece.TheVariants.{Word as WordAt, Quote as QuoteAt, Comment as CommentAt, End as EndAt}
-use Rattle.dns_split.specs.declared.pieces.Wrong.{Wrong}
-use Rattle.dns_split.specs.declared.pieces.Wrong.TheVariants.{Closing, OpenParenthesis, OpenQuote, LoneReturn, BadEscape}
-use Rattle.dns_split.proofs.PieceGiven.{tail_of}
+use Rattle.dns_lexer.specs.Unclosed.{LacksClosing}
+use Rattle.dns_lexer.specs.Pieces.{IsWrong, ReadsOctets, ReadsOctetsFrom, later, moved, moved_fault, moved_wrong, place_of}
+use Rattle.dns_lexer.specs.declared.pieces.Fault.{Fault as TextFault}
+use Rattle.dns_lexer.specs.declared.pieces.Piece.{Piece}
+use Rattle.dns_lexer.specs.declared.pieces.Piece.TheVariants.{Word as WordAt, Quote as QuoteAt, Comment as CommentAt, End as EndAt}
+use Rattle.dns_lexer.specs.declared.pieces.Wrong.{Wrong}
+use Rattle.dns_lexer.specs.declared.pieces.Wrong.TheVariants.{Closing, OpenParenthesis, OpenQuote, LoneReturn, BadEscape}
+use Rattle.dns_lexer.proofs.PieceGiven.{tail_of}
 use Rattle.dns_text_c.specs.Entries.{stop_of, LeavesOpen}
-use Rattle.dns_text_c.specs.declared.tokens.Stop.{Stop}
-use Rattle.dns_text_c.specs.declared.tokens.Stop.TheVariants.{End, Fault, Nothing}
+use Rattle.dns_text_c.specs.declared.tokens.EntryEnd.{EntryEnd}
+use Rattle.dns_text_c.specs.declared.tokens.EntryEnd.TheVariants.{End, Fault, Nothing}
 
 abbrev fault_of : TextFault → List (Result Piece TextFault) → TextFault
 fault_of f (Err e ∷ given) = e
 fault_of f _ = f
 
-abbrev stopped_by : TextFault → Stop → TextFault
+abbrev stopped_by : TextFault → EntryEnd → TextFault
 stopped_by f (Fault e) = e
 stopped_by f _ = f
 
@@ -62,19 +62,19 @@ same_wrong g at (Err k ∷ alone) [] fault f e s w =
     sym (ap (λ (x : TextFault). x.wrong) there) ∙ ap (moved_wrong g) is
 same_wrong g at (Err k ∷ alone) (q ∷ found) fault f e s w = cc
 
-whole_open : (text : List ℕ) (at : ℕ) (w : Wrong) → IsWrong (take at text) (drop at text) w → w ≡ OpenParenthesis → IsLeftOpen text
+whole_open : (text : List ℕ) (at : ℕ) (w : Wrong) → IsWrong (take at text) (drop at text) w → w ≡ OpenParenthesis → LacksClosing text
 whole_open text at w h e =
     let here : IsWrong (take at text) (drop at text) OpenParenthesis = subst (IsWrong (take at text) (drop at text)) e h in
     let all : take at text ≡ text = sym (append-nil (take at text)) ∙ ap (λ l. take at text ++ l) (sym here.0) ∙ take-append-drop at text in
-    subst IsLeftOpen all here.1
+    subst LacksClosing all here.1
 
 left_open : (octets : List ℕ) (at : ℕ) (alone : List (Result Piece TextFault)) (f : TextFault) → ReadsOctets octets alone → stop_of (later at alone) ≡ Fault f → f.wrong ≡ OpenParenthesis
-    → IsLeftOpen (encode_utf8_all octets)
+    → LacksClosing (encode_utf8_all octets)
 left_open octets at alone f (inl w) s e = elim (no_fault (place_of octets) at alone w.found f w.is s) [ ]
 left_open octets at alone f (inr b) s e =
     whole_open (encode_utf8_all octets) b.fault.at b.fault.wrong b.is_fault.wrong (same_wrong (place_of octets) at alone b.found b.fault f b.is s e)
 
-pub leaves_open : (text : List ℕ) (at : ℕ) (given : List (Result Piece TextFault)) (stop : Stop) → ReadsOctetsFrom text at given → stop ≡ stop_of given → LeavesOpen text at stop
+pub leaves_open : (text : List ℕ) (at : ℕ) (given : List (Result Piece TextFault)) (stop : EntryEnd) → ReadsOctetsFrom text at given → stop ≡ stop_of given → LeavesOpen text at stop
 leaves_open text at given (End e last) r s = tt
 leaves_open text at given Nothing r s = tt
 leaves_open text at given (Fault f) r s = λ w. left_open (drop at text) at r.0 f r.1 (sym (s ∙ ap stop_of r.2)) w

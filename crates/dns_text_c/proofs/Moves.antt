@@ -7,7 +7,7 @@ use Rattle.std.proofs.lemmas.Grind.{flat_map-append}
 use Rattle.std.proofs.lemmas.List.{length-drop, length-take-le, take_all}
 use Rattle.std.proofs.Math.Seq.{take-add}
 use Rattle.dns_octets.specs.Octets.{greatest_length}
-use Rattle.dns_split.specs.Position.{IsPosition, no_feed}
+use Rattle.dns_lexer.specs.Position.{IsPosition, no_feed}
 
 -- a line with its LF
 abbrev line_of : List ℕ → List ℕ

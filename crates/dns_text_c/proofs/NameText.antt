@@ -14,14 +14,14 @@ use Rattle.dns_wire.specs.Wire.{wire_length}
 use Rattle.dns_wire.specs.declared.error.PushError.{PushError}
 use Rattle.dns_wire.specs.declared.error.PushError.TheVariants.{LongLabel as NoLabel, LongName, ShortBuf}
 use Rattle.dns_name.specs.Reading.{is_dot, HasNamed, ReadsAs}
-use Rattle.dns_name.specs.ReadingSteps.{GivesOctet}
+use Rattle.dns_name.specs.ReadingSteps.{SymbolHasOctet}
 use Rattle.dns_name.specs.declared.name.UncertainName.{UncertainName}
 use Rattle.dns_name.specs.declared.name.UncertainName.TheVariants.{Absolute, Relative}
 use Rattle.dns_name.proofs.Naming.{named_none, named_octet, named_dot, named_on, named_nothing, dot_bytes}
 use Rattle.dns_name.proofs.Taking.{dot_spelled}
-use Rattle.dns_text_c.specs.Names.{TakesNameSymbol, NameStops, ReadsNameText}
+use Rattle.dns_text_c.specs.Names.{AppendsNameSymbol, NameStops, ReadsNameText}
 use Rattle.dns_text_c.specs.Strings.{refusal_of}
-use Rattle.dns_text_c.specs.Told.{TellsOctets}
+use Rattle.dns_text_c.specs.Reports.{CopiesWhole}
 use Rattle.dns_text_c.specs.declared.outcome.Fault.{Fault}
 use Rattle.dns_text_c.specs.declared.outcome.Outcome.{Outcome}
 use Rattle.dns_text_c.specs.declared.outcome.Refusal.{Refusal}
@@ -39,7 +39,7 @@ goes_on text front piece rest more is e = append_assoc front piece more ∙ ap (
 
 -- one more octet
 pub named_more : (text : List ℕ) (b : Naming) (place after octet : ℕ) (x : Symbol) → HasNamed text b.labels b.current (drop place text)
-    → ReadsAt text place (Ok (Some (x, after))) → is_dot x ≡ false → GivesOctet b x octet → wire_length (all_labels (with_octet b octet)) ≤ 254 → length b.current < 63
+    → ReadsAt text place (Ok (Some (x, after))) → is_dot x ≡ false → SymbolHasOctet b x octet → wire_length (all_labels (with_octet b octet)) ≤ 254 → length b.current < 63
     → HasNamed text b.labels (b.current ++ octet ∷ []) (drop after text)
 named_more text b place after octet x h next no_dot gives fits short =
     subst (λ t. HasNamed t b.labels (b.current ++ octet ∷ []) (drop after text)) (goes_on text (flat_map bytes h.symbols) (bytes x) (drop place text) (drop after text) h.spelled next.0.spelled)
@@ -103,7 +103,7 @@ module _ {O : Type 0} where
 
 -- a symbol is rejected
 pub name_stops : (text : List ℕ) (b new : Naming) (place after : ℕ) (x : Symbol) (why : Refusal) → HasNamed text b.labels b.current (drop place text)
-    → ReadsAt text place (Ok (Some (x, after))) → is_dot x ≡ false → TakesNameSymbol b x (Err why) new → NameStops text b.labels b.current place why
+    → ReadsAt text place (Ok (Some (x, after))) → is_dot x ≡ false → AppendsNameSymbol b x (Err why) new → NameStops text b.labels b.current place why
 name_stops text b new place after x BinaryLabel h next no_dot t = (after, subst (λ y. ReadsAt text place (Ok (Some (y, after)))) t.1 next, t.0)
 name_stops text b new place after x BadSymbol h next no_dot t = ((x, after), t.0, next, t.1)
 name_stops text b new place after x TooLong h next no_dot t = (t.0, ((x, after), next, no_dot, t.1.0, t.1.1), t.2)
@@ -129,8 +129,8 @@ root_fits labels (Err NoLabel) h a = absurd a
 root_fits labels (Err ShortBuf) h a = absurd (omega (arith, a, h))
 
 -- the result for other octets
-pub given_as : (octets want old new : List ℕ) (status : ℕ) (outcome : Outcome) → octets ≡ want → TellsOctets octets old status new outcome → TellsOctets want old status new outcome
-given_as octets want old new status outcome is g = subst (λ o. TellsOctets o old status new outcome) is g
+pub given_as : (octets want old new : List ℕ) (status : ℕ) (outcome : Outcome) → octets ≡ want → CopiesWhole octets old status new outcome → CopiesWhole want old status new outcome
+given_as octets want old new status outcome is g = subst (λ o. CopiesWhole o old status new outcome) is g
 
 -- octets are left
 pub some_left : (text : List ℕ) (after : ℕ) → after ≤ length text → (after ≡ length text → ⊥) → drop after text ≡ [] → ⊥

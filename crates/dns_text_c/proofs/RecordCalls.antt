@@ -3,40 +3,40 @@ use Rattle.std.proofs.Common.{ℕ, ◌≡◌, ◌≢◌, ◌≤◌, ◌+◌, Boo
 use Rattle.std.specs.Prelude.{◌⊎◌, map}
 use Rattle.std.proofs.lemmas.Bool.{cases_lt}
 use Rattle.std.proofs.lemmas.List.{length-drop}
-use Rattle.dns_fields.specs.declared.record_error.RecordError.{RecordError}
+use Rattle.rdata_fields.specs.declared.record_error.RecordError.{RecordError}
 use Rattle.dns_octets.specs.Room.{Room, exactly}
 use Rattle.dns_wire.proofs.OneAnswer.{name_same}
-use Rattle.dns_split.specs.EntryTokens.{EndIs, IsSeen, IsSeenFrom, PartSeen, TokenIs, TokenSeen, seen_from}
-use Rattle.dns_split.specs.Pieces.{AreOctets, EachWithin}
-use Rattle.dns_split.specs.Standing.{ahead, at_entry}
-use Rattle.dns_split.specs.declared.pieces.EndOfEntry.{EndOfEntry}
-use Rattle.dns_split.specs.declared.pieces.Fault.{Fault}
-use Rattle.dns_split.specs.declared.pieces.Piece.{Piece}
-use Rattle.dns_split.specs.declared.pieces.Wrong.{Wrong}
-use Rattle.dns_split.specs.declared.pieces.Piece.TheVariants.{End as EndAt}
-use Rattle.dns_split.proofs.EntryLaws.{seen_once}
-use Rattle.dns_split.proofs.EntryParts.{starts}
-use Rattle.dns_reader.specs.Records.{AreGivenInARow, EntryGiven, ReadsBegun, ReadsNextEntry, ReadsNextRecord, StartsText, given_next, none_given}
-use Rattle.dns_reader.specs.Source.{BeginsEntry, SourceSeen}
-use Rattle.dns_reader.specs.TextEntries.{counts_with, end_seen}
-use Rattle.dns_reader.specs.TextPieces.{StartsAt, seen_later}
-use Rattle.dns_reader.specs.declared.entry.EntryRead.{EntryRead}
-use Rattle.dns_reader.specs.declared.entry.EntryRead.TheVariants.{Nothing, Directive, Include, Record as RecordRead}
-use Rattle.dns_reader.specs.declared.known.Known.{Known}
-use Rattle.dns_reader.specs.declared.known.Known.TheVariants.{Unsaid, Name, Refused}
-use Rattle.dns_reader.specs.declared.records.RecordReader.{RecordReader}
-use Rattle.dns_reader.specs.declared.state.State.{State}
-use Rattle.dns_reader.proofs.Parts.{Parts}
-use Rattle.dns_reader.proofs.Passing.{ends_of}
-use Rattle.dns_reader.proofs.RestsSeen.{end_given, given_last, alone_later, moved_end, rest_there, seen_alone, seen_from_once}
-use Rattle.dns_reader.proofs.StepsSeen.{GoesOn, step_seen}
-use Rattle.dns_reader.proofs.TextParts.{closed_left, seen_from_start}
-use Rattle.dns_reader.proofs.TextPieces.{never_empty}
+use Rattle.dns_lexer.specs.EntryTokens.{EndIs, IsSeen, IsSeenFrom, PartSeen, TokenIs, TokenSeen, seen_from}
+use Rattle.dns_lexer.specs.Pieces.{AreOctets, EachWithin}
+use Rattle.dns_lexer.specs.CursorStates.{ahead, at_entry}
+use Rattle.dns_lexer.specs.declared.pieces.EndOfEntry.{EndOfEntry}
+use Rattle.dns_lexer.specs.declared.pieces.Fault.{Fault}
+use Rattle.dns_lexer.specs.declared.pieces.Piece.{Piece}
+use Rattle.dns_lexer.specs.declared.pieces.Wrong.{Wrong}
+use Rattle.dns_lexer.specs.declared.pieces.Piece.TheVariants.{End as EndAt}
+use Rattle.dns_lexer.proofs.EntryLaws.{seen_once}
+use Rattle.dns_lexer.proofs.EntryParts.{starts}
+use Rattle.zone_reader.specs.Records.{AreSuccessiveResults, EntryResult, ReadsBegun, ReadsNextEntry, ReadsNextRecord, StartsText, given_next, none_given}
+use Rattle.zone_reader.specs.Source.{BeginsEntry, SourceSeen}
+use Rattle.zone_reader.specs.TextEntries.{counts_with, end_seen}
+use Rattle.zone_reader.specs.TextPieces.{StartsAt, seen_later}
+use Rattle.zone_reader.specs.declared.entry.ParsedEntry.{ParsedEntry}
+use Rattle.zone_reader.specs.declared.entry.ParsedEntry.TheVariants.{Nothing, Directive, Include, Record as RecordRead}
+use Rattle.zone_reader.specs.declared.known.NameState.{NameState}
+use Rattle.zone_reader.specs.declared.known.NameState.TheVariants.{Unset, Name, Refused}
+use Rattle.zone_reader.specs.declared.records.RecordReader.{RecordReader}
+use Rattle.zone_reader.specs.declared.state.State.{State}
+use Rattle.zone_reader.proofs.SeenParts.{Parts}
+use Rattle.zone_reader.proofs.Passing.{ends_of}
+use Rattle.zone_reader.proofs.RestsSeen.{end_given, given_last, alone_later, moved_end, rest_there, seen_alone, seen_from_once}
+use Rattle.zone_reader.proofs.StepsSeen.{GoesOn, step_seen}
+use Rattle.zone_reader.proofs.TextParts.{closed_left, seen_from_start}
+use Rattle.zone_reader.proofs.TextPieces.{never_empty}
 use Rattle.dns_text_c.specs.Kept.{HoldsName, HoldsState}
-use Rattle.dns_text_c.specs.Reasons.{TellsWrong, syntax_of}
-use Rattle.dns_text_c.specs.RecordCalls.{RecordCalls, RecordCallsTellAll, TellRecords, TellsNextRecord}
-use Rattle.dns_text_c.specs.Records.{KeepsReader, NextRecord, ReadsZone, RecordCall, TellsFound, TellsGiven}
-use Rattle.dns_text_c.specs.Told.{number_of}
+use Rattle.dns_text_c.specs.Reasons.{ReportsErrorText, syntax_of}
+use Rattle.dns_text_c.specs.RecordCalls.{RecordCalls, RecordCallsReturnAll, CallsReturnRecords, ReportsNextRecord}
+use Rattle.dns_text_c.specs.Records.{KeepsReader, NextRecord, ReadsZone, RecordCall, ReportsFound, ReportsResult}
+use Rattle.dns_text_c.specs.Reports.{number_of}
 use Rattle.dns_text_c.specs.declared.kept.KeptName.{KeptName}
 use Rattle.dns_text_c.specs.declared.kept.Zone.{Zone}
 use Rattle.dns_text_c.specs.declared.outcome.Outcome.{Outcome}
@@ -56,7 +56,7 @@ record SameReader (r s : RecordReader) : Type 0 where
   source : r.source ≡ s.source
   state : r.state ≡ s.state
 
-entry_of_other : (r s after : RecordReader) (old new : List ℕ) (result : Option (Result EntryRead RecordError)) → SameReader r s → ReadsNextEntry room r old result after new → ReadsNextEntry room s old result after new
+entry_of_other : (r s after : RecordReader) (old new : List ℕ) (result : Option (Result ParsedEntry RecordError)) → SameReader r s → ReadsNextEntry room r old result after new → ReadsNextEntry room s old result after new
 entry_of_other r s after old new result same h = record {
   start = h.start;
   begun = h.begun;
@@ -65,13 +65,13 @@ entry_of_other r s after old new result same h = record {
   octets_stay = h.octets_stay ∙ same.octets;
 }
 
-row_of_other : (r s last : RecordReader) (given : List EntryGiven) → SameReader r s → AreGivenInARow room r given last → (end : RecordReader) × AreGivenInARow room s given end × SameReader last end
+row_of_other : (r s last : RecordReader) (given : List EntryResult) → SameReader r s → AreSuccessiveResults room r given last → (end : RecordReader) × AreSuccessiveResults room s given end × SameReader last end
 row_of_other r s last given same none_given = (s, none_given, same)
 row_of_other r s last given same (given_next before middle end g row next state) =
     let k = row_of_other r s middle before same row in
     (end, given_next before k.0 end g k.1 (entry_of_other middle k.0 end g.old g.new (Some g.result) k.2 next) state, record { octets = refl; source = refl; state = refl })
 
-record_of_other : (r s after : RecordReader) (old new : List ℕ) (result : Option (Result EntryRead RecordError)) → SameReader r s → ReadsNextRecord room r old result after new → ReadsNextRecord room s old result after new
+record_of_other : (r s after : RecordReader) (old new : List ℕ) (result : Option (Result ParsedEntry RecordError)) → SameReader r s → ReadsNextRecord room r old result after new → ReadsNextRecord room s old result after new
 record_of_other r s after old new result same h =
     let k = row_of_other r s h.middle h.directives same h.row in
     record { directives = h.directives; middle = k.0; row = k.1; are_directives = h.are_directives; last = entry_of_other h.middle k.0 after old new result k.2 h.last; is_last = h.is_last }
@@ -150,7 +150,7 @@ stands_first octets state first h =
     let from = seen_from_start octets first.source.parts h.are_octets h.parts in
     record { octets_is = h.octets_is; closed = h.closed; taken = h.taken; within = omega (arith, h.began); there = inr (subst (λ n. IsSeenFrom octets n first.source.parts) (sym h.began) from) }
 
-stands_next : (octets : List ℕ) (r after : RecordReader) (old new : List ℕ) (result : Result EntryRead RecordError) → AreOctets octets → Stands octets r → ReadsNextEntry room r old (Some result) after new → Stands octets after
+stands_next : (octets : List ℕ) (r after : RecordReader) (old new : List ℕ) (result : Result ParsedEntry RecordError) → AreOctets octets → Stands octets r → ReadsNextEntry room r old (Some result) after new → Stands octets after
 stands_next octets r after old new result are s next =
     let q = step_seen room r after old new result s.closed next in
     let tokens : Parts = map (λ t. Ok (TokenIs t q.entry.begins_blank)) q.entry.tokens in
@@ -167,11 +167,11 @@ stands_next octets r after old new result are s next =
       there = there_then octets are r.source.began (ends_of q.ends) tokens after.source q.entry.end q.rest goes seen;
     }
 
-stands_row : (octets : List ℕ) (r last : RecordReader) (given : List EntryGiven) → AreOctets octets → Stands octets r → AreGivenInARow room r given last → Stands octets last
+stands_row : (octets : List ℕ) (r last : RecordReader) (given : List EntryResult) → AreOctets octets → Stands octets r → AreSuccessiveResults room r given last → Stands octets last
 stands_row octets r last given are s none_given = s
 stands_row octets r last given are s (given_next before middle end g row next state) = stands_next octets middle end g.old g.new g.result are (stands_row octets r middle before are s row) next
 
-stands_record : (octets : List ℕ) (r after : RecordReader) (old new : List ℕ) (result : Result EntryRead RecordError) → AreOctets octets → Stands octets r → ReadsNextRecord room r old (Some result) after new → Stands octets after
+stands_record : (octets : List ℕ) (r after : RecordReader) (old new : List ℕ) (result : Result ParsedEntry RecordError) → AreOctets octets → Stands octets r → ReadsNextRecord room r old (Some result) after new → Stands octets after
 stands_record octets r after old new result are s h = stands_next octets h.middle after old new result are (stands_row octets r h.middle h.directives are s h.row) h.last
 
 -- ---- if nothing is left, nothing is returned
@@ -191,18 +191,18 @@ end_alone (x ∷ ends) tokens b end rest e is counts =
     let none : [] ≡ ends_of ends ++ ((map (λ t. Ok (TokenIs t b)) tokens ++ end_seen end ∷ []) ++ rest) = cc in never_empty (ends_of ends) (map (λ t. Ok (TokenIs t b)) tokens) rest (end_seen end) none
 
 module _ (r : RecordReader) (closed : r.source.is_open ≡ false) where
-  no_entry : (e : EndOfEntry) → r.source.parts ≡ Ok (EndIs e) ∷ [] → (after : RecordReader) (old new : List ℕ) (result : Result EntryRead RecordError) → ReadsNextEntry room r old (Some result) after new → ⊥
+  no_entry : (e : EndOfEntry) → r.source.parts ≡ Ok (EndIs e) ∷ [] → (after : RecordReader) (old new : List ℕ) (result : Result ParsedEntry RecordError) → ReadsNextEntry room r old (Some result) after new → ⊥
   no_entry e is after old new result next =
       let q = step_seen room r after old new result closed next in
       end_alone q.ends q.entry.tokens q.entry.begins_blank q.entry.end q.rest e (sym is ∙ q.parts_are) q.counts
 
-  no_row : (e : EndOfEntry) → r.source.parts ≡ Ok (EndIs e) ∷ [] → (last : RecordReader) (given : List EntryGiven) → AreGivenInARow room r given last → last ≡ r
+  no_row : (e : EndOfEntry) → r.source.parts ≡ Ok (EndIs e) ∷ [] → (last : RecordReader) (given : List EntryResult) → AreSuccessiveResults room r given last → last ≡ r
   no_row e is last given none_given = refl
   no_row e is last given (given_next before middle end g row next state) =
       let same : middle ≡ r = no_row e is middle before row in
       absurd (no_entry e is end g.old g.new g.result (subst (λ x. ReadsNextEntry room x g.old (Some g.result) end g.new) same next))
 
-  no_record : (e : EndOfEntry) → r.source.parts ≡ Ok (EndIs e) ∷ [] → (after : RecordReader) (old new : List ℕ) (result : Result EntryRead RecordError) → ReadsNextRecord room r old (Some result) after new → ⊥
+  no_record : (e : EndOfEntry) → r.source.parts ≡ Ok (EndIs e) ∷ [] → (after : RecordReader) (old new : List ℕ) (result : Result ParsedEntry RecordError) → ReadsNextRecord room r old (Some result) after new → ⊥
   no_record e is after old new result h =
       no_entry e is after old new result (subst (λ x. ReadsNextEntry room x old (Some result) after new) (no_row e is h.middle h.directives h.row) h.last)
 
@@ -224,20 +224,20 @@ module _ (r : RecordReader) (closed : r.source.is_open ≡ false) where
 
 -- ---- a zone has one state
 
-name_once : (kept : KeptName) (a b : Known) → HoldsName kept (Some a) → HoldsName kept (Some b) → a ≡ b
-name_once kept Unsaid Unsaid h k = refl
-name_once kept Unsaid (Name m) h k = absurd (k.1 h.1)
-name_once kept Unsaid Refused h k = absurd (k h.0)
-name_once kept (Name l) Unsaid h k = absurd (h.1 k.1)
+name_once : (kept : KeptName) (a b : NameState) → HoldsName kept (Some a) → HoldsName kept (Some b) → a ≡ b
+name_once kept Unset Unset h k = refl
+name_once kept Unset (Name m) h k = absurd (k.1 h.1)
+name_once kept Unset Refused h k = absurd (k h.0)
+name_once kept (Name l) Unset h k = absurd (h.1 k.1)
 name_once kept (Name l) (Name m) h k =
     let same : Ok l ≡ Ok m = name_same _ (Ok l) (Ok m) h.2.1 k.2.1 in cc
 name_once kept (Name l) Refused h k = absurd (k h.0)
-name_once kept Refused Unsaid h k = absurd (h k.0)
+name_once kept Refused Unset h k = absurd (h k.0)
 name_once kept Refused (Name m) h k = absurd (h k.0)
 name_once kept Refused Refused h k = refl
 
-no_name : (kept : KeptName) (a : Known) → HoldsName kept (Some a) → HoldsName kept None → ⊥
-no_name kept Unsaid h k = k.1 h.1
+no_name : (kept : KeptName) (a : NameState) → HoldsName kept (Some a) → HoldsName kept None → ⊥
+no_name kept Unset h k = k.1 h.1
 no_name kept (Name l) h k =
     ⊎_elim (λ short. omega (arith, short, h.2.0)) (λ bad. let same : Ok l ≡ Err bad.0 = name_same _ (Ok l) (Err bad.0) h.2.1 bad.1 in cc) k.2
 no_name kept Refused h k = h k.0
@@ -291,28 +291,28 @@ never_one BadData h = cc
 never_one NoTtl h = cc
 never_one RelativeName h = cc
 
-error_some : (wrong : Option Wrong) (e : RecordError) (old new : List ℕ) (told : ℕ) (outcome : Outcome) → TellsWrong wrong e old told new outcome → told ≢ 1
+error_some : (wrong : Option Wrong) (e : RecordError) (old new : List ℕ) (told : ℕ) (outcome : Outcome) → ReportsErrorText wrong e old told new outcome → told ≢ 1
 error_some (Some wrong) e old new told outcome t = λ one. never_one _ (sym one ∙ t.0.0)
 error_some None e old new told outcome t = λ one. never_one _ (sym one ∙ t.told_is)
 
 module _ (after : RecordReader) (octets : List ℕ) (call : RecordCall) where
-  found_some : (status : ℕ) (octets : List ℕ) (name : Known) (head : _) → status ≢ 1 → TellsFound status after octets name head call → call.status ≢ 1
+  found_some : (status : ℕ) (octets : List ℕ) (name : NameState) (head : _) → status ≢ 1 → ReportsFound status after octets name head call → call.status ≢ 1
   found_some status octets name head some t =
       ⊎_elim (λ short. λ one. let none : call.status ≡ 2 = (t.lacks short).0 in omega (arith, none, one)) (λ fits. λ one. some (sym (t.given fits).0 ∙ one))
       (cases_lt (length call.before.octets) (length octets))
 
-  found_keeps : (status : ℕ) (octets : List ℕ) (name : Known) (head : _) → call.status ≢ 2 → TellsFound status after octets name head call → KeepsReader after call.before.zone call.after.zone
+  found_keeps : (status : ℕ) (octets : List ℕ) (name : NameState) (head : _) → call.status ≢ 2 → ReportsFound status after octets name head call → KeepsReader after call.before.zone call.after.zone
   found_keeps status octets name head fits t =
       ⊎_elim (λ short. absurd (fits (t.lacks short).0)) (λ enough. (t.given enough).5) (cases_lt (length call.before.octets) (length octets))
 
-  some_told : (given : Result EntryRead RecordError) → TellsGiven (Some given) after octets call → call.status ≢ 1
+  some_told : (given : Result ParsedEntry RecordError) → ReportsResult (Some given) after octets call → call.status ≢ 1
   some_told (Err e) t = error_some (syntax_of e.kind) e _ _ _ _ t.reason
   some_told (Ok (RecordRead at ttl class rtype)) t = found_some 0 _ _ _ (λ e. cc) t
   some_told (Ok (Include file has_origin)) t = found_some 26 _ _ _ (λ e. cc) t.1
   some_told (Ok Nothing) t = absurd t
   some_told (Ok Directive) t = absurd t
 
-  some_keeps : (given : Result EntryRead RecordError) → call.status ≢ 2 → TellsGiven (Some given) after octets call → KeepsReader after call.before.zone call.after.zone
+  some_keeps : (given : Result ParsedEntry RecordError) → call.status ≢ 2 → ReportsResult (Some given) after octets call → KeepsReader after call.before.zone call.after.zone
   some_keeps (Err e) fits t = t.keeps
   some_keeps (Ok (RecordRead at ttl class rtype)) fits t = found_keeps 0 _ _ _ fits t
   some_keeps (Ok (Include file has_origin)) fits t = found_keeps 26 _ _ _ fits t.1
@@ -331,7 +331,7 @@ held r old new k = record { holds = (k.origin.0, k.owner.0, k.default_ttl, k.las
 
 abbrev Told : RecordReader → RecordCall → Type 0
 Told r call =
-    ((after : RecordReader) × (given : Result EntryRead RecordError) × TellsNextRecord r after given call)
+    ((after : RecordReader) × (given : Result ParsedEntry RecordError) × ReportsNextRecord r after given call)
     ⊎ ((after : RecordReader) × (octets : List ℕ) × ReadsNextRecord room r [] None after octets × (call.status ≡ 1))
 
 module _ (text : List ℕ) (are : AreOctets text) (r : RecordReader) (stands : Stands text r) (call : RecordCall) (held : Held call.before.zone r) where
@@ -347,13 +347,13 @@ module _ (text : List ℕ) (are : AreOctets text) (r : RecordReader) (stands : S
       }
 
   module _ (before after : RecordReader) (octets : List ℕ) where
-    told_same : (given : Option (Result EntryRead RecordError)) → SameReader before r → ReadsNextRecord room before [] given after octets
-        → TellsGiven given after octets call → Told r call
+    told_same : (given : Option (Result ParsedEntry RecordError)) → SameReader before r → ReadsNextRecord room before [] given after octets
+        → ReportsResult given after octets call → Told r call
     told_same (Some given) same reads tells = inl (after, given, record { octets = octets; reads = record_of_other before r after [] octets (Some given) same reads; tells = tells })
     told_same None same reads tells = inr (after, octets, record_of_other before r after [] octets None same reads, tells.status_is)
 
-    told_none : (given : Option (Result EntryRead RecordError)) → r.source.parts ≡ [] → before.source.is_open ≡ false → (e : EndOfEntry) → before.source.parts ≡ Ok (EndIs e) ∷ []
-        → ReadsNextRecord room before [] given after octets → TellsGiven given after octets call → Told r call
+    told_none : (given : Option (Result ParsedEntry RecordError)) → r.source.parts ≡ [] → before.source.is_open ≡ false → (e : EndOfEntry) → before.source.parts ≡ Ok (EndIs e) ∷ []
+        → ReadsNextRecord room before [] given after octets → ReportsResult given after octets call → Told r call
     told_none (Some given) none closed e is reads tells = absurd (no_record before closed e is after [] octets given reads)
     told_none None none closed e is reads tells = inr (r, [], none_next r stands.closed none [], tells.status_is)
 
@@ -373,7 +373,7 @@ module _ (text : List ℕ) (are : AreOctets text) (r : RecordReader) (stands : S
 -- ---- calls one after another
 
 module _ (text : List ℕ) (are : AreOctets text) where
-  tell_on : (calls : List RecordCall) (zone : Zone) (r : RecordReader) → Stands text r → Held zone r → RecordCalls text zone calls → TellRecords r calls
+  tell_on : (calls : List RecordCall) (zone : Zone) (r : RecordReader) → Stands text r → Held zone r → RecordCalls text zone calls → CallsReturnRecords r calls
   tell_on [] zone r stands h calls = absurd calls
   tell_on (call ∷ []) zone r stands h (same, answers, one) =
       elim (told_here text are r stands call (subst (λ z. Held z r) (sym same) h) answers.answers) [
@@ -422,13 +422,13 @@ module _ (text : List ℕ) (are : AreOctets text) where
       let is : other ≡ state = state_once call.before.zone other state found here in
       (z.before, subst (λ x. StartsText text x z.before) is (starts_text call.before.zone.at other z.before at z.starts))
 
-  tell_from : (state : State) (zone : Zone) (calls : List RecordCall) (r : RecordReader) → zone.at ≡ 0 → HoldsState zone (Some state) → RecordCalls text zone calls → StartsText text state r → TellRecords r calls
+  tell_from : (state : State) (zone : Zone) (calls : List RecordCall) (r : RecordReader) → zone.at ≡ 0 → HoldsState zone (Some state) → RecordCalls text zone calls → StartsText text state r → CallsReturnRecords r calls
   tell_from state zone calls r zero holds all starts =
       tell_on calls zone r (stands_first text state r starts) (record { holds = subst (λ x. HoldsState zone (Some x)) (sym starts.state_is) holds; at = zero ∙ sym starts.began }) all
 
-pub record_calls_tell_all : RecordCallsTellAll
-record_calls_tell_all text state zone [] are zero holds calls = absurd calls
-record_calls_tell_all text state zone (call ∷ []) are zero holds calls =
+pub record_calls_return_all : RecordCallsReturnAll
+record_calls_return_all text state zone [] are zero holds calls = absurd calls
+record_calls_return_all text state zone (call ∷ []) are zero holds calls =
     let f = first_reader text are state zone call zero holds calls.0 calls.1.answers in (f.0, f.1, tell_from text are state zone (call ∷ []) f.0 zero holds calls f.1)
-record_calls_tell_all text state zone (call ∷ next ∷ more) are zero holds calls =
+record_calls_return_all text state zone (call ∷ next ∷ more) are zero holds calls =
     let f = first_reader text are state zone call zero holds calls.0 calls.1.answers in (f.0, f.1, tell_from text are state zone (call ∷ next ∷ more) f.0 zero holds calls f.1)

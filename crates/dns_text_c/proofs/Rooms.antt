@@ -2,38 +2,38 @@
 use Rattle.std.proofs.Common.{ℕ, ◌≡◌, ◌++◌, Bool, List, [], ◌∷◌, length, refl, ap, ◌∙◌, inl, inr, Option, Some, None, Result, Ok, Err}
 use Rattle.std.specs.List.{AllByRecursion}
 use Rattle.dns_octets.specs.Room.{Room}
-use Rattle.dns_split.specs.EntryTokens.{TokenSeen}
-use Rattle.dns_split.specs.declared.pieces.EndOfEntry.{EndOfEntry}
-use Rattle.dns_split.specs.declared.pieces.Fault.{Fault}
-use Rattle.dns_data.specs.ByType.{ReadsType, RefusesData, RefusesGeneric, shape_of_code}
-use Rattle.dns_data.specs.Data.{ReadsData, RefusesBehindFields}
-use Rattle.dns_data.specs.Generic.{generic_form}
-use Rattle.dns_data.specs.RestKinds.{TakesRestParts, rest_form}
-use Rattle.dns_data.specs.Rests.{RefusesAs, RefusesRest, RestForm}
-use Rattle.dns_data.specs.Types.{TypeShape}
-use Rattle.dns_data.specs.declared.rest.Rest.{Rest}
-use Rattle.dns_data.specs.declared.shape.Shape.{Shape}
-use Rattle.dns_fields.specs.Fields.{field_form}
-use Rattle.dns_fields.specs.Forms.{RefusesField}
-use Rattle.dns_fields.specs.RecordErrors.{error_of_fault}
-use Rattle.dns_fields.specs.Taking.{RefusesNext, SpellsField, TakesAllFields}
-use Rattle.dns_fields.specs.declared.field.Field.{Field}
-use Rattle.dns_fields.specs.declared.record_error.RecordError.{RecordError}
-use Rattle.dns_kinds.specs.declared.error.ErrorKind.{ErrorKind}
-use Rattle.dns_kinds.specs.declared.error.ErrorKind.TheVariants.{ShortBuf}
-use Rattle.dns_kinds.specs.declared.types.RecordType.{RecordType}
-use Rattle.dns_heads.specs.EntrySays.{EntryMeaning, says_nothing, says_origin, says_default_ttl, says_include, says_record, says_refused}
-use Rattle.dns_heads.specs.declared.head.Words.{Words}
-use Rattle.dns_heads.specs.declared.head.WordsRefusal.{WordsRefusal}
-use Rattle.dns_reader.specs.EntryReading.{ReadsBehind, ReadsInclude, ReadsMeaning, ReadsRecordData, ReadsWords, ReadsZoneEntry}
-use Rattle.dns_reader.specs.Past.{known_name}
-use Rattle.dns_reader.specs.Records.{AreGivenInARow, EntryGiven, IsDirectiveGiven, ReadsBegun, ReadsNextEntry, ReadsNextRecord, StandsAfter, given_next, given_of, none_given}
-use Rattle.dns_reader.specs.Source.{SourceSeen, entry_end, entry_left}
-use Rattle.dns_reader.specs.declared.entry.EntryRead.{EntryRead}
-use Rattle.dns_reader.specs.declared.known.Known.{Known}
-use Rattle.dns_reader.specs.declared.records.RecordReader.{RecordReader}
-use Rattle.dns_reader.specs.declared.source.StartOfEntry.{StartOfEntry}
-use Rattle.dns_reader.specs.declared.state.State.{State}
+use Rattle.dns_lexer.specs.EntryTokens.{TokenSeen}
+use Rattle.dns_lexer.specs.declared.pieces.EndOfEntry.{EndOfEntry}
+use Rattle.dns_lexer.specs.declared.pieces.Fault.{Fault}
+use Rattle.rdata.specs.ByType.{ReadsType, RefusesData, RefusesGeneric, shape_of_code}
+use Rattle.rdata.specs.Data.{ReadsData, RefusesAfterFields}
+use Rattle.rdata.specs.Generic.{generic_form}
+use Rattle.rdata.specs.RestKinds.{ParsesTailParts, rest_form}
+use Rattle.rdata.specs.Rests.{RefusesAs, RefusesRest, RestForm}
+use Rattle.rdata.specs.Types.{TypeShape}
+use Rattle.rdata.specs.declared.rest.Rest.{Rest}
+use Rattle.rdata.specs.declared.shape.Shape.{Shape}
+use Rattle.rdata_fields.specs.Fields.{field_form}
+use Rattle.rdata_fields.specs.Forms.{RefusesField}
+use Rattle.rdata_fields.specs.RecordErrors.{error_of_fault}
+use Rattle.rdata_fields.specs.Parsing.{RefusesNext, SpellsField, ParsesAllFields}
+use Rattle.rdata_fields.specs.declared.field.Field.{Field}
+use Rattle.rdata_fields.specs.declared.record_error.RecordError.{RecordError}
+use Rattle.rdata_values.specs.declared.error.ErrorKind.{ErrorKind}
+use Rattle.rdata_values.specs.declared.error.ErrorKind.TheVariants.{ShortBuf}
+use Rattle.rdata_values.specs.declared.types.RecordType.{RecordType}
+use Rattle.zone_reader.specs.EntryMeanings.{EntryMeaning, says_nothing, says_origin, says_default_ttl, says_include, says_record, says_refused}
+use Rattle.zone_reader.specs.declared.header.RecordHeader.{RecordHeader}
+use Rattle.zone_reader.specs.declared.header.HeaderRefusal.{HeaderRefusal}
+use Rattle.zone_reader.specs.EntryReading.{ReadsDataAfterHeader, ReadsInclude, ReadsMeaning, ReadsRecordData, ReadsWords, ReadsZoneEntry}
+use Rattle.zone_reader.specs.Past.{known_name}
+use Rattle.zone_reader.specs.Records.{AreSuccessiveResults, EntryResult, IsDirectiveResult, ReadsBegun, ReadsNextEntry, ReadsNextRecord, IsAfterEntry, given_next, result_of_entry, none_given}
+use Rattle.zone_reader.specs.Source.{SourceSeen, entry_end, unread_entry_tokens}
+use Rattle.zone_reader.specs.declared.entry.ParsedEntry.{ParsedEntry}
+use Rattle.zone_reader.specs.declared.known.NameState.{NameState}
+use Rattle.zone_reader.specs.declared.records.RecordReader.{RecordReader}
+use Rattle.zone_reader.specs.declared.source.StartOfEntry.{StartOfEntry}
+use Rattle.zone_reader.specs.declared.state.State.{State}
 
 -- all of a list with one more element at its end
 all_before : {X : Type 0} (P : X → Type 0) (xs : List X) (x : X) → AllByRecursion P (xs ++ x ∷ []) → AllByRecursion P xs × P x
@@ -41,11 +41,11 @@ all_before P [] x h = (tt, h.0)
 all_before P (y ∷ xs) x h = let more = all_before P xs x h.1 in ((h.0, more.0), more.1)
 
 -- a result is not an error
-abbrev pub IsNoError : Option (Result EntryRead RecordError) → Type 0
+abbrev pub IsNoError : Option (Result ParsedEntry RecordError) → Type 0
 IsNoError result = (e : RecordError) → result ≡ Some (Err e) → ⊥
 
 -- a directive is not an error
-directive_taken : (old : List ℕ) (g : EntryGiven) → IsDirectiveGiven old g → IsNoError (Some g.result)
+directive_taken : (old : List ℕ) (g : EntryResult) → IsDirectiveResult old g → IsNoError (Some g.result)
 directive_taken old g h e err = let is = h.1 in cc
 
 -- a result is not an error of octets that don't fit
@@ -67,7 +67,7 @@ module _ (one other : Room) where
   token_so origin f (t ∷ ts) old e fits h = field_so (SpellsField origin f t) ((field_form origin f).reason t.is_quoted t.text) old e fits h
 
   fields_so : (origin : Option (List (List ℕ))) (fields : List Field) (end : ℕ) (tokens : List TokenSeen) (old : List ℕ) (r : RecordError) (left : List TokenSeen) (new : List ℕ) → (r.kind ≡ ShortBuf → ⊥)
-      → TakesAllFields origin one fields end tokens old (Err r) left new → TakesAllFields origin other fields end tokens old (Err r) left new
+      → ParsesAllFields origin one fields end tokens old (Err r) left new → ParsesAllFields origin other fields end tokens old (Err r) left new
   fields_so origin fields end tokens old r left new fits h = (
     h.0,
     record { field = h.1.field; is_field = h.1.is_field; middle = h.1.middle; before = h.1.before; why = token_so origin h.1.field left h.1.middle r.kind fits h.1.why; extends = h.1.extends },
@@ -83,12 +83,12 @@ module _ (one other : Room) where
   rest_so f end tokens old r left new fits h = record { at = h.at; why = form_so f tokens old left r.kind fits h.why; extends = h.extends }
 
   parts_so : (origin : Option (List (List ℕ))) (rest : Rest) (before end : ℕ) (tokens : List TokenSeen) (old : List ℕ) (r : RecordError) (left : List TokenSeen) (new : List ℕ) → (r.kind ≡ ShortBuf → ⊥)
-      → TakesRestParts origin one rest before end tokens old (Err r) left new → TakesRestParts origin other rest before end tokens old (Err r) left new
+      → ParsesTailParts origin one rest before end tokens old (Err r) left new → ParsesTailParts origin other rest before end tokens old (Err r) left new
   parts_so origin rest before end tokens old r left new fits h =
       let same : r.kind ≡ h.0.kind = ap (λ (x : RecordError). x.kind) h.2 in (h.0, h.1, h.2, rest_so (rest_form origin rest) end tokens old h.0 left new (λ k. fits (same ∙ k)) h.3, h.4)
 
   behind_so : (origin : Option (List (List ℕ))) (shape : Shape) (end : ℕ) (tokens : List TokenSeen) (old : List ℕ) (r : RecordError) (left : List TokenSeen) (new : List ℕ) → (r.kind ≡ ShortBuf → ⊥)
-      → RefusesBehindFields origin one shape end tokens old r left new → RefusesBehindFields origin other shape end tokens old r left new
+      → RefusesAfterFields origin one shape end tokens old r left new → RefusesAfterFields origin other shape end tokens old r left new
   behind_so origin shape end tokens old r left new fits h = record {
     behind = h.behind;
     middle = h.middle;
@@ -137,25 +137,25 @@ module _ (one other : Room) where
 
   -- ---- entries
 
-  data_so : (before : State) (at end : ℕ) (w : Words) (tokens : List TokenSeen) (old new : List ℕ) (result : Result EntryRead RecordError) (r : Result (Unit {0}) RecordError) (left : List TokenSeen) → Fits result
-      → ReadsType (known_name before.origin) one w.rtype end tokens old r left new → ReadsBehind before at w old r new result → ReadsRecordData before other at end w tokens old result new
+  data_so : (before : State) (at end : ℕ) (w : RecordHeader) (tokens : List TokenSeen) (old new : List ℕ) (result : Result ParsedEntry RecordError) (r : Result (Unit {0}) RecordError) (left : List TokenSeen) → Fits result
+      → ReadsType (known_name before.origin) one w.rtype end tokens old r left new → ReadsDataAfterHeader before at w old r new result → ReadsRecordData before other at end w tokens old result new
   data_so before at end w tokens old new result (Ok u) left fits reads behind = (Ok u, left, reads, behind)
   data_so before at end w tokens old new result (Err r) left fits reads behind =
       (Err r, left, type_so (known_name before.origin) w.rtype end tokens old (Err r) left new (λ x is. let same : r ≡ x = cc in λ k. fits r behind (ap (λ (y : RecordError). y.kind) same ∙ k)) reads, behind)
 
-  words_so : (before : State) (at end : ℕ) (first : Result (Unit {0}) RecordError) (words : Result Words WordsRefusal) (tokens : List TokenSeen) (old new : List ℕ) (result : Result EntryRead RecordError) → Fits result
+  words_so : (before : State) (at end : ℕ) (first : Result (Unit {0}) RecordError) (words : Result RecordHeader HeaderRefusal) (tokens : List TokenSeen) (old new : List ℕ) (result : Result ParsedEntry RecordError) → Fits result
       → ReadsWords before one at end first words tokens old result new → ReadsWords before other at end first words tokens old result new
   words_so before at end (Err r) words tokens old new result fits h = h
   words_so before at end (Ok u) (Err r) tokens old new result fits h = h
   words_so before at end (Ok u) (Ok w) tokens old new result fits h = data_so before at end w tokens old new result h.0 h.1 fits h.2 h.3
 
-  include_so : (origin : Option (List (List ℕ))) (at : ℕ) (file : List ℕ) (token : Option TokenSeen) (old new : List ℕ) (result : Result EntryRead RecordError) → Fits result → ReadsInclude origin one at file token old result new
+  include_so : (origin : Option (List (List ℕ))) (at : ℕ) (file : List ℕ) (token : Option TokenSeen) (old new : List ℕ) (result : Result ParsedEntry RecordError) → Fits result → ReadsInclude origin one at file token old result new
       → ReadsInclude origin other at file token old result new
   include_so origin at file token old new (Ok e) fits h = h
   include_so origin at file token old new (Err r) fits (inl h) = inl h
-  include_so origin at file token old new (Err r) fits (inr h) = absurd (error_fits {X = EntryRead} r fits (ap (λ (x : RecordError). x.kind) h.2))
+  include_so origin at file token old new (Err r) fits (inr h) = absurd (error_fits {X = ParsedEntry} r fits (ap (λ (x : RecordError). x.kind) h.2))
 
-  meaning_so : (before : State) (end : ℕ) (tokens : List TokenSeen) (m : EntryMeaning) (old new : List ℕ) (result : Result EntryRead RecordError) (owner : Known) → Fits result
+  meaning_so : (before : State) (end : ℕ) (tokens : List TokenSeen) (m : EntryMeaning) (old new : List ℕ) (result : Result ParsedEntry RecordError) (owner : NameState) → Fits result
       → ReadsMeaning before one end tokens m old result owner new → ReadsMeaning before other end tokens m old result owner new
   meaning_so before end tokens says_nothing old new result owner fits h = h
   meaning_so before end tokens (says_origin t) old new result owner fits h = h
@@ -164,24 +164,24 @@ module _ (one other : Room) where
   meaning_so before end tokens (says_record token words left) old new result owner fits h = (h.0, h.1, words_so before _ end h.0 words left old new result fits h.2)
   meaning_so before end tokens (says_refused r) old new result owner fits h = h
 
-  pub entry_so : (blank : Bool) (end : ℕ) (tokens : List TokenSeen) (before after : State) (old new : List ℕ) (result : Result EntryRead RecordError) → Fits result → ReadsZoneEntry one blank end tokens before old result after new
+  pub entry_so : (blank : Bool) (end : ℕ) (tokens : List TokenSeen) (before after : State) (old new : List ℕ) (result : Result ParsedEntry RecordError) → Fits result → ReadsZoneEntry one blank end tokens before old result after new
       → ReadsZoneEntry other blank end tokens before old result after new
   entry_so blank end tokens before after old new result fits h =
       record { meaning = h.meaning; says = h.says; reads = meaning_so before end tokens h.meaning old new result after.owner fits h.reads; extends = h.extends; learns = h.learns }
 
-  begun_so : (octets : List ℕ) (begun : SourceSeen) (start : Result (Option StartOfEntry) Fault) (before : State) (old new : List ℕ) (result : Option (Result EntryRead RecordError)) (after : RecordReader)
+  begun_so : (octets : List ℕ) (begun : SourceSeen) (start : Result (Option StartOfEntry) Fault) (before : State) (old new : List ℕ) (result : Option (Result ParsedEntry RecordError)) (after : RecordReader)
       → IsNoError result → ReadsBegun one octets begun start before old result after new → ReadsBegun other octets begun start before old result after new
   begun_so octets begun (Ok (Some start)) before old new result after taken h = go h.0 h.1 h.2 h.3 h.4
     where
-      go : (read : Result EntryRead RecordError) (end : Result EndOfEntry Fault) → ReadsZoneEntry one start.begins_blank (entry_end begun).at (entry_left begun) before old read after.state new
-          → StandsAfter octets begun end after.source → result ≡ Some (given_of end read) → ReadsBegun other octets begun (Ok (Some start)) before old result after new
+      go : (read : Result ParsedEntry RecordError) (end : Result EndOfEntry Fault) → ReadsZoneEntry one start.begins_blank (entry_end begun).at (unread_entry_tokens begun) before old read after.state new
+          → IsAfterEntry octets begun end after.source → result ≡ Some (result_of_entry end read) → ReadsBegun other octets begun (Ok (Some start)) before old result after new
       go read (Ok end) reads stands is =
           (read, Ok end, entry_so start.begins_blank _ _ before after.state old new read (λ r e k. taken r (is ∙ ap Some e)) reads, stands, is)
       go read (Err f) reads stands is = absurd (taken (error_of_fault f) is)
   begun_so octets begun (Ok None) before old new result after taken h = h
   begun_so octets begun (Err fault) before old new result after taken h = h
 
-  next_so : (before after : RecordReader) (old new : List ℕ) (result : Option (Result EntryRead RecordError)) → IsNoError result → ReadsNextEntry one before old result after new
+  next_so : (before after : RecordReader) (old new : List ℕ) (result : Option (Result ParsedEntry RecordError)) → IsNoError result → ReadsNextEntry one before old result after new
       → ReadsNextEntry other before old result after new
   next_so before after old new result taken h = record {
     start = h.start;
@@ -191,13 +191,13 @@ module _ (one other : Room) where
     octets_stay = h.octets_stay;
   }
 
-  pub row_so : (old : List ℕ) (first last : RecordReader) (given : List EntryGiven) → AllByRecursion (IsDirectiveGiven old) given → AreGivenInARow one first given last → AreGivenInARow other first given last
+  pub row_so : (old : List ℕ) (first last : RecordReader) (given : List EntryResult) → AllByRecursion (IsDirectiveResult old) given → AreSuccessiveResults one first given last → AreSuccessiveResults other first given last
   row_so old first last given are none_given = none_given
   row_so old first last given are (given_next front middle end g row next state) =
-      let both = all_before (IsDirectiveGiven old) front g are in
+      let both = all_before (IsDirectiveResult old) front g are in
       given_next front middle end g (row_so old first middle front both.0 row) (next_so middle end g.old g.new (Some g.result) (directive_taken old g both.1) next) state
 
-  pub any_room : (before after : RecordReader) (old new : List ℕ) (result : Option (Result EntryRead RecordError)) → IsNoError result → ReadsNextRecord one before old result after new
+  pub any_room : (before after : RecordReader) (old new : List ℕ) (result : Option (Result ParsedEntry RecordError)) → IsNoError result → ReadsNextRecord one before old result after new
       → ReadsNextRecord other before old result after new
   any_room before after old new result taken h = record {
     directives = h.directives;

@@ -2,15 +2,15 @@
 use Rattle.std.proofs.Common.{◌≡◌, ◌≤◌, ◌+◌, ◌-◌, ℕ, zero, suc, Bool, false, List, [], ◌∷◌, ◌++◌, length, drop, refl, sym, ap, subst, ◌∙◌, arith, drop-drop, inl, ⊎_elim, Result, Ok}
 use Rattle.std.specs.Prelude.{⊤, map, encode_utf8_all}
 use Rattle.std.proofs.lemmas.List.{length-drop}
-use Rattle.dns_split.specs.Pieces.{IsPieces, IsOctetPieces, EachWithin, ReadsOctetsFrom, end_at, moved, moved_piece, place_of}
-use Rattle.dns_split.specs.declared.pieces.EndOfEntry.{EndOfEntry}
-use Rattle.dns_split.specs.declared.pieces.Fault.{Fault}
-use Rattle.dns_split.specs.declared.pieces.Piece.{Piece}
-use Rattle.dns_split.specs.declared.pieces.Piece.TheVariants.{Word as WordAt, Quote as QuoteAt, Comment as CommentAt, End as EndAt}
-use Rattle.dns_split.proofs.PieceJoins.{pieces_joined}
-use Rattle.dns_split.proofs.OctetJoins.{octet_pieces_go_on}
+use Rattle.dns_lexer.specs.Pieces.{IsPieces, IsOctetPieces, EachWithin, ReadsOctetsFrom, end_at, moved, moved_piece, place_of}
+use Rattle.dns_lexer.specs.declared.pieces.EndOfEntry.{EndOfEntry}
+use Rattle.dns_lexer.specs.declared.pieces.Fault.{Fault}
+use Rattle.dns_lexer.specs.declared.pieces.Piece.{Piece}
+use Rattle.dns_lexer.specs.declared.pieces.Piece.TheVariants.{Word as WordAt, Quote as QuoteAt, Comment as CommentAt, End as EndAt}
+use Rattle.dns_lexer.proofs.PieceJoins.{pieces_joined}
+use Rattle.dns_lexer.proofs.OctetJoins.{octet_pieces_continue}
 use Rattle.dns_text_c.specs.Entries.{tokens_of, stop_of, is_nothing, token_between, with_first, entries_of_pieces, InARow}
-use Rattle.dns_text_c.specs.declared.tokens.Stop.TheVariants.{End}
+use Rattle.dns_text_c.specs.declared.tokens.EntryEnd.TheVariants.{End}
 
 -- one of them is the end of an entry
 abbrev HasEnd : List Piece → Type 0
@@ -148,7 +148,7 @@ Rows n text = (at : ℕ) (alone : List Piece) → length alone ≤ n → IsOctet
 one_more : (n : ℕ) (text : List ℕ) → Rows n text → Rows (suc n) text
 one_more n text rows at alone few p w =
     subst (InARow text at) (sym f.entries)
-    (⊎_elim last goes (octet_pieces_go_on (drop at text) f.at within.0 f.front f.more f.blank (subst (IsOctetPieces (drop at text)) f.is p)))
+    (⊎_elim last goes (octet_pieces_continue (drop at text) f.at within.0 f.front f.more f.blank (subst (IsOctetPieces (drop at text)) f.is p)))
   where
     f : First (λ i. at + i) alone
     f = first_of (λ i. at + i) alone (pieces_end (drop at text) alone p)

@@ -8,7 +8,7 @@ use Rattle.dns_codec.specs.Grammar.{Decodes}
 use Rattle.dns_codec.specs.Outcome.{octet_count}
 use Rattle.dns_codec.specs.Written.{IsWritten}
 use Rattle.dns_text_c.specs.Codecs.{DecodesText}
-use Rattle.dns_text_c.specs.Told.{number_of, TellsOctets, TellsFault}
+use Rattle.dns_text_c.specs.Reports.{number_of, CopiesWhole, ReportsFault}
 use Rattle.dns_text_c.specs.declared.outcome.Outcome.{Outcome}
 use Rattle.dns_text_c.specs.declared.outcome.Refusal.TheVariants.{NoRoom, BadEncoding}
 use Rattle.dns_text_c.proofs.Lengths.{decoded_length}
@@ -18,7 +18,7 @@ no_longer k made new h = subst (λ l. length l ≤ length new) h (Prim.grind (ar
 
 -- a text that was printed is returned
 pub given : (made old new : List ℕ) (r : Result ℕ ShortBuf) (n status : ℕ) (outcome : Outcome) → IsWritten made old r new → length new ≡ length old → n ≡ length made
-    → IfOk r (λ _. status ≡ 0) → IfErr r (λ _. status ≡ number_of NoRoom) → outcome ≡ record { length = n; place = 0 } → TellsOctets made old status new outcome
+    → IfOk r (λ _. status ≡ 0) → IfErr r (λ _. status ≡ number_of NoRoom) → outcome ≡ record { length = n; place = 0 } → CopiesWhole made old status new outcome
 given made old new (Ok k) n status outcome w kept is ok err told = record {
   told = subst (λ m. outcome ≡ record { length = m; place = 0 }) is told;
   fits = λ _. let p = subst (λ m. (take m new ≡ made) × (drop m new ≡ drop m old)) w.0 (w.1, w.2) in (ok, p.0, p.1);
@@ -42,7 +42,7 @@ whole_front (suc k) (x ∷ xs) ys h = ap (λ l. x ∷ l) (whole_front k xs ys (o
 -- a text that was parsed into a buffer of exactly its length is reported
 pub told : (b : Base) → IsEncoding b → (text old part : List ℕ) (r : Option ℕ) (n m status : ℕ) (outcome : Outcome) → n ≡ octet_count b text → n ≤ length old → length part ≡ n → m ≡ n
     → IfSome r (λ k. Decodes b text (take k part) × (k ≤ length part)) → IfNone r ((v : List ℕ) → Decodes b text v → m < length v)
-    → IfSome r (λ _. (status ≡ 0) × (outcome ≡ record { length = n; place = 0 })) → IfNone r (TellsFault (record { refusal = BadEncoding; place = 0 }) status outcome)
+    → IfSome r (λ _. (status ≡ 0) × (outcome ≡ record { length = n; place = 0 })) → IfNone r (ReportsFault (record { refusal = BadEncoding; place = 0 }) status outcome)
     → DecodesText b text old status (part ++ drop n old) outcome
 told b known text old part (Some k) n m status outcome is le kept same read none well bad =
     let long = decoded_length b known text (take k part) read.0 in

@@ -1,12 +1,12 @@
 -- What is read alike with any capacity.
 use Rattle.std.specs.Prelude.{ℕ, ◌≡◌, Bool, List, false, Result, Err}
-use Rattle.dns_fields.specs.declared.record_error.RecordError.{RecordError}
-use Rattle.dns_kinds.specs.declared.error.ErrorKind.TheVariants.{ShortBuf}
+use Rattle.rdata_fields.specs.declared.record_error.RecordError.{RecordError}
+use Rattle.rdata_values.specs.declared.error.ErrorKind.TheVariants.{ShortBuf}
 use Rattle.dns_octets.specs.Room.{Room, exactly}
-use Rattle.dns_reader.specs.Records.{ReadsNextEntry, ReadsNextRecord}
-use Rattle.dns_reader.specs.declared.records.RecordReader.{RecordReader}
-use Rattle.dns_text_c.specs.declared.zone_reader.NextRead.{NextRead}
-use Rattle.dns_text_c.specs.declared.zone_reader.ZoneReader.{ZoneReader}
+use Rattle.zone_reader.specs.Records.{ReadsNextEntry, ReadsNextRecord}
+use Rattle.zone_reader.specs.declared.records.RecordReader.{RecordReader}
+use Rattle.dns_text_c.specs.declared.record_reading.NextRead.{NextRead}
+use Rattle.dns_text_c.specs.declared.record_reading.ZoneReader.{ZoneReader}
 
 -- a fact with a capacity of n octets; and with any capacity, unless octets don't fit
 abbrev pub InCapacity : ℕ → Bool → (Room → Type 0) → Type 0

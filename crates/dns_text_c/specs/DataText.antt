@@ -3,30 +3,30 @@ use Rattle.std.specs.Prelude.{◌≡◌, ◌≢◌, ◌⊎◌, ◌+◌, ◌≤�
 use Rattle.std.specs.Borrow.{Bor}
 use Rattle.std.specs.Fmt.{WritesInCalls}
 use Rattle.std.specs.Option.{option_copied}
-use Rattle.dns_data.specs.ByType.{ReadsType}
-use Rattle.dns_fields.specs.RecordErrors.{error_at, error_of_fault, error_of_type}
-use Rattle.dns_fields.specs.declared.record_error.RecordError.{RecordError}
-use Rattle.dns_kinds.specs.declared.error.ErrorKind.TheVariants.{TrailingToken}
-use Rattle.dns_kinds.specs.declared.types.RecordType.{RecordType}
+use Rattle.rdata.specs.ByType.{ReadsType}
+use Rattle.rdata_fields.specs.RecordErrors.{error_at, error_of_fault, error_of_type}
+use Rattle.rdata_fields.specs.declared.record_error.RecordError.{RecordError}
+use Rattle.rdata_values.specs.declared.error.ErrorKind.TheVariants.{TrailingToken}
+use Rattle.rdata_values.specs.declared.types.RecordType.{RecordType}
 use Rattle.dns_octets.specs.Room.{Room, exactly}
-use Rattle.dns_reader.specs.Source.{BeginsEntry, SourceSeen, behind_left, entry_end, entry_left}
-use Rattle.dns_reader.specs.declared.source.StartOfEntry.{StartOfEntry}
-use Rattle.dns_resource.specs.CanonicalData.{canonical_data}
-use Rattle.dns_resource.specs.DataTokens.{data_document}
-use Rattle.dns_resource.specs.TypeData.{IsTypeData, TypeData}
-use Rattle.dns_resource.specs.WireErrors.{RefusesWire}
-use Rattle.dns_resource.specs.declared.error.WireError.{WireError}
-use Rattle.dns_resource.specs.declared.error.WireError.TheVariants.{NoDataType, LongData, NotOfType}
-use Rattle.dns_split.specs.EntryTokens.{EndIs, IsSeen, PartSeen, TokenIs, TokenSeen}
-use Rattle.dns_split.specs.declared.pieces.Fault.{Fault as TextFault}
+use Rattle.zone_reader.specs.Source.{BeginsEntry, SourceSeen, parts_after_unread, entry_end, unread_entry_tokens}
+use Rattle.zone_reader.specs.declared.source.StartOfEntry.{StartOfEntry}
+use Rattle.zone_record.specs.CanonicalData.{canonical_data}
+use Rattle.zone_record.specs.DataTokens.{data_document}
+use Rattle.zone_record.specs.TypeData.{IsTypeData, TypeData}
+use Rattle.zone_record.specs.WireErrors.{RefusesWire}
+use Rattle.zone_record.specs.declared.error.WireError.{WireError}
+use Rattle.zone_record.specs.declared.error.WireError.TheVariants.{NoDataType, LongData, NotOfType}
+use Rattle.dns_lexer.specs.EntryTokens.{EndIs, IsSeen, PartSeen, TokenIs, TokenSeen}
+use Rattle.dns_lexer.specs.declared.pieces.Fault.{Fault as TextFault}
 use Rattle.dns_wire.specs.FromOctets.{MakesName}
 use Rattle.dns_wire.specs.declared.error.NameError.{NameError}
 use Rattle.dns_zone.specs.Printed.{printed}
 use Rattle.dns_zone.specs.declared.zonefile_fmt.DisplayKind.TheVariants.{Simple}
 use Rattle.dns_text_c.specs.Capacity.{InCapacity}
 use Rattle.dns_text_c.specs.Kept.{IsOriginOf}
-use Rattle.dns_text_c.specs.Reasons.{TellsError, refusal_of_name}
-use Rattle.dns_text_c.specs.Told.{TellsFault, TellsOctets, at_start}
+use Rattle.dns_text_c.specs.Reasons.{ReportsError, refusal_of_name}
+use Rattle.dns_text_c.specs.Reports.{ReportsFault, CopiesWhole, at_start}
 use Rattle.dns_text_c.specs.declared.outcome.Fault.{Fault}
 use Rattle.dns_text_c.specs.declared.outcome.Outcome.{Outcome}
 use Rattle.dns_text_c.specs.declared.outcome.Refusal.TheVariants.{BadData, TooLong}
@@ -48,10 +48,10 @@ pub record PutsAt (octets : List ℕ) (at : ℕ) (old new : List ℕ) : Type 0 w
   pub same : length new ≡ length old
 
 -- the text is returned; or printing it failed, which it does in no test, and the octets after its length are unchanged
-abbrev pub TellsText : List ℕ → List ℕ → ℕ → List ℕ → Outcome → Type 0
-TellsText text old status new outcome =
-    TellsOctets text old status new outcome
-    ⊎ (TellsFault (at_start TooLong) status outcome × (drop (length text) new ≡ drop (length text) old))
+abbrev pub ReportsText : List ℕ → List ℕ → ℕ → List ℕ → Outcome → Type 0
+ReportsText text old status new outcome =
+    CopiesWhole text old status new outcome
+    ⊎ (ReportsFault (at_start TooLong) status outcome × (drop (length text) new ≡ drop (length text) old))
 
 -- the status and the offset if octets are not data of a type
 abbrev pub fault_of_wire : WireError → Fault
@@ -62,18 +62,18 @@ fault_of_wire NotOfType = at_start BadData
 -- octets are data of a type, and their text is returned; or the reason why they are not is reported, and nothing was written
 abbrev pub PrintsData : RecordType → List ℕ → List ℕ → ℕ → List ℕ → Outcome → Type 0
 PrintsData rtype octets old status new outcome =
-    (IsTypeData rtype octets × TellsText (data_text (record { rtype = rtype; octets = octets })) old status new outcome)
-    ⊎ ((e : WireError) × RefusesWire rtype octets e × TellsFault (fault_of_wire e) status outcome × (new ≡ old))
+    (IsTypeData rtype octets × ReportsText (data_text (record { rtype = rtype; octets = octets })) old status new outcome)
+    ⊎ ((e : WireError) × RefusesWire rtype octets e × ReportsFault (fault_of_wire e) status outcome × (new ≡ old))
 
 -- the canonical form of data is returned
-abbrev pub TellsForm : TypeData → List ℕ → ℕ → List ℕ → Outcome → Type 0
-TellsForm d old status new outcome = TellsOctets (canonical_data d.rtype d.octets) old status new outcome
+abbrev pub ReportsForm : TypeData → List ℕ → ℕ → List ℕ → Outcome → Type 0
+ReportsForm d old status new outcome = CopiesWhole (canonical_data d.rtype d.octets) old status new outcome
 
 -- octets are data of a type, and their canonical form is written; or the reason why they are not is reported, and nothing was written
-abbrev pub TellsCanonical : RecordType → List ℕ → List ℕ → ℕ → List ℕ → Outcome → Type 0
-TellsCanonical rtype octets old status new outcome =
-    (IsTypeData rtype octets × TellsForm (record { rtype = rtype; octets = octets }) old status new outcome)
-    ⊎ ((e : WireError) × RefusesWire rtype octets e × TellsFault (fault_of_wire e) status outcome × (new ≡ old))
+abbrev pub ReportsCanonical : RecordType → List ℕ → List ℕ → ℕ → List ℕ → Outcome → Type 0
+ReportsCanonical rtype octets old status new outcome =
+    (IsTypeData rtype octets × ReportsForm (record { rtype = rtype; octets = octets }) old status new outcome)
+    ⊎ ((e : WireError) × RefusesWire rtype octets e × ReportsFault (fault_of_wire e) status outcome × (new ≡ old))
 
 -- a token after the data
 abbrev pub trailing_token : RecordType → ℕ → RecordError
@@ -114,12 +114,12 @@ data_answer rtype (Ok _) octets parts = answer_before rtype octets parts
 abbrev pub ReadsTokens : Room → RecordType → Option (List (List ℕ)) → SourceSeen → DataAnswer → Type 0
 ReadsTokens room rtype origin begun answer =
     (read : Result (Unit {0}) RecordError) × (left : List TokenSeen) × (octets : List ℕ)
-    × ReadsType origin room rtype (entry_end begun).at (entry_left begun) [] read left octets × (answer ≡ data_answer rtype read octets (behind_left begun))
+    × ReadsType origin room rtype (entry_end begun).at (unread_entry_tokens begun) [] read left octets × (answer ≡ data_answer rtype read octets (parts_after_unread begun))
 
 -- the tokens that are left of an entry are read as data of a type, and appended to the octets, with capacity n
-abbrev pub ReadsLeft : ℕ → RecordType → Option (Bor (List (List ℕ))) → (old : SourceSeen × List ℕ) → Result (Unit {0}) RecordError → (new : SourceSeen × List ℕ) → Type 0
-ReadsLeft n rtype origin old result new =
-    ReadsType (option_copied origin) (exactly n) rtype (entry_end old.0).at (entry_left old.0) old.1 result (entry_left new.0) new.1
+abbrev pub ReadsRemaining : ℕ → RecordType → Option (Bor (List (List ℕ))) → (old : SourceSeen × List ℕ) → Result (Unit {0}) RecordError → (new : SourceSeen × List ℕ) → Type 0
+ReadsRemaining n rtype origin old result new =
+    ReadsType (option_copied origin) (exactly n) rtype (entry_end old.0).at (unread_entry_tokens old.0) old.1 result (unread_entry_tokens new.0) new.1
 
 -- the open entry is read, and what comes after it, with capacity n, and with any capacity unless octets don't fit: the octets are the data, or an error is returned
 abbrev pub ReadsOpen : ℕ → RecordType → Option (Bor (List (List ℕ))) → SourceSeen → Result (Unit {0}) Rejected → List ℕ → Type 0
@@ -150,26 +150,26 @@ abbrev pub AnswersText : ℕ → RecordType → Option (Bor (List (List ℕ))) �
 AnswersText n rtype origin text result octets = InCapacity n (lacks_of result) (λ room. ReadsDataText room rtype (option_copied origin) text (answered (error_alone result) octets))
 
 -- the octets are returned; or the error is reported
-abbrev pub TellsData : DataAnswer → List ℕ → ℕ → List ℕ → Outcome → Type 0
-TellsData (Ok octets) old status new outcome = TellsOctets octets old status new outcome
-TellsData (Err e) old status new outcome = TellsError e old status new outcome
+abbrev pub ReportsData : DataAnswer → List ℕ → ℕ → List ℕ → Outcome → Type 0
+ReportsData (Ok octets) old status new outcome = CopiesWhole octets old status new outcome
+ReportsData (Err e) old status new outcome = ReportsError e old status new outcome
 
 -- the octets of data are returned, with capacity n; or they are rejected, and nothing was written
 abbrev pub WritesData : ℕ → RecordType → Option (Bor (List (List ℕ))) → List ℕ → List ℕ → Result ℕ Rejected → List ℕ → Outcome → Type 0
 WritesData n rtype origin text old (Ok status) new outcome =
-    (octets : List ℕ) × InCapacity n false (λ room. ReadsDataText room rtype (option_copied origin) text (Ok octets)) × TellsOctets octets old status new outcome
+    (octets : List ℕ) × InCapacity n false (λ room. ReadsDataText room rtype (option_copied origin) text (Ok octets)) × CopiesWhole octets old status new outcome
 WritesData n rtype origin text old (Err r) new outcome = InCapacity n r.lacks (λ room. ReadsDataText room rtype (option_copied origin) text (Err r.error)) × (new ≡ old)
 
 -- a text is read, with an origin for relative names, and the result is reported
-abbrev pub TellsBelow : RecordType → List ℕ → Option (List (List ℕ)) → List ℕ → ℕ → List ℕ → Outcome → Type 0
-TellsBelow rtype text origin old status new outcome = (answer : DataAnswer) × ReadsDataText (exactly 65535) rtype origin text answer × TellsData answer old status new outcome
+abbrev pub ReportsDataBelow : RecordType → List ℕ → Option (List (List ℕ)) → List ℕ → ℕ → List ℕ → Outcome → Type 0
+ReportsDataBelow rtype text origin old status new outcome = (answer : DataAnswer) × ReadsDataText (exactly 65535) rtype origin text answer × ReportsData answer old status new outcome
 
 -- the same with the origin by reference
-abbrev pub TellsRead : RecordType → List ℕ → Option (Bor (List (List ℕ))) → List ℕ → ℕ → List ℕ → Outcome → Type 0
-TellsRead rtype text origin old status new outcome = TellsBelow rtype text (option_copied origin) old status new outcome
+abbrev pub ReportsRead : RecordType → List ℕ → Option (Bor (List (List ℕ))) → List ℕ → ℕ → List ℕ → Outcome → Type 0
+ReportsRead rtype text origin old status new outcome = ReportsDataBelow rtype text (option_copied origin) old status new outcome
 
 -- the text is read, with the origin for relative names; or the origin is not a name, which is reported with offset 0, and nothing was written
-abbrev pub TellsReadData : RecordType → List ℕ → List ℕ → List ℕ → ℕ → List ℕ → Outcome → Type 0
-TellsReadData rtype text origin old status new outcome =
-    ((known : Option (List (List ℕ))) × IsOriginOf origin known × TellsBelow rtype text known old status new outcome)
-    ⊎ ((e : NameError) × (origin ≢ []) × MakesName origin (Err e) × TellsFault (at_start (refusal_of_name e)) status outcome × (new ≡ old))
+abbrev pub ReportsReadData : RecordType → List ℕ → List ℕ → List ℕ → ℕ → List ℕ → Outcome → Type 0
+ReportsReadData rtype text origin old status new outcome =
+    ((known : Option (List (List ℕ))) × IsOriginOf origin known × ReportsDataBelow rtype text known old status new outcome)
+    ⊎ ((e : NameError) × (origin ≢ []) × MakesName origin (Err e) × ReportsFault (at_start (refusal_of_name e)) status outcome × (new ≡ old))

@@ -1,25 +1,25 @@
 -- The tokens of an entry, and the result of the call that returns them.
 use Rattle.std.specs.Prelude.{⊤, ◌≡◌, ◌≢◌, ℕ, ◌+◌, ◌<◌, ◌≤◌, Bool, true, false, List, [], ◌∷◌, length, drop, min, encode_utf8_all, Result, Ok, Err, map}
 use Rattle.dns_octets.specs.Octets.{greatest_length}
-use Rattle.dns_split.specs.Opening.{IsOpener, IsLeftOpen}
-use Rattle.dns_split.specs.Pieces.{EachWithin, ReadsOctetsFrom, place_of, IsOctetPieces}
-use Rattle.dns_split.specs.declared.pieces.EndOfEntry.{EndOfEntry}
-use Rattle.dns_split.specs.declared.pieces.Piece.{Piece}
-use Rattle.dns_split.specs.declared.pieces.Piece.TheVariants.{Word as WordAt, Quote as QuoteAt, Comment as CommentAt, End as EndAt}
-use Rattle.dns_split.specs.declared.pieces.Fault.{Fault as TextFault}
-use Rattle.dns_split.specs.declared.pieces.Wrong.{Wrong}
-use Rattle.dns_split.specs.declared.pieces.Wrong.TheVariants.{Closing as NoneOpen, OpenParenthesis as NotClosed, OpenQuote as NotQuoted, LoneReturn as NoFeed, BadEscape as NoEscape}
-use Rattle.dns_text_c.specs.Told.{number_of, TellsFault, at_start}
+use Rattle.dns_lexer.specs.Unclosed.{IsOpener, LacksClosing}
+use Rattle.dns_lexer.specs.Pieces.{EachWithin, ReadsOctetsFrom, place_of, IsOctetPieces}
+use Rattle.dns_lexer.specs.declared.pieces.EndOfEntry.{EndOfEntry}
+use Rattle.dns_lexer.specs.declared.pieces.Piece.{Piece}
+use Rattle.dns_lexer.specs.declared.pieces.Piece.TheVariants.{Word as WordAt, Quote as QuoteAt, Comment as CommentAt, End as EndAt}
+use Rattle.dns_lexer.specs.declared.pieces.Fault.{Fault as TextFault}
+use Rattle.dns_lexer.specs.declared.pieces.Wrong.{Wrong}
+use Rattle.dns_lexer.specs.declared.pieces.Wrong.TheVariants.{Closing as NoneOpen, OpenParenthesis as NotClosed, OpenQuote as NotQuoted, LoneReturn as NoFeed, BadEscape as NoEscape}
+use Rattle.dns_text_c.specs.Reports.{number_of, ReportsFault, at_start}
 use Rattle.dns_text_c.specs.declared.outcome.Outcome.{Outcome}
 use Rattle.dns_text_c.specs.declared.outcome.Refusal.{Refusal}
 use Rattle.dns_text_c.specs.declared.outcome.Refusal.TheVariants.{NoRoom, BadEscape, Closing, OpenParenthesis, OpenQuote, LoneReturn, BadCursor}
 use Rattle.dns_text_c.specs.declared.tokens.Token.{Token as TokenAt}
 use Rattle.dns_text_c.specs.declared.tokens.Cursor.{Cursor}
 use Rattle.dns_text_c.specs.declared.tokens.Entry.{Entry}
-use Rattle.dns_text_c.specs.declared.tokens.Stop.{Stop}
-use Rattle.dns_text_c.specs.declared.tokens.Stop.TheVariants.{End, Fault, Nothing}
+use Rattle.dns_text_c.specs.declared.tokens.EntryEnd.{EntryEnd}
+use Rattle.dns_text_c.specs.declared.tokens.EntryEnd.TheVariants.{End, Fault, Nothing}
 use Rattle.dns_text_c.specs.declared.tokens.Step.{Step}
-use Rattle.dns_text_c.specs.declared.tokens.Step.TheVariants.{Token, Comment, Stop as Stops}
+use Rattle.dns_text_c.specs.declared.tokens.Step.TheVariants.{Token, Comment, EntryEnd as Stops}
 
 abbrev pub bit : Bool → ℕ
 bit true = 1
@@ -45,9 +45,9 @@ Opens text at NoFeed old new = new ≡ old
 Opens text at NoEscape old new = new ≡ old
 
 -- if the syntax error is an open parenthesis, the octets from an offset on leave it open
-abbrev pub LeavesOpen : List ℕ → ℕ → Stop → Type 0
+abbrev pub LeavesOpen : List ℕ → ℕ → EntryEnd → Type 0
 LeavesOpen text at (End e last) = ⊤
-LeavesOpen text at (Fault f) = f.wrong ≡ NotClosed → IsLeftOpen (encode_utf8_all (drop at text))
+LeavesOpen text at (Fault f) = f.wrong ≡ NotClosed → LacksClosing (encode_utf8_all (drop at text))
 LeavesOpen text at Nothing = ⊤
 
 abbrev pub token_between : ℕ → ℕ → ℕ → TokenAt
@@ -63,7 +63,7 @@ tokens_of (Err f ∷ given) = []
 tokens_of [] = []
 
 -- the first end, which is the last piece or not; or the first syntax error
-abbrev pub stop_of : List (Result Piece TextFault) → Stop
+abbrev pub stop_of : List (Result Piece TextFault) → EntryEnd
 stop_of (Ok (WordAt p) ∷ given) = stop_of given
 stop_of (Ok (QuoteAt p) ∷ given) = stop_of given
 stop_of (Ok (CommentAt p) ∷ given) = stop_of given
@@ -96,10 +96,10 @@ abbrev pub EntriesInARow : Type 0
 EntriesInARow = (text : List ℕ) (found : List Piece) → IsOctetPieces text found → EachWithin (length text) (map Ok found) → InARow text 0 (entries_of_pieces found)
 
 -- the step that was taken of the pieces
-abbrev pub TakesPieces : List (Result Piece TextFault) → Step → List (Result Piece TextFault) → Type 0
-TakesPieces old (Token t) new = (tokens_of old ≡ t ∷ tokens_of new) × (stop_of old ≡ stop_of new) × (length new < length old)
-TakesPieces old Comment new = (tokens_of old ≡ tokens_of new) × (stop_of old ≡ stop_of new) × (length new < length old)
-TakesPieces old (Stops stop) new = (tokens_of old ≡ []) × (stop_of old ≡ stop)
+abbrev pub IsPieceStep : List (Result Piece TextFault) → Step → List (Result Piece TextFault) → Type 0
+IsPieceStep old (Token t) new = (tokens_of old ≡ t ∷ tokens_of new) × (stop_of old ≡ stop_of new) × (length new < length old)
+IsPieceStep old Comment new = (tokens_of old ≡ tokens_of new) × (stop_of old ≡ stop_of new) × (length new < length old)
+IsPieceStep old (Stops stop) new = (tokens_of old ≡ []) × (stop_of old ≡ stop)
 
 -- values written over the start of others, up to their length
 abbrev pub written_over_start : {A : Type 0} → List A → List A → List A
@@ -112,7 +112,7 @@ abbrev pub counted : ℕ → ℕ
 counted n = min n greatest_length
 
 -- the first entry of these pieces: the tokens of it that fit, their number, and how it stops
-pub record IsEntry (given : List (Result Piece TextFault)) (old : List TokenAt) (count : ℕ) (stop : Stop) (new : List TokenAt) : Type 0 where
+pub record IsEntry (given : List (Result Piece TextFault)) (old : List TokenAt) (count : ℕ) (stop : EntryEnd) (new : List TokenAt) : Type 0 where
   pub tokens_are : new ≡ written_over_start (tokens_of given) old
   pub count_is : count ≡ counted (length (tokens_of given))
   pub stop_is : stop ≡ stop_of given
@@ -123,19 +123,19 @@ NotesEntry text at old entry new =
     (given : List (Result Piece TextFault)) × ReadsOctetsFrom text at given × EachWithin (length text) given × IsEntry given old entry.count entry.stop new
 
 -- the result for an entry of this number of tokens with this capacity, and the cursor after it
-abbrev pub TellsEntry : List ℕ → ℕ → Stop → ℕ → ℕ → Cursor → Cursor → Outcome → Type 0
-TellsEntry text count (End e last) room status old new outcome =
+abbrev pub ReportsEntry : List ℕ → ℕ → EntryEnd → ℕ → ℕ → Cursor → Cursor → Outcome → Type 0
+ReportsEntry text count (End e last) room status old new outcome =
     (outcome ≡ record { length = count; place = 0 })
     × (count ≤ room → (status ≡ 0) × (new ≡ record { at = e.at; begins_blank = bit e.begins_blank; is_done = bit last; opened = old.opened }))
     × (room < count → (status ≡ number_of NoRoom) × (new ≡ old))
-TellsEntry text count (Fault f) room status old new outcome =
+ReportsEntry text count (Fault f) room status old new outcome =
     (outcome ≡ record { length = min count room; place = f.at }) × (status ≡ number_of (refusal_of_wrong f.wrong))
     × (new ≡ record old { is_done = 1; opened = new.opened }) × Opens text old.at f.wrong old.opened new.opened
-TellsEntry text count Nothing room status old new outcome =
+ReportsEntry text count Nothing room status old new outcome =
     (outcome ≡ record { length = count; place = 0 }) × (status ≡ 1) × (new ≡ record old { is_done = 1 })
 
-abbrev pub TellsStop : List ℕ → Entry → ℕ → ℕ → Cursor → Cursor → Outcome → Type 0
-TellsStop text entry room status old new outcome = TellsEntry text entry.count entry.stop room status old new outcome
+abbrev pub ReportsStop : List ℕ → Entry → ℕ → ℕ → Cursor → Cursor → Outcome → Type 0
+ReportsStop text entry room status old new outcome = ReportsEntry text entry.count entry.stop room status old new outcome
 
 -- the entry from an offset on is read, and the result is returned
 pub record ReadsEntry (text : List ℕ) (old new : Cursor) (before after : List TokenAt) (status : ℕ) (outcome : Outcome) : Type 0 where
@@ -143,12 +143,12 @@ pub record ReadsEntry (text : List ℕ) (old new : Cursor) (before after : List 
   pub reads : ReadsOctetsFrom text old.at given
   pub within : EachWithin (length text) given
   pub count : ℕ
-  pub stop : Stop
+  pub stop : EntryEnd
   pub entry : IsEntry given before count stop after
-  pub told : TellsEntry text count stop (length before) status old new outcome
+  pub told : ReportsEntry text count stop (length before) status old new outcome
 
 -- a text that is done has no entry; a cursor past the end is rejected; and else the entry that begins there is returned
 pub record NextEntry (text : List ℕ) (old new : Cursor) (before after : List TokenAt) (status : ℕ) (outcome : Outcome) : Type 0 where
   pub done : old.is_done ≢ 0 → (status ≡ 1) × (outcome ≡ record { length = 0; place = 0 }) × (new ≡ old) × (after ≡ before)
-  pub past : old.is_done ≡ 0 → length text < old.at → TellsFault (at_start BadCursor) status outcome × (new ≡ old) × (after ≡ before)
+  pub past : old.is_done ≡ 0 → length text < old.at → ReportsFault (at_start BadCursor) status outcome × (new ≡ old) × (after ≡ before)
   pub reads : old.is_done ≡ 0 → old.at ≤ length text → ReadsEntry text old new before after status outcome

@@ -2,11 +2,11 @@
 use Rattle.std.specs.Prelude.{◌≡◌, ◌≢◌, ◌⊎◌, ◌<◌, ◌≤◌, ◌==◌, if◌then◌else◌, ℕ, Bool, true, false, List, [], length, take, drop, Option, Some, None, Ok, Err}
 use Rattle.dns_wire.specs.FromOctets.{MakesName}
 use Rattle.dns_wire.specs.declared.error.NameError.{NameError}
-use Rattle.dns_reader.specs.declared.known.Known.{Known}
-use Rattle.dns_reader.specs.declared.known.Known.TheVariants.{Unsaid, Name, Refused}
-use Rattle.dns_reader.specs.declared.state.State.{State}
+use Rattle.zone_reader.specs.declared.known.NameState.{NameState}
+use Rattle.zone_reader.specs.declared.known.NameState.TheVariants.{Unset, Name, Refused}
+use Rattle.zone_reader.specs.declared.state.State.{State}
 use Rattle.dns_text_c.specs.Reasons.{refusal_of_name}
-use Rattle.dns_text_c.specs.Told.{TellsFault, at_start}
+use Rattle.dns_text_c.specs.Reports.{ReportsFault, at_start}
 use Rattle.dns_text_c.specs.declared.kept.KeptName.{KeptName}
 use Rattle.dns_text_c.specs.declared.kept.Zone.{Zone}
 use Rattle.dns_text_c.specs.declared.outcome.Outcome.{Outcome}
@@ -17,15 +17,15 @@ known_if true x = Some x
 known_if false x = None
 
 -- the name in the first octets, in this number; or there are fewer, or they are not a name
-abbrev pub MakesOrNot : List ℕ → ℕ → Option Known → Type 0
-MakesOrNot octets n (Some Unsaid) = ⊥
+abbrev pub MakesOrNot : List ℕ → ℕ → Option NameState → Type 0
+MakesOrNot octets n (Some Unset) = ⊥
 MakesOrNot octets n (Some (Name labels)) = (n ≤ length octets) × MakesName (take n octets) (Ok labels)
 MakesOrNot octets n (Some Refused) = ⊥
 MakesOrNot octets n None = (length octets < n) ⊎ ((e : NameError) × MakesName (take n octets) (Err e))
 
 -- a stored name: rejected, or none, or the name of the octets; or these are not a name
-abbrev pub HoldsName : KeptName → Option Known → Type 0
-HoldsName kept (Some Unsaid) = (kept.is_refused ≡ 0) × (kept.length ≡ 0)
+abbrev pub HoldsName : KeptName → Option NameState → Type 0
+HoldsName kept (Some Unset) = (kept.is_refused ≡ 0) × (kept.length ≡ 0)
 HoldsName kept (Some (Name labels)) = (kept.is_refused ≡ 0) × (kept.length ≢ 0) × MakesOrNot kept.octets kept.length (Some (Name labels))
 HoldsName kept (Some Refused) = kept.is_refused ≢ 0
 HoldsName kept None = (kept.is_refused ≡ 0) × (kept.length ≢ 0) × MakesOrNot kept.octets kept.length None
@@ -42,7 +42,7 @@ HoldsState zone (Some state) =
 HoldsState zone None = HoldsName zone.origin None ⊎ HoldsName zone.owner None
 
 -- a name is stored now; the octets after it are unchanged
-abbrev pub KeepsName : Known → KeptName → KeptName → Type 0
+abbrev pub KeepsName : NameState → KeptName → KeptName → Type 0
 KeepsName known old new = HoldsName new (Some known) × (drop new.length new.octets ≡ drop new.length old.octets) × (new.is_refused ≤ 1)
 
 -- the state is stored now, and the offset of the next entry
@@ -60,13 +60,13 @@ IsOriginOf octets None = octets ≡ []
 IsOriginOf octets (Some labels) = MakesName octets (Ok labels)
 
 -- the origin, if there is one
-abbrev pub said_origin : Option (List (List ℕ)) → Known
-said_origin None = Unsaid
-said_origin (Some labels) = Name labels
+abbrev pub optional_origin : Option (List (List ℕ)) → NameState
+optional_origin None = Unset
+optional_origin (Some labels) = Name labels
 
 -- the octets are the zone's origin from here on; or they are not a name, which is reported, and nothing was written
-abbrev pub TakesOrigin : List ℕ → Zone → Zone → ℕ → Outcome → Type 0
-TakesOrigin name old new status outcome =
+abbrev pub SetsOrigin : List ℕ → Zone → Zone → ℕ → Outcome → Type 0
+SetsOrigin name old new status outcome =
     ((origin : Option (List (List ℕ))) × IsOriginOf name origin × (status ≡ 0) × (outcome ≡ record { length = 0; place = 0 })
-    × KeepsName (said_origin origin) old.origin new.origin × (new ≡ record old { origin = new.origin }))
-    ⊎ ((e : NameError) × (name ≢ []) × MakesName name (Err e) × TellsFault (at_start (refusal_of_name e)) status outcome × (new ≡ old))
+    × KeepsName (optional_origin origin) old.origin new.origin × (new ≡ record old { origin = new.origin }))
+    ⊎ ((e : NameError) × (name ≢ []) × MakesName name (Err e) × ReportsFault (at_start (refusal_of_name e)) status outcome × (new ≡ old))

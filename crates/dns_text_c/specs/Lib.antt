@@ -15,4 +15,4 @@ pub mod Records
 pub mod Rows
 pub mod Status
 pub mod Strings
-pub mod Told
+pub mod Reports

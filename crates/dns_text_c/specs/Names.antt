@@ -12,7 +12,7 @@ use Rattle.dns_wire.specs.Form.{name_text}
 use Rattle.dns_wire.specs.Printed.{dotted_text, undotted_text}
 use Rattle.dns_wire.specs.Wire.{wire, wire_length}
 use Rattle.dns_name.specs.Reading.{HasNamed, ReadsAs, bracket, is_dot}
-use Rattle.dns_name.specs.ReadingSteps.{GivesOctet}
+use Rattle.dns_name.specs.ReadingSteps.{SymbolHasOctet}
 use Rattle.dns_name.specs.Uncertain.{labels_of, is_absolute, MakesUncertain}
 use Rattle.dns_name.specs.declared.name.UncertainName.{UncertainName}
 use Rattle.dns_name.specs.declared.name.UncertainName.TheVariants.{Absolute, Relative}
@@ -20,7 +20,7 @@ use Rattle.dns_name.specs.declared.name.error.UncertainDnameError.{UncertainDnam
 use Rattle.dns_name.specs.declared.name.error.UncertainDnameError.TheVariants.{BadLabel as NoType, CompressedName, LongName, TrailingData, ShortInput as CutShort}
 use Rattle.dns_text_c.specs.Entries.{bit}
 use Rattle.dns_text_c.specs.Strings.{refusal_of}
-use Rattle.dns_text_c.specs.Told.{TellsOctets, TellsFault, at_start}
+use Rattle.dns_text_c.specs.Reports.{CopiesWhole, ReportsFault, at_start}
 use Rattle.dns_wire.specs.declared.display.Form.{Form}
 use Rattle.dns_text_c.specs.declared.outcome.Outcome.{Outcome}
 use Rattle.dns_text_c.specs.declared.outcome.Fault.{Fault}
@@ -28,19 +28,19 @@ use Rattle.dns_text_c.specs.declared.outcome.Refusal.{Refusal}
 use Rattle.dns_text_c.specs.declared.outcome.Refusal.TheVariants.{ShortInput, BadSymbol, TooLong, EmptyLabel, LongLabel, BinaryLabel, BadLabel, Pointer, TrailingOctets}
 
 -- the result of a symbol other than a plain dot, and the builder after it
-abbrev pub TakesNameSymbol : Naming → Symbol → Result (Unit {0}) Refusal → Naming → Type 0
-TakesNameSymbol b x (Ok _) new =
-    (octet : ℕ) × GivesOctet b x octet × (new ≡ with_octet b octet) × (wire_length (all_labels (with_octet b octet)) ≤ 254) × (length b.current < 63)
-TakesNameSymbol b x (Err BinaryLabel) new = (b.current ≡ []) × (x ≡ bracket)
-TakesNameSymbol b x (Err BadSymbol) new = (e : WhyNone) × (octet_of x ≡ Err e)
-TakesNameSymbol b x (Err TooLong) new = (octet : ℕ) × GivesOctet b x octet × (254 < wire_length (all_labels (with_octet b octet)))
-TakesNameSymbol b x (Err LongLabel) new =
-    (octet : ℕ) × GivesOctet b x octet × (wire_length (all_labels (with_octet b octet)) ≤ 254) × (63 ≤ length b.current)
-TakesNameSymbol b x (Err other) new = ⊥
+abbrev pub AppendsNameSymbol : Naming → Symbol → Result (Unit {0}) Refusal → Naming → Type 0
+AppendsNameSymbol b x (Ok _) new =
+    (octet : ℕ) × SymbolHasOctet b x octet × (new ≡ with_octet b octet) × (wire_length (all_labels (with_octet b octet)) ≤ 254) × (length b.current < 63)
+AppendsNameSymbol b x (Err BinaryLabel) new = (b.current ≡ []) × (x ≡ bracket)
+AppendsNameSymbol b x (Err BadSymbol) new = (e : WhyNone) × (octet_of x ≡ Err e)
+AppendsNameSymbol b x (Err TooLong) new = (octet : ℕ) × SymbolHasOctet b x octet × (254 < wire_length (all_labels (with_octet b octet)))
+AppendsNameSymbol b x (Err LongLabel) new =
+    (octet : ℕ) × SymbolHasOctet b x octet × (wire_length (all_labels (with_octet b octet)) ≤ 254) × (63 ≤ length b.current)
+AppendsNameSymbol b x (Err other) new = ⊥
 
 -- the next symbol is not a plain dot and adds an octet to the open label
-abbrev pub GivesNext : List ℕ → List (List ℕ) → List ℕ → ℕ → ℕ → Type 0
-GivesNext text labels current place octet =
+abbrev pub NextAddsOctet : List ℕ → List (List ℕ) → List ℕ → ℕ → ℕ → Type 0
+NextAddsOctet text labels current place octet =
     (p : Symbol × ℕ) × ReadsAt text place (Ok (Some p)) × (is_dot p.0 ≡ false) × (octet_of p.0 ≡ Ok octet) × (current ≡ [] → p.0 ≢ bracket)
 
 -- why parsing stops after these labels and the open one: a plain dot follows no octet, and is not
@@ -51,9 +51,9 @@ NameStops text labels current place EmptyLabel = (current ≡ []) × (rest : Lis
 NameStops text labels current place BinaryLabel = (after : ℕ) × ReadsAt text place (Ok (Some (bracket, after))) × (current ≡ [])
 NameStops text labels current place BadSymbol = (p : Symbol × ℕ) × (e : WhyNone) × ReadsAt text place (Ok (Some p)) × (octet_of p.0 ≡ Err e)
 NameStops text labels current place TooLong =
-    (octet : ℕ) × GivesNext text labels current place octet × (254 < wire_length (labels ++ closed (current ++ octet ∷ [])))
+    (octet : ℕ) × NextAddsOctet text labels current place octet × (254 < wire_length (labels ++ closed (current ++ octet ∷ [])))
 NameStops text labels current place LongLabel =
-    (octet : ℕ) × GivesNext text labels current place octet × (wire_length (labels ++ closed (current ++ octet ∷ [])) ≤ 254) × (length current ≡ 63)
+    (octet : ℕ) × NextAddsOctet text labels current place octet × (wire_length (labels ++ closed (current ++ octet ∷ [])) ≤ 254) × (length current ≡ 63)
 NameStops text labels current place other = (e : SymbolOctetsError) × ReadsAt text place (Err e) × (other ≡ refusal_of e)
 
 -- a name, or an error with its offset
@@ -73,9 +73,9 @@ ReadsNameText text (Err fault) =
     × NameStops text labels current fault.place fault.refusal
 
 -- the wire octets of the name are returned, and whether it is absolute; or the error is reported, and nothing was written
-abbrev pub TellsName : NameAnswer → List ℕ → ℕ → ℕ → List ℕ → ℕ → Outcome → Type 0
-TellsName (Ok name) old was status new is outcome = TellsOctets (wire (labels_of name)) old status new outcome × (is ≡ bit (is_absolute name))
-TellsName (Err fault) old was status new is outcome = TellsFault fault status outcome × (new ≡ old) × (is ≡ was)
+abbrev pub ReportsName : NameAnswer → List ℕ → ℕ → ℕ → List ℕ → ℕ → Outcome → Type 0
+ReportsName (Ok name) old was status new is outcome = CopiesWhole (wire (labels_of name)) old status new outcome × (is ≡ bit (is_absolute name))
+ReportsName (Err fault) old was status new is outcome = ReportsFault fault status outcome × (new ≡ old) × (is ≡ was)
 
 -- the bytes of the text of labels
 abbrev pub labels_text : Form → Bool → List (List ℕ) → List ℕ
@@ -96,16 +96,16 @@ refusal_of_octets TrailingData = TrailingOctets
 refusal_of_octets CutShort = ShortInput
 
 -- the text of the name is returned; or the error is reported with offset 0, and nothing was written
-abbrev pub GivesText : (List (List ℕ) → List ℕ) → Result (UncertainName (Bor (List ℕ))) UncertainDnameError → List ℕ → ℕ → List ℕ → Outcome → Type 0
-GivesText text_is (Ok name) old status new outcome = TellsOctets (text_is (labels_of name)) old status new outcome
-GivesText text_is (Err e) old status new outcome = TellsFault (at_start (refusal_of_octets e)) status outcome × (new ≡ old)
+abbrev pub ReportsNameText : (List (List ℕ) → List ℕ) → Result (UncertainName (Bor (List ℕ))) UncertainDnameError → List ℕ → ℕ → List ℕ → Outcome → Type 0
+ReportsNameText text_is (Ok name) old status new outcome = CopiesWhole (text_is (labels_of name)) old status new outcome
+ReportsNameText text_is (Err e) old status new outcome = ReportsFault (at_start (refusal_of_octets e)) status outcome × (new ≡ old)
 
 -- the result of printing the name of some octets
 abbrev pub PrintsNameOf : (List (List ℕ) → List ℕ) → List ℕ → List ℕ → ℕ → List ℕ → Outcome → Type 0
 PrintsNameOf text_is octets old status new outcome =
-    (made : Result (UncertainName (Bor (List ℕ))) UncertainDnameError) × MakesUncertain octets made × GivesText text_is made old status new outcome
+    (made : Result (UncertainName (Bor (List ℕ))) UncertainDnameError) × MakesUncertain octets made × ReportsNameText text_is made old status new outcome
 
 -- no octets are the relative name of no labels, and others are a name or rejected
 pub record PrintsName (text_is : List (List ℕ) → List ℕ) (octets old : List ℕ) (status : ℕ) (new : List ℕ) (outcome : Outcome) : Type 0 where
-  pub none : octets ≡ [] → TellsOctets (text_is []) old status new outcome
+  pub none : octets ≡ [] → CopiesWhole (text_is []) old status new outcome
   pub some : octets ≢ [] → PrintsNameOf text_is octets old status new outcome

@@ -8,7 +8,7 @@ use Rattle.dns_symbol.specs.declared.error.SymbolOctetsError.{SymbolOctetsError}
 use Rattle.dns_scan.specs.Numbers.{plain_digit_of, IsNumber}
 use Rattle.dns_scan.specs.Reads.{NumberReads}
 use Rattle.dns_text_c.specs.Strings.{refusal_of}
-use Rattle.dns_text_c.specs.Told.{TellsFault}
+use Rattle.dns_text_c.specs.Reports.{ReportsFault}
 use Rattle.dns_text_c.specs.declared.outcome.Outcome.{Outcome}
 use Rattle.dns_text_c.specs.declared.outcome.Fault.{Fault}
 use Rattle.dns_text_c.specs.declared.outcome.Refusal.{Refusal}
@@ -46,10 +46,10 @@ ReadsTextAsNumber most text (Ok v) = NumberReads most text (Ok v)
 ReadsTextAsNumber most text (Err fault) = (v : ℕ) × HasNumberBefore most text v fault.place × NumberStops most text v fault.place fault.refusal
 
 -- the number is returned; or the error is reported, and the number is unchanged. The length is 0
-abbrev pub GivesNumber : Result ℕ Fault → ℕ → ℕ → ℕ → Outcome → Type 0
-GivesNumber (Ok v) old status new outcome = (status ≡ 0) × (outcome ≡ record { length = 0; place = 0 }) × (new ≡ v)
-GivesNumber (Err fault) old status new outcome = TellsFault fault status outcome × (new ≡ old)
+abbrev pub ReturnsNumber : Result ℕ Fault → ℕ → ℕ → ℕ → Outcome → Type 0
+ReturnsNumber (Ok v) old status new outcome = (status ≡ 0) × (outcome ≡ record { length = 0; place = 0 }) × (new ≡ v)
+ReturnsNumber (Err fault) old status new outcome = ReportsFault fault status outcome × (new ≡ old)
 
 -- a text is read as a number, and the result is reported
-abbrev pub TellsNumber : ℕ → List ℕ → ℕ → ℕ → ℕ → Outcome → Type 0
-TellsNumber most text old status new outcome = (answer : Result ℕ Fault) × ReadsTextAsNumber most text answer × GivesNumber answer old status new outcome
+abbrev pub ReportsNumber : ℕ → List ℕ → ℕ → ℕ → ℕ → Outcome → Type 0
+ReportsNumber most text old status new outcome = (answer : Result ℕ Fault) × ReadsTextAsNumber most text answer × ReturnsNumber answer old status new outcome

@@ -1,12 +1,12 @@
 -- The result of looking up the line and the column of an offset.
 use Rattle.std.specs.Prelude.{◌≡◌, ℕ, ◌<◌, ◌≤◌, List, length, take}
-use Rattle.dns_split.specs.Position.{IsPosition}
-use Rattle.dns_text_c.specs.Told.{number_of}
+use Rattle.dns_lexer.specs.Position.{IsPosition}
+use Rattle.dns_text_c.specs.Reports.{number_of}
 use Rattle.dns_text_c.specs.declared.outcome.Refusal.TheVariants.{BadPlace}
 use Rattle.dns_text_c.specs.declared.position.Position.{Position}
 
 -- the line and the column after the octets before the offset; an offset past the end is rejected, and nothing was written
-pub record TellsPosition (text : List ℕ) (place status : ℕ) (old new : ℕ × ℕ) : Type 0 where
+pub record ReportsPosition (text : List ℕ) (place status : ℕ) (old new : ℕ × ℕ) : Type 0 where
   pub within : place ≤ length text → (status ≡ 0) × IsPosition (take place text) new.0 new.1
   pub past : length text < place → (status ≡ number_of BadPlace) × (new ≡ old)
 

@@ -1,19 +1,19 @@
 -- Why a text, an entry or data is rejected: the status, and the text of the error.
 use Rattle.std.specs.Prelude.{◌≡◌, ℕ, List, [], ◌++◌, codes, take, Option, Some, None}
-use Rattle.dns_data.specs.ByType.{name_of_field, shape_of_code}
-use Rattle.dns_fields.specs.declared.record_error.FieldName.{FieldName}
-use Rattle.dns_fields.specs.declared.record_error.RecordError.{RecordError}
-use Rattle.dns_kinds.specs.ErrorKinds.{error_kind_text}
-use Rattle.dns_kinds.specs.Types.{type_text}
-use Rattle.dns_kinds.specs.declared.error.ErrorKind.{ErrorKind}
-use Rattle.dns_kinds.specs.declared.error.ErrorKind.TheVariants.{Syntax, ShortBuf, QuotedName, BadEscape as NoEscape, EmptyLabel as NoOctets, LongLabel as LabelTooLong, LongName as NameTooLong, NoOrigin as OriginUnknown}
-use Rattle.dns_kinds.specs.declared.error.ErrorKind.TheVariants.{NotSupported as NoneSuch, NoOwner as NoneSaid, RefusedOwner as RefusedBefore, NoTtl as TtlUnknown}
-use Rattle.dns_kinds.specs.declared.types.RecordType.{RecordType}
-use Rattle.dns_split.specs.declared.pieces.Wrong.{Wrong}
+use Rattle.rdata.specs.ByType.{name_of_field, shape_of_code}
+use Rattle.rdata_fields.specs.declared.record_error.FieldName.{FieldName}
+use Rattle.rdata_fields.specs.declared.record_error.RecordError.{RecordError}
+use Rattle.rdata_values.specs.ErrorKinds.{error_kind_text}
+use Rattle.rdata_values.specs.Types.{type_text}
+use Rattle.rdata_values.specs.declared.error.ErrorKind.{ErrorKind}
+use Rattle.rdata_values.specs.declared.error.ErrorKind.TheVariants.{Syntax, ShortBuf, QuotedName, BadEscape as NoEscape, EmptyLabel as NoOctets, LongLabel as LabelTooLong, LongName as NameTooLong, NoOrigin as OriginUnknown}
+use Rattle.rdata_values.specs.declared.error.ErrorKind.TheVariants.{NotSupported as NoneSuch, NoOwner as NoneSaid, RefusedOwner as RefusedBefore, NoTtl as TtlUnknown}
+use Rattle.rdata_values.specs.declared.types.RecordType.{RecordType}
+use Rattle.dns_lexer.specs.declared.pieces.Wrong.{Wrong}
 use Rattle.dns_wire.specs.declared.error.NameError.{NameError}
 use Rattle.dns_wire.specs.declared.error.NameError.TheVariants.{BadLabel as NoLabel, CompressedName, LongName, TrailingData, ShortInput as CutShort, Relative, Absolute}
 use Rattle.dns_text_c.specs.Entries.{refusal_of_wrong}
-use Rattle.dns_text_c.specs.Told.{GivesCut, TellsFault, number_of}
+use Rattle.dns_text_c.specs.Reports.{WritesPrefix, ReportsFault, number_of}
 use Rattle.dns_text_c.specs.declared.outcome.Outcome.{Outcome}
 use Rattle.dns_text_c.specs.declared.outcome.Refusal.{Refusal}
 use Rattle.dns_text_c.specs.declared.outcome.Refusal.TheVariants.{BadLabel, Pointer, TooLong, TrailingOctets, ShortInput, RelativeName}
@@ -93,15 +93,15 @@ abbrev pub AppendsCut : List ℕ → List ℕ → List ℕ → Type 0
 AppendsCut text old new = new ≡ take 255 (old ++ text)
 
 -- the status and the offset of an error, and the part of its text that fits
-pub record TellsReason (error : RecordError) (old : List ℕ) (told : ℕ) (new : List ℕ) (outcome : Outcome) : Type 0 where
+pub record ReportsReason (error : RecordError) (old : List ℕ) (told : ℕ) (new : List ℕ) (outcome : Outcome) : Type 0 where
   pub told_is : told ≡ number_of (refusal_of_entry error.rtype error.kind)
   pub place : outcome.place ≡ error.offset
-  pub text : GivesCut (take 255 (reason_text error)) old new outcome.length
+  pub text : WritesPrefix (take 255 (reason_text error)) old new outcome.length
 
 -- a syntax error has a status and an offset, and nothing was written; another error has a text too
-abbrev pub TellsWrong : Option Wrong → RecordError → List ℕ → ℕ → List ℕ → Outcome → Type 0
-TellsWrong (Some wrong) error old told new outcome = TellsFault (record { refusal = refusal_of_wrong wrong; place = error.offset }) told outcome × (new ≡ old)
-TellsWrong None error old told new outcome = TellsReason error old told new outcome
+abbrev pub ReportsErrorText : Option Wrong → RecordError → List ℕ → ℕ → List ℕ → Outcome → Type 0
+ReportsErrorText (Some wrong) error old told new outcome = ReportsFault (record { refusal = refusal_of_wrong wrong; place = error.offset }) told outcome × (new ≡ old)
+ReportsErrorText None error old told new outcome = ReportsReason error old told new outcome
 
-abbrev pub TellsError : RecordError → List ℕ → ℕ → List ℕ → Outcome → Type 0
-TellsError error old told new outcome = TellsWrong (syntax_of error.kind) error old told new outcome
+abbrev pub ReportsError : RecordError → List ℕ → ℕ → List ℕ → Outcome → Type 0
+ReportsError error old told new outcome = ReportsErrorText (syntax_of error.kind) error old told new outcome

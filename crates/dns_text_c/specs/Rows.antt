@@ -1,12 +1,12 @@
 -- Worked examples of the definitions, each computed.
 use Rattle.std.specs.Prelude.{◌≡◌, [], ◌∷◌, ◌++◌, map, codes, decimal, refl, Some, None}
-use Rattle.dns_kinds.specs.Classes.{class_text}
-use Rattle.dns_kinds.specs.Rtype as Rtype
-use Rattle.dns_kinds.specs.Types.{type_rows, type_text}
+use Rattle.rdata_values.specs.Classes.{class_text}
+use Rattle.rdata_values.specs.Rtype as Rtype
+use Rattle.rdata_values.specs.Types.{type_rows, type_text}
 use Rattle.dns_text_c.specs.Kept.{flagged}
 use Rattle.dns_text_c.specs.Reasons.{part_prefix}
 use Rattle.dns_text_c.specs.Status.{status_text}
-use Rattle.dns_text_c.specs.Told.{number_of}
+use Rattle.dns_text_c.specs.Reports.{number_of}
 use Rattle.dns_text_c.specs.declared.outcome.Refusal.TheVariants.{NoRoom, BadPlace, BadTtl, UnknownType, UnknownClass}
 
 -- two types with a name and one without, and the classes 1 and 254

@@ -14,7 +14,7 @@ use Rattle.dns_symbol.specs.declared.error.SymbolOctetsError.TheVariants.{BadUtf
 use Rattle.dns_charstr.specs.Printed.{quoted_text}
 use Rattle.dns_charstr.specs.OctetText.{SpellsOctet, SpellsOctets, SpellsNone, OctetAt}
 use Rattle.dns_charstr.specs.Reading.{HasOctets}
-use Rattle.dns_text_c.specs.Told.{TellsOctets, TellsFault, IsTold}
+use Rattle.dns_text_c.specs.Reports.{CopiesWhole, ReportsFault, IsReported}
 use Rattle.dns_text_c.specs.declared.outcome.Outcome.{Outcome}
 use Rattle.dns_text_c.specs.declared.outcome.Fault.{Fault}
 use Rattle.dns_text_c.specs.declared.outcome.Refusal.{Refusal}
@@ -41,8 +41,8 @@ string_text Unquoted octets = unquoted_text octets
 
 -- at most 255 octets are returned as their text, one octet a character; the 256th is rejected
 pub record PrintsString (text_is : List ℕ → List ℕ) (octets old : List ℕ) (status : ℕ) (new : List ℕ) (outcome : Outcome) : Type 0 where
-  pub short : length octets ≤ 255 → TellsOctets (text_is octets) old status new outcome
-  pub long : 255 < length octets → TellsFault (record { refusal = TooLong; place = 255 }) status outcome × (new ≡ old)
+  pub short : length octets ≤ 255 → CopiesWhole (text_is octets) old status new outcome
+  pub long : 255 < length octets → ReportsFault (record { refusal = TooLong; place = 255 }) status outcome × (new ≡ old)
 
 -- the status if no symbol is there
 abbrev pub refusal_of : SymbolOctetsError → Refusal
@@ -105,8 +105,8 @@ string_octets (Ok octets) = Ok octets.items
 string_octets (Err fault) = Err fault
 
 -- a text is read, and the result is reported
-abbrev pub TellsString : List ℕ → List ℕ → ℕ → List ℕ → Outcome → Type 0
-TellsString text old status new outcome = (answer : Result (List ℕ) Fault) × ReadsString text answer × IsTold answer old status new outcome
+abbrev pub ReportsString : List ℕ → List ℕ → ℕ → List ℕ → Outcome → Type 0
+ReportsString text old status new outcome = (answer : Result (List ℕ) Fault) × ReadsString text answer × IsReported answer old status new outcome
 
-abbrev pub TellsOctetString : List ℕ → List ℕ → ℕ → List ℕ → Outcome → Type 0
-TellsOctetString text old status new outcome = (answer : Result (List ℕ) Fault) × ReadsOctetString text answer × IsTold answer old status new outcome
+abbrev pub ReportsOctetString : List ℕ → List ℕ → ℕ → List ℕ → Outcome → Type 0
+ReportsOctetString text old status new outcome = (answer : Result (List ℕ) Fault) × ReadsOctetString text answer × IsReported answer old status new outcome

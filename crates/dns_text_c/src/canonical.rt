@@ -1,12 +1,12 @@
 //! Converts record data to canonical form (RFC 4034 section 6.2).
 ghost use Rattle.std.specs.Prelude.{◌≤◌, length};
-ghost use Rattle.dns_text_c.specs.DataText.{TellsCanonical, TellsForm};
+ghost use Rattle.dns_text_c.specs.DataText.{ReportsCanonical, ReportsForm};
 
 use crate::outcome::{Outcome, give, refuse};
 use crate::printing::fault_of_wire;
 use arrayvec::ArrayVec;
-use dns_kinds::RecordType;
-use dns_resource::Data;
+use rdata_values::RecordType;
+use zone_record::Data;
 
 /// Greatest number of octets of record data (RFC 1035 section 3.2.1).
 const MOST: usize = 65535;
@@ -17,7 +17,7 @@ const FEW: usize = 1024;
 /// Writes the canonical form of short data.
 fn give_short_form(content: &Data<&[u8]>, form: &mut [u8], outcome: &mut Outcome) -> u32
     requires { length content.now.octets ≤ FEW }
-    ensures { TellsForm content.now form.old result form.new outcome.new }
+    ensures { ReportsForm content.now form.old result form.new outcome.new }
 {
     let mut made: ArrayVec<u8, FEW> = ArrayVec::new();
     match content.append_canonical(&mut made) {
@@ -33,7 +33,7 @@ fn give_short_form(content: &Data<&[u8]>, form: &mut [u8], outcome: &mut Outcome
 #[inline(never)]
 fn give_long_form(content: &Data<&[u8]>, form: &mut [u8], outcome: &mut Outcome) -> u32
     requires { length content.now.octets ≤ MOST }
-    ensures { TellsForm content.now form.old result form.new outcome.new }
+    ensures { ReportsForm content.now form.old result form.new outcome.new }
 {
     let mut all: ArrayVec<u8, MOST> = ArrayVec::new();
     match content.append_canonical(&mut all) {
@@ -44,7 +44,7 @@ fn give_long_form(content: &Data<&[u8]>, form: &mut [u8], outcome: &mut Outcome)
 
 /// Writes the canonical form of data.
 fn give_form(content: &Data<&[u8]>, form: &mut [u8], outcome: &mut Outcome) -> u32
-    ensures { TellsForm content.now form.old result form.new outcome.new }
+    ensures { ReportsForm content.now form.old result form.new outcome.new }
 {
     if content.as_slice().len() > FEW {
         return give_long_form(content, form, outcome);
@@ -66,7 +66,7 @@ pub extern "C" fn dnstext_data_canonical(
     form: &mut [u8],
     outcome: &mut Outcome,
 ) -> u32
-    ensures { TellsCanonical code octets.now form.old result form.new outcome.new }
+    ensures { ReportsCanonical code octets.now form.old result form.new outcome.new }
 {
     match Data::from_octets(RecordType(code), octets) {
         Ok(content) => give_form(&content, form, outcome),

@@ -4,7 +4,7 @@ ghost use Rattle.std.specs.Prelude.{◌≡◌, ◌≤◌, ◌^◌, length, IfOk,
 ghost use Rattle.dns_codec.specs.Base.{base16, base32hex, base64};
 ghost use Rattle.dns_codec.specs.Outcome.{pad_count};
 ghost use Rattle.dns_text_c.specs.Codecs.{PrintsOctets, DecodesText};
-ghost use Rattle.dns_text_c.specs.Told.{number_of, TellsFault, TellsLength, at_start};
+ghost use Rattle.dns_text_c.specs.Reports.{number_of, ReportsFault, ReportsLength, at_start};
 ghost use Rattle.dns_text_c.specs.declared.outcome.Refusal.TheVariants.{NoRoom, TooLong, BadEncoding};
 
 use crate::outcome::{Fault, OK, Outcome, Refusal, number_of, refuse};
@@ -15,7 +15,7 @@ use dns_octets::ShortBuf;
 const MOST: usize = 1 << 60;
 
 /// Reports whether a text was written, and its number of characters.
-fn tell_written(written: Result<usize, ShortBuf>, length: usize, outcome: &mut Outcome) -> u32
+fn report_written(written: Result<usize, ShortBuf>, length: usize, outcome: &mut Outcome) -> u32
     ensures ok { IfOk written (λ _. result ≡ 0) }
     ensures short { IfErr written (λ _. result ≡ number_of NoRoom) }
     ensures told { outcome.new ≡ record { length = length; place = 0 } }
@@ -29,7 +29,7 @@ fn tell_written(written: Result<usize, ShortBuf>, length: usize, outcome: &mut O
 
 /// Rejects octets that no memory holds.
 fn refuse_length(outcome: &mut Outcome) -> u32
-    ensures { TellsFault (record { refusal = TooLong; place = 2 ^ 60 }) result outcome.new }
+    ensures { ReportsFault (record { refusal = TooLong; place = 2 ^ 60 }) result outcome.new }
 {
     let fault = Fault {
         refusal: Refusal::TooLong,
@@ -47,7 +47,7 @@ pub extern "C" fn dnstext_base16_print(octets: &[u8], text: &mut [u8], outcome: 
         return refuse_length(outcome);
     }
     let length = 2 * octets.len();
-    tell_written(base16::encode_slice(octets, text), length, outcome)
+    report_written(base16::encode_slice(octets, text), length, outcome)
 }
 
 /// Prints octets in base32hex, with capitals and without padding.
@@ -63,7 +63,7 @@ pub extern "C" fn dnstext_base32hex_print(
         return refuse_length(outcome);
     }
     let length = (8 * octets.len() + 4) / 5;
-    tell_written(base32::encode_slice_hex(octets, text), length, outcome)
+    report_written(base32::encode_slice_hex(octets, text), length, outcome)
 }
 
 /// Prints octets in base 64, with padding.
@@ -75,7 +75,7 @@ pub extern "C" fn dnstext_base64_print(octets: &[u8], text: &mut [u8], outcome: 
         return refuse_length(outcome);
     }
     let length = (octets.len() + 2) / 3 * 4;
-    tell_written(base64::encode_slice(octets, text), length, outcome)
+    report_written(base64::encode_slice(octets, text), length, outcome)
 }
 
 /// Reports that `length` octets don't fit.
@@ -87,9 +87,9 @@ fn refuse_room(length: usize, outcome: &mut Outcome) -> u32
 }
 
 /// Reports whether the text was one of the encoding.
-fn tell_read(read: Option<usize>, length: usize, outcome: &mut Outcome) -> u32
-    ensures some { IfSome read (λ _. TellsLength length result outcome.new) }
-    ensures none { IfNone read (TellsFault (at_start BadEncoding) result outcome.new) }
+fn report_read(read: Option<usize>, length: usize, outcome: &mut Outcome) -> u32
+    ensures some { IfSome read (λ _. ReportsLength length result outcome.new) }
+    ensures none { IfNone read (ReportsFault (at_start BadEncoding) result outcome.new) }
 {
     match read {
         Some(_) => {
@@ -130,7 +130,7 @@ pub extern "C" fn dnstext_base16_read(text: &[u8], octets: &mut [u8], outcome: &
         return refuse_room(length, outcome);
     }
     let read = base16::decode_slice(text, &mut octets[..length]);
-    tell_read(read, length, outcome)
+    report_read(read, length, outcome)
 }
 
 /// Parses a text of base32hex, in either case and without padding.
@@ -147,7 +147,7 @@ pub extern "C" fn dnstext_base32hex_read(
         return refuse_room(length, outcome);
     }
     let read = base32::decode_slice_hex(text, &mut octets[..length]);
-    tell_read(read, length, outcome)
+    report_read(read, length, outcome)
 }
 
 /// Parses a text of base 64, with its padding.
@@ -161,5 +161,5 @@ pub extern "C" fn dnstext_base64_read(text: &[u8], octets: &mut [u8], outcome: &
         return refuse_room(length, outcome);
     }
     let read = base64::decode_slice(text, &mut octets[..length]);
-    tell_read(read, length, outcome)
+    report_read(read, length, outcome)
 }

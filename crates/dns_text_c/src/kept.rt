@@ -1,14 +1,14 @@
 //! The state of a zone file between two calls, in plain numbers and octets.
 ghost use Rattle.std.specs.Prelude.{◌≡◌, ◌≤◌, drop, length, take};
 ghost use Rattle.dns_wire.specs.FromOctets.{MakesName};
-ghost use Rattle.dns_text_c.specs.Kept.{HoldsName, HoldsState, KeepsName, KeepsState, MakesOrNot, TakesOrigin, flagged, known_if};
+ghost use Rattle.dns_text_c.specs.Kept.{HoldsName, HoldsState, KeepsName, KeepsState, MakesOrNot, SetsOrigin, flagged, known_if};
 ghost use Rattle.dns_text_c.specs.Reasons.{refusal_of_name};
 
 use crate::outcome::{Fault, Outcome, Refusal, accept, refuse};
 use arrayvec::ArrayVec;
-use dns_kinds::Class;
-use dns_reader::{Known, NameBuffer, State};
 use dns_wire::{MAX_NAME, Name, NameError};
+use rdata_values::Class;
+use zone_reader::{NameBuffer, NameState, State};
 
 /// An absolute name in wire form (RFC 1035 section 3.1), if there is one.
 #[repr(C)]
@@ -55,7 +55,7 @@ pub(crate) fn name_of(octets: &[u8]) -> Result<NameBuffer, NameError>
 
 /// Stores the name in the first `length` octets as known, and returns true. Returns false if they
 /// are not a name; then what is known is unchanged.
-fn know_name(octets: &[u8], length: usize, known: &mut Known) -> bool
+fn know_name(octets: &[u8], length: usize, known: &mut NameState) -> bool
     ensures { MakesOrNot octets.now length (known_if result known.new) }
 {
     if length > octets.len() {
@@ -63,7 +63,7 @@ fn know_name(octets: &[u8], length: usize, known: &mut Known) -> bool
     }
     match name_of(&octets[..length]) {
         Ok(name) => {
-            *known = Known::Name(name);
+            *known = NameState::Name(name);
             true
         }
         Err(_) => false,
@@ -71,15 +71,15 @@ fn know_name(octets: &[u8], length: usize, known: &mut Known) -> bool
 }
 
 /// Loads what is known of a stored name, and returns true. Returns false if it is not a name.
-fn load_name(kept: &KeptName, known: &mut Known) -> bool
+fn load_name(kept: &KeptName, known: &mut NameState) -> bool
     ensures { HoldsName kept.now (known_if result known.new) }
 {
     if kept.is_refused != 0 {
-        *known = Known::Refused;
+        *known = NameState::Refused;
         return true;
     }
     if kept.length == 0 {
-        *known = Known::Unsaid;
+        *known = NameState::Unset;
         return true;
     }
     know_name(&kept.octets, kept.length, known)
@@ -115,15 +115,15 @@ pub(crate) fn put_over(octets: &[u8], over: &mut [u8])
 }
 
 /// Stores what is known of a name.
-pub(crate) fn keep_name(known: &Known, kept: &mut KeptName)
+pub(crate) fn keep_name(known: &NameState, kept: &mut KeptName)
     ensures { KeepsName known.now kept.old kept.new }
 {
     kept.length = 0;
     kept.is_refused = 0;
     match known {
-        Known::Unsaid => {}
-        Known::Refused => kept.is_refused = 1,
-        Known::Name(name) => {
+        NameState::Unset => {}
+        NameState::Refused => kept.is_refused = 1,
+        NameState::Name(name) => {
             let octets = name.as_slice();
             kept.length = octets.len();
             put_over(octets, &mut kept.octets);
@@ -180,15 +180,15 @@ pub(crate) fn refusal_of_name(error: NameError) -> Refusal
 /// Fails with place 0 if the octets are not such a name; then the zone is unchanged.
 #[unsafe(no_mangle)]
 pub extern "C" fn dnstext_zone_origin(zone: &mut Zone, name: &[u8], outcome: &mut Outcome) -> u32
-    ensures { TakesOrigin name.now zone.old zone.new result outcome.new }
+    ensures { SetsOrigin name.now zone.old zone.new result outcome.new }
 {
     if name.is_empty() {
-        keep_name(&Known::Unsaid, &mut zone.origin);
+        keep_name(&NameState::Unset, &mut zone.origin);
         return accept(outcome);
     }
     match name_of(name) {
         Ok(origin) => {
-            keep_name(&Known::Name(origin), &mut zone.origin);
+            keep_name(&NameState::Name(origin), &mut zone.origin);
             accept(outcome)
         }
         Err(error) => {

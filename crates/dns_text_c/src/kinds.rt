@@ -1,22 +1,22 @@
 //! Parses and prints TTLs, types and classes of records, each of which is one word of a zone file.
 ghost use Rattle.std.specs.Prelude.{◌≡◌, ◌+◌, ◌≤◌, ◌++◌, decimal, length};
-ghost use Rattle.dns_kinds.specs.Classes.{SpellsClass, class_text};
-ghost use Rattle.dns_kinds.specs.Ttl.{SpellsTtl};
-ghost use Rattle.dns_kinds.specs.Types.{SpellsType, type_text};
-ghost use Rattle.dns_text_c.specs.Kinds.{TellsSpelled};
-ghost use Rattle.dns_text_c.specs.Told.{TellsFault, TellsOctets, at_start};
+ghost use Rattle.rdata_values.specs.Classes.{SpellsClass, class_text};
+ghost use Rattle.rdata_values.specs.Ttl.{SpellsTtl};
+ghost use Rattle.rdata_values.specs.Types.{SpellsType, type_text};
+ghost use Rattle.dns_text_c.specs.Kinds.{ReportsCode};
+ghost use Rattle.dns_text_c.specs.Reports.{ReportsFault, CopiesWhole, at_start};
 ghost use Rattle.dns_text_c.specs.declared.outcome.Refusal.TheVariants.{BadTtl, UnknownType, UnknownClass};
 
 use crate::outcome::{Fault, Outcome, Refusal, accept, give, refuse};
 use arrayvec::ArrayVec;
-use dns_kinds::{Class, RecordType, ttl_from_text};
+use rdata_values::{Class, RecordType, ttl_from_text};
 
 /// Greatest number of characters of a prefix and a number, as in `CLASS65535`.
 const TEXT: usize = 10;
 
 /// Rejects a whole word.
 fn refuse_word(refusal: Refusal, outcome: &mut Outcome) -> u32
-    ensures { TellsFault (at_start refusal) result outcome.new }
+    ensures { ReportsFault (at_start refusal) result outcome.new }
 {
     refuse(Fault { refusal, place: 0 }, outcome)
 }
@@ -28,7 +28,7 @@ fn refuse_word(refusal: Refusal, outcome: &mut Outcome) -> u32
 /// unchanged.
 #[unsafe(no_mangle)]
 pub extern "C" fn dnstext_ttl_read(text: &[u8], seconds: &mut u32, outcome: &mut Outcome) -> u32
-    ensures { TellsSpelled SpellsTtl BadTtl text.now seconds.old result seconds.new outcome.new }
+    ensures { ReportsCode SpellsTtl BadTtl text.now seconds.old result seconds.new outcome.new }
 {
     match ttl_from_text(text) {
         Ok(read) => {
@@ -46,7 +46,7 @@ pub extern "C" fn dnstext_ttl_read(text: &[u8], seconds: &mut u32, outcome: &mut
 /// unchanged.
 #[unsafe(no_mangle)]
 pub extern "C" fn dnstext_type_read(text: &[u8], code: &mut u16, outcome: &mut Outcome) -> u32
-    ensures { TellsSpelled SpellsType UnknownType text.now code.old result code.new outcome.new }
+    ensures { ReportsCode SpellsType UnknownType text.now code.old result code.new outcome.new }
 {
     match RecordType::from_text(text) {
         Ok(read) => {
@@ -64,7 +64,7 @@ pub extern "C" fn dnstext_type_read(text: &[u8], code: &mut u16, outcome: &mut O
 /// is unchanged.
 #[unsafe(no_mangle)]
 pub extern "C" fn dnstext_class_read(text: &[u8], code: &mut u16, outcome: &mut Outcome) -> u32
-    ensures { TellsSpelled SpellsClass UnknownClass text.now code.old result code.new outcome.new }
+    ensures { ReportsCode SpellsClass UnknownClass text.now code.old result code.new outcome.new }
 {
     match Class::from_text(text) {
         Ok(read) => {
@@ -104,7 +104,7 @@ pub(crate) fn numbered(prefix: &str, number: u16) -> ArrayVec<u8, TEXT>
 /// Prints a record type: its name, or if it has no name `TYPE` and the number.
 #[unsafe(no_mangle)]
 pub extern "C" fn dnstext_type_print(code: u16, text: &mut [u8], outcome: &mut Outcome) -> u32
-    ensures { TellsOctets (type_text code) text.old result text.new outcome.new }
+    ensures { CopiesWhole (type_text code) text.old result text.new outcome.new }
 {
     match RecordType(code).name() {
         Some(name) => give(name.as_bytes(), text, outcome),
@@ -115,7 +115,7 @@ pub extern "C" fn dnstext_type_print(code: u16, text: &mut [u8], outcome: &mut O
 /// Prints a class: its name, or if it has no name `CLASS` and the number.
 #[unsafe(no_mangle)]
 pub extern "C" fn dnstext_class_print(code: u16, text: &mut [u8], outcome: &mut Outcome) -> u32
-    ensures { TellsOctets (class_text code) text.old result text.new outcome.new }
+    ensures { CopiesWhole (class_text code) text.old result text.new outcome.new }
 {
     match Class(code).name() {
         Some(name) => give(name.as_bytes(), text, outcome),

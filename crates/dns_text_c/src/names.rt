@@ -8,8 +8,8 @@ ghost use Rattle.dns_wire.specs.Wire.{wire_length};
 ghost use Rattle.dns_wire.specs.ZoneText.{zone_text};
 ghost use Rattle.dns_name.specs.Reading.{is_dot};
 ghost use Rattle.dns_name.specs.declared.name.UncertainName.TheVariants.{Absolute};
-ghost use Rattle.dns_text_c.specs.Names.{FinishesName, TakesNameSymbol, NameAnswer, ReadsNameText, TellsName, dotted_octets, labels_text, refusal_of_octets, PrintsNameOf, PrintsName, undotted_octets};
-ghost use Rattle.dns_text_c.specs.Told.{TellsOctets};
+ghost use Rattle.dns_text_c.specs.Names.{FinishesName, AppendsNameSymbol, NameAnswer, ReadsNameText, ReportsName, dotted_octets, labels_text, refusal_of_octets, PrintsNameOf, PrintsName, undotted_octets};
+ghost use Rattle.dns_text_c.specs.Reports.{CopiesWhole};
 ghost use Rattle.dns_wire.specs.Limits.{max_name, max_relative};
 
 use crate::outcome::{Fault, Outcome, Refusal, give, refuse};
@@ -35,7 +35,7 @@ fn is_dot(symbol: Symbol) -> bool
 
 /// Appends a symbol other than a plain dot to the open label.
 fn push_symbol(builder: &mut NameBuilder<ArrayVec<u8, MOST>>, symbol: Symbol) -> Result<(), Refusal>
-    ensures { TakesNameSymbol builder.old symbol result builder.new }
+    ensures { AppendsNameSymbol builder.old symbol result builder.new }
 {
     if symbol == Symbol::SimpleEscape(b'[') && !builder.in_label() {
         return Err(Refusal::BinaryLabel);
@@ -111,7 +111,7 @@ pub extern "C" fn dnstext_name_read(
     outcome: &mut Outcome,
 ) -> u32
     ensures { (answer : NameAnswer) × ReadsNameText text.now answer
-        × TellsName answer name.old is_absolute.old result name.new is_absolute.new outcome.new }
+        × ReportsName answer name.old is_absolute.old result name.new is_absolute.new outcome.new }
 {
     match read_name(text) {
         Ok(read) => {
@@ -131,7 +131,7 @@ fn give_text(
     outcome: &mut Outcome,
 ) -> u32
     requires { wire_length labels ≤ max_name }
-    ensures { TellsOctets (labels_text form dot labels.entry) text.old result text.new outcome.new }
+    ensures { CopiesWhole (labels_text form dot labels.entry) text.old result text.new outcome.new }
 {
     let mut made = [0; TEXT];
     let shown = labels_in(labels, form, dot, &mut made);

@@ -1,7 +1,7 @@
 //! Parses decimal numbers.
 ghost use Rattle.std.specs.Prelude.{◌≡◌, ◌<◌, IfSome};
 ghost use Rattle.dns_scan.specs.Numbers.{plain_digit_of};
-ghost use Rattle.dns_text_c.specs.Numbers.{AppendsDigit, ReadsTextAsNumber, TellsNumber};
+ghost use Rattle.dns_text_c.specs.Numbers.{AppendsDigit, ReadsTextAsNumber, ReportsNumber};
 
 use crate::outcome::{Fault, OK, Outcome, Refusal, refuse};
 use crate::strings::symbol_at;
@@ -64,7 +64,7 @@ pub extern "C" fn dnstext_number_read(
     number: &mut u64,
     outcome: &mut Outcome,
 ) -> u32
-    ensures { TellsNumber greatest text.now number.old result number.new outcome.new }
+    ensures { ReportsNumber greatest text.now number.old result number.new outcome.new }
 {
     match read_number(text, greatest) {
         Ok(read) => {

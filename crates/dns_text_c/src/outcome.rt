@@ -1,6 +1,6 @@
 //! The result of a call: a status, a length and a place.
 ghost use Rattle.std.specs.Prelude.{◌≡◌};
-ghost use Rattle.dns_text_c.specs.Told.{number_of, GivesCut, TellsOctets, TellsFault};
+ghost use Rattle.dns_text_c.specs.Reports.{number_of, WritesPrefix, CopiesWhole, ReportsFault};
 
 /// The result of a call, besides its status.
 #[repr(C)]
@@ -142,7 +142,7 @@ pub fn number_of(refusal: Refusal) -> u32
 
 /// Reports an error.
 pub(crate) fn refuse(fault: Fault, outcome: &mut Outcome) -> u32
-    ensures { TellsFault fault result outcome.new }
+    ensures { ReportsFault fault result outcome.new }
 {
     *outcome = Outcome {
         length: 0,
@@ -164,7 +164,7 @@ pub(crate) fn accept(outcome: &mut Outcome) -> u32
 
 /// Copies octets to the start of a buffer, if they fit, and reports that.
 pub(crate) fn give(octets: &[u8], buffer: &mut [u8], outcome: &mut Outcome) -> u32
-    ensures { TellsOctets octets.now buffer.old result buffer.new outcome.new }
+    ensures { CopiesWhole octets.now buffer.old result buffer.new outcome.new }
 {
     let length = octets.len();
     *outcome = Outcome { length, place: 0 };
@@ -177,7 +177,7 @@ pub(crate) fn give(octets: &[u8], buffer: &mut [u8], outcome: &mut Outcome) -> u
 
 /// Copies octets to the start of a buffer, cut to its length, and returns the number copied.
 pub(crate) fn give_cut(octets: &[u8], buffer: &mut [u8]) -> usize
-    ensures { GivesCut octets.now buffer.old buffer.new result }
+    ensures { WritesPrefix octets.now buffer.old buffer.new result }
 {
     let count = octets.len().min(buffer.len());
     buffer[..count].copy_from_slice(&octets[..count]);

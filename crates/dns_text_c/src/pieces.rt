@@ -2,12 +2,12 @@
 //!
 //! An octet of 0x80 or more counts as a character of its own, so that comments needn't be UTF-8.
 ghost use Rattle.std.specs.Prelude.{◌≡◌};
-ghost use Rattle.dns_text_c.specs.Pieces.{NextPiece, TellsPiece, cursor_of, numbered_piece, standing_of};
+ghost use Rattle.dns_text_c.specs.Pieces.{NextPiece, WritesPiece, cursor_of, numbered_piece, cursor_state};
 
 use crate::outcome::{END, Fault, OK, Outcome, Refusal, number_of, refuse};
 use crate::tokens::{bit, refusal_of_wrong};
-use dns_split::pieces::{Fault as TextFault, Piece as TextPiece};
-use dns_split::standing::{Standing as TextStanding, next_of_octets};
+use dns_lexer::cursor_state::{CursorState as TextStanding, next_of_octets};
+use dns_lexer::pieces::{Fault as TextFault, Piece as TextPiece};
 
 /// A piece of a zone file: the octets from `start` to before `end`.
 #[repr(C)]
@@ -26,7 +26,7 @@ pub struct Piece {
 /// The position where splitting a zone file continues, before the next piece.
 #[repr(C)]
 #[derive(Clone, Copy, Debug, PartialEq, Eq)]
-pub struct Standing {
+pub struct CursorState {
     /// Offset of the next octet. It is 0 at first.
     pub at: usize,
     /// Number of open parentheses. It is 0 at first.
@@ -38,8 +38,8 @@ pub struct Standing {
 }
 
 /// Returns the standing that a caller passed.
-fn standing_of(cursor: Standing) -> TextStanding
-    ensures { result ≡ standing_of cursor }
+fn cursor_state(cursor: CursorState) -> TextStanding
+    ensures { result ≡ cursor_state cursor }
 {
     TextStanding {
         at: cursor.at,
@@ -50,10 +50,10 @@ fn standing_of(cursor: Standing) -> TextStanding
 }
 
 /// Returns the standing for a caller.
-fn cursor_of(standing: TextStanding) -> Standing
+fn cursor_of(standing: TextStanding) -> CursorState
     ensures { result ≡ cursor_of standing }
 {
-    Standing {
+    CursorState {
         at: standing.at,
         depth: standing.depth,
         began: standing.began,
@@ -80,13 +80,13 @@ fn piece_of(piece: TextPiece, begins_blank: bool) -> Piece
 }
 
 /// Reports a piece or a syntax error.
-fn tell_piece(
+fn report_piece(
     given: Result<TextPiece, TextFault>,
     begins_blank: bool,
     piece: &mut Piece,
     outcome: &mut Outcome,
 ) -> u32
-    ensures { TellsPiece given begins_blank piece.old piece.new result outcome.new }
+    ensures { WritesPiece given begins_blank piece.old piece.new result outcome.new }
 {
     match given {
         Ok(found) => {
@@ -116,7 +116,7 @@ fn tell_piece(
 #[unsafe(no_mangle)]
 pub extern "C" fn dnstext_tokens_next(
     text: &[u8],
-    standing: &mut Standing,
+    standing: &mut CursorState,
     piece: &mut Piece,
     outcome: &mut Outcome,
 ) -> u32
@@ -136,11 +136,11 @@ pub extern "C" fn dnstext_tokens_next(
         };
         return refuse(fault, outcome);
     }
-    let mut there = standing_of(*standing);
+    let mut there = cursor_state(*standing);
     let begins_blank = there.begins_blank(text);
     let Some(given) = next_of_octets(text, &mut there) else {
         return END;
     };
     *standing = cursor_of(there);
-    tell_piece(given, begins_blank, piece, outcome)
+    report_piece(given, begins_blank, piece, outcome)
 }

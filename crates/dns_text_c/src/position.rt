@@ -1,10 +1,10 @@
 //! Finds lines and columns.
 ghost use Rattle.std.specs.Prelude.{◌≡◌, ◌≢◌, ◌+◌, ◌-◌, ◌<◌, ◌≤◌, length};
 ghost use Rattle.dns_text_c.specs.Entries.{counted};
-ghost use Rattle.dns_text_c.specs.Places.{IsPositionIn, MovesPosition, TellsPosition};
+ghost use Rattle.dns_text_c.specs.Places.{IsPositionIn, MovesPosition, ReportsPosition};
 
 use crate::outcome::{OK, Refusal, number_of};
-use dns_split::position::{Position as Passed, line_and_column_of_octets};
+use dns_lexer::position::{Position as Passed, line_and_column_of_octets};
 
 /// An offset of a text, with its line and column.
 #[repr(C)]
@@ -35,7 +35,7 @@ pub extern "C" fn dnstext_position(
     line: &mut usize,
     column: &mut usize,
 ) -> u32
-    ensures { TellsPosition text.now place result (line.old, column.old) (line.new, column.new) }
+    ensures { ReportsPosition text.now place result (line.old, column.old) (line.new, column.new) }
 {
     if place > text.len() {
         return number_of(Refusal::BadPlace);

@@ -1,16 +1,16 @@
 //! Prints record data.
 ghost use Rattle.std.specs.Prelude.{◌≡◌, ◌+◌, length, IsTrue, IfOk, OnOk};
-ghost use Rattle.dns_text_c.specs.DataText.{PrintsData, PrintsOn, PutsAt, TellsText, data_text, fault_of_wire};
-ghost use Rattle.dns_text_c.specs.Told.{TellsFault, at_start};
+ghost use Rattle.dns_text_c.specs.DataText.{PrintsData, PrintsOn, PutsAt, ReportsText, data_text, fault_of_wire};
+ghost use Rattle.dns_text_c.specs.Reports.{ReportsFault, at_start};
 ghost use Rattle.dns_text_c.specs.declared.outcome.Refusal.TheVariants.{TooLong};
 
 use crate::kept::put_over;
 use crate::outcome::{Fault, OK, Outcome, Refusal, number_of, refuse};
-use dns_kinds::RecordType;
-use dns_resource::{Data, WireError};
 use dns_zone::zonefile_fmt::{DisplayKind, ZonefileFmt};
+use rdata_values::RecordType;
 use std::fmt;
 use std::fmt::Write;
+use zone_record::{Data, WireError};
 
 /// Greatest number of octets of record data (RFC 1035 section 3.2.1).
 const MOST: usize = 65535;
@@ -98,7 +98,7 @@ fn write_text(content: &Data<&[u8]>, over: &mut [u8]) -> fmt::Result
 
 /// Reports that data has no text.
 fn refuse_text(outcome: &mut Outcome) -> u32
-    ensures { TellsFault (at_start TooLong) result outcome.new }
+    ensures { ReportsFault (at_start TooLong) result outcome.new }
 {
     let refusal = Refusal::TooLong;
     refuse(Fault { refusal, place: 0 }, outcome)
@@ -106,7 +106,7 @@ fn refuse_text(outcome: &mut Outcome) -> u32
 
 /// Writes the text of data.
 fn give_text(content: &Data<&[u8]>, text: &mut [u8], outcome: &mut Outcome) -> u32
-    ensures { TellsText (data_text content.now) text.old result text.new outcome.new }
+    ensures { ReportsText (data_text content.now) text.old result text.new outcome.new }
 {
     let Ok(length) = count_text(content) else {
         return refuse_text(outcome);

@@ -1,16 +1,16 @@
 //! Parses record data.
 ghost use Rattle.std.specs.Prelude.{◌≡◌, ◌≤◌, [], false, true};
-ghost use Rattle.dns_reader.specs.Source.{entry_end};
-ghost use Rattle.dns_text_c.specs.DataText.{EndsText, ReadsLeft, ReadsOpen, AnswersText, TellsRead, TellsReadData, WritesData, trailing_token};
+ghost use Rattle.zone_reader.specs.Source.{entry_end};
+ghost use Rattle.dns_text_c.specs.DataText.{EndsText, ReadsRemaining, ReadsOpen, AnswersText, ReportsRead, ReportsReadData, WritesData, trailing_token};
 
 use crate::kept::{name_of, refusal_of_name};
 use crate::outcome::{Fault, Outcome, give, refuse};
-use crate::reasons::{read_lacks, tell_error};
+use crate::reasons::{read_lacks, report_error};
 use arrayvec::ArrayVec;
-use dns_data::read_type;
-use dns_fields::{RecordError, TokenSource};
-use dns_kinds::{ErrorKind, RecordType};
-use dns_reader::{EntrySource, NameBuffer};
+use rdata::read_type;
+use rdata_fields::{RecordError, TokenSource};
+use rdata_values::{ErrorKind, RecordType};
+use zone_reader::{EntrySource, NameBuffer};
 
 /// Greatest number of octets of record data (RFC 1035 section 3.2.1).
 const MOST: usize = 65535;
@@ -58,7 +58,7 @@ fn read_tokens<const N: usize>(
     source: &mut EntrySource,
     target: &mut ArrayVec<u8, N>,
 ) -> Result<(), RecordError>
-    ensures reads { ReadsLeft N rtype origin.entry (source.old, target.old.items) result
+    ensures reads { ReadsRemaining N rtype origin.entry (source.old, target.old.items) result
         (source.new, target.new.items) }
     ensures end { entry_end source.new ≡ entry_end source.old }
 {
@@ -160,11 +160,11 @@ fn read_long(
     octets: &mut [u8],
     outcome: &mut Outcome,
 ) -> u32
-    ensures { TellsRead rtype text.now origin.entry octets.old result octets.new outcome.new }
+    ensures { ReportsRead rtype text.now origin.entry octets.old result octets.new outcome.new }
 {
     match read_in_room::<MOST>(rtype, text, origin, octets, outcome) {
         Ok(status) => status,
-        Err(rejected) => tell_error(&rejected.error, octets, outcome),
+        Err(rejected) => report_error(&rejected.error, octets, outcome),
     }
 }
 
@@ -177,7 +177,7 @@ fn read_behind(
     octets: &mut [u8],
     outcome: &mut Outcome,
 ) -> u32
-    ensures { TellsRead rtype text.now origin.entry octets.old result octets.new outcome.new }
+    ensures { ReportsRead rtype text.now origin.entry octets.old result octets.new outcome.new }
 {
     match read_in_room::<FEW>(rtype, text, origin, octets, outcome) {
         Ok(status) => status,
@@ -185,7 +185,7 @@ fn read_behind(
             if rejected.lacks {
                 return read_long(rtype, text, origin, octets, outcome);
             }
-            tell_error(&rejected.error, octets, outcome)
+            report_error(&rejected.error, octets, outcome)
         }
     }
 }
@@ -206,7 +206,7 @@ pub extern "C" fn dnstext_data_read(
     octets: &mut [u8],
     outcome: &mut Outcome,
 ) -> u32
-    ensures { TellsReadData code text.now origin.now octets.old result octets.new outcome.new }
+    ensures { ReportsReadData code text.now origin.now octets.old result octets.new outcome.new }
 {
     let rtype = RecordType(code);
     if origin.is_empty() {

@@ -1,18 +1,18 @@
 //! Reports why a text, an entry or data is rejected: by the status, and by the text of the error.
 ghost use Rattle.std.specs.Prelude.{◌≡◌, ◌↔◌, ◌+◌, ◌≤◌, ◌++◌, IsTrue, codes, length, take, option_copied};
-ghost use Rattle.dns_kinds.specs.Types.{type_text};
-ghost use Rattle.dns_kinds.specs.declared.error.ErrorKind.TheVariants.{ShortBuf};
+ghost use Rattle.rdata_values.specs.Types.{type_text};
+ghost use Rattle.rdata_values.specs.declared.error.ErrorKind.TheVariants.{ShortBuf};
 ghost use Rattle.dns_text_c.specs.Capacity.{ErrorLacksRoom};
-ghost use Rattle.dns_text_c.specs.Reasons.{AppendsCut, TellsError, TellsReason, call_error_text, data_error_text, field_name, part_prefix, part_text, reason_text, refusal_of_data, refusal_of_entry, refusal_of_head, spaced, syntax_of};
+ghost use Rattle.dns_text_c.specs.Reasons.{AppendsCut, ReportsError, ReportsReason, call_error_text, data_error_text, field_name, part_prefix, part_text, reason_text, refusal_of_data, refusal_of_entry, refusal_of_head, spaced, syntax_of};
 
 use crate::kinds::numbered;
 use crate::outcome::{Fault, Outcome, Refusal, give_cut, number_of, refuse};
 use crate::tokens::refusal_of_wrong;
 use arrayvec::ArrayVec;
-use dns_data::field_text;
-use dns_fields::{FieldName, RecordError};
-use dns_kinds::{ErrorKind, RecordType};
-use dns_split::pieces::Wrong;
+use dns_lexer::pieces::Wrong;
+use rdata::field_text;
+use rdata_fields::{FieldName, RecordError};
+use rdata_values::{ErrorKind, RecordType};
 
 /// Greatest number of characters of an error's text.
 const REASON: usize = 255;
@@ -206,8 +206,8 @@ fn reason_of(error: &RecordError) -> ArrayVec<u8, REASON>
 
 /// Reports why an entry is rejected: its status, its place, and the characters of its text that
 /// fit.
-fn tell_reason(error: &RecordError, octets: &mut [u8], outcome: &mut Outcome) -> u32
-    ensures { TellsReason error.now octets.old result octets.new outcome.new }
+fn report_reason(error: &RecordError, octets: &mut [u8], outcome: &mut Outcome) -> u32
+    ensures { ReportsReason error.now octets.old result octets.new outcome.new }
 {
     let reason = reason_of(error);
     *outcome = Outcome {
@@ -219,8 +219,8 @@ fn tell_reason(error: &RecordError, octets: &mut [u8], outcome: &mut Outcome) ->
 
 /// Reports an error: a syntax error by the status and the place, and a rejected entry by its text
 /// too.
-pub(crate) fn tell_error(error: &RecordError, octets: &mut [u8], outcome: &mut Outcome) -> u32
-    ensures { TellsError error.now octets.old result octets.new outcome.new }
+pub(crate) fn report_error(error: &RecordError, octets: &mut [u8], outcome: &mut Outcome) -> u32
+    ensures { ReportsError error.now octets.old result octets.new outcome.new }
 {
     match syntax_of(error.kind) {
         Some(wrong) => {
@@ -228,6 +228,6 @@ pub(crate) fn tell_error(error: &RecordError, octets: &mut [u8], outcome: &mut O
             let place = error.offset;
             refuse(Fault { refusal, place }, outcome)
         }
-        None => tell_reason(error, octets, outcome),
+        None => report_reason(error, octets, outcome),
     }
 }

@@ -1,23 +1,23 @@
 //! Reads the records of a zone file, one by one and without allocating memory (RFC 1035 section
 //! 5.1).
 ghost use Rattle.std.specs.Prelude.{◌≡◌, ◌≢◌, ℕ, IfSome, List, Ok, Option, Some, false};
-ghost use Rattle.dns_reader.specs.Included.{OriginAppended};
-ghost use Rattle.dns_reader.specs.declared.entry.EntryRead.TheVariants.{Nothing, Directive};
+ghost use Rattle.zone_reader.specs.Included.{OriginAppended};
+ghost use Rattle.zone_reader.specs.declared.entry.ParsedEntry.TheVariants.{Nothing, Directive};
 ghost use Rattle.dns_text_c.specs.Capacity.{as_reader};
-ghost use Rattle.dns_text_c.specs.Kept.{KeepsName, said_origin};
-ghost use Rattle.dns_text_c.specs.Told.{TellsFault, at_start};
+ghost use Rattle.dns_text_c.specs.Kept.{KeepsName, optional_origin};
+ghost use Rattle.dns_text_c.specs.Reports.{ReportsFault, at_start};
 ghost use Rattle.dns_text_c.specs.declared.outcome.Refusal.TheVariants.{BadCursor};
 ghost use Rattle.dns_text_c.specs.declared.records.Record.{Record};
-ghost use Rattle.dns_text_c.specs.Records.{HasIncluded, IsHeadOfLine, KeepsReader, NextIfRead, NextRecord, TellsFound, TellsGiven, TellsLine, TellsRefused, head_in, head_of, memory};
+ghost use Rattle.dns_text_c.specs.Records.{HasIncluded, IsHeadOfLine, KeepsReader, NextIfRead, NextRecord, ReportsFound, ReportsResult, ReportsLine, ReportsRejected, head_in, head_of, memory};
 
 use crate::kept::{KeptName, Zone, keep_name, keep_state, load_state, name_of, put_over};
 use crate::outcome::{END, Fault, INCLUDE, OK, Outcome, Refusal, number_of, refuse};
-use crate::reasons::tell_error;
-use crate::zone_reader::ZoneReader;
+use crate::reasons::report_error;
+use crate::record_reading::ZoneReader;
 use arrayvec::ArrayVec;
-use dns_fields::RecordError;
-use dns_kinds::{Class, RecordType};
-use dns_reader::{EntryRead, Known, LineRead, State, include_parts, read_line};
+use rdata_fields::RecordError;
+use rdata_values::{Class, RecordType};
+use zone_reader::{LineRead, NameState, ParsedEntry, State, include_parts, read_line};
 
 /// Greatest number of octets of record data (RFC 1035 section 3.2.1).
 const MOST: usize = 65535;
@@ -42,7 +42,7 @@ pub struct Record {
 
 /// The numbers of a record.
 #[derive(Clone, Copy)]
-pub(crate) struct Head {
+pub(crate) struct RecordNumbers {
     place: usize,
     ttl: u32,
     class: Class,
@@ -50,22 +50,22 @@ pub(crate) struct Head {
 }
 
 /// Returns the numbers of a record that was read, or `None` for other entries.
-fn head_in(read: &EntryRead) -> Option<Head>
+fn head_in(read: &ParsedEntry) -> Option<RecordNumbers>
     ensures { result ≡ head_in read.now }
 {
     match read {
-        EntryRead::Record {
+        ParsedEntry::Record {
             at,
             ttl,
             class,
             rtype,
-        } => Some(Head {
+        } => Some(RecordNumbers {
             place: *at,
             ttl: ttl.seconds(),
             class: *class,
             rtype: *rtype,
         }),
-        EntryRead::Include { .. } | EntryRead::Nothing | EntryRead::Directive => None,
+        ParsedEntry::Include { .. } | ParsedEntry::Nothing | ParsedEntry::Directive => None,
     }
 }
 
@@ -78,7 +78,7 @@ fn keep_reader(reader: &ZoneReader, zone: &mut Zone)
 }
 
 /// Writes the numbers and the name of a record.
-fn write_record(head: Head, name: &Known, found: &mut Record)
+fn write_record(head: RecordNumbers, name: &NameState, found: &mut Record)
     ensures head { head_of found.new ≡ head }
     ensures name { KeepsName name.now found.old.name found.new.name }
 {
@@ -90,19 +90,19 @@ fn write_record(head: Head, name: &Known, found: &mut Record)
 }
 
 /// Reports a record or a file, with a status of its own.
-fn tell_found(
+fn report_found(
     status: u32,
     reader: &ZoneReader,
     content: &[u8],
-    name: &Known,
-    head: Head,
+    name: &NameState,
+    head: RecordNumbers,
     zone: &mut Zone,
     found: &mut Record,
     octets: &mut [u8],
     outcome: &mut Outcome,
 ) -> u32
     requires { reader.now.source.is_open ≡ false }
-    ensures { TellsFound status (as_reader reader.now) content.now name.now head (record {
+    ensures { ReportsFound status (as_reader reader.now) content.now name.now head (record {
       before = memory zone.old found.old octets.old;
       after = memory zone.new found.new octets.new;
       status = result;
@@ -123,7 +123,7 @@ fn tell_found(
 }
 
 /// Reports why an entry is rejected, or a syntax error of the text.
-fn tell_refused(
+fn report_rejected(
     reader: &ZoneReader,
     error: &RecordError,
     zone: &mut Zone,
@@ -131,7 +131,7 @@ fn tell_refused(
     outcome: &mut Outcome,
 ) -> u32
     requires { reader.now.source.is_open ≡ false }
-    ensures { (found : Record) → TellsRefused (as_reader reader.now) error.now (record {
+    ensures { (found : Record) → ReportsRejected (as_reader reader.now) error.now (record {
       before = memory zone.old found octets.old;
       after = memory zone.new found octets.new;
       status = result;
@@ -139,26 +139,26 @@ fn tell_refused(
     }) }
 {
     keep_reader(reader, zone);
-    tell_error(error, octets, outcome)
+    report_error(error, octets, outcome)
 }
 
 /// Returns the origin of a file to include, by its octets, if the entry has one.
-fn included_origin(has_origin: bool, octets: &[u8]) -> Known
-    ensures { (origin : Option (List (List ℕ))) → OriginAppended origin has_origin octets.now → result ≡ said_origin origin }
+fn included_origin(has_origin: bool, octets: &[u8]) -> NameState
+    ensures { (origin : Option (List (List ℕ))) → OriginAppended origin has_origin octets.now → result ≡ optional_origin origin }
 {
     if !has_origin {
-        return Known::Unsaid;
+        return NameState::Unset;
     }
     match name_of(octets) {
-        Ok(name) => Known::Name(name),
-        Err(_) => Known::Unsaid,
+        Ok(name) => NameState::Name(name),
+        Err(_) => NameState::Unset,
     }
 }
 
 /// Reports what a reader returned: a record with its owner, a file to include, an error, or that
 /// nothing is left.
-fn tell_given(
-    given: Option<Result<EntryRead, RecordError>>,
+fn report_result(
+    given: Option<Result<ParsedEntry, RecordError>>,
     reader: &ZoneReader,
     content: &[u8],
     zone: &mut Zone,
@@ -170,7 +170,7 @@ fn tell_given(
     requires some { given ≢ Some (Ok Nothing) }
     requires last { given ≢ Some (Ok Directive) }
     requires included { HasIncluded given content.now }
-    ensures { TellsGiven given (as_reader reader.now) content.now (record {
+    ensures { ReportsResult given (as_reader reader.now) content.now (record {
       before = memory zone.old found.old octets.old;
       after = memory zone.new found.new octets.new;
       status = result;
@@ -178,8 +178,8 @@ fn tell_given(
     }) }
 {
     match given {
-        Some(Ok(EntryRead::Include { file, has_origin })) => {
-            let head = Head {
+        Some(Ok(ParsedEntry::Include { file, has_origin })) => {
+            let head = RecordNumbers {
                 place: 0,
                 ttl: 0,
                 class: Class(0),
@@ -187,7 +187,7 @@ fn tell_given(
             };
             let (name, origin) = include_parts(content, file);
             let known = included_origin(has_origin, origin);
-            tell_found(
+            report_found(
                 INCLUDE, reader, name, &known, head, zone, found, octets, outcome,
             )
         }
@@ -196,11 +196,11 @@ fn tell_given(
                 unreachable!()
             };
             let owner = &reader.state.owner;
-            tell_found(
+            report_found(
                 OK, reader, content, owner, head, zone, found, octets, outcome,
             )
         }
-        Some(Err(error)) => tell_refused(reader, &error, zone, octets, outcome),
+        Some(Err(error)) => report_rejected(reader, &error, zone, octets, outcome),
         None => {
             keep_reader(reader, zone);
             *outcome = Outcome {
@@ -214,7 +214,7 @@ fn tell_given(
 
 /// Reports that a zone was not left by a call.
 fn refuse_zone(outcome: &mut Outcome) -> u32
-    ensures { TellsFault (at_start BadCursor) result outcome.new }
+    ensures { ReportsFault (at_start BadCursor) result outcome.new }
 {
     let refusal = Refusal::BadCursor;
     refuse(Fault { refusal, place: 0 }, outcome)
@@ -249,7 +249,7 @@ fn next_with_all_room(
     }
     let mut data: ArrayVec<u8, MOST> = ArrayVec::new();
     let read = reader.next_record(&mut data);
-    tell_given(
+    report_result(
         read.given,
         &reader,
         data.as_slice(),
@@ -292,7 +292,7 @@ fn next_of_any(
     if read.lacks {
         return None;
     }
-    Some(tell_given(
+    Some(report_result(
         read.given,
         &reader,
         data.as_slice(),
@@ -305,17 +305,17 @@ fn next_of_any(
 
 /// Reports a record that was read of a line, and stores the state, and the offset of the line's
 /// end.
-fn tell_line(
+fn report_line(
     state: &State,
     at: usize,
     content: &[u8],
-    head: Head,
+    head: RecordNumbers,
     zone: &mut Zone,
     found: &mut Record,
     octets: &mut [u8],
     outcome: &mut Outcome,
 ) -> u32
-    ensures { TellsLine state.now at content.now head (record {
+    ensures { ReportsLine state.now at content.now head (record {
       before = memory zone.old found.old octets.old;
       after = memory zone.new found.new octets.new;
       status = result;
@@ -336,7 +336,7 @@ fn tell_line(
 }
 
 /// Returns the numbers of a record that was read of a line, or `None` for any other result.
-fn head_of_line(line: &LineRead) -> Option<Head>
+fn head_of_line(line: &LineRead) -> Option<RecordNumbers>
     ensures { IfSome result (λ head. IsHeadOfLine head line.now) }
 {
     match &line.read {
@@ -376,7 +376,7 @@ fn next_of_line(
     let Some(head) = head_of_line(&line) else {
         return None;
     };
-    Some(tell_line(
+    Some(report_line(
         &state,
         line.end,
         data.as_slice(),

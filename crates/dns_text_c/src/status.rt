@@ -1,6 +1,6 @@
 //! The texts of statuses.
 ghost use Rattle.std.specs.Prelude.{◌≡◌};
-ghost use Rattle.dns_text_c.specs.Told.{TellsOctets};
+ghost use Rattle.dns_text_c.specs.Reports.{CopiesWhole};
 ghost use Rattle.dns_text_c.specs.Status.{status_text};
 
 use crate::outcome::{Outcome, give};
@@ -53,7 +53,7 @@ pub fn status_text(status: u32) -> &'static str
 /// Writes the text of a status, also of an unknown one.
 #[unsafe(no_mangle)]
 pub extern "C" fn dnstext_status_text(status: u32, text: &mut [u8], outcome: &mut Outcome) -> u32
-    ensures { TellsOctets (status_text status) text.old result text.new outcome.new }
+    ensures { CopiesWhole (status_text status) text.old result text.new outcome.new }
 {
     give(status_text(status).as_bytes(), text, outcome)
 }

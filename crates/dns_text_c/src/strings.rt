@@ -5,7 +5,7 @@ ghost use Rattle.dns_symbol.specs.Index.{ReadsAt};
 ghost use Rattle.dns_symbol.specs.Printed.{symbol_of, text_of};
 ghost use Rattle.dns_charstr.specs.OctetText.{OctetAt};
 ghost use Rattle.dns_charstr.specs.Printed.{quoted_text};
-ghost use Rattle.dns_text_c.specs.Strings.{PassesSome, PrintsString, ReadsOctetString, ReadsString, RefusesOctet, RefusesSymbol, TellsOctetString, TellsString, escape_of, plain_text, refusal_of, refusal_of_escape, string_octets, string_text, unquoted_text};
+ghost use Rattle.dns_text_c.specs.Strings.{PassesSome, PrintsString, ReadsOctetString, ReadsString, RefusesOctet, RefusesSymbol, ReportsOctetString, ReportsString, escape_of, plain_text, refusal_of, refusal_of_escape, string_octets, string_text, unquoted_text};
 ghost use Rattle.dns_charstr.specs.Limits.{max_string};
 
 use crate::outcome::{Fault, Outcome, Refusal, give, refuse};
@@ -195,7 +195,7 @@ fn read_string(text: &[u8]) -> Result<ArrayVec<u8, MOST>, Fault>
 /// 255 octets; a symbol that has no octet. The first error is reported, with its place.
 #[unsafe(no_mangle)]
 pub extern "C" fn dnstext_charstr_read(text: &[u8], octets: &mut [u8], outcome: &mut Outcome) -> u32
-    ensures { TellsString text.now octets.old result octets.new outcome.new }
+    ensures { ReportsString text.now octets.old result octets.new outcome.new }
 {
     match read_string(text) {
         Ok(read) => give(read.as_slice(), octets, outcome),
@@ -258,7 +258,7 @@ pub extern "C" fn dnstext_charstr_read_octets(
     octets: &mut [u8],
     outcome: &mut Outcome,
 ) -> u32
-    ensures { TellsOctetString text.now octets.old result octets.new outcome.new }
+    ensures { ReportsOctetString text.now octets.old result octets.new outcome.new }
 {
     match read_octets(text) {
         Ok(read) => give(read.as_slice(), octets, outcome),

@@ -3,13 +3,13 @@
 //! An octet of 0x80 or more counts as a character of its own, so that comments needn't be UTF-8.
 //! Flags are octets, which C declares as `bool`: one of Rattle would ask for memory that C has set.
 ghost use Rattle.std.specs.Prelude.{◌≡◌, ◌<◌, ◌≤◌, ◌^◌, drop, encode_utf8_all, length, slice_set};
-ghost use Rattle.dns_split.specs.Opening.{IsLeftOpen};
-ghost use Rattle.dns_split.specs.declared.pieces.Wrong.TheVariants.{OpenParenthesis};
-ghost use Rattle.dns_text_c.specs.Entries.{bit, refusal_of_wrong, NotesEntry, LeavesOpen, NextEntry, Opens, TakesPieces, TellsStop};
+ghost use Rattle.dns_lexer.specs.Unclosed.{LacksClosing};
+ghost use Rattle.dns_lexer.specs.declared.pieces.Wrong.TheVariants.{OpenParenthesis};
+ghost use Rattle.dns_text_c.specs.Entries.{bit, refusal_of_wrong, NotesEntry, LeavesOpen, NextEntry, Opens, IsPieceStep, ReportsStop};
 
 use crate::outcome::{END, Fault, OK, Outcome, Refusal, number_of, refuse};
-use dns_split::opening::outermost_open_of_octets;
-use dns_split::pieces::{EndOfEntry, Fault as TextFault, Piece, Pieces, Wrong};
+use dns_lexer::pieces::{EndOfEntry, Fault as TextFault, Piece, Pieces, Wrong};
+use dns_lexer::unclosed::outermost_open_of_octets;
 
 /// A token of a zone file: the octets from `start` to before `end`.
 #[repr(C)]
@@ -38,7 +38,7 @@ pub struct Cursor {
 
 /// How an entry stops.
 #[derive(Clone, Copy)]
-pub(crate) enum Stop {
+pub(crate) enum EntryEnd {
     /// It ends, and is the text's last one or not.
     End(EndOfEntry, bool),
     /// A syntax error stops it.
@@ -52,7 +52,7 @@ pub(crate) enum Stop {
 pub(crate) enum Step {
     Token(Token),
     Comment,
-    Stop(Stop),
+    EntryEnd(EntryEnd),
 }
 
 /// Returns the octet of a truth value, as C has it.
@@ -79,7 +79,7 @@ pub(crate) fn refusal_of_wrong(wrong: Wrong) -> Refusal
 /// the error.
 fn opened_by(text: &[u8], at: usize, wrong: Wrong, otherwise: usize) -> usize
     requires within { at ≤ length text.now }
-    requires open { wrong ≡ OpenParenthesis → IsLeftOpen (encode_utf8_all (drop at text.now)) }
+    requires open { wrong ≡ OpenParenthesis → LacksClosing (encode_utf8_all (drop at text.now)) }
     ensures { Opens text.now at wrong otherwise result }
 {
     match wrong {
@@ -94,7 +94,7 @@ fn opened_by(text: &[u8], at: usize, wrong: Wrong, otherwise: usize) -> usize
 
 /// Takes the next part.
 fn next_step(pieces: &mut Pieces) -> Step
-    ensures { TakesPieces pieces.old result pieces.new }
+    ensures { IsPieceStep pieces.old result pieces.new }
 {
     match pieces.next() {
         Some(Ok(Piece::Word(span))) => Step::Token(Token {
@@ -110,10 +110,10 @@ fn next_step(pieces: &mut Pieces) -> Step
         Some(Ok(Piece::Comment(_))) => Step::Comment,
         Some(Ok(Piece::End(end))) => {
             let is_last = pieces.next().is_none();
-            Step::Stop(Stop::End(end, is_last))
+            Step::EntryEnd(EntryEnd::End(end, is_last))
         }
-        Some(Err(fault)) => Step::Stop(Stop::Fault(fault)),
-        None => Step::Stop(Stop::Nothing),
+        Some(Err(fault)) => Step::EntryEnd(EntryEnd::Fault(fault)),
+        None => Step::EntryEnd(EntryEnd::Nothing),
     }
 }
 
@@ -131,7 +131,7 @@ fn put_token(token: Token, place: usize, tokens: &mut [Token])
 #[derive(Clone, Copy)]
 pub(crate) struct Entry {
     count: usize,
-    stop: Stop,
+    stop: EntryEnd,
 }
 
 /// Copies the tokens of the entry from an offset on into a slice, as far as they fit.
@@ -149,13 +149,13 @@ fn read_entry(text: &[u8], at: usize, tokens: &mut [Token]) -> Entry
                 count = count.saturating_add(1);
             }
             Step::Comment => {}
-            Step::Stop(stop) => return Entry { count, stop },
+            Step::EntryEnd(stop) => return Entry { count, stop },
         }
     }
 }
 
 /// Reports how an entry stopped, and advances the cursor.
-fn tell_stop(
+fn report_stop(
     text: &[u8],
     entry: Entry,
     room: usize,
@@ -164,15 +164,15 @@ fn tell_stop(
 ) -> u32
     requires within { cursor.old.at ≤ length text.now }
     requires open { LeavesOpen text.now cursor.old.at entry.stop }
-    ensures { TellsStop text.now entry room result cursor.old cursor.new outcome.new }
+    ensures { ReportsStop text.now entry room result cursor.old cursor.new outcome.new }
 {
     *outcome = Outcome {
         length: entry.count,
         place: 0,
     };
     match entry.stop {
-        Stop::End(_, _) if room < entry.count => number_of(Refusal::NoRoom),
-        Stop::End(end, is_last) => {
+        EntryEnd::End(_, _) if room < entry.count => number_of(Refusal::NoRoom),
+        EntryEnd::End(end, is_last) => {
             *cursor = Cursor {
                 at: end.at,
                 begins_blank: bit(end.begins_blank),
@@ -181,14 +181,14 @@ fn tell_stop(
             };
             OK
         }
-        Stop::Fault(fault) => {
+        EntryEnd::Fault(fault) => {
             cursor.is_done = 1;
             cursor.opened = opened_by(text, cursor.at, fault.wrong, cursor.opened);
             outcome.length = entry.count.min(room);
             outcome.place = fault.at;
             number_of(refusal_of_wrong(fault.wrong))
         }
-        Stop::Nothing => {
+        EntryEnd::Nothing => {
             cursor.is_done = 1;
             END
         }
@@ -225,5 +225,5 @@ pub extern "C" fn dnstext_entry_next(
         return refuse(fault, outcome);
     }
     let entry = read_entry(text, cursor.at, tokens);
-    tell_stop(text, entry, tokens.len(), cursor, outcome)
+    report_stop(text, entry, tokens.len(), cursor, outcome)
 }

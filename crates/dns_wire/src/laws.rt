@@ -2,7 +2,7 @@
 ghost use Rattle.std.specs.Prelude.{ℕ, ◌≡◌, ◌⊎◌, List, ◌++◌, Result, None};
 ghost use Rattle.std.specs.List.{FoldsTo};
 ghost use Rattle.dns_wire.specs.FromOctets.{SplitsIntoLabels, MakesName, MakesRelative};
-ghost use Rattle.dns_wire.specs.Takes.{Take, from_front, from_back, fronts, backs, TakesLabel};
+ghost use Rattle.dns_wire.specs.LabelCalls.{LabelCall, from_front, from_back, yielded_first, backs, YieldsLabel};
 ghost use Rattle.dns_wire.specs.declared.error.NameError.{NameError};
 
 use crate::split::rest_of;
@@ -12,12 +12,12 @@ use crate::split::rest_of;
 /// Once either end yields none, all labels were yielded.
 ///
 /// The calls are those of [`NameIter`](crate::NameIter) and of the iterators over chains of names,
-/// whose steps are `TakesFirst` and `TakesLast`.
+/// whose steps are `YieldsFirstLabel` and `YieldsLastLabel`.
 pub fn labels_from_both_ends()
-    ensures once { (labels left : List (List ℕ)) (takes : List Take)
-        → FoldsTo TakesLabel labels takes left → labels ≡ fronts takes ++ (left ++ backs takes) }
-    ensures met { (labels left end : List (List ℕ)) (takes : List Take) → FoldsTo TakesLabel labels takes left
-        → TakesLabel left (from_front None) end ⊎ TakesLabel left (from_back None) end → labels ≡ fronts takes ++ backs takes }
+    ensures once { (labels left : List (List ℕ)) (takes : List LabelCall)
+        → FoldsTo YieldsLabel labels takes left → labels ≡ yielded_first takes ++ (left ++ backs takes) }
+    ensures met { (labels left end : List (List ℕ)) (takes : List LabelCall) → FoldsTo YieldsLabel labels takes left
+        → YieldsLabel left (from_front None) end ⊎ YieldsLabel left (from_back None) end → labels ≡ yielded_first takes ++ backs takes }
 {}
 
 /// Octets split in exactly one way into labels other than the root, and a rest that begins with no

@@ -55,11 +55,11 @@ impl<'a> Clone for NameIter<'a> {
 
 impl<'a> Iterator for NameIter<'a> {
     ghost use Rattle.std.specs.Iterator.{item_count};
-    ghost use Rattle.dns_wire.specs.Takes.{TakesFirst};
+    ghost use Rattle.dns_wire.specs.LabelCalls.{YieldsFirstLabel};
 
     type Item = Label<'a>;
 
-    ghost next_gives = { TakesFirst };
+    ghost next_gives = { YieldsFirstLabel };
 
     ghost remaining = { item_count (λ s. s) };
 
@@ -75,9 +75,9 @@ impl<'a> Iterator for NameIter<'a> {
 }
 
 impl<'a> DoubleEndedIterator for NameIter<'a> {
-    ghost use Rattle.dns_wire.specs.Takes.{TakesLast};
+    ghost use Rattle.dns_wire.specs.LabelCalls.{YieldsLastLabel};
 
-    ghost next_back_gives = { TakesLast };
+    ghost next_back_gives = { YieldsLastLabel };
 
     fn next_back(&mut self) -> Option<Label<'a>> {
         let octets = self.octets;

@@ -5,7 +5,7 @@ use Rattle.std.specs.Str.{chars, IsUtf8}
 use Rattle.std.proofs.lemmas.Str.{encodes-chars, scalars-chars, chars_from_encodes}
 use lib.Utf8.{scalars}
 use Rattle.dns_symbol.specs.Characters.{carriage_return, line_feed}
-use Rattle.dns_split.specs.Lexeme.{is_note_char}
+use Rattle.dns_lexer.specs.Lexeme.{is_note_char}
 use Rattle.dns_zone.specs.Documents.{IsCommentText}
 use Rattle.dns_zone.specs.Nesting.{both_true, both_parts}
 

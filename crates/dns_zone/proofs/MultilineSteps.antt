@@ -5,7 +5,7 @@ use Rattle.std.specs.Fmt.{WritesInCalls}
 use Rattle.std.proofs.Output.{writes_in_calls_append, writes_in_calls_nil, writes_in_calls_single}
 use Rattle.dns_symbol.specs.Characters.{line_feed, open_parenthesis, space}
 use Rattle.dns_zone.specs.Layout.{Step, token, begin, comment, line_width, comment_mark, is_shown, indent, row, word, shown_comment}
-use Rattle.dns_zone.specs.Multiline.{MultilineStands, MultilineStep}
+use Rattle.dns_zone.specs.Multiline.{MultilineFollows, MultilineStep}
 use Rattle.dns_zone.specs.Sinks.{Counts, CountsTo}
 use Rattle.dns_zone.specs.declared.zonefile_fmt.multiline.MultiLineWriter.{MultiLineWriter}
 use Rattle.dns_zone.specs.declared.zonefile_fmt.blocks.Blocks.{Blocks}
@@ -56,7 +56,7 @@ module _ {W : Type 0} (most : ℕ) (took : W → List ℕ → W → Type 0) wher
 
   -- the line after the space and the word of a token
   word_counted : (s t : MultiLineWriter W) (v : Line W) (bs : List ℕ) (past : List Step) → SpaceWritten most took s t → WritesInCalls (Counts most took) t.line bs v
-      → MultilineStands s past → CountsTo most v.column (line_width (token bs ∷ past)) × WritesInCalls took s.line.writer (word past bs) v.writer
+      → MultilineFollows s past → CountsTo most v.column (line_width (token bs ∷ past)) × WritesInCalls took s.line.writer (word past bs) v.writer
   word_counted s t v bs past p q h =
       let all : Counted most took s.line (gap s.first ++ bs) v = counted_append s.line (gap s.first) t.line bs v p.line (counted t.line bs v q) in
       let word_is : gap s.first ++ bs ≡ word past bs = ap (λ (b : Bool). gap b ++ bs) h.first in
@@ -79,23 +79,23 @@ module _ {W : Type 0} (most : ℕ) (took : W → List ℕ → W → Type 0) wher
 
   -- a line that can't be counted is too wide
   pub token_too_wide : (s t : MultiLineWriter W) (v : Line W) (bs : List ℕ) (past : List Step) → SpaceWritten most took s t → WritesInCalls (Counts most took) t.line bs v
-      → v.column ≡ None → MultilineStands s past → most < line_width (token bs ∷ past)
+      → v.column ≡ None → MultilineFollows s past → most < line_width (token bs ∷ past)
   token_too_wide s t v bs past p q e h = rw e at (word_counted s t v bs past p q h).0
 
   -- t is s after the mark of a begin, and o the indent of its block
   begin_counted : (s t : MultiLineWriter W) (o : Option ℕ) (past : List Step) → MultilineStep took s (token (open_parenthesis ∷ [])) t
-      → ((n : ℕ) → CountsTo most t.line.column n → CountsTo most o (n + 1)) → MultilineStands s past → CountsTo most o (indent (begin ∷ past))
+      → ((n : ℕ) → CountsTo most t.line.column n → CountsTo most o (n + 1)) → MultilineFollows s past → CountsTo most o (indent (begin ∷ past))
   begin_counted s t o past p k h =
       let at = p past h in
       k (line_width (token (open_parenthesis ∷ []) ∷ past)) (rw at.next.column refl)
 
   pub begin_is : (s t : MultiLineWriter W) (o : Option ℕ) (n : ℕ) (past : List Step) → MultilineStep took s (token (open_parenthesis ∷ [])) t
-      → ((n : ℕ) → CountsTo most t.line.column n → CountsTo most o (n + 1)) → o ≡ Some n → MultilineStands s past → n ≡ indent (begin ∷ past)
+      → ((n : ℕ) → CountsTo most t.line.column n → CountsTo most o (n + 1)) → o ≡ Some n → MultilineFollows s past → n ≡ indent (begin ∷ past)
   begin_is s t o n past p k e h = rw e at (begin_counted s t o past p k h)
 
   -- an indent that can't be counted is too wide
   pub begin_too_wide : (s t : MultiLineWriter W) (o : Option ℕ) (past : List Step) → MultilineStep took s (token (open_parenthesis ∷ [])) t
-      → ((n : ℕ) → CountsTo most t.line.column n → CountsTo most o (n + 1)) → o ≡ None → MultilineStands s past → most < indent (begin ∷ past)
+      → ((n : ℕ) → CountsTo most t.line.column n → CountsTo most o (n + 1)) → o ≡ None → MultilineFollows s past → most < indent (begin ∷ past)
   begin_too_wide s t o past p k e h = rw e at (begin_counted s t o past p k h)
 
   pub multiline_begin : (s t : MultiLineWriter W) (o : Option ℕ) (n : ℕ) (b : Blocks) → MultilineStep took s (token (open_parenthesis ∷ [])) t

@@ -5,7 +5,7 @@ use Rattle.std.specs.Prelude.{IfNone}
 use Rattle.std.specs.List.{AllByRecursion}
 use Rattle.std.proofs.lemmas.Grind.{not_there}
 use Rattle.dns_zone.specs.Layout.{Step, token, begin, end, comment, newline, depth}
-use Rattle.dns_zone.specs.Documents.{item_step, item_steps, IsDocumentFault, IsFine, IsFirstFault, IsProper, IsWellFormed}
+use Rattle.dns_zone.specs.Documents.{item_step, item_steps, IsDocumentFault, ItemHasNoFault, IsFirstFault, IsProper, IsWellFormed}
 use Rattle.dns_zone.specs.Nesting.{is_nested, from_none_test}
 use Rattle.dns_zone.proofs.Nested.{nested_more, nested_rest, nested_end, nested_newline}
 use Rattle.dns_zone.specs.Writers.{opened}
@@ -41,7 +41,7 @@ abbrev pub RestFormed : (blocks : ℕ) → List Step → Type 0
 RestFormed blocks rest = (is_nested blocks rest ≡ true) × AllByRecursion IsProper rest
 
 -- a proper step that is allowed in its place has no error
-pub no_fault : (past : List Step) (x : Step) → IsProper x → (x ≡ end → 0 < depth past) → (x ≡ newline → depth past ≡ 0) → IsFine past x
+pub no_fault : (past : List Step) (x : Step) → IsProper x → (x ≡ end → 0 < depth past) → (x ≡ newline → depth past ≡ 0) → ItemHasNoFault past x
 no_fault past (token bs) p h k e q = q.1 p
 no_fault past (comment bs) p h k e q = q.1 p
 no_fault past begin p h k e q = q

@@ -5,8 +5,8 @@ use Rattle.std.specs.Fmt.{decimal}
 use Rattle.std.specs.String.{string_bytes}
 use Rattle.dns_zone.specs.Layout.{Step, token, begin, end, comment, newline, depth}
 use Rattle.dns_zone.specs.Nesting.{IsNested}
-use Rattle.dns_split.specs.Lexeme.{is_note_char}
-use Rattle.dns_split.specs.Token.{IsToken}
+use Rattle.dns_lexer.specs.Lexeme.{is_note_char}
+use Rattle.dns_lexer.specs.Token.{IsToken}
 use Rattle.dns_zone.specs.declared.document.Item.{Item}
 use Rattle.dns_zone.specs.declared.document.Item.TheVariants.{Token, Begin, End, Comment, Newline}
 use Rattle.dns_zone.specs.declared.error.DocumentError.{DocumentError}
@@ -51,13 +51,13 @@ IsDocumentFault past end e = (e ≡ EndWithoutBegin (length past)) × (depth pas
 IsDocumentFault past newline e = (e ≡ LineInBlock (length past)) × (0 < depth past)
 
 -- nothing is wrong with a step
-abbrev pub IsFine : List Step → Step → Type 0
-IsFine past x = (e : DocumentError) → ¬ IsDocumentFault past x e
+abbrev pub ItemHasNoFault : List Step → Step → Type 0
+ItemHasNoFault past x = (e : DocumentError) → ¬ IsDocumentFault past x e
 
 -- the first error after the steps of `past`: the next step's, or else the first one after it; an open block comes last
 abbrev pub IsFirstFault : List Step → List Step → DocumentError → Type 0
 IsFirstFault past [] e = (e ≡ OpenBlock) × (0 < depth past)
-IsFirstFault past (x ∷ xs) e = IsDocumentFault past x e ⊎ (IsFine past x × IsFirstFault (x ∷ past) xs e)
+IsFirstFault past (x ∷ xs) e = IsDocumentFault past x e ⊎ (ItemHasNoFault past x × IsFirstFault (x ∷ past) xs e)
 
 -- the first error of a list of steps
 abbrev pub IsFaultIn : List Step → DocumentError → Type 0

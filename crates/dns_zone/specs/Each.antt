@@ -3,7 +3,7 @@ use Rattle.std.specs.Prelude.{ℕ, List, [], ◌∷◌}
 use Rattle.std.proofs.Common.{◌≡◌, false, refl}
 use Rattle.std.specs.List.{All, AllByRecursion}
 use Rattle.std.proofs.lemmas.List.Elements.{All-head, All-tail}
-use Rattle.dns_split.specs.Token.{IsToken}
+use Rattle.dns_lexer.specs.Token.{IsToken}
 use Rattle.dns_zone.specs.Documents.{IsProper, IsWellFormed}
 use Rattle.dns_zone.specs.Nesting.{IsNested, has_line}
 use Rattle.dns_zone.specs.Tokens.{one_each}

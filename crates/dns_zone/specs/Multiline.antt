@@ -13,7 +13,7 @@ abbrev pub multiline_blocks : {W : Type 0} → MultiLineWriter W → ℕ
 multiline_blocks w = w.blocks.count
 
 -- the writer's fields follow from the steps before, the last one first
-pub record MultilineStands {W : Type 0} (w : MultiLineWriter W) (past : List Step) : Type 0 where
+pub record MultilineFollows {W : Type 0} (w : MultiLineWriter W) (past : List Step) : Type 0 where
   pub first : w.first ≡ is_row_start past
   pub blocks : w.blocks.count ≡ depth past
   pub block_indent : w.block_indent ≡ (if is_shown past then Some (indent past) else None)
@@ -21,7 +21,7 @@ pub record MultilineStands {W : Type 0} (w : MultiLineWriter W) (past : List Ste
 
 -- a step that succeeded: after whatever steps the writer is, the text of this one is appended
 abbrev pub MultilineStep : {W : Type 0} → (W → List ℕ → W → Type 0) → MultiLineWriter W → Step → MultiLineWriter W → Type 0
-MultilineStep took = PrintsStep MultilineStands multiline_sink took multiline_piece
+MultilineStep took = PrintsStep MultilineFollows multiline_sink took multiline_piece
 
 -- the same, and the blocks that are open after it
 abbrev pub MultilineWrites : {W : Type 0} → (W → List ℕ → W → Type 0) → MultiLineWriter W → Step → MultiLineWriter W → Type 0
@@ -29,7 +29,7 @@ MultilineWrites took = WritesStep multiline_blocks (MultilineStep took)
 
 -- After whatever steps the writer is, the indent of a block that begins here is at most `most`.
 abbrev pub IndentFits : {W : Type 0} → ℕ → MultiLineWriter W → Type 0
-IndentFits most w = (past : List Step) → MultilineStands w past → indent (begin ∷ past) ≤ most
+IndentFits most w = (past : List Step) → MultilineFollows w past → indent (begin ∷ past) ≤ most
 
 -- after the steps of `past`, a step makes a count exceed `most`: the open blocks, the bytes on the line, or the indent of a block
 abbrev pub MultilinePasses : ℕ → List Step → Step → Type 0
@@ -41,7 +41,7 @@ MultilinePasses most past newline = ⊥
 
 -- a step that failed: the sink failed, or a count would exceed the greatest
 abbrev pub MultilineFails : {W : Type 0} → Type 0 → ℕ → MultiLineWriter W → Step → Type 0
-MultilineFails refused most = FailsStep MultilineStands refused (MultilinePasses most)
+MultilineFails refused most = FailsStep MultilineFollows refused (MultilinePasses most)
 
 -- with this number of further bytes, the count of the line exceeds `most`
 abbrev pub LinePasses : {W : Type 0} → ℕ → MultiLineWriter W → ℕ → Type 0
@@ -56,5 +56,5 @@ pub record WritesLine {W : Type 0} (took : W → List ℕ → W → Type 0) (w :
   pub wrote : took w.line.writer bs v.line.writer
 
 -- if the writer shows no comment, one is accepted
-abbrev pub TakesHidden : {W E : Type 0} → MultiLineWriter W → Result (Unit {0}) E → Type 0
-TakesHidden w r = (past : List Step) → MultilineStands w past → is_shown past ≡ false → IsOk r
+abbrev pub AcceptsHidden : {W E : Type 0} → MultiLineWriter W → Result (Unit {0}) E → Type 0
+AcceptsHidden w r = (past : List Step) → MultilineFollows w past → is_shown past ≡ false → IsOk r

@@ -4,7 +4,7 @@ use lib.Utf8.{encode}
 use Rattle.std.proofs.Common.{inl, inr, arith, length-append}
 use Rattle.dns_symbol.specs.Characters.{open_parenthesis, space}
 use Rattle.dns_symbol.specs.declared.symbol.Symbol.TheVariants.{Char, SimpleEscape}
-use Rattle.dns_split.specs.Token.{IsToken}
+use Rattle.dns_lexer.specs.Token.{IsToken}
 use Rattle.dns_zone.specs.Documents.{IsFirstFault, IsWellFormed}
 use Rattle.dns_zone.specs.declared.error.DocumentError.TheVariants.{EndWithoutBegin, LineInBlock, OpenBlock}
 use Rattle.dns_zone.specs.Layout.{Step, token, begin, end, comment, newline, layout, simple_piece, tabbed_piece, multiline_piece, depth, row, is_row_start, line_width}

@@ -13,14 +13,14 @@ abbrev pub tabbed_blocks : {W : Type 0} → TabbedWriter W → ℕ
 tabbed_blocks w = w.blocks.count
 
 -- the writer's fields follow from the steps before, the last one first
-pub record TabbedStands {W : Type 0} (w : TabbedWriter W) (past : List Step) : Type 0 where
+pub record TabbedFollows {W : Type 0} (w : TabbedWriter W) (past : List Step) : Type 0 where
   pub first : w.first ≡ is_line_start past
   pub blocks : w.blocks.count ≡ depth past
   pub first_block : 0 < depth past → w.first_block ≡ is_block_start past
 
 -- a step that succeeded: after whatever steps the writer is, the text of this one is appended
 abbrev pub TabbedStep : {W : Type 0} → (W → List ℕ → W → Type 0) → TabbedWriter W → Step → TabbedWriter W → Type 0
-TabbedStep took = PrintsStep TabbedStands tabbed_sink took tabbed_piece
+TabbedStep took = PrintsStep TabbedFollows tabbed_sink took tabbed_piece
 
 -- the same, and the blocks that are open after it
 abbrev pub TabbedWrites : {W : Type 0} → (W → List ℕ → W → Type 0) → TabbedWriter W → Step → TabbedWriter W → Type 0
@@ -28,4 +28,4 @@ TabbedWrites took = WritesStep tabbed_blocks (TabbedStep took)
 
 -- a step that failed: the sink failed, or the open blocks would exceed the greatest
 abbrev pub TabbedFails : {W : Type 0} → Type 0 → ℕ → TabbedWriter W → Step → Type 0
-TabbedFails refused most = FailsStep TabbedStands refused (BlocksPass most)
+TabbedFails refused most = FailsStep TabbedFollows refused (BlocksPass most)

@@ -7,8 +7,8 @@ ghost use Rattle.dns_zone.specs.Writers.{WritesStep, opened};
 pub use crate::error::DocumentError;
 use crate::tokens::ZoneTokens;
 use crate::zonefile_fmt::{FormatWriter, Formatter, Result, ZonefileFmt};
-pub use dns_split::splitting::{SplitError, split};
-use dns_split::token::is_token;
+pub use dns_lexer::splitting::{SplitError, split};
+use dns_lexer::token::is_token;
 use std::alloc::{Allocator, Global};
 
 /// An item of a document.

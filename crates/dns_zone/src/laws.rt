@@ -4,7 +4,7 @@ ghost use Rattle.std.specs.Prelude.{◌≡◌, ◌≤◌, ◌↔◌, List};
 ghost use Rattle.dns_zone.specs.Layout.{Step, line_width};
 ghost use Rattle.dns_zone.specs.Documents.{item_steps, HasNoFault, IsFaultIn, IsWellFormed};
 ghost use Rattle.dns_zone.specs.DocumentSteps.{document_steps};
-ghost use Rattle.dns_zone.specs.Multiline.{MultilineStands};
+ghost use Rattle.dns_zone.specs.Multiline.{MultilineFollows};
 
 use crate::document::{Document, DocumentError, Item, first_fault};
 use crate::tokens::ZoneTokens;
@@ -38,7 +38,7 @@ pub fn open_blocks_fit<F: FormatWriter>(writer: &F)
 
 /// Whatever a multiline writer has printed, it can count the bytes on its line.
 pub fn lines_fit<W>(writer: &MultiLineWriter<W>)
-    ensures { (past : List Step) → MultilineStands writer.now past → line_width past ≤ usize.MAX }
+    ensures { (past : List Step) → MultilineFollows writer.now past → line_width past ≤ usize.MAX }
 {
     let _width = writer.line_width();
 }

@@ -1,6 +1,6 @@
 //! Values that print as one token, and values whose text always splits into their entries.
 ghost use Rattle.std.specs.Prelude.{◌≡◌, ℕ, List, All, OnOk};
-ghost use Rattle.dns_split.specs.Token.{IsToken};
+ghost use Rattle.dns_lexer.specs.Token.{IsToken};
 ghost use Rattle.dns_zone.specs.Documents.{IsWellFormed};
 ghost use Rattle.dns_zone.specs.Layout.{token};
 ghost use Rattle.dns_zone.specs.Each.{each_values, each_nested, each_formed};

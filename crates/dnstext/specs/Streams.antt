@@ -23,14 +23,14 @@ Ran words o p line =
     ⊎ ((reason : List ℕ) × Refused words o p reason × (line ≡ refusal_line reason))
 
 -- the reason on standard error at status 1: that of the error; or, if the output failed at its end, `write failed` alone, whatever the run's own line was
-abbrev pub Told : List (List ℕ) → Option (List ℕ) → Option (List ℕ) → List ℕ → Type 0
-Told words o p reason =
+abbrev pub ReportedReason : List (List ℕ) → Option (List ℕ) → Option (List ℕ) → List ℕ → Type 0
+ReportedReason words o p reason =
     Refused words o p reason
     ⊎ (((line : List ℕ) × Ran words o p line) × (reason ≡ codes "write failed"))
 
 -- it failed for a reason, and its line is on standard error
-abbrev pub TellsOn : List (List ℕ) → Option (List ℕ) → Option (List ℕ) → Option (List ℕ) → Option (List ℕ) → Type 0
-TellsOn words o p e f = (reason : List ℕ) × Told words o p reason × StreamGrows e (refusal_line reason) f
+abbrev pub ReportsFailure : List (List ℕ) → Option (List ℕ) → Option (List ℕ) → Option (List ℕ) → Option (List ℕ) → Type 0
+ReportsFailure words o p e f = (reason : List ℕ) × ReportedReason words o p reason × StreamGrows e (refusal_line reason) f
 
 -- the arguments aren't a known command, and nothing was printed
 abbrev pub PrintsNothing : List (List ℕ) → Option (List ℕ) → Option (List ℕ) → Type 0

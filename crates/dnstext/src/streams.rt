@@ -3,7 +3,7 @@ ghost use Rattle.std.specs.Prelude.{◌≡◌, ◌⊎◌, ◌≤◌};
 ghost use Rattle.std.specs.Io.KnownBytes.{Appends, Keeps};
 ghost use Rattle.dnstext_lib.specs.Program.{refusal_line, usage_line, bytes_of_words};
 ghost use Rattle.dnstext_lib.specs.Run.{IsUnknownCommand};
-ghost use Rattle.dnstext.specs.Streams.{Printed, HasRun, PrintsNothing, StreamGrows, TellsOn};
+ghost use Rattle.dnstext.specs.Streams.{Printed, HasRun, PrintsNothing, StreamGrows, ReportsFailure};
 
 use arrayvec::ArrayString;
 use dnstext_lib::program;
@@ -86,7 +86,7 @@ pub fn run<A: Allocator + Copy, O: Write, E: Write>(
         → Printed (bytes_of_words words.now) (O.contents out.old) (O.contents out.new)
         × Keeps (E.contents err.old) (E.contents err.new) }
     ensures refused { result ≡ 1
-        → TellsOn (bytes_of_words words.now) (O.contents out.old) (O.contents out.new)
+        → ReportsFailure (bytes_of_words words.now) (O.contents out.old) (O.contents out.new)
         (E.contents err.old) (E.contents err.new) }
     ensures usage { result ≡ 2 → IsUnknownCommand (bytes_of_words words.now)
         × Keeps (O.contents out.old) (O.contents out.new)

@@ -4,11 +4,11 @@ use Rattle.std.proofs.lemmas.List.{map-append}
 use Rattle.dns_octets.specs.Room.{Room, within}
 use Rattle.dns_symbol.specs.declared.symbol.Symbol.{Symbol}
 use Rattle.dns_symbol.specs.Text.{SymbolsOf}
-use Rattle.dns_scan.specs.Answers.{AllGiven}
+use Rattle.dns_scan.specs.Answers.{AllOctetsFit}
 use Rattle.dns_scan.specs.Asks.{Builds}
 use Rattle.dns_symbol.specs.Cause.{Cause, short_buf}
 use Rattle.dns_scan.specs.Numbers.{IsNumber, ScannedNumber}
-use Rattle.dns_scan.specs.Steps.{GivesStep, octet_given}
+use Rattle.dns_scan.specs.Steps.{HasStepOctets, step_octet}
 use Rattle.dns_scan.specs.Tokens.{Token}
 use Rattle.dns_scan.proofs.Answered.{builds_read, all_given_in}
 use Rattle.dns_entry.specs.Field.{Content, content_of, contents_of, number, text_octets}
@@ -34,12 +34,12 @@ octets_stop codec token why (inr h) = inr h.0
 
 -- a character string that was scanned
 pub text_held : {E : Type 0} (cause : E → Cause) (room : Room) (t : Token) (s : List ℕ)
-    → Builds cause (GivesStep cause (within 255 room) octet_given) (λ s. s) t (Ok s) → FieldHolds Text t (text_octets s)
+    → Builds cause (HasStepOctets cause (within 255 room) step_octet) (λ s. s) t (Ok s) → FieldHolds Text t (text_octets s)
 text_held cause room t s h =
-    let read = builds_read cause octet_given (within 255 room) (λ s. s) t (Ok s) h in (
+    let read = builds_read cause step_octet (within 255 room) (λ s. s) t (Ok s) h in (
       read.0,
       subst (λ e. SymbolsOf t read.0 e) read.3.ends read.2,
-      (s, all_given_in octet_given (within 255 room) 255 (omega arith) read.0 None s (subst (λ e. AllGiven octet_given (within 255 room) read.0 e s) read.3.ends read.3), refl),
+      (s, all_given_in step_octet (within 255 room) 255 (omega arith) read.0 None s (subst (λ e. AllOctetsFit step_octet (within 255 room) read.0 e s) read.3.ends read.3), refl),
     )
 
 -- ---- tokens

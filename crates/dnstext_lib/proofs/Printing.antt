@@ -16,17 +16,17 @@ use Rattle.dns_name.specs.declared.name.UncertainName.{UncertainName}
 use Rattle.dns_name.specs.declared.name.UncertainName.TheVariants.{Absolute, Relative}
 use Rattle.dns_name.specs.declared.name.error.FromStrError.{FromStrError}
 use Rattle.dns_name.specs.declared.name.error.FromStrError.TheVariants.{Symbol, BadOctet, BinaryLabel, EmptyLabel, LongLabel, LongName, ShortBuf}
-use Rattle.dns_scan.specs.Answers.{AllGiven}
+use Rattle.dns_scan.specs.Answers.{AllOctetsFit}
 use Rattle.dns_scan.specs.Asks.{Builds}
 use Rattle.dns_symbol.specs.Cause.{Cause, custom_text, IsCause}
 use Rattle.dns_scan.specs.Numbers.{ScannedNumber}
 use Rattle.dns_scan.specs.Octets.{unquoted_token}
-use Rattle.dns_scan.specs.Steps.{GivesStep, octet_given}
+use Rattle.dns_scan.specs.Steps.{HasStepOctets, step_octet}
 use Rattle.dns_scan.specs.Tokens.{Token}
 use Rattle.dns_scan.proofs.Answered.{builds_read, all_given_in, first_fault_in}
 use Rattle.dnstext_lib.specs.declared.program.ScanKind.{ScanKind}
-use Rattle.dnstext_lib.specs.declared.program.Stop.{Stop}
-use Rattle.dnstext_lib.specs.declared.program.Stop.TheVariants.{Refused, WriteFailed}
+use Rattle.dnstext_lib.specs.declared.program.RunError.{RunError}
+use Rattle.dnstext_lib.specs.declared.program.RunError.TheVariants.{Refused, WriteFailed}
 use Rattle.dns_iter.specs.Name.{AnswersName, ReadsNames, ReadsToken, invalid_name}
 use Rattle.dns_scan.specs.Numbers.{by_cause}
 use Rattle.dnstext_lib.specs.Program.{Stops, StringPrints, StringRefused, NumberPrints, NumberRefused, NamePrints, LineBy, LineWritten, LinesWritten, OctetsLine}
@@ -63,26 +63,26 @@ recast_answers P room (Err ShortBuf) r h = h
 
 module _ {E : Type 0} (cause : E → Cause) where
   -- a character string that was scanned prints as the token's value
-  pub charstr_prints : (room : Room) (t : Token) (s : List ℕ) → Builds cause (GivesStep cause (within 255 room) octet_given) (λ s. s) t (Ok s) → StringPrints t (unquoted_token s)
+  pub charstr_prints : (room : Room) (t : Token) (s : List ℕ) → Builds cause (HasStepOctets cause (within 255 room) step_octet) (λ s. s) t (Ok s) → StringPrints t (unquoted_token s)
   charstr_prints room t s h =
-      let read = builds_read cause octet_given (within 255 room) (λ s. s) t (Ok s) h in (
+      let read = builds_read cause step_octet (within 255 room) (λ s. s) t (Ok s) h in (
         read.0,
         subst (λ e. SymbolsOf t read.0 e) read.3.ends read.2,
         (
           s,
-          all_given_in octet_given (within 255 room) 255 (omega arith) read.0 None s
-              (subst (λ e. AllGiven octet_given (within 255 room) read.0 e s) read.3.ends read.3),
+          all_given_in step_octet (within 255 room) 255 (omega arith) read.0 None s
+              (subst (λ e. AllOctetsFit step_octet (within 255 room) read.0 e s) read.3.ends read.3),
           refl,
         ),
       )
 
-  pub charstr_stops : (room : Room) (t : Token) (e : E) → Builds cause (GivesStep cause (within 255 room) octet_given) (λ s. s) t (Err e) → Stops StringRefused t (cause e)
+  pub charstr_stops : (room : Room) (t : Token) (e : E) → Builds cause (HasStepOctets cause (within 255 room) step_octet) (λ s. s) t (Err e) → Stops StringRefused t (cause e)
   charstr_stops room t e h =
-      let read = builds_read cause octet_given (within 255 room) (λ s. s) t (Err e) h in
+      let read = builds_read cause step_octet (within 255 room) (λ s. s) t (Err e) h in
       ⊎_elim
       (λ k. inl (read.0, read.1, read.2, k))
       (λ k. inr k)
-      (first_fault_in octet_given (within 255 room) 255 (omega arith) read.0 read.1 (cause e) read.3)
+      (first_fault_in step_octet (within 255 room) 255 (omega arith) read.0 read.1 (cause e) read.3)
 
   -- a number that was scanned prints as the token's value
   pub number_prints : (limit : ℕ) (t : Token) (v : ℕ) → ScannedNumber cause limit t (Ok v) → NumberPrints limit t (decimal v)
@@ -123,7 +123,7 @@ module _ {E : Type 0} (cause : E → Cause) where
       (recast _ h.0, recast_reads _ of_memory t h.0 h.1, recast_answers _ of_memory h.0 (by_cause cause r) (answers_by_cause of_memory h.0 r h.2))
 
   -- a line more, before the lines of others
-  pub lines_more : {O : Type 0} (took : O → List ℕ → O → Type 0) (kind : ScanKind) (t : Token) (ts : List Token) (o m p : O) (r : Result (Unit {0}) (Stop E))
+  pub lines_more : {O : Type 0} (took : O → List ℕ → O → Type 0) (kind : ScanKind) (t : Token) (ts : List Token) (o m p : O) (r : Result (Unit {0}) (RunError E))
       → LineWritten cause took kind t o (Ok tt) m → LinesWritten cause took kind ts m r p → LinesWritten cause took kind (t ∷ ts) o r p
   lines_more took kind t ts o m p (Ok u) line more =
       ((line.0 ++ 10 ∷ []) ++ more.0, inl (line.0, more.0, line.1, refl, more.1), writes_in_calls_append took o _ m _ p line.2 more.2)
@@ -135,7 +135,7 @@ module _ {E : Type 0} (cause : E → Cause) where
   pub lines_none : {O : Type 0} (took : O → List ℕ → O → Type 0) (kind : ScanKind) (o : O) → LinesWritten cause took kind [] o (Ok tt) o
   lines_none took kind o = ([], (refl, refl), writes_in_calls_nil took o)
 
-  pub lines_stop : {O : Type 0} (took : O → List ℕ → O → Type 0) (kind : ScanKind) (t : Token) (ts : List Token) (o p : O) (stop : Stop E)
+  pub lines_stop : {O : Type 0} (took : O → List ℕ → O → Type 0) (kind : ScanKind) (t : Token) (ts : List Token) (o p : O) (stop : RunError E)
       → LineWritten cause took kind t o (Err stop) p → LinesWritten cause took kind (t ∷ ts) o (Err stop) p
   lines_stop took kind t ts o p (Refused e) h = ([], inr (cause e, h.0, refl, refl), subst (λ x. WritesInCalls took o [] x) (sym h.1) (writes_in_calls_nil took o))
   lines_stop took kind t ts o p WriteFailed h = h
@@ -154,11 +154,11 @@ drop_all (x ∷ xs) (suc i) h = drop_all xs i (omega arith)
 
 -- a line of what a token prints as, if the line is written or the sink failed
 pub line_by : {E O : Type 0} (cause : E → Cause) (took : O → List ℕ → O → Type 0) (prints : Token → List ℕ → Type 0) (refused : Token → Cause → Type 0) (token : Token) (text : List ℕ) (o p : O)
-    (r : Result (Unit {0}) (Stop E)) → prints token text → MatchResult r (λ _. WritesInCalls took o (text ++ line_feed ∷ []) p) (λ stop. stop ≡ WriteFailed) → LineBy cause took prints refused token o r p
+    (r : Result (Unit {0}) (RunError E)) → prints token text → MatchResult r (λ _. WritesInCalls took o (text ++ line_feed ∷ []) p) (λ stop. stop ≡ WriteFailed) → LineBy cause took prints refused token o r p
 line_by cause took prints refused token text o p (Ok u) has line = (text, has, line)
 line_by cause took prints refused token text o p (Err stop) has is = subst (λ s. LineBy cause took prints refused token o (Err s) p) (sym is) (text, has)
 
-pub octets_line : {E O : Type 0} (took : O → List ℕ → O → Type 0) (run : Result (List ℕ) E → Type 0) (octets : List ℕ) (o p : O) (r : Result (Unit {0}) (Stop E))
+pub octets_line : {E O : Type 0} (took : O → List ℕ → O → Type 0) (run : Result (List ℕ) E → Type 0) (octets : List ℕ) (o p : O) (r : Result (Unit {0}) (RunError E))
     → run (Ok octets) → MatchResult r (λ _. WritesInCalls took o (encoded base16 octets ++ line_feed ∷ []) p) (λ stop. stop ≡ WriteFailed) → OctetsLine took run o r p
 octets_line took run octets o p (Ok u) has line = (octets, has, line)
 octets_line took run octets o p (Err stop) has is = subst (λ s. OctetsLine took run o (Err s) p) (sym is) (octets, has)

@@ -5,10 +5,10 @@ use Rattle.dns_octets.specs.Room.{exactly}
 use Rattle.dns_symbol.specs.Characters.{line_feed}
 use Rattle.dns_symbol.specs.declared.symbol.Symbol.{Symbol}
 use Rattle.dns_symbol.specs.Text.{SymbolsOf}
-use Rattle.dns_scan.specs.Answers.{AllGiven}
+use Rattle.dns_scan.specs.Answers.{AllOctetsFit}
 use Rattle.dns_symbol.specs.Cause.{Cause}
 use Rattle.dns_scan.specs.Numbers.{IsNumber, greatest}
-use Rattle.dns_scan.specs.Steps.{octet_given}
+use Rattle.dns_scan.specs.Steps.{step_octet}
 use Rattle.dns_scan.specs.Tokens.{Token}
 use Rattle.dns_zone.specs.Printed.{printed}
 use Rattle.dns_zone.specs.declared.zonefile_fmt.DisplayKind.{DisplayKind}
@@ -24,8 +24,8 @@ use Rattle.dnstext_lib.specs.declared.program.ScanKind.TheVariants.{U32, Charstr
 use Rattle.dns_entry.specs.declared.entry.FieldKind.{FieldKind}
 use Rattle.dns_entry.specs.declared.entry.FieldKind.TheVariants.{Number, Hex, Base64, Text}
 use Rattle.dnstext_lib.specs.declared.line.FieldWord.{FieldWord}
-use Rattle.dnstext_lib.specs.declared.line.Unmade.{Unmade}
-use Rattle.dnstext_lib.specs.declared.line.Unmade.TheVariants.{Refused, NoMemory as OutOfMemory}
+use Rattle.dnstext_lib.specs.declared.line.FieldsError.{FieldsError}
+use Rattle.dnstext_lib.specs.declared.line.FieldsError.TheVariants.{Refused, NoMemory as OutOfMemory}
 use Rattle.dns_entry.specs.declared.entry.Field.{Field}
 use Rattle.dns_scan.specs.declared.error.StrError.{StrError}
 
@@ -64,7 +64,7 @@ abbrev pub FieldHolds : FieldKind → Token → Content → Type 0
 FieldHolds Number token c = (symbols : List Symbol) × SymbolsOf token symbols None × ((v : ℕ) × IsNumber (greatest 32) symbols v × (c ≡ number v))
 FieldHolds Hex token c = (octets : List ℕ) × ConvertsTo hex_codec token (Ok octets) × (c ≡ hex_octets octets)
 FieldHolds Base64 token c = (octets : List ℕ) × ConvertsTo base64_codec token (Ok octets) × (c ≡ base64_octets octets)
-FieldHolds Text token c = (symbols : List Symbol) × SymbolsOf token symbols None × ((octets : List ℕ) × AllGiven octet_given (exactly 255) symbols None octets × (c ≡ text_octets octets))
+FieldHolds Text token c = (symbols : List Symbol) × SymbolsOf token symbols None × ((octets : List ℕ) × AllOctetsFit step_octet (exactly 255) symbols None octets × (c ≡ text_octets octets))
 
 -- the token isn't of the kind, or its allocation failed, and that is the error
 abbrev pub NoField : FieldKind → Token → Cause → Type 0
@@ -85,7 +85,7 @@ FieldsRun (asked ∷ more) fields refusal =
     ⊎ ((why : Cause) × NoField asked.0 asked.1 why × (fields ≡ []) × (refusal ≡ Some why))
 
 -- why fields weren't made: a token was rejected, or the list couldn't be allocated
-abbrev pub FieldsUnmade : List Asked → Unmade → Type 0
+abbrev pub FieldsUnmade : List Asked → FieldsError → Type 0
 FieldsUnmade asked (Refused e) = (fields : List Content) × FieldsRun asked fields (Some (str_cause e))
 FieldsUnmade asked OutOfMemory = asked ≢ []
 

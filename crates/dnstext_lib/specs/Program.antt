@@ -9,18 +9,18 @@ use Rattle.dns_symbol.specs.declared.error.SymbolCharsError.{SymbolCharsError}
 use Rattle.dns_symbol.specs.Text.{SymbolsOf}
 use Rattle.dns_wire.specs.Printed.{dotted_text}
 use Rattle.dns_codec.specs.Base.{base16, encoded}
-use Rattle.dns_scan.specs.Answers.{AllGiven, FirstFault}
+use Rattle.dns_scan.specs.Answers.{AllOctetsFit, FirstFault}
 use Rattle.dns_symbol.specs.Cause.{Cause, custom_text, end_of_entry, short_buf, trailing_tokens}
 use Rattle.dns_scan.specs.Numbers.{IsNumber, ReadsNumber, greatest}
 use Rattle.dns_scan.specs.Octets.{unquoted_token}
-use Rattle.dns_scan.specs.Steps.{octet_given}
+use Rattle.dns_scan.specs.Steps.{step_octet}
 use Rattle.dns_scan.specs.Tokens.{Token}
 use Rattle.dns_entry.specs.Codecs.{OctetsPrint, OctetsRefused, hex_codec, base32hex_codec, base64_codec}
 use Rattle.dns_iter.specs.Name.{NameRead}
 use Rattle.dnstext_lib.specs.declared.program.ScanKind.{ScanKind}
 use Rattle.dnstext_lib.specs.declared.program.ScanKind.TheVariants.{U8, U16, U32, U64, U128, Ttl, Charstr, Hex, Base32hex, Base64, Name}
-use Rattle.dnstext_lib.specs.declared.program.Stop.{Stop}
-use Rattle.dnstext_lib.specs.declared.program.Stop.TheVariants.{Refused, WriteFailed}
+use Rattle.dnstext_lib.specs.declared.program.RunError.{RunError}
+use Rattle.dnstext_lib.specs.declared.program.RunError.TheVariants.{Refused, WriteFailed}
 
 -- the bytes of the program's arguments
 abbrev pub bytes_of_words : List (Bor (List ℕ)) → List (List ℕ)
@@ -65,11 +65,11 @@ NumberRefused limit token why = (symbols : List Symbol) × (error : Option Symbo
 
 -- the token is a character string, which prints in its unquoted form
 abbrev pub StringPrints : Token → List ℕ → Type 0
-StringPrints token text = (symbols : List Symbol) × SymbolsOf token symbols None × ((octets : List ℕ) × AllGiven octet_given (exactly 255) symbols None octets × (text ≡ unquoted_token octets))
+StringPrints token text = (symbols : List Symbol) × SymbolsOf token symbols None × ((octets : List ℕ) × AllOctetsFit step_octet (exactly 255) symbols None octets × (text ≡ unquoted_token octets))
 
 -- the token isn't a character string
 abbrev pub StringRefused : Token → Cause → Type 0
-StringRefused token why = (symbols : List Symbol) × (error : Option SymbolCharsError) × SymbolsOf token symbols error × FirstFault octet_given (exactly 255) symbols error why
+StringRefused token why = (symbols : List Symbol) × (error : Option SymbolCharsError) × SymbolsOf token symbols error × FirstFault step_octet (exactly 255) symbols error why
 
 -- the token is a name, absolute or made so, which prints with a dot at its end
 abbrev pub NamePrints : Token → List ℕ → Type 0
@@ -139,23 +139,23 @@ abbrev pub HasReason : (List ℕ → Type 0) → Type 0
 HasReason refused = (reason : List ℕ) × refused reason
 
 -- the effect of printing a value: its text, if stated, and a line end were written; or the sink failed
-abbrev pub ValueLine : {E O : Type 0} → (O → List ℕ → O → Type 0) → Option (List ℕ) → O → Result (Unit {0}) (Stop E) → O → Type 0
+abbrev pub ValueLine : {E O : Type 0} → (O → List ℕ → O → Type 0) → Option (List ℕ) → O → Result (Unit {0}) (RunError E) → O → Type 0
 ValueLine took text o r p = MatchResult r (λ _. IfSome text (λ bs. WritesInCalls took o (bs ++ line_feed ∷ []) p)) (λ stop. stop ≡ WriteFailed)
 
 -- the effect of printing a token: its line was written, or it was rejected and nothing was, or the sink failed for its value
-abbrev pub LineBy : {E O : Type 0} → (E → Cause) → (O → List ℕ → O → Type 0) → (Token → List ℕ → Type 0) → (Token → Cause → Type 0) → Token → O → Result (Unit {0}) (Stop E) → O → Type 0
+abbrev pub LineBy : {E O : Type 0} → (E → Cause) → (O → List ℕ → O → Type 0) → (Token → List ℕ → Type 0) → (Token → Cause → Type 0) → Token → O → Result (Unit {0}) (RunError E) → O → Type 0
 LineBy cause took prints refused token o (Ok u) p = (text : List ℕ) × prints token text × WritesInCalls took o (text ++ line_feed ∷ []) p
 LineBy cause took prints refused token o (Err (Refused e)) p = refused token (cause e) × (p ≡ o)
 LineBy cause took prints refused token o (Err WriteFailed) p = (text : List ℕ) × prints token text
 
 -- the effect of printing the octets of a token, which a run of a converter returned
-abbrev pub OctetsLine : {E O : Type 0} → (O → List ℕ → O → Type 0) → (Result (List ℕ) E → Type 0) → O → Result (Unit {0}) (Stop E) → O → Type 0
+abbrev pub OctetsLine : {E O : Type 0} → (O → List ℕ → O → Type 0) → (Result (List ℕ) E → Type 0) → O → Result (Unit {0}) (RunError E) → O → Type 0
 OctetsLine took run o (Ok u) p = (octets : List ℕ) × run (Ok octets) × WritesInCalls took o (encoded base16 octets ++ line_feed ∷ []) p
 OctetsLine took run o (Err (Refused e)) p = run (Err e) × (p ≡ o)
 OctetsLine took run o (Err WriteFailed) p = (octets : List ℕ) × run (Ok octets)
 
 -- the same for a token of a kind
-abbrev pub LineWritten : {E O : Type 0} → (E → Cause) → (O → List ℕ → O → Type 0) → ScanKind → Token → O → Result (Unit {0}) (Stop E) → O → Type 0
+abbrev pub LineWritten : {E O : Type 0} → (E → Cause) → (O → List ℕ → O → Type 0) → ScanKind → Token → O → Result (Unit {0}) (RunError E) → O → Type 0
 LineWritten cause took kind = LineBy cause took (PrintsAs kind) (IsRefused kind)
 
 -- the first token is a value
@@ -164,7 +164,7 @@ BeginsWell kind [] = ⊥
 BeginsWell kind (t ∷ ts) = (text : List ℕ) × PrintsAs kind t text
 
 -- the effect of printing a list of tokens
-abbrev pub LinesWritten : {E O : Type 0} → (E → Cause) → (O → List ℕ → O → Type 0) → ScanKind → List Token → O → Result (Unit {0}) (Stop E) → O → Type 0
+abbrev pub LinesWritten : {E O : Type 0} → (E → Cause) → (O → List ℕ → O → Type 0) → ScanKind → List Token → O → Result (Unit {0}) (RunError E) → O → Type 0
 LinesWritten cause took kind tokens o (Ok u) p = (printed : List ℕ) × ScanRun kind tokens printed None × WritesInCalls took o printed p
 LinesWritten cause took kind tokens o (Err (Refused e)) p = (printed : List ℕ) × ScanRun kind tokens printed (Some (cause e)) × WritesInCalls took o printed p
 LinesWritten cause took kind tokens o (Err WriteFailed) p = BeginsWell kind tokens

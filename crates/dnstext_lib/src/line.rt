@@ -6,7 +6,7 @@ ghost use Rattle.dnstext_lib.specs.EntryLine.{Asked, asked_of, field_word, AsksF
 ghost use Rattle.dnstext_lib.specs.Print.{BeginsBy};
 ghost use Rattle.dnstext_lib.specs.Program.{usage_line, bytes_of_words, HasReason, IsNamedBy, ShowsReason};
 
-use crate::print::Unread;
+use crate::print::Error;
 use crate::program::{refuse, refuse_usage};
 use dns_codec::{base16, base64};
 use dns_entry::entry::{EntryLine, Field, FieldKind};
@@ -26,7 +26,7 @@ pub(crate) struct FieldWord<'a> {
 
 /// The error of making fields.
 #[derive(Drop)]
-pub(crate) enum Unmade {
+pub(crate) enum FieldsError {
     Refused(StrError),
     NoMemory,
 }
@@ -66,19 +66,19 @@ fn read_field(word: &str) -> Option<FieldWord<'_>>
 fn read_fields<'a, A: Allocator>(
     alloc: A,
     words: &[&'a str],
-) -> Result<Vec<FieldWord<'a>, A>, Unread>
+) -> Result<Vec<FieldWord<'a>, A>, Error>
     ensures found { IfOk result
         (λ found. AsksFields (bytes_of_words words.now) (map asked_of found.items)) }
-    ensures unknown { result ≡ Err Unread.UnknownItem → AsksNoFields (bytes_of_words words.now) }
-    ensures memory { result ≡ Err Unread.NoMemory → BeginsBy field_word (bytes_of_words words.now) }
+    ensures unknown { result ≡ Err Error.UnknownItem → AsksNoFields (bytes_of_words words.now) }
+    ensures memory { result ≡ Err Error.NoMemory → BeginsBy field_word (bytes_of_words words.now) }
 {
     let mut found = Vec::new(alloc);
     for word in words {
         let Some(field) = read_field(word) else {
-            return Err(Unread::UnknownItem);
+            return Err(Error::UnknownItem);
         };
         if found.push(field).is_err() {
-            return Err(Unread::NoMemory);
+            return Err(Error::NoMemory);
         }
     }
     Ok(found)
@@ -111,7 +111,7 @@ fn make_field<A: Allocator + Copy>(
 fn make_fields<A: Allocator + Copy>(
     alloc: A,
     words: &[FieldWord<'_>],
-) -> Result<Vec<Field<A>, A>, Unmade>
+) -> Result<Vec<Field<A>, A>, FieldsError>
     ensures { MatchResult result
         (λ fields. FieldsRun (map asked_of words.now) (contents_of fields.items) None)
         (FieldsUnmade (map asked_of words.now)) }
@@ -121,10 +121,10 @@ fn make_fields<A: Allocator + Copy>(
         match make_field(alloc, word.kind, word.text) {
             Ok(field) => {
                 if fields.push(field).is_err() {
-                    return Err(Unmade::NoMemory);
+                    return Err(FieldsError::NoMemory);
                 }
             }
-            Err(error) => return Err(Unmade::Refused(error)),
+            Err(error) => return Err(FieldsError::Refused(error)),
         }
     }
     Ok(fields)
@@ -157,13 +157,13 @@ pub(crate) fn run_line<A: Allocator + Copy, O: fmt::Write, E: fmt::Write>(
 {
     let found = match read_fields(alloc, words) {
         Ok(found) => found,
-        Err(Unread::UnknownItem) => return refuse_usage(err),
-        Err(Unread::NoMemory) => return refuse(err, "short buffer"),
+        Err(Error::UnknownItem) => return refuse_usage(err),
+        Err(Error::NoMemory) => return refuse(err, "short buffer"),
     };
     let fields = match make_fields(alloc, &found) {
         Ok(fields) => fields,
-        Err(Unmade::Refused(error)) => return refuse(err, error.as_str()),
-        Err(Unmade::NoMemory) => return refuse(err, "short buffer"),
+        Err(FieldsError::Refused(error)) => return refuse(err, error.as_str()),
+        Err(FieldsError::NoMemory) => return refuse(err, "short buffer"),
     };
     match EntryLine::new(fields) {
         Ok(line) => {

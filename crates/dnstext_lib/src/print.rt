@@ -15,18 +15,18 @@ use std::fmt::{Display, Write};
 
 /// The error of parsing arguments as items or fields.
 #[derive(Clone, Copy)]
-pub(crate) enum Unread {
+pub(crate) enum Error {
     UnknownItem,
     NoMemory,
 }
 
-impl From<AllocError> for Unread {
-    ghost use Rattle.dnstext_lib.specs.declared.print.Unread.TheVariants.{NoMemory};
+impl From<AllocError> for Error {
+    ghost use Rattle.dnstext_lib.specs.declared.print.Error.TheVariants.{NoMemory};
 
     ghost from_gives = { λ _ e. e ≡ NoMemory };
 
-    fn from(_: AllocError) -> Unread {
-        Unread::NoMemory
+    fn from(_: AllocError) -> Error {
+        Error::NoMemory
     }
 }
 
@@ -66,19 +66,19 @@ fn read_item<A: Allocator + Copy>(alloc: A, word: &str) -> Result<Option<Item<A>
 }
 
 /// Returns the items that arguments request.
-fn read_items<A: Allocator + Copy>(alloc: A, words: &[&str]) -> Result<Vec<Item<A>, A>, Unread>
+fn read_items<A: Allocator + Copy>(alloc: A, words: &[&str]) -> Result<Vec<Item<A>, A>, Error>
     ensures items { IfOk result
         (λ items. AsksItems (bytes_of_words words.now) (item_steps items.items)) }
-    ensures unknown { result ≡ Err Unread.UnknownItem → AsksNoItems (bytes_of_words words.now) }
-    ensures memory { result ≡ Err Unread.NoMemory → BeginsBy item_word (bytes_of_words words.now) }
+    ensures unknown { result ≡ Err Error.UnknownItem → AsksNoItems (bytes_of_words words.now) }
+    ensures memory { result ≡ Err Error.NoMemory → BeginsBy item_word (bytes_of_words words.now) }
 {
     let mut items = Vec::new(alloc);
     for word in words {
         let Some(item) = read_item(alloc, word)? else {
-            return Err(Unread::UnknownItem);
+            return Err(Error::UnknownItem);
         };
         if items.push(item).is_err() {
-            return Err(Unread::NoMemory);
+            return Err(Error::NoMemory);
         }
     }
     Ok(items)
@@ -110,8 +110,8 @@ pub(crate) fn run_print<A: Allocator + Copy, O: fmt::Write, E: fmt::Write>(
 {
     let items = match read_items(alloc, words) {
         Ok(items) => items,
-        Err(Unread::UnknownItem) => return refuse_usage(err),
-        Err(Unread::NoMemory) => return refuse(err, "short buffer"),
+        Err(Error::UnknownItem) => return refuse_usage(err),
+        Err(Error::NoMemory) => return refuse(err, "short buffer"),
     };
     match Document::from_items(items) {
         Ok(document) => {

@@ -2,11 +2,11 @@
 ghost use Rattle.std.specs.Prelude.{◌≡◌, ◌⊎◌, Ok, Err, Option, IfSome, ◌≤◌};
 ghost use Rattle.std.specs.Fmt.{WritesInCalls};
 ghost use Rattle.dns_scan.specs.Entries.{ConvertsOneToken};
-ghost use Rattle.dns_scan.specs.Stands.{HasTokens, OfFirst, TakesToken};
+ghost use Rattle.dns_scan.specs.Unread.{HasTokens, OfFirst, ConsumesToken};
 ghost use Rattle.dns_scan.specs.Tokens.{Token};
 ghost use Rattle.dns_iter.specs.Name.{ReadsNames};
 ghost use Rattle.dnstext_lib.specs.Program.{kind_name, LineBy, LineWritten, LinesWritten, OctetsLine, NumberPrints, NumberRefused, ScanPrinted, ScanRefused, usage_line, bytes_of_words, HasReason, IsNamedBy, ShowsReason, ValueLine, WritesRefusal};
-ghost use Rattle.dnstext_lib.specs.declared.program.Stop.TheVariants.{WriteFailed};
+ghost use Rattle.dnstext_lib.specs.declared.program.RunError.TheVariants.{WriteFailed};
 ghost use Rattle.dnstext_lib.specs.Run.{IsUnknownCommand, RunPrinted, RunRefused};
 
 use crate::line::run_line;
@@ -65,7 +65,7 @@ pub enum ScanKind {
 
 /// The reason why no more is printed.
 #[derive(Drop)]
-pub(crate) enum Stop<E> {
+pub(crate) enum RunError<E> {
     Refused(E),
     WriteFailed,
 }
@@ -91,12 +91,12 @@ fn scan_kind(word: &str) -> Option<ScanKind>
 }
 
 // Prints a value on a separate line.
-fn print_line<T: Display, E, O: fmt::Write>(value: &T, out: &mut O) -> Result<(), Stop<E>>
+fn print_line<T: Display, E, O: fmt::Write>(value: &T, out: &mut O) -> Result<(), RunError<E>>
     ensures { ValueLine O.write_str_gives (T.output value.now) out.old result out.new }
 {
     match write!(out, "{value}\n") {
         Ok(()) => Ok(()),
-        Err(_) => Err(Stop::WriteFailed),
+        Err(_) => Err(RunError::WriteFailed),
     }
 }
 
@@ -105,16 +105,16 @@ fn print_number<S: Scanner, O: fmt::Write>(
     scanner: &mut S,
     limit: u128,
     out: &mut O,
-) -> Result<(), Stop<S::Error>>
+) -> Result<(), RunError<S::Error>>
     requires { S.can_scan scanner.old }
     ensures ready { S.can_scan scanner.new }
     ensures line { OfFirst S.next_token scanner.old (λ token. LineBy S.Error.cause O.write_str_gives
         (NumberPrints limit) (NumberRefused limit) token out.old result out.new) }
-    ensures rest { (token : Token) → TakesToken S.next_token token scanner.old scanner.new }
+    ensures rest { (token : Token) → ConsumesToken S.next_token token scanner.old scanner.new }
 {
     let value = match scan_number(scanner, limit) {
         Ok(value) => value,
-        Err(error) => return Err(Stop::Refused(error)),
+        Err(error) => return Err(RunError::Refused(error)),
     };
     print_line(&value, out)
 }
@@ -123,18 +123,18 @@ fn print_number<S: Scanner, O: fmt::Write>(
 fn print_charstr<S: Scanner, O: fmt::Write>(
     scanner: &mut S,
     out: &mut O,
-) -> Result<(), Stop<S::Error>>
+) -> Result<(), RunError<S::Error>>
 where
     S::Octets: Drop,
     requires { S.can_scan scanner.old }
     ensures ready { S.can_scan scanner.new }
     ensures line { OfFirst S.next_token scanner.old (λ token. LineWritten S.Error.cause
         O.write_str_gives ScanKind.Charstr token out.old result out.new) }
-    ensures rest { (token : Token) → TakesToken S.next_token token scanner.old scanner.new }
+    ensures rest { (token : Token) → ConsumesToken S.next_token token scanner.old scanner.new }
 {
     let string = match scanner.scan_charstr() {
         Ok(string) => string,
-        Err(error) => return Err(Stop::Refused(error)),
+        Err(error) => return Err(RunError::Refused(error)),
     };
     print_line(&string.display_unquoted(), out)
 }
@@ -144,7 +144,7 @@ fn print_octets<S: Scanner, C: ConvertSymbols<Symbol, S::Error>, O: fmt::Write>(
     scanner: &mut S,
     convert: C,
     out: &mut O,
-) -> Result<(), Stop<S::Error>>
+) -> Result<(), RunError<S::Error>>
 where
     S::Octets: Drop,
     requires { S.can_scan scanner.old }
@@ -152,11 +152,11 @@ where
     ensures line { OfFirst S.next_token scanner.old (λ token. OctetsLine O.write_str_gives
         (ConvertsOneToken S.Error.cause S.OctetsBuilder.room C.takes C.tail (λ s. s) convert token)
         out.old result out.new) }
-    ensures rest { (token : Token) → TakesToken S.next_token token scanner.old scanner.new }
+    ensures rest { (token : Token) → ConsumesToken S.next_token token scanner.old scanner.new }
 {
     let octets = match scanner.convert_token(convert) {
         Ok(octets) => octets,
-        Err(error) => return Err(Stop::Refused(error)),
+        Err(error) => return Err(RunError::Refused(error)),
     };
     print_line(&base16::encode_display(octets.as_slice()), out)
 }
@@ -165,17 +165,17 @@ where
 fn print_name<A: Allocator, S: Scanner<Name = Name<Vec<u8, A>>>, O: fmt::Write>(
     scanner: &mut S,
     out: &mut O,
-) -> Result<(), Stop<S::Error>>
+) -> Result<(), RunError<S::Error>>
     requires ready { S.can_scan scanner.old }
     requires names { ReadsNames S.Error.cause S.reads_name }
     ensures ready { S.can_scan scanner.new }
     ensures line { OfFirst S.next_token scanner.old (λ token. LineWritten S.Error.cause
         O.write_str_gives ScanKind.Name token out.old result out.new) }
-    ensures rest { (token : Token) → TakesToken S.next_token token scanner.old scanner.new }
+    ensures rest { (token : Token) → ConsumesToken S.next_token token scanner.old scanner.new }
 {
     let name = match UncertainName::scan(scanner) {
         Ok(name) => name,
-        Err(error) => return Err(Stop::Refused(error)),
+        Err(error) => return Err(RunError::Refused(error)),
     };
     print_line(&name, out)
 }
@@ -185,7 +185,7 @@ fn print_value<A: Allocator, S: Scanner<Name = Name<Vec<u8, A>>>, O: fmt::Write>
     scanner: &mut S,
     kind: ScanKind,
     out: &mut O,
-) -> Result<(), Stop<S::Error>>
+) -> Result<(), RunError<S::Error>>
 where
     S::Octets: Drop,
     requires ready { S.can_scan scanner.old }
@@ -193,7 +193,7 @@ where
     ensures ready { S.can_scan scanner.new }
     ensures line { OfFirst S.next_token scanner.old (λ token. LineWritten S.Error.cause
         O.write_str_gives kind token out.old result out.new) }
-    ensures rest { (token : Token) → TakesToken S.next_token token scanner.old scanner.new }
+    ensures rest { (token : Token) → ConsumesToken S.next_token token scanner.old scanner.new }
 {
     match kind {
         ScanKind::U8 => print_number(scanner, u8::MAX as u128, out),
@@ -215,7 +215,7 @@ fn print_values<A: Allocator, S: Scanner<Name = Name<Vec<u8, A>>>, O: fmt::Write
     kind: ScanKind,
     tokens: &[&str],
     out: &mut O,
-) -> Result<(), Stop<S::Error>>
+) -> Result<(), RunError<S::Error>>
 where
     S::Octets: Drop,
     requires ready { S.can_scan scanner.old }
@@ -274,8 +274,8 @@ fn run_scan<A: Allocator + Copy, O: fmt::Write, E: fmt::Write>(
     let mut scanner: IterScanner<_, Vec<u8, A>> = IterScanner::new(alloc, tokens.iter().copied());
     match print_values(&mut scanner, kind, tokens, out) {
         Ok(()) => 0,
-        Err(Stop::Refused(error)) => refuse(err, error.as_str()),
-        Err(Stop::WriteFailed) => refuse(err, "write failed"),
+        Err(RunError::Refused(error)) => refuse(err, error.as_str()),
+        Err(RunError::WriteFailed) => refuse(err, "write failed"),
     }
 }
 

@@ -65,6 +65,11 @@ pub fn summary_of(code: Code) -> &'static str {
         Code::NotAtApex => "A record of this type belongs at the apex",
         Code::KeyProtocol => "The protocol of a DNSKEY is not 3",
         Code::KeyAlgorithm => "The algorithm of a DNSKEY or DS is 0",
+        Code::CnameTargetMissing => "The target of a CNAME has no records in the zone",
+        Code::CnameLoop => "CNAMEs lead back to the name where they begin",
+        Code::TwoSpf => "A name has two SPF records",
+        Code::WeakDigest => "SHA-1 is the only digest of a key",
+        Code::SingleNs => "A zone has only one name server",
         Code::NoDnskey => "The zone must be signed, and has no DNSKEY at its apex",
         Code::Expired => "A signature has expired",
         Code::ExpiresSoon => "A signature expires within the time of --within",
@@ -226,6 +231,16 @@ pub fn text_of(code: Code) -> &'static str {
         Code::KeyProtocol => "A resolver doesn't use the key (RFC 4034 section 2.1.2).",
         Code::KeyAlgorithm =>
             "The number is reserved, so that a resolver doesn't use the record (RFC 4034 appendix A.1). A CDS of algorithm 0 is the request to delete (RFC 8078 section 4).",
+        Code::CnameTargetMissing =>
+            "The zone is authoritative for the target, and has no records of any type there, of its own or from a wildcard (RFC 1034 section 3.6.2, RFC 4592 section 3.3.1). A name that only has other names below it has no records.",
+        Code::CnameLoop =>
+            "A resolver follows them until it gives up, and answers with an error (RFC 1034 section 3.6.2). At most 16 CNAMEs are followed.",
+        Code::TwoSpf =>
+            "Two TXT records of the name begin with the word v=spf1 (RFC 7208 section 3.2). Receivers treat that as a permanent error (section 4.5). Join them to one record.",
+        Code::WeakDigest =>
+            "The DS of a key has digest type 1 alone, which must not be used to sign delegations (RFC 8624 section 3.3). Add one of type 2 (SHA-256).",
+        Code::SingleNs =>
+            "It needs two or more, so that one can fail (RFC 1034 section 4.1, RFC 2182 section 5). A host at or below invalid. or localhost. is not reported: catalog zones have one (RFC 9432).",
         Code::NoDnskey =>
             "--dnssec checks a signed zone. Is the file the unsigned one (RFC 4035 section 2.1)?",
         Code::Expired =>
@@ -372,6 +387,11 @@ pub fn example_of(code: Code) -> &'static str {
         Code::NotAtApex => "a ZONEMD 1 1 240 000000000000000000000000",
         Code::KeyProtocol => "@ DNSKEY 257 4 8 AwEAAQ==",
         Code::KeyAlgorithm => "@ DNSKEY 257 3 0 AwEAAQ==",
+        Code::CnameTargetMissing => "a CNAME b",
+        Code::CnameLoop => "a CNAME b\nb CNAME a",
+        Code::TwoSpf => "a TXT \"v=spf1 mx -all\"\na TXT \"v=spf1 a -all\"",
+        Code::WeakDigest => "a NS ns\na DS 1 8 1 0000000000000000000000000000000000000000",
+        Code::SingleNs => "$TTL 60\n@ SOA ns h 1 4 2 9 5\n@ NS ns\nns A 192.0.2.1",
         Code::NoDnskey => "a A 192.0.2.2",
         Code::Expired =>
             "a A 192.0.2.2\na RRSIG A 13 2 60 20200101000000 20191201000000 1037 example. AA==",

@@ -4,8 +4,8 @@ use Rattle.std.specs.List.{filter}
 use Rattle.std.proofs.lemmas.Bool.{le-leb}
 use Rattle.std.proofs.lemmas.List.{map-append, take_more}
 use Rattle.std.proofs.lemmas.List.Elements.{filter-append}
-use Rattle.dns_kinds.specs.Registry.{Row, code_row, code_rows}
-use Rattle.dns_kinds.specs.declared.registry.Named.{Named}
+use Rattle.rdata_values.specs.Registry.{Row, code_row, code_rows}
+use Rattle.rdata_values.specs.declared.registry.Named.{Named}
 use Rattle.finding_texts.specs.Similar.{is_suggested, suggested_types}
 
 abbrev pub row_of : Named → Row

@@ -1,7 +1,7 @@
 -- The names of digest types.
 use Rattle.std.specs.Prelude.{ℕ, ◌==◌, ◌||◌, if◌then◌else◌, List, codes, Option, Some, None}
-use Rattle.dns_kinds.specs.Rtype as Rtype
-use Rattle.dns_kinds.specs.declared.types.RecordType.{RecordType}
+use Rattle.rdata_values.specs.Rtype as Rtype
+use Rattle.rdata_values.specs.declared.types.RecordType.{RecordType}
 
 -- the index of the field that names the digest: DS, CDS, DLV and TA; SSHFP; ZONEMD
 abbrev pub digest_place : RecordType → Option ℕ

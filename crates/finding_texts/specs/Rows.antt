@@ -2,7 +2,7 @@
 use Rattle.std.specs.Prelude.{◌≡◌, true, false, [], ◌∷◌, codes, Some, None, refl}
 use Rattle.std.specs.Str.{chars}
 use Rattle.strsim.specs.Edits.{cost_at, osa_from, osa_row}
-use Rattle.dns_kinds.specs.Rtype as Rtype
+use Rattle.rdata_values.specs.Rtype as Rtype
 use Rattle.finding_texts.specs.Digests.{digest_name, digest_place}
 use Rattle.finding_texts.specs.Mistakes.{count_spelled, foreign_mark, high_escape, quotation_mark, spelled_after}
 use Rattle.finding_texts.specs.Similar.{edits_between, is_similar}

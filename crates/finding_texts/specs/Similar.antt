@@ -3,9 +3,9 @@ use Rattle.std.specs.Prelude.{ℕ, ◌-◌, ◌*◌, ◌==◌, ◌&&◌, ◌||�
 use Rattle.std.specs.List.{filter, starts_with}
 use Rattle.std.specs.Str.{chars, str_to_ascii_uppercase}
 use Rattle.strsim.specs.Edits.{osa_table}
-use Rattle.dns_kinds.specs.Registry.{Row}
-use Rattle.dns_kinds.specs.Types.{is_portable, type_rows}
-use Rattle.dns_kinds.specs.declared.types.RecordType.{RecordType}
+use Rattle.rdata_values.specs.Registry.{Row}
+use Rattle.rdata_values.specs.Types.{is_portable, type_rows}
+use Rattle.rdata_values.specs.declared.types.RecordType.{RecordType}
 
 -- the least number of edits from one text to another, by optimal string alignment: an edit inserts, deletes or replaces a character, or swaps two adjacent ones
 abbrev pub edits_from : (text other : List ℕ) → ℕ

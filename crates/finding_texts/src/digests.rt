@@ -2,7 +2,7 @@
 ghost use Rattle.std.specs.Prelude.{◌≡◌, option_copied};
 ghost use Rattle.finding_texts.specs.Digests.{digest_name, digest_place, fingerprint_digest, signer_digest, zone_digest};
 
-use dns_kinds::RecordType;
+use rdata_values::RecordType;
 
 /// Returns the index of the digest type among the fields of a type's RDATA, if it has one.
 pub fn digest_place(rtype: RecordType) -> Option<usize>

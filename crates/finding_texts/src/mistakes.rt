@@ -2,7 +2,7 @@
 ghost use Rattle.std.specs.Prelude.{◌≡◌, ◌≤◌, ◌↔◌, IsTrue, drop, length, option_copied};
 ghost use Rattle.finding_texts.specs.Mistakes.{FindsAddressType, IsConflictMarker, are_high, are_three, are_two, begins_high, count_spelled, foreign_mark, high_escape, is_third, quotation_mark, spelled_len};
 
-use dns_kinds::{RecordType, ipv4_from_text, ipv6_from_text, u16_from_text};
+use rdata_values::{RecordType, ipv4_from_text, ipv6_from_text, u16_from_text};
 
 /// Returns whether a word is a line that a version control system writes between two versions.
 pub fn is_conflict_marker(word: &[u8]) -> bool

@@ -2,11 +2,11 @@
 ghost use Rattle.std.specs.Prelude.{◌≡◌, nat_eq, IfOk};
 ghost use Rattle.std.specs.List.{starts_with};
 ghost use Rattle.finding_texts.specs.Similar.{begin_alike, edits_between, is_extended, is_similar, is_suggested, similar_types, suggested_types};
-ghost use Rattle.dns_kinds.specs.Registry.{code_row, code_rows};
+ghost use Rattle.rdata_values.specs.Registry.{code_row, code_rows};
 
-use dns_kinds::RecordType;
-use dns_kinds::registry::Named;
-use dns_kinds::types::TYPES;
+use rdata_values::RecordType;
+use rdata_values::registry::Named;
+use rdata_values::types::TYPES;
 use std::alloc::{AllocError, Global};
 use strsim::osa_distance;
 

@@ -2,7 +2,7 @@
 use Rattle.std.proofs.Common.{ℕ, zero, suc, ◌≡◌, ◌+◌, ◌<◌, ◌⊎◌, ⊎_elim, inl, inr, Bool, true, false, cond, Option, List, [], ◌∷◌, ◌++◌, length, take, get_or, refl, sym, ap, ◌∙◌, arith}
 use Rattle.std.specs.List.{Contains, filter}
 use Rattle.std.proofs.lemmas.List.Elements.{filter_more}
-use Rattle.dns_fields.specs.declared.record_ref.RecordRef.{RecordRef}
+use Rattle.rdata_fields.specs.declared.record_ref.RecordRef.{RecordRef}
 use Rattle.record_rules.specs.FoundAlone.{lone_rules, FindsBrokenRules}
 use Rattle.record_rules.specs.LoneRules.{breaks_record_rule}
 use Rattle.record_rules.specs.declared.rule.RecordRule.{RecordRule}

@@ -1,7 +1,7 @@
 -- The rules that a record alone breaks.
 use Rattle.std.specs.Prelude.{◌↔◌, IsTrue, Option, List, [], ◌∷◌}
 use Rattle.std.specs.List.{Contains, filter}
-use Rattle.dns_fields.specs.declared.record_ref.RecordRef.{RecordRef}
+use Rattle.rdata_fields.specs.declared.record_ref.RecordRef.{RecordRef}
 use Rattle.record_rules.specs.LoneRules.{breaks_record_rule}
 use Rattle.record_rules.specs.declared.rule.RecordRule.{RecordRule}
 use Rattle.record_rules.specs.declared.rule.RecordRule.TheVariants.{SpfType, NaptrRegexp, NaptrBoth, CaaUnknown, CaaCritical, CaaCapitals, SoaMailAtSign, SoaMailOneLabel, SoaRetry, SoaExpire, SoaMinimum, ReverseName, WildcardInside, TargetAddress, TxtWords, CommentInData}

@@ -1,8 +1,8 @@
 -- Worked examples of the rules, each computed.
 use Rattle.std.specs.Prelude.{◌≡◌, ℕ, Bool, true, false, Some, None, List, [], ◌∷◌, ◌++◌, length, codes, refl}
-use Rattle.dns_fields.specs.declared.record_ref.RecordRef.{RecordRef}
-use Rattle.dns_kinds.specs.Rtype as Rtype
-use Rattle.dns_kinds.specs.declared.types.RecordType.{RecordType}
+use Rattle.rdata_fields.specs.declared.record_ref.RecordRef.{RecordRef}
+use Rattle.rdata_values.specs.Rtype as Rtype
+use Rattle.rdata_values.specs.declared.types.RecordType.{RecordType}
 use Rattle.dns_wire.specs.Wire.{wire}
 use Rattle.record_rules.specs.Comments.{has_word_at_comment}
 use Rattle.record_rules.specs.FoundAlone.{found_alone}

@@ -17,8 +17,8 @@ use crate::soa::{
 };
 use crate::written::Written;
 use arrayvec::ArrayVec;
-use dns_fields::RecordRef;
-use dns_kinds::RecordType;
+use rdata_fields::RecordRef;
+use rdata_values::RecordType;
 
 /// All rules, in the order in which they are checked.
 pub static LONE_RULES: [RecordRule; 16] = [

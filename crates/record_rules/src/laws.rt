@@ -2,7 +2,7 @@
 ghost use Rattle.record_rules.specs.FoundAlone.{FindsBrokenRules};
 
 use crate::written::Written;
-use dns_fields::RecordRef;
+use rdata_fields::RecordRef;
 
 /// States that [`broken_rules`](crate::broken_rules) returns a rule if and only if the record
 /// breaks it. Does nothing.

@@ -7,7 +7,7 @@ use crate::labels::{
     LabelTest, after_count, after_passing, any_label, first_label, is_asterisk, is_divided_below,
     is_root, is_same, is_within, parent,
 };
-use dns_kinds::RecordType;
+use rdata_values::RecordType;
 
 /// The top of the tree of IPv4 addresses (RFC 1035 section 3.5).
 const IN_ADDR_ARPA: &[u8] = b"\x07in-addr\x04arpa\x00";

@@ -16,16 +16,16 @@ mod list;
 mod location;
 mod params;
 mod record;
+mod results;
 mod rules;
 mod service;
 mod set;
 mod spelling;
 mod store;
 mod tape;
-mod tell;
 mod zone;
 
-use row_table::{Answer, Calls, Failure, Inputs};
+use test_support::{Answer, Calls, Failure, Inputs};
 
 /// The calls about record data.
 pub struct Records;

@@ -21,7 +21,7 @@ mod zone;
 mod zonetext;
 
 use self::encoding::Base;
-use row_table::{Answer, Calls, Failure, Inputs};
+use test_support::{Answer, Calls, Failure, Inputs};
 
 /// The calls of the library.
 pub struct Library;

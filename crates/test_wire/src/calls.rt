@@ -1,7 +1,7 @@
 //! The calls of rows.
 use crate::near::damaged;
 use crate::short::short;
-use row_table::{Answer, Calls, Failure, Inputs};
+use test_support::{Answer, Calls, Failure, Inputs};
 
 /// The calls about octets that may be data.
 pub struct Wire;

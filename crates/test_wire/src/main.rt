@@ -1,7 +1,7 @@
 //! A test program over rows: octets that may be data of a type, and the expected number of those
 //! that are.
 //!
-//! Standard input has the rows, in the format of `row_table`. For each row whose result differs, a
+//! Standard input has the rows, in the format of `test_support`. For each row whose result differs, a
 //! line with the actual result is printed.
 #![tactic(auto)]
 
@@ -11,8 +11,8 @@ mod short;
 mod trial;
 
 use self::calls::Wire;
-use row_table::check_input;
 use std::process::ExitCode;
+use test_support::check_input;
 
 fn main(rt: HostRuntime) -> ExitCode {
     check_input(&rt, &Wire)

@@ -1,7 +1,7 @@
 //! Octets that differ a little from given ones.
 use crate::trial::Trial;
-use row_table::{Answer, Failure};
 use std::alloc::{AllocError, Global};
+use test_support::{Answer, Failure};
 
 /// Tries octets with each other value of the octet at an index.
 fn try_values(trial: &mut Trial, octets: &[u8], place: usize, answer: &mut Answer) {
@@ -17,7 +17,7 @@ fn try_values(trial: &mut Trial, octets: &[u8], place: usize, answer: &mut Answe
 }
 
 /// Adds the number of lists with one octet changed that are data.
-fn tell_changed(mut trial: Trial, octets: &[u8], answer: &mut Answer) {
+fn add_changed(mut trial: Trial, octets: &[u8], answer: &mut Answer) {
     for place in 0..octets.len() {
         try_values(&mut trial, octets, place, answer);
     }
@@ -25,7 +25,7 @@ fn tell_changed(mut trial: Trial, octets: &[u8], answer: &mut Answer) {
 }
 
 /// Adds the number of shorter beginnings that are data.
-fn tell_cut(mut trial: Trial, octets: &[u8], answer: &mut Answer) {
+fn add_cut(mut trial: Trial, octets: &[u8], answer: &mut Answer) {
     for length in 0..octets.len() {
         trial.take(&octets[..length], answer);
     }
@@ -40,7 +40,7 @@ fn doubled(octets: &[u8], place: usize, alloc: Global) -> Result<Vec<u8>, AllocE
 }
 
 /// Adds the number of lists with one octet doubled that are data.
-fn tell_doubled(mut trial: Trial, octets: &[u8], answer: &mut Answer) {
+fn add_doubled(mut trial: Trial, octets: &[u8], answer: &mut Answer) {
     for place in 0..octets.len() {
         match doubled(octets, place, answer.alloc()) {
             Ok(octets) => trial.take(octets.as_slice(), answer),
@@ -60,9 +60,9 @@ pub fn damaged(inputs: &[Vec<u8>], answer: &mut Answer) {
     let Some(trial) = Trial::new(name.as_slice(), 1) else {
         return answer.fail(Failure::BadInputs);
     };
-    tell_changed(trial, octets.as_slice(), answer);
+    add_changed(trial, octets.as_slice(), answer);
     answer.add_text(",");
-    tell_cut(trial, octets.as_slice(), answer);
+    add_cut(trial, octets.as_slice(), answer);
     answer.add_text(",");
-    tell_doubled(trial, octets.as_slice(), answer);
+    add_doubled(trial, octets.as_slice(), answer);
 }

@@ -1,7 +1,7 @@
 //! All short lists of octets.
 use crate::trial::Trial;
-use row_table::input::number_of;
-use row_table::{Answer, Failure};
+use test_support::input::number_of;
+use test_support::{Answer, Failure};
 
 /// Returns the number of lists of octets with a length, which is at most 3.
 fn lists_of(length: usize) -> Option<u32> {
@@ -15,7 +15,7 @@ fn lists_of(length: usize) -> Option<u32> {
 }
 
 /// Adds the number of lists of a length that are data.
-fn tell_length(mut trial: Trial, length: usize, answer: &mut Answer) {
+fn add_length(mut trial: Trial, length: usize, answer: &mut Answer) {
     let Some(count) = lists_of(length) else {
         return answer.fail(Failure::BadInputs);
     };
@@ -44,6 +44,6 @@ pub fn short(inputs: &[Vec<u8>], answer: &mut Answer) {
             return answer.fail(Failure::BadInputs);
         };
         answer.add_text(if length == 0 { "" } else { "," });
-        tell_length(trial, length, answer);
+        add_length(trial, length, answer);
     }
 }

@@ -1,13 +1,13 @@
 //! Tries octets as data of a type.
-use dns_data::{Shape, check_data, read_type, type_row, write_data};
-use dns_fields::TokenList;
-use dns_kinds::RecordType;
-use dns_split::entry_tokens::{EntryToken, EntryTokens};
+use dns_lexer::entry_tokens::{EntryToken, EntryTokens};
 use dns_wire::Name;
 use dns_zone::zonefile_fmt::SimpleWriter;
-use row_table::Answer;
+use rdata::{Shape, check_data, read_type, type_row, write_data};
+use rdata_fields::TokenList;
+use rdata_values::RecordType;
 use std::alloc::Global;
 use std::fmt;
+use test_support::Answer;
 
 /// Data of a shape, which is printed as tokens with a blank between.
 #[derive(Drop)]

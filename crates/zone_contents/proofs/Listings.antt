@@ -13,9 +13,9 @@ use Rattle.std.proofs.lemmas.Cmp.{nat_list_cmp_total, tied_itself}
 use Rattle.std.proofs.lemmas.List.{drop-map, get_or-drop, get_or-map, get_or-take, get_or_default, length-drop, length-map, length-take-le, take-map}
 use Rattle.std.proofs.lemmas.List.Elements.{All-get_or, All-head, All-tail}
 use Rattle.std.proofs.lemmas.Option.{slice_get-get_or, slice_get-map}
-use Rattle.dns_canonical.specs.Names.{name_order, octet_order}
-use Rattle.dns_canonical.proofs.Orders.{octets_equal}
-use Rattle.dns_resource.specs.declared.record.Record.{Record}
+use Rattle.zone_record.specs.Names.{name_order, octet_order}
+use Rattle.zone_record.proofs.Orders.{octets_equal}
+use Rattle.zone_record.specs.declared.record.Record.{Record}
 use Rattle.dns_wire.specs.Order.{same_name}
 use Rattle.zone_contents.specs.Contents.{listed_record, listing, AreSortedRecords, IsZoneRecord}
 use Rattle.zone_contents.specs.Keys.{key_in_zone}
@@ -25,8 +25,8 @@ use Rattle.zone_rules.specs.Searches.{AreOwnedFrom}
 use Rattle.zone_rules.specs.Zones.{has_type_at, type_of}
 use Rattle.zone_rules.proofs.Lookups.{any_in_filter, filter_behind, filter_front, same_is}
 use Rattle.zone_rules.proofs.Searches.{none_passes}
-use Rattle.zone_store.specs.Stored.{AddedRecord, absent_parts, added_record, has_stored_rrset, order_to_rrset, record_at, stored_order, CountsBeforeKey}
-use Rattle.zone_store.proofs.EntrySearches.{greater_last, keys_coarser, keys_total}
+use Rattle.zone_set.specs.Stored.{AddedRecord, absent_parts, added_record, has_stored_rrset, order_to_rrset, record_at, stored_order, CountsBeforeKey}
+use Rattle.zone_set.proofs.EntrySearches.{greater_last, keys_coarser, keys_total}
 
 abbrev none : AddedRecord
 none = added_record [] absent_parts

@@ -12,8 +12,8 @@ use Rattle.std.proofs.lemmas.List.Elements.{All-cons, All-head, All-nil, All-pus
 use Rattle.std.proofs.lemmas.List.Folds.{list_any-append}
 use Rattle.std.proofs.lemmas.List.Sorted.{All-permutation, length_permutation, list_any-IsPermutation}
 use Rattle.dns_octets.specs.Lowered.{lowered}
-use Rattle.dns_kinds.specs.Rtype as Rtype
-use Rattle.dns_resource.specs.declared.record.Record.{Record}
+use Rattle.rdata_values.specs.Rtype as Rtype
+use Rattle.zone_record.specs.declared.record.Record.{Record}
 use Rattle.zone_contents.specs.Contents.{listed_record, listing, stored_in_zone, with_lower_owner, AreZoneRecords, IsZoneRecord}
 use Rattle.zone_contents.specs.Searches.{HaveClass}
 use Rattle.zone_contents.specs.Summaries.{no_summary, summary_with, IsSummary}
@@ -21,7 +21,7 @@ use Rattle.zone_contents.specs.declared.summary.Summary.{Summary}
 use Rattle.zone_contents.proofs.ZoneNames.{name_is}
 use Rattle.zone_rules.specs.Above.{is_wildcard}
 use Rattle.zone_rules.specs.Zones.{type_of}
-use Rattle.zone_store.specs.Stored.{AddedRecord}
+use Rattle.zone_set.specs.Stored.{AddedRecord}
 
 pub none_summed : {N O : Type 0} → IsSummary {N = N} {O = O} [] no_summary
 none_summed = record { dname = refl; wildcard = refl; empty = λ _. refl; classes = λ _. All-nil _ }

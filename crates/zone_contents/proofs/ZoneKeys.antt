@@ -10,9 +10,9 @@ use Rattle.std.proofs.lemmas.Bool.{true≢false}
 use Rattle.std.proofs.lemmas.Bool.Decides.{nat_tests}
 use Rattle.std.proofs.lemmas.Cmp.{nat_list_cmp_total, tied_itself}
 use Rattle.std.proofs.lemmas.List.{take-append-drop}
-use Rattle.dns_canonical.specs.Names.{octet_order}
-use Rattle.dns_canonical.proofs.NameOrders.{slice_cmp-append}
-use Rattle.dns_canonical.proofs.Orders.{octets_equal}
+use Rattle.zone_record.specs.Names.{octet_order}
+use Rattle.zone_record.proofs.NameOrders.{slice_cmp-append}
+use Rattle.zone_record.proofs.Orders.{octets_equal}
 use Rattle.zone_contents.specs.Keys.{begins_with, whole_key, zone_key}
 
 abbrev total : IsTotalOrder octet_order

@@ -13,14 +13,14 @@ use Rattle.dns_wire.specs.Labelled.{wire_same}
 use Rattle.dns_wire.specs.Limits.{max_label}
 use Rattle.dns_wire.specs.Wire.{wire, wire_label, IsName}
 use Rattle.dns_wire.proofs.Wires.{length_wire}
-use Rattle.dns_spelling.specs.NameSpelling.{IsWireName}
-use Rattle.dns_canonical.specs.KeyNames.{key_name, AreKeyLabels}
-use Rattle.dns_canonical.specs.Keys.{label_key, order_key, IsAtOrBelow}
-use Rattle.dns_canonical.specs.Names.{labels_from_root, name_order, octet_order}
-use Rattle.dns_canonical.proofs.BelowKeys.{begins_below}
-use Rattle.dns_canonical.proofs.KeyNames.{name_below, name_read}
-use Rattle.dns_canonical.proofs.KeyOrders.{key_order}
-use Rattle.dns_canonical.proofs.LoweredNames.{lowered_again, lowered_labels, lowered_name}
+use Rattle.rdata_tokens.specs.NameSpelling.{IsWireName}
+use Rattle.zone_record.specs.KeyNames.{key_name, AreKeyLabels}
+use Rattle.zone_record.specs.Keys.{label_key, order_key, IsAtOrBelow}
+use Rattle.zone_record.specs.Names.{labels_from_root, name_order, octet_order}
+use Rattle.zone_record.proofs.BelowKeys.{begins_below}
+use Rattle.zone_record.proofs.KeyNames.{name_below, name_read}
+use Rattle.zone_record.proofs.KeyOrders.{key_order}
+use Rattle.zone_record.proofs.LoweredNames.{lowered_again, lowered_labels, lowered_name}
 use Rattle.zone_contents.specs.Keys.{IsApex, IsNameKey, key_in_zone, name_in_zone, whole_key, zone_key}
 use Rattle.zone_contents.proofs.ZoneKeys.{keys_in_order, whole_is}
 

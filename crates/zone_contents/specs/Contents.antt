@@ -2,13 +2,13 @@
 use Rattle.std.specs.Prelude.{◌≡◌, ℕ, All, List, [], ◌∷◌, ◌++◌, map}
 use Rattle.std.specs.List.Sorted.{IsSorted}
 use Rattle.dns_octets.specs.Lowered.{lowered}
-use Rattle.dns_resource.specs.Records.{data_of}
-use Rattle.dns_resource.specs.TypeData.{IsTypeData}
-use Rattle.dns_resource.specs.declared.record.Record.{Record}
+use Rattle.zone_record.specs.Records.{data_of}
+use Rattle.zone_record.specs.TypeData.{IsTypeData}
+use Rattle.zone_record.specs.declared.record.Record.{Record}
 use Rattle.zone_contents.specs.Keys.{key_in_zone, name_in_zone, IsNameKey}
 use Rattle.zone_contents.specs.Summaries.{IsSummary}
 use Rattle.zone_contents.specs.declared.summary.Summary.{Summary}
-use Rattle.zone_store.specs.Stored.{AddedRecord, added_record, stored_order}
+use Rattle.zone_set.specs.Stored.{AddedRecord, added_record, stored_order}
 
 -- the apex of a zone, and records with the keys of their owners in it
 pub record ZoneValue : Type 0 where

@@ -3,10 +3,10 @@ use Rattle.std.specs.Prelude.{◌≡◌, ℕ, ◌==◌, nat_eq, if◌then◌else
 use Rattle.std.specs.Cmp.Lexicographic.{pointwise}
 use Rattle.std.specs.Ordering.{is_lt}
 use Rattle.dns_wire.specs.Wire.{wire}
-use Rattle.dns_spelling.specs.NameSpelling.{IsWireName}
-use Rattle.dns_canonical.specs.KeyNames.{key_name}
-use Rattle.dns_canonical.specs.Keys.{order_key}
-use Rattle.dns_canonical.specs.Names.{octet_order}
+use Rattle.rdata_tokens.specs.NameSpelling.{IsWireName}
+use Rattle.zone_record.specs.KeyNames.{key_name}
+use Rattle.zone_record.specs.Keys.{order_key}
+use Rattle.zone_record.specs.Names.{octet_order}
 
 abbrev pub begins_with : List ℕ → List ℕ → Bool
 begins_with octets front = pointwise nat_eq (take (length front) octets) front

@@ -1,13 +1,13 @@
 -- Searches among the sorted records of a zone: words for private functions.
 use Rattle.std.specs.Prelude.{◌≡◌, ◌<◌, ◌≤◌, ◌==◌, ℕ, ◌-◌, Bool, false, All, Option, List, length, take, drop, option_and_then}
 use Rattle.std.specs.List.{AllWithin, list_any}
-use Rattle.dns_resource.specs.declared.record.Record.{Record}
+use Rattle.zone_record.specs.declared.record.Record.{Record}
 use Rattle.zone_contents.specs.Contents.{listing}
 use Rattle.zone_contents.specs.declared.summary.Summary.{Summary}
 use Rattle.zone_rules.specs.Present.{rrset_of_record}
 use Rattle.zone_rules.specs.Zones.{has_type_at}
 use Rattle.zone_rules.specs.Searches.{closest_above_earlier, shared_with}
-use Rattle.zone_store.specs.Stored.{AddedRecord, record_at}
+use Rattle.zone_set.specs.Stored.{AddedRecord, record_at}
 
 -- records from one index up to another have a key, and the next one has not
 pub record EndsKey (key : List ℕ) (records : List AddedRecord) (first past : ℕ) : Type 0 where

@@ -1,9 +1,9 @@
 -- What the records of a zone have in common.
 use Rattle.std.specs.Prelude.{◌≡◌, ◌==◌, ◌||◌, not, true, false, All, List, length, map}
 use Rattle.std.specs.List.{list_any}
-use Rattle.dns_kinds.specs.Classes.{internet}
-use Rattle.dns_kinds.specs.Rtype as Rtype
-use Rattle.dns_resource.specs.declared.record.Record.{Record}
+use Rattle.rdata_values.specs.Classes.{internet}
+use Rattle.rdata_values.specs.Rtype as Rtype
+use Rattle.zone_record.specs.declared.record.Record.{Record}
 use Rattle.zone_contents.specs.declared.summary.Summary.{Summary}
 use Rattle.zone_rules.specs.Above.{is_wildcard}
 use Rattle.zone_rules.specs.Zones.{has_type_among, type_of}

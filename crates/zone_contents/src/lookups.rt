@@ -1,17 +1,17 @@
 //! Which types a name has, among the sorted records of a zone.
 ghost use Rattle.std.specs.Prelude.{◌≡◌, ◌≤◌, length};
-ghost use Rattle.dns_kinds.specs.Rtype as Rtype;
+ghost use Rattle.rdata_values.specs.Rtype as Rtype;
 ghost use Rattle.zone_contents.specs.Contents.{AreSortedRecords};
 ghost use Rattle.zone_contents.specs.Searches.{has_in_zone, has_type_within, HaveClass};
 
 use crate::searches::{past_few, places};
 use crate::summary::Summary;
 use crate::zone_key::{Apex, ZoneKey};
-use dns_kinds::RecordType;
 use dns_wire::Name;
+use rdata_values::RecordType;
 use std::alloc::Allocator;
 use zone_rules::zone_records::HostTypes;
-use zone_store::SortedStore;
+use zone_set::SortedStore;
 
 /// Returns whether a record from one index up to another has a type.
 fn has_type_within<A: Allocator>(

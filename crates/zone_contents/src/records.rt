@@ -2,19 +2,19 @@
 ghost use Rattle.std.specs.Prelude.{◌≡◌, ◌<◌, All, length};
 ghost use Rattle.zone_contents.specs.Contents.{listed_record, IsZoneRecord};
 ghost use Rattle.zone_rules.specs.Zones.{as_listed};
-ghost use Rattle.zone_store.specs.Stored.{record_at};
+ghost use Rattle.zone_set.specs.Stored.{record_at};
 
 use crate::lookups::{has_type, host_types};
 use crate::searches::{closest, closest_before, owner_at, places};
 use crate::stored::StoredZone;
 use crate::zone_key::Apex;
-use dns_kinds::RecordType;
-use dns_resource::{Data, Record};
 use dns_wire::Name;
+use rdata_values::RecordType;
 use std::alloc::Allocator;
+use zone_record::{Data, Record};
 use zone_rules::ZoneRecords;
 use zone_rules::zone_records::{HostTypes, OwnerBuffer, ZoneRecord};
-use zone_store::SortedStore;
+use zone_set::SortedStore;
 
 /// Returns the record at an index, with its owner in lower case. Writes the owner to the buffer.
 fn record_at<'b, A: Allocator>(

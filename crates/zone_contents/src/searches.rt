@@ -5,7 +5,7 @@ ghost use Rattle.zone_contents.specs.Searches.{closest_earlier, shared_by, EndsK
 ghost use Rattle.zone_rules.specs.Present.{rrset_of_record};
 ghost use Rattle.zone_rules.specs.Searches.{before_place, AreOwnedFrom, PartsBefore};
 ghost use Rattle.zone_rules.specs.Zones.{closest_owned};
-ghost use Rattle.zone_store.specs.Stored.{record_at};
+ghost use Rattle.zone_set.specs.Stored.{record_at};
 
 use crate::zone_key::{Apex, ZoneKey, write_name};
 use dns_wire::Name;
@@ -13,7 +13,7 @@ use std::alloc::Allocator;
 use zone_rules::names::{name_of, octets_of, shared_name};
 use zone_rules::search::longer;
 use zone_rules::zone_records::OwnerBuffer;
-use zone_store::SortedStore;
+use zone_set::SortedStore;
 
 /// Greatest number of records of one owner that are looked at one after another.
 const FEW: usize = 8;

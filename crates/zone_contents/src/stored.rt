@@ -3,17 +3,17 @@ ghost use Rattle.std.specs.Prelude.{◌≡◌, ◌<◌, [], OnOk, OnErr, length,
 ghost use Rattle.std.specs.List.Sorted.{IsPermutation, IsSorted, IsStable};
 ghost use Rattle.dns_octets.specs.Lowered.{lowered};
 ghost use Rattle.zone_contents.specs.Contents.{stored_in_zone, AddsRecord, AddsStored, IsZoneRecord};
-ghost use Rattle.zone_store.specs.Stored.{record_at, stored_order};
+ghost use Rattle.zone_set.specs.Stored.{record_at, stored_order};
 
 use crate::summary::Summary;
 use crate::zone_key::{Apex, ZoneKey};
 use dns_octets::AsOctets;
-use dns_resource::Record;
 use dns_wire::Name;
 use std::alloc::{AllocError, Allocator, Global};
 use std::marker::Model;
+use zone_record::Record;
 use zone_rules::names::octets_of;
-use zone_store::{EntryHeader, GroupEntry, RecordStore, SortedStore};
+use zone_set::{EntryHeader, GroupEntry, RecordStore, SortedStore};
 
 /// Adds a record to a store, with the key of its owner in a zone. Fails without memory; the store is
 /// then unchanged.

@@ -3,10 +3,10 @@ ghost use Rattle.std.specs.Prelude.{◌≡◌, IfSome, false};
 ghost use Rattle.zone_contents.specs.Summaries.{no_summary, summary_with};
 ghost use Rattle.zone_rules.specs.Above.{is_wildcard};
 
-use dns_kinds::{Class, RecordType};
 use dns_octets::AsOctets;
-use dns_resource::Record;
 use dns_wire::Name;
+use rdata_values::{Class, RecordType};
+use zone_record::Record;
 use zone_rules::names::octets_of;
 
 /// What records have in common.

@@ -2,15 +2,15 @@
 ghost use Rattle.std.specs.Prelude.{◌≡◌, ◌≤◌, ◌+◌, ◌∷◌, ◌++◌, length, map};
 ghost use Rattle.dns_octets.specs.Lowered.{lowered};
 ghost use Rattle.dns_wire.specs.Wire.{wire};
-ghost use Rattle.dns_canonical.specs.Keys.{order_key};
+ghost use Rattle.zone_record.specs.Keys.{order_key};
 ghost use Rattle.zone_contents.specs.Keys.{key_in_zone, name_in_zone, zone_key, IsNameKey};
 
 use arrayvec::ArrayVec;
-use dns_canonical::{OrderKey, push_key_name};
 use dns_octets::AsOctets;
 use dns_wire::{MAX_NAME, Name};
 use std::cmp::Ordering;
 use std::marker::Model;
+use zone_record::{OrderKey, push_key_name};
 use zone_rules::names::octets_of;
 
 /// Maximum length of the key of a name in a zone, in octets.
@@ -35,7 +35,7 @@ pub struct Apex {
 
 impl Model for Apex {
     ghost use Rattle.std.specs.Prelude.{List, ℕ};
-    ghost use Rattle.dns_canonical.specs.KeyNames.{key_name};
+    ghost use Rattle.zone_record.specs.KeyNames.{key_name};
     ghost use Rattle.zone_contents.specs.Keys.{IsApex};
 
     ghost Value = { List (List ℕ) };

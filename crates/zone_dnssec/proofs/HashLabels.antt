@@ -9,9 +9,9 @@ use Rattle.dns_codec.specs.Written.{IsWritten}
 use Rattle.dns_codec.proofs.Fitting.{whole_digits}
 use Rattle.dns_codec.proofs.Texts.{unpadded}
 use Rattle.dns_octets.specs.declared.error.ShortBuf.{ShortBuf}
-use Rattle.dns_spelling.specs.NameSpelling.{IsWireName}
-use Rattle.dns_spelling.specs.Spelling.{AreOctetValues}
-use Rattle.dns_spelling.proofs.LabelParts.{wire_length_cons}
+use Rattle.rdata_tokens.specs.NameSpelling.{IsWireName}
+use Rattle.rdata_tokens.specs.Spelling.{AreOctetValues}
+use Rattle.rdata_tokens.proofs.LabelParts.{wire_length_cons}
 use Rattle.dns_wire.specs.Wire.{wire, wire_label, wire_length, IsName, EndsInRoot}
 
 -- a hash of 20 octets has 32 characters

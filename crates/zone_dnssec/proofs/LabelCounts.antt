@@ -1,6 +1,6 @@
 -- The number of labels of a name.
 use Rattle.std.proofs.Common.{ℕ, ◌≡◌, ◌+◌, ◌-◌, ◌≤◌, List, [], ◌∷◌, length, refl, ap, arith, Some, None}
-use Rattle.dns_spelling.proofs.LabelParts.{wire_length_cons}
+use Rattle.rdata_tokens.proofs.LabelParts.{wire_length_cons}
 use Rattle.dns_wire.specs.Wire.{wire_length, IsName}
 use Rattle.zone_rules.specs.Above.{parent_of}
 

@@ -3,9 +3,9 @@ use Rattle.std.specs.Prelude.{ℕ, nat_eq, ◌==◌, ◌&&◌, ◌||◌, not, Bo
 use Rattle.std.specs.Cmp.Lexicographic.{pointwise}
 use Rattle.std.specs.List.{list_any}
 use Rattle.dns_wire.specs.Order.{same_name}
-use Rattle.dns_kinds.specs.Rtype as Rtype
-use Rattle.dns_resource.specs.Records.{data_of}
-use Rattle.dns_resource.specs.declared.record.Record.{Record}
+use Rattle.rdata_values.specs.Rtype as Rtype
+use Rattle.zone_record.specs.Records.{data_of}
+use Rattle.zone_record.specs.declared.record.Record.{Record}
 use Rattle.zone_rules.specs.Zones.{type_of}
 
 -- `CDS 0 0 0 00` or `CDNSKEY 0 3 0 AA==`

@@ -3,8 +3,8 @@ use Rattle.std.specs.Prelude.{ℕ, nat_le, ◌==◌, ◌&&◌, ◌||◌, not, Bo
 use Rattle.std.specs.List.{list_any}
 use Rattle.std.specs.Option.{option_map_or}
 use Rattle.dns_wire.specs.Order.{same_name}
-use Rattle.dns_kinds.specs.Rtype as Rtype
-use Rattle.dns_resource.specs.declared.record.Record.{Record}
+use Rattle.rdata_values.specs.Rtype as Rtype
+use Rattle.zone_record.specs.declared.record.Record.{Record}
 use Rattle.zone_rules.specs.Above.{names_above, is_within}
 use Rattle.zone_rules.specs.Rules.{is_zone_cut}
 use Rattle.zone_rules.specs.Zones.{type_of, has_type_at, has_owner}

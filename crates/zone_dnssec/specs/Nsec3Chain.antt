@@ -6,10 +6,10 @@ use Rattle.std.specs.List.{find, list_any}
 use Rattle.std.specs.Option.{option_or}
 use Rattle.std.specs.Ordering.{is_lt}
 use Rattle.dns_wire.specs.Order.{same_name}
-use Rattle.dns_kinds.specs.Rtype as Rtype
-use Rattle.dns_canonical.specs.Names.{name_order}
-use Rattle.dns_resource.specs.Records.{data_of}
-use Rattle.dns_resource.specs.declared.record.Record.{Record}
+use Rattle.rdata_values.specs.Rtype as Rtype
+use Rattle.zone_record.specs.Names.{name_order}
+use Rattle.zone_record.specs.Records.{data_of}
+use Rattle.zone_record.specs.declared.record.Record.{Record}
 use Rattle.zone_rules.specs.Zones.{type_of}
 use Rattle.zone_dnssec.specs.HashedNames.{name_hash, hashed_owner}
 use Rattle.zone_dnssec.specs.NsecChain.{comes_after}

@@ -6,11 +6,11 @@ use Rattle.std.specs.Ordering.{is_le}
 use Rattle.dns_octets.specs.Lowered.{same_lowered}
 use Rattle.dns_wire.specs.Order.{same_name}
 use Rattle.dns_wire.specs.Wire.{wire}
-use Rattle.dns_kinds.specs.Rtype as Rtype
-use Rattle.dns_canonical.specs.Names.{name_order}
-use Rattle.dns_resource.specs.Parts.{data_part}
-use Rattle.dns_resource.specs.Records.{data_of}
-use Rattle.dns_resource.specs.declared.record.Record.{Record}
+use Rattle.rdata_values.specs.Rtype as Rtype
+use Rattle.zone_record.specs.Names.{name_order}
+use Rattle.zone_record.specs.Parts.{data_part}
+use Rattle.zone_record.specs.Records.{data_of}
+use Rattle.zone_record.specs.declared.record.Record.{Record}
 use Rattle.zone_rules.specs.Zones.{type_of, has_type_at}
 use Rattle.zone_dnssec.specs.Parameters.{has_named_chain}
 use Rattle.zone_dnssec.specs.SignedSets.{is_authoritative, starts}

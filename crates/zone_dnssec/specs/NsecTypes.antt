@@ -2,14 +2,14 @@
 use Rattle.std.specs.Prelude.{ℕ, ◌==◌, ◌&&◌, ◌||◌, not, Bool, List, [], length, drop, filter}
 use Rattle.std.specs.List.{list_all}
 use Rattle.std.specs.Option.{option_map_or}
-use Rattle.dns_lists.specs.Bitmap.{has, types_of}
+use Rattle.rdata_values.specs.Bitmap.{has, types_of}
 use Rattle.dns_wire.specs.Order.{same_name}
-use Rattle.dns_kinds.specs.Rtype as Rtype
-use Rattle.dns_kinds.specs.declared.types.RecordType.{RecordType}
-use Rattle.dns_resource.specs.Parts.{data_part}
-use Rattle.dns_resource.specs.Records.{data_of}
-use Rattle.dns_resource.specs.TypeData.{TypeData}
-use Rattle.dns_resource.specs.declared.record.Record.{Record}
+use Rattle.rdata_values.specs.Rtype as Rtype
+use Rattle.rdata_values.specs.declared.types.RecordType.{RecordType}
+use Rattle.zone_record.specs.Parts.{data_part}
+use Rattle.zone_record.specs.Records.{data_of}
+use Rattle.zone_record.specs.TypeData.{TypeData}
+use Rattle.zone_record.specs.declared.record.Record.{Record}
 use Rattle.zone_rules.specs.Rules.{is_zone_cut}
 use Rattle.zone_rules.specs.Zones.{type_of, has_type_at}
 use Rattle.zone_dnssec.specs.SignedSets.{is_authoritative}
@@ -19,12 +19,12 @@ abbrev pub bitmap_octets : TypeData → List ℕ
 bitmap_octets d = option_map_or (λ next. drop (length next) d.octets) (data_part d 0) []
 
 -- at a delegation only NS, DS, RRSIG and NSEC are listed
-abbrev pub stands_at_delegation : RecordType → Bool
-stands_at_delegation rtype = rtype == Rtype.ns || (rtype == Rtype.ds || (rtype == Rtype.rrsig || rtype == Rtype.nsec))
+abbrev pub may_be_at_delegation : RecordType → Bool
+may_be_at_delegation rtype = rtype == Rtype.ns || (rtype == Rtype.ds || (rtype == Rtype.rrsig || rtype == Rtype.nsec))
 
 -- a type is listed at a name, if a record there has it
 abbrev pub may_be_listed : {N O : Type 0} → List (List ℕ) → List (Record N O) → List (List ℕ) → RecordType → Bool
-may_be_listed origin records name rtype = stands_at_delegation rtype || not (is_zone_cut origin records name)
+may_be_listed origin records name rtype = may_be_at_delegation rtype || not (is_zone_cut origin records name)
 
 abbrev pub has_listed_type : {N O : Type 0} → List (List ℕ) → List (Record N O) → List (List ℕ) → RecordType → Bool
 has_listed_type origin records name rtype = has_type_at rtype name records && may_be_listed origin records name rtype

@@ -1,9 +1,9 @@
 -- Worked examples of the rules, each computed.
 use Rattle.std.specs.Prelude.{◌≡◌, ℕ, Some, None, true, false, List, [], ◌∷◌, codes, refl}
-use Rattle.dns_kinds.specs.Rtype as Rtype
-use Rattle.dns_kinds.specs.declared.types.RecordType.{RecordType}
-use Rattle.dns_resource.specs.declared.record.Record.{Record}
-use Rattle.dns_data.specs.Types.{type_shapes}
+use Rattle.rdata_values.specs.Rtype as Rtype
+use Rattle.rdata_values.specs.declared.types.RecordType.{RecordType}
+use Rattle.zone_record.specs.declared.record.Record.{Record}
+use Rattle.rdata.specs.Types.{type_shapes}
 use Rattle.dns_wire.specs.Wire.{wire}
 use Rattle.zone_dnssec.specs.DeleteForms.{asks_for_key, is_delete_form}
 use Rattle.zone_dnssec.specs.DenialRecords.{begins_with_hash, is_child, is_occluded}

@@ -2,8 +2,8 @@
 use Rattle.std.specs.Prelude.{ℕ, if◌then◌else◌, Bool, false, List, [], ◌∷◌, length, slice_get}
 use Rattle.std.specs.List.{flat_map, range_with_len}
 use Rattle.std.specs.Option.{option_map_or}
-use Rattle.dns_kinds.specs.Rtype as Rtype
-use Rattle.dns_resource.specs.declared.record.Record.{Record}
+use Rattle.rdata_values.specs.Rtype as Rtype
+use Rattle.zone_record.specs.declared.record.Record.{Record}
 use Rattle.zone_rules.specs.Zones.{has_type_at}
 use Rattle.zone_dnssec.specs.DeleteForms.{deletes_beside_keys}
 use Rattle.zone_dnssec.specs.DenialRecords.{denial_ttl, has_other_denial_ttl, has_other_link_owner, is_occluded, iterates_within}
@@ -12,7 +12,7 @@ use Rattle.zone_dnssec.specs.NsecChain.{lacks_nsec, names_other_next}
 use Rattle.zone_dnssec.specs.NsecTypes.{lists_other_types}
 use Rattle.zone_dnssec.specs.SignatureFields.{has_other_labels, has_other_original_ttl, has_other_own_ttl, has_other_signer}
 use Rattle.zone_dnssec.specs.SignatureTimes.{is_expired, expires_within, has_reversed_times, is_early}
-use Rattle.zone_dnssec.specs.SignedSets.{is_left_unsigned, signs_nothing}
+use Rattle.zone_dnssec.specs.SignedSets.{is_missing_signature, signs_nothing}
 use Rattle.zone_dnssec.specs.ZoneKeys.{is_by_revoked_key, lacks_known_key, misses_key, zone_keys}
 use Rattle.zone_dnssec.specs.ZoneViews.{ZoneView, zone_with}
 use Rattle.zone_dnssec.specs.declared.hashed.LinkFault.TheVariants.{Missing, DifferentTypes}
@@ -31,7 +31,7 @@ breaks_security OtherSigner zone times place r = has_other_signer zone.origin r
 breaks_security OtherLabels zone times place r = has_other_labels r
 breaks_security OtherOriginalTtl zone times place r = has_other_original_ttl zone.records r
 breaks_security OtherSignatureTtl zone times place r = has_other_own_ttl zone.records r
-breaks_security Unsigned zone times place r = is_left_unsigned zone.origin zone.records place r
+breaks_security Unsigned zone times place r = is_missing_signature zone.origin zone.records place r
 breaks_security NoKey zone times place r = lacks_known_key (zone_keys zone.origin zone.records) zone.origin zone.records place r
 breaks_security KeyMissing zone times place r = misses_key (zone_keys zone.origin zone.records) zone.records r
 breaks_security RevokedKey zone times place r = is_by_revoked_key (zone_keys zone.origin zone.records) r

@@ -2,9 +2,9 @@
 use Rattle.std.specs.Prelude.{ℕ, ◌==◌, ◌&&◌, ◌||◌, not, Bool, List}
 use Rattle.std.specs.List.{list_any}
 use Rattle.dns_wire.specs.Order.{same_name}
-use Rattle.dns_kinds.specs.Rtype as Rtype
-use Rattle.dns_kinds.specs.declared.types.RecordType.{RecordType}
-use Rattle.dns_resource.specs.declared.record.Record.{Record}
+use Rattle.rdata_values.specs.Rtype as Rtype
+use Rattle.rdata_values.specs.declared.types.RecordType.{RecordType}
+use Rattle.zone_record.specs.declared.record.Record.{Record}
 use Rattle.zone_rules.specs.Above.{names_above, is_within}
 use Rattle.zone_rules.specs.Rules.{follows, is_zone_cut}
 use Rattle.zone_rules.specs.Zones.{type_of, set_type, has_type_at, is_one_set}
@@ -35,8 +35,8 @@ abbrev pub starts : {N O : Type 0} → (Record N O → Record N O → Bool) → 
 starts test records place r = not (follows test records place r)
 
 -- the record is the first of an RRset that must be signed, and that no RRSIG covers
-abbrev pub is_left_unsigned : {N O : Type 0} → List (List ℕ) → List (Record N O) → ℕ → Record N O → Bool
-is_left_unsigned origin records place r =
+abbrev pub is_missing_signature : {N O : Type 0} → List (List ℕ) → List (Record N O) → ℕ → Record N O → Bool
+is_missing_signature origin records place r =
     starts is_one_set records place r && (must_be_signed origin records r && not (has_signature (type_of r) r.owner records))
 
 -- an RRSIG covers a type of which its owner has no record

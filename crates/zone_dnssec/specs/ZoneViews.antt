@@ -1,6 +1,6 @@
 -- A signed zone.
 use Rattle.std.specs.Prelude.{ℕ, List}
-use Rattle.dns_resource.specs.declared.record.Record.{Record}
+use Rattle.zone_record.specs.declared.record.Record.{Record}
 use Rattle.zone_dnssec.specs.declared.zone.SignedZone.{SignedZone}
 
 -- the name of its apex, and its records

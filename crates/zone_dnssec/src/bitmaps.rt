@@ -1,16 +1,15 @@
 //! Compares the types that an NSEC lists with those at its owner (RFC 4034 section 4.1.2).
 ghost use Rattle.std.specs.Prelude.{◌≡◌, drop, filter};
 ghost use Rattle.std.specs.List.{list_all};
-ghost use Rattle.dns_lists.specs.Bitmap.{has, types_of};
+ghost use Rattle.rdata_values.specs.Bitmap.{has, types_of};
 ghost use Rattle.dns_wire.specs.Order.{same_name};
-ghost use Rattle.zone_dnssec.specs.NsecTypes.{bitmap_octets, has_listed_type, is_in_bitmap, lists_exactly, lists_other_types, may_be_listed, stands_at_delegation};
+ghost use Rattle.zone_dnssec.specs.NsecTypes.{bitmap_octets, has_listed_type, is_in_bitmap, lists_exactly, lists_other_types, may_be_listed, may_be_at_delegation};
 
 use crate::sets::has_authority;
-use dns_kinds::RecordType;
-use dns_lists::BitmapTypes;
 use dns_octets::AsOctets;
-use dns_resource::{Data, Record};
 use dns_wire::Name;
+use rdata_values::{BitmapTypes, RecordType};
+use zone_record::{Data, Record};
 use zone_rules::SortedRecords;
 use zone_rules::hosts::is_cut;
 use zone_rules::names::view;
@@ -47,7 +46,7 @@ fn lists(bitmap: &[u8], rtype: RecordType) -> bool
 
 /// Returns whether an NSEC at a delegation lists a type, if a record there has it.
 fn is_for_delegation(rtype: RecordType) -> bool
-    ensures { result ≡ stands_at_delegation rtype }
+    ensures { result ≡ may_be_at_delegation rtype }
 {
     matches!(
         rtype,

@@ -6,10 +6,10 @@ ghost use Rattle.zone_dnssec.specs.SignedSets.{starts};
 
 use crate::nsec3::is_chain;
 use crate::sets::has_authority;
-use dns_kinds::RecordType;
 use dns_octets::AsOctets;
-use dns_resource::Record;
 use dns_wire::Name;
+use rdata_values::RecordType;
+use zone_record::Record;
 use zone_rules::SortedRecords;
 use zone_rules::names::view;
 use zone_rules::pairs::{before, have_one_owner};

@@ -24,11 +24,11 @@ use crate::signatures::{
 };
 use crate::times::{Times, has_expired, has_reversed_times, is_expiring, is_too_early};
 use crate::zone::SignedZone;
-use dns_kinds::RecordType;
 use dns_octets::AsOctets;
-use dns_resource::Record;
 use dns_wire::Name;
+use rdata_values::RecordType;
 use std::alloc::{AllocError, Allocator};
+use zone_record::Record;
 use zone_rules::SortedRecords;
 use zone_rules::names::view;
 use zone_rules::sorted::has_type;

@@ -5,10 +5,10 @@ ghost use Rattle.std.specs.List.{list_any};
 ghost use Rattle.dns_wire.specs.Order.{same_name};
 ghost use Rattle.zone_dnssec.specs.DeleteForms.{asks_for_key, deletes_beside_keys, is_delete_form};
 
-use dns_kinds::RecordType;
 use dns_octets::AsOctets;
-use dns_resource::Record;
 use dns_wire::Name;
+use rdata_values::RecordType;
+use zone_record::Record;
 use zone_rules::SortedRecords;
 use zone_rules::names::{is_same, view};
 use zone_rules::sorted::owned_by;

@@ -14,10 +14,10 @@ use crate::nsec3::{
 use crate::nsec3_hash::hashed_name;
 use crate::sets::has_authority;
 use crate::zone::SignedZone;
-use dns_kinds::RecordType;
 use dns_octets::AsOctets;
-use dns_resource::Record;
 use dns_wire::Name;
+use rdata_values::RecordType;
+use zone_record::Record;
 use zone_rules::SortedRecords;
 use zone_rules::hosts::is_cut;
 use zone_rules::names::{is_name_within, is_same, parent, view};

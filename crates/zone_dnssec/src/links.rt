@@ -6,11 +6,11 @@ ghost use Rattle.dns_wire.specs.Wire.{wire};
 ghost use Rattle.zone_dnssec.specs.NsecChain.{names_other_next, next_name, next_record};
 
 use crate::sets::has_authority;
-use dns_kinds::RecordType;
 use dns_octets::AsOctets;
 use dns_octets::lowered::same_octets;
-use dns_resource::Record;
 use dns_wire::Name;
+use rdata_values::RecordType;
+use zone_record::Record;
 use zone_rules::SortedRecords;
 use zone_rules::names::{octets_of, order_of, view};
 

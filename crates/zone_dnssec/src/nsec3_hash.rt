@@ -2,17 +2,17 @@
 ghost use Rattle.std.specs.Prelude.{◌≡◌, ◌≤◌, ◌∷◌, ◌++◌, ◌==◌, ◌&&◌, length, nat_le};
 ghost use Rattle.dns_codec.specs.Base.{base32hex, encoded};
 ghost use Rattle.dns_octets.specs.Lowered.{lowered};
-ghost use Rattle.dns_spelling.specs.NameSpelling.{IsWireName};
+ghost use Rattle.rdata_tokens.specs.NameSpelling.{IsWireName};
 ghost use Rattle.dns_wire.specs.Wire.{wire, wire_length};
 ghost use Rattle.sha1.specs.Sha1.{sha1};
 ghost use Rattle.zone_dnssec.specs.HashedNames.{hashed_owner, iterated_hash, name_hash};
 
 use arrayvec::ArrayVec;
-use dns_canonical::append_lowered;
 use dns_codec::base32::encode_slice_hex;
 use dns_octets::AsOctets;
 use dns_wire::{MAX_NAME, Name};
 use sha1::Sha1;
+use zone_record::append_lowered;
 use zone_rules::names::octets_of;
 
 /// Number of octets of a hash.

@@ -1,12 +1,12 @@
 //! Checks which RRsets have signatures.
 ghost use Rattle.std.specs.Prelude.{◌≡◌};
-ghost use Rattle.zone_dnssec.specs.SignedSets.{belongs_to_parent, covers, has_signature, is_authoritative, is_left_unsigned, must_be_signed, signs_nothing, starts};
+ghost use Rattle.zone_dnssec.specs.SignedSets.{belongs_to_parent, covers, has_signature, is_authoritative, is_missing_signature, must_be_signed, signs_nothing, starts};
 ghost use Rattle.zone_rules.specs.Zones.{is_one_set};
 
-use dns_kinds::RecordType;
 use dns_octets::AsOctets;
-use dns_resource::Record;
 use dns_wire::Name;
+use rdata_values::RecordType;
+use zone_record::Record;
 use zone_rules::SortedRecords;
 use zone_rules::hosts::{is_cut, is_under_cut};
 use zone_rules::names::{is_name_within, view};
@@ -89,7 +89,7 @@ pub fn is_unsigned<Owner: AsOctets, Octets: AsOctets>(
     place: usize,
     record: &Record<Owner, Octets>,
 ) -> bool
-    ensures { result ≡ is_left_unsigned origin.now records.now place «record».now }
+    ensures { result ≡ is_missing_signature origin.now records.now place «record».now }
 {
     is_first_of_set(records, place, record)
         && needs_signature(origin, records, record)

@@ -7,11 +7,11 @@ ghost use Rattle.zone_rules.specs.Zones.{type_of};
 
 use crate::nsec3::field;
 use crate::times::number;
-use dns_kinds::RecordType;
 use dns_octets::AsOctets;
 use dns_octets::lowered::same_octets;
-use dns_resource::Record;
 use dns_wire::Name;
+use rdata_values::RecordType;
+use zone_record::Record;
 use zone_rules::SortedRecords;
 use zone_rules::names::{octets_of, parent, view};
 use zone_rules::pairs::set_type_of;

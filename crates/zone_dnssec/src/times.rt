@@ -2,12 +2,12 @@
 //! section 3.1.5).
 ghost use Rattle.std.specs.Prelude.{◌≡◌};
 ghost use Rattle.std.specs.Option.{option_map_or};
-ghost use Rattle.dns_resource.specs.Parts.{data_part};
+ghost use Rattle.zone_record.specs.Parts.{data_part};
 ghost use Rattle.zone_dnssec.specs.SignatureTimes.{expires_within, has_passed, has_reversed_times, is_early, is_expired, number_in, seconds_between};
 
-use dns_kinds::RecordType;
 use dns_octets::AsOctets;
-use dns_resource::Record;
+use rdata_values::RecordType;
+use zone_record::Record;
 
 /// Index of the expiration among the fields of an RRSIG (RFC 4034 section 3.1).
 const EXPIRATION: usize = 4;

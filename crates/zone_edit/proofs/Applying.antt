@@ -5,7 +5,7 @@ use Rattle.std.proofs.Math.Seq.{drop-append-add, take-append-add}
 use Rattle.std.proofs.lemmas.List.{append_assoc, drop-append-le, drop-drop, length-drop, take-append-le, take_rest}
 use Rattle.dns_octets.specs.Appending.{Extends}
 use Rattle.zone_edit.specs.declared.edit.Edit.{Edit}
-use Rattle.zone_edit.specs.declared.editor.Reached.{Reached}
+use Rattle.zone_edit.specs.declared.editor.EditProgress.{EditProgress}
 use Rattle.zone_edit.specs.Edits.{AreApart, edited_from, edit_texts}
 use Rattle.zone_edit.specs.Chunks.{AppliesChunk, IsReached, rest_edited}
 use Rattle.zone_edit.proofs.Opening.{ordered_gives}
@@ -67,14 +67,14 @@ pub extends_same : (front to new : List ℕ) → Extends front to → new ≡ to
 extends_same front to new e is = (e.0, is ∙ e.1)
 
 -- what was appended of a chunk whose octets before an offset were decided, and what is still to be appended
-pub record AppliesPart {B : Type 0} (edits : List (Edit B)) (r : Reached) (chunk front to : List ℕ) (done from : ℕ) : Type 0 where
+pub record AppliesPart {B : Type 0} (edits : List (Edit B)) (r : EditProgress) (chunk front to : List ℕ) (done from : ℕ) : Type 0 where
   pub made : (rest : List ℕ) → to ++ edited_from from (drop done edits) (drop (from - r.at) (chunk ++ rest)) ≡ front ++ rest_edited edits r (chunk ++ rest)
   pub extends : Extends front to
   pub begun : r.at ≤ from
   pub counted : done ≤ length edits
   pub ordered : AreApart from (drop done edits)
 
-module _ {B : Type 0} (edits : List (Edit B)) (r : Reached) (chunk front to : List ℕ) (done from : ℕ) (p : AppliesPart edits r chunk front to done from) where
+module _ {B : Type 0} (edits : List (Edit B)) (r : EditProgress) (chunk front to : List ℕ) (done from : ℕ) (p : AppliesPart edits r chunk front to done from) where
   -- one more edit
   pub part_next : (e : Edit B) → drop done edits ≡ e ∷ drop (done + 1) edits → done < length edits → e.start < r.at + length chunk
       → (part all : List ℕ) → part ≡ take ((e.start - r.at) - (from - r.at)) (drop (from - r.at) chunk) → all ≡ (to ++ part) ++ e.text.items
@@ -137,7 +137,7 @@ module _ {B : Type 0} (edits : List (Edit B)) (r : Reached) (chunk front to : Li
       }
 
 -- nothing was applied yet
-pub part_first : {B : Type 0} (edits : List (Edit B)) (r : Reached) (chunk front : List ℕ) → IsReached edits r → AppliesPart edits r chunk front front r.done r.from
+pub part_first : {B : Type 0} (edits : List (Edit B)) (r : EditProgress) (chunk front : List ℕ) → IsReached edits r → AppliesPart edits r chunk front front r.done r.from
 part_first edits r chunk front h = record {
   made = λ rest. refl;
   extends = ([], sym (append-nil front));
@@ -156,9 +156,9 @@ pub none_left : {B : Type 0} (end : ℕ) (edits : List (Edit B)) → edits ≡ [
 none_left end edits is = subst (AreApart end) (sym is) tt
 
 -- what is still to be appended at the end of the text
-pub rest_nothing : {B : Type 0} (edits : List (Edit B)) (r : Reached) → rest_edited edits r [] ≡ edit_texts (drop r.done edits)
+pub rest_nothing : {B : Type 0} (edits : List (Edit B)) (r : EditProgress) → rest_edited edits r [] ≡ edit_texts (drop r.done edits)
 rest_nothing edits r = ap (edited_from r.from (drop r.done edits)) (drop_nothing (r.from - r.at)) ∙ edited_nothing r.from (drop r.done edits)
 
-pub left_made : {B : Type 0} (edits : List (Edit B)) (r : Reached) (old new : List ℕ) → new ≡ old ++ edit_texts (take (length edits - r.done) (drop r.done edits))
+pub left_made : {B : Type 0} (edits : List (Edit B)) (r : EditProgress) (old new : List ℕ) → new ≡ old ++ edit_texts (take (length edits - r.done) (drop r.done edits))
     → new ≡ old ++ rest_edited edits r []
 left_made edits r old new is = is ∙ ap (λ l. old ++ edit_texts l) (take_rest edits r.done) ∙ ap (λ l. old ++ l) (sym (rest_nothing edits r))

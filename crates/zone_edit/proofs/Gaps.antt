@@ -1,9 +1,9 @@
 -- The octets between tokens, one after another, and tokens, one after another.
 use Rattle.std.proofs.Common.{ℕ, zero, suc, ◌≡◌, ◌<◌, ◌+◌, Bool, true, false, cond, not, ◌||◌, List, [], ◌∷◌, ◌++◌, length, drop, get_or, refl, sym, ap, subst, ◌∙◌, arith}
 use Rattle.std.proofs.lemmas.List.{append_assoc, drop_more}
-use Rattle.dns_split.specs.Pieces.{between}
-use Rattle.dns_split.specs.declared.pieces.Span.{Span}
-use Rattle.zone_edit.specs.Tokens.{AreAfterTokens, comment_continues, is_space, kept_len, kept_with, taken_out}
+use Rattle.dns_lexer.specs.Pieces.{between}
+use Rattle.dns_lexer.specs.declared.pieces.Span.{Span}
+use Rattle.zone_edit.specs.Tokens.{AreAfterTokens, comment_continues, is_space, kept_len, kept_with, removed_spans}
 
 -- the rest of a list begins with the element that is next
 rest_of : {X : Type 0} (xs : List X) (i : ℕ) (x d : X) → i < length xs → x ≡ get_or xs i d → drop i xs ≡ x ∷ drop (i + 1) xs
@@ -31,11 +31,11 @@ kept_next gap i octet is_comment kept at lt is =
 module _ (octets : List ℕ) (tokens : List Span) (i : ℕ) (t d : Span) (at : ℕ) (lt : i < length tokens) (is : t ≡ get_or tokens i d) where
   -- one more token was removed
   pub taken_next : (old made : List Span) (n : ℕ) → made ≡ old ++ record { start = at + n; end = t.end } ∷ [] → n ≡ kept_len false (between octets at t.start)
-      → made ++ taken_out octets t.end (drop (i + 1) tokens) ≡ old ++ taken_out octets at (drop i tokens)
+      → made ++ removed_spans octets t.end (drop (i + 1) tokens) ≡ old ++ removed_spans octets at (drop i tokens)
   taken_next old made n e kept =
-      ap (λ l. l ++ taken_out octets t.end (drop (i + 1) tokens)) (e ∙ ap (λ k. old ++ record { start = at + k; end = t.end } ∷ []) kept)
-      ∙ append_assoc old (record { start = at + kept_len false (between octets at t.start); end = t.end } ∷ []) (taken_out octets t.end (drop (i + 1) tokens))
-      ∙ ap (λ l. old ++ taken_out octets at l) (sym (rest_of tokens i t d lt is))
+      ap (λ l. l ++ removed_spans octets t.end (drop (i + 1) tokens)) (e ∙ ap (λ k. old ++ record { start = at + k; end = t.end } ∷ []) kept)
+      ∙ append_assoc old (record { start = at + kept_len false (between octets at t.start); end = t.end } ∷ []) (removed_spans octets t.end (drop (i + 1) tokens))
+      ∙ ap (λ l. old ++ removed_spans octets at l) (sym (rest_of tokens i t d lt is))
 
   pub after_gives : (count : ℕ) → AreAfterTokens count at (drop i tokens) → AreAfterTokens count at (t ∷ drop (i + 1) tokens)
   after_gives count = subst (AreAfterTokens count at) (rest_of tokens i t d lt is)

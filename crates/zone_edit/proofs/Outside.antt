@@ -2,9 +2,9 @@
 use Rattle.std.proofs.Common.{ℕ, zero, suc, ◌≡◌, ◌≤◌, ◌+◌, ◌-◌, List, [], ◌∷◌, ◌++◌, length, take, drop, refl, sym, ap, subst, ◌∙◌, arith, length-append}
 use Rattle.std.proofs.Math.Seq.{drop-append-add, drop-append_seam, take-append_seam}
 use Rattle.std.proofs.lemmas.List.{append_assoc, length-drop}
-use Rattle.dns_split.specs.Pieces.{between}
+use Rattle.dns_lexer.specs.Pieces.{between}
 use Rattle.zone_edit.specs.declared.edit.Edit.{Edit}
-use Rattle.zone_edit.specs.declared.editor.Reached.{Reached}
+use Rattle.zone_edit.specs.declared.editor.EditProgress.{EditProgress}
 use Rattle.zone_edit.specs.Edits.{AreApart, EndWithin, edited_from}
 use Rattle.zone_edit.specs.Chunks.{AppliesChunk, rest_edited}
 use Rattle.zone_edit.specs.Outside.{inside_from, moved_from, outside_from}
@@ -76,7 +76,7 @@ inside_texts at to (e ∷ edits) octets o w =
     ∙ ap (λ l. text ∷ l) (inside_texts e.end next edits (drop (e.end - at) octets) o.1 within)
 
 -- two chunks, one after another
-pub chunks_joined : {B : Type 0} (edits : List (Edit B)) (a b c : Reached) (x y front middle to : List ℕ)
+pub chunks_joined : {B : Type 0} (edits : List (Edit B)) (a b c : EditProgress) (x y front middle to : List ℕ)
     → AppliesChunk edits a x front middle b → AppliesChunk edits b y middle to c → AppliesChunk edits a (x ++ y) front to c
 chunks_joined edits a b c x y front middle to p q = record {
   next = omega (arith, p.next, q.next, length-append x y);

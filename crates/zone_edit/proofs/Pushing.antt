@@ -2,7 +2,7 @@
 use Rattle.std.proofs.Common.{ℕ, ◌≡◌, ◌+◌, List, [], ◌∷◌, ◌++◌, refl, sym, ap, ◌∙◌}
 use Rattle.std.specs.Prelude.{map}
 use Rattle.std.proofs.lemmas.List.{append_assoc, map-append}
-use Rattle.dns_split.specs.declared.pieces.Span.{Span}
+use Rattle.dns_lexer.specs.declared.pieces.Span.{Span}
 use Rattle.zone_edit.specs.declared.edit.Edit.{Edit}
 use Rattle.zone_edit.specs.Tokens.{Continues, PushesEdit, first_only, no_text, span_between, spans_of, texts_of}
 

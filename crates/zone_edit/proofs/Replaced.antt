@@ -5,8 +5,8 @@ use Rattle.std.specs.List.{flat_map}
 use Rattle.std.proofs.Math.Seq.{drop-append_seam}
 use Rattle.std.proofs.lemmas.Bool.{and_parts, and_from}
 use Rattle.dns_symbol.specs.declared.symbol.Symbol.{Symbol}
-use Rattle.dns_split.specs.Lexeme.{Lexeme, Blank, Line, Open, Close, Note, Word, Quote, is_lexeme, lexeme_bytes}
-use Rattle.dns_split.specs.Splitting.{Splits, are_lexemes, entries, may_precede, nests}
+use Rattle.dns_lexer.specs.Lexeme.{Lexeme, Blank, Line, Open, Close, Note, Word, Quote, is_lexeme, lexeme_bytes}
+use Rattle.dns_lexer.specs.Splitting.{Splits, are_lexemes, entries, may_precede, nests}
 use Rattle.zone_edit.specs.declared.edit.Edit.{Edit}
 use Rattle.zone_edit.specs.Edits.{AreApart, edited, edited_from}
 use Rattle.zone_edit.specs.Replaced.{MayReplace, ReplacesTokens, quote_for_quote, quote_for_word, word_for_word}

@@ -5,19 +5,19 @@ use Rattle.dns_octets.specs.Appending.{Extends}
 use Rattle.zone_edit.specs.declared.edit.Edit.{Edit}
 use Rattle.zone_edit.specs.declared.edit.EditError.{EditError}
 use Rattle.zone_edit.specs.declared.edit.EditError.TheVariants.{OutOfMemory, OutOfOrder, PastEnd, TooLong}
-use Rattle.zone_edit.specs.declared.editor.Reached.{Reached}
+use Rattle.zone_edit.specs.declared.editor.EditProgress.{EditProgress}
 use Rattle.zone_edit.specs.Edits.{AreApart, EndWithin, IsEditError, IsFirstPastEnd, IsOrderError, edited}
 use Rattle.zone_edit.specs.Chunks.{AppliesChunk, Editing, IsAddError, IsFinishError, rest_edited}
 
-abbrev pub nowhere : Reached
+abbrev pub nowhere : EditProgress
 nowhere = record { done = 0; at = 0; from = 0 }
 
-pub whole_made : {B : Type 0} (edits : List (Edit B)) (first last : Reached) (octets front middle to : List ℕ) → first ≡ nowhere
+pub whole_made : {B : Type 0} (edits : List (Edit B)) (first last : EditProgress) (octets front middle to : List ℕ) → first ≡ nowhere
     → AppliesChunk edits first octets front middle last → to ≡ middle ++ rest_edited edits last [] → to ≡ front ++ edited edits octets
 whole_made edits first last octets front middle to begins p made =
     made ∙ p.made [] ∙ ap (λ l. front ++ rest_edited edits first l) (append-nil octets) ∙ ap (λ r. front ++ rest_edited edits r octets) begins
 
-pub whole_within : {B : Type 0} (edits : List (Edit B)) (first last : Reached) (octets front middle : List ℕ) → first ≡ nowhere
+pub whole_within : {B : Type 0} (edits : List (Edit B)) (first last : EditProgress) (octets front middle : List ℕ) → first ≡ nowhere
     → AppliesChunk edits first octets front middle last → EndWithin last.at edits → EndWithin (length octets) edits
 whole_within edits first last octets front middle begins p h =
     let whole : last.at ≡ length octets = omega (arith, p.next, ap (λ r. r.at) begins) in
@@ -30,13 +30,13 @@ order_fails count edits (PastEnd i) h = absurd h
 order_fails count edits TooLong h = h
 order_fails count edits OutOfMemory h = tt
 
-pub add_fails : {B : Type 0} (count : ℕ) (edits : List (Edit B)) (first : Reached) (e : EditError) → first ≡ nowhere → count < 2 ^ 64 → IsAddError first.at count e → IsEditError count edits e
+pub add_fails : {B : Type 0} (count : ℕ) (edits : List (Edit B)) (first : EditProgress) (e : EditError) → first ≡ nowhere → count < 2 ^ 64 → IsAddError first.at count e → IsEditError count edits e
 add_fails count edits first (OutOfOrder i) is lt h = absurd h
 add_fails count edits first (PastEnd i) is lt h = absurd h
 add_fails count edits first TooLong is lt h = omega (arith, lt, h, ap (λ r. r.at) is)
 add_fails count edits first OutOfMemory is lt h = tt
 
-pub finish_fails : {B : Type 0} (s : Editing B) (octets front middle : List ℕ) (edits : List (Edit B)) (first : Reached) (e : EditError) → first ≡ nowhere → s.edits ≡ edits
+pub finish_fails : {B : Type 0} (s : Editing B) (octets front middle : List ℕ) (edits : List (Edit B)) (first : EditProgress) (e : EditError) → first ≡ nowhere → s.edits ≡ edits
     → AppliesChunk edits first octets front middle s.reached → AreApart 0 edits → IsFinishError s e → IsEditError (length octets) edits e
 finish_fails s octets front middle edits first (OutOfOrder i) is same p apart h = absurd h
 finish_fails s octets front middle edits first (PastEnd i) is same p apart h =

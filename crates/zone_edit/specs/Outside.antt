@@ -1,7 +1,7 @@
 -- The octets in spans of a text, and those outside of them.
 use Rattle.std.specs.Prelude.{ℕ, ◌+◌, ◌-◌, List, [], ◌∷◌, ◌++◌, length, take, drop}
-use Rattle.dns_split.specs.Pieces.{between}
-use Rattle.dns_split.specs.declared.pieces.Span.{Span}
+use Rattle.dns_lexer.specs.Pieces.{between}
+use Rattle.dns_lexer.specs.declared.pieces.Span.{Span}
 use Rattle.zone_edit.specs.declared.edit.Edit.{Edit}
 use Rattle.zone_edit.specs.Tokens.{span_between}
 

@@ -1,7 +1,7 @@
 -- Texts in which tokens are replaced by tokens.
 use Rattle.std.specs.Prelude.{◌≡◌, ℕ, ◌+◌, ◌⊎◌, true, List, [], ◌∷◌, length}
 use Rattle.dns_symbol.specs.declared.symbol.Symbol.{Symbol}
-use Rattle.dns_split.specs.Lexeme.{Lexeme, Word, Quote, is_lexeme, lexeme_bytes}
+use Rattle.dns_lexer.specs.Lexeme.{Lexeme, Word, Quote, is_lexeme, lexeme_bytes}
 use Rattle.zone_edit.specs.declared.edit.Edit.{Edit}
 
 -- a token that may replace a token: a word for a word, and a quoted string for either

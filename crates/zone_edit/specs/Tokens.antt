@@ -1,7 +1,7 @@
 -- Tokens that are replaced by one.
 use Rattle.std.specs.Prelude.{⊤, ◌≡◌, ◌≤◌, ℕ, zero, suc, ◌+◌, Bool, true, false, not, ◌||◌, ◌==◌, List, [], ◌∷◌, ◌++◌, map}
-use Rattle.dns_split.specs.Pieces.{between}
-use Rattle.dns_split.specs.declared.pieces.Span.{Span}
+use Rattle.dns_lexer.specs.Pieces.{between}
+use Rattle.dns_lexer.specs.declared.pieces.Span.{Span}
 use Rattle.zone_edit.specs.declared.edit.Edit.{Edit}
 use Rattle.zone_edit.specs.declared.tokens.TokenError.{TokenError}
 use Rattle.zone_edit.specs.declared.tokens.TokenError.TheVariants.{OutOfMemory, OutOfOrder}
@@ -35,14 +35,14 @@ AreAfterTokens count at [] = ⊤
 AreAfterTokens count at (t ∷ tokens) = IsAfterToken count at t × AreAfterTokens count t.end tokens
 
 -- tokens are removed, each with what isn't kept between it and the one before
-abbrev pub taken_out : List ℕ → ℕ → List Span → List Span
-taken_out octets at [] = []
-taken_out octets at (t ∷ tokens) = record { start = at + kept_len false (between octets at t.start); end = t.end } ∷ taken_out octets t.end tokens
+abbrev pub removed_spans : List ℕ → ℕ → List Span → List Span
+removed_spans octets at [] = []
+removed_spans octets at (t ∷ tokens) = record { start = at + kept_len false (between octets at t.start); end = t.end } ∷ removed_spans octets t.end tokens
 
 -- the first of them remains a token, with another text
 abbrev pub stretches : List ℕ → List Span → List Span
 stretches octets [] = []
-stretches octets (t ∷ tokens) = t ∷ taken_out octets t.end tokens
+stretches octets (t ∷ tokens) = t ∷ removed_spans octets t.end tokens
 
 -- an allocation failed, or tokens aren't in order
 abbrev pub IsTokenError : ℕ → ℕ → List Span → TokenError → Type 0

@@ -11,7 +11,7 @@ use std::marker::Model;
 
 /// How far edits were applied to a text.
 #[derive(Clone, Copy)]
-pub(crate) struct Reached {
+pub(crate) struct EditProgress {
     /// Number of edits that were applied.
     pub(crate) done: usize,
     /// Offset of the next chunk.
@@ -41,11 +41,11 @@ fn begun_before<'e, B: Allocator>(
 #[tactic(auto, using(crate::proofs::Applying::extends_same))]
 fn append_chunk<A: Allocator, B: Allocator>(
     edits: &[Edit<B>],
-    reached: Reached,
+    reached: EditProgress,
     chunk: &[u8],
     end: usize,
     out: &mut Vec<u8, A>,
-) -> Result<Reached, AllocError>
+) -> Result<EditProgress, AllocError>
     requires end { end ≡ reached.at + length chunk.now }
     requires reached { IsReached edits.now reached }
     ensures applied { IfOk result
@@ -65,7 +65,7 @@ fn append_chunk<A: Allocator, B: Allocator>(
         out.extend_from_slice(&chunk[from - at..])?;
         from = end;
     }
-    Ok(Reached {
+    Ok(EditProgress {
         done,
         at: end,
         from,
@@ -91,7 +91,7 @@ fn append_texts<A: Allocator, B: Allocator>(
 #[tactic(auto, using(crate::proofs::Applying::left_made))]
 fn append_left<A: Allocator, B: Allocator>(
     edits: &[Edit<B>],
-    reached: Reached,
+    reached: EditProgress,
     out: &mut Vec<u8, A>,
 ) -> Result<(), AllocError>
     requires { reached.done ≤ length edits.now }
@@ -106,7 +106,7 @@ fn append_left<A: Allocator, B: Allocator>(
 #[derive(Drop)]
 pub struct Editor<'e, B: Allocator> {
     edits: &'e [Edit<B>],
-    reached: Reached,
+    reached: EditProgress,
 }
 
 impl<'e, B: Allocator> Model for Editor<'e, B> {
@@ -131,7 +131,7 @@ impl<'e, B: Allocator> Editor<'e, B> {
         check_order(edits)?;
         Ok(Editor {
             edits,
-            reached: Reached {
+            reached: EditProgress {
                 done: 0,
                 at: 0,
                 from: 0,

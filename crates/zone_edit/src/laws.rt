@@ -2,10 +2,10 @@
 //! Each function's contract is the law; calling it does nothing.
 ghost use Rattle.std.specs.Prelude.{◌≡◌, ◌++◌, ℕ, List, length, true};
 ghost use Rattle.std.specs.List.{flat_map};
-ghost use Rattle.dns_split.specs.Lexeme.{Lexeme, lexeme_bytes};
-ghost use Rattle.dns_split.specs.Splitting.{Splits, are_lexemes, entries, nests};
+ghost use Rattle.dns_lexer.specs.Lexeme.{Lexeme, lexeme_bytes};
+ghost use Rattle.dns_lexer.specs.Splitting.{Splits, are_lexemes, entries, nests};
 ghost use Rattle.zone_edit.specs.Replaced.{ReplacesTokens};
-ghost use Rattle.zone_edit.specs.declared.editor.Reached.{Reached};
+ghost use Rattle.zone_edit.specs.declared.editor.EditProgress.{EditProgress};
 ghost use Rattle.zone_edit.specs.Chunks.{AppliesChunk};
 ghost use Rattle.zone_edit.specs.Edits.{AreApart, EndWithin, edited};
 ghost use Rattle.zone_edit.specs.Outside.{inside, moved_spans, outside};
@@ -29,7 +29,7 @@ pub fn replacements_are_inside<B: Allocator>(edits: &[Edit<B>])
 
 /// Two chunks edited one after the other are both edited as one chunk.
 pub fn chunks_join<B: Allocator>(edits: &[Edit<B>])
-    ensures { (old middle new : Reached) (first second before between after : List ℕ)
+    ensures { (old middle new : EditProgress) (first second before between after : List ℕ)
         → AppliesChunk edits.now old first before between middle
         → AppliesChunk edits.now middle second between after new
         → AppliesChunk edits.now old (first ++ second) before after new }

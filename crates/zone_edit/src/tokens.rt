@@ -1,9 +1,9 @@
 //! Replaces tokens by one token.
 ghost use Rattle.std.specs.Prelude.{◌≡◌, ◌∷◌, [], ◌++◌, ◌≤◌, ◌↔◌, ◌||◌, IfErr, IsTrue, OnErr, OnOk, false, length, map, not};
-ghost use Rattle.zone_edit.specs.Tokens.{Continues, IsAfterToken, IsTokenError, comment_continues, first_only, is_space, kept_len, no_text, PushesEdit, span_between, spans_of, stretches, taken_out, texts_of};
+ghost use Rattle.zone_edit.specs.Tokens.{Continues, IsAfterToken, IsTokenError, comment_continues, first_only, is_space, kept_len, no_text, PushesEdit, span_between, spans_of, stretches, removed_spans, texts_of};
 
 use crate::edit::Edit;
-use dns_split::pieces::Span;
+use dns_lexer::pieces::Span;
 use std::alloc::{AllocError, Allocator};
 
 /// The error of replacing tokens.
@@ -100,7 +100,7 @@ fn append_taken_out<A: Allocator>(
 ) -> Result<(), TokenError>
     requires { after ≤ length octets.now }
     ensures made { OnOk result (out.new.items
-        ≡ out.old.items ++ taken_out octets.now after tokens.now) }
+        ≡ out.old.items ++ removed_spans octets.now after tokens.now) }
     ensures err { IfErr result (IsTokenError (length octets.now) after tokens.now) }
 {
     let mut at = after;

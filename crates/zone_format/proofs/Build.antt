@@ -6,11 +6,11 @@ use lib.Utf8.{encode}
 use Rattle.std.proofs.lemmas.Bool.{and_parts, and_from}
 use Rattle.std.proofs.lemmas.Grind.{flat_map-append}
 use Rattle.dns_symbol.specs.declared.symbol.Symbol.{Symbol}
-use Rattle.dns_split.specs.Lexeme.{Lexeme, Blank, Line, Open, Close, Note, Word, Quote, lexeme_bytes, is_lexeme}
-use Rattle.dns_split.specs.Splitting.{are_lexemes, may_precede, nests}
-use Rattle.dns_split.specs.Pieces.{begins_blank}
-use Rattle.zone_format.specs.declared.stand.Above.{Above}
-use Rattle.zone_format.specs.declared.stand.Above.TheVariants.{Nothing, Line as AtLine, Gap as AtGap}
+use Rattle.dns_lexer.specs.Lexeme.{Lexeme, Blank, Line, Open, Close, Note, Word, Quote, lexeme_bytes, is_lexeme}
+use Rattle.dns_lexer.specs.Splitting.{are_lexemes, may_precede, nests}
+use Rattle.dns_lexer.specs.Pieces.{begins_blank}
+use Rattle.zone_format.specs.declared.line_state.Above.{Above}
+use Rattle.zone_format.specs.declared.line_state.Above.TheVariants.{Nothing, Line as AtLine, Gap as AtGap}
 use Rattle.zone_format.specs.Marks.{Mark, Feed, lead, shortened}
 use Rattle.zone_format.specs.Marks.{Token as TokenMark, Note as NoteMark, Open as OpenMark, Close as CloseMark}
 use Rattle.zone_format.proofs.Respelling.{count, deep, end_if, first_of, gap_unless, next, respelt, some, space}

@@ -1,10 +1,10 @@
 -- The marks of lexemes that are built are those that were read, with runs of line ends shortened.
 use Rattle.std.proofs.Common.{◌≡◌, ℕ, zero, suc, Bool, true, false, List, [], ◌∷◌, ◌++◌, drop, refl, sym, ap, ◌∙◌}
-use Rattle.dns_split.specs.Lexeme.{Lexeme, Blank, Line, Open, Close, Note, Word, Quote, lexeme_bytes}
-use Rattle.dns_split.specs.Splitting.{nests}
-use Rattle.dns_split.specs.Pieces.{begins_blank}
-use Rattle.zone_format.specs.declared.stand.Above.{Above}
-use Rattle.zone_format.specs.declared.stand.Above.TheVariants.{Nothing, Line as AtLine, Gap as AtGap}
+use Rattle.dns_lexer.specs.Lexeme.{Lexeme, Blank, Line, Open, Close, Note, Word, Quote, lexeme_bytes}
+use Rattle.dns_lexer.specs.Splitting.{nests}
+use Rattle.dns_lexer.specs.Pieces.{begins_blank}
+use Rattle.zone_format.specs.declared.line_state.Above.{Above}
+use Rattle.zone_format.specs.declared.line_state.Above.TheVariants.{Nothing, Line as AtLine, Gap as AtGap}
 use Rattle.zone_format.specs.Form.{blank_below, gap}
 use Rattle.zone_format.specs.Marks.{Mark, Feed, lead, shortened}
 use Rattle.zone_format.specs.Marks.{Token as TokenMark, Note as NoteMark, Open as OpenMark, Close as CloseMark}

@@ -5,7 +5,7 @@ use Rattle.zone_format.specs.declared.columns.Role.{Role}
 use Rattle.zone_format.specs.declared.columns.Role.TheVariants.{Ttl, Class, RecordType}
 use Rattle.zone_format.specs.declared.columns.Turn.{Turn}
 use Rattle.zone_format.specs.declared.columns.Turn.TheVariants.{Edge, Led, Inside, Owned, Head, Typed, Rest}
-use Rattle.zone_format.specs.declared.stand.Stand.{Stand}
+use Rattle.zone_format.specs.declared.line_state.LineState.{LineState}
 use Rattle.zone_format.specs.Columns.{after_token, begins_dollar, first_column, head_after, later_column, moved_by, moved_in, next_eighth, role_of, token_column, width_of}
 use Rattle.zone_format.specs.Form.{gap}
 use Rattle.zone_format.specs.Writing.{LineFits, is_start, pushed_token, token_before}
@@ -53,7 +53,7 @@ longer : (old gap : List ℕ) (n : ℕ) (x new : List ℕ) → new ≡ old ++ ((
 longer old gap n x new e =
     omega (arith, ap length e, length-append old ((gap ++ replicate n 32) ++ x), length-append (gap ++ replicate n 32) x, length-append gap (replicate n 32), blanks_length n)
 
-pub token_fits : (old : List ℕ) (s : Stand) (glued : Bool) (x new : List ℕ) → width_of x ≤ length x → LineFits old s → new ≡ old ++ (token_before s glued x ++ x) → LineFits new (pushed_token s glued x)
+pub token_fits : (old : List ℕ) (s : LineState) (glued : Bool) (x new : List ℕ) → width_of x ≤ length x → LineFits old s → new ≡ old ++ (token_before s glued x ++ x) → LineFits new (pushed_token s glued x)
 token_fits old s glued x new w f e =
     let more = longer old (if is_start s.turn then gap 10 s.above else []) (token_column s.turn s.end glued x - (s.end + 1)) x new e in
     record { moved = moved_far s.turn s.end glued x f.moved; few = omega (arith, more, w, f.few) }

@@ -2,13 +2,13 @@
 use Rattle.std.proofs.Common.{ℕ, zero, suc, ◌≤◌, Bool, List, [], ◌∷◌, ◌++◌, length, take, sym, subst, arith, inl, inr}
 use Rattle.std.specs.Prelude.{⊤, map, Result, Ok, Err, encode_utf8_all}
 use Rattle.std.proofs.lemmas.Bool.{cases_lt}
-use Rattle.dns_split.specs.declared.pieces.Piece.{Piece}
-use Rattle.dns_split.specs.declared.pieces.Piece.TheVariants.{Word as WordAt, Quote as QuoteAt, Comment as CommentAt, End as EndAt}
-use Rattle.dns_split.specs.declared.pieces.Fault.{Fault}
-use Rattle.dns_split.specs.Lexeme.{Lexeme, Blank, Line, Open, Close, Note, Word, Quote}
-use Rattle.dns_split.specs.Pieces.{pieces, begins_blank, IsPieces, Reads, ReadsOctets, EachWithin, moved, place_of}
-use Rattle.dns_split.proofs.PieceMoved.{mono}
-use Rattle.dns_split.proofs.PieceSplit.{split_pieces}
+use Rattle.dns_lexer.specs.declared.pieces.Piece.{Piece}
+use Rattle.dns_lexer.specs.declared.pieces.Piece.TheVariants.{Word as WordAt, Quote as QuoteAt, Comment as CommentAt, End as EndAt}
+use Rattle.dns_lexer.specs.declared.pieces.Fault.{Fault}
+use Rattle.dns_lexer.specs.Lexeme.{Lexeme, Blank, Line, Open, Close, Note, Word, Quote}
+use Rattle.dns_lexer.specs.Pieces.{pieces, begins_blank, IsPieces, Reads, ReadsOctets, EachWithin, moved, place_of}
+use Rattle.dns_lexer.proofs.PieceMoved.{mono}
+use Rattle.dns_lexer.proofs.PieceSplit.{split_pieces}
 
 -- each begins where the one before it ended, or later
 abbrev pub Follows : ℕ → List (Result Piece Fault) → Type 0

@@ -5,19 +5,19 @@ use Rattle.zone_format.specs.declared.columns.Role.{Role}
 use Rattle.zone_format.specs.declared.columns.Role.TheVariants.{Ttl, Class, RecordType}
 use Rattle.zone_format.specs.declared.columns.Turn.{Turn}
 use Rattle.zone_format.specs.declared.columns.Turn.TheVariants.{Edge, Led, Inside, Owned, Head, Typed, Rest}
-use Rattle.zone_format.specs.declared.stand.Above.{Above}
-use Rattle.zone_format.specs.declared.stand.Above.TheVariants.{Nothing, Line}
-use Rattle.zone_format.specs.declared.stand.Stand.{Stand}
+use Rattle.zone_format.specs.declared.line_state.Above.{Above}
+use Rattle.zone_format.specs.declared.line_state.Above.TheVariants.{Nothing, Line}
+use Rattle.zone_format.specs.declared.line_state.LineState.{LineState}
 use Rattle.zone_format.specs.Columns.{after_token, begins_dollar, first_moved, head_after, note_column, parenthesis_column, role_of, token_column, width_of}
 use Rattle.zone_format.specs.Form.{Before, Placed, blank_below, depth_after, form, forms, gap, is_blank_line, led_turn, lines, noted_in, places, start, with_mark, written}
 use Rattle.zone_format.specs.Marks.{Mark, Token, Note, Open, Close, Feed, Lead}
 use Rattle.zone_format.specs.Writing.{is_start, written_from}
 
-abbrev pub stand : Above → ℕ → ℕ → ℕ → Turn → ℕ → Stand
+abbrev pub stand : Above → ℕ → ℕ → ℕ → Turn → ℕ → LineState
 stand a d noted note t e = record { above = a; depth = d; noted = noted; note = note; turn = t; end = e }
 
 -- at the beginning of a text
-abbrev pub first_stand : Stand
+abbrev pub first_stand : LineState
 first_stand = stand Nothing 0 0 0 Edge 0
 
 abbrev pub before_line : ℕ → ℕ → Before

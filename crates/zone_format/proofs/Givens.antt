@@ -1,9 +1,9 @@
 -- The items of the iterator over octets: pieces, or an error after some.
 use Rattle.std.proofs.Common.{◌≡◌, ℕ, ◌≤◌, List, [], ◌∷◌, ◌++◌, length, refl, sym, ap, ◌∙◌, subst, inl, inr}
 use Rattle.std.specs.Prelude.{Option, Some, None, option_map, map, Result, Ok, Err, encode_utf8_all}
-use Rattle.dns_split.specs.declared.pieces.Piece.{Piece}
-use Rattle.dns_split.specs.declared.pieces.Fault.{Fault}
-use Rattle.dns_split.specs.Pieces.{Reads, ReadsOctets, IsFault, IsPieces, IsOctetPieces, EachWithin, moved, moved_piece, moved_fault, place_of}
+use Rattle.dns_lexer.specs.declared.pieces.Piece.{Piece}
+use Rattle.dns_lexer.specs.declared.pieces.Fault.{Fault}
+use Rattle.dns_lexer.specs.Pieces.{Reads, ReadsOctets, IsFault, IsPieces, IsOctetPieces, EachWithin, moved, moved_piece, moved_fault, place_of}
 
 abbrev pub first_fault : List (Result Piece Fault) → Option Fault
 first_fault [] = None

@@ -1,42 +1,42 @@
 -- The rest to write after marks that were written.
 use Rattle.std.proofs.Common.{◌≡◌, ℕ, ◌+◌, ◌-◌, Bool, true, false, ◌&&◌, List, [], ◌∷◌, ◌++◌, refl, sym, ap, ◌∙◌, append_assoc}
 use Rattle.std.specs.Prelude.{if◌then◌else◌}
-use Rattle.zone_format.specs.declared.stand.Stand.{Stand}
+use Rattle.zone_format.specs.declared.line_state.LineState.{LineState}
 use Rattle.zone_format.specs.Marks.{Mark, Token, Note, Open, Close, Feed, Lead, lead}
-use Rattle.zone_format.specs.Writing.{Accepts, Goes, PushesNote, PushesToken, accepts, accepts_from, fed, led, note_before, pushed_note, pushed_parenthesis, pushed_token, stands_after, token_before, written_from}
+use Rattle.zone_format.specs.Writing.{Accepts, WritesMarks, PushesNote, PushesToken, accepts, accepts_from, fed, led, note_before, pushed_note, pushed_parenthesis, pushed_token, state_after, token_before, written_from}
 
 pub written_on : (old before t new rest : List ℕ) → new ≡ old ++ (before ++ t) → new ++ rest ≡ old ++ (before ++ (t ++ rest))
 written_on old before t new rest e = ap (λ l. l ++ rest) e ∙ append_assoc old (before ++ t) rest ∙ ap (λ l. old ++ l) (append_assoc before t rest)
 
 -- one after another
-pub goes_on : (xs ys : List Mark) (a b c : List ℕ) (s t u : Stand) → Goes xs a s b t → Goes ys b t c u → Goes (xs ++ ys) a s c u
+pub goes_on : (xs ys : List Mark) (a b c : List ℕ) (s t u : LineState) → WritesMarks xs a s b t → WritesMarks ys b t c u → WritesMarks (xs ++ ys) a s c u
 goes_on xs ys a b c s t u g h = λ ms. h ms ∙ g (ys ++ ms) ∙ ap (λ l. a ++ written_from s l) (sym (append_assoc xs ys ms))
 
-pub accepts_on : (xs ys : List Mark) (s t u : Stand) → Accepts xs s t → Accepts ys t u → Accepts (xs ++ ys) s u
+pub accepts_on : (xs ys : List Mark) (s t u : LineState) → Accepts xs s t → Accepts ys t u → Accepts (xs ++ ys) s u
 accepts_on xs ys s t u g h = λ ms. h ms ∙ g (ys ++ ms) ∙ ap (accepts_from s) (sym (append_assoc xs ys ms))
 
-pub token_goes : (old : List ℕ) (s : Stand) (glued : Bool) (x new : List ℕ) (u : Stand) → PushesToken old s glued x new u → Goes (Token glued x ∷ []) old s new u
+pub token_goes : (old : List ℕ) (s : LineState) (glued : Bool) (x new : List ℕ) (u : LineState) → PushesToken old s glued x new u → WritesMarks (Token glued x ∷ []) old s new u
 token_goes old s glued x new u p = λ ms. ap (λ v. new ++ written_from v ms) p.stand ∙ written_on old (token_before s glued x) x new (written_from (pushed_token s glued x) ms) p.out
 
-pub token_accepts : (old : List ℕ) (s : Stand) (glued : Bool) (x new : List ℕ) (u : Stand) → accepts s x ≡ true → PushesToken old s glued x new u → Accepts (Token glued x ∷ []) s u
+pub token_accepts : (old : List ℕ) (s : LineState) (glued : Bool) (x new : List ℕ) (u : LineState) → accepts s x ≡ true → PushesToken old s glued x new u → Accepts (Token glued x ∷ []) s u
 token_accepts old s glued x new u a p = λ ms. ap (λ v. accepts_from v ms) p.stand ∙ ap (λ b. b && accepts_from (pushed_token s glued x) ms) (sym a)
 
-pub note_goes : (old : List ℕ) (s : Stand) (x new : List ℕ) (u : Stand) → PushesNote old s x new u → Goes (Note x ∷ []) old s new u
+pub note_goes : (old : List ℕ) (s : LineState) (x new : List ℕ) (u : LineState) → PushesNote old s x new u → WritesMarks (Note x ∷ []) old s new u
 note_goes old s x new u p = λ ms. ap (λ v. new ++ written_from v ms) p.stand ∙ written_on old (note_before s x) x new (written_from (pushed_note s x) ms) p.out
 
-pub note_accepts : (old : List ℕ) (s : Stand) (x new : List ℕ) (u : Stand) → PushesNote old s x new u → Accepts (Note x ∷ []) s u
+pub note_accepts : (old : List ℕ) (s : LineState) (x new : List ℕ) (u : LineState) → PushesNote old s x new u → Accepts (Note x ∷ []) s u
 note_accepts old s x new u p = λ ms. ap (λ v. accepts_from v ms) p.stand
 
-pub lead_goes : (b : Bool) (old : List ℕ) (s u : Stand) → u ≡ (if b then led s else s) → Goes (lead b) old s old u
+pub lead_goes : (b : Bool) (old : List ℕ) (s u : LineState) → u ≡ (if b then led s else s) → WritesMarks (lead b) old s old u
 lead_goes true old s u e = λ ms. ap (λ v. old ++ written_from v ms) e
 lead_goes false old s u e = λ ms. ap (λ v. old ++ written_from v ms) e
 
-pub lead_accepts : (b : Bool) (s u : Stand) → u ≡ (if b then led s else s) → Accepts (lead b) s u
+pub lead_accepts : (b : Bool) (s u : LineState) → u ≡ (if b then led s else s) → Accepts (lead b) s u
 lead_accepts true s u e = λ ms. ap (λ v. accepts_from v ms) e
 lead_accepts false s u e = λ ms. ap (λ v. accepts_from v ms) e
 
 -- the state of writing after marks followed by others
-pub stands_append : (s : Stand) (ms ns : List Mark) → stands_after s (ms ++ ns) ≡ stands_after (stands_after s ms) ns
+pub stands_append : (s : LineState) (ms ns : List Mark) → state_after s (ms ++ ns) ≡ state_after (state_after s ms) ns
 stands_append s [] ns = refl
 stands_append s (Token g t ∷ ms) ns = stands_append (pushed_token s g t) ms ns
 stands_append s (Note t ∷ ms) ns = stands_append (pushed_note s t) ms ns
@@ -45,15 +45,15 @@ stands_append s (Close ∷ ms) ns = stands_append (pushed_parenthesis s (s.depth
 stands_append s (Feed ∷ ms) ns = stands_append (fed s) ms ns
 stands_append s (Lead ∷ ms) ns = stands_append (led s) ms ns
 
-pub stands_on : (xs ys : List Mark) (s t u : Stand) → t ≡ stands_after s xs → u ≡ stands_after t ys → u ≡ stands_after s (xs ++ ys)
-stands_on xs ys s t u g h = h ∙ ap (λ v. stands_after v ys) g ∙ sym (stands_append s xs ys)
+pub stands_on : (xs ys : List Mark) (s t u : LineState) → t ≡ state_after s xs → u ≡ state_after t ys → u ≡ state_after s (xs ++ ys)
+stands_on xs ys s t u g h = h ∙ ap (λ v. state_after v ys) g ∙ sym (stands_append s xs ys)
 
-pub token_stands : (old : List ℕ) (s : Stand) (glued : Bool) (x new : List ℕ) (u : Stand) → PushesToken old s glued x new u → u ≡ stands_after s (Token glued x ∷ [])
+pub token_stands : (old : List ℕ) (s : LineState) (glued : Bool) (x new : List ℕ) (u : LineState) → PushesToken old s glued x new u → u ≡ state_after s (Token glued x ∷ [])
 token_stands old s glued x new u p = p.stand
 
-pub note_stands : (old : List ℕ) (s : Stand) (x new : List ℕ) (u : Stand) → PushesNote old s x new u → u ≡ stands_after s (Note x ∷ [])
+pub note_stands : (old : List ℕ) (s : LineState) (x new : List ℕ) (u : LineState) → PushesNote old s x new u → u ≡ state_after s (Note x ∷ [])
 note_stands old s x new u p = p.stand
 
-pub lead_stands : (b : Bool) (s u : Stand) → u ≡ (if b then led s else s) → u ≡ stands_after s (lead b)
+pub lead_stands : (b : Bool) (s u : LineState) → u ≡ (if b then led s else s) → u ≡ state_after s (lead b)
 lead_stands true s u e = e
 lead_stands false s u e = e

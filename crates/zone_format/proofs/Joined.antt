@@ -5,16 +5,16 @@ use Rattle.std.specs.List.{flat_map}
 use Rattle.std.proofs.lemmas.Bool.{and_parts, eqb-true}
 use Rattle.std.proofs.lemmas.List.{map-append}
 use Rattle.std.proofs.lemmas.Str.{encodes-append}
-use Rattle.dns_split.specs.Lexeme.{Lexeme, Blank, Line, Open, Close, Note, Word, Quote, lexeme_bytes}
-use Rattle.dns_split.specs.Splitting.{are_lexemes, nests}
-use Rattle.dns_split.specs.Pieces.{IsPieces, begins_blank, pieces}
-use Rattle.dns_split.proofs.Joins.{join_bytes, join_lexemes, join_nests, split_joined}
-use Rattle.zone_format.specs.declared.stand.Stand.{Stand}
+use Rattle.dns_lexer.specs.Lexeme.{Lexeme, Blank, Line, Open, Close, Note, Word, Quote, lexeme_bytes}
+use Rattle.dns_lexer.specs.Splitting.{are_lexemes, nests}
+use Rattle.dns_lexer.specs.Pieces.{IsPieces, begins_blank, pieces}
+use Rattle.dns_lexer.proofs.Joins.{join_bytes, join_lexemes, join_nests, split_joined}
+use Rattle.zone_format.specs.declared.line_state.LineState.{LineState}
 use Rattle.zone_format.specs.Blocks.{AreEntries, EndsInLine, resting, seam_of}
 use Rattle.zone_format.specs.Form.{start}
 use Rattle.zone_format.specs.Marks.{Mark, Feed, Lead, HasMarks, lead, shortened}
 use Rattle.zone_format.specs.Marks.{Token as TokenMark, Note as NoteMark, Open as OpenMark, Close as CloseMark}
-use Rattle.zone_format.specs.Writing.{fed, led, pushed_note, pushed_parenthesis, pushed_token, stands_after}
+use Rattle.zone_format.specs.Writing.{fed, led, pushed_note, pushed_parenthesis, pushed_token, state_after}
 use Rattle.zone_format.proofs.Build.{marks_of}
 use Rattle.zone_format.proofs.Reading.{all_is, all_marks}
 use Rattle.zone_format.proofs.Same.{encoded_mark, marks_once, moved_all, octets_have, same_marks}
@@ -94,22 +94,22 @@ rests_encoded (Feed ∷ ms) d f = rests_encoded ms d true
 rests_encoded (Lead ∷ ms) d f = rests_encoded ms d false
 
 -- a line is empty
-record IsFresh (s : Stand) : Type 0 where
+record IsFresh (s : LineState) : Type 0 where
   pub turn : s.turn ≡ start s.depth
   pub note : s.note ≡ 0
   pub end : s.end ≡ 0
 
-no_flag : (s : Stand) → false ≡ true → IsFresh s
+no_flag : (s : LineState) → false ≡ true → IsFresh s
 no_flag s e = cc
 
-at_rest : (s : Stand) → s.depth ≡ 0 → IsFresh s → s ≡ resting (seam_of s)
+at_rest : (s : LineState) → s.depth ≡ 0 → IsFresh s → s ≡ resting (seam_of s)
 at_rest s d f =
     ap (λ n. record { above = s.above; depth = n; noted = s.noted; note = s.note; turn = s.turn; end = s.end }) d
     ∙ ap (λ t. record { above = s.above; depth = 0; noted = s.noted; note = s.note; turn = t; end = s.end }) (f.turn ∙ ap start d)
     ∙ ap (λ n. record { above = s.above; depth = 0; noted = s.noted; note = n; turn = start 0; end = s.end }) f.note
     ∙ ap (λ n. record { above = s.above; depth = 0; noted = s.noted; note = 0; turn = start 0; end = n }) f.end
 
-rested : (ms : List Mark) (s : Stand) (d : ℕ) (f : Bool) → s.depth ≡ d → (f ≡ true → IsFresh s) → rests d f ms ≡ true → stands_after s ms ≡ resting (seam_of (stands_after s ms))
+rested : (ms : List Mark) (s : LineState) (d : ℕ) (f : Bool) → s.depth ≡ d → (f ≡ true → IsFresh s) → rests d f ms ≡ true → state_after s ms ≡ resting (seam_of (state_after s ms))
 rested [] s d f h k r = let p = and_parts f (d == 0) r in at_rest s (h ∙ eqb-true d 0 p.1) (k p.0)
 rested (TokenMark g t ∷ ms) s d f h k r = rested ms (pushed_token s g t) d false h (no_flag _) r
 rested (NoteMark t ∷ ms) s d f h k r = rested ms (pushed_note s t) d false h (no_flag _) r
@@ -156,15 +156,15 @@ line_marked octets l ms h =
     let m = marked octets (ls ++ Line r ∷ []) spelled (join_lexemes ls [] r l.splits.valid refl) (join_nests ls [] r 0 l.splits.nested refl) in
     ap (map encoded_mark) (marks_once octets ms m.0 h m.1) ∙ m.2
 
-pub entries_rest : (octets : List ℕ) (ms : List Mark) (s : Stand) → AreEntries octets → HasMarks octets ms → s ≡ resting (seam_of s) → stands_after s ms ≡ resting (seam_of (stands_after s ms))
+pub entries_rest : (octets : List ℕ) (ms : List Mark) (s : LineState) → AreEntries octets → HasMarks octets ms → s ≡ resting (seam_of s) → state_after s ms ≡ resting (seam_of (state_after s ms))
 entries_rest octets ms s (inl none) h k =
     let nothing : ms ≡ [] = marks_once [] ms [] (subst (λ l. HasMarks l ms) none h) none_marked in
-    ap (stands_after s) nothing ∙ k ∙ ap (λ l. resting (seam_of (stands_after s l))) (sym nothing)
+    ap (state_after s) nothing ∙ k ∙ ap (λ l. resting (seam_of (state_after s l))) (sym nothing)
 entries_rest octets ms s (inr l) h k =
     let is = line_marked octets l ms h in
     let ls = l.splits.lexemes in
     let r : rests 0 true (whole (ls ++ Line l.has_cr ∷ [])) ≡ true = rests_lead (begins_blank (ls ++ Line l.has_cr ∷ [])) true 0 _ (λ g. rests_marks ls l.has_cr false g 0 l.splits.nested) in
-    rested ms s 0 true (ap (λ (t : Stand). t.depth) k) (λ _. fresh) (sym (rests_encoded ms 0 true) ∙ ap (rests 0 true) is ∙ r)
+    rested ms s 0 true (ap (λ (t : LineState). t.depth) k) (λ _. fresh) (sym (rests_encoded ms 0 true) ∙ ap (rests 0 true) is ∙ r)
   where
     fresh : IsFresh s
     fresh = subst IsFresh (sym k) (record { turn = refl; note = refl; end = refl })

@@ -1,11 +1,11 @@
 -- The offset of the unclosed opener.
 use Rattle.std.proofs.Common.{◌≡◌, ℕ, ◌≤◌, List, length, take, drop, subst, arith, length-take-le}
 use Rattle.std.specs.Prelude.{encode_utf8_all}
-use Rattle.dns_split.specs.Pieces.{IsFault, IsWrong, moved_fault, moved_wrong, place_of}
-use Rattle.dns_split.specs.declared.pieces.Fault.{Fault}
-use Rattle.dns_split.specs.declared.pieces.Wrong.{Wrong}
-use Rattle.dns_split.specs.declared.pieces.Wrong.TheVariants.{OpenQuote}
-use Rattle.dns_split.proofs.OctetsOnce.{wrong_within}
+use Rattle.dns_lexer.specs.Pieces.{IsFault, IsWrong, moved_fault, moved_wrong, place_of}
+use Rattle.dns_lexer.specs.declared.pieces.Fault.{Fault}
+use Rattle.dns_lexer.specs.declared.pieces.Wrong.{Wrong}
+use Rattle.dns_lexer.specs.declared.pieces.Wrong.TheVariants.{OpenQuote}
+use Rattle.dns_lexer.proofs.OctetsOnce.{wrong_within}
 
 -- the octets before the error, and what is wrong there
 wrong_is : (octets : List ℕ) (f : Fault) (w : Wrong) → IsFault (encode_utf8_all octets) (moved_fault (place_of octets) f) → f.wrong ≡ w

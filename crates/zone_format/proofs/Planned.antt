@@ -6,9 +6,9 @@ use Rattle.zone_format.specs.declared.columns.Role.{Role}
 use Rattle.zone_format.specs.declared.columns.Role.TheVariants.{Ttl, Class, RecordType}
 use Rattle.zone_format.specs.declared.columns.Turn.{Turn}
 use Rattle.zone_format.specs.declared.columns.Turn.TheVariants.{Edge, Led, Inside, Owned, Head, Typed, Rest}
-use Rattle.zone_format.specs.declared.stand.Above.{Above}
-use Rattle.zone_format.specs.declared.stand.Above.TheVariants.{Nothing, Line}
-use Rattle.zone_format.specs.declared.stand.Stand.{Stand}
+use Rattle.zone_format.specs.declared.line_state.Above.{Above}
+use Rattle.zone_format.specs.declared.line_state.Above.TheVariants.{Nothing, Line}
+use Rattle.zone_format.specs.declared.line_state.LineState.{LineState}
 use Rattle.zone_format.specs.Columns.{after_token, first_column, later_column, next_eighth, note_column, parenthesis_column, parted_column, role_of, token_column, under, has_second, width_of}
 use Rattle.zone_format.specs.Form.{blank_below, gap, led_turn, start}
 use Rattle.zone_format.specs.Marks.{Mark, Token, Note, Open, Close, Feed, Lead}
@@ -19,7 +19,7 @@ use Rattle.zone_format.proofs.Respelling.{count, deep, respelt, some}
 abbrev pub blanks_to : ℕ → ℕ → ℕ
 blanks_to c e = c - (e + 1)
 
-abbrev pub plan_of : Stand → List Mark → List ℕ
+abbrev pub plan_of : LineState → List Mark → List ℕ
 plan_of s [] = []
 plan_of s (Token g x ∷ ms) = blanks_to (token_column s.turn s.end g x) s.end ∷ plan_of (pushed_token s g x) ms
 plan_of s (Note x ∷ ms) = blanks_to (note_column s.noted s.turn s.end x) s.end ∷ plan_of (pushed_note s x) ms
@@ -135,7 +135,7 @@ its_gap b g h = ap (λ c. if c then g else []) h
 abbrev Within : List Mark → Type 0
 Within ms = (a : Above) (d noted note : ℕ) (t : Turn) (e : ℕ) (l : Bool) → is_start t ≡ false → written_from (stand a d noted note t e) ms ≡ respelt (plan_of (stand a d noted note t e) ms) a true d l ms
 
-abbrev pub begin_stand : Above → ℕ → ℕ → Bool → Stand
+abbrev pub begin_stand : Above → ℕ → ℕ → Bool → LineState
 begin_stand a d noted l = stand a d noted 0 (begin_turn (d == 0) l) 0
 
 abbrev Starts : List Mark → Type 0

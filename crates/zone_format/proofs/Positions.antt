@@ -1,6 +1,6 @@
 -- One more octet, and the column.
 use Rattle.std.proofs.Common.{◌≡◌, ℕ, ◌+◌, ◌≤◌, ◌<◌, true, false, ◌==◌, not, List, [], ◌∷◌, ◌++◌, length, take, drop, ◌-◌, get_or, sym, ap, ◌∙◌, arith, append_assoc, cond, eq-eqb, length-take}
-use Rattle.dns_split.specs.declared.position.Position.{Position}
+use Rattle.dns_lexer.specs.declared.position.Position.{Position}
 use Rattle.std.specs.Prelude.{reverse}
 use Rattle.std.specs.List.{count_by, take_while}
 use Rattle.std.proofs.lemmas.List.{take_more, reverse-append, take-append-drop, take_all, length-take-le}

@@ -10,15 +10,15 @@ use Rattle.std.proofs.Math.Seq.{take-add}
 use Rattle.dns_symbol.specs.declared.symbol.Symbol.{Symbol}
 use Rattle.dns_symbol.specs.declared.symbol.Symbol.TheVariants.{Char, SimpleEscape, DecimalEscape}
 use Rattle.dns_symbol.specs.Symbol.{spell, is_word_symbol}
-use Rattle.dns_split.specs.Lexeme.{Lexeme, Blank, Line, Open, Close, Note, Word, Quote, lexeme_bytes}
-use Rattle.dns_split.specs.Splitting.{are_lexemes, may_precede, nests}
-use Rattle.dns_split.specs.Pieces.{pieces, begins_blank, between, IsPieces}
-use Rattle.dns_split.specs.declared.pieces.Piece.{Piece}
-use Rattle.dns_split.specs.Run.{first_blank, is_blank}
-use Rattle.dns_split.specs.Standing.{blank_at}
-use Rattle.dns_split.proofs.PieceLexemes.{first_blank_char, blank_bytes, line_bytes, open_bytes, close_bytes, note_bytes, quote_bytes}
-use Rattle.dns_split.proofs.PieceSplit.{between_is}
-use Rattle.zone_format.specs.declared.stand.Above.TheVariants.{Nothing}
+use Rattle.dns_lexer.specs.Lexeme.{Lexeme, Blank, Line, Open, Close, Note, Word, Quote, lexeme_bytes}
+use Rattle.dns_lexer.specs.Splitting.{are_lexemes, may_precede, nests}
+use Rattle.dns_lexer.specs.Pieces.{pieces, begins_blank, between, IsPieces}
+use Rattle.dns_lexer.specs.declared.pieces.Piece.{Piece}
+use Rattle.dns_lexer.specs.Run.{first_blank, is_blank}
+use Rattle.dns_lexer.specs.CursorStates.{blank_at}
+use Rattle.dns_lexer.proofs.PieceLexemes.{first_blank_char, blank_bytes, line_bytes, open_bytes, close_bytes, note_bytes, quote_bytes}
+use Rattle.dns_lexer.proofs.PieceSplit.{between_is}
+use Rattle.zone_format.specs.declared.line_state.Above.TheVariants.{Nothing}
 use Rattle.zone_format.specs.Marks.{Mark, Feed, gap_mark, gap_marks, lead, marks, shortened}
 use Rattle.zone_format.specs.Marks.{Token as TokenMark, Note as NoteMark, Open as OpenMark, Close as CloseMark}
 use Rattle.zone_format.proofs.Respelling.{respelt, sq}

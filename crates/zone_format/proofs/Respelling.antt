@@ -1,8 +1,8 @@
 -- Marks with any number of blanks before each, and the same marks with runs of line ends shortened.
 use Rattle.std.proofs.Common.{ℕ, zero, suc, ◌+◌, ◌-◌, Bool, true, false, ◌==◌, not, List, [], ◌∷◌, ◌++◌, drop}
 use Rattle.std.specs.Prelude.{replicate}
-use Rattle.zone_format.specs.declared.stand.Above.{Above}
-use Rattle.zone_format.specs.declared.stand.Above.TheVariants.{Line}
+use Rattle.zone_format.specs.declared.line_state.Above.{Above}
+use Rattle.zone_format.specs.declared.line_state.Above.TheVariants.{Line}
 use Rattle.zone_format.specs.Form.{blank_below, gap}
 use Rattle.zone_format.specs.Marks.{Mark, Token, Note, Open, Close, Feed, Lead, lead}
 

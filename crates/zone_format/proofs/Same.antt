@@ -8,19 +8,19 @@ use Rattle.std.proofs.lemmas.Grind.{flat_map-append}
 use Rattle.std.proofs.lemmas.List.{map-append, take-append-drop}
 use Rattle.std.proofs.lemmas.Str.{encode_ascii, encodes-append, encodes_same}
 use Rattle.std.proofs.Math.Seq.{take-add, take-append_seam, drop-append_seam}
-use Rattle.dns_split.specs.declared.pieces.Piece.{Piece}
-use Rattle.dns_split.specs.declared.pieces.Piece.TheVariants.{Word as WordAt, Quote as QuoteAt, Comment as CommentAt, End as EndAt}
-use Rattle.dns_split.specs.declared.pieces.Fault.{Fault}
-use Rattle.dns_split.specs.Pieces.{EachWithin, between, IsPieces, moved, moved_fault, moved_piece, place_of}
-use Rattle.dns_split.specs.Run.{first_blank, run}
-use Rattle.dns_split.specs.Standing.{blank_at}
-use Rattle.dns_split.proofs.PieceLexemes.{first_blank_char, is_high, high_bytes}
-use Rattle.dns_split.proofs.PieceMoved.{mono, octets_run}
-use Rattle.dns_split.proofs.PieceParts.{each_within}
-use Rattle.dns_split.proofs.PieceSplit.{pieces_one_way, same_found}
-use Rattle.dns_split.proofs.PieceWhole.{pieces_run}
-use Rattle.zone_format.specs.declared.stand.Above.{Above}
-use Rattle.zone_format.specs.declared.stand.Above.TheVariants.{Nothing, Line, Gap}
+use Rattle.dns_lexer.specs.declared.pieces.Piece.{Piece}
+use Rattle.dns_lexer.specs.declared.pieces.Piece.TheVariants.{Word as WordAt, Quote as QuoteAt, Comment as CommentAt, End as EndAt}
+use Rattle.dns_lexer.specs.declared.pieces.Fault.{Fault}
+use Rattle.dns_lexer.specs.Pieces.{EachWithin, between, IsPieces, moved, moved_fault, moved_piece, place_of}
+use Rattle.dns_lexer.specs.Run.{first_blank, run}
+use Rattle.dns_lexer.specs.CursorStates.{blank_at}
+use Rattle.dns_lexer.proofs.PieceLexemes.{first_blank_char, is_high, high_bytes}
+use Rattle.dns_lexer.proofs.PieceMoved.{mono, octets_run}
+use Rattle.dns_lexer.proofs.PieceParts.{each_within}
+use Rattle.dns_lexer.proofs.PieceSplit.{pieces_one_way, same_found}
+use Rattle.dns_lexer.proofs.PieceWhole.{pieces_run}
+use Rattle.zone_format.specs.declared.line_state.Above.{Above}
+use Rattle.zone_format.specs.declared.line_state.Above.TheVariants.{Nothing, Line, Gap}
 use Rattle.zone_format.specs.Marks.{Mark, Feed, Lead, HasMarks, gap_mark, gap_marks, lead, marks, shortened}
 use Rattle.zone_format.specs.Marks.{Token as TokenMark, Note as NoteMark, Open as OpenMark, Close as CloseMark}
 use Rattle.zone_format.proofs.Givens.{first_fault, pieces_in, all_ok, moved_first, moved_oks, first_of_oks}

@@ -3,22 +3,22 @@ use Rattle.std.proofs.Common.{◌≡◌, ℕ, ◌+◌, ◌-◌, true, false, ◌
 use Rattle.std.proofs.lemmas.Bool.{and_parts}
 use Rattle.dns_symbol.specs.Characters.{open_parenthesis, close_parenthesis}
 use Rattle.zone_format.specs.declared.columns.Turn.TheVariants.{Edge}
-use Rattle.zone_format.specs.declared.stand.Above.{Above}
-use Rattle.zone_format.specs.declared.stand.Above.TheVariants.{Nothing, Line, Gap}
-use Rattle.zone_format.specs.declared.stand.Seam.{Seam}
-use Rattle.zone_format.specs.declared.stand.Stand.{Stand}
+use Rattle.zone_format.specs.declared.line_state.Above.{Above}
+use Rattle.zone_format.specs.declared.line_state.Above.TheVariants.{Nothing, Line, Gap}
+use Rattle.zone_format.specs.declared.line_state.FormatState.{FormatState}
+use Rattle.zone_format.specs.declared.line_state.LineState.{LineState}
 use Rattle.zone_format.specs.Blocks.{FormatsEntries, FormatsLast, FormedTo, WritesBelow, below_seam, first_seam, may_follow, resting, seam_of}
 use Rattle.zone_format.specs.Form.{form, forms, lines}
 use Rattle.zone_format.specs.Formats.{Formats}
 use Rattle.zone_format.specs.Marks.{Mark, Token, Note, Open, Close, Feed, Lead}
 use Rattle.zone_format.specs.Refusal.{has_form}
-use Rattle.zone_format.specs.Writing.{accepts, accepts_from, last_line_end, fed, led, note_before, parenthesis_before, pushed_note, pushed_parenthesis, pushed_token, stands_after, token_before, written_from}
+use Rattle.zone_format.specs.Writing.{accepts, accepts_from, last_line_end, fed, led, note_before, parenthesis_before, pushed_note, pushed_parenthesis, pushed_token, state_after, token_before, written_from}
 use Rattle.zone_format.proofs.Accepted.{accepted, settled}
 use Rattle.zone_format.proofs.Formed.{both, from_start}
 use Rattle.zone_format.proofs.Joined.{entries_join, entries_rest, marks_join, none_marked}
 
 -- what is written of marks before others
-abbrev written_to : Stand → List Mark → List ℕ
+abbrev written_to : LineState → List Mark → List ℕ
 written_to s [] = []
 written_to s (Token glued t ∷ ms) = token_before s glued t ++ (t ++ written_to (pushed_token s glued t) ms)
 written_to s (Note t ∷ ms) = note_before s t ++ (t ++ written_to (pushed_note s t) ms)
@@ -33,7 +33,7 @@ two a b c d e h = ap (λ l. a ++ (b ++ l)) h ∙ ap (λ l. a ++ l) (sym (append_
 one : (a c d e : List ℕ) → d ≡ c ++ e → a ++ d ≡ (a ++ c) ++ e
 one a c d e h = ap (λ l. a ++ l) h ∙ sym (append_assoc a c e)
 
-parted : (ms more : List Mark) (s : Stand) → written_from s (ms ++ more) ≡ written_to s ms ++ written_from (stands_after s ms) more
+parted : (ms more : List Mark) (s : LineState) → written_from s (ms ++ more) ≡ written_to s ms ++ written_from (state_after s ms) more
 parted [] more s = refl
 parted (Token g t ∷ ms) more s = two (token_before s g t) t _ _ _ (parted ms more (pushed_token s g t))
 parted (Note t ∷ ms) more s = two (note_before s t) t _ _ _ (parted ms more (pushed_note s t))
@@ -43,7 +43,7 @@ parted (Feed ∷ ms) more s = one (last_line_end s) _ _ _ (parted ms more (fed s
 parted (Lead ∷ ms) more s = parted ms more (led s)
 
 -- and accepted
-accepts_parted : (ms more : List Mark) (s : Stand) → accepts_from s ms ≡ true → accepts_from s (ms ++ more) ≡ accepts_from (stands_after s ms) more
+accepts_parted : (ms more : List Mark) (s : LineState) → accepts_from s ms ≡ true → accepts_from s (ms ++ more) ≡ accepts_from (state_after s ms) more
 accepts_parted [] more s h = refl
 accepts_parted (Token g t ∷ ms) more s h =
     let p = and_parts (accepts s t) (accepts_from (pushed_token s g t) ms) h in
@@ -55,7 +55,7 @@ accepts_parted (Feed ∷ ms) more s h = accepts_parted ms more (fed s) h
 accepts_parted (Lead ∷ ms) more s h = accepts_parted ms more (led s) h
 
 -- below a seam
-below : (s : Seam) (ms : List Mark) → written_from (resting s) ms ≡ forms s.above (below_seam s) (lines ms)
+below : (s : FormatState) (ms : List Mark) → written_from (resting s) ms ≡ forms s.above (below_seam s) (lines ms)
 below s ms = from_start ms (both ms).1 s.above 0 s.noted
 
 follows : (a : Above) (noted : ℕ) (ms : List Mark) → accepts_from (record { above = a; depth = 0; noted = noted; note = 0; turn = Edge; end = 0 }) ms ≡ may_follow a ms
@@ -67,7 +67,7 @@ pub none_formed : FormedTo [] [] first_seam
 none_formed = record { marks = []; read = none_marked; entries = inl refl; formed = λ more. refl; fit = λ more. refl }
 
 -- one more block
-module _ (octets : List ℕ) (s : Seam) (old new : List ℕ) (t : Stand) (w : WritesBelow octets s old new t) where
+module _ (octets : List ℕ) (s : FormatState) (old new : List ℕ) (t : LineState) (w : WritesBelow octets s old new t) where
   abbrev here : List ℕ
   here = written_from (resting s) w.marks
 

@@ -5,9 +5,9 @@ use Rattle.std.specs.List.{list_all}
 use lib.Utf8.{encode}
 use Rattle.std.proofs.lemmas.Bool.{and_parts, and_from, cases_lt, leb-true, ne_eqb, or_from}
 use Rattle.std.proofs.lemmas.Str.{encode_ascii}
-use Rattle.dns_split.specs.Lexeme.{Note, lexeme_bytes, is_lexeme, is_note_char}
-use Rattle.dns_split.specs.Run.{is_blank}
-use Rattle.dns_split.proofs.PieceLexemes.{is_high, high_bytes, first_high}
+use Rattle.dns_lexer.specs.Lexeme.{Note, lexeme_bytes, is_lexeme, is_note_char}
+use Rattle.dns_lexer.specs.Run.{is_blank}
+use Rattle.dns_lexer.proofs.PieceLexemes.{is_high, high_bytes, first_high}
 use Rattle.zone_format.specs.Marks.{is_none, shortened}
 
 abbrev short_step : Bool → ℕ → List ℕ → List ℕ

@@ -2,7 +2,7 @@
 use Rattle.std.proofs.Common.{◌≡◌, ℕ, suc, ◌+◌, ◌<◌, Bool, true, false, ◌&&◌, List, [], ◌∷◌, ◌++◌, length, take, get_or, refl, sym, ap, ◌∙◌, arith}
 use Rattle.std.specs.Prelude.{if◌then◌else◌}
 use Rattle.std.proofs.Math.Seq.{take-suc}
-use Rattle.dns_split.specs.Run.{is_blank}
+use Rattle.dns_lexer.specs.Run.{is_blank}
 use Rattle.zone_format.specs.Marks.{is_none, shortened}
 
 abbrev short_step : Bool → ℕ → List ℕ → List ℕ

@@ -1,6 +1,6 @@
 -- The spelling of tokens and comments, an octet after another.
 use Rattle.std.proofs.Common.{◌≡◌, ℕ, zero, suc, ◌+◌, ◌<◌, ◌≤◌, ◌==◌, Bool, true, false, ◌&&◌, ◌||◌, List, [], ◌∷◌, length, drop, get_or, refl, sym, ap, ◌∙◌, arith, drop-cons}
-use Rattle.dns_split.specs.Run.{is_blank}
+use Rattle.dns_lexer.specs.Run.{is_blank}
 use Rattle.zone_format.specs.Columns.{has_second, spells}
 
 pub other_length : (ls cs : List ℕ) → (length ls ≡ length cs → ⊥) → spells ls cs ≡ false

@@ -1,8 +1,8 @@
 -- Marks with runs of line ends shortened are those of the lines.
 use Rattle.std.proofs.Common.{◌≡◌, Bool, true, false, ◌||◌, List, [], ◌∷◌, ◌++◌, refl, sym, ap, ◌∙◌}
 use Rattle.std.specs.Prelude.{if◌then◌else◌}
-use Rattle.zone_format.specs.declared.stand.Above.{Above}
-use Rattle.zone_format.specs.declared.stand.Above.TheVariants.{Nothing, Line, Gap}
+use Rattle.zone_format.specs.declared.line_state.Above.{Above}
+use Rattle.zone_format.specs.declared.line_state.Above.TheVariants.{Nothing, Line, Gap}
 use Rattle.zone_format.specs.Form.{blank_below, gap, is_blank_line, lines}
 use Rattle.zone_format.specs.Marks.{Mark, Token, Note, Open, Close, Feed, Lead, lead}
 use Rattle.zone_format.specs.Squeezed.{begins_led, squeezed, squeezed_lines, things}

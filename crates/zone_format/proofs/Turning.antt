@@ -2,22 +2,22 @@
 use Rattle.std.proofs.Common.{◌≡◌, ℕ, ◌-◌, ◌<◌, ◌≤◌, ◌==◌, Bool, true, false, ◌&&◌, List, [], ◌∷◌, ◌++◌, length, drop, get_or, refl, sym, ap, ◌∙◌, subst, arith, inr, append_assoc}
 use Rattle.std.specs.Prelude.{if◌then◌else◌, Result, Ok}
 use Rattle.std.proofs.lemmas.List.{get_or-take, get_or-drop, length-take}
-use Rattle.dns_split.specs.declared.pieces.EndOfEntry.{EndOfEntry}
-use Rattle.dns_split.specs.declared.pieces.Piece.{Piece}
-use Rattle.dns_split.specs.declared.pieces.Piece.TheVariants.{Word as WordAt, Quote as QuoteAt, Comment as CommentAt, End as EndAt}
-use Rattle.dns_split.specs.declared.pieces.Fault.{Fault}
-use Rattle.dns_split.specs.declared.pieces.Span.{Span}
-use Rattle.dns_split.specs.Pieces.{EachWithin, IsGiven, between}
-use Rattle.dns_split.specs.Standing.{blank_at}
+use Rattle.dns_lexer.specs.declared.pieces.EndOfEntry.{EndOfEntry}
+use Rattle.dns_lexer.specs.declared.pieces.Piece.{Piece}
+use Rattle.dns_lexer.specs.declared.pieces.Piece.TheVariants.{Word as WordAt, Quote as QuoteAt, Comment as CommentAt, End as EndAt}
+use Rattle.dns_lexer.specs.declared.pieces.Fault.{Fault}
+use Rattle.dns_lexer.specs.declared.pieces.Span.{Span}
+use Rattle.dns_lexer.specs.Pieces.{EachWithin, AreItemsOf, between}
+use Rattle.dns_lexer.specs.CursorStates.{blank_at}
 use Rattle.zone_format.specs.declared.format.Progress.{Progress}
 use Rattle.zone_format.specs.declared.refusal.Refusal.{Refusal}
 use Rattle.zone_format.specs.declared.refusal.Refusal.TheVariants.{Wrong, Nul, OrderMark, OutOfMemory}
-use Rattle.zone_format.specs.declared.stand.Stand.{Stand}
-use Rattle.zone_format.specs.declared.stand.Seam.{Seam}
+use Rattle.zone_format.specs.declared.line_state.LineState.{LineState}
+use Rattle.zone_format.specs.declared.line_state.FormatState.{FormatState}
 use Rattle.zone_format.specs.Blocks.{resting}
 use Rattle.zone_format.specs.Marks.{Mark, Token, Note, Lead, gap_marks, lead, marks, shortened}
 use Rattle.zone_format.specs.Refusal.{HasToken, IsWithoutForm, IsUnfit, begins_order_mark}
-use Rattle.zone_format.specs.Writing.{Advances, LineFits, Reaches, WritesEnd, WritesNote, WritesToken, accepts_from, led, stands_after, written_from}
+use Rattle.zone_format.specs.Writing.{Advances, LineFits, Reaches, WritesEnd, WritesNote, WritesToken, accepts_from, led, state_after, written_from}
 use Rattle.zone_format.proofs.Follow.{Follows}
 use Rattle.zone_format.proofs.Going.{stands_append}
 use Rattle.zone_format.proofs.Givens.{first_fault, pieces_in}
@@ -29,7 +29,7 @@ pub record Stays (octets : List ℕ) (all : List (Result Piece Fault)) (old : Li
   pub tokens : (s e : ℕ) → HasToken s e rest → HasToken s e all
   pub fits : LineFits new p.stand
   pub reaches : Reaches octets p
-  pub stand : stands_after p.stand (marks octets p.is_token p.at (pieces_in rest)) ≡ stands_after from.stand (marks octets from.is_token from.at (pieces_in all))
+  pub stand : state_after p.stand (marks octets p.is_token p.at (pieces_in rest)) ≡ state_after from.stand (marks octets from.is_token from.at (pieces_in all))
   pub out : new ++ written_from p.stand (marks octets p.is_token p.at (pieces_in rest)) ≡ old ++ written_from from.stand (marks octets from.is_token from.at (pieces_in all))
   pub accepted : accepts_from p.stand (marks octets p.is_token p.at (pieces_in rest)) ≡ accepts_from from.stand (marks octets from.is_token from.at (pieces_in all))
 
@@ -45,9 +45,9 @@ accepted_after octets ms old p to tied new q ps a =
     ap (λ b. accepts_from q.stand (marks octets b q.at ps)) a.is_token ∙ ap (λ n. accepts_from q.stand (marks octets tied n ps)) a.at ∙ a.accepts (marks octets tied to ps)
 
 stand_after : (octets : List ℕ) (ms : List Mark) (old : List ℕ) (p : Progress) (to : ℕ) (tied : Bool) (new : List ℕ) (q : Progress) (ps : List Piece) → Advances octets ms old p to tied new q
-    → stands_after q.stand (marks octets q.is_token q.at ps) ≡ stands_after p.stand (ms ++ marks octets tied to ps)
+    → state_after q.stand (marks octets q.is_token q.at ps) ≡ state_after p.stand (ms ++ marks octets tied to ps)
 stand_after octets ms old p to tied new q ps a =
-    ap (λ b. stands_after q.stand (marks octets b q.at ps)) a.is_token ∙ ap (λ n. stands_after q.stand (marks octets tied n ps)) a.at ∙ ap (λ s. stands_after s (marks octets tied to ps)) a.stand
+    ap (λ b. state_after q.stand (marks octets b q.at ps)) a.is_token ∙ ap (λ n. state_after q.stand (marks octets tied n ps)) a.at ∙ ap (λ s. state_after s (marks octets tied to ps)) a.stand
     ∙ sym (stands_append p.stand ms (marks octets tied to ps))
 
 stays : (octets : List ℕ) (all : List (Result Piece Fault)) (old : List ℕ) (from : Progress) (x : Piece) (rest : List (Result Piece Fault)) (mid : List ℕ) (p : Progress) (ms : List Mark) (to : ℕ) (tied : Bool) (new : List ℕ) (q : Progress)
@@ -61,7 +61,7 @@ stays octets all old from x rest mid p ms to tied new q h a e f t = record {
   tokens = λ s e k. h.tokens s e (t s e k);
   fits = a.fits;
   reaches = a.reaches;
-  stand = stand_after octets ms mid p to tied new q (pieces_in rest) a ∙ ap (stands_after p.stand) e ∙ h.stand;
+  stand = stand_after octets ms mid p to tied new q (pieces_in rest) a ∙ ap (state_after p.stand) e ∙ h.stand;
   out = written_after octets ms mid p to tied new q (pieces_in rest) a ∙ ap (λ l. mid ++ written_from p.stand l) e ∙ h.out;
   accepted = accepted_after octets ms mid p to tied new q (pieces_in rest) a ∙ ap (accepts_from p.stand) e ∙ h.accepted;
 }
@@ -91,7 +91,7 @@ stays_end octets all old from x rest mid p new q h a =
     (append_assoc (gap_marks octets p.at x.at) (lead (blank_at octets x.at)) (marks octets false x.at (pieces_in rest))) h.order.1 (λ s e k. k)
 
 -- a token that may not be written
-pub unfit_refused : (octets : List ℕ) (s e : ℕ) (given : List (Result Piece Fault)) → IsGiven octets given → HasToken s e given → s ≤ e → e ≤ length octets
+pub unfit_refused : (octets : List ℕ) (s e : ℕ) (given : List (Result Piece Fault)) → AreItemsOf octets given → HasToken s e given → s ≤ e → e ≤ length octets
     → (r : Refusal) → IsUnfit (between octets s e) s r → IsWithoutForm octets r
 unfit_refused octets s e given i k o w (Wrong f) u = absurd u
 unfit_refused octets s e given i k o w (Nul at) u =
@@ -115,28 +115,28 @@ unfit_refused octets s e given i k o w (OrderMark at) u = (
 unfit_refused octets s e given i k o w OutOfMemory u = tt
 
 -- the beginning
-first_is : (b c : Bool) (s t z : Stand) → t ≡ z → s ≡ (if b then led t else t) → b ≡ c → s ≡ (if c then led z else z)
+first_is : (b c : Bool) (s t z : LineState) → t ≡ z → s ≡ (if b then led t else t) → b ≡ c → s ≡ (if c then led z else z)
 first_is b c s t z e f g = f ∙ ap (λ y. if y then led t else t) g ∙ ap (λ x. if c then led x else x) e
 
-led_fits : (c : Bool) (octets : List ℕ) (m : Seam) → LineFits octets (if c then led (resting m) else resting m)
+led_fits : (c : Bool) (octets : List ℕ) (m : FormatState) → LineFits octets (if c then led (resting m) else resting m)
 led_fits true octets m = record { moved = omega arith; few = omega arith }
 led_fits false octets m = record { moved = omega arith; few = omega arith }
 
-pub first_fits : (octets : List ℕ) (b c : Bool) (s t : Stand) (m : Seam) → t ≡ resting m → s ≡ (if b then led t else t) → b ≡ c → LineFits octets s
+pub first_fits : (octets : List ℕ) (b c : Bool) (s t : LineState) (m : FormatState) → t ≡ resting m → s ≡ (if b then led t else t) → b ≡ c → LineFits octets s
 first_fits octets b c s t m e f g = subst (LineFits octets) (sym (first_is b c s t (resting m) e f g)) (led_fits c octets m)
 
-led_reaches : (c : Bool) (octets : List ℕ) (m : Seam) → Reaches octets (record { stand = if c then led (resting m) else resting m; at = 0; is_token = false })
+led_reaches : (c : Bool) (octets : List ℕ) (m : FormatState) → Reaches octets (record { stand = if c then led (resting m) else resting m; at = 0; is_token = false })
 led_reaches true octets m = record { within = omega arith; depth = omega arith }
 led_reaches false octets m = record { within = omega arith; depth = omega arith }
 
-pub first_reaches : (octets : List ℕ) (b c : Bool) (s t : Stand) (m : Seam) → t ≡ resting m → s ≡ (if b then led t else t) → b ≡ c → Reaches octets (record { stand = s; at = 0; is_token = false })
-first_reaches octets b c s t m e f g = subst (λ (x : Stand). Reaches octets (record { stand = x; at = 0; is_token = false })) (sym (first_is b c s t (resting m) e f g)) (led_reaches c octets m)
+pub first_reaches : (octets : List ℕ) (b c : Bool) (s t : LineState) (m : FormatState) → t ≡ resting m → s ≡ (if b then led t else t) → b ≡ c → Reaches octets (record { stand = s; at = 0; is_token = false })
+first_reaches octets b c s t m e f g = subst (λ (x : LineState). Reaches octets (record { stand = x; at = 0; is_token = false })) (sym (first_is b c s t (resting m) e f g)) (led_reaches c octets m)
 
 -- what continues from there continues after the blank that an entry begins with
-module _ {A : Type 0} (goes : Stand → List Mark → A) (led_on : (s : Stand) (ms : List Mark) → goes (led s) ms ≡ goes s (Lead ∷ ms)) where
-  led_goes : (c : Bool) (z : Stand) (ms : List Mark) → goes (if c then led z else z) ms ≡ goes z (lead c ++ ms)
+module _ {A : Type 0} (goes : LineState → List Mark → A) (led_on : (s : LineState) (ms : List Mark) → goes (led s) ms ≡ goes s (Lead ∷ ms)) where
+  led_goes : (c : Bool) (z : LineState) (ms : List Mark) → goes (if c then led z else z) ms ≡ goes z (lead c ++ ms)
   led_goes true z ms = led_on z ms
   led_goes false z ms = refl
 
-  pub first_goes : (b c : Bool) (s t z : Stand) (ms : List Mark) → t ≡ z → s ≡ (if b then led t else t) → b ≡ c → goes s ms ≡ goes z (lead c ++ ms)
+  pub first_goes : (b c : Bool) (s t z : LineState) (ms : List Mark) → t ≡ z → s ≡ (if b then led t else t) → b ≡ c → goes s ms ≡ goes z (lead c ++ ms)
   first_goes b c s t z ms e f g = ap (λ x. goes x ms) (first_is b c s t z e f g) ∙ led_goes c z ms

@@ -1,18 +1,18 @@
 -- Zone files that are formatted in blocks of whole entries.
 use Rattle.std.specs.Prelude.{◌≡◌, ◌⊎◌, ℕ, true, Bool, List, [], ◌++◌, encode_utf8_all}
 use Rattle.std.specs.List.{list_all}
-use Rattle.dns_split.specs.Lexeme.{Line, lexeme_bytes}
-use Rattle.dns_split.specs.Splitting.{Entries, Splits}
+use Rattle.dns_lexer.specs.Lexeme.{Line, lexeme_bytes}
+use Rattle.dns_lexer.specs.Splitting.{Entries, Splits}
 use Rattle.zone_format.specs.declared.columns.Turn.TheVariants.{Edge}
-use Rattle.zone_format.specs.declared.stand.Above.{Above}
-use Rattle.zone_format.specs.declared.stand.Above.TheVariants.{Nothing}
-use Rattle.zone_format.specs.declared.stand.Seam.{Seam}
-use Rattle.zone_format.specs.declared.stand.Stand.{Stand}
+use Rattle.zone_format.specs.declared.line_state.Above.{Above}
+use Rattle.zone_format.specs.declared.line_state.Above.TheVariants.{Nothing}
+use Rattle.zone_format.specs.declared.line_state.FormatState.{FormatState}
+use Rattle.zone_format.specs.declared.line_state.LineState.{LineState}
 use Rattle.zone_format.specs.Form.{Before, form, forms, lines}
 use Rattle.zone_format.specs.Formats.{Formats}
 use Rattle.zone_format.specs.Marks.{Mark, HasMarks}
 use Rattle.zone_format.specs.Refusal.{has_form, mark_has_no_nul}
-use Rattle.zone_format.specs.Writing.{accepts_from, last_line_end, stands_after, written_from}
+use Rattle.zone_format.specs.Writing.{accepts_from, last_line_end, state_after, written_from}
 
 -- octets are of the grammar, followed by a line end
 pub record EndsInLine (octets : List ℕ) : Type 0 where
@@ -26,11 +26,11 @@ pub record EndsInLine (octets : List ℕ) : Type 0 where
 abbrev pub AreEntries : List ℕ → Type 0
 AreEntries octets = (octets ≡ []) ⊎ EndsInLine octets
 
-abbrev pub first_seam : Seam
+abbrev pub first_seam : FormatState
 first_seam = record { above = Nothing; noted = 0 }
 
 -- a line begins after a seam, outside parentheses
-abbrev pub below_seam : Seam → Before
+abbrev pub below_seam : FormatState → Before
 below_seam s = record { depth = 0; noted = s.noted }
 
 -- what follows has a form: like a separate text if there is nothing above, and else without NUL outside comments
@@ -39,7 +39,7 @@ may_follow Nothing ms = has_form ms
 may_follow _ ms = list_all mark_has_no_nul ms
 
 -- this was written of whole entries: whatever follows them, the form of all is that and then the form of the lines that follow below the seam
-pub record FormedTo (octets out : List ℕ) (s : Seam) : Type 0 where
+pub record FormedTo (octets out : List ℕ) (s : FormatState) : Type 0 where
   pub marks : List Mark
   pub read : HasMarks octets marks
   pub entries : AreEntries octets
@@ -47,24 +47,24 @@ pub record FormedTo (octets out : List ℕ) (s : Seam) : Type 0 where
   pub fit : (more : List Mark) → has_form (marks ++ more) ≡ may_follow s.above more
 
 -- one more block was formatted
-abbrev pub FormatsEntries : List ℕ → Seam → List ℕ → List ℕ → Seam → Type 0
+abbrev pub FormatsEntries : List ℕ → FormatState → List ℕ → List ℕ → FormatState → Type 0
 FormatsEntries octets s old new t = AreEntries octets → (more : List ℕ) × (new ≡ old ++ more) × ((all out : List ℕ) → FormedTo all out s → FormedTo (all ++ octets) (out ++ more) t)
 
 -- the last block was formatted, and so all
-abbrev pub FormatsLast : List ℕ → Seam → List ℕ → List ℕ → Type 0
+abbrev pub FormatsLast : List ℕ → FormatState → List ℕ → List ℕ → Type 0
 FormatsLast octets s old new = (more : List ℕ) × (new ≡ old ++ more) × ((all out : List ℕ) → FormedTo all out s → Formats (all ++ octets) [] (out ++ more))
 
 -- the state of writing after a seam
-abbrev pub resting : Seam → Stand
+abbrev pub resting : FormatState → LineState
 resting s = record { above = s.above; depth = 0; noted = s.noted; note = 0; turn = Edge; end = 0 }
 
-abbrev pub seam_of : Stand → Seam
+abbrev pub seam_of : LineState → FormatState
 seam_of s = record { above = s.above; noted = s.noted }
 
 -- the marks of octets were written below a seam
-pub record WritesBelow (octets : List ℕ) (s : Seam) (old new : List ℕ) (t : Stand) : Type 0 where
+pub record WritesBelow (octets : List ℕ) (s : FormatState) (old new : List ℕ) (t : LineState) : Type 0 where
   pub marks : List Mark
   pub read : HasMarks octets marks
   pub accepted : accepts_from (resting s) marks ≡ true
   pub out : new ++ last_line_end t ≡ old ++ written_from (resting s) marks
-  pub stand : t ≡ stands_after (resting s) marks
+  pub stand : t ≡ state_after (resting s) marks

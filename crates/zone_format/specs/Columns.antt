@@ -3,7 +3,7 @@ use Rattle.std.specs.Prelude.{ℕ, ◌+◌, ◌-◌, ◌*◌, ◌/◌, max, Bool
 use Rattle.std.specs.List.{count_by, list_all}
 use Rattle.dns_symbol.specs.Characters.{semicolon}
 use Rattle.dns_symbol.specs.Symbol.{is_digit}
-use Rattle.dns_split.specs.Run.{is_blank}
+use Rattle.dns_lexer.specs.Run.{is_blank}
 use Rattle.zone_format.specs.Place.{begins_character}
 use Rattle.zone_format.specs.declared.columns.Role.{Role}
 use Rattle.zone_format.specs.declared.columns.Role.TheVariants.{Ttl, Class, RecordType}

@@ -3,8 +3,8 @@ use Rattle.std.specs.Prelude.{ℕ, ◌+◌, ◌-◌, Bool, true, false, if◌the
 use Rattle.dns_symbol.specs.Characters.{line_feed, space as blank, open_parenthesis, close_parenthesis}
 use Rattle.zone_format.specs.declared.columns.Turn.{Turn}
 use Rattle.zone_format.specs.declared.columns.Turn.TheVariants.{Edge, Led, Inside, Rest}
-use Rattle.zone_format.specs.declared.stand.Above.{Above}
-use Rattle.zone_format.specs.declared.stand.Above.TheVariants.{Nothing, Line, Gap}
+use Rattle.zone_format.specs.declared.line_state.Above.{Above}
+use Rattle.zone_format.specs.declared.line_state.Above.TheVariants.{Nothing, Line, Gap}
 use Rattle.zone_format.specs.Columns.{width_of, token_column, after_token, parenthesis_column, note_column}
 use Rattle.zone_format.specs.Marks.{Mark, Token, Note, Open, Close, Feed, Lead}
 

@@ -2,11 +2,11 @@
 use Rattle.std.specs.Prelude.{◌≡◌, ℕ, Bool, true, false, if◌then◌else◌, ◌==◌, ◌&&◌, List, [], ◌∷◌, ◌++◌, length, map, Ok}
 use Rattle.std.specs.List.{flat_map}
 use Rattle.dns_symbol.specs.Characters.{line_feed, open_parenthesis, close_parenthesis}
-use Rattle.dns_split.specs.Pieces.{EachWithin, IsOctetPieces, between}
-use Rattle.dns_split.specs.Run.{is_blank}
-use Rattle.dns_split.specs.declared.pieces.Piece.{Piece}
-use Rattle.dns_split.specs.declared.pieces.Piece.TheVariants.{Word as WordAt, Quote as QuoteAt, Comment as CommentAt, End as EndAt}
-use Rattle.dns_split.specs.Standing.{blank_at}
+use Rattle.dns_lexer.specs.Pieces.{EachWithin, IsOctetPieces, between}
+use Rattle.dns_lexer.specs.Run.{is_blank}
+use Rattle.dns_lexer.specs.declared.pieces.Piece.{Piece}
+use Rattle.dns_lexer.specs.declared.pieces.Piece.TheVariants.{Word as WordAt, Quote as QuoteAt, Comment as CommentAt, End as EndAt}
+use Rattle.dns_lexer.specs.CursorStates.{blank_at}
 
 -- a token as it is spelled, a comment, a parenthesis, a line end, and a blank that an entry begins with; a token is glued if the one before it ends where it begins
 pub data Mark : Type 0 where

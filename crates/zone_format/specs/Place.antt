@@ -2,8 +2,8 @@
 use Rattle.std.specs.Prelude.{◌≡◌, ℕ, ◌+◌, ◌≤◌, ◌==◌, ◌||◌, Bool, not, nat_lt, nat_le, List, reverse, take, length, ◌++◌}
 use Rattle.std.specs.List.{count_by, take_while}
 use Rattle.dns_symbol.specs.Characters.{line_feed}
-use Rattle.dns_split.specs.declared.position.Position.{Position}
-use Rattle.zone_format.specs.declared.place.Place.{Place}
+use Rattle.dns_lexer.specs.declared.position.Position.{Position}
+use Rattle.zone_format.specs.declared.place.LocatedOffset.{LocatedOffset}
 
 -- every octet except those that continue a character of UTF-8
 abbrev pub begins_character : ℕ → Bool
@@ -26,7 +26,7 @@ abbrev pub IsAt : ℕ → List ℕ → Position → Type 0
 IsAt lines_before octets p = (p.line ≡ lines_before + feeds octets + 1) × (p.column ≡ column_of octets)
 
 -- an offset among octets that follow a number of lines has its position
-pub record Stands (octets : List ℕ) (lines_before : ℕ) (p : Place) : Type 0 where
+pub record IsPositionAt (octets : List ℕ) (lines_before : ℕ) (p : LocatedOffset) : Type 0 where
   pub within : p.at ≤ length octets
   pub is : IsAt lines_before (take p.at octets) p.position
   pub narrow : p.position.column ≤ p.at + 1

@@ -1,10 +1,10 @@
 -- The zone files that have no form, and why.
 use Rattle.std.specs.Prelude.{⊤, ◌≡◌, ◌≤◌, ℕ, ◌+◌, ◌<◌, ◌⊎◌, Bool, true, false, ◌==◌, nat_eq, ◌&&◌, ◌||◌, not, List, [], ◌∷◌, length, slice_index, Result, Ok, encode_utf8_all}
 use Rattle.std.specs.List.{list_all, starts_with}
-use Rattle.dns_split.specs.Pieces.{IsFault, IsGiven, between, moved_fault, place_of}
-use Rattle.dns_split.specs.declared.pieces.Piece.{Piece}
-use Rattle.dns_split.specs.declared.pieces.Piece.TheVariants.{Word as WordAt, Quote as QuoteAt}
-use Rattle.dns_split.specs.declared.pieces.Fault.{Fault}
+use Rattle.dns_lexer.specs.Pieces.{IsFault, AreItemsOf, between, moved_fault, place_of}
+use Rattle.dns_lexer.specs.declared.pieces.Piece.{Piece}
+use Rattle.dns_lexer.specs.declared.pieces.Piece.TheVariants.{Word as WordAt, Quote as QuoteAt}
+use Rattle.dns_lexer.specs.declared.pieces.Fault.{Fault}
 use Rattle.zone_format.specs.declared.refusal.Refusal.{Refusal}
 use Rattle.zone_format.specs.declared.refusal.Refusal.TheVariants.{Wrong, Nul, OrderMark, OutOfMemory}
 use Rattle.zone_format.specs.Marks.{Mark, Token, Feed, Lead}
@@ -39,7 +39,7 @@ HasToken s e (Ok (QuoteAt p) ∷ given) = ((p.start ≡ s) × (p.end ≡ e)) ⊎
 HasToken s e (_ ∷ given) = HasToken s e given
 
 abbrev pub IsTokenBetween : List ℕ → ℕ → ℕ → Type 0
-IsTokenBetween octets s e = (given : List (Result Piece Fault)) × IsGiven octets given × HasToken s e given
+IsTokenBetween octets s e = (given : List (Result Piece Fault)) × AreItemsOf octets given × HasToken s e given
 
 -- they aren't of the grammar, by their error; or a token has a NUL at an offset, or begins with a byte order mark
 abbrev pub IsWithoutForm : List ℕ → Refusal → Type 0

@@ -1,7 +1,7 @@
 -- Marks in which runs of blank lines are one, with none at the beginning or the end, and each line ends.
 use Rattle.std.specs.Prelude.{Bool, true, false, if◌then◌else◌, List, [], ◌∷◌, ◌++◌}
-use Rattle.zone_format.specs.declared.stand.Above.{Above}
-use Rattle.zone_format.specs.declared.stand.Above.TheVariants.{Nothing, Line}
+use Rattle.zone_format.specs.declared.line_state.Above.{Above}
+use Rattle.zone_format.specs.declared.line_state.Above.TheVariants.{Nothing, Line}
 use Rattle.zone_format.specs.Form.{blank_below, gap, is_blank_line, lines}
 use Rattle.zone_format.specs.Marks.{Mark, Feed, Lead, lead}
 

@@ -1,14 +1,14 @@
 //! Formats a zone file block by block.
 //!
 //! Each block but the last consists of whole entries. Its form depends on the text above it only by
-//! a [`Seam`], and the forms of the blocks in a row are the form of the whole file.
+//! a [`FormatState`], and the forms of the blocks in a row are the form of the whole file.
 ghost use Rattle.std.specs.Prelude.{◌<◌, ◌^◌, IfErr, IfOk, length};
 ghost use Rattle.zone_format.specs.Blocks.{FormatsEntries, FormatsLast};
 ghost use Rattle.zone_format.specs.Refusal.{IsWithoutForm};
 
 use crate::format::write_all;
+pub use crate::line_state::FormatState;
 use crate::refusal::Refusal;
-pub use crate::stand::Seam;
 use crate::writing::push_end;
 use std::alloc::Allocator;
 
@@ -18,10 +18,10 @@ use std::alloc::Allocator;
 /// [`format`](crate::format::format) does, with offsets in octets from the block's beginning. After
 /// an error `out` has more octets, which are unspecified.
 pub fn format_entries<A: Allocator>(
-    seam: Seam,
+    seam: FormatState,
     octets: &[u8],
     out: &mut Vec<u8, A>,
-) -> Result<Seam, Refusal>
+) -> Result<FormatState, Refusal>
     requires { length octets.now < 2 ^ 62 }
     ensures well { IfOk result (FormatsEntries octets.now seam out.old.items out.new.items) }
     ensures bad { IfErr result (IsWithoutForm octets.now) }
@@ -35,7 +35,7 @@ pub fn format_entries<A: Allocator>(
 /// Fails as [`format`](crate::format::format) does, with offsets in octets from the block's
 /// beginning. After an error `out` has more octets, which are unspecified.
 pub fn format_last<A: Allocator>(
-    seam: Seam,
+    seam: FormatState,
     octets: &[u8],
     out: &mut Vec<u8, A>,
 ) -> Result<(), Refusal>

@@ -2,7 +2,7 @@
 ghost use Rattle.std.specs.Prelude.{◌≡◌, ◌==◌, ◌&&◌, ◌||◌, ◌+◌, ◌-◌, ◌<◌, ◌≤◌, ◌^◌, false, length};
 ghost use Rattle.std.specs.List.{list_all};
 ghost use Rattle.dns_symbol.specs.Symbol.{is_digit};
-ghost use Rattle.dns_split.specs.Run.{is_blank};
+ghost use Rattle.dns_lexer.specs.Run.{is_blank};
 ghost use Rattle.zone_format.specs.Columns.{after_token, begins_digit, begins_dollar, first_column};
 ghost use Rattle.zone_format.specs.Columns.{first_moved, has_second, head_after, is_class};
 ghost use Rattle.zone_format.specs.Columns.{is_numbered_class, later_column, moved_by, moved_in};
@@ -226,13 +226,13 @@ fn head_column(end: usize, token: &[u8], width: usize) -> usize
 }
 
 /// Returns what may follow that token. If the token is adjacent to the owner, it moves no columns.
-fn after_first(end: usize, is_glued: bool, token: &[u8], width: usize) -> Turn
+fn after_first(end: usize, is_adjacent: bool, token: &[u8], width: usize) -> Turn
     requires { end + width + 64 < 2 ^ 64 }
     ensures { let role = role_of false false token.now in
-        result ≡ head_after role (first_moved is_glued role end width) false false }
+        result ≡ head_after role (first_moved is_adjacent role end width) false false }
 {
     let role = role_of(false, false, token);
-    let moved = if is_glued {
+    let moved = if is_adjacent {
         0
     } else {
         role.moved_by(end, width)
@@ -269,17 +269,17 @@ impl Turn {
     pub(crate) fn token_column(
         self,
         end: usize,
-        is_glued: bool,
+        is_adjacent: bool,
         token: &[u8],
         width: usize,
     ) -> usize
         requires room { end + width + 64 < 2 ^ 64 }
         requires moved { moved_in self ≤ end }
         requires width { width ≡ width_of token.now }
-        ensures column { result ≡ token_column self end is_glued token.now }
+        ensures column { result ≡ token_column self end is_adjacent token.now }
         ensures narrow { result < end + 64 }
     {
-        if is_glued {
+        if is_adjacent {
             end + 1
         } else {
             self.parted_column(end, token, width)
@@ -288,10 +288,16 @@ impl Turn {
 
     /// Returns what may follow a token.
     #[inline(always)]
-    pub(crate) fn after_token(self, end: usize, is_glued: bool, token: &[u8], width: usize) -> Turn
+    pub(crate) fn after_token(
+        self,
+        end: usize,
+        is_adjacent: bool,
+        token: &[u8],
+        width: usize,
+    ) -> Turn
         requires room { end + width + 64 < 2 ^ 64 }
         requires width { width ≡ width_of token.now }
-        ensures { result ≡ after_token self end is_glued token.now }
+        ensures { result ≡ after_token self end is_adjacent token.now }
     {
         match self {
             Turn::Edge => if begins_dollar(token) {
@@ -299,7 +305,7 @@ impl Turn {
             } else {
                 Turn::Owned
             },
-            Turn::Led | Turn::Owned => after_first(end, is_glued, token, width),
+            Turn::Led | Turn::Owned => after_first(end, is_adjacent, token, width),
             Turn::Head {
                 moved,
                 has_ttl,

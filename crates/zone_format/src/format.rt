@@ -1,8 +1,8 @@
 //! Formats zone files in their canonical form.
 ghost use Rattle.std.specs.Prelude.{◌≡◌, ◌==◌, ◌&&◌, ◌+◌, ◌<◌, ◌≤◌, ◌^◌, IfErr, IfOk, IfSome, IsNone};
 ghost use Rattle.std.specs.Prelude.{if◌then◌else◌, length, slice_index, true};
-ghost use Rattle.dns_split.specs.Pieces.{between};
-ghost use Rattle.dns_split.specs.Standing.{blank_at};
+ghost use Rattle.dns_lexer.specs.Pieces.{between};
+ghost use Rattle.dns_lexer.specs.CursorStates.{blank_at};
 ghost use Rattle.zone_format.specs.Marks.{shortened};
 ghost use Rattle.zone_format.specs.Refusal.{begins_order_mark, has_no_nul, IsWithoutForm, IsUnfit};
 ghost use Rattle.zone_format.specs.Formats.{Formats};
@@ -12,10 +12,10 @@ ghost use Rattle.zone_format.specs.Blocks.{WritesBelow};
 
 use crate::blocks::format_last;
 use crate::columns::{Turn, is_blank};
+use crate::line_state::{Above, FormatState, LineState};
 use crate::refusal::Refusal;
-use crate::stand::{Above, Seam, Stand};
 use crate::writing::{push_gap, push_note, push_token};
-use dns_split::pieces::{Piece, Pieces, Span};
+use dns_lexer::pieces::{Piece, Pieces, Span};
 use std::alloc::{AllocError, Allocator};
 
 /// Returns a comment without the blanks at its end.
@@ -65,10 +65,10 @@ fn begins_order_mark(octets: &[u8]) -> bool
         || octets.starts_with(&[0xFF, 0xFE])
 }
 
-impl Stand {
+impl LineState {
     /// Returns the state after a blank at an entry's beginning, if there is one.
     #[inline(always)]
-    fn led_if(self, is_blank: bool) -> Stand
+    fn led_if(self, is_blank: bool) -> LineState
         ensures { result ≡ (if is_blank then led self else self) }
     {
         if is_blank { self.led() } else { self }
@@ -88,7 +88,7 @@ impl Stand {
 
 /// Checks that a token which begins at an offset may be written.
 #[inline(always)]
-fn accept(token: &[u8], stand: Stand, start: usize) -> Result<(), Refusal>
+fn accept(token: &[u8], stand: LineState, start: usize) -> Result<(), Refusal>
     requires { start + length token.now < 2 ^ 64 }
     ensures well { IfOk result (λ _. accepts stand token.now ≡ true) }
     ensures bad { IfErr result (IsUnfit token.now start) }
@@ -106,7 +106,7 @@ fn accept(token: &[u8], stand: Stand, start: usize) -> Result<(), Refusal>
 /// with a token.
 #[derive(Clone, Copy)]
 pub(crate) struct Progress {
-    pub(crate) stand: Stand,
+    pub(crate) stand: LineState,
     pub(crate) at: usize,
     pub(crate) is_token: bool,
 }
@@ -141,9 +141,9 @@ fn write_token<A: Allocator>(
     let stand = push_gap(out, progress.stand, &octets[progress.at..span.start])?;
     let token = span.of_octets(octets);
     accept(token, stand, span.start)?;
-    let is_glued = progress.glues(span.start);
+    let is_adjacent = progress.glues(span.start);
     Ok(Progress {
-        stand: push_token(out, stand, is_glued, token)?,
+        stand: push_token(out, stand, is_adjacent, token)?,
         at: span.end,
         is_token: true,
     })
@@ -196,9 +196,9 @@ fn write_end<A: Allocator>(
 /// Appends the form of the marks of octets, and returns the state of the line after them.
 pub(crate) fn write_all<A: Allocator>(
     octets: &[u8],
-    seam: Seam,
+    seam: FormatState,
     out: &mut Vec<u8, A>,
-) -> Result<Stand, Refusal>
+) -> Result<LineState, Refusal>
     requires { length octets.now < 2 ^ 62 }
     ensures well { IfOk result (WritesBelow octets.now seam out.old.items out.new.items) }
     ensures bad { IfErr result (IsWithoutForm octets.now) }
@@ -231,6 +231,6 @@ pub fn format<A: Allocator>(octets: &[u8], out: &mut Vec<u8, A>) -> Result<(), R
     ensures well { IfOk result (λ _. Formats octets.now out.old.items out.new.items) }
     ensures bad { IfErr result (IsWithoutForm octets.now) }
 {
-    format_last(Seam::first(), octets, out)?;
+    format_last(FormatState::first(), octets, out)?;
     Ok(())
 }

@@ -1,7 +1,7 @@
 //! Laws of forms. Each function's contract is the law; calling it does nothing.
 ghost use Rattle.std.specs.Prelude.{◌≡◌, ◌∷◌, ◌++◌, ℕ, List, [], false};
 ghost use Rattle.zone_format.specs.Form.{below, Before, form, forms, gap, is_blank_line, line_form};
-ghost use Rattle.zone_format.specs.declared.stand.Above.{Above};
+ghost use Rattle.zone_format.specs.declared.line_state.Above.{Above};
 ghost use Rattle.zone_format.specs.Formats.{Formats};
 ghost use Rattle.zone_format.specs.Marks.{HasMarks, Mark};
 ghost use Rattle.zone_format.specs.Squeezed.{squeezed};
@@ -28,7 +28,7 @@ pub fn same_marks_have_one_form()
 /// The form of lines is the form of the first line followed by that of the others. A line's form
 /// depends on that line alone, on the number of open parentheses before it, and on the column of
 /// the comment of the line directly above.
-pub fn lines_stand_by_themselves()
+pub fn lines_are_independent()
     ensures { (above : Above) (b : Before) (l : List Mark) (ls : List (List Mark))
         → is_blank_line l ≡ false
         → forms above b (l ∷ ls) ≡ gap 10 above ++ (line_form b l ++ 10 ∷ forms Above.Line (below b l) ls) }

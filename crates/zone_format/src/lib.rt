@@ -13,7 +13,7 @@ pub mod blocks;
 mod columns;
 pub mod format;
 pub mod laws;
+mod line_state;
 pub mod place;
 pub mod refusal;
-mod stand;
 mod writing;

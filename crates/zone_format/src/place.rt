@@ -1,11 +1,11 @@
 //! Offsets of octets, with their lines and columns, and errors with moved offsets.
 ghost use Rattle.std.specs.Prelude.{◌≡◌, ◌+◌, ◌-◌, ◌<◌, ◌≤◌, ◌^◌, ℕ, [], length, take, drop, slice_index};
-ghost use Rattle.dns_split.specs.Pieces.{moved_fault};
-ghost use Rattle.dns_split.specs.declared.pieces.Wrong.TheVariants.{OpenQuote};
-ghost use Rattle.zone_format.specs.Place.{begins_character, feeds, IsAt, Stands, MovesColumn};
+ghost use Rattle.dns_lexer.specs.Pieces.{moved_fault};
+ghost use Rattle.dns_lexer.specs.declared.pieces.Wrong.TheVariants.{OpenQuote};
+ghost use Rattle.zone_format.specs.Place.{begins_character, feeds, IsAt, IsPositionAt, MovesColumn};
 
-use dns_split::pieces::{Fault, Wrong};
-use dns_split::position::Position;
+use dns_lexer::pieces::{Fault, Wrong};
+use dns_lexer::position::Position;
 use std::simd::prelude::*;
 
 /// Returns whether an octet begins a character. All octets do except those from 0x80 to 0xBF, which
@@ -132,21 +132,21 @@ pub fn position_after(lines_before: usize, before: &[u8]) -> Position
 
 /// An offset among octets, and its position.
 #[derive(Clone, Copy)]
-pub struct Place {
+pub struct LocatedOffset {
     pub at: usize,
     pub position: Position,
 }
 
 /// Returns a later offset, with its position, among octets that follow `lines_before` lines.
-pub fn move_to(octets: &[u8], lines_before: usize, from: Place, to: usize) -> Place
+pub fn move_to(octets: &[u8], lines_before: usize, from: LocatedOffset, to: usize) -> LocatedOffset
     requires room { lines_before + length octets.now + 2 < 2 ^ 64 }
-    requires stands { Stands octets.now lines_before from }
+    requires stands { IsPositionAt octets.now lines_before from }
     requires order { from.at ≤ to }
     requires within { to ≤ length octets.now }
     ensures at { result.at ≡ to }
-    ensures stands { Stands octets.now lines_before result }
+    ensures stands { IsPositionAt octets.now lines_before result }
 {
-    Place {
+    LocatedOffset {
         at: to,
         position: advance(from.position, &octets[from.at..to]),
     }

@@ -1,7 +1,7 @@
 //! The error if a text has no form.
 ghost use Rattle.std.specs.Prelude.{◌≡◌};
 
-use dns_split::pieces::Fault;
+use dns_lexer::pieces::Fault;
 use std::alloc::AllocError;
 
 /// The error if a text couldn't be formatted. Offsets are in octets from 0.

@@ -6,7 +6,7 @@ ghost use Rattle.zone_format.specs.Writing.{blanks_before, last_line_end, LineFi
 ghost use Rattle.zone_format.specs.Writing.{PushesNote, PushesParenthesis, PushesToken};
 
 use crate::columns::{is_blank, width};
-use crate::stand::{Above, Stand};
+use crate::line_state::{Above, LineState};
 use std::alloc::{AllocError, Allocator};
 
 /// Appends a number of spaces.
@@ -24,7 +24,7 @@ fn push_spaces<A: Allocator>(out: &mut Vec<u8, A>, count: usize) -> Result<(), A
 #[inline(always)]
 fn push_before<A: Allocator>(
     out: &mut Vec<u8, A>,
-    stand: Stand,
+    stand: LineState,
     column: usize,
 ) -> Result<(), AllocError>
     requires room { stand.end + 1 < 2 ^ 64 }
@@ -41,27 +41,29 @@ fn push_before<A: Allocator>(
 #[inline(always)]
 pub(crate) fn push_token<A: Allocator>(
     out: &mut Vec<u8, A>,
-    stand: Stand,
-    is_glued: bool,
+    stand: LineState,
+    is_adjacent: bool,
     token: &[u8],
-) -> Result<Stand, AllocError>
+) -> Result<LineState, AllocError>
     requires fits { LineFits out.old.items stand }
     requires room { length token.now < 2 ^ 62 }
-    ensures { IfOk result (PushesToken out.old.items stand is_glued token.now out.new.items) }
+    ensures { IfOk result (PushesToken out.old.items stand is_adjacent token.now out.new.items) }
 {
     let width = width(token);
-    let column = stand.turn.token_column(stand.end, is_glued, token, width);
+    let column = stand
+        .turn
+        .token_column(stand.end, is_adjacent, token, width);
     push_before(out, stand, column)?;
     out.extend_from_slice(token)?;
-    Ok(stand.after_token(is_glued, token, width, column))
+    Ok(stand.after_token(is_adjacent, token, width, column))
 }
 
 /// Appends a comment, which has no blanks at its end.
 pub(crate) fn push_note<A: Allocator>(
     out: &mut Vec<u8, A>,
-    stand: Stand,
+    stand: LineState,
     comment: &[u8],
-) -> Result<Stand, AllocError>
+) -> Result<LineState, AllocError>
     requires { LineFits out.old.items stand }
     ensures { IfOk result (PushesNote out.old.items stand comment.now out.new.items) }
 {
@@ -74,10 +76,10 @@ pub(crate) fn push_note<A: Allocator>(
 /// Appends a parenthesis, with the number of open parentheses after it.
 fn push_parenthesis<A: Allocator>(
     out: &mut Vec<u8, A>,
-    stand: Stand,
+    stand: LineState,
     octet: u8,
     depth: usize,
-) -> Result<Stand, AllocError>
+) -> Result<LineState, AllocError>
     requires { LineFits out.old.items stand }
     ensures { IfOk result (PushesParenthesis out.old.items stand octet depth out.new.items) }
 {
@@ -89,7 +91,10 @@ fn push_parenthesis<A: Allocator>(
 
 /// Appends the end of a line that isn't empty.
 #[inline(always)]
-pub(crate) fn push_end<A: Allocator>(out: &mut Vec<u8, A>, stand: Stand) -> Result<(), AllocError>
+pub(crate) fn push_end<A: Allocator>(
+    out: &mut Vec<u8, A>,
+    stand: LineState,
+) -> Result<(), AllocError>
     ensures { OnOk result (out.new.items ≡ out.old.items ++ last_line_end stand) }
 {
     if stand.turn.is_start() {
@@ -102,9 +107,9 @@ pub(crate) fn push_end<A: Allocator>(out: &mut Vec<u8, A>, stand: Stand) -> Resu
 /// Appends the form of an octet between two pieces: a parenthesis, a line end or nothing.
 fn push_gap_octet<A: Allocator>(
     out: &mut Vec<u8, A>,
-    stand: Stand,
+    stand: LineState,
     octet: u8,
-) -> Result<Stand, AllocError>
+) -> Result<LineState, AllocError>
     requires fits { LineFits out.old.items stand }
     requires depth { stand.depth + 1 < 2 ^ 64 }
     ensures { IfOk result (Moves (gap_mark octet) out.old.items stand 1 out.new.items) }
@@ -124,9 +129,9 @@ fn push_gap_octet<A: Allocator>(
 #[inline(always)]
 pub(crate) fn push_gap<A: Allocator>(
     out: &mut Vec<u8, A>,
-    stand: Stand,
+    stand: LineState,
     gap: &[u8],
-) -> Result<Stand, AllocError>
+) -> Result<LineState, AllocError>
     requires fits { LineFits out.old.items stand }
     requires depth { stand.depth + length gap.now < 2 ^ 64 }
     ensures { IfOk result (Moves (flat_map gap_mark gap.now)

@@ -2,8 +2,8 @@
 use Rattle.std.proofs.Common.{ℕ, zero, suc, ◌-◌, ◌≡◌, ◌≤◌, ◌+◌, List, [], ◌∷◌, length, refl, sym, ap, ◌∙◌, arith, get_or, take, drop}
 use Rattle.std.specs.Prelude.{Result, Ok, Err, OnErr, map}
 use Rattle.std.proofs.lemmas.List.{take_rest}
-use Rattle.dns_split.specs.EntryTokens.{TokenSeen, token_seen}
-use Rattle.dns_split.specs.declared.entry_tokens.EntryToken.{EntryToken}
+use Rattle.dns_lexer.specs.EntryTokens.{TokenSeen, token_seen}
+use Rattle.dns_lexer.specs.declared.entry_tokens.EntryToken.{EntryToken}
 use Rattle.zone_generate.specs.declared.error.GenerateError.{GenerateError}
 use Rattle.zone_generate.specs.declared.part.Part.{Part}
 use Rattle.zone_generate.specs.declared.range.GenerateRange.{GenerateRange}

@@ -3,8 +3,8 @@ use Rattle.std.specs.Prelude.{ℕ, suc, ◌+◌, Bool, false, ◌||◌, if◌the
 use Rattle.std.specs.List.{flat_map}
 use Rattle.std.specs.Char.{is_digit}
 use Rattle.dns_octets.specs.Lowered.{same_lowered}
-use Rattle.dns_split.specs.EntryTokens.{TokenSeen}
-use Rattle.dns_split.specs.declared.entry_tokens.EntryToken.{EntryToken}
+use Rattle.dns_lexer.specs.EntryTokens.{TokenSeen}
+use Rattle.dns_lexer.specs.declared.entry_tokens.EntryToken.{EntryToken}
 use Rattle.dns_symbol.specs.Characters.{line_feed, space}
 use Rattle.zone_generate.specs.Parts.{side_parts, side_text}
 use Rattle.zone_generate.specs.Ranges.{range_of}

@@ -1,7 +1,7 @@
 -- Worked examples of the definitions, each computed. The texts are those that BIND 9.18 writes.
 use Rattle.std.specs.Prelude.{◌≡◌, ℕ, true, false, List, [], ◌∷◌, map, None, Some, Result, Ok, Err, codes, refl}
 use Rattle.std.specs.Fmt.{digits}
-use Rattle.dns_split.specs.EntryTokens.{TokenSeen, token_at}
+use Rattle.dns_lexer.specs.EntryTokens.{TokenSeen, token_at}
 use Rattle.zone_generate.specs.Directives.{Generating, entry_text, generate_of}
 use Rattle.zone_generate.specs.Parts.{side_parts, parts_or_none, side_text}
 use Rattle.zone_generate.specs.Ranges.{range_count, number_at, range_of}

@@ -1,14 +1,14 @@
 //! A directive and its entries.
 ghost use Rattle.std.specs.Prelude.{◌≡◌, ◌++◌, ◌≤◌, Ok, OnErr, OnOk, length, map};
 ghost use Rattle.dns_octets.specs.Appending.{Extends};
-ghost use Rattle.dns_split.specs.EntryTokens.{token_seen};
+ghost use Rattle.dns_lexer.specs.EntryTokens.{token_seen};
 ghost use Rattle.zone_generate.specs.Directives.{rdata_parts, entry_text, generate_after, generate_of, is_class_word, is_ttl_or_class, token_owner, token_range, token_side, word_texts, words_before_type, words_text};
 
 use crate::error::{GenerateError, GenerateErrorKind};
 use crate::range::{GenerateRange, read_range};
 use crate::side::Side;
+use dns_lexer::entry_tokens::EntryToken;
 use dns_octets::lowered::same_octets;
-use dns_split::entry_tokens::EntryToken;
 use std::alloc::{AllocError, Allocator};
 use std::marker::Model;
 

@@ -8,9 +8,9 @@ use Rattle.std.specs.declared.cmp.Ordering.TheVariants.{Less, Equal, Greater}
 use Rattle.std.proofs.lemmas.List.{map-append, reverse-append, length-map, length-reverse}
 use Rattle.dns_octets.specs.Lowered.{lowered}
 use Rattle.dns_wire.specs.Order.{same_name}
-use Rattle.dns_canonical.specs.Names.{octet_order, labels_from_root, name_order}
+use Rattle.zone_record.specs.Names.{octet_order, labels_from_root, name_order}
 use Rattle.std.proofs.lemmas.Cmp.{tied_itself}
-use Rattle.dns_canonical.proofs.Orders.{octets_equal, octets_total}
+use Rattle.zone_record.proofs.Orders.{octets_equal, octets_total}
 use Rattle.zone_rules.specs.Above.{is_within}
 use Rattle.zone_rules.proofs.Lookups.{same_is}
 

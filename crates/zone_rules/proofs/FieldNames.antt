@@ -5,18 +5,18 @@ use Rattle.std.specs.List.{list_all}
 use Rattle.std.proofs.lemmas.Bool.{eqb-true}
 use Rattle.std.proofs.lemmas.Bool.Decides.{nat_tests}
 use Rattle.std.proofs.lemmas.List.Elements.{All-cons, All-nil}
-use Rattle.dns_kinds.specs.Rtype as Rtype
-use Rattle.dns_spelling.specs.NameSpelling.{IsWireName}
-use Rattle.dns_spelling.specs.Spelling.{AreOctetValues}
+use Rattle.rdata_values.specs.Rtype as Rtype
+use Rattle.rdata_tokens.specs.NameSpelling.{IsWireName}
+use Rattle.rdata_tokens.specs.Spelling.{AreOctetValues}
 use Rattle.dns_wire.specs.Wire.{wire, IsName}
-use Rattle.dns_data.specs.ByType.{HasShape, shape_of_code}
-use Rattle.dns_data.specs.Types.{TypeShape, type_shapes}
-use Rattle.dns_fields.specs.declared.field.Field.TheVariants.{Name}
-use Rattle.dns_resource.specs.Parts.{data_part, field_part}
-use Rattle.dns_resource.specs.CanonicalData.{fields_of_shape}
-use Rattle.dns_resource.specs.TypeData.{IsTypeData, TypeData}
-use Rattle.dns_resource.proofs.CanonicalForms.{begins_start}
-use Rattle.dns_resource.proofs.DataBack.{shape_with}
+use Rattle.rdata.specs.ByType.{HasShape, shape_of_code}
+use Rattle.rdata.specs.Types.{TypeShape, type_shapes}
+use Rattle.rdata_fields.specs.declared.field.Field.TheVariants.{Name}
+use Rattle.zone_record.specs.Parts.{data_part, field_part}
+use Rattle.zone_record.specs.CanonicalData.{fields_of_shape}
+use Rattle.zone_record.specs.TypeData.{IsTypeData, TypeData}
+use Rattle.zone_record.proofs.CanonicalForms.{begins_start}
+use Rattle.zone_record.proofs.DataBack.{shape_with}
 use Rattle.zone_rules.specs.HostNames.{IsNameField, target_field}
 use Rattle.zone_rules.specs.Zones.{host_field}
 use Rattle.zone_rules.proofs.HostParts.{part_name}
@@ -68,6 +68,10 @@ pub mailbox_named : IsNameField Rtype.soa 1
 unfolding type_shapes
 mailbox_named = refl
 
+pub alias_named : IsNameField Rtype.cname 0
+unfolding type_shapes
+alias_named = refl
+
 -- ---- constants
 
 value_test : (o : ℕ) → nat_lt o 256 ≡ true → o < 256
@@ -113,3 +117,9 @@ in_addr_wire = longer_name (codes "in-addr") arpa (omega arith) (omega arith) (a
 
 pub ip6_wire : IsWireName (wire (codes "ip6" ∷ codes "arpa" ∷ [] ∷ []))
 ip6_wire = longer_name (codes "ip6") arpa (omega arith) (omega arith) (all_values (codes "ip6") refl) arpa_name (codes "arpa" ∷ [], refl) arpa_wire (omega arith)
+
+pub invalid_wire : IsWireName (wire (codes "invalid" ∷ [] ∷ []))
+invalid_wire = longer_name (codes "invalid") ([] ∷ []) (omega arith) (omega arith) (all_values (codes "invalid") refl) root_name ([], refl) root_wire (omega arith)
+
+pub localhost_wire : IsWireName (wire (codes "localhost" ∷ [] ∷ []))
+localhost_wire = longer_name (codes "localhost") ([] ∷ []) (omega arith) (omega arith) (all_values (codes "localhost") refl) root_name ([], refl) root_wire (omega arith)

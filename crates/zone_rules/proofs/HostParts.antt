@@ -1,13 +1,13 @@
 -- The names in fields of data.
 use Rattle.std.proofs.Common.{ℕ, zero, suc, ◌≡◌, Option, Some, None, List, Bor, [], ◌∷◌, take, sym, ap, subst, ◌∙◌}
 use Rattle.std.specs.Prelude.{slice_get, IfSome, MatchOption}
-use Rattle.dns_spelling.specs.NameSpelling.{IsWireName}
-use Rattle.dns_fields.specs.declared.field.Field.{Field}
-use Rattle.dns_fields.specs.declared.field.Field.TheVariants.{Name}
-use Rattle.dns_canonical.specs.FieldForms.{IsFieldWire, StartsWithFields}
-use Rattle.dns_data.specs.Printing.{field_size}
-use Rattle.dns_resource.specs.Parts.{field_part}
-use Rattle.dns_resource.proofs.CanonicalForms.{front_cut}
+use Rattle.rdata_tokens.specs.NameSpelling.{IsWireName}
+use Rattle.rdata_fields.specs.declared.field.Field.{Field}
+use Rattle.rdata_fields.specs.declared.field.Field.TheVariants.{Name}
+use Rattle.zone_record.specs.FieldForms.{IsFieldWire, StartsWithFields}
+use Rattle.rdata.specs.Printing.{field_size}
+use Rattle.zone_record.specs.Parts.{field_part}
+use Rattle.zone_record.proofs.CanonicalForms.{front_cut}
 
 some_same : (x y : List ℕ) → Some x ≡ Some y → x ≡ y
 some_same x y h = cc

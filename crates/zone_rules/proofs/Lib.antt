@@ -1,4 +1,5 @@
 mod BelowNames
+pub mod CnameTargets
 mod FieldNames
 pub mod HostNameParts
 mod HostParts

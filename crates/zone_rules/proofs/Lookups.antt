@@ -16,11 +16,11 @@ use Rattle.std.proofs.lemmas.List.{reverse-reverse, take_all, get_or-drop, get_o
 use Rattle.std.proofs.lemmas.List.Sorted.{searchable_from_sorted, IsPartitionedBy-leb, IsNonDecreasingBy-drop}
 use Rattle.dns_octets.specs.Lowered.{lowered}
 use Rattle.dns_wire.specs.Order.{same_name}
-use Rattle.dns_canonical.specs.Names.{octet_order, labels_from_root, name_order}
-use Rattle.dns_canonical.specs.Records.{record_order}
-use Rattle.dns_canonical.proofs.Orders.{names_total}
-use Rattle.dns_resource.specs.CanonicalData.{record_key}
-use Rattle.dns_resource.specs.declared.record.Record.{Record}
+use Rattle.zone_record.specs.Names.{octet_order, labels_from_root, name_order}
+use Rattle.zone_record.specs.CanonicalRecords.{record_order}
+use Rattle.zone_record.proofs.Orders.{names_total}
+use Rattle.zone_record.specs.CanonicalData.{record_key}
+use Rattle.zone_record.specs.declared.record.Record.{Record}
 use Rattle.zone_rules.specs.Searches.{AreOwnedFrom}
 use Rattle.zone_rules.specs.Zones.{AreInOrder, has_type_among, has_type_at, type_of}
 

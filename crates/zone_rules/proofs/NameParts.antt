@@ -9,9 +9,9 @@ use Rattle.std.proofs.lemmas.List.Elements.{All-append, All-cons, All-drop, All-
 use Rattle.dns_wire.specs.Labelled.{wire_same}
 use Rattle.dns_wire.specs.Wire.{wire, wire_label, wire_length, IsName, EndsInRoot}
 use Rattle.dns_wire.proofs.Wires.{is_nil}
-use Rattle.dns_spelling.specs.Spelling.{AreOctetValues}
-use Rattle.dns_spelling.specs.NameSpelling.{IsWireName}
-use Rattle.dns_spelling.proofs.LabelParts.{wire_length_cons}
+use Rattle.rdata_tokens.specs.Spelling.{AreOctetValues}
+use Rattle.rdata_tokens.specs.NameSpelling.{IsWireName}
+use Rattle.rdata_tokens.proofs.LabelParts.{wire_length_cons}
 use Rattle.zone_rules.specs.Above.{first_label_of, parent_of, names_above}
 use Rattle.zone_rules.specs.Zones.{but_root}
 

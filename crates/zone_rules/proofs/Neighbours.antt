@@ -16,11 +16,11 @@ use Rattle.std.proofs.lemmas.List.Folds.{Any-from_list_any}
 use Rattle.std.proofs.lemmas.Option.{slice_get-get_or}
 use Rattle.dns_wire.specs.Order.{same_name}
 use Rattle.dns_wire.specs.Wire.{wire_length, IsName}
-use Rattle.dns_kinds.specs.Rtype as Rtype
-use Rattle.dns_spelling.proofs.LabelParts.{wire_length_cons}
-use Rattle.dns_canonical.specs.Names.{name_order}
-use Rattle.dns_canonical.proofs.Orders.{names_total}
-use Rattle.dns_resource.specs.declared.record.Record.{Record}
+use Rattle.rdata_values.specs.Rtype as Rtype
+use Rattle.rdata_tokens.proofs.LabelParts.{wire_length_cons}
+use Rattle.zone_record.specs.Names.{name_order}
+use Rattle.zone_record.proofs.Orders.{names_total}
+use Rattle.zone_record.specs.declared.record.Record.{Record}
 use Rattle.zone_rules.specs.Above.{is_below, is_within, names_above}
 use Rattle.zone_rules.specs.Present.{closest_dname, is_cut_in, is_listed, is_present, rrset_of_record}
 use Rattle.zone_rules.specs.Rules.{is_zone_cut}

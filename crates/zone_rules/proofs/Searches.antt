@@ -13,8 +13,8 @@ use Rattle.std.proofs.lemmas.Bool.Decides.{nat_tests}
 use Rattle.std.proofs.lemmas.Cmp.{nat_cmp_total, on_total, then_total}
 use Rattle.std.proofs.lemmas.List.Sorted.{searchable_from_sorted, IsPartitionedBy-leb}
 use Rattle.dns_wire.specs.Order.{same_name}
-use Rattle.dns_canonical.specs.Names.{name_order}
-use Rattle.dns_canonical.proofs.Orders.{names_total}
+use Rattle.zone_record.specs.Names.{name_order}
+use Rattle.zone_record.proofs.Orders.{names_total}
 use Rattle.zone_rules.specs.Present.{set_order}
 use Rattle.zone_rules.specs.declared.refused.RrsetName.{RrsetName}
 use Rattle.zone_rules.proofs.Lookups.{same_is}

@@ -8,11 +8,11 @@ use Rattle.std.specs.Option.{is_some, option_map}
 use Rattle.std.proofs.lemmas.List.{length-map, take_all, drop_at}
 use Rattle.std.proofs.lemmas.List.Elements.{All-drop, All-tail}
 use Rattle.dns_octets.specs.Lowered.{lowered}
-use Rattle.dns_spelling.specs.Spelling.{AreOctetValues}
-use Rattle.dns_spelling.specs.NameSpelling.{IsWireName}
-use Rattle.dns_spelling.proofs.LabelParts.{wire_length_cons}
+use Rattle.rdata_tokens.specs.Spelling.{AreOctetValues}
+use Rattle.rdata_tokens.specs.NameSpelling.{IsWireName}
+use Rattle.rdata_tokens.proofs.LabelParts.{wire_length_cons}
 use Rattle.dns_wire.specs.Order.{same_name}
-use Rattle.dns_wire.specs.Takes.{TakesFirst}
+use Rattle.dns_wire.specs.LabelCalls.{YieldsFirstLabel}
 use Rattle.dns_wire.specs.Wire.{wire, wire_length, IsName, EndsInRoot}
 use Rattle.dns_wire.specs.declared.label.Label.{Label}
 use Rattle.dns_wire.proofs.Wires.{length_wire, wire_append, wire_length_append}
@@ -65,12 +65,12 @@ pub record IsEnd (labels : List (List ℕ)) : Type 0 where
   pub is_name : IsName labels
   pub absolute : EndsInRoot labels
 
-pub takes_rest : (l : List ℕ) (ls left : List (List ℕ)) (r : Option Label) → TakesFirst (l ∷ ls) r left → left ≡ ls
+pub takes_rest : (l : List ℕ) (ls left : List (List ℕ)) (r : Option Label) → YieldsFirstLabel (l ∷ ls) r left → left ≡ ls
 takes_rest l ls left None h = let e = h.0 in cc
 takes_rest l ls left (Some x) h = cc
 
 -- after a label was taken, the labels that are left are within the same names, but for the one that was compared
-pub within_next : (above left top labels : List (List ℕ)) (r : Option Label) → All (λ l. length l ≤ 63) above → is_within above top ≡ is_within labels top → same_name above top ≡ false → 0 < length top → TakesFirst above r left
+pub within_next : (above left top labels : List (List ℕ)) (r : Option Label) → All (λ l. length l ≤ 63) above → is_within above top ≡ is_within labels top → same_name above top ≡ false → 0 < length top → YieldsFirstLabel above r left
     → All (λ l. length l ≤ 63) left × (is_within left top ≡ is_within labels top)
 within_next [] left top labels None short is off some t =
     subst (λ a. All (λ l. length l ≤ 63) a × (is_within a top ≡ is_within labels top)) (sym t.1) (short, is)
@@ -80,7 +80,7 @@ within_next (l ∷ ls) left top labels r short is off some t =
     (All-tail (λ l. length l ≤ 63) l ls short, sym (within_cons l ls top some ∙ ap (λ b. b || is_within ls top) off) ∙ is)
 
 -- if no label was left, the name is not within the other
-pub within_end : (above left top labels : List (List ℕ)) (r : Option Label) → is_within above top ≡ is_within labels top → 0 < length top → is_some r ≡ false → TakesFirst above r left → false ≡ is_within labels top
+pub within_end : (above left top labels : List (List ℕ)) (r : Option Label) → is_within above top ≡ is_within labels top → 0 < length top → is_some r ≡ false → YieldsFirstLabel above r left → false ≡ is_within labels top
 within_end above left top labels None is some none t = sym (ap (λ a. is_within a top) t.0 ∙ within_none top some) ∙ is
 within_end above left top labels (Some x) is some none t = cc
 
@@ -135,7 +135,7 @@ shared_right label labels (x ∷ n ∷ o) lt some =
 pub nearing_none : (name other : List (List ℕ)) → IsEnd name → IsEnd other → Nearing name other name other
 nearing_none name other a b = record { above_end = a; rest_end = b; same = refl }
 
-pub nearing_above : (name other above rest left : List (List ℕ)) (r : Option Label) → Nearing name other above rest → same_name rest above ≡ false → wire_length rest ≤ wire_length above → TakesFirst above r left
+pub nearing_above : (name other above rest left : List (List ℕ)) (r : Option Label) → Nearing name other above rest → same_name rest above ≡ false → wire_length rest ≤ wire_length above → YieldsFirstLabel above r left
     → Nearing name other left rest × (length left < length above)
 nearing_above name other [] rest left r w off le t = absurd (no_end w.above_end)
 nearing_above name other (l ∷ []) rest left r w off le t =
@@ -152,7 +152,7 @@ nearing_above name other (l ∷ n ∷ o) rest left r w off le t =
       omega arith,
     )
 
-pub nearing_rest : (name other above rest left : List (List ℕ)) (r : Option Label) → Nearing name other above rest → wire_length above < wire_length rest → TakesFirst rest r left
+pub nearing_rest : (name other above rest left : List (List ℕ)) (r : Option Label) → Nearing name other above rest → wire_length above < wire_length rest → YieldsFirstLabel rest r left
     → Nearing name other above left × (length left < length rest)
 nearing_rest name other above [] left r w lt t = absurd (no_end w.rest_end)
 nearing_rest name other above (l ∷ []) left r w lt t =

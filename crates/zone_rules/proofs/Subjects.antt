@@ -5,20 +5,23 @@ use Rattle.std.specs.List.{AllWithin, list_any}
 use Rattle.std.specs.Option.{option_map, option_map_or}
 use Rattle.std.proofs.lemmas.Bool.{cases_lt}
 use Rattle.std.proofs.lemmas.Option.{slice_get-get_or}
-use Rattle.dns_kinds.specs.Classes.{internet}
-use Rattle.dns_kinds.specs.Rtype as Rtype
-use Rattle.dns_resource.specs.declared.record.Record.{Record}
+use Rattle.rdata_values.specs.Classes.{internet}
+use Rattle.rdata_values.specs.Rtype as Rtype
+use Rattle.zone_record.specs.declared.record.Record.{Record}
 use Rattle.dns_wire.specs.Order.{same_name}
 use Rattle.zone_rules.specs.Above.{is_below, is_within}
 use Rattle.zone_rules.specs.Findings.{breaks_at}
 use Rattle.zone_rules.specs.Present.{has_address_in}
-use Rattle.zone_rules.specs.Rules.{breaks, is_alias, is_below_own_dname, is_beside_alias, is_missing, is_record_at_apex, is_without_glue, lacks_address, names_host}
+use Rattle.zone_rules.specs.Rules.{breaks, is_alias, is_below_own_dname, is_missing, is_of_sha1, are_of_one_key, is_record_at_apex, is_without_glue, lacks_address, names_host}
 use Rattle.zone_rules.specs.Searches.{AreOwnedFrom}
-use Rattle.zone_rules.specs.Subjects.{is_apex_server, is_server_above, wants_host, AreHostFaults, IsSubject}
-use Rattle.zone_rules.specs.Zones.{as_listed, host_of, is_equal_record, record_before, type_of}
+use Rattle.zone_rules.specs.Spf.{is_spf}
+use Rattle.zone_rules.specs.Subjects.{is_apex_server, is_server_above, relates, wants_host, AreHostFaults, IsSubject}
+use Rattle.zone_rules.specs.Zones.{as_listed, comes_before, host_of, is_equal_record, record_before, type_of}
+use Rattle.zone_rules.specs.declared.beside.Relation.{Relation}
+use Rattle.zone_rules.specs.declared.beside.Relation.TheVariants.{Alias, Spf, Digest, Server}
 use Rattle.zone_rules.specs.declared.refused.RrsetName.{RrsetName}
 use Rattle.zone_rules.specs.declared.rule.Rule.{Rule}
-use Rattle.zone_rules.specs.declared.rule.Rule.TheVariants.{NoSoa, NoNs, Outside, TwoSoas, NsAddress, Cname, TwoDnames, BelowDname, DsAtApex, WildcardNs, SoaNotApex, NsBesideDname, Nsec3Owner, MissingGlue, HostIsAlias, HostBelowDname, HostMissing, HostName, CdsWithoutKey, DsWithoutNs, NotAtApex, KeyProtocol, KeyAlgorithm, TtlDiffers, Duplicate}
+use Rattle.zone_rules.specs.declared.rule.Rule.TheVariants.{NoSoa, NoNs, Outside, TwoSoas, NsAddress, Cname, TwoDnames, BelowDname, DsAtApex, WildcardNs, SoaNotApex, NsBesideDname, Nsec3Owner, MissingGlue, HostIsAlias, HostBelowDname, HostMissing, HostName, CdsWithoutKey, DsWithoutNs, NotAtApex, KeyProtocol, KeyAlgorithm, CnameTargetMissing, CnameLoop, TwoSpf, WeakDigest, SingleNs, TtlDiffers, Duplicate}
 use Rattle.zone_rules.specs.declared.subject.HostFaults.{HostFaults}
 use Rattle.zone_rules.specs.declared.subject.Subject.{Subject}
 use Rattle.zone_rules.proofs.Searches.{none_passes}
@@ -55,6 +58,11 @@ breaks_listed R S DsWithoutNs origin records refused before r = refl
 breaks_listed R S NotAtApex origin records refused before r = refl
 breaks_listed R S KeyProtocol origin records refused before r = refl
 breaks_listed R S KeyAlgorithm origin records refused before r = refl
+breaks_listed R S CnameTargetMissing origin records refused before r = refl
+breaks_listed R S CnameLoop origin records refused before r = refl
+breaks_listed R S TwoSpf origin records refused before r = refl
+breaks_listed R S WeakDigest origin records refused before r = refl
+breaks_listed R S SingleNs origin records refused before r = refl
 breaks_listed R S TtlDiffers origin records refused None r = refl
 breaks_listed R S TtlDiffers origin records refused (Some b) r = refl
 breaks_listed R S Duplicate origin records refused None r = refl
@@ -72,16 +80,19 @@ pub broken_at : {N O : Type 0} (rule : Rule) (origin : List (List ℕ)) (records
     → breaks rule origin records refused s.before s.found ≡ breaks_at origin records refused s.place rule
 broken_at rule origin records refused s h = broken_in rule origin records refused s.before s.found s.place (slice_get records s.place) h.found h.before
 
--- ---- records beside an alias
+-- ---- other records at a record's owner
 
-listed_beside : {N O M P : Type 0} (R S : Type 0) (alias : Record M P) (o : Option (Record N O))
-    → option_map_or (is_beside_alias {M = R} {P = S} alias) (option_map as_listed o) false ≡ option_map_or (is_beside_alias alias) o false
-listed_beside R S alias None = refl
-listed_beside R S alias (Some r) = refl
+listed_related : {N O M P : Type 0} (R S : Type 0) (relation : Relation) (one : Record M P) (o : Option (Record N O))
+    → option_map_or (relates {N = R} {O = S} relation one) (option_map as_listed o) false ≡ option_map_or (relates relation one) o false
+listed_related R S relation one None = refl
+listed_related R S Alias one (Some r) = refl
+listed_related R S Spf one (Some r) = refl
+listed_related R S Digest one (Some r) = refl
+listed_related R S Server one (Some r) = refl
 
-pub beside_listed : {N O M P R S : Type 0} (alias : Record M P) (o : Option (Record N O)) (got : Option (Record R S)) → got ≡ option_map as_listed o
-    → option_map_or (is_beside_alias alias) got false ≡ option_map_or (is_beside_alias alias) o false
-beside_listed alias o got e = ap (λ g. option_map_or (is_beside_alias alias) g false) e ∙ listed_beside _ _ alias o
+pub related_listed : {N O M P R S : Type 0} (relation : Relation) (one : Record M P) (o : Option (Record N O)) (got : Option (Record R S)) → got ≡ option_map as_listed o
+    → option_map_or (relates relation one) got false ≡ option_map_or (relates relation one) o false
+related_listed relation one o got e = ap (λ g. option_map_or (relates relation one) g false) e ∙ listed_related _ _ relation one o
 
 -- one element more that does not pass a test
 pub one_more : {X : Type 0} (p : X → Bool) (xs : List X) (first place : ℕ) → place < length xs → AllWithin (λ x. p x ≡ false) xs first place → option_map_or p (slice_get xs place) false ≡ false
@@ -95,21 +106,29 @@ one_more p xs first place lt h e i d low less = by (cases_lt i place)
     by (inl before) = h i d low before
     by (inr more) = let same : i ≡ place = omega (arith, less, more) in ap (λ j. p (get_or xs j d)) same ∙ at
 
-beside_owned : {N O M P : Type 0} (alias : Record M P) (r : Record N O) → same_name r.owner alias.owner ≡ false → is_beside_alias alias r ≡ false
-beside_owned alias r h = ap (λ b. b && (not (type_of r == Rtype.rrsig) && (not (type_of r == Rtype.nsec) && not (is_equal_record alias r)))) h
+related_owned : {N O M P : Type 0} (relation : Relation) (one : Record M P) (r : Record N O) → same_name r.owner one.owner ≡ false → relates relation one r ≡ false
+related_owned Alias one r h = ap (λ b. b && (not (type_of r == Rtype.rrsig) && (not (type_of r == Rtype.nsec) && not (is_equal_record one r)))) h
+related_owned Spf one r h = ap (λ b. b && (is_spf r && comes_before r one)) h
+related_owned Digest one r h = ap (λ b. b && (type_of r == Rtype.ds && (not (is_of_sha1 r) && are_of_one_key one r))) h
+related_owned Server one r h = ap (λ b. b && (type_of r == Rtype.ns && not (is_equal_record one r))) h
 
--- no record is beside an alias if none of those at its owner is
-module _ {N O M P : Type 0} (alias : Record M P) (records : List (Record N O)) (first past : ℕ) (owned : AreOwnedFrom alias.owner records first past) (none : AllWithin (λ r. is_beside_alias alias r ≡ false) records first past) where
-  beside_later : (i : ℕ) (d : Record N O) → i < length records → first ≤ i → (i < past) ⊎ (past ≤ i) → is_beside_alias alias (get_or records i d) ≡ false
-  beside_later i d lt low (inl less) = none i d low less
-  beside_later i d lt low (inr more) = beside_owned alias (get_or records i d) (owned.after i d more lt)
+-- no record passes a test that is of an owner if none of those at this owner does
+module _ {N O : Type 0} (p : Record N O → Bool) (name : List (List ℕ)) (records : List (Record N O)) (first past : ℕ) (owned : AreOwnedFrom name records first past)
+    (others : (r : Record N O) → same_name r.owner name ≡ false → p r ≡ false) (none : AllWithin (λ r. p r ≡ false) records first past) where
+  fails_later : (i : ℕ) (d : Record N O) → i < length records → first ≤ i → (i < past) ⊎ (past ≤ i) → p (get_or records i d) ≡ false
+  fails_later i d lt low (inl less) = none i d low less
+  fails_later i d lt low (inr more) = others (get_or records i d) (owned.after i d more lt)
 
-  beside_any : (i : ℕ) (d : Record N O) → i < length records → (i < first) ⊎ (first ≤ i) → is_beside_alias alias (get_or records i d) ≡ false
-  beside_any i d lt (inl less) = beside_owned alias (get_or records i d) (owned.before i d (omega arith) less)
-  beside_any i d lt (inr low) = beside_later i d lt low (cases_lt i past)
+  fails_at : (i : ℕ) (d : Record N O) → i < length records → (i < first) ⊎ (first ≤ i) → p (get_or records i d) ≡ false
+  fails_at i d lt (inl less) = others (get_or records i d) (owned.before i d (omega arith) less)
+  fails_at i d lt (inr low) = fails_later i d lt low (cases_lt i past)
 
-  pub none_beside : list_any (is_beside_alias alias) records ≡ false
-  none_beside = none_passes (is_beside_alias alias) records (λ i d lt. beside_any i d lt (cases_lt i first))
+  pub none_owned : list_any p records ≡ false
+  none_owned = none_passes p records (λ i d lt. fails_at i d lt (cases_lt i first))
+
+pub none_related : {N O M P : Type 0} (relation : Relation) (one : Record M P) (records : List (Record N O)) (first past : ℕ) → AreOwnedFrom one.owner records first past
+    → AllWithin (λ r. relates relation one r ≡ false) records first past → list_any (relates relation one) records ≡ false
+none_related relation one records first past owned none = none_owned (relates relation one) one.owner records first past owned (λ r h. related_owned relation one r h) none
 
 -- ---- the rules of a host
 

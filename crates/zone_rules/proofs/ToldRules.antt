@@ -4,9 +4,9 @@ use Rattle.std.specs.Prelude.{not}
 use Rattle.std.specs.List.{Contains, flat_map, range_with_len}
 use Rattle.std.proofs.lemmas.List.Elements.{Contains-append_left, Contains-append_right, Contains-append_cases}
 use Rattle.std.proofs.lemmas.List.FromFn.{length-range_with_len, get_or-range_with_len}
-use Rattle.dns_kinds.specs.Rtype as Rtype
-use Rattle.dns_resource.specs.declared.record.Record.{Record}
-use Rattle.zone_rules.specs.Findings.{found_if, found_at_apex, record_rules, breaks_at, found_of, found_at, found_in_zone, TellsBrokenRules}
+use Rattle.rdata_values.specs.Rtype as Rtype
+use Rattle.zone_record.specs.declared.record.Record.{Record}
+use Rattle.zone_rules.specs.Findings.{found_if, found_at_apex, record_rules, breaks_at, found_of, found_at, found_in_zone, ReportsBrokenRules}
 use Rattle.zone_rules.specs.Present.{is_present}
 use Rattle.zone_rules.specs.declared.refused.RrsetName.{RrsetName}
 use Rattle.zone_rules.specs.declared.rule.Finding.{Finding}
@@ -101,5 +101,5 @@ module _ {N O : Type 0} (origin : List (List ℕ)) (records : List (Record N O))
       (in_flat (found_at origin records refused) (range_with_len 0 (length records)) place told (in_range (length records) place h.1)
       (in_flat (found_of origin records refused place) record_rules rule told h.0 (in_found (breaks_at origin records refused place rule) rule (Some place) h.2)))
 
-  pub broken_rules_are_told : TellsBrokenRules origin records refused (found_in_zone origin records refused)
-  broken_rules_are_told rule place = (told_is_broken rule place, broken_is_told rule place)
+  pub broken_rules_are_reported : ReportsBrokenRules origin records refused (found_in_zone origin records refused)
+  broken_rules_are_reported rule place = (told_is_broken rule place, broken_is_told rule place)

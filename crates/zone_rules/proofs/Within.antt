@@ -10,9 +10,9 @@ use Rattle.std.proofs.lemmas.Bool.{eqb-true, false≢true}
 use Rattle.std.proofs.lemmas.Cmp.{nat_cmp_total, tied_itself}
 use Rattle.std.proofs.lemmas.List.Folds.{list_all_at}
 use Rattle.std.proofs.lemmas.List.Sorted.{searchable_from_sorted, IsPartitionedBy-leb}
-use Rattle.dns_canonical.specs.Names.{name_order}
-use Rattle.dns_canonical.proofs.Orders.{names_total}
-use Rattle.dns_resource.specs.declared.record.Record.{Record}
+use Rattle.zone_record.specs.Names.{name_order}
+use Rattle.zone_record.proofs.Orders.{names_total}
+use Rattle.zone_record.specs.declared.record.Record.{Record}
 use Rattle.zone_rules.specs.Present.{AreSetsInOrder, rrset_of_record, set_order}
 use Rattle.zone_rules.specs.Zones.{AreInOrder, is_one_class, type_of}
 use Rattle.zone_rules.specs.declared.refused.RrsetName.{RrsetName}

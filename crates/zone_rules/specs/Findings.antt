@@ -2,15 +2,15 @@
 use Rattle.std.specs.Prelude.{ℕ, ◌≡◌, ◌<◌, ◌↔◌, IsTrue, not, if◌then◌else◌, Bool, false, Option, Some, None, List, [], ◌∷◌, ◌++◌, length, slice_get, Vec}
 use Rattle.std.specs.List.{Contains, flat_map, range_with_len}
 use Rattle.std.specs.Option.{option_map_or}
-use Rattle.dns_kinds.specs.Rtype as Rtype
-use Rattle.dns_resource.specs.declared.record.Record.{Record}
+use Rattle.rdata_values.specs.Rtype as Rtype
+use Rattle.zone_record.specs.declared.record.Record.{Record}
 use Rattle.zone_rules.specs.Present.{is_present}
 use Rattle.zone_rules.specs.Rules.{breaks}
 use Rattle.zone_rules.specs.Zones.{record_before}
 use Rattle.zone_rules.specs.declared.refused.RrsetName.{RrsetName}
 use Rattle.zone_rules.specs.declared.rule.Finding.{Finding}
 use Rattle.zone_rules.specs.declared.rule.Rule.{Rule}
-use Rattle.zone_rules.specs.declared.rule.Rule.TheVariants.{NoSoa, NoNs, Outside, TwoSoas, NsAddress, Cname, TwoDnames, BelowDname, DsAtApex, WildcardNs, SoaNotApex, NsBesideDname, Nsec3Owner, MissingGlue, HostIsAlias, HostBelowDname, HostMissing, HostName, CdsWithoutKey, DsWithoutNs, NotAtApex, KeyProtocol, KeyAlgorithm, TtlDiffers, Duplicate}
+use Rattle.zone_rules.specs.declared.rule.Rule.TheVariants.{NoSoa, NoNs, Outside, TwoSoas, NsAddress, Cname, TwoDnames, BelowDname, DsAtApex, WildcardNs, SoaNotApex, NsBesideDname, Nsec3Owner, MissingGlue, HostIsAlias, HostBelowDname, HostMissing, HostName, CdsWithoutKey, DsWithoutNs, NotAtApex, KeyProtocol, KeyAlgorithm, CnameTargetMissing, CnameLoop, TwoSpf, WeakDigest, SingleNs, TtlDiffers, Duplicate}
 
 -- a finding of a rule, if the rule is broken
 abbrev pub found_if : Bool → Rule → Option ℕ → List Finding
@@ -24,7 +24,7 @@ found_at_apex origin records refused = found_if (not (is_present Rtype.soa origi
 abbrev pub record_rules : List Rule
 record_rules =
     Outside ∷ TwoSoas ∷ NsAddress ∷ Cname ∷ TwoDnames ∷ BelowDname ∷ DsAtApex ∷ WildcardNs ∷ SoaNotApex ∷ NsBesideDname ∷ Nsec3Owner ∷ MissingGlue ∷ HostIsAlias
-    ∷ HostBelowDname ∷ HostMissing ∷ HostName ∷ CdsWithoutKey ∷ DsWithoutNs ∷ NotAtApex ∷ KeyProtocol ∷ KeyAlgorithm ∷ TtlDiffers ∷ Duplicate ∷ []
+    ∷ HostBelowDname ∷ HostMissing ∷ HostName ∷ CdsWithoutKey ∷ DsWithoutNs ∷ NotAtApex ∷ KeyProtocol ∷ KeyAlgorithm ∷ CnameTargetMissing ∷ CnameLoop ∷ TwoSpf ∷ WeakDigest ∷ SingleNs ∷ TtlDiffers ∷ Duplicate ∷ []
 
 -- the record at an index breaks the rule
 abbrev pub breaks_at : {N O : Type 0} → List (List ℕ) → List (Record N O) → List RrsetName → ℕ → Rule → Bool
@@ -47,10 +47,10 @@ abbrev pub HasZoneFindings : {N O A : Type 0} → List (List ℕ) → List (Reco
 HasZoneFindings origin records refused found = found.items ≡ found_in_zone origin records refused
 
 -- a finding names the record at an index and a rule for records if and only if the record breaks the rule
-abbrev pub TellsBrokenRules : {N O : Type 0} → List (List ℕ) → List (Record N O) → List RrsetName → List Finding → Type 0
-TellsBrokenRules origin records refused found = (rule : Rule) (place : ℕ)
+abbrev pub ReportsBrokenRules : {N O : Type 0} → List (List ℕ) → List (Record N O) → List RrsetName → List Finding → Type 0
+ReportsBrokenRules origin records refused found = (rule : Rule) (place : ℕ)
     → Contains found (record { rule = rule; «record» = Some place }) ↔ (Contains record_rules rule × (place < length records) × IsTrue (breaks_at origin records refused place rule))
 
 -- this holds of all findings of a zone
-abbrev pub BrokenRulesAreTold : {N O : Type 0} → List (List ℕ) → List (Record N O) → List RrsetName → Type 0
-BrokenRulesAreTold origin records refused = TellsBrokenRules origin records refused (found_in_zone origin records refused)
+abbrev pub BrokenRulesAreReported : {N O : Type 0} → List (List ℕ) → List (Record N O) → List RrsetName → Type 0
+BrokenRulesAreReported origin records refused = ReportsBrokenRules origin records refused (found_in_zone origin records refused)

@@ -5,15 +5,15 @@ use Rattle.std.specs.Cmp.Lexicographic.{pointwise}
 use Rattle.std.specs.List.{list_all}
 use Rattle.std.specs.Option.{option_map, option_map_or}
 use Rattle.dns_octets.specs.Lowered.{same_lowered}
-use Rattle.dns_kinds.specs.Rtype as Rtype
-use Rattle.dns_kinds.specs.declared.types.RecordType.{RecordType}
-use Rattle.dns_spelling.specs.PrintedNames.{labels_in_octets}
-use Rattle.dns_fields.specs.declared.field.Field.TheVariants.{Name as OfName}
-use Rattle.dns_data.specs.ByType.{shape_of_code}
-use Rattle.dns_resource.specs.CanonicalData.{fields_of_shape}
-use Rattle.dns_resource.specs.Parts.{data_part}
-use Rattle.dns_resource.specs.Records.{data_of}
-use Rattle.dns_resource.specs.declared.record.Record.{Record}
+use Rattle.rdata_values.specs.Rtype as Rtype
+use Rattle.rdata_values.specs.declared.types.RecordType.{RecordType}
+use Rattle.rdata_tokens.specs.PrintedNames.{labels_in_octets}
+use Rattle.rdata_fields.specs.declared.field.Field.TheVariants.{Name as OfName}
+use Rattle.rdata.specs.ByType.{shape_of_code}
+use Rattle.zone_record.specs.CanonicalData.{fields_of_shape}
+use Rattle.zone_record.specs.Parts.{data_part}
+use Rattle.zone_record.specs.Records.{data_of}
+use Rattle.zone_record.specs.declared.record.Record.{Record}
 use Rattle.zone_rules.specs.Above.{is_below}
 use Rattle.zone_rules.specs.Zones.{type_of}
 

@@ -7,5 +7,6 @@ pub mod Rows
 pub mod RuleNames
 pub mod Rules
 pub mod Searches
+pub mod Spf
 pub mod Subjects
 pub mod Zones

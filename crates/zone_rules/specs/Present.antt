@@ -5,12 +5,12 @@ use Rattle.std.specs.Option.{option_map_or}
 use Rattle.std.specs.Ordering.{is_le, nat_cmp, ordering_then}
 use Rattle.std.specs.declared.cmp.Ordering.{Ordering}
 use Rattle.dns_wire.specs.Order.{same_name}
-use Rattle.dns_kinds.specs.Rtype as Rtype
-use Rattle.dns_kinds.specs.declared.types.RecordType.{RecordType}
-use Rattle.dns_canonical.specs.Names.{name_order}
-use Rattle.dns_resource.specs.declared.record.Record.{Record}
+use Rattle.rdata_values.specs.Rtype as Rtype
+use Rattle.rdata_values.specs.declared.types.RecordType.{RecordType}
+use Rattle.zone_record.specs.Names.{name_order}
+use Rattle.zone_record.specs.declared.record.Record.{Record}
 use Rattle.zone_rules.specs.Above.{closest_from, names_above, is_below, is_within}
-use Rattle.zone_rules.specs.Zones.{has_owner_within, has_type_at, type_of}
+use Rattle.zone_rules.specs.Zones.{has_owner, has_owner_within, has_type_at, type_of}
 use Rattle.zone_rules.specs.declared.refused.RrsetName.{RrsetName}
 
 -- the RRset of a record
@@ -71,8 +71,24 @@ abbrev pub NothingIsSynthesized : {N O : Type 0} → List (Record N O) → List 
 NothingIsSynthesized records refused = (rtype : RecordType) (name : List (List ℕ)) → is_synthesized rtype name records refused ≡ false
 
 -- a name has an address, of its own or from a wildcard
-abbrev pub gives_address : {N O : Type 0} → List (List ℕ) → List (Record N O) → List RrsetName → Bool
-gives_address name records refused = has_address_in name records refused || (is_synthesized Rtype.a name records refused || is_synthesized Rtype.aaaa name records refused)
+abbrev pub has_any_address : {N O : Type 0} → List (List ℕ) → List (Record N O) → List RrsetName → Bool
+has_any_address name records refused = has_address_in name records refused || (is_synthesized Rtype.a name records refused || is_synthesized Rtype.aaaa name records refused)
+
+-- a name has records: one that was read, or a rejected entry, which is at the name or below it
+abbrev pub has_records : {N O : Type 0} → List (List ℕ) → List (Record N O) → List RrsetName → Bool
+has_records name records refused = has_owner name records || is_listed_within name refused
+
+-- the source of synthesis has records
+abbrev pub source_has_records : {N O : Type 0} → List (List ℕ) → List (Record N O) → List RrsetName → Bool
+source_has_records name records refused = option_map_or (λ encloser. has_records ((42 ∷ []) ∷ encloser) records refused) (closest_encloser name records refused) false
+
+-- a name that doesn't exist has records by synthesis from a wildcard
+abbrev pub has_synthesized : {N O : Type 0} → List (List ℕ) → List (Record N O) → List RrsetName → Bool
+has_synthesized name records refused = not (is_existing name records refused) && source_has_records name records refused
+
+-- a name has records, of its own or from a wildcard
+abbrev pub yields_records : {N O : Type 0} → List (List ℕ) → List (Record N O) → List RrsetName → Bool
+yields_records name records refused = has_records name records refused || has_synthesized name records refused
 
 -- ---- delegations and renamed subtrees
 

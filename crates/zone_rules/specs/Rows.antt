@@ -1,20 +1,21 @@
 -- Worked examples of the rules, each computed.
-use Rattle.std.specs.Prelude.{◌≡◌, ℕ, true, false, Some, None, List, [], ◌∷◌, codes, refl}
-use Rattle.dns_kinds.specs.Rtype as Rtype
-use Rattle.dns_kinds.specs.declared.types.RecordType.{RecordType}
-use Rattle.dns_spelling.specs.PrintedNames.{labels_in_octets}
+use Rattle.std.specs.Prelude.{◌≡◌, ℕ, true, false, Some, None, List, [], ◌∷◌, ◌++◌, codes, refl}
+use Rattle.rdata_values.specs.Rtype as Rtype
+use Rattle.rdata_values.specs.declared.types.RecordType.{RecordType}
+use Rattle.rdata_tokens.specs.PrintedNames.{labels_in_octets}
 use Rattle.dns_wire.specs.Wire.{wire}
-use Rattle.dns_data.specs.Types.{type_shapes}
-use Rattle.dns_resource.specs.declared.record.Record.{Record}
+use Rattle.rdata.specs.Types.{type_shapes}
+use Rattle.zone_record.specs.declared.record.Record.{Record}
 use Rattle.zone_rules.specs.Above.{names_above, is_below, is_within, is_wildcard}
 use Rattle.zone_rules.specs.Base32Texts.{is_base32_text}
 use Rattle.zone_rules.specs.Findings.{found_in_zone}
 use Rattle.zone_rules.specs.HostNames.{is_bad_host_name, is_host_label, is_host_name, is_mailbox_name}
 use Rattle.zone_rules.specs.Present.{closest_encloser, is_synthesized}
-use Rattle.zone_rules.specs.Rules.{are_two_of, have_other_ttls, has_no_algorithm, has_other_protocol, is_alias_in_company, is_below_dname, is_below_its_apex, is_dname_at_cut, is_soa_below_apex, is_unhashed_nsec3, lacks_glue, lacks_key, lacks_ns, lacks_ns_address, names_alias, names_missing, names_renamed}
+use Rattle.zone_rules.specs.Rules.{are_two_of, has_spf_before, have_other_ttls, has_no_algorithm, has_other_protocol, is_alias_in_company, is_alias_loop, is_below_dname, is_below_its_apex, is_dname_at_cut, is_lone_server, is_soa_below_apex, is_unhashed_nsec3, is_weak_digest, lacks_glue, lacks_key, lacks_ns, lacks_ns_address, names_alias, names_missing, names_nothing, names_renamed}
+use Rattle.zone_rules.specs.Spf.{is_spf}
 use Rattle.zone_rules.specs.Zones.{host_of, is_one_set}
 use Rattle.zone_rules.specs.declared.refused.RrsetName.{RrsetName}
-use Rattle.zone_rules.specs.declared.rule.Rule.TheVariants.{NoSoa, NsAddress}
+use Rattle.zone_rules.specs.declared.rule.Rule.TheVariants.{NoSoa, NsAddress, SingleNs}
 
 -- `example.`, and names below it
 abbrev apex : List (List ℕ)
@@ -319,6 +320,134 @@ protocol_row = refl
 algorithm_row : has_no_algorithm (entry apex Rtype.ds (0 ∷ 1 ∷ 0 ∷ 1 ∷ [])) ≡ true
 algorithm_row = refl
 
+-- ---- aliases
+
+abbrev alias_to : List (List ℕ) → Record ℕ ℕ
+alias_to target = entry (under (codes "www")) Rtype.cname (wire target)
+
+nothing_row : names_nothing apex (alias_to (under (codes "a")) ∷ []) [] (alias_to (under (codes "a"))) ≡ true
+unfolding type_shapes labels_in_octets
+nothing_row = refl
+
+-- records of any type are enough (`_domainkey`, `_acme-challenge`), and those of a wildcard
+text_target_row : names_nothing apex (entry (under (codes "A")) Rtype.txt (0 ∷ []) ∷ []) [] (alias_to (under (codes "a"))) ≡ false
+unfolding type_shapes labels_in_octets
+text_target_row = refl
+
+star_records_row : names_nothing apex (entry (under (codes "*")) Rtype.txt (0 ∷ []) ∷ []) [] (alias_to (under (codes "a"))) ≡ false
+unfolding type_shapes labels_in_octets
+star_records_row = refl
+
+-- an empty non-terminal has no records, also below a wildcard's parent
+empty_target_row : names_nothing apex (entry (under (codes "*")) Rtype.txt (0 ∷ []) ∷ entry (two_under (codes "b") (codes "a")) Rtype.a address ∷ []) [] (alias_to (under (codes "a"))) ≡ true
+unfolding type_shapes labels_in_octets
+empty_target_row = refl
+
+-- RFC 2317: `1 CNAME 1.0/26` and `0/26 NS o.`
+classless_row : names_nothing apex (entry (under (codes "0/26")) Rtype.ns (wire (codes "o" ∷ [] ∷ [])) ∷ []) [] (alias_to (two_under (codes "1") (codes "0/26"))) ≡ false
+unfolding type_shapes labels_in_octets
+classless_row = refl
+
+renamed_target_row : names_nothing apex (renaming ∷ []) [] (alias_to (two_under (codes "x") (codes "d"))) ≡ false
+unfolding type_shapes labels_in_octets
+renamed_target_row = refl
+
+outer_target_row : names_nothing apex no_records [] (alias_to (codes "o" ∷ [] ∷ [])) ≡ false
+unfolding type_shapes labels_in_octets
+outer_target_row = refl
+
+-- `a CNAME b` and `b CNAME a`, `a CNAME a`, and `c CNAME a`, which is not in the loop
+abbrev alias_of : List ℕ → List ℕ → Record ℕ ℕ
+alias_of owner target = entry (under owner) Rtype.cname (wire (under target))
+
+abbrev two_aliases : List (Record ℕ ℕ)
+two_aliases = alias_of (codes "a") (codes "b") ∷ alias_of (codes "b") (codes "A") ∷ alias_of (codes "c") (codes "a") ∷ []
+
+loop_row : is_alias_loop two_aliases (alias_of (codes "b") (codes "A")) ≡ true
+unfolding type_shapes labels_in_octets
+loop_row = refl
+
+one_alias_row : is_alias_loop (alias_of (codes "a") (codes "a") ∷ []) (alias_of (codes "a") (codes "a")) ≡ true
+unfolding type_shapes labels_in_octets
+one_alias_row = refl
+
+into_loop_row : is_alias_loop two_aliases (alias_of (codes "c") (codes "a")) ≡ false
+unfolding type_shapes labels_in_octets
+into_loop_row = refl
+
+-- ---- SPF: the first word, in any letter case, of strings that are joined
+
+abbrev text : List ℕ → Record ℕ ℕ
+text octets = entry apex Rtype.txt octets
+
+spf_row : is_spf (text (13 ∷ codes "V=SPF1 a -all")) ≡ true
+spf_row = refl
+
+spf_alone_row : is_spf (text (6 ∷ codes "v=spf1")) ≡ true
+spf_alone_row = refl
+
+spf_parts_row : is_spf (text (4 ∷ codes "v=sp" ++ 0 ∷ 7 ∷ codes "f1 -all")) ≡ true
+spf_parts_row = refl
+
+spf_ten_row : is_spf (text (12 ∷ codes "v=spf10 -all")) ≡ false
+spf_ten_row = refl
+
+-- the second in canonical order is reported
+two_spf_row : has_spf_before (text (6 ∷ codes "v=spf1") ∷ text (11 ∷ codes "v=spf1 -all") ∷ []) (text (11 ∷ codes "v=spf1 -all")) ≡ true
+unfolding type_shapes
+two_spf_row = refl
+
+first_spf_row : has_spf_before (text (6 ∷ codes "v=spf1") ∷ text (11 ∷ codes "v=spf1 -all") ∷ []) (text (6 ∷ codes "v=spf1")) ≡ false
+unfolding type_shapes
+first_spf_row = refl
+
+-- ---- digests: of one key SHA-1 alone, and beside SHA-256
+
+abbrev digest_of : ℕ → ℕ → Record ℕ ℕ
+digest_of tag digest_type = entry (under (codes "d")) Rtype.ds (0 ∷ tag ∷ 8 ∷ digest_type ∷ 255 ∷ [])
+
+weak_row : is_weak_digest (digest_of 1 1 ∷ digest_of 2 2 ∷ []) [] (digest_of 1 1) ≡ true
+weak_row = refl
+
+strong_row : is_weak_digest (digest_of 1 1 ∷ digest_of 1 2 ∷ []) [] (digest_of 1 1) ≡ false
+strong_row = refl
+
+-- a rejected DS may be the other digest
+refused_digest_row : is_weak_digest (digest_of 1 1 ∷ []) (named (under (codes "d")) Rtype.ds ∷ []) (digest_of 1 1) ≡ false
+refused_digest_row = refl
+
+-- ---- name servers
+
+lone_server_row : is_lone_server apex (server ∷ []) [] server ≡ true
+unfolding type_shapes labels_in_octets
+lone_server_row = refl
+
+two_servers_row : is_lone_server apex (server ∷ entry apex Rtype.ns (wire (codes "o" ∷ [] ∷ [])) ∷ []) [] server ≡ false
+unfolding type_shapes labels_in_octets
+two_servers_row = refl
+
+-- a catalog zone (RFC 9432), and a response policy
+catalog_server_row : is_lone_server apex no_records [] (entry apex Rtype.ns (wire (codes "invalid" ∷ [] ∷ []))) ≡ false
+unfolding type_shapes labels_in_octets
+catalog_server_row = refl
+
+policy_server_row : is_lone_server apex no_records [] (entry apex Rtype.ns (wire (codes "ns" ∷ codes "LOCALHOST" ∷ [] ∷ []))) ≡ false
+unfolding type_shapes labels_in_octets
+policy_server_row = refl
+
+refused_server_row : is_lone_server apex (server ∷ []) (named apex Rtype.ns ∷ []) server ≡ false
+unfolding type_shapes labels_in_octets
+refused_server_row = refl
+
+-- one of a delegation, and one outside of the zone
+delegated_server_row : is_lone_server apex (server ∷ entry (under (codes "d")) Rtype.ns (wire (codes "o" ∷ [] ∷ [])) ∷ []) [] (entry (under (codes "d")) Rtype.ns (wire (codes "o" ∷ [] ∷ []))) ≡ false
+unfolding type_shapes labels_in_octets
+delegated_server_row = refl
+
+outside_server_row : is_lone_server apex no_records [] (entry (codes "d" ∷ [] ∷ []) Rtype.ns (wire (codes "o" ∷ [] ∷ []))) ≡ false
+unfolding type_shapes labels_in_octets
+outside_server_row = refl
+
 -- RRSIGs of one owner belong to the RRset of the type that they cover
 one_set_row : is_one_set (entry apex Rtype.rrsig (0 ∷ 1 ∷ [])) (entry apex Rtype.rrsig (0 ∷ 2 ∷ [])) ≡ false
 one_set_row = refl
@@ -328,6 +457,6 @@ ttl_row = refl
 
 -- ---- a zone of one record
 
-zone_row : found_in_zone apex (server ∷ []) [] ≡ record { rule = NoSoa; «record» = None } ∷ record { rule = NsAddress; «record» = Some 0 } ∷ []
+zone_row : found_in_zone apex (server ∷ []) [] ≡ record { rule = NoSoa; «record» = None } ∷ record { rule = NsAddress; «record» = Some 0 } ∷ record { rule = SingleNs; «record» = Some 0 } ∷ []
 unfolding type_shapes labels_in_octets
 zone_row = refl

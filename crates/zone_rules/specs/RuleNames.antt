@@ -1,7 +1,7 @@
 -- The names of the rules.
 use Rattle.std.specs.Prelude.{ℕ, List, codes}
 use Rattle.zone_rules.specs.declared.rule.Rule.{Rule}
-use Rattle.zone_rules.specs.declared.rule.Rule.TheVariants.{NoSoa, NoNs, Outside, TwoSoas, NsAddress, Cname, TwoDnames, BelowDname, DsAtApex, WildcardNs, SoaNotApex, NsBesideDname, Nsec3Owner, MissingGlue, HostIsAlias, HostBelowDname, HostMissing, HostName, CdsWithoutKey, DsWithoutNs, NotAtApex, KeyProtocol, KeyAlgorithm, TtlDiffers, Duplicate}
+use Rattle.zone_rules.specs.declared.rule.Rule.TheVariants.{NoSoa, NoNs, Outside, TwoSoas, NsAddress, Cname, TwoDnames, BelowDname, DsAtApex, WildcardNs, SoaNotApex, NsBesideDname, Nsec3Owner, MissingGlue, HostIsAlias, HostBelowDname, HostMissing, HostName, CdsWithoutKey, DsWithoutNs, NotAtApex, KeyProtocol, KeyAlgorithm, CnameTargetMissing, CnameLoop, TwoSpf, WeakDigest, SingleNs, TtlDiffers, Duplicate}
 
 abbrev pub rule_name : Rule → List ℕ
 rule_name NoSoa = codes "no-soa"
@@ -27,5 +27,10 @@ rule_name DsWithoutNs = codes "ds-without-ns"
 rule_name NotAtApex = codes "not-at-apex"
 rule_name KeyProtocol = codes "key-protocol"
 rule_name KeyAlgorithm = codes "key-algorithm"
+rule_name CnameTargetMissing = codes "cname-target-missing"
+rule_name CnameLoop = codes "cname-loop"
+rule_name TwoSpf = codes "two-spf"
+rule_name WeakDigest = codes "weak-digest"
+rule_name SingleNs = codes "single-ns"
 rule_name TtlDiffers = codes "ttl-differs"
 rule_name Duplicate = codes "duplicate"

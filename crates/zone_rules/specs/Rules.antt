@@ -1,22 +1,23 @@
 -- The rules: when a record breaks each.
-use Rattle.std.specs.Prelude.{ℕ, ◌==◌, ◌&&◌, ◌||◌, not, nat_eq, Bool, false, List, [], ◌∷◌, slice_get, Option, option_and_then}
+use Rattle.std.specs.Prelude.{ℕ, zero, suc, ◌==◌, ◌&&◌, ◌||◌, not, nat_eq, if◌then◌else◌, Bool, false, List, [], ◌∷◌, slice_get, Option, Some, None, codes, option_and_then}
 use Rattle.std.specs.Cmp.Lexicographic.{pointwise}
-use Rattle.std.specs.List.{list_any}
+use Rattle.std.specs.List.{find, list_any}
 use Rattle.std.specs.Option.{option_map_or}
 use Rattle.dns_wire.specs.Order.{same_name}
-use Rattle.dns_kinds.specs.Classes.{internet}
-use Rattle.dns_kinds.specs.Rtype as Rtype
-use Rattle.dns_kinds.specs.declared.types.RecordType.{RecordType}
-use Rattle.dns_resource.specs.Records.{data_of}
-use Rattle.dns_resource.specs.declared.record.Record.{Record}
+use Rattle.rdata_values.specs.Classes.{internet}
+use Rattle.rdata_values.specs.Rtype as Rtype
+use Rattle.rdata_values.specs.declared.types.RecordType.{RecordType}
+use Rattle.zone_record.specs.Records.{data_of}
+use Rattle.zone_record.specs.declared.record.Record.{Record}
 use Rattle.zone_rules.specs.Above.{first_label_of, is_below, is_within, is_wildcard, names_above}
 use Rattle.zone_rules.specs.Base32Texts.{is_base32_text}
-use Rattle.zone_rules.specs.HostNames.{is_bad_host_name}
-use Rattle.zone_rules.specs.Present.{closest_dname, gives_address, has_address_in, has_dname_above, is_own, is_present, is_renamed, is_synthesized}
-use Rattle.zone_rules.specs.Zones.{type_of, has_type_at, is_equal_record, record_before, host_of, set_type, is_one_set}
+use Rattle.zone_rules.specs.HostNames.{is_bad_host_name, name_in}
+use Rattle.zone_rules.specs.Present.{closest_dname, has_any_address, yields_records, has_address_in, has_dname_above, is_listed, is_own, is_present, is_renamed, is_synthesized}
+use Rattle.zone_rules.specs.Spf.{is_spf}
+use Rattle.zone_rules.specs.Zones.{comes_before, type_of, has_type_at, is_equal_record, record_before, host_of, set_type, is_one_set}
 use Rattle.zone_rules.specs.declared.refused.RrsetName.{RrsetName}
 use Rattle.zone_rules.specs.declared.rule.Rule.{Rule}
-use Rattle.zone_rules.specs.declared.rule.Rule.TheVariants.{NoSoa, NoNs, Outside, TwoSoas, NsAddress, Cname, TwoDnames, BelowDname, DsAtApex, WildcardNs, SoaNotApex, NsBesideDname, Nsec3Owner, MissingGlue, HostIsAlias, HostBelowDname, HostMissing, HostName, CdsWithoutKey, DsWithoutNs, NotAtApex, KeyProtocol, KeyAlgorithm, TtlDiffers, Duplicate}
+use Rattle.zone_rules.specs.declared.rule.Rule.TheVariants.{NoSoa, NoNs, Outside, TwoSoas, NsAddress, Cname, TwoDnames, BelowDname, DsAtApex, WildcardNs, SoaNotApex, NsBesideDname, Nsec3Owner, MissingGlue, HostIsAlias, HostBelowDname, HostMissing, HostName, CdsWithoutKey, DsWithoutNs, NotAtApex, KeyProtocol, KeyAlgorithm, CnameTargetMissing, CnameLoop, TwoSpf, WeakDigest, SingleNs, TtlDiffers, Duplicate}
 
 -- the record is neither at the origin nor below it
 abbrev pub is_out_of_zone : {N O : Type 0} → List (List ℕ) → Record N O → Bool
@@ -112,7 +113,7 @@ is_below_own_dname origin records refused name = is_renamed name records refused
 
 -- the zone is authoritative for a name, and has no address for it
 abbrev pub lacks_address : {N O : Type 0} → List (List ℕ) → List (Record N O) → List RrsetName → List (List ℕ) → Bool
-lacks_address origin records refused name = (is_renamed name records refused || not (gives_address name records refused)) && is_own origin records refused name
+lacks_address origin records refused name = (is_renamed name records refused || not (has_any_address name records refused)) && is_own origin records refused name
 
 -- the host of an NS at the apex has no address
 abbrev pub lacks_ns_address : {N O M P : Type 0} → List (List ℕ) → List (Record N O) → List RrsetName → Record M P → Bool
@@ -141,6 +142,37 @@ is_missing origin records refused name = lacks_address origin records refused na
 -- the host of an MX, SRV or NS is missing; for an NS at the apex that is an error of its own
 abbrev pub names_missing : {N O M P : Type 0} → List (List ℕ) → List (Record N O) → List RrsetName → Record M P → Bool
 names_missing origin records refused r = not (is_record_at_apex Rtype.ns origin r) && names_internet_host (is_missing origin records refused) r
+
+-- ---- aliases
+
+-- the target of a CNAME
+abbrev pub alias_target : {N O : Type 0} → Record N O → Option (List (List ℕ))
+alias_target r = if type_of r == Rtype.cname then name_in r (Some 0) else None
+
+-- the zone is authoritative for a name, which is not below a DNAME, and has no records for it
+abbrev pub lacks_records : {N O : Type 0} → List (List ℕ) → List (Record N O) → List RrsetName → List (List ℕ) → Bool
+lacks_records origin records refused name = not (yields_records name records refused) && (not (is_renamed name records refused) && is_own origin records refused name)
+
+-- the zone has no records for the target of a CNAME
+abbrev pub names_nothing : {N O M P : Type 0} → List (List ℕ) → List (Record N O) → List RrsetName → Record M P → Bool
+names_nothing origin records refused r = option_map_or (lacks_records origin records refused) (alias_target r) false
+
+-- the first CNAME at a name
+abbrev pub alias_at : {N O : Type 0} → List (List ℕ) → List (Record N O) → Option (Record N O)
+alias_at name records = find (λ r. same_name r.owner name && type_of r == Rtype.cname) records
+
+-- the target of the first CNAME at a name
+abbrev pub name_after : {N O : Type 0} → List (Record N O) → List (List ℕ) → Option (List (List ℕ))
+name_after records name = option_and_then alias_target (alias_at name records)
+
+-- CNAMEs lead from a name to another one, up to a number of them
+abbrev pub leads_to : {N O : Type 0} → ℕ → List (Record N O) → List (List ℕ) → List (List ℕ) → Bool
+leads_to zero records goal name = false
+leads_to (suc count) records goal name = option_map_or (λ next. same_name next goal || leads_to count records goal next) (name_after records name) false
+
+-- at most 16 CNAMEs, of which the record is the first, lead back to its owner (RFC 1034 section 3.6.2)
+abbrev pub is_alias_loop : {N O M P : Type 0} → List (Record N O) → Record M P → Bool
+is_alias_loop records r = type_of r == Rtype.cname && leads_to 16 records r.owner r.owner
 
 -- ---- keys
 
@@ -177,6 +209,54 @@ has_other_protocol r = type_of r == Rtype.dnskey && has_octet_at (λ o. not (o =
 abbrev pub has_no_algorithm : {N O : Type 0} → Record N O → Bool
 has_no_algorithm r = (type_of r == Rtype.dnskey && has_octet_at (λ o. o == 0) 3 r) || (type_of r == Rtype.ds && has_octet_at (λ o. o == 0) 2 r)
 
+-- both have the same octet at an offset of their data
+abbrev pub have_one_octet : {N O M P : Type 0} → ℕ → Record N O → Record M P → Bool
+have_one_octet place a b = option_map_or (λ octet. has_octet_at (λ o. o == octet) place b) (slice_get (data_of a).octets place) false
+
+-- the key tag and algorithm of DS (RFC 4034 section 5.1)
+abbrev pub are_of_one_key : {N O M P : Type 0} → Record N O → Record M P → Bool
+are_of_one_key a b = have_one_octet 0 a b && (have_one_octet 1 a b && have_one_octet 2 a b)
+
+-- the digest type of a DS is SHA-1
+abbrev pub is_of_sha1 : {N O : Type 0} → Record N O → Bool
+is_of_sha1 r = has_octet_at (λ o. o == 1) 3 r
+
+-- another record at a DS's owner is a DS of the same key, with a digest other than SHA-1
+abbrev pub is_digest_beside : {N O M P : Type 0} → Record N O → Record M P → Bool
+is_digest_beside r other = same_name other.owner r.owner && (type_of other == Rtype.ds && (not (is_of_sha1 other) && are_of_one_key r other))
+
+-- a DS with SHA-1, and no other digest of its key
+abbrev pub is_weak_digest : {N O M P : Type 0} → List (Record N O) → List RrsetName → Record M P → Bool
+is_weak_digest records refused r = type_of r == Rtype.ds && (is_of_sha1 r && (not (is_listed Rtype.ds r.owner refused) && not (list_any (is_digest_beside r) records)))
+
+-- ---- SPF
+
+-- another record at a record's owner has an SPF record, and comes before it
+abbrev pub is_spf_beside : {N O M P : Type 0} → Record N O → Record M P → Bool
+is_spf_beside r other = same_name other.owner r.owner && (is_spf other && comes_before other r)
+
+-- a record has an SPF record, and so has an earlier one at its owner (RFC 7208 section 3.2)
+abbrev pub has_spf_before : {N O M P : Type 0} → List (Record N O) → Record M P → Bool
+has_spf_before records r = is_spf r && list_any (is_spf_beside r) records
+
+-- ---- name servers
+
+-- another record at a record's owner is an NS, and differs from it
+abbrev pub is_server_beside : {N O M P : Type 0} → Record N O → Record M P → Bool
+is_server_beside r other = same_name other.owner r.owner && (type_of other == Rtype.ns && not (is_equal_record r other))
+
+-- names that no server has (RFC 6761): catalog zones (RFC 9432) and response policies have them as hosts
+abbrev pub is_serverless : List (List ℕ) → Bool
+is_serverless name = is_within name (codes "invalid" ∷ [] ∷ []) || is_within name (codes "localhost" ∷ [] ∷ [])
+
+abbrev pub names_server : {N O : Type 0} → Record N O → Bool
+names_server r = names_host (λ host. not (is_serverless host)) r
+
+-- the only NS of the apex, with a host that may be a server (RFC 1034 section 4.1)
+abbrev pub is_lone_server : {N O M P : Type 0} → List (List ℕ) → List (Record N O) → List RrsetName → Record M P → Bool
+is_lone_server origin records refused r =
+    type_of r == Rtype.ns && (same_name r.owner origin && (names_server r && (not (is_listed Rtype.ns r.owner refused) && not (list_any (is_server_beside r) records))))
+
 -- ---- all rules
 
 -- whether a record breaks a rule after the one before it, if there is one; no record breaks the rules about what is missing at the apex
@@ -204,5 +284,10 @@ breaks DsWithoutNs origin records refused before r = lacks_ns origin records ref
 breaks NotAtApex origin records refused before r = is_below_its_apex origin records refused r
 breaks KeyProtocol origin records refused before r = has_other_protocol r
 breaks KeyAlgorithm origin records refused before r = has_no_algorithm r
+breaks CnameTargetMissing origin records refused before r = names_nothing origin records refused r
+breaks CnameLoop origin records refused before r = is_alias_loop records r
+breaks TwoSpf origin records refused before r = has_spf_before records r
+breaks WeakDigest origin records refused before r = is_weak_digest records refused r
+breaks SingleNs origin records refused before r = is_lone_server origin records refused r
 breaks TtlDiffers origin records refused before r = passes_after have_other_ttls before r
 breaks Duplicate origin records refused before r = passes_after is_equal_record before r

@@ -3,9 +3,9 @@ use Rattle.std.specs.Prelude.{ℕ, ◌≡◌, ◌≤◌, ◌-◌, ◌==◌, ◌&
 use Rattle.std.specs.List.{AllAdjacentBelow, AllWithin, find, list_any}
 use Rattle.std.specs.List.Sorted.{IsPartitionPoint}
 use Rattle.std.specs.Ordering.{is_le, is_lt}
-use Rattle.dns_canonical.specs.Names.{name_order}
-use Rattle.dns_kinds.specs.declared.types.RecordType.{RecordType}
-use Rattle.dns_resource.specs.declared.record.Record.{Record}
+use Rattle.zone_record.specs.Names.{name_order}
+use Rattle.rdata_values.specs.declared.types.RecordType.{RecordType}
+use Rattle.zone_record.specs.declared.record.Record.{Record}
 use Rattle.dns_wire.specs.Order.{same_name}
 use Rattle.dns_wire.specs.Wire.{wire_length}
 use Rattle.zone_rules.specs.Above.{closest_from, is_within, names_above}

@@ -1,14 +1,16 @@
 -- A record at an index, with what rules ask of it: words for private functions.
-use Rattle.std.specs.Prelude.{◌≡◌, ℕ, ◌==◌, ◌&&◌, not, Bool, false, Some, List, slice_get}
+use Rattle.std.specs.Prelude.{◌≡◌, ℕ, ◌==◌, ◌&&◌, not, Bool, false, Option, Some, List, option_and_then, slice_get}
 use Rattle.std.specs.Option.{option_map, option_map_or}
-use Rattle.dns_kinds.specs.Classes.{internet}
-use Rattle.dns_kinds.specs.Rtype as Rtype
-use Rattle.dns_resource.specs.declared.record.Record.{Record}
+use Rattle.rdata_values.specs.Classes.{internet}
+use Rattle.rdata_values.specs.Rtype as Rtype
+use Rattle.zone_record.specs.declared.record.Record.{Record}
 use Rattle.zone_rules.specs.Above.{is_below, is_within}
 use Rattle.zone_rules.specs.Findings.{breaks_at}
 use Rattle.zone_rules.specs.Present.{is_present}
-use Rattle.zone_rules.specs.Rules.{breaks, is_beside_alias, is_record_at_apex, lacks_glue, lacks_ns_address, names_alias, names_missing, names_renamed}
+use Rattle.zone_rules.specs.Rules.{alias_at, breaks, is_beside_alias, is_digest_beside, is_record_at_apex, is_server_beside, is_spf_beside, lacks_glue, lacks_ns_address, names_alias, names_missing, names_renamed}
 use Rattle.zone_rules.specs.Zones.{as_listed, record_before, type_of}
+use Rattle.zone_rules.specs.declared.beside.Relation.{Relation}
+use Rattle.zone_rules.specs.declared.beside.Relation.TheVariants.{Alias, Spf, Digest, Server}
 use Rattle.zone_rules.specs.declared.refused.RrsetName.{RrsetName}
 use Rattle.zone_rules.specs.declared.rule.Rule.{Rule}
 use Rattle.zone_rules.specs.declared.subject.HostFaults.{HostFaults}
@@ -36,9 +38,24 @@ has_aaaa_in name records refused = is_present Rtype.aaaa name records refused
 abbrev pub has_cname_in : {N O : Type 0} → List (List ℕ) → List (Record N O) → List RrsetName → Bool
 has_cname_in name records refused = is_present Rtype.cname name records refused
 
--- the record at an index has the same owner as an alias and must not
-abbrev pub is_beside_alias_at : {N O M P : Type 0} → Record M P → List (Record N O) → ℕ → Bool
-is_beside_alias_at alias records place = option_map_or (is_beside_alias alias) (slice_get records place) false
+-- the record at an index is a CNAME
+abbrev pub is_alias_in : {N O : Type 0} → List (Record N O) → ℕ → Bool
+is_alias_in records place = option_map_or (λ r. type_of r == Rtype.cname) (slice_get records place) false
+
+-- the index, if there is one, of the first CNAME at a name
+abbrev pub IsFirstAlias : {N O : Type 0} → List (List ℕ) → List (Record N O) → Option ℕ → Type 0
+IsFirstAlias name records place = option_and_then (slice_get records) place ≡ alias_at name records
+
+-- a relation of a record to another one
+abbrev pub relates : {N O M P : Type 0} → Relation → Record M P → Record N O → Bool
+relates Alias r other = is_beside_alias r other
+relates Spf r other = is_spf_beside r other
+relates Digest r other = is_digest_beside r other
+relates Server r other = is_server_beside r other
+
+-- the record at an index is the other one
+abbrev pub relates_at : {N O M P : Type 0} → Relation → Record M P → List (Record N O) → ℕ → Bool
+relates_at relation r records place = option_map_or (relates relation r) (slice_get records place) false
 
 -- the rules that the host in a record's data breaks
 pub record AreHostFaults {N O M P : Type 0} (origin : List (List ℕ)) (records : List (Record N O)) (refused : List RrsetName) (r : Record M P) (faults : HostFaults) : Type 0 where

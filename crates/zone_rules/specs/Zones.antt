@@ -3,17 +3,17 @@ use Rattle.std.specs.Prelude.{◌≡◌, ℕ, ◌-◌, ◌==◌, ◌&&◌, if◌
 use Rattle.std.specs.Int.{from_be_bytes, w16}
 use Rattle.std.specs.List.{AllAdjacentBelow, list_all, list_any}
 use Rattle.std.specs.Option.{option_map, option_map_or}
-use Rattle.std.specs.Ordering.{is_eq, is_le}
+use Rattle.std.specs.Ordering.{is_eq, is_le, is_lt}
 use Rattle.dns_wire.specs.Order.{same_name}
-use Rattle.dns_kinds.specs.Rtype as Rtype
-use Rattle.dns_kinds.specs.declared.types.RecordType.{RecordType}
-use Rattle.dns_spelling.specs.PrintedNames.{labels_in_octets}
-use Rattle.dns_canonical.specs.Records.{record_order}
-use Rattle.dns_resource.specs.CanonicalData.{record_key}
-use Rattle.dns_resource.specs.Parts.{data_part}
-use Rattle.dns_resource.specs.Records.{data_of}
-use Rattle.dns_resource.specs.TypeData.{TypeData}
-use Rattle.dns_resource.specs.declared.record.Record.{Record}
+use Rattle.rdata_values.specs.Rtype as Rtype
+use Rattle.rdata_values.specs.declared.types.RecordType.{RecordType}
+use Rattle.rdata_tokens.specs.PrintedNames.{labels_in_octets}
+use Rattle.zone_record.specs.CanonicalRecords.{record_order}
+use Rattle.zone_record.specs.CanonicalData.{record_key}
+use Rattle.zone_record.specs.Parts.{data_part}
+use Rattle.zone_record.specs.Records.{data_of}
+use Rattle.zone_record.specs.TypeData.{TypeData}
+use Rattle.zone_record.specs.declared.record.Record.{Record}
 use Rattle.zone_rules.specs.Above.{closest_from, is_wildcard, is_within}
 
 abbrev pub type_of : {N O : Type 0} → Record N O → RecordType
@@ -46,6 +46,10 @@ as_listed r = record { owner = r.owner; ttl = r.ttl; class = r.class; «data» =
 -- records are equal in canonical form, whatever their TTLs
 abbrev pub is_equal_record : {N O M P : Type 0} → Record N O → Record M P → Bool
 is_equal_record a b = is_eq (record_order (record_key a) (record_key b))
+
+-- a record comes before another one in canonical order (RFC 4034 section 6)
+abbrev pub comes_before : {N O M P : Type 0} → Record N O → Record M P → Bool
+comes_before a b = is_lt (record_order (record_key a) (record_key b))
 
 -- records are in canonical order (RFC 4034 section 6)
 abbrev pub AreInOrder : {N O : Type 0} → List (Record N O) → Type 0

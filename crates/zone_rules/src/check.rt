@@ -6,6 +6,8 @@ ghost use Rattle.zone_rules.specs.Findings.{found_at, found_at_apex, found_if, f
 ghost use Rattle.zone_rules.specs.Subjects.{breaks_by, is_broken, HasItsFaults, IsSubject};
 ghost use Rattle.zone_rules.specs.Zones.{as_listed, record_before};
 
+use crate::aliases::{is_loop, is_target_missing};
+use crate::beside::{has_company, is_lone_server, is_second_spf, is_weak_ds};
 use crate::hash_owners::is_nsec3_without_hash;
 use crate::host_names::is_no_host_name;
 use crate::hosts::{host_faults, is_dname_at_delegation};
@@ -14,8 +16,7 @@ use crate::keys::{
 };
 use crate::names::view;
 use crate::owners::{
-    has_company, is_apex_record, is_ns_at_wildcard, is_outside_zone, is_soa_elsewhere,
-    is_under_dname,
+    is_apex_record, is_ns_at_wildcard, is_outside_zone, is_soa_elsewhere, is_under_dname,
 };
 use crate::pairs::{has_other_ttl, is_duplicate, is_second};
 use crate::present::has_set;
@@ -23,13 +24,13 @@ use crate::refused::SortedSets;
 use crate::rule::{Finding, Rule};
 use crate::subject::Subject;
 use crate::zone_records::{OwnerBuffer, ZoneRecord, ZoneRecords};
-use dns_kinds::RecordType;
 use dns_octets::AsOctets;
 use dns_wire::Name;
+use rdata_values::RecordType;
 use std::alloc::{AllocError, Allocator};
 
 /// The rules for records, in the order in which their findings are reported.
-const RECORD_RULES: [Rule; 23] = [
+const RECORD_RULES: [Rule; 28] = [
     Rule::Outside,
     Rule::TwoSoas,
     Rule::NsAddress,
@@ -51,6 +52,11 @@ const RECORD_RULES: [Rule; 23] = [
     Rule::NotAtApex,
     Rule::KeyProtocol,
     Rule::KeyAlgorithm,
+    Rule::CnameTargetMissing,
+    Rule::CnameLoop,
+    Rule::TwoSpf,
+    Rule::WeakDigest,
+    Rule::SingleNs,
     Rule::TtlDiffers,
     Rule::Duplicate,
 ];
@@ -92,6 +98,11 @@ fn breaks_rule<Z: ZoneRecords>(
         Rule::NotAtApex => is_not_at_apex(origin, records, refused, record),
         Rule::KeyProtocol => is_of_other_protocol(record),
         Rule::KeyAlgorithm => is_without_algorithm(record),
+        Rule::CnameTargetMissing => is_target_missing(origin, records, refused, record),
+        Rule::CnameLoop => is_loop(records, record),
+        Rule::TwoSpf => is_second_spf(records, record),
+        Rule::WeakDigest => is_weak_ds(records, refused, record),
+        Rule::SingleNs => is_lone_server(origin, records, refused, record),
         Rule::TtlDiffers => has_other_ttl(before, record),
         Rule::Duplicate => is_duplicate(before, record),
     }

@@ -5,9 +5,9 @@ ghost use Rattle.zone_rules.specs.Base32Texts.{are_whole_octets, base32_value, e
 ghost use Rattle.zone_rules.specs.Rules.{is_unhashed_nsec3};
 
 use crate::names::{first_label, view};
-use dns_kinds::RecordType;
 use dns_octets::AsOctets;
-use dns_resource::Record;
+use rdata_values::RecordType;
+use zone_record::Record;
 
 /// Returns the value of a base32hex digit, in either case (RFC 4648 section 7), or `None` for other
 /// octets.

@@ -3,20 +3,20 @@
 ghost use Rattle.std.specs.Prelude.{◌≡◌, ◌-◌, ◌∷◌, [], Some, IfSome, codes, length, true};
 ghost use Rattle.std.specs.List.{list_all};
 ghost use Rattle.std.specs.Option.{option_copied, option_map_or};
-ghost use Rattle.dns_kinds.specs.Rtype as Rtype;
-ghost use Rattle.dns_spelling.specs.NameSpelling.{IsWireName};
-ghost use Rattle.dns_resource.specs.Parts.{data_part};
+ghost use Rattle.rdata_values.specs.Rtype as Rtype;
+ghost use Rattle.rdata_tokens.specs.NameSpelling.{IsWireName};
+ghost use Rattle.zone_record.specs.Parts.{data_part};
 ghost use Rattle.zone_rules.specs.Above.{first_label_of, is_below, parent_of};
 ghost use Rattle.zone_rules.specs.HostNames.{asks_for_host, has_hyphen_at, is_address_type, is_bad_host_name, is_bad_mailbox, is_bad_owner, is_bad_target, is_catalog_name, is_graphic, is_host_label, is_host_name, is_host_octet, is_host_owner, is_mailbox_name, is_reverse_name, name_in, target_field, IsNameField};
 ghost use Rattle.zone_rules.specs.Zones.{type_of};
 
 use crate::names::{first_label, is_name_below, name_of, parent};
 use crate::zone_records::ZoneRecord;
-use dns_kinds::RecordType;
 use dns_octets::AsOctets;
 use dns_octets::lowered::same_octets;
-use dns_resource::Data;
 use dns_wire::Name;
+use rdata_values::RecordType;
+use zone_record::Data;
 
 /// The top of the tree of IPv4 addresses (RFC 1035 section 3.5).
 const IN_ADDR_ARPA: &[u8] = b"\x07in-addr\x04arpa\x00";

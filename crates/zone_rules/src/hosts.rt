@@ -1,10 +1,11 @@
 //! Checks the hosts in records: that they have addresses, and are not aliases.
-ghost use Rattle.std.specs.Prelude.{◌≡◌, ◌&&◌, ◌||◌, IfSome, Some, not};
+ghost use Rattle.std.specs.Prelude.{◌≡◌, [], ◌∷◌, ◌&&◌, ◌||◌, IfSome, Some, codes, not};
 ghost use Rattle.std.specs.Option.{option_copied};
-ghost use Rattle.dns_kinds.specs.Rtype as Rtype;
-ghost use Rattle.dns_spelling.specs.NameSpelling.{IsWireName};
+ghost use Rattle.rdata_values.specs.Rtype as Rtype;
+ghost use Rattle.rdata_tokens.specs.NameSpelling.{IsWireName};
+ghost use Rattle.zone_rules.specs.Above.{is_within};
 ghost use Rattle.zone_rules.specs.Present.{has_address_in, is_listed, is_own, is_present, is_renamed};
-ghost use Rattle.zone_rules.specs.Rules.{dname_above_host, is_alias, is_below_own_dname, is_below_zone_cut, is_dname_at_cut, is_missing, is_zone_cut, lacks_address};
+ghost use Rattle.zone_rules.specs.Rules.{dname_above_host, is_alias, is_below_own_dname, is_below_zone_cut, is_dname_at_cut, is_missing, is_serverless, is_zone_cut, lacks_address, names_server};
 ghost use Rattle.zone_rules.specs.Subjects.{has_a_in, has_aaaa_in, has_cname_in, is_apex_server, is_server_above, wants_host, AreHostFaults};
 ghost use Rattle.zone_rules.specs.Zones.{but_root, host_field, host_octets, host_of};
 
@@ -17,10 +18,16 @@ use crate::present::{
 use crate::refused::{SortedSets, lists_set};
 use crate::subject::HostFaults;
 use crate::zone_records::{HostTypes, ZoneRecord, ZoneRecords};
-use dns_kinds::{Class, RecordType};
 use dns_octets::AsOctets;
-use dns_resource::{Data, Record};
 use dns_wire::Name;
+use rdata_values::{Class, RecordType};
+use zone_record::{Data, Record};
+
+/// The name of hosts that do not exist (RFC 6761 section 6.4).
+const INVALID: &[u8] = b"\x07invalid\x00";
+
+/// The name of the machine itself (RFC 6761 section 6.3).
+const LOCALHOST: &[u8] = b"\x09localhost\x00";
 
 /// Returns the index of the field that is a host, in data of a type.
 fn place_of_host(rtype: RecordType) -> Option<usize>
@@ -66,6 +73,37 @@ fn host<Owner: AsOctets, Octets: AsOctets>(record: &Record<Owner, Octets>) -> Op
     }
 }
 
+/// Returns whether a name is `invalid.` or below it.
+fn is_invalid(name: &Name<&[u8]>) -> bool
+    ensures { result ≡ is_within name.now (codes "invalid" ∷ [] ∷ []) }
+{
+    is_name_within(name, &name_of(INVALID))
+}
+
+/// Returns whether a name is `localhost.` or below it.
+fn is_local(name: &Name<&[u8]>) -> bool
+    ensures { result ≡ is_within name.now (codes "localhost" ∷ [] ∷ []) }
+{
+    is_name_within(name, &name_of(LOCALHOST))
+}
+
+/// Returns whether a name is at or below a name that no server has (RFC 6761).
+fn is_serverless(name: &Name<&[u8]>) -> bool
+    ensures { result ≡ is_serverless name.now }
+{
+    is_invalid(name) || is_local(name)
+}
+
+/// Returns whether a record has a host that may be a server.
+pub(crate) fn names_server(record: &ZoneRecord<'_>) -> bool
+    ensures { result ≡ names_server «record».now }
+{
+    match host(record) {
+        Some(name) => !is_serverless(&name),
+        None => false,
+    }
+}
+
 /// Returns whether a name is a delegation.
 pub fn is_cut<Z: ZoneRecords>(origin: &Name<&[u8]>, records: &Z, name: &Name<&[u8]>) -> bool
     ensures { result ≡ is_zone_cut origin.now (Z.contents records.now) name.now }
@@ -96,7 +134,7 @@ pub fn is_under_cut<Z: ZoneRecords>(origin: &Name<&[u8]>, records: &Z, name: &Na
 }
 
 /// Returns whether the zone is authoritative for a name.
-fn is_of_zone<Z: ZoneRecords>(
+pub(crate) fn is_of_zone<Z: ZoneRecords>(
     origin: &Name<&[u8]>,
     records: &Z,
     refused: &SortedSets<'_>,
@@ -108,7 +146,7 @@ fn is_of_zone<Z: ZoneRecords>(
 }
 
 /// Returns whether an ancestor of a name has a DNAME.
-fn is_name_renamed<Z: ZoneRecords>(
+pub(crate) fn is_name_renamed<Z: ZoneRecords>(
     records: &Z,
     refused: &SortedSets<'_>,
     name: &Name<&[u8]>,

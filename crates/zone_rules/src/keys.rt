@@ -1,16 +1,16 @@
 //! Checks keys, and records that belong at an apex.
 ghost use Rattle.std.specs.Prelude.{◌≡◌, ◌==◌, slice_get};
-ghost use Rattle.dns_resource.specs.Records.{data_of};
-ghost use Rattle.zone_rules.specs.Rules.{has_no_algorithm, has_octet_at, has_other_protocol, is_apex_type, is_below_its_apex, is_delete_request, lacks_key, lacks_ns};
+ghost use Rattle.zone_record.specs.Records.{data_of};
+ghost use Rattle.zone_rules.specs.Rules.{are_of_one_key, has_no_algorithm, has_octet_at, has_other_protocol, have_one_octet, is_apex_type, is_below_its_apex, is_delete_request, is_of_sha1, lacks_key, lacks_ns};
 
 use crate::names::is_name_below;
 use crate::present::has_set;
 use crate::refused::SortedSets;
 use crate::zone_records::{ZoneRecord, ZoneRecords};
-use dns_kinds::RecordType;
 use dns_octets::AsOctets;
-use dns_resource::Record;
 use dns_wire::Name;
+use rdata_values::RecordType;
+use zone_record::Record;
 
 /// Returns whether a record asks the parent to delete all DS (RFC 8078 section 4).
 fn is_deletion<Owner: AsOctets, Octets: AsOctets>(record: &Record<Owner, Octets>) -> bool
@@ -133,5 +133,44 @@ pub(crate) fn is_without_algorithm<Owner: AsOctets, Octets: AsOctets>(
         RecordType::DNSKEY => is_zero_at(record, 3),
         RecordType::DS => is_zero_at(record, 2),
         _ => false,
+    }
+}
+
+/// Returns whether two records have the same octet at an offset of their data.
+fn have_one_octet<Owner: AsOctets, Octets: AsOctets>(
+    left: &Record<Owner, Octets>,
+    right: &Record<Owner, Octets>,
+    place: usize,
+) -> bool
+    ensures { result ≡ have_one_octet place left.now right.now }
+{
+    match octet_at(left, place) {
+        Some(octet) => match octet_at(right, place) {
+            Some(other) => other == octet,
+            None => false,
+        },
+        None => false,
+    }
+}
+
+/// Returns whether two DS have the same key tag and algorithm.
+pub(crate) fn is_of_same_key<Owner: AsOctets, Octets: AsOctets>(
+    left: &Record<Owner, Octets>,
+    right: &Record<Owner, Octets>,
+) -> bool
+    ensures { result ≡ are_of_one_key left.now right.now }
+{
+    have_one_octet(left, right, 0)
+        && have_one_octet(left, right, 1)
+        && have_one_octet(left, right, 2)
+}
+
+/// Returns whether the digest type of a DS is SHA-1.
+pub(crate) fn is_of_sha1<Owner: AsOctets, Octets: AsOctets>(record: &Record<Owner, Octets>) -> bool
+    ensures { result ≡ is_of_sha1 «record».now }
+{
+    match octet_at(record, 3) {
+        Some(digest_type) => digest_type == 1,
+        None => false,
     }
 }

@@ -1,5 +1,5 @@
 //! Laws about findings.
-ghost use Rattle.zone_rules.specs.Findings.{BrokenRulesAreTold};
+ghost use Rattle.zone_rules.specs.Findings.{BrokenRulesAreReported};
 
 use crate::refused::SortedSets;
 use crate::zone_records::ZoneRecords;
@@ -8,10 +8,10 @@ use dns_wire::Name;
 
 /// States that a finding names a record and a rule if and only if the record breaks the rule. It
 /// does nothing else.
-pub fn broken_rules_are_told<Z: ZoneRecords, Origin: AsOctets>(
+pub fn broken_rules_are_reported<Z: ZoneRecords, Origin: AsOctets>(
     origin: &Name<Origin>,
     records: &Z,
     refused: &SortedSets<'_>,
 )
-    ensures { BrokenRulesAreTold origin.now (Z.contents records.now) refused.now }
+    ensures { BrokenRulesAreReported origin.now (Z.contents records.now) refused.now }
 {}

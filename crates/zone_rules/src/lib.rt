@@ -1,6 +1,8 @@
 //! Checks the rules of a zone as a whole, over its records in canonical order.
 #![tactic(auto)]
 
+pub mod aliases;
+pub mod beside;
 pub mod check;
 mod hash_owners;
 pub mod host_names;
@@ -15,6 +17,7 @@ pub mod refused;
 pub mod rule;
 pub mod search;
 pub mod sorted;
+mod spf;
 pub mod subject;
 pub mod zone_records;
 

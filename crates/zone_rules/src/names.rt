@@ -2,16 +2,16 @@
 ghost use Rattle.std.specs.Prelude.{◌≡◌, ◌≤◌, All, length, Some};
 ghost use Rattle.dns_wire.specs.Order.{same_name};
 ghost use Rattle.dns_wire.specs.Wire.{wire, wire_length, IsName, EndsInRoot};
-ghost use Rattle.dns_spelling.specs.NameSpelling.{IsWireName};
-ghost use Rattle.dns_canonical.specs.Names.{name_order};
+ghost use Rattle.rdata_tokens.specs.NameSpelling.{IsWireName};
+ghost use Rattle.zone_record.specs.Names.{name_order};
 ghost use Rattle.std.specs.Option.{option_map};
 ghost use Rattle.zone_rules.specs.Above.{closest_from, first_label_of, is_below, is_wildcard, is_within, parent_of};
 
-use dns_canonical::compare_names;
 use dns_octets::AsOctets;
 use dns_octets::lowered::same_octets;
 use dns_wire::{Name, NameIter};
 use std::cmp::Ordering;
+use zone_record::compare_names;
 
 /// Returns the octets of a name on the wire.
 pub fn octets_of<Octets: AsOctets>(name: &Name<Octets>) -> &[u8]

@@ -1,16 +1,14 @@
-//! Checks records by their owner, and by the other records there.
-ghost use Rattle.std.specs.Prelude.{◌≡◌, ◌<◌, length};
-ghost use Rattle.std.specs.List.{list_any};
-ghost use Rattle.dns_kinds.specs.Rtype as Rtype;
+//! Checks records by their owner.
+ghost use Rattle.std.specs.Prelude.{◌≡◌};
+ghost use Rattle.rdata_values.specs.Rtype as Rtype;
 ghost use Rattle.zone_rules.specs.Present.{has_dname_above};
-ghost use Rattle.zone_rules.specs.Rules.{is_alias_in_company, is_record_at_apex, is_below_dname, is_beside_alias, is_of_hashed_chain, is_out_of_zone, is_soa_below_apex, is_wildcard_ns};
-ghost use Rattle.zone_rules.specs.Subjects.{is_beside_alias_at};
+ghost use Rattle.zone_rules.specs.Rules.{is_record_at_apex, is_below_dname, is_of_hashed_chain, is_out_of_zone, is_soa_below_apex, is_wildcard_ns};
 
 use crate::names::{is_name_below, is_name_within, is_same, is_wildcard_name};
-use crate::pairs::{are_equal, have_one_owner, set_type_of};
-use crate::zone_records::{OwnerBuffer, ZoneRecord, ZoneRecords};
-use dns_kinds::RecordType;
+use crate::pairs::set_type_of;
+use crate::zone_records::{ZoneRecord, ZoneRecords};
 use dns_wire::Name;
+use rdata_values::RecordType;
 
 /// Returns whether a record is neither at the origin nor below it.
 pub(crate) fn is_outside_zone(origin: &Name<&[u8]>, record: &ZoneRecord<'_>) -> bool
@@ -28,47 +26,6 @@ pub(crate) fn is_apex_record(
     ensures { result ≡ is_record_at_apex rtype origin.now «record».now }
 {
     record.data.rtype() == rtype && is_same(&record.owner, origin)
-}
-
-/// Returns whether a record has the same owner as an alias and must not.
-fn is_beside(alias: &ZoneRecord<'_>, record: &ZoneRecord<'_>) -> bool
-    ensures { result ≡ is_beside_alias alias.now «record».now }
-{
-    have_one_owner(record, alias)
-        && record.data.rtype() != RecordType::RRSIG
-        && record.data.rtype() != RecordType::NSEC
-        && !are_equal(alias, record)
-}
-
-/// Returns whether the record at an index has the same owner as an alias and must not.
-fn is_beside_at<Z: ZoneRecords>(records: &Z, place: usize, alias: &ZoneRecord<'_>) -> bool
-    requires { place < length (Z.contents records.now) }
-    ensures { result ≡ is_beside_alias_at alias.now (Z.contents records.now) place }
-{
-    let mut owner = OwnerBuffer::new();
-    let other = records.record(place, &mut owner);
-    is_beside(alias, &other)
-}
-
-/// Returns whether a record has the same owner as an alias and must not.
-#[tactic(auto, using(crate::proofs::Subjects::one_more, crate::proofs::Subjects::none_beside))]
-fn has_beside<Z: ZoneRecords>(records: &Z, alias: &ZoneRecord<'_>) -> bool
-    ensures { result ≡ list_any (is_beside_alias alias.now) (Z.contents records.now) }
-{
-    let (first, past) = records.places(&alias.owner);
-    for place in first..past {
-        if is_beside_at(records, place, alias) {
-            return true;
-        }
-    }
-    false
-}
-
-/// Returns whether a record is an alias, and another one must not have the same owner.
-pub(crate) fn has_company<Z: ZoneRecords>(records: &Z, record: &ZoneRecord<'_>) -> bool
-    ensures { result ≡ is_alias_in_company (Z.contents records.now) «record».now }
-{
-    record.data.rtype() == RecordType::CNAME && has_beside(records, record)
 }
 
 /// Returns whether an ancestor of a name has a DNAME, in a zone that has one.

@@ -3,14 +3,14 @@ ghost use Rattle.std.specs.Prelude.{◌≡◌};
 ghost use Rattle.std.specs.Option.{option_copied};
 ghost use Rattle.dns_wire.specs.Order.{same_name};
 ghost use Rattle.zone_rules.specs.Rules.{are_two_of, have_other_ttls, passes_after};
-ghost use Rattle.zone_rules.specs.Zones.{covered_type, is_equal_record, is_one_set, record_before, set_type};
+ghost use Rattle.zone_rules.specs.Zones.{comes_before, covered_type, is_equal_record, is_one_set, record_before, set_type};
 
 use crate::names::{is_same, view};
 use crate::search::item_before;
 use crate::sorted::SortedRecords;
-use dns_kinds::RecordType;
 use dns_octets::AsOctets;
-use dns_resource::Record;
+use rdata_values::RecordType;
+use zone_record::Record;
 
 /// Returns the record before an index.
 pub fn before<'a, Owner: AsOctets, Octets: AsOctets>(
@@ -61,6 +61,16 @@ pub(crate) fn are_equal<Owner: AsOctets, Octets: AsOctets>(
     ensures { result ≡ is_equal_record left.now right.now }
 {
     left.compare(right).is_eq()
+}
+
+/// Returns whether a record comes before another one in canonical order.
+pub(crate) fn comes_before<Owner: AsOctets, Octets: AsOctets>(
+    left: &Record<Owner, Octets>,
+    right: &Record<Owner, Octets>,
+) -> bool
+    ensures { result ≡ comes_before left.now right.now }
+{
+    left.compare(right).is_lt()
 }
 
 /// Returns whether records are of one RRset.

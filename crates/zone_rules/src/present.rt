@@ -1,17 +1,18 @@
 //! The contents of a zone: records, and RRsets with a rejected entry.
-ghost use Rattle.std.specs.Prelude.{◌≡◌, ◌≤◌, ◌∷◌, IsTrue, length};
-ghost use Rattle.dns_kinds.specs.Rtype as Rtype;
+ghost use Rattle.std.specs.Prelude.{◌≡◌, ◌≤◌, [], ◌∷◌, IsTrue, length};
+ghost use Rattle.rdata_values.specs.Rtype as Rtype;
 ghost use Rattle.dns_wire.specs.Wire.{wire_length};
-ghost use Rattle.zone_rules.specs.Present.{closest_dname, gives_address, has_address_in, closest_present, is_below_cut_in, is_cut_in, is_delegated_in, is_present, is_synthesized, lists_dname_above, wildcard_has, NothingIsSynthesized};
+ghost use Rattle.zone_rules.specs.Present.{closest_dname, has_any_address, yields_records, has_address_in, has_records, has_synthesized, closest_present, is_below_cut_in, is_cut_in, is_delegated_in, is_listed_within, is_present, is_synthesized, lists_dname_above, wildcard_has, NothingIsSynthesized};
 ghost use Rattle.zone_rules.specs.Searches.{closest_above_some};
+ghost use Rattle.zone_rules.specs.Zones.{has_owner};
 
 use crate::names::{is_name_below, name_of, octets_of};
 use crate::refused::{SortedSets, lists_set};
 use crate::search::longer;
 use crate::zone_records::ZoneRecords;
 use arrayvec::ArrayVec;
-use dns_kinds::RecordType;
 use dns_wire::Name;
+use rdata_values::RecordType;
 
 /// Returns whether the zone has an RRset of a type at a name.
 pub(crate) fn has_set<Z: ZoneRecords>(
@@ -103,11 +104,80 @@ pub(crate) fn gets_address<Z: ZoneRecords>(
     served: bool,
 ) -> bool
     requires { served ≡ has_address_in name.now (Z.contents records.now) refused.now }
-    ensures { result ≡ gives_address name.now (Z.contents records.now) refused.now }
+    ensures { result ≡ has_any_address name.now (Z.contents records.now) refused.now }
 {
     served
         || gets_by_wildcard(records, refused, name, RecordType::A)
         || gets_by_wildcard(records, refused, name, RecordType::AAAA)
+}
+
+/// Returns whether a record is at a name.
+fn is_owner<Z: ZoneRecords>(records: &Z, name: &Name<&[u8]>) -> bool
+    ensures { result ≡ has_owner name.now (Z.contents records.now) }
+{
+    let (first, past) = records.places(name);
+    first < past
+}
+
+/// Returns whether a rejected entry is at a name or below it.
+fn lists_within(refused: &SortedSets<'_>, name: &Name<&[u8]>) -> bool
+    ensures { result ≡ is_listed_within name.now refused.now }
+{
+    match refused.closest(name) {
+        Some(closest) => closest.len() == name.len(),
+        None => false,
+    }
+}
+
+/// Returns whether a name has records, or a rejected entry at it or below it.
+fn has_records<Z: ZoneRecords>(records: &Z, refused: &SortedSets<'_>, name: &Name<&[u8]>) -> bool
+    ensures { result ≡ has_records name.now (Z.contents records.now) refused.now }
+{
+    is_owner(records, name) || lists_within(refused, name)
+}
+
+/// Returns whether the wildcard below a name has records.
+fn wildcard_has_records<Z: ZoneRecords>(
+    records: &Z,
+    refused: &SortedSets<'_>,
+    name: &Name<&[u8]>,
+) -> bool
+    requires { wire_length name.now ≤ 253 }
+    ensures { result ≡ has_records ((42 ∷ []) ∷ name.now) (Z.contents records.now) refused.now }
+{
+    let octets = wildcard_octets(octets_of(name));
+    has_records(records, refused, &name_of(octets.as_slice()))
+}
+
+/// Returns whether a name doesn't exist, and has records from the wildcard below its closest
+/// ancestor that exists (RFC 4592 section 3.3.1).
+#[tactic(auto, using(crate::proofs::Neighbours::closest_short, crate::proofs::Neighbours::closest_above, crate::proofs::Neighbours::closest_nowhere))]
+fn gets_records_by_wildcard<Z: ZoneRecords>(
+    records: &Z,
+    refused: &SortedSets<'_>,
+    name: &Name<&[u8]>,
+) -> bool
+    ensures { result ≡ has_synthesized name.now (Z.contents records.now) refused.now }
+{
+    // No effect at run time: the proof reads that the name has at most 255 octets.
+    let _octets = octets_of(name);
+    match closest_existing(records, refused, name) {
+        Some(closest) => {
+            closest.len() < name.len() && wildcard_has_records(records, refused, &closest)
+        }
+        None => false,
+    }
+}
+
+/// Returns whether a name has records, of its own or from a wildcard.
+pub(crate) fn gets_records<Z: ZoneRecords>(
+    records: &Z,
+    refused: &SortedSets<'_>,
+    name: &Name<&[u8]>,
+) -> bool
+    ensures { result ≡ yields_records name.now (Z.contents records.now) refused.now }
+{
+    has_records(records, refused, name) || gets_records_by_wildcard(records, refused, name)
 }
 
 /// Returns whether a name is a delegation.

@@ -6,8 +6,8 @@ ghost use Rattle.zone_rules.specs.Searches.{closest_above_earlier};
 
 use crate::names::{order_of, view};
 use crate::search::{OfRrset, closest, closest_before, finds};
-use dns_kinds::RecordType;
 use dns_wire::Name;
+use rdata_values::RecordType;
 use std::cmp::Ordering;
 use std::marker::Model;
 

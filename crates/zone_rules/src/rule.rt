@@ -68,6 +68,22 @@ pub enum Rule {
     KeyProtocol,
     /// The record is a DNSKEY or DS of algorithm 0 (RFC 4034 appendix A.1).
     KeyAlgorithm,
+    /// The record is a CNAME, and the zone has no records for its target, of its own or from a
+    /// wildcard, though it is authoritative for the target: this is neither a delegation nor below
+    /// one, nor below a DNAME.
+    CnameTargetMissing,
+    /// The record is a CNAME, and the first CNAME of its target, of that one's target and so on leads
+    /// back to its owner. At most 16 CNAMEs are followed (RFC 1034 section 3.6.2).
+    CnameLoop,
+    /// The record is a TXT with an SPF record, and its owner has another one before it (RFC 7208
+    /// section 3.2).
+    TwoSpf,
+    /// The record is a DS with the digest type SHA-1, and its owner has no DS of another digest type
+    /// with the same key tag and algorithm (RFC 8624 section 3.3).
+    WeakDigest,
+    /// The record is an NS at the apex or below it, and its owner has no other NS that differs (RFC
+    /// 1034 section 4.1). Its host is not the root, nor at or below `invalid.` or `localhost.`
+    SingleNs,
     /// The record and the one before it are of one RRset, and their TTLs differ (RFC 2181 section
     /// 5.2).
     TtlDiffers,
@@ -103,6 +119,11 @@ impl Rule {
             Rule::NotAtApex => "not-at-apex",
             Rule::KeyProtocol => "key-protocol",
             Rule::KeyAlgorithm => "key-algorithm",
+            Rule::CnameTargetMissing => "cname-target-missing",
+            Rule::CnameLoop => "cname-loop",
+            Rule::TwoSpf => "two-spf",
+            Rule::WeakDigest => "weak-digest",
+            Rule::SingleNs => "single-ns",
             Rule::TtlDiffers => "ttl-differs",
             Rule::Duplicate => "duplicate",
         }

@@ -6,8 +6,8 @@ ghost use Rattle.zone_rules.specs.Searches.{AreOwnersInOrder, AreRrsetsInOrder, 
 
 use crate::names::{octets_of, shared_name, view};
 use crate::refused::RrsetName;
-use dns_kinds::RecordType;
 use dns_wire::Name;
+use rdata_values::RecordType;
 use std::cmp::Ordering;
 
 /// An item that belongs to an RRset.

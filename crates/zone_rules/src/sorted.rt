@@ -5,7 +5,7 @@ ghost use Rattle.std.specs.List.Sorted.{IsPartitionedBy};
 ghost use Rattle.std.specs.Option.{option_map};
 ghost use Rattle.std.specs.Ordering.{is_le};
 ghost use Rattle.dns_wire.specs.Order.{same_name};
-ghost use Rattle.dns_canonical.specs.Names.{name_order};
+ghost use Rattle.zone_record.specs.Names.{name_order};
 ghost use Rattle.zone_rules.specs.Searches.{AreOwnedFrom, PartsUpTo};
 ghost use Rattle.zone_rules.specs.Zones.{AreInOrder, as_listed, has_type_at, is_one_class};
 
@@ -13,12 +13,12 @@ use crate::names::{is_wildcard_name, order_of, view};
 use crate::refused::RrsetName;
 use crate::search::{OfRrset, closest, closest_before, finds};
 use crate::zone_records::{HostTypes, OwnerBuffer, ZoneRecord, ZoneRecords, borrowed_record};
-use dns_kinds::{Class, RecordType};
 use dns_octets::AsOctets;
-use dns_resource::Record;
 use dns_wire::Name;
+use rdata_values::{Class, RecordType};
 use std::cmp::Ordering;
 use std::marker::Model;
+use zone_record::Record;
 
 /// Returns whether records have a class.
 fn are_of_class<Owner: AsOctets, Octets: AsOctets>(
@@ -69,7 +69,7 @@ impl<Owner: AsOctets, Octets: AsOctets> OfRrset for Record<Owner, Octets> {
 
 impl<'a, Owner: AsOctets, Octets: AsOctets> Model for SortedRecords<'a, Owner, Octets> {
     ghost use Rattle.std.specs.Prelude.{List};
-    ghost use Rattle.dns_resource.specs.declared.record.Record.{Record};
+    ghost use Rattle.zone_record.specs.declared.record.Record.{Record};
     ghost use Rattle.zone_rules.specs.Zones.{IsSortedWith};
 
     ghost Value = { List (Record Owner Octets) };

@@ -4,10 +4,10 @@ ghost use Rattle.zone_rules.specs.Zones.{as_listed};
 
 use crate::names::view;
 use arrayvec::ArrayVec;
-use dns_kinds::RecordType;
 use dns_octets::AsOctets;
-use dns_resource::{Data, Record};
 use dns_wire::{MAX_NAME, Name};
+use rdata_values::RecordType;
+use zone_record::{Data, Record};
 
 /// A record of a zone, over borrowed octets.
 pub type ZoneRecord<'r> = Record<&'r [u8], &'r [u8]>;
@@ -30,8 +30,8 @@ pub trait ZoneRecords {
     ghost use Rattle.std.specs.Prelude.{◌≡◌, ◌<◌, List, Some, length, slice_get};
     ghost use Rattle.std.specs.List.{list_any};
     ghost use Rattle.std.specs.Option.{option_map};
-    ghost use Rattle.dns_kinds.specs.Rtype as Rtype;
-    ghost use Rattle.dns_resource.specs.declared.record.Record.{Record};
+    ghost use Rattle.rdata_values.specs.Rtype as Rtype;
+    ghost use Rattle.zone_record.specs.declared.record.Record.{Record};
     ghost use Rattle.zone_rules.specs.Above.{is_wildcard};
     ghost use Rattle.zone_rules.specs.Present.{rrset_of_record};
     ghost use Rattle.zone_rules.specs.Searches.{AreOwnedFrom, closest_above_earlier};

@@ -4,7 +4,7 @@ use Rattle.std.specs.Prelude.{find}
 use Rattle.std.specs.List.{dedup}
 use Rattle.std.specs.List.Sorted.{IsSorted, IsStable}
 use Rattle.std.proofs.lemmas.List.Kept.{IsStrictlySortedBy-dedup}
-use Rattle.dns_resource.specs.declared.record.Record.{Record}
+use Rattle.zone_record.specs.declared.record.Record.{Record}
 use Rattle.zone_set.specs.Lookups.{AreCanonical, AreCanonicalOf, canonical_order, same_key}
 use Rattle.zone_set.proofs.Firsts.{find_dedup, find_stable}
 use Rattle.zone_set.proofs.Passing.{order_total}

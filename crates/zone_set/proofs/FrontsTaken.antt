@@ -4,11 +4,11 @@ use Rattle.std.specs.List.{AllByRecursion}
 use Rattle.std.specs.declared.cmp.Ordering.{Ordering}
 use Rattle.std.specs.declared.cmp.Ordering.TheVariants.{Less, Equal, Greater}
 use Rattle.std.proofs.lemmas.List.Elements.{All-from_recursion}
-use Rattle.dns_resource.specs.declared.record.Record.{Record}
-use Rattle.zone_set.specs.Fronts.{ComesBefore}
+use Rattle.zone_record.specs.declared.record.Record.{Record}
+use Rattle.zone_set.specs.MergeHeads.{ComesBefore}
 use Rattle.zone_set.specs.Lookups.{canonical_order}
-use Rattle.zone_set.specs.Merges.{IsLedBy, TakesFromRuns}
-use Rattle.zone_set.specs.declared.fronts.Front.{Front}
+use Rattle.zone_set.specs.Merges.{IsLedBy, RemovesFirst}
+use Rattle.zone_set.specs.declared.merge_heads.MergeHead.{MergeHead}
 
 less_is_not_greater : (c : Ordering) → c ≡ Less → c ≢ Greater
 less_is_not_greater c h e = cc
@@ -17,11 +17,11 @@ equal_is_not_greater : (c : Ordering) → c ≡ Equal → c ≢ Greater
 equal_is_not_greater c h e = cc
 
 module _ {N O : Type 0} where
-  abbrev pub front_at : Record N O → ℕ → Front N O
+  abbrev pub front_at : Record N O → ℕ → MergeHead N O
   front_at r k = record { «record» = r; run = k }
 
   -- the first records of runs, numbered from this number on
-  abbrev pub fronts_of : ℕ → List (List (Record N O)) → List (Front N O)
+  abbrev pub fronts_of : ℕ → List (List (Record N O)) → List (MergeHead N O)
   fronts_of k [] = []
   fronts_of k ([] ∷ runs) = fronts_of (suc k) runs
   fronts_of k ((r ∷ run) ∷ runs) = front_at r k ∷ fronts_of (suc k) runs
@@ -49,7 +49,7 @@ module _ {N O : Type 0} where
 
   -- the front that comes before all others is taken, and its run continues
   pub first_is_taken : (earlier : List (List (Record N O))) (r : Record N O) (run : List (Record N O)) (later : List (List (Record N O)))
-      → AllByRecursion (ComesBefore (front_at r (length earlier))) (fronts_of 0 (earlier ++ (r ∷ run) ∷ later)) → TakesFromRuns (earlier ++ (r ∷ run) ∷ later) r (earlier ++ run ∷ later)
+      → AllByRecursion (ComesBefore (front_at r (length earlier))) (fronts_of 0 (earlier ++ (r ∷ run) ∷ later)) → RemovesFirst (earlier ++ (r ∷ run) ∷ later) r (earlier ++ run ∷ later)
   first_is_taken earlier r run later all =
       let parts = split_led 0 (length earlier) r earlier ((r ∷ run) ∷ later) (omega arith) all in record {
         earlier = earlier;

@@ -1,3 +1,11 @@
+pub mod CanonicalOrders
+mod EntriesRead
+mod EntryOrders
+pub mod EntrySearches
+mod KeyPrefixes
+mod PartsRead
+mod Rising
+mod StoreSorts
 pub mod Differing
 pub mod FirstFronts
 pub mod FrontsTaken
@@ -8,3 +16,8 @@ pub mod RunOctets
 pub mod SoaParts
 pub mod CanonicalLists
 pub mod Patches
+mod AtApex
+mod HashedRecords
+mod RightData
+mod Scopes
+mod ZonemdParts

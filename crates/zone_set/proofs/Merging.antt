@@ -13,9 +13,9 @@ use Rattle.std.proofs.lemmas.List.Elements.{recursion_from_All}
 use Rattle.std.proofs.lemmas.List.Folds.{find-append}
 use Rattle.std.proofs.lemmas.List.Kept.{IsStrictlySortedBy-dedup}
 use Rattle.std.proofs.lemmas.Map.Keys.{sorted_head, sorted_tail}
-use Rattle.dns_resource.specs.declared.record.Record.{Record}
+use Rattle.zone_record.specs.declared.record.Record.{Record}
 use Rattle.zone_set.specs.Lookups.{AreCanonical, AreCanonicalOf, canonical_order, same_key}
-use Rattle.zone_set.specs.Merges.{AreRunsOf, IsLedBy, MergesTo, TakesFromRuns, records_of_runs}
+use Rattle.zone_set.specs.Merges.{AreRunsOf, IsLedBy, MergesTo, RemovesFirst, records_of_runs}
 use Rattle.zone_set.proofs.Differing.{above_less}
 use Rattle.zone_set.proofs.Firsts.{find_dedup}
 use Rattle.zone_set.proofs.Passing.{order_total}
@@ -81,17 +81,17 @@ module _ {N O : Type 0} where
   joined P (run ∷ runs) others all more = (all.0, joined P runs others all.1 more)
 
   -- the properties of the runs, for the parts of a step
-  record Parted (runs : List (List (Record N O))) (r : Record N O) (left : List (List (Record N O))) (t : TakesFromRuns runs r left) : Type 0 where
+  record Parted (runs : List (List (Record N O))) (r : Record N O) (left : List (List (Record N O))) (t : RemovesFirst runs r left) : Type 0 where
     pub earlier : Ordered t.earlier
     pub front : AreCanonical (r ∷ t.run)
     pub later : Ordered t.later
 
-  parted : (runs : List (List (Record N O))) (r : Record N O) (left : List (List (Record N O))) (t : TakesFromRuns runs r left) → Ordered runs → Parted runs r left t
+  parted : (runs : List (List (Record N O))) (r : Record N O) (left : List (List (Record N O))) (t : RemovesFirst runs r left) → Ordered runs → Parted runs r left t
   parted runs r left t ordered =
       let parts = both_parts AreCanonical t.earlier ((r ∷ t.run) ∷ t.later) (subst Ordered t.was ordered) in
       record { earlier = parts.0; front = parts.1.0; later = parts.1.1 }
 
-  ordered_left : (runs : List (List (Record N O))) (r : Record N O) (left : List (List (Record N O))) → TakesFromRuns runs r left → Ordered runs → Ordered left
+  ordered_left : (runs : List (List (Record N O))) (r : Record N O) (left : List (List (Record N O))) → RemovesFirst runs r left → Ordered runs → Ordered left
   ordered_left runs r left t ordered =
       let parts = parted runs r left t ordered in
       subst Ordered (sym t.is) (joined AreCanonical t.earlier (t.run ∷ t.later) parts.earlier (sorted_tail canonical_order r t.run parts.front, parts.later))
@@ -126,7 +126,7 @@ module _ {N O : Type 0} where
   behind_front r [] sorted = tt
   behind_front r (s ∷ run) sorted = less_not_greater (canonical_order r s) ((sorted_head canonical_order r (s ∷ run) sorted).0)
 
-  all_behind : (runs : List (List (Record N O))) (r : Record N O) (left : List (List (Record N O))) → TakesFromRuns runs r left → Ordered runs → Led (NotBehind r) left
+  all_behind : (runs : List (List (Record N O))) (r : Record N O) (left : List (List (Record N O))) → RemovesFirst runs r left → Ordered runs → Led (NotBehind r) left
   all_behind runs r left t ordered =
       let parts = parted runs r left t ordered in
       subst (Led (NotBehind r)) (sym t.is)

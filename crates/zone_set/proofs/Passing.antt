@@ -8,10 +8,10 @@ use Rattle.std.specs.declared.cmp.Ordering.TheVariants.{Less, Equal, Greater}
 use Rattle.std.proofs.lemmas.Cmp.{on_total}
 use Rattle.std.proofs.lemmas.List.Elements.{All-from_recursion, recursion_from_All}
 use Rattle.std.proofs.lemmas.Map.Keys.{sorted_head, sorted_tail}
-use Rattle.dns_canonical.proofs.Orders.{records_total}
-use Rattle.dns_resource.specs.CanonicalData.{record_key}
-use Rattle.dns_resource.specs.declared.record.Record.{Record}
-use Rattle.zone_set.specs.Differences.{AreChanges, TellsChange, before_change, after_change, changed_record}
+use Rattle.zone_record.proofs.Orders.{records_total}
+use Rattle.zone_record.specs.CanonicalData.{record_key}
+use Rattle.zone_record.specs.declared.record.Record.{Record}
+use Rattle.zone_set.specs.Differences.{AreChanges, DescribesChange, before_change, after_change, changed_record}
 use Rattle.zone_set.specs.Lookups.{canonical_order, AreCanonical}
 use Rattle.zone_set.specs.Steps.{IsTtlChange, StepsOn}
 use Rattle.zone_set.specs.declared.changes.Change.{Change}
@@ -30,10 +30,10 @@ module _ {N O : Type 0} where
   AllAbove a records = AllByRecursion (λ r. canonical_order a r ≡ Less) records
 
   to_difference : (old new : List (Record N O)) (changes : List (Change N O)) → AreChanges old new changes → Differs old new changes
-  to_difference old new changes h = record { ordered = h.ordered; told = recursion_from_All (TellsChange old new) changes h.told; complete = h.complete }
+  to_difference old new changes h = record { ordered = h.ordered; told = recursion_from_All (DescribesChange old new) changes h.told; complete = h.complete }
 
   from_difference : (old new : List (Record N O)) (changes : List (Change N O)) → Differs old new changes → AreChanges old new changes
-  from_difference old new changes d = record { ordered = d.ordered; told = All-from_recursion (TellsChange old new) changes d.told; complete = d.complete }
+  from_difference old new changes d = record { ordered = d.ordered; told = All-from_recursion (DescribesChange old new) changes d.told; complete = d.complete }
 
   above : (a : Record N O) (records : List (Record N O)) → AreCanonical (a ∷ records) → AllAbove a records
   above a records h = sorted_head canonical_order a records h

@@ -4,8 +4,8 @@ use Rattle.std.specs.Prelude.{find, Any, ◌↔◌}
 use Rattle.std.specs.Cmp.{Equal-is}
 use Rattle.std.specs.Ordering.{is_eq}
 use Rattle.std.proofs.lemmas.List.Elements.{recursion_from_All}
-use Rattle.dns_resource.specs.declared.record.Record.{Record}
-use Rattle.zone_set.specs.Differences.{AreChanges, HoldSame, MakeOf, TellsChange, changed_record, ttl_left, ttl_of, ttl_under}
+use Rattle.zone_record.specs.declared.record.Record.{Record}
+use Rattle.zone_set.specs.Differences.{AreChanges, HoldSame, MakeOf, DescribesChange, changed_record, ttl_of_change, ttl_of, ttl_under}
 use Rattle.zone_set.specs.Lookups.{canonical_order, same_key, record_under}
 use Rattle.zone_set.specs.declared.changes.Change.{Change}
 use Rattle.zone_set.proofs.Differing.{found_has}
@@ -30,13 +30,13 @@ module _ {N O : Type 0} where
 
   made : (old new : List (Record N O)) (changes : List (Change N O)) → AreChanges old new changes → (r : Record N O) (found : Option (Change N O))
       → find (λ c. same_key r (changed_record c)) changes ≡ found
-      → ttl_under r new ≡ ttl_left found (ttl_under r old)
+      → ttl_under r new ≡ ttl_of_change found (ttl_under r old)
   made old new changes h r None none = none_made (h.complete r) where
     none_made : (ttl_under r old ≡ ttl_under r new) ⊎ Any (λ c. same_key r (changed_record c) ≡ true) changes → ttl_under r new ≡ ttl_under r old
     none_made (inl same) = sym same
     none_made (inr any) = absurd (some_found (λ c. same_key r (changed_record c)) changes any none)
   made old new changes h r (Some c) found =
-      let has = found_has (λ c. same_key r (changed_record c)) (TellsChange old new) changes c found (recursion_from_All (TellsChange old new) changes h.told) in
+      let has = found_has (λ c. same_key r (changed_record c)) (DescribesChange old new) changes c found (recursion_from_All (DescribesChange old new) changes h.told) in
       ap ttl_of (under_same r (changed_record c) new has.1 ∙ sym has.0.1)
 
   pub makes : (old new : List (Record N O)) (changes : List (Change N O)) → AreChanges old new changes → MakeOf old changes new

@@ -2,13 +2,13 @@
 use Rattle.std.proofs.Common.{ℕ, zero, suc, ◌≡◌, ◌<◌, ◌≤◌, ◌^◌, List, [], ◌∷◌, ◌++◌, length, take, drop, get_or, refl, sym, ap, ◌∙◌, arith, append_assoc}
 use Rattle.std.specs.Int.{from_be_bytes, to_be_bytes, w16, w32}
 use Rattle.std.proofs.lemmas.Nat.{be_bytes_2, be_bytes_4, from_be_bytes-to_be_bytes_2, from_be_bytes-to_be_bytes_4}
-use Rattle.dns_resource.specs.Records.{data_of}
-use Rattle.dns_resource.specs.RecordLaws.{AreRecordValues}
-use Rattle.dns_resource.specs.declared.record.Record.{Record}
+use Rattle.zone_record.specs.Records.{data_of}
+use Rattle.zone_record.specs.RecordLaws.{AreRecordValues}
+use Rattle.zone_record.specs.declared.record.Record.{Record}
 use Rattle.dns_wire.specs.Labelled.{append_same, wire_same}
 use Rattle.dns_wire.specs.Wire.{wire}
 use Rattle.dns_wire.proofs.Wires.{length_wire}
-use Rattle.zone_set.specs.Runs.{IsSameRecord, behind_length, run_octets}
+use Rattle.zone_set.specs.Runs.{IsSameRecord, length_prefixed, run_octets}
 
 small2 : (a b : ℕ) (more : List ℕ) → ((k : ℕ) → get_or (a ∷ b ∷ more) k 0 < 256) → (k : ℕ) → get_or (a ∷ b ∷ []) k 0 < 256
 small2 a b more small zero = small 0
@@ -51,7 +51,7 @@ number32_same m n xs ys p q h =
     let parts = append_same (to_be_bytes w32 m) (to_be_bytes w32 n) xs ys refl h in
     (sym (from_be_bytes-to_be_bytes_4 m p) ∙ ap (from_be_bytes w32) parts.0 ∙ from_be_bytes-to_be_bytes_4 n q, parts.1)
 
-counted_same : (a b xs ys : List ℕ) → length a < 2 ^ 16 → length b < 2 ^ 16 → behind_length a ++ xs ≡ behind_length b ++ ys → (a ≡ b) × (xs ≡ ys)
+counted_same : (a b xs ys : List ℕ) → length a < 2 ^ 16 → length b < 2 ^ 16 → length_prefixed a ++ xs ≡ length_prefixed b ++ ys → (a ≡ b) × (xs ≡ ys)
 counted_same a b xs ys p q h =
     let numbers =
     number16_same (length a) (length b) (a ++ xs) (b ++ ys) p q
@@ -69,18 +69,18 @@ module _ {N O M P : Type 0} where
   run_octets_same a b xs ys p q few few' h =
       let ttls =
       number32_same a.ttl b.ttl
-      (to_be_bytes w16 a.class ++ (to_be_bytes w16 (data_of a).rtype ++ (behind_length (wire a.owner) ++ (behind_length (data_of a).octets ++ xs))))
-      (to_be_bytes w16 b.class ++ (to_be_bytes w16 (data_of b).rtype ++ (behind_length (wire b.owner) ++ (behind_length (data_of b).octets ++ ys)))) few few'
-      (sym (five (to_be_bytes w32 a.ttl) (to_be_bytes w16 a.class) (to_be_bytes w16 (data_of a).rtype) (behind_length (wire a.owner)) (behind_length (data_of a).octets) xs) ∙ h
-      ∙ five (to_be_bytes w32 b.ttl) (to_be_bytes w16 b.class) (to_be_bytes w16 (data_of b).rtype) (behind_length (wire b.owner)) (behind_length (data_of b).octets) ys) in
+      (to_be_bytes w16 a.class ++ (to_be_bytes w16 (data_of a).rtype ++ (length_prefixed (wire a.owner) ++ (length_prefixed (data_of a).octets ++ xs))))
+      (to_be_bytes w16 b.class ++ (to_be_bytes w16 (data_of b).rtype ++ (length_prefixed (wire b.owner) ++ (length_prefixed (data_of b).octets ++ ys)))) few few'
+      (sym (five (to_be_bytes w32 a.ttl) (to_be_bytes w16 a.class) (to_be_bytes w16 (data_of a).rtype) (length_prefixed (wire a.owner)) (length_prefixed (data_of a).octets) xs) ∙ h
+      ∙ five (to_be_bytes w32 b.ttl) (to_be_bytes w16 b.class) (to_be_bytes w16 (data_of b).rtype) (length_prefixed (wire b.owner)) (length_prefixed (data_of b).octets) ys) in
       let classes =
-      number16_same a.class b.class (to_be_bytes w16 (data_of a).rtype ++ (behind_length (wire a.owner) ++ (behind_length (data_of a).octets ++ xs)))
-      (to_be_bytes w16 (data_of b).rtype ++ (behind_length (wire b.owner) ++ (behind_length (data_of b).octets ++ ys))) p.class q.class ttls.1 in
+      number16_same a.class b.class (to_be_bytes w16 (data_of a).rtype ++ (length_prefixed (wire a.owner) ++ (length_prefixed (data_of a).octets ++ xs)))
+      (to_be_bytes w16 (data_of b).rtype ++ (length_prefixed (wire b.owner) ++ (length_prefixed (data_of b).octets ++ ys))) p.class q.class ttls.1 in
       let codes =
-      number16_same (data_of a).rtype (data_of b).rtype (behind_length (wire a.owner) ++ (behind_length (data_of a).octets ++ xs))
-      (behind_length (wire b.owner) ++ (behind_length (data_of b).octets ++ ys)) p.type q.type classes.1 in
+      number16_same (data_of a).rtype (data_of b).rtype (length_prefixed (wire a.owner) ++ (length_prefixed (data_of a).octets ++ xs))
+      (length_prefixed (wire b.owner) ++ (length_prefixed (data_of b).octets ++ ys)) p.type q.type classes.1 in
       let owners =
-      counted_same (wire a.owner) (wire b.owner) (behind_length (data_of a).octets ++ xs) (behind_length (data_of b).octets ++ ys)
+      counted_same (wire a.owner) (wire b.owner) (length_prefixed (data_of a).octets ++ xs) (length_prefixed (data_of b).octets ++ ys)
       (short_owner a p) (short_owner b q) codes.1 in
       let octets = counted_same (data_of a).octets (data_of b).octets xs ys (short_data a p) (short_data b q) owners.1 in (
         record {

@@ -1,18 +1,18 @@
 -- The serial in the data of an SOA.
 use Rattle.std.proofs.Common.{ℕ, ◌≡◌, Some, List, [], ◌∷◌, refl, sym, ap, subst, ◌∙◌}
 use Rattle.std.specs.Prelude.{codes}
-use Rattle.dns_kinds.specs.Rtype as Rtype
-use Rattle.dns_fields.specs.Words.{AreOctetsOf}
-use Rattle.dns_fields.specs.declared.field.Field.TheVariants.{Interval, Name, Number32}
-use Rattle.dns_data.specs.ByType.{HasShape, shape_of_code}
-use Rattle.dns_data.specs.Types.{TypeShape, type_shape, type_shapes}
-use Rattle.dns_data.specs.declared.rest.Rest.TheVariants.{Nothing}
-use Rattle.dns_data.specs.declared.shape.Length.TheVariants.{Any}
-use Rattle.dns_resource.specs.CanonicalData.{fields_of_shape}
-use Rattle.dns_resource.specs.Parts.{data_part, field_part}
-use Rattle.dns_resource.specs.TypeData.{IsTypeData, TypeData}
-use Rattle.dns_resource.proofs.CanonicalForms.{front_cut}
-use Rattle.dns_resource.proofs.DataBack.{shape_with}
+use Rattle.rdata_values.specs.Rtype as Rtype
+use Rattle.rdata_fields.specs.Words.{AreOctetsOf}
+use Rattle.rdata_fields.specs.declared.field.Field.TheVariants.{Interval, Name, Number32}
+use Rattle.rdata.specs.ByType.{HasShape, shape_of_code}
+use Rattle.rdata.specs.Types.{TypeShape, type_shape, type_shapes}
+use Rattle.rdata.specs.declared.rest.Rest.TheVariants.{Nothing}
+use Rattle.rdata.specs.declared.shape.LengthRule.TheVariants.{Any}
+use Rattle.zone_record.specs.CanonicalData.{fields_of_shape}
+use Rattle.zone_record.specs.Parts.{data_part, field_part}
+use Rattle.zone_record.specs.TypeData.{IsTypeData, TypeData}
+use Rattle.zone_record.proofs.CanonicalForms.{front_cut}
+use Rattle.zone_record.proofs.DataBack.{shape_with}
 
 abbrev soa_shape : TypeShape
 soa_shape =

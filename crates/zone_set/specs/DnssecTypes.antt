@@ -1,7 +1,7 @@
 -- The types of records that the signing of a zone adds.
 use Rattle.std.specs.Prelude.{List, [], ◌∷◌}
-use Rattle.dns_kinds.specs.Rtype as Rtype
-use Rattle.dns_kinds.specs.declared.types.RecordType.{RecordType}
+use Rattle.rdata_values.specs.Rtype as Rtype
+use Rattle.rdata_values.specs.declared.types.RecordType.{RecordType}
 
 -- those of RFC 4034 but DS, and those of RFC 5155
 abbrev pub dnssec_types : List RecordType

@@ -2,12 +2,12 @@
 use Rattle.std.specs.Prelude.{ℕ, List, [], ◌∷◌, ◌++◌, ◌==◌, map, length, codes, decimal, if◌then◌else◌}
 use Rattle.std.specs.Char.{to_ascii_lowercase}
 use Rattle.dns_codec.specs.Base.{base16, encoded}
-use Rattle.dns_kinds.specs.Classes.{class_text}
-use Rattle.dns_kinds.specs.declared.classes.Class.{Class}
-use Rattle.dns_kinds.specs.declared.types.RecordType.{RecordType}
-use Rattle.dns_resource.specs.Records.{data_of, record_document}
-use Rattle.dns_resource.specs.declared.record.Record.{Record}
-use Rattle.dns_spelling.specs.PrintedNames.{wire_name_text}
+use Rattle.rdata_values.specs.Classes.{class_text}
+use Rattle.rdata_values.specs.declared.classes.Class.{Class}
+use Rattle.rdata_values.specs.declared.types.RecordType.{RecordType}
+use Rattle.zone_record.specs.Records.{data_of, record_document}
+use Rattle.zone_record.specs.declared.record.Record.{Record}
+use Rattle.rdata_tokens.specs.PrintedNames.{wire_name_text}
 use Rattle.dns_symbol.specs.Characters.{line_feed}
 use Rattle.dns_wire.specs.Wire.{wire}
 use Rattle.dns_zone.specs.Printed.{printed}

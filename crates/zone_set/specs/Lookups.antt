@@ -3,9 +3,9 @@ use Rattle.std.specs.Prelude.{◌≡◌, Bool, Option, List, find}
 use Rattle.std.specs.List.Sorted.{IsStrictlySortedBy}
 use Rattle.std.specs.Ordering.{eq_by_cmp}
 use Rattle.std.specs.declared.cmp.Ordering.{Ordering}
-use Rattle.dns_canonical.specs.Records.{record_order}
-use Rattle.dns_resource.specs.CanonicalData.{record_key}
-use Rattle.dns_resource.specs.declared.record.Record.{Record}
+use Rattle.zone_record.specs.CanonicalRecords.{record_order}
+use Rattle.zone_record.specs.CanonicalData.{record_key}
+use Rattle.zone_record.specs.declared.record.Record.{Record}
 
 -- the order of RFC 4034 section 6, in which TTLs don't count
 abbrev pub canonical_order : {N O : Type 0} → Record N O → Record N O → Ordering

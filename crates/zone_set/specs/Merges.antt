@@ -1,7 +1,7 @@
 -- Sorted runs that are merged into one.
 use Rattle.std.specs.Prelude.{◌≡◌, ◌≢◌, List, [], ◌∷◌, ◌++◌, All, ⊤}
 use Rattle.std.specs.declared.cmp.Ordering.TheVariants.{Less, Greater}
-use Rattle.dns_resource.specs.declared.record.Record.{Record}
+use Rattle.zone_record.specs.declared.record.Record.{Record}
 use Rattle.zone_set.specs.Lookups.{AreCanonicalOf, canonical_order}
 
 -- the records of runs, run by run
@@ -15,7 +15,7 @@ IsLedBy P [] = ⊤
 IsLedBy P (r ∷ run) = P r
 
 -- the first record of a run is taken: it comes before the first ones of earlier runs, and not after the first one of a later run
-pub record TakesFromRuns {N O : Type 0} (runs : List (List (Record N O))) (r : Record N O) (left : List (List (Record N O))) : Type 0 where
+pub record RemovesFirst {N O : Type 0} (runs : List (List (Record N O))) (r : Record N O) (left : List (List (Record N O))) : Type 0 where
   pub earlier : List (List (Record N O))
   pub run : List (Record N O)
   pub later : List (List (Record N O))
@@ -27,7 +27,7 @@ pub record TakesFromRuns {N O : Type 0} (runs : List (List (Record N O))) (r : R
 -- records are taken until all runs are empty
 abbrev pub MergesTo : {N O : Type 0} → List (List (Record N O)) → List (Record N O) → Type 0
 MergesTo runs [] = All (λ run. run ≡ []) runs
-MergesTo {N} {O} runs (r ∷ records) = (left : List (List (Record N O))) × TakesFromRuns runs r left × MergesTo left records
+MergesTo {N} {O} runs (r ∷ records) = (left : List (List (Record N O))) × RemovesFirst runs r left × MergesTo left records
 
 -- each run is the canonical list of its part of all records
 abbrev pub AreRunsOf : {N O : Type 0} → List (List (Record N O)) → List (List (Record N O)) → Type 0

@@ -1,9 +1,9 @@
 -- Serials (RFC 1982, with 32 bits).
 use Rattle.std.specs.Prelude.{ℕ, ◌==◌, if◌then◌else◌, ◌<◌, ◌-◌, ◌^◌, ◌⊎◌, Option, None, option_map}
 use Rattle.std.specs.Int.{from_be_bytes, w32}
-use Rattle.dns_kinds.specs.Rtype as Rtype
-use Rattle.dns_resource.specs.Parts.{data_part}
-use Rattle.dns_resource.specs.TypeData.{TypeData}
+use Rattle.rdata_values.specs.Rtype as Rtype
+use Rattle.zone_record.specs.Parts.{data_part}
+use Rattle.zone_record.specs.TypeData.{TypeData}
 
 -- the first number is less than the second (RFC 1982 section 3.2)
 abbrev pub IsSerialLess : ℕ → ℕ → Type 0

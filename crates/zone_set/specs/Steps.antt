@@ -1,7 +1,7 @@
 -- How two sets are compared, by their first records.
 use Rattle.std.specs.Prelude.{◌≡◌, ◌≢◌, ◌<◌, ◌+◌, Some, List, ◌++◌, length}
 use Rattle.std.specs.Option.{option_to_list}
-use Rattle.dns_resource.specs.declared.record.Record.{Record}
+use Rattle.zone_record.specs.declared.record.Record.{Record}
 use Rattle.zone_set.specs.Differences.{AreChanges, before_change, after_change, changed_record}
 use Rattle.zone_set.specs.Lookups.{AreCanonical}
 use Rattle.zone_set.specs.declared.changes.Change.{Change}

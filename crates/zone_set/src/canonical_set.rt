@@ -5,9 +5,9 @@ ghost use Rattle.zone_set.specs.Lookups.{AreCanonical, AreCanonicalOf, same_key}
 
 use crate::set::ZoneSet;
 use dns_octets::AsOctets;
-use dns_resource::Record;
 use std::alloc::{AllocFailed, Allocator, Global};
 use std::marker::Model;
+use zone_record::Record;
 
 /// Records in canonical order (RFC 4034 section 6), with one record for each owner, class, type and
 /// data.
@@ -18,7 +18,7 @@ pub struct CanonicalSet<Owner: AsOctets, Octets: AsOctets, A: Allocator = Global
 
 impl<Owner: AsOctets, Octets: AsOctets, A: Allocator> Model for CanonicalSet<Owner, Octets, A> {
     ghost use Rattle.std.specs.Prelude.{List};
-    ghost use Rattle.dns_resource.specs.declared.record.Record.{Record};
+    ghost use Rattle.zone_record.specs.declared.record.Record.{Record};
     ghost use Rattle.zone_set.specs.Lookups.{AreCanonical};
 
     ghost Value = { List (Record Owner Octets) };

@@ -6,9 +6,9 @@ ghost use Rattle.zone_set.specs.Steps.{IsTtlChange, StepsOn};
 
 use crate::canonical_set::CanonicalSet;
 use dns_octets::AsOctets;
-use dns_resource::Record;
 use std::alloc::{AllocError, Allocator};
 use std::cmp::Ordering;
+use zone_record::Record;
 
 /// A difference between two sets in the records of one owner, class, type and data.
 #[derive_where(Clone, Copy)]

@@ -3,7 +3,7 @@ ghost use Rattle.std.specs.Prelude.{◌≡◌, ◌==◌};
 ghost use Rattle.std.specs.List.{list_any};
 ghost use Rattle.zone_set.specs.DnssecTypes.{dnssec_types};
 
-use dns_kinds::RecordType;
+use rdata_values::RecordType;
 
 /// Returns whether signing a zone adds records of a type: RRSIG, NSEC, DNSKEY (RFC 4034), NSEC3 and
 /// NSEC3PARAM (RFC 5155). DS, CDS, CDNSKEY and ZONEMD are not among them.

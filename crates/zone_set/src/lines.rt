@@ -5,12 +5,12 @@ ghost use Rattle.zone_set.specs.Lines.{change_line, generic_line, lower_hex_text
 
 use crate::changes::Change;
 use dns_codec::base16;
-use dns_kinds::{Class, RecordType};
 use dns_octets::AsOctets;
-use dns_resource::Record;
-use dns_spelling::NameText;
 use dns_zone::zonefile_fmt::{DisplayKind, ZonefileFmt};
+use rdata_tokens::NameText;
+use rdata_values::{Class, RecordType};
 use std::alloc::{AllocError, Allocator};
+use zone_record::Record;
 
 /// Appends the line of a record: its owner, TTL, class and type, each followed by a tab, and its
 /// data, with blanks between the tokens.

@@ -2,18 +2,18 @@
 ghost use Rattle.std.specs.Prelude.{◌≡◌, ◌<◌, ◌^◌, ◌++◌, length, IfSome, MatchOption, OnErr, OnOk};
 ghost use Rattle.std.specs.Int.{to_be_bytes, w16, w32};
 ghost use Rattle.dns_octets.specs.Appending.{Extends};
-ghost use Rattle.zone_set.specs.Runs.{behind_length, run_octets};
+ghost use Rattle.zone_set.specs.Runs.{length_prefixed, run_octets};
 
-use dns_kinds::{Class, RecordType};
 use dns_octets::AsOctets;
-use dns_resource::{Data, Record};
 use dns_wire::Name;
+use rdata_values::{Class, RecordType};
 use std::alloc::{AllocError, Allocator};
+use zone_record::{Data, Record};
 
 /// Appends the number of octets, and the octets.
 fn push_counted<A: Allocator>(out: &mut Vec<u8, A>, octets: &[u8]) -> Result<(), AllocError>
     requires { length octets.now < 2 ^ 16 }
-    ensures ok { OnOk result (out.new.items ≡ out.old.items ++ behind_length octets.now) }
+    ensures ok { OnOk result (out.new.items ≡ out.old.items ++ length_prefixed octets.now) }
     ensures err { OnErr result (Extends out.old.items out.new.items) }
 {
     let count = octets.len() as u16;
@@ -55,7 +55,7 @@ fn take_number32(octets: &[u8]) -> Option<(u32, &[u8])>
 
 /// Returns the octets that come after their number, and the octets after those.
 fn take_counted(octets: &[u8]) -> Option<(&[u8], &[u8])>
-    ensures { IfSome result (λ p. octets.now ≡ behind_length p.0.now ++ p.1.now) }
+    ensures { IfSome result (λ p. octets.now ≡ length_prefixed p.0.now ++ p.1.now) }
 {
     let (count, rest) = take_number16(octets)?;
     rest.split_at_checked(usize::from(count))

@@ -1,9 +1,9 @@
 //! Selects records of a zone by their types.
 ghost use Rattle.std.specs.Prelude.{◌≡◌};
-ghost use Rattle.zone_set.specs.Selections.{IsUnlimited, is_selected, is_wanted, takes_signing, takes_soa};
+ghost use Rattle.zone_set.specs.Selections.{IsUnlimited, is_selected, is_wanted, includes_signing, includes_soa};
 
 use crate::dnssec::is_dnssec;
-use dns_kinds::RecordType;
+use rdata_values::RecordType;
 
 /// Which records of a zone are selected, by their types.
 #[derive(Clone, Copy)]
@@ -39,15 +39,15 @@ impl Selection<'_> {
     }
 
     /// Returns whether a type is selected as far as SOAs are concerned.
-    fn takes_soa(&self, rtype: RecordType) -> bool
-        ensures { result ≡ takes_soa self.now rtype }
+    fn includes_soa(&self, rtype: RecordType) -> bool
+        ensures { result ≡ includes_soa self.now rtype }
     {
         !(self.without_soa && rtype == RecordType::SOA)
     }
 
     /// Returns whether a type is selected as far as signing is concerned.
-    fn takes_signing(&self, rtype: RecordType) -> bool
-        ensures { result ≡ takes_signing self.now rtype }
+    fn includes_signing(&self, rtype: RecordType) -> bool
+        ensures { result ≡ includes_signing self.now rtype }
     {
         if is_dnssec(rtype) {
             !self.without_dnssec
@@ -60,6 +60,6 @@ impl Selection<'_> {
     pub fn takes(&self, rtype: RecordType) -> bool
         ensures { result ≡ is_selected self.now rtype }
     {
-        is_wanted(self.types, rtype) && self.takes_soa(rtype) && self.takes_signing(rtype)
+        is_wanted(self.types, rtype) && self.includes_soa(rtype) && self.includes_signing(rtype)
     }
 }

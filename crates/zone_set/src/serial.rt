@@ -2,9 +2,9 @@
 ghost use Rattle.std.specs.Prelude.{◌↔◌, ◌≡◌, IsTrue};
 ghost use Rattle.zone_set.specs.Serials.{IsSerialLess, soa_serial};
 
-use dns_kinds::RecordType;
 use dns_octets::AsOctets;
-use dns_resource::Data;
+use rdata_values::RecordType;
+use zone_record::Data;
 
 /// Returns whether the serial `new` is greater than `old` (RFC 1982 section 3.2). At a distance of
 /// 2^31 it is not.

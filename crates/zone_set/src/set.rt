@@ -4,9 +4,9 @@ ghost use Rattle.std.specs.List.Sorted.{IsPermutation, IsSorted, IsStable};
 ghost use Rattle.zone_set.specs.Lookups.{canonical_order};
 
 use dns_octets::AsOctets;
-use dns_resource::Record;
 use std::alloc::{AllocError, AllocFailed, Allocator, Global};
 use std::marker::Model;
+use zone_record::Record;
 
 /// Records, in the order in which they were added. Records with the same owner, class, type and
 /// data may occur more than once.
@@ -17,7 +17,7 @@ pub struct ZoneSet<Owner: AsOctets, Octets: AsOctets, A: Allocator = Global> {
 
 impl<Owner: AsOctets, Octets: AsOctets, A: Allocator> Model for ZoneSet<Owner, Octets, A> {
     ghost use Rattle.std.specs.Prelude.{List};
-    ghost use Rattle.dns_resource.specs.declared.record.Record.{Record};
+    ghost use Rattle.zone_record.specs.declared.record.Record.{Record};
 
     ghost Value = { List (Record Owner Octets) };
 

@@ -4,7 +4,7 @@ use Rattle.std.specs.Borrow.{Bor}
 use Rattle.std.specs.List.{flat_map}
 use Rattle.std.specs.Option.{option_map, option_to_list}
 use Rattle.std.specs.declared.vec.Vec.{Vec}
-use Rattle.dns_resource.specs.declared.record.Record.{Record}
+use Rattle.zone_record.specs.declared.record.Record.{Record}
 use Rattle.zone_update.specs.Operations.{is_apex_ns}
 use Rattle.zone_update.specs.Parts.{AreMessageParts, ExceedsLimit, servers_first}
 use Rattle.zone_update.specs.declared.messages.UpdateError.{UpdateError}

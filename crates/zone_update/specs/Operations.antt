@@ -4,10 +4,10 @@ use Rattle.std.specs.List.{list_any}
 use Rattle.std.specs.Option.{option_to_list}
 use Rattle.dns_octets.specs.Lowered.{same_lowered}
 use Rattle.dns_wire.specs.Wire.{wire}
-use Rattle.dns_kinds.specs.Rtype as Rtype
-use Rattle.dns_kinds.specs.declared.types.RecordType.{RecordType}
-use Rattle.dns_resource.specs.Records.{data_of}
-use Rattle.dns_resource.specs.declared.record.Record.{Record}
+use Rattle.rdata_values.specs.Rtype as Rtype
+use Rattle.rdata_values.specs.declared.types.RecordType.{RecordType}
+use Rattle.zone_record.specs.Records.{data_of}
+use Rattle.zone_record.specs.declared.record.Record.{Record}
 use Rattle.zone_set.specs.Differences.{changed_record}
 use Rattle.zone_set.specs.declared.changes.Change.{Change}
 use Rattle.zone_set.specs.declared.changes.Change.TheVariants.{Removed, Added, NewTtl}

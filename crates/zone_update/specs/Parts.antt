@@ -3,9 +3,9 @@ use Rattle.std.specs.Prelude.{ℕ, ◌≡◌, ◌<◌, ◌≤◌, ◌+◌, Bool,
 use Rattle.std.specs.Borrow.{Bor}
 use Rattle.std.specs.List.{list_any, sum_by}
 use Rattle.dns_octets.specs.Lowered.{same_lowered}
-use Rattle.dns_resource.specs.Records.{data_of}
+use Rattle.zone_record.specs.Records.{data_of}
 use Rattle.dns_wire.specs.Wire.{wire}
-use Rattle.dns_resource.specs.declared.record.Record.{Record}
+use Rattle.zone_record.specs.declared.record.Record.{Record}
 use Rattle.zone_update.specs.Operations.{is_apex_ns, is_at, operated}
 use Rattle.zone_update.specs.declared.operation.Operation.{Operation}
 

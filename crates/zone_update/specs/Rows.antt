@@ -1,6 +1,6 @@
 -- Worked examples of the definitions.
 use Rattle.std.specs.Prelude.{◌≡◌, true, false, refl}
-use Rattle.dns_kinds.specs.Rtype as Rtype
+use Rattle.rdata_values.specs.Rtype as Rtype
 use Rattle.zone_update.specs.Operations.{is_sent}
 
 -- an address is sent

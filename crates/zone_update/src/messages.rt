@@ -7,9 +7,9 @@ use crate::operation::Operation;
 use crate::order::in_phases;
 use crate::parts::{cut_parts, is_of_servers};
 use dns_octets::AsOctets;
-use dns_resource::Record;
 use dns_wire::Name;
 use std::alloc::{AllocError, Allocator};
+use zone_record::Record;
 
 /// The error of planning an update.
 #[derive(Clone, Copy, PartialEq, Eq)]

@@ -2,11 +2,11 @@
 ghost use Rattle.std.specs.Prelude.{◌≡◌};
 ghost use Rattle.zone_update.specs.Operations.{in_one_rrset, is_apex_ns, is_at, operated};
 
-use dns_kinds::RecordType;
 use dns_octets::AsOctets;
 use dns_octets::lowered::same_octets;
-use dns_resource::Record;
 use dns_wire::Name;
+use rdata_values::RecordType;
+use zone_record::Record;
 
 /// An operation of a dynamic update on one record (RFC 2136 section 2.5).
 #[derive_where(Clone, Copy)]

@@ -4,10 +4,10 @@ ghost use Rattle.zone_set.specs.Differences.{changed_record};
 ghost use Rattle.zone_update.specs.Operations.{has_new_ttl, is_change_sent, is_one_of, is_sent, key_types, last_new_ttl, operation_of, operations_of, signing_types};
 
 use crate::operation::{Operation, in_one_rrset};
-use dns_kinds::RecordType;
 use dns_octets::AsOctets;
-use dns_resource::Record;
+use rdata_values::RecordType;
 use std::alloc::{AllocError, Allocator};
+use zone_record::Record;
 use zone_set::Change;
 
 /// Returns whether a server makes records of a type as it signs a zone: RRSIG, NSEC and NSEC3.

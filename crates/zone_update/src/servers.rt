@@ -4,9 +4,9 @@ ghost use Rattle.zone_update.specs.Parts.{seen, server_names};
 
 use crate::operation::is_apex_ns;
 use dns_octets::AsOctets;
-use dns_resource::Record;
 use dns_wire::Name;
 use std::alloc::{AllocError, Allocator};
+use zone_record::Record;
 
 /// Appends the names of the name servers of a zone, in wire format: the RDATA of the NS records at
 /// its apex. Fails if memory is out; then some may have been appended.

@@ -6,21 +6,21 @@ use Rattle.std.proofs.lemmas.List.{map-append, take-append-le}
 use Rattle.std.proofs.lemmas.Bool.{cases_lt}
 use Rattle.std.proofs.lemmas.Str.{encodes-append}
 use Rattle.std.proofs.Math.Seq.{take-append-add}
-use Rattle.dns_split.specs.declared.pieces.Piece.{Piece}
-use Rattle.dns_split.specs.declared.pieces.Piece.TheVariants.{Word as WordAt, Quote as QuoteAt, Comment as CommentAt, End as EndAt}
-use Rattle.dns_split.specs.declared.pieces.Fault.{Fault}
-use Rattle.dns_split.specs.declared.pieces.Wrong.{Wrong}
-use Rattle.dns_split.specs.declared.pieces.Wrong.TheVariants.{Closing, OpenParenthesis, OpenQuote, LoneReturn, BadEscape}
-use Rattle.dns_split.specs.declared.position.Position.{Position}
-use Rattle.dns_split.specs.Lexeme.{Line, lexeme_bytes}
-use Rattle.dns_split.specs.Opening.{IsOpener}
-use Rattle.dns_split.specs.Splitting.{Entries, Splits, with_token}
-use Rattle.dns_split.specs.Pieces.{IsGiven, IsPieces, IsWrong, tokens_by_entry, between, end_at, moved_piece, moved_fault, moved_wrong, place_of}
-use Rattle.dns_split.proofs.FaultJoins.{opener_joined}
-use Rattle.dns_split.proofs.Joins.{split_cut}
-use Rattle.dns_split.proofs.PieceJoins.{pieces_joined}
-use Rattle.dns_split.proofs.PieceMoved.{mono}
-use Rattle.dns_split.proofs.PieceSplit.{pieces_split, split_pieces, pieces_one_way}
+use Rattle.dns_lexer.specs.declared.pieces.Piece.{Piece}
+use Rattle.dns_lexer.specs.declared.pieces.Piece.TheVariants.{Word as WordAt, Quote as QuoteAt, Comment as CommentAt, End as EndAt}
+use Rattle.dns_lexer.specs.declared.pieces.Fault.{Fault}
+use Rattle.dns_lexer.specs.declared.pieces.Wrong.{Wrong}
+use Rattle.dns_lexer.specs.declared.pieces.Wrong.TheVariants.{Closing, OpenParenthesis, OpenQuote, LoneReturn, BadEscape}
+use Rattle.dns_lexer.specs.declared.position.Position.{Position}
+use Rattle.dns_lexer.specs.Lexeme.{Line, lexeme_bytes}
+use Rattle.dns_lexer.specs.Unclosed.{IsOpener}
+use Rattle.dns_lexer.specs.Splitting.{Entries, Splits, with_token}
+use Rattle.dns_lexer.specs.Pieces.{AreItemsOf, IsPieces, IsWrong, tokens_by_entry, between, end_at, moved_piece, moved_fault, moved_wrong, place_of}
+use Rattle.dns_lexer.proofs.FaultJoins.{opener_joined}
+use Rattle.dns_lexer.proofs.Joins.{split_cut}
+use Rattle.dns_lexer.proofs.PieceJoins.{pieces_joined}
+use Rattle.dns_lexer.proofs.PieceMoved.{mono}
+use Rattle.dns_lexer.proofs.PieceSplit.{pieces_split, split_pieces, pieces_one_way}
 use Rattle.zonetext_lib.specs.Blocks.{EndsEntry}
 use Rattle.zonetext_lib.specs.Found.{IsFound, IsOctetFault, IsOpenedAfter}
 use Rattle.zone_format.specs.Place.{IsAt}
@@ -136,7 +136,7 @@ ends_line text xs j s t p =
     }
 
 -- an entry's end is a line's end
-pub entry_line : (octets : List ℕ) (found : List Piece) (blank : Bool) → IsGiven octets (map Ok found ++ Ok (end_at (length octets) blank) ∷ Ok (end_at (length octets) false) ∷ [])
+pub entry_line : (octets : List ℕ) (found : List Piece) (blank : Bool) → AreItemsOf octets (map Ok found ++ Ok (end_at (length octets) blank) ∷ Ok (end_at (length octets) false) ∷ [])
     → EndsLine (encode_utf8_all octets)
 entry_line octets found blank given =
     let n : ℕ = length octets in

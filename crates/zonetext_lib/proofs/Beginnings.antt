@@ -1,14 +1,14 @@
 -- Octets that can still become a zone file.
 use Rattle.std.proofs.Common.{◌≡◌, ℕ, ◌+◌, ◌≤◌, false, List, [], ◌++◌, length, refl, sym, ap, ◌∙◌, subst, arith, append-nil, length-append}
 use Rattle.std.specs.Prelude.{Option, Some, None, option_map, map, Result, Ok, encode_utf8_all}
-use Rattle.dns_split.specs.declared.pieces.Piece.{Piece}
-use Rattle.dns_split.specs.declared.pieces.Fault.{Fault}
-use Rattle.dns_split.specs.Pieces.{AreOctets, IsGiven, moved_fault}
-use Rattle.dns_split.specs.Splitting.{Entries, Splits}
-use Rattle.dns_split.specs.Viable.{IsViable}
-use Rattle.dns_split.proofs.Early.{viable_octets_at_end}
-use Rattle.dns_split.proofs.OctetsOnce.{run_given}
-use Rattle.dns_split.proofs.PieceSplit.{pieces_split}
+use Rattle.dns_lexer.specs.declared.pieces.Piece.{Piece}
+use Rattle.dns_lexer.specs.declared.pieces.Fault.{Fault}
+use Rattle.dns_lexer.specs.Pieces.{AreOctets, AreItemsOf, moved_fault}
+use Rattle.dns_lexer.specs.Splitting.{Entries, Splits}
+use Rattle.dns_lexer.specs.Viable.{IsViable}
+use Rattle.dns_lexer.proofs.Early.{viable_octets_at_end}
+use Rattle.dns_lexer.proofs.OctetsOnce.{run_given}
+use Rattle.dns_lexer.proofs.PieceSplit.{pieces_split}
 use Rattle.zonetext_lib.specs.Blocks.{EndsEntry, Holds}
 use Rattle.zonetext_lib.specs.Found.{IsOctetFault, IsZone}
 use Rattle.zonetext_lib.specs.Held.{Held}
@@ -28,7 +28,7 @@ split_viable text e s = record {
 zone_viable : (octets : List ℕ) → IsZone octets → IsViable (encode_utf8_all octets)
 zone_viable octets z = split_viable _ _ (pieces_split _ _ z.1)
 
-pub given_viable : (octets : List ℕ) (found : List Piece) → IsGiven octets (map Ok found) → IsViable (encode_utf8_all octets)
+pub given_viable : (octets : List ℕ) (found : List Piece) → AreItemsOf octets (map Ok found) → IsViable (encode_utf8_all octets)
 given_viable octets found g = zone_viable octets (pieces_in (map Ok found), whole_of octets (map Ok found) g.0 (first_of_oks found))
 
 -- more octets may resolve an error at the end, and no other
@@ -41,8 +41,8 @@ viable_fault octets f bad v = (viable_octets_at_end octets f.at bad.is.bad).1 v
 viable_on : (before octets : List ℕ) → AreOctets before → AreOctets octets → EndsEntry before → IsViable (encode_utf8_all octets) → IsViable (encode_utf8_all (before ++ octets))
 viable_on before octets b o ended v = go _ (run_given octets o) _ refl
   where
-    go : (given : List (Result Piece Fault)) → IsGiven octets given → (k : Option Fault) → first_fault given ≡ k → IsViable (encode_utf8_all (before ++ octets))
-    go given g None e = zone_viable (before ++ octets) (zone_on before octets (pieces_in given) b o ended (subst (IsGiven octets) (all_ok given e) g))
+    go : (given : List (Result Piece Fault)) → AreItemsOf octets given → (k : Option Fault) → first_fault given ≡ k → IsViable (encode_utf8_all (before ++ octets))
+    go given g None e = zone_viable (before ++ octets) (zone_on before octets (pieces_in given) b o ended (subst (AreItemsOf octets) (all_ok given e) g))
     go given g (Some f) e =
         let r = read_on before octets given b o ended g in
         let some = first_on before octets given r ∙ ap (option_map (moved_fault (λ i. length before + i))) e in

@@ -7,8 +7,8 @@ use Rattle.std.proofs.lemmas.Bool.{and_parts, cases_lt, leb-true}
 use Rattle.std.proofs.lemmas.List.{reverse-append}
 use Rattle.std.proofs.lemmas.List.Sums.{take_while-cons, sum_by-append}
 use Rattle.std.proofs.lemmas.Str.{encode_ascii}
-use Rattle.dns_split.specs.Lexeme.{Line, lexeme_bytes}
-use Rattle.dns_split.proofs.PieceLexemes.{is_high, high_bytes, first_high}
+use Rattle.dns_lexer.specs.Lexeme.{Line, lexeme_bytes}
+use Rattle.dns_lexer.proofs.PieceLexemes.{is_high, high_bytes, first_high}
 use Rattle.zonetext_lib.specs.Blocks.{EndsEntry}
 use Rattle.zone_format.specs.Place.{begins_character, column_of, feeds, last_line}
 use Rattle.zonetext_lib.proofs.After.{entry_line}

@@ -5,11 +5,11 @@ use Rattle.std.specs.Prelude.{◌||◌, ◌&&◌, not, map, Option, Some, None, 
 use Rattle.std.proofs.lemmas.Bool.{cases_eq, eq-eqb, ne_eqb}
 use Rattle.std.proofs.lemmas.List.{take-append-le, drop-append-le}
 use Rattle.std.proofs.Math.Seq.{take-append-add, drop-append-add}
-use Rattle.dns_split.specs.declared.pieces.Piece.{Piece}
-use Rattle.dns_split.specs.declared.pieces.Piece.TheVariants.{Word as WordAt, Quote as QuoteAt, Comment as CommentAt, End as EndAt}
-use Rattle.dns_split.specs.declared.pieces.Fault.{Fault}
-use Rattle.dns_split.specs.Pieces.{AreOctets, EachWithin, between, end_at, later, moved_piece}
-use Rattle.dns_split.proofs.OctetsOnce.{given_once}
+use Rattle.dns_lexer.specs.declared.pieces.Piece.{Piece}
+use Rattle.dns_lexer.specs.declared.pieces.Piece.TheVariants.{Word as WordAt, Quote as QuoteAt, Comment as CommentAt, End as EndAt}
+use Rattle.dns_lexer.specs.declared.pieces.Fault.{Fault}
+use Rattle.dns_lexer.specs.Pieces.{AreOctets, EachWithin, between, end_at, later, moved_piece}
+use Rattle.dns_lexer.proofs.OctetsOnce.{given_once}
 use Rattle.zonetext_lib.specs.declared.layout.Gap.{Gap}
 use Rattle.zonetext_lib.specs.declared.tokens.Form.{Form}
 use Rattle.zonetext_lib.specs.Blocks.{EndsEntry}

@@ -3,23 +3,23 @@ use Rattle.std.proofs.Common.{◌≡◌, ℕ, ◌+◌, ◌-◌, ◌<◌, ◌≤�
 use Rattle.std.specs.Prelude.{map, Result, Ok, Err}
 use Rattle.std.proofs.lemmas.List.{drop-append-le, get_or-append-add, get_or_append_left, take-append-drop, take-append-le}
 use Rattle.std.proofs.Math.Seq.{take-append-add, take-append_seam}
-use Rattle.dns_split.specs.declared.pieces.Piece.{Piece}
-use Rattle.dns_split.specs.declared.pieces.Piece.TheVariants.{Word as WordAt, Quote as QuoteAt, Comment as CommentAt, End as EndAt}
-use Rattle.dns_split.specs.declared.pieces.Fault.{Fault}
-use Rattle.dns_split.specs.declared.position.Position.{Position}
-use Rattle.dns_split.specs.Pieces.{AreOctets, IsGiven, between, end_at, later}
-use Rattle.dns_split.proofs.Blocks.{back_octets, both_octets, faults_stay}
-use Rattle.dns_split.proofs.OctetsOnce.{given_once, run_given}
+use Rattle.dns_lexer.specs.declared.pieces.Piece.{Piece}
+use Rattle.dns_lexer.specs.declared.pieces.Piece.TheVariants.{Word as WordAt, Quote as QuoteAt, Comment as CommentAt, End as EndAt}
+use Rattle.dns_lexer.specs.declared.pieces.Fault.{Fault}
+use Rattle.dns_lexer.specs.declared.position.Position.{Position}
+use Rattle.dns_lexer.specs.Pieces.{AreOctets, AreItemsOf, between, end_at, later}
+use Rattle.dns_lexer.proofs.Blocks.{back_octets, both_octets, faults_stay}
+use Rattle.dns_lexer.proofs.OctetsOnce.{given_once, run_given}
 use Rattle.zone_format.specs.Blocks.{AreEntries, FormatsEntries, FormatsLast, FormedTo, first_seam}
 use Rattle.zone_format.specs.Formats.{Formats}
 use Rattle.zone_format.proofs.Seams.{none_formed}
 use Rattle.zone_format.specs.Refusal.{HasToken, IsWithoutForm, IsTokenBetween, begins_order_mark}
 use Rattle.zone_format.specs.declared.refusal.Refusal.TheVariants.{Nul as NulAt, OrderMark as OrderMarkAt, Wrong as WrongAt}
-use Rattle.zone_format.specs.declared.stand.Seam.{Seam}
-use Rattle.zonetext_lib.specs.Blocks.{EndsEntry, Holds, IsHeld, Releases, Settled, TakesBlock}
+use Rattle.zone_format.specs.declared.line_state.FormatState.{FormatState}
+use Rattle.zonetext_lib.specs.Blocks.{EndsEntry, Holds, IsHeld, Releases, Settled, StoresChunk}
 use Rattle.zonetext_lib.specs.Found.{IsOctetFault, IsZone}
-use Rattle.zonetext_lib.specs.declared.blocks.Halt.{Halt}
-use Rattle.zonetext_lib.specs.declared.blocks.Halt.TheVariants.{Wrong as WrongHalt, OutOfMemory as OutOfMemoryHalt, TooLong as TooLongHalt}
+use Rattle.zonetext_lib.specs.declared.blocks.ChunkError.{ChunkError}
+use Rattle.zonetext_lib.specs.declared.blocks.ChunkError.TheVariants.{Wrong as WrongHalt, OutOfMemory as OutOfMemoryHalt, TooLong as TooLongHalt}
 use Rattle.zonetext_lib.specs.declared.formatter.NoForm.{NoForm}
 use Rattle.zonetext_lib.specs.declared.formatter.NoForm.TheVariants.{Wrong, Nul, OrderMark, OutOfMemory, TooLong}
 use Rattle.zonetext_lib.specs.Forming.{AddsForm, FormedSoFar, FormsSettled, HasNoFormAfter, HasPosition, as_no_form}
@@ -29,11 +29,11 @@ use Rattle.zone_format.specs.Place.{IsAt}
 use Rattle.zonetext_lib.proofs.After.{entry_line}
 use Rattle.zonetext_lib.proofs.Cuts.{read_on, take_octets}
 use Rattle.zonetext_lib.proofs.Following.{between_back}
-use Rattle.zonetext_lib.proofs.Holding.{added, ended_at, held_at, let_go}
+use Rattle.zonetext_lib.proofs.Holding.{added, ended_at, held_at, discard_read}
 use Rattle.zonetext_lib.proofs.Made.{cut_whole, whole_not_bad}
 use Rattle.zonetext_lib.proofs.Together.{still_well}
 
-abbrev pub forming : Held → Seam → Forming
+abbrev pub forming : Held → FormatState → Forming
 forming h s = record { held = h; seam = s }
 
 -- octets up to a cut are whole entries
@@ -45,18 +45,18 @@ settled_entries : (octets : List ℕ) (at : ℕ) → AreOctets octets → Settle
 settled_entries octets at o s = ended_entries (take at octets) (ended_at [] octets at refl o (inl refl) s)
 
 -- a block is stored, and its entries are formatted and dropped
-pub formed_more : (all block written : List ℕ) (old new : Held) (s : Seam) → FormedSoFar all written (forming old s) → new.octets ≡ old.octets ++ block → new.place ≡ old.place → FormedSoFar (all ++ block) written (forming new s)
+pub formed_more : (all block written : List ℕ) (old new : Held) (s : FormatState) → FormedSoFar all written (forming old s) → new.octets ≡ old.octets ++ block → new.place ≡ old.place → FormedSoFar (all ++ block) written (forming new s)
 unfolding added
 formed_more all block written old new s x is place = record { held = added all block old new x.held is place; formed = x.formed }
 
-pub formed_on : (all written from to : List ℕ) (old new : Held) (s t : Seam) (cut : ℕ) → FormedSoFar all written (forming old s) → AreOctets old.octets → Settled old.octets (Ok cut) → FormatsEntries (take cut old.octets) s from to t
+pub formed_on : (all written from to : List ℕ) (old new : Held) (s t : FormatState) (cut : ℕ) → FormedSoFar all written (forming old s) → AreOctets old.octets → Settled old.octets (Ok cut) → FormatsEntries (take cut old.octets) s from to t
     → Releases old new cut → (more : List ℕ) × (to ≡ from ++ more) × FormedSoFar all (written ++ more) (forming new t)
-unfolding let_go
+unfolding discard_read
 formed_on all written from to old new s t cut x o settled f r =
     let e = f (settled_entries old.octets cut o settled) in (
       e.0,
       e.1,
-      record { held = let_go all old new cut x.held o settled r.octets r.at r.position; formed = e.2 x.held.before written x.formed },
+      record { held = discard_read all old new cut x.held o settled r.octets r.at r.position; formed = e.2 x.held.before written x.formed },
     )
 
 -- tokens of octets between others
@@ -94,7 +94,7 @@ token_after before x s e b o ends t =
 
 token_ended : (x z : List ℕ) (s e : ℕ) → AreOctets x → AreOctets z → EndsEntry x → IsTokenBetween x s e → IsTokenBetween (x ++ z) s e
 token_ended x z s e o y ends t =
-    let read : (given : List (Result Piece Fault)) × IsGiven z given = (_, run_given z y) in
+    let read : (given : List (Result Piece Fault)) × AreItemsOf z given = (_, run_given z y) in
     let r = read_on x z read.0 o y ends read.1 in
     let own : List (Result Piece Fault) = map Ok r.front ++ Ok (end_at (length x) false) ∷ [] in
     let there : HasToken s e own = subst (HasToken s e) (given_once x t.0 own t.1 r.own) t.2 in
@@ -214,7 +214,7 @@ last_mark all h at p o r k x = subst (λ l. HasMark l p) (last_is all h x) (mark
 cut_not_bad : (octets : List ℕ) (at : ℕ) (f : Fault) → AreOctets octets → Settled octets (Ok at) → IsOctetFault (take at octets) f → ⊥
 cut_not_bad octets at f o s bad = let w = cut_whole octets at o s in whole_not_bad (take at octets) f w bad
 
-pub settled_forms : (h : Held) (s : Seam) (at : ℕ) (why : NoForm) (from to : List ℕ) → AreOctets h.octets → Settled h.octets (Ok at) → HasNoFormAfter h.place (take at h.octets) why → FormsSettled (forming h s) from to (Err why)
+pub settled_forms : (h : Held) (s : FormatState) (at : ℕ) (why : NoForm) (from to : List ℕ) → AreOctets h.octets → Settled h.octets (Ok at) → HasNoFormAfter h.place (take at h.octets) why → FormsSettled (forming h s) from to (Err why)
 settled_forms h s at (Wrong r) from to o st k = λ all more x m. absurd (cut_not_bad h.octets at k.0 o st k.1)
 settled_forms h s at (Nul p) from to o st k = λ all more x m. settled_nul all more h at k.0 p o st k.1 k.2 x m
 settled_forms h s at (OrderMark p) from to o st k = λ all more x m. settled_mark all more h at k.0 p o st k.1 k.2 x m
@@ -226,29 +226,29 @@ none_before : (before octets : List ℕ) → [] ≡ before ++ octets → ([] ≡
 none_before [] octets e = (refl, e)
 none_before (c ∷ before) octets e = cc
 
-pub nothing_formed : (h : Held) (s : Seam) → Holds [] h → s ≡ first_seam → FormedSoFar [] [] (forming h s)
+pub nothing_formed : (h : Held) (s : FormatState) → Holds [] h → s ≡ first_seam → FormedSoFar [] [] (forming h s)
 nothing_formed h s x e = record {
   held = x;
-  formed = subst (λ b. FormedTo b [] s) (none_before x.before h.octets x.is).0 (subst (λ (m : Seam). FormedTo [] [] m) (sym e) none_formed);
+  formed = subst (λ b. FormedTo b [] s) (none_before x.before h.octets x.is).0 (subst (λ (m : FormatState). FormedTo [] [] m) (sym e) none_formed);
 }
 
 pub nothing_held : (h : Held) → Holds [] h → length h.octets < 2 ^ 62
 nothing_held h x = let none : length h.octets ≡ 0 = sym (ap length (none_before x.before h.octets x.is).1) in omega (arith, none)
 
 -- a block that was not added, or was removed again
-pub not_taken : (old new : Held) (s : Seam) (block from to : List ℕ) (h : Halt) → TakesBlock old new block (Err h) → AddsForm {U = Unit} (forming old s) (forming new s) block from to (Err (as_no_form h))
+pub not_taken : (old new : Held) (s : FormatState) (block from to : List ℕ) (h : ChunkError) → StoresChunk old new block (Err h) → AddsForm {U = Unit} (forming old s) (forming new s) block from to (Err (as_no_form h))
 not_taken old new s block from to (WrongHalt f) k = absurd k
 not_taken old new s block from to OutOfMemoryHalt k = ap (λ (h : Held). forming h s) k
 not_taken old new s block from to TooLongHalt k = (ap (λ (h : Held). forming h s) k.0, omega (arith, k.1))
 
-pub given_back : (old mid new : Held) (s : Seam) (block : List ℕ) (count : ℕ) → count ≡ length old.octets → mid.octets ≡ old.octets ++ block → mid.place ≡ old.place → mid.left ≡ old.left → IsHeld (take count mid.octets) mid new
+pub given_back : (old mid new : Held) (s : FormatState) (block : List ℕ) (count : ℕ) → count ≡ length old.octets → mid.octets ≡ old.octets ++ block → mid.place ≡ old.place → mid.left ≡ old.left → IsHeld (take count mid.octets) mid new
     → forming new s ≡ forming old s
 given_back old mid new s block count n is place left k =
     let same : new.octets ≡ old.octets = k.0 ∙ ap (λ l. take count l) is ∙ ap (λ i. take i (old.octets ++ block)) n ∙ take-append_seam old.octets block in
     ap (λ l. forming (held_at l new.place new.left) s) same ∙ ap (λ p. forming (held_at old.octets p new.left) s) (k.1 ∙ place) ∙ ap (λ i. forming (held_at old.octets old.place i) s) (k.2 ∙ left)
 
 -- all is written
-pub formed_last : (h : Held) (s : Seam) (from to : List ℕ) → FormatsLast h.octets s from to → (all written : List ℕ) → FormedSoFar all written (forming h s) → (more : List ℕ) × (to ≡ from ++ more) × Formats all [] (written ++ more)
+pub formed_last : (h : Held) (s : FormatState) (from to : List ℕ) → FormatsLast h.octets s from to → (all written : List ℕ) → FormedSoFar all written (forming h s) → (more : List ℕ) × (to ≡ from ++ more) × Formats all [] (written ++ more)
 formed_last h s from to l all written x = (l.0, l.1, subst (λ k. Formats k [] (written ++ l.0)) (sym x.held.is) (l.2 x.held.before written x.formed))
 
 pub ended_fault : (all : List ℕ) (h : Held) (f : Fault) → Holds all h → AreOctets h.octets → IsWithoutForm h.octets (WrongAt f) → IsZone all → ⊥

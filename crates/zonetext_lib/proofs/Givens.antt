@@ -1,9 +1,9 @@
 -- The error of the iterator's items.
 use Rattle.std.proofs.Common.{◌≡◌, ℕ, List, length}
 use Rattle.std.specs.Prelude.{Some, Result}
-use Rattle.dns_split.specs.declared.pieces.Piece.{Piece}
-use Rattle.dns_split.specs.declared.pieces.Fault.{Fault}
-use Rattle.dns_split.specs.Pieces.{EachWithin, ReadsOctets}
+use Rattle.dns_lexer.specs.declared.pieces.Piece.{Piece}
+use Rattle.dns_lexer.specs.declared.pieces.Fault.{Fault}
+use Rattle.dns_lexer.specs.Pieces.{EachWithin, ReadsOctets}
 use Rattle.zonetext_lib.specs.Found.{IsOctetFault}
 use Rattle.zone_format.proofs.Givens.{first_fault, fault_of as located_fault}
 

@@ -2,19 +2,19 @@
 use Rattle.std.proofs.Common.{◌≡◌, ℕ, ◌+◌, ◌≤◌, List, [], ◌++◌, length, take, drop, sym, ap, ◌∙◌, subst, arith, inl, inr, append-nil, append_assoc, length-append, length-take-le}
 use Rattle.std.specs.Prelude.{Some, None, Ok, Err}
 use Rattle.std.proofs.lemmas.List.{take-append-drop}
-use Rattle.dns_split.specs.declared.pieces.Fault.{Fault}
-use Rattle.dns_split.specs.Pieces.{AreOctets, moved_fault}
+use Rattle.dns_lexer.specs.declared.pieces.Fault.{Fault}
+use Rattle.dns_lexer.specs.Pieces.{AreOctets, moved_fault}
 use Rattle.zonetext_lib.specs.Blocks.{EndsEntry, EndsWith, Holds, Settled}
 use Rattle.zonetext_lib.specs.Found.{IsFound, IsOctetFault, IsOpenedAfter, IsZone}
 use Rattle.zonetext_lib.specs.Held.{Held}
 use Rattle.zone_format.specs.Place.{IsAt}
 use Rattle.zonetext_lib.specs.declared.check.Found.{Found}
-use Rattle.zone_format.specs.declared.place.Place.{Place}
+use Rattle.zone_format.specs.declared.place.LocatedOffset.{LocatedOffset}
 use Rattle.zonetext_lib.proofs.After.{found_on}
-use Rattle.dns_split.proofs.Blocks.{both_octets}
+use Rattle.dns_lexer.proofs.Blocks.{both_octets}
 use Rattle.zonetext_lib.proofs.Cuts.{take_octets, ended_on, zone_on, fault_on, fault_alone, fault_stays_on}
 
-abbrev pub held_at : List ℕ → Place → ℕ → Held
+abbrev pub held_at : List ℕ → LocatedOffset → ℕ → Held
 held_at octets place left = record { octets = octets; place = place; left = left }
 
 -- an error of what is held, with its positions
@@ -64,10 +64,10 @@ ended_at before octets cut b o e s = elim s.1 [
 ]
 
 -- octets are dropped
-unfoldable pub let_go : (all : List ℕ) (old new : Held) (cut : ℕ) → Holds all old → AreOctets old.octets → Settled old.octets (Ok cut)
+unfoldable pub discard_read : (all : List ℕ) (old new : Held) (cut : ℕ) → Holds all old → AreOctets old.octets → Settled old.octets (Ok cut)
     → new.octets ≡ drop cut old.octets → new.place.at ≡ old.place.at + cut
     → ((before : List ℕ) → IsAt 0 before old.place.position → IsAt 0 (before ++ take cut old.octets) new.place.position) → Holds all new
-let_go all old new cut x o s is at position = record {
+discard_read all old new cut x o s is at position = record {
   before = x.before ++ take cut old.octets;
   is = x.is ∙ ap (λ l. x.before ++ l) (sym (take-append-drop cut old.octets)) ∙ sym (append_assoc x.before (take cut old.octets) (drop cut old.octets))
       ∙ ap (λ l. (x.before ++ take cut old.octets) ++ l) (sym is);

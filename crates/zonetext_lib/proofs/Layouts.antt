@@ -8,14 +8,14 @@ use Rattle.std.proofs.lemmas.Bool.{and_from, eq-eqb, ne_eqb}
 use Rattle.std.proofs.lemmas.Grind.{flat_map-append}
 use Rattle.std.proofs.lemmas.Str.{encodes-append, length-encode, len_utf8_bounds}
 use Rattle.dns_symbol.specs.Characters.{tab, line_feed, carriage_return, space, open_parenthesis, close_parenthesis, semicolon}
-use Rattle.dns_split.specs.declared.pieces.Piece.{Piece}
-use Rattle.dns_split.specs.declared.pieces.Fault.{Fault}
-use Rattle.dns_split.specs.Lexeme.{Lexeme, Blank, Line, Open, Close, Note, Word, Quote, lexeme_bytes, is_lexeme}
-use Rattle.dns_split.specs.Splitting.{are_lexemes, may_precede, nests}
-use Rattle.dns_split.specs.Pieces.{pieces, begins_blank, between, IsOctetPieces, IsPieces, moved, moved_piece, moved_fault, place_of}
-use Rattle.dns_split.proofs.Agree.{pieces_of_octets}
-use Rattle.dns_split.proofs.Complete.{word_some, quote_some}
-use Rattle.dns_split.proofs.PieceSplit.{between_is, same_found}
+use Rattle.dns_lexer.specs.declared.pieces.Piece.{Piece}
+use Rattle.dns_lexer.specs.declared.pieces.Fault.{Fault}
+use Rattle.dns_lexer.specs.Lexeme.{Lexeme, Blank, Line, Open, Close, Note, Word, Quote, lexeme_bytes, is_lexeme}
+use Rattle.dns_lexer.specs.Splitting.{are_lexemes, may_precede, nests}
+use Rattle.dns_lexer.specs.Pieces.{pieces, begins_blank, between, IsOctetPieces, IsPieces, moved, moved_piece, moved_fault, place_of}
+use Rattle.dns_lexer.proofs.Agree.{pieces_of_octets}
+use Rattle.dns_lexer.proofs.Complete.{word_some, quote_some}
+use Rattle.dns_lexer.proofs.PieceSplit.{between_is, same_found}
 use Rattle.zonetext_lib.specs.declared.layout.Gap.{Gap}
 use Rattle.zonetext_lib.specs.declared.layout.Gap.TheVariants.{Space, Tab}
 use Rattle.zonetext_lib.specs.Entries.{ComparedPart, Token, Ends, begins_glued, parts, parts_after, HasEntries}

@@ -3,11 +3,11 @@ use Rattle.std.proofs.Common.{◌≡◌, ℕ, length, subst, Bool, true, false, 
 use Rattle.std.specs.Prelude.{if◌then◌else◌}
 use Rattle.std.specs.Prelude.{map, Option, Result, Ok, Err, Some, None, IfSome, encode_utf8_all}
 use Rattle.std.specs.Option.{is_some}
-use Rattle.dns_split.specs.declared.pieces.Piece.{Piece}
-use Rattle.dns_split.specs.declared.pieces.Piece.TheVariants.{Word as WordAt, Quote as QuoteAt, Comment as CommentAt, End as EndAt}
-use Rattle.dns_split.specs.declared.pieces.Fault.{Fault}
-use Rattle.dns_split.specs.Pieces.{ReadsOctets, EachWithin, moved, next_blank, place_of}
-use Rattle.dns_split.proofs.PieceSplit.{closes, given_close}
+use Rattle.dns_lexer.specs.declared.pieces.Piece.{Piece}
+use Rattle.dns_lexer.specs.declared.pieces.Piece.TheVariants.{Word as WordAt, Quote as QuoteAt, Comment as CommentAt, End as EndAt}
+use Rattle.dns_lexer.specs.declared.pieces.Fault.{Fault}
+use Rattle.dns_lexer.specs.Pieces.{ReadsOctets, EachWithin, moved, next_blank, place_of}
+use Rattle.dns_lexer.proofs.PieceSplit.{closes, given_close}
 use Rattle.zone_format.proofs.Givens.{first_fault, pieces_in}
 use Rattle.zonetext_lib.specs.Entries.{parts_after}
 use Rattle.zonetext_lib.specs.declared.layout.Gap.{Gap}

@@ -3,14 +3,14 @@ use Rattle.std.proofs.Common.{◌≡◌, ℕ, zero, suc, ◌+◌, ◌<◌, Bool,
 use Rattle.std.proofs.Common.{append-nil, append_assoc, length-append, take_all}
 use Rattle.std.specs.Prelude.{◌⊎◌, Option, Some, None, option_map, map, Result, Ok, Err, encode_utf8_all}
 use Rattle.std.proofs.lemmas.List.{map-append, take-append-drop}
-use Rattle.dns_split.specs.declared.pieces.Piece.{Piece}
-use Rattle.dns_split.specs.declared.pieces.Piece.TheVariants.{Word as WordAt, Quote as QuoteAt, Comment as CommentAt, End as EndAt}
-use Rattle.dns_split.specs.declared.pieces.Fault.{Fault}
-use Rattle.dns_split.specs.Lexeme.{Lexeme, Blank, Line, Open, Close, Note, Word, Quote}
-use Rattle.dns_split.specs.Pieces.{AreOctets, EachWithin, IsGiven, begins_blank, tokens_by_entry, end_at, later, moved, moved_fault, moved_piece, pieces, place_of}
-use Rattle.dns_split.proofs.Blocks.{faults_stay}
-use Rattle.dns_split.proofs.OctetsOnce.{given_once, run_given}
-use Rattle.dns_split.proofs.PieceSplit.{pieces_split}
+use Rattle.dns_lexer.specs.declared.pieces.Piece.{Piece}
+use Rattle.dns_lexer.specs.declared.pieces.Piece.TheVariants.{Word as WordAt, Quote as QuoteAt, Comment as CommentAt, End as EndAt}
+use Rattle.dns_lexer.specs.declared.pieces.Fault.{Fault}
+use Rattle.dns_lexer.specs.Lexeme.{Lexeme, Blank, Line, Open, Close, Note, Word, Quote}
+use Rattle.dns_lexer.specs.Pieces.{AreOctets, EachWithin, AreItemsOf, begins_blank, tokens_by_entry, end_at, later, moved, moved_fault, moved_piece, pieces, place_of}
+use Rattle.dns_lexer.proofs.Blocks.{faults_stay}
+use Rattle.dns_lexer.proofs.OctetsOnce.{given_once, run_given}
+use Rattle.dns_lexer.proofs.PieceSplit.{pieces_split}
 use Rattle.zonetext_lib.specs.declared.layout.Gap.{Gap}
 use Rattle.zonetext_lib.specs.declared.tokens.Form.{Form}
 use Rattle.zonetext_lib.specs.declared.writer.Output.{Output}
@@ -36,17 +36,17 @@ zone_not_bad octets es f h bad =
     let found = map (moved_piece (place_of octets)) h.0 in
     bad.is.bad.splits_not (tokens_by_entry text found) (pieces_split text found h.1)
 
-pub zone_none : (octets : List ℕ) (es : List ComparedPart) (given : List (Result Piece Fault)) → HasEntries octets es → IsGiven octets given → first_fault given ≡ None
+pub zone_none : (octets : List ℕ) (es : List ComparedPart) (given : List (Result Piece Fault)) → HasEntries octets es → AreItemsOf octets given → first_fault given ≡ None
 zone_none octets es given h g = go (first_fault given) refl
   where
     go : (o : Option Fault) → first_fault given ≡ o → first_fault given ≡ None
     go None none = none
     go (Some f) some = absurd (zone_not_bad octets es f h (fault_of octets given f g.0 g.1 some))
 
-pub zone_is : (octets : List ℕ) (es : List ComparedPart) (given : List (Result Piece Fault)) → HasEntries octets es → IsGiven octets given → es ≡ parts octets (pieces_in given)
+pub zone_is : (octets : List ℕ) (es : List ComparedPart) (given : List (Result Piece Fault)) → HasEntries octets es → AreItemsOf octets given → es ≡ parts octets (pieces_in given)
 zone_is octets es given h g = entries_once octets es (parts octets (pieces_in given)) h (pieces_in given, whole_of octets given g.0 (zone_none octets es given h g), refl)
 
-pub given_zone : (octets : List ℕ) (found : List Piece) → IsGiven octets (map Ok found) → HasEntries octets (parts octets (pieces_in (map Ok found)))
+pub given_zone : (octets : List ℕ) (found : List Piece) → AreItemsOf octets (map Ok found) → HasEntries octets (parts octets (pieces_in (map Ok found)))
 given_zone octets found g = (pieces_in (map Ok found), whole_of octets (map Ok found) g.0 (first_of_oks found), refl)
 
 -- and some part
@@ -82,7 +82,7 @@ some_part octets es h =
     subst (λ l. 0 < length l) h.2 (end_part octets None h.0 ends)
 
 -- entries that have ended, laid out
-lines_own : (before written : List ℕ) (gap : Gap) (front : List Piece) → IsGiven before (map Ok front ++ Ok (end_at (length before) false) ∷ []) → HasLines before gap written
+lines_own : (before written : List ℕ) (gap : Gap) (front : List Piece) → AreItemsOf before (map Ok front ++ Ok (end_at (length before) false) ∷ []) → HasLines before gap written
     → written ≡ laid_out gap false (parts before front ++ Ends false ∷ [])
 lines_own before written gap front g (inl h) =
     let end : List Piece = end_at (length before) false ∷ [] in
@@ -121,9 +121,9 @@ pieces_moved g (Err f ∷ given) = pieces_moved g given
 lines_zone : (before x written more : List ℕ) (gap : Gap) (es : List ComparedPart) → AreOctets before → AreOctets x → EndsEntry before → HasLines before gap written → HasEntries x es
     → more ≡ laid_out gap false es → HasLines (before ++ x) gap (written ++ more)
 lines_zone before x written more gap es b o e w h k =
-    let read : (given : List (Result Piece Fault)) × IsGiven x given = (_, run_given x o) in
+    let read : (given : List (Result Piece Fault)) × AreItemsOf x given = (_, run_given x o) in
     let alone : List (Result Piece Fault) = read.0 in
-    let g : IsGiven x alone = read.1 in
+    let g : AreItemsOf x alone = read.1 in
     let r = read_on before x alone b o e g in
     let all = map Ok r.front ++ later (length before) alone in
     let none : first_fault all ≡ None = first_on before x alone r ∙ ap (option_map (moved_fault (λ i. length before + i))) (zone_none x es alone h g) in
@@ -169,7 +169,7 @@ lines_bad before x written more gap at f b o e w k =
         ended = r.front ++ map g f.ended;
         last = map g f.last;
         fault = fault;
-        given = subst (IsGiven (before ++ x)) shape r.is;
+        given = subst (AreItemsOf (before ++ x)) shape r.is;
         ends = there.1;
         none = has_moved (λ i. length before + i) f.last ∙ f.none;
       },
@@ -185,7 +185,7 @@ makes_follow (Lines gap) before x written more b o e w (inl h) = lines_zone befo
 makes_follow (Lines gap) before x written more b o e w (inr h) = lines_bad before x written more gap h.0 h.1 b o e w h.2
 
 -- the output before an error that stays
-lines_stay : (octets rest written : List ℕ) (gap : Gap) (found : List Piece) (f : Fault) → AreOctets octets → AreOctets rest → IsGiven octets (map Ok found ++ Err f ∷ []) → f.at < length octets
+lines_stay : (octets rest written : List ℕ) (gap : Gap) (found : List Piece) (f : Fault) → AreOctets octets → AreOctets rest → AreItemsOf octets (map Ok found ++ Err f ∷ []) → f.at < length octets
     → HasLines octets gap written → HasLines (octets ++ rest) gap written
 lines_stay octets rest written gap found f o r g less (inl h) =
     let no : Some f ≡ None = sym (fault_after found (Err f ∷ [])) ∙ zone_none octets h.0 (map Ok found ++ Err f ∷ []) h.1 g in
@@ -200,17 +200,17 @@ lines_stay octets rest written gap found f o r g less (inr h) =
     let near : k.fault.at < length octets = subst (λ (e : Fault). e.at < length octets) (sym is) less in
     let shape : map Ok k.ended ++ (map Ok k.last ++ bad) ≡ map Ok (k.ended ++ k.last) ++ bad =
     sym (append_assoc (map Ok k.ended) (map Ok k.last) bad) ∙ ap (λ l. l ++ bad) (sym (map-append Ok k.ended k.last)) in
-    let on = faults_stay octets rest (k.ended ++ k.last) k.fault o r (subst (IsGiven octets) shape k.given) near in
+    let on = faults_stay octets rest (k.ended ++ k.last) k.fault o r (subst (AreItemsOf octets) shape k.given) near in
     inr (
       h.0,
-      record { ended = k.ended; last = k.last; fault = k.fault; given = subst (IsGiven (octets ++ rest)) (sym shape) on; ends = k.ends; none = k.none },
+      record { ended = k.ended; last = k.last; fault = k.fault; given = subst (AreItemsOf (octets ++ rest)) (sym shape) on; ends = k.ends; none = k.none },
       h.2 ∙ ap (λ l. laid_out gap false (l ++ Ends false ∷ [])) (sym (parts_front octets rest None k.ended (map Ok k.last ++ bad) k.given.1)),
     )
   where
     some_same : {a b : Fault} → Some a ≡ Some b → a ≡ b
     some_same e = cc
 
-rows_stay : (octets rest written : List ℕ) (form : Form) (found : List Piece) (f : Fault) → AreOctets octets → AreOctets rest → IsGiven octets (map Ok found ++ Err f ∷ []) → f.at < length octets
+rows_stay : (octets rest written : List ℕ) (form : Form) (found : List Piece) (f : Fault) → AreOctets octets → AreOctets rest → AreItemsOf octets (map Ok found ++ Err f ∷ []) → f.at < length octets
     → Appended octets 0 form [] written → Appended (octets ++ rest) 0 form [] written
 rows_stay octets rest written form found f o r g less a =
     let bad : List (Result Piece Fault) = Err f ∷ [] in
@@ -221,7 +221,7 @@ rows_stay octets rest written form found f o r g less a =
           ∙ sym (rows_append (octets ++ rest) 0 form None found bad),
     )
 
-pub made_stays : (output : Output) (octets rest written : List ℕ) (found : List Piece) (f : Fault) → AreOctets octets → AreOctets rest → IsGiven octets (map Ok found ++ Err f ∷ [])
+pub made_stays : (output : Output) (octets rest written : List ℕ) (found : List Piece) (f : Fault) → AreOctets octets → AreOctets rest → AreItemsOf octets (map Ok found ++ Err f ∷ [])
     → f.at < length octets → WritesOutput output octets 0 written → WritesOutput output (octets ++ rest) 0 written
 made_stays (Rows form) octets rest written found f o r g less m = rows_stay octets rest written form found f o r g less m
 made_stays (Lines gap) octets rest written found f o r g less m = lines_stay octets rest written gap found f o r g less m
@@ -232,18 +232,18 @@ none_made (Rows form) = (Ok (end_at 0 false) ∷ [], none_given, refl)
 none_made (Lines gap) = inl (parts [] (end_at 0 false ∷ []), given_zone [] (end_at 0 false ∷ []) none_given, refl)
 
 -- entries before an error are of the grammar
-ended_given : (octets : List ℕ) (at : ℕ) (f : FaultAfter octets at) → AreOctets octets → IsGiven (take at octets) (map Ok f.ended ++ Ok (end_at at false) ∷ [])
+ended_given : (octets : List ℕ) (at : ℕ) (f : FaultAfter octets at) → AreOctets octets → AreItemsOf (take at octets) (map Ok f.ended ++ Ok (end_at at false) ∷ [])
 ended_given octets at f o = go f.ends
   where
-    go : EndsAt f.ended at → IsGiven (take at octets) (map Ok f.ended ++ Ok (end_at at false) ∷ [])
-    go (inl z) = subst (λ l. IsGiven (take at octets) (map Ok l ++ Ok (end_at at false) ∷ [])) (sym z.0) (subst (λ n. IsGiven (take n octets) (Ok (end_at n false) ∷ [])) (sym z.1) none_given)
+    go : EndsAt f.ended at → AreItemsOf (take at octets) (map Ok f.ended ++ Ok (end_at at false) ∷ [])
+    go (inl z) = subst (λ l. AreItemsOf (take at octets) (map Ok l ++ Ok (end_at at false) ∷ [])) (sym z.0) (subst (λ n. AreItemsOf (take n octets) (Ok (end_at n false) ∷ [])) (sym z.1) none_given)
     go (inr k) =
         let tail : List (Result Piece Fault) = map Ok f.last ++ Err f.fault ∷ [] in
         let some : 0 < length tail = omega (arith, length-append (map {B = Result Piece Fault} Ok f.last) (Err f.fault ∷ [])) in
         let end : List (Result Piece Fault) = Ok (end_at at k.1) ∷ [] in
         let shape : map Ok f.ended ≡ map Ok k.0 ++ end = ap (map Ok) k.2 ∙ map-append Ok k.0 (end_at at k.1 ∷ []) in
-        let here : IsGiven octets (map Ok k.0 ++ Ok (end_at at k.1) ∷ tail) = subst (IsGiven octets) (ap (λ l. l ++ tail) shape ∙ append_assoc (map Ok k.0) end tail) f.given in
-        subst (IsGiven (take at octets)) (sym (ap (λ l. l ++ Ok (end_at at false) ∷ []) shape ∙ append_assoc (map Ok k.0) end (Ok (end_at at false) ∷ [])))
+        let here : AreItemsOf octets (map Ok k.0 ++ Ok (end_at at k.1) ∷ tail) = subst (AreItemsOf octets) (ap (λ l. l ++ tail) shape ∙ append_assoc (map Ok k.0) end tail) f.given in
+        subst (AreItemsOf (take at octets)) (sym (ap (λ l. l ++ Ok (end_at at false) ∷ []) shape ∙ append_assoc (map Ok k.0) end (Ok (end_at at false) ∷ [])))
         (cut_given octets k.0 at k.1 tail o here some)
 
 pub lines_until : (octets : List ℕ) (at : ℕ) (gap : Gap) (es : List ComparedPart) → AreOctets octets → Until octets at → HasEntries (take at octets) es → HasLines octets gap (laid_out gap false es)
@@ -265,7 +265,7 @@ until_well octets at f o (inl u) bad =
     zone_not_bad octets _ f (given_zone octets u.0 u.1) (subst (λ l. IsOctetFault l f) all bad)
 until_well octets at f o (inr k) bad =
     let end : List Piece = end_at at false ∷ [] in
-    let g = subst (IsGiven (take at octets)) (sym (map-append Ok k.ended end)) (ended_given octets at k o) in
+    let g = subst (AreItemsOf (take at octets)) (sym (map-append Ok k.ended end)) (ended_given octets at k o) in
     zone_not_bad (take at octets) _ f (given_zone (take at octets) (k.ended ++ end) g) bad
 
 pub none_before : (output : Output) (before octets : List ℕ) → [] ≡ before ++ octets → WritesOutput output before 0 []
@@ -273,14 +273,14 @@ none_before output [] octets e = none_made output
 none_before output (x ∷ before) octets e = cc
 
 -- octets up to a cut have no error
-pub cut_whole : (octets : List ℕ) (at : ℕ) → AreOctets octets → Settled octets (Ok at) → (found : List Piece) × IsGiven (take at octets) (map Ok found)
+pub cut_whole : (octets : List ℕ) (at : ℕ) → AreOctets octets → Settled octets (Ok at) → (found : List Piece) × AreItemsOf (take at octets) (map Ok found)
 cut_whole octets at o s = go s.1
   where
-    go : (at ≡ 0) ⊎ EndsEntryAt octets at → (found : List Piece) × IsGiven (take at octets) (map Ok found)
-    go (inl z) = (end_at 0 false ∷ [], subst (λ n. IsGiven (take n octets) (Ok (end_at 0 false) ∷ [])) (sym z) none_given)
+    go : (at ≡ 0) ⊎ EndsEntryAt octets at → (found : List Piece) × AreItemsOf (take at octets) (map Ok found)
+    go (inl z) = (end_at 0 false ∷ [], subst (λ n. AreItemsOf (take n octets) (Ok (end_at 0 false) ∷ [])) (sym z) none_given)
     go (inr k) =
         let last : List Piece = end_at at k.1 ∷ end_at at false ∷ [] in
-        (k.0 ++ last, subst (IsGiven (take at octets)) (sym (map-append Ok k.0 last)) (cut_given octets k.0 at k.1 k.2 o k.3 k.4))
+        (k.0 ++ last, subst (AreItemsOf (take at octets)) (sym (map-append Ok k.0 last)) (cut_given octets k.0 at k.1 k.2 o k.3 k.4))
 
-pub whole_not_bad : (octets : List ℕ) (f : Fault) → (found : List Piece) × IsGiven octets (map Ok found) → IsOctetFault octets f → ⊥
+pub whole_not_bad : (octets : List ℕ) (f : Fault) → (found : List Piece) × AreItemsOf octets (map Ok found) → IsOctetFault octets f → ⊥
 whole_not_bad octets f w bad = zone_not_bad octets _ f (given_zone octets w.0 w.1) bad

@@ -4,13 +4,13 @@ use Rattle.std.specs.Prelude.{⊤, map, option_map, Option, Some, None, encode_u
 use Rattle.std.specs.List.{flat_map}
 use Rattle.std.proofs.lemmas.Bool.{cases_lt, cases_eq, eq-eqb, ne_eqb}
 use Rattle.std.proofs.lemmas.Str.{encodes_same}
-use Rattle.dns_split.specs.declared.pieces.Piece.{Piece}
-use Rattle.dns_split.specs.declared.pieces.Piece.TheVariants.{Word as WordAt, Quote as QuoteAt, Comment as CommentAt, End as EndAt}
-use Rattle.dns_split.specs.Lexeme.{Lexeme, Blank, Line, Open, Close, Note, Word, Quote, lexeme_bytes}
-use Rattle.dns_split.specs.Pieces.{IsOctetPieces, begins_blank, between, moved_piece, pieces, place_of}
-use Rattle.dns_split.proofs.Complete.{word_some, quote_some}
-use Rattle.dns_split.proofs.PieceMoved.{mono}
-use Rattle.dns_split.proofs.PieceSplit.{pieces_one_way}
+use Rattle.dns_lexer.specs.declared.pieces.Piece.{Piece}
+use Rattle.dns_lexer.specs.declared.pieces.Piece.TheVariants.{Word as WordAt, Quote as QuoteAt, Comment as CommentAt, End as EndAt}
+use Rattle.dns_lexer.specs.Lexeme.{Lexeme, Blank, Line, Open, Close, Note, Word, Quote, lexeme_bytes}
+use Rattle.dns_lexer.specs.Pieces.{IsOctetPieces, begins_blank, between, moved_piece, pieces, place_of}
+use Rattle.dns_lexer.proofs.Complete.{word_some, quote_some}
+use Rattle.dns_lexer.proofs.PieceMoved.{mono}
+use Rattle.dns_lexer.proofs.PieceSplit.{pieces_one_way}
 use Rattle.zone_format.proofs.Same.{head_of, moved_between, place_sum, rest_of}
 use Rattle.zonetext_lib.specs.Entries.{ComparedPart, Token, Ends, begins_glued, parts, parts_after, HasEntries}
 

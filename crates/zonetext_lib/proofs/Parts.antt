@@ -1,12 +1,12 @@
 -- The parts of pieces, one after another.
 use Rattle.std.proofs.Common.{◌≡◌, ℕ, List, [], ◌∷◌, ◌++◌, refl, sym, ap, ◌∙◌, inl, inr, append_assoc}
 use Rattle.std.specs.Prelude.{Option, Some, None, map, Result, Ok, codes}
-use Rattle.dns_split.specs.declared.pieces.Piece.{Piece}
-use Rattle.dns_split.specs.declared.pieces.Piece.TheVariants.{Word as WordAt, Quote as QuoteAt, Comment as CommentAt, End as EndAt}
-use Rattle.dns_split.specs.declared.pieces.Fault.{Fault}
-use Rattle.dns_split.specs.Pieces.{between, end_at}
+use Rattle.dns_lexer.specs.declared.pieces.Piece.{Piece}
+use Rattle.dns_lexer.specs.declared.pieces.Piece.TheVariants.{Word as WordAt, Quote as QuoteAt, Comment as CommentAt, End as EndAt}
+use Rattle.dns_lexer.specs.declared.pieces.Fault.{Fault}
+use Rattle.dns_lexer.specs.Pieces.{between, end_at}
 use Rattle.zonetext_lib.specs.declared.tokens.Form.{Form}
-use Rattle.zonetext_lib.specs.Compare.{says}
+use Rattle.zonetext_lib.specs.Compare.{compared_parts}
 use Rattle.zonetext_lib.specs.Entries.{Token, Ends, begins_glued, ended_after_pieces, ended_by, parts, parts_after}
 use Rattle.zonetext_lib.specs.Tokens.{row_at, rows_after}
 use Rattle.zonetext_lib.proofs.Cuts.{EndedFront}
@@ -18,7 +18,7 @@ parts_append octets ended (QuoteAt p ∷ xs) ys = ap (λ l. Token (begins_glued 
 parts_append octets ended (CommentAt p ∷ xs) ys = parts_append octets ended xs ys
 parts_append octets ended (EndAt p ∷ xs) ys = ap (λ l. Ends p.begins_blank ∷ l) (parts_append octets None xs ys)
 
-pub says_append : (octets : List ℕ) (ended : Option ℕ) (xs ys : List Piece) → says octets ended (xs ++ ys) ≡ says octets ended xs ++ says octets (ended_after_pieces ended xs) ys
+pub says_append : (octets : List ℕ) (ended : Option ℕ) (xs ys : List Piece) → compared_parts octets ended (xs ++ ys) ≡ compared_parts octets ended xs ++ compared_parts octets (ended_after_pieces ended xs) ys
 says_append octets ended [] ys = refl
 says_append octets ended (WordAt p ∷ xs) ys = ap (λ l. Token (begins_glued ended p.start) (between octets p.start p.end) ∷ l) (says_append octets (Some p.end) xs ys)
 says_append octets ended (QuoteAt p ∷ xs) ys = ap (λ l. Token (begins_glued ended p.start) (between octets p.start p.end) ∷ l) (says_append octets (Some p.end) xs ys)
@@ -52,8 +52,8 @@ ended_none xs (inr e) = ap (ended_after_pieces None) e.3 ∙ ended_append None e
 pub parts_ended : (octets : List ℕ) (xs ys : List Piece) → EndedFront xs → parts octets (xs ++ ys) ≡ parts octets xs ++ parts octets ys
 parts_ended octets xs ys e = parts_append octets None xs ys ∙ ap (λ o. parts octets xs ++ parts_after octets o ys) (ended_none xs e)
 
-pub says_ended : (octets : List ℕ) (xs ys : List Piece) → EndedFront xs → says octets None (xs ++ ys) ≡ says octets None xs ++ says octets None ys
-says_ended octets xs ys e = says_append octets None xs ys ∙ ap (λ o. says octets None xs ++ says octets o ys) (ended_none xs e)
+pub says_ended : (octets : List ℕ) (xs ys : List Piece) → EndedFront xs → compared_parts octets None (xs ++ ys) ≡ compared_parts octets None xs ++ compared_parts octets None ys
+says_ended octets xs ys e = says_append octets None xs ys ∙ ap (λ o. compared_parts octets None xs ++ compared_parts octets o ys) (ended_none xs e)
 
 pub rows_ended : (octets : List ℕ) (lines : ℕ) (form : Form) (xs : List Piece) (given : List (Result Piece Fault)) → EndedFront xs
     → rows_after octets lines form None (map Ok xs ++ given) ≡ rows_after octets lines form None (map Ok xs) ++ rows_after octets lines form None given

@@ -3,10 +3,10 @@ use Rattle.std.proofs.Common.{◌≡◌, ℕ, suc, ◌+◌, ◌<◌, ◌≤◌, 
 use Rattle.std.specs.Prelude.{◌⊎◌, ◌↔◌, IsTrue, map, Result, Ok, Err}
 use Rattle.std.proofs.lemmas.Bool.{cases_lt}
 use Rattle.std.proofs.lemmas.List.{map-append}
-use Rattle.dns_split.specs.declared.pieces.Piece.{Piece}
-use Rattle.dns_split.specs.declared.pieces.Piece.TheVariants.{Word as WordAt, Quote as QuoteAt, Comment as CommentAt, End as EndAt}
-use Rattle.dns_split.specs.declared.pieces.Fault.{Fault}
-use Rattle.dns_split.specs.Pieces.{IsGiven, EachWithin, end_at}
+use Rattle.dns_lexer.specs.declared.pieces.Piece.{Piece}
+use Rattle.dns_lexer.specs.declared.pieces.Piece.TheVariants.{Word as WordAt, Quote as QuoteAt, Comment as CommentAt, End as EndAt}
+use Rattle.dns_lexer.specs.declared.pieces.Fault.{Fault}
+use Rattle.dns_lexer.specs.Pieces.{AreItemsOf, EachWithin, end_at}
 use Rattle.zonetext_lib.specs.Blocks.{EndsEntryAt}
 use Rattle.zonetext_lib.specs.Writing.{EndsAt, FaultAfter, has_end}
 use Rattle.zonetext_lib.proofs.Order.{InOrder, in_order}
@@ -33,15 +33,15 @@ none_after n (CommentAt p ∷ found) f rest o = none_after n found f rest o
 none_after n (EndAt p ∷ found) f rest o = none_after n found f rest o
 
 -- an error comes last
-pub fault_passed : (octets : List ℕ) (given left now : List (Result Piece Fault)) (f : Fault) → IsGiven octets given → now ≡ Err f ∷ left → (x : Passed given now)
-    → IsGiven octets (map Ok x.found ++ Err f ∷ [])
+pub fault_passed : (octets : List ℕ) (given left now : List (Result Piece Fault)) (f : Fault) → AreItemsOf octets given → now ≡ Err f ∷ left → (x : Passed given now)
+    → AreItemsOf octets (map Ok x.found ++ Err f ∷ [])
 fault_passed octets given left now f g e x =
     let is : given ≡ map Ok x.found ++ Err f ∷ left = x.is ∙ ap (λ l. map Ok x.found ++ l) e in
     let over : left ≡ [] = none_after 0 x.found f left (subst (InOrder 0) is (in_order octets given g.0 g.1)) in
-    subst (IsGiven octets) (is ∙ ap (λ l. map Ok x.found ++ Err f ∷ l) over) g
+    subst (AreItemsOf octets) (is ∙ ap (λ l. map Ok x.found ++ Err f ∷ l) over) g
 
-pub all_passed : (octets : List ℕ) (given now : List (Result Piece Fault)) → IsGiven octets given → now ≡ [] → (x : Passed given now) → IsGiven octets (map Ok x.found)
-all_passed octets given now g e x = subst (IsGiven octets) (x.is ∙ ap (λ l. map Ok x.found ++ l) e ∙ append-nil (map Ok x.found)) g
+pub all_passed : (octets : List ℕ) (given now : List (Result Piece Fault)) → AreItemsOf octets given → now ≡ [] → (x : Passed given now) → AreItemsOf octets (map Ok x.found)
+all_passed octets given now g e x = subst (AreItemsOf octets) (x.is ∙ ap (λ l. map Ok x.found ++ l) e ∙ append-nil (map Ok x.found)) g
 
 -- an entry's end was yielded, before this many more
 pub record Ended (given left : List (Result Piece Fault)) (at : ℕ) : Type 0 where
@@ -71,10 +71,10 @@ oks_length [] = refl
 oks_length (x ∷ xs) = ap suc (oks_length xs)
 
 -- it is a cut if something follows
-pub ended_cut : (octets : List ℕ) (given left : List (Result Piece Fault)) (at : ℕ) → IsGiven octets given → (x : Ended given left at) → 0 < length x.more + length left
+pub ended_cut : (octets : List ℕ) (given left : List (Result Piece Fault)) (at : ℕ) → AreItemsOf octets given → (x : Ended given left at) → 0 < length x.more + length left
     → (at ≤ length octets) × EndsEntryAt octets at
 ended_cut octets given left at g x some =
-    let here = subst (IsGiven octets) x.is g in (
+    let here = subst (AreItemsOf octets) x.is g in (
       (within_after (length octets) x.found _ here.1).0,
       (x.found, x.blank, map Ok x.more ++ left, here, omega (arith, some, length-append (map Ok x.more) left, oks_length x.more)),
     )
@@ -124,12 +124,12 @@ before_on given left now p at e (inr x) = inr (end_then_more given left now p at
 none_or : (octets : List ℕ) (at : ℕ) → at ≡ 0 → at ≤ length octets
 none_or octets at z = omega (arith, z)
 
-pub cut_or_none : (octets : List ℕ) (given left : List (Result Piece Fault)) (at : ℕ) → IsGiven octets given → 0 < length left → LastEnd given left at
+pub cut_or_none : (octets : List ℕ) (given left : List (Result Piece Fault)) (at : ℕ) → AreItemsOf octets given → 0 < length left → LastEnd given left at
     → (at ≤ length octets) × ((at ≡ 0) ⊎ EndsEntryAt octets at)
 cut_or_none octets given left at g some (inl z) = (none_or octets at z, inl z)
 cut_or_none octets given left at g some (inr x) = let c = ended_cut octets given left at g x (omega (arith, some)) in (c.0, inr c.1)
 
-pub cut_before : (octets : List ℕ) (given left : List (Result Piece Fault)) (at : ℕ) → IsGiven octets given → EndBefore given left at → (at ≤ length octets) × ((at ≡ 0) ⊎ EndsEntryAt octets at)
+pub cut_before : (octets : List ℕ) (given left : List (Result Piece Fault)) (at : ℕ) → AreItemsOf octets given → EndBefore given left at → (at ≤ length octets) × ((at ≡ 0) ⊎ EndsEntryAt octets at)
 cut_before octets given left at g (inl z) = (none_or octets at z, inl z)
 cut_before octets given left at g (inr x) = let c = ended_cut octets given left at g x.0 (omega (arith, x.1)) in (c.0, inr c.1)
 
@@ -181,18 +181,18 @@ parted_here given left now at there blank e x =
       none = refl;
     }
 
-pub parted_bad : (octets : List ℕ) (given left now : List (Result Piece Fault)) (f : Fault) (at : ℕ) → IsGiven octets given → now ≡ Err f ∷ left → Parted given now at → FaultAfter octets at
+pub parted_bad : (octets : List ℕ) (given left now : List (Result Piece Fault)) (f : Fault) (at : ℕ) → AreItemsOf octets given → now ≡ Err f ∷ left → Parted given now at → FaultAfter octets at
 parted_bad octets given left now f at g e x =
     let passed : Passed given now = record {
       found = x.ended ++ x.last;
       is = x.is ∙ sym (append_assoc (map Ok x.ended) (map Ok x.last) now) ∙ ap (λ l. l ++ now) (sym (map-append Ok x.ended x.last));
     } in
-    let here : IsGiven octets (map Ok (x.ended ++ x.last) ++ Err f ∷ []) = fault_passed octets given left now f g e passed in
+    let here : AreItemsOf octets (map Ok (x.ended ++ x.last) ++ Err f ∷ []) = fault_passed octets given left now f g e passed in
     record {
       ended = x.ended;
       last = x.last;
       fault = f;
-      given = subst (IsGiven octets) (ap (λ l. l ++ Err f ∷ []) (map-append Ok x.ended x.last) ∙ append_assoc (map Ok x.ended) (map Ok x.last) (Err f ∷ [])) here;
+      given = subst (AreItemsOf octets) (ap (λ l. l ++ Err f ∷ []) (map-append Ok x.ended x.last) ∙ append_assoc (map Ok x.ended) (map Ok x.last) (Err f ∷ [])) here;
       ends = x.ends;
       none = x.none;
     }
@@ -208,10 +208,10 @@ ends_within octets at f = go f.ends
         ap (λ l. map Ok l ++ tail) k.2 ∙ ap (λ l. l ++ tail) (map-append Ok k.0 (end_at at k.1 ∷ [])) ∙ append_assoc (map Ok k.0) (Ok (end_at at k.1) ∷ []) tail in
         (within_after (length octets) k.0 _ (subst (EachWithin (length octets)) shape f.given.1)).0
 
-pub all_parted : (octets : List ℕ) (given now : List (Result Piece Fault)) (at : ℕ) → IsGiven octets given → now ≡ [] → Parted given now at
-    → (found : List Piece) × IsGiven octets (map Ok found) × (length octets ≡ length octets)
+pub all_parted : (octets : List ℕ) (given now : List (Result Piece Fault)) (at : ℕ) → AreItemsOf octets given → now ≡ [] → Parted given now at
+    → (found : List Piece) × AreItemsOf octets (map Ok found) × (length octets ≡ length octets)
 all_parted octets given now at g e x = (
   x.ended ++ x.last,
-  subst (IsGiven octets) (x.is ∙ ap (λ l. map Ok x.ended ++ (map Ok x.last ++ l)) e ∙ ap (λ l. map Ok x.ended ++ l) (append-nil (map Ok x.last)) ∙ sym (map-append Ok x.ended x.last)) g,
+  subst (AreItemsOf octets) (x.is ∙ ap (λ l. map Ok x.ended ++ (map Ok x.last ++ l)) e ∙ ap (λ l. map Ok x.ended ++ l) (append-nil (map Ok x.last)) ∙ sym (map-append Ok x.ended x.last)) g,
   refl,
 )

@@ -2,13 +2,13 @@
 use Rattle.std.proofs.Common.{◌≡◌, ℕ, ◌<◌, Bool, false, List, [], ◌∷◌, ◌++◌, length, take, drop, true, refl, sym, ap, ◌∙◌, subst, arith, inl, inr, append-nil, append_assoc, length-append, ◌+◌}
 use Rattle.std.specs.Prelude.{◌⊎◌, Option, Some, None, map, Result, Ok, IfSome}
 use Rattle.std.proofs.lemmas.List.{map-append, take-append-drop}
-use Rattle.dns_split.specs.declared.pieces.Piece.{Piece}
-use Rattle.dns_split.specs.declared.pieces.EndOfEntry.{EndOfEntry}
-use Rattle.dns_split.specs.declared.pieces.Piece.TheVariants.{Word as WordAt, Quote as QuoteAt, Comment as CommentAt, End as EndAt}
-use Rattle.dns_split.specs.declared.pieces.Fault.{Fault}
-use Rattle.dns_split.specs.Pieces.{AreOctets, IsGiven, end_at, piece_start}
+use Rattle.dns_lexer.specs.declared.pieces.Piece.{Piece}
+use Rattle.dns_lexer.specs.declared.pieces.EndOfEntry.{EndOfEntry}
+use Rattle.dns_lexer.specs.declared.pieces.Piece.TheVariants.{Word as WordAt, Quote as QuoteAt, Comment as CommentAt, End as EndAt}
+use Rattle.dns_lexer.specs.declared.pieces.Fault.{Fault}
+use Rattle.dns_lexer.specs.Pieces.{AreOctets, AreItemsOf, end_at, piece_start}
 use Rattle.zonetext_lib.specs.Blocks.{EndsEntryAt, Settled}
-use Rattle.zonetext_lib.specs.Compare.{CanCut, SkipsToPart, is_passed, part, says}
+use Rattle.zonetext_lib.specs.Compare.{CanCut, SkipsToPart, is_passed, part, compared_parts}
 use Rattle.zonetext_lib.specs.Comparing.{SameUntil, if_both}
 use Rattle.zonetext_lib.specs.Entries.{ComparedPart, Ends, HasEntries, HasTokenEntries, ended_after_pieces, ended_by, parts, with_tokens}
 use Rattle.zonetext_lib.specs.Writing.{EndsAt}
@@ -30,7 +30,7 @@ pub record UpTo (octets : List ℕ) (front : List Piece) (at : ℕ) : Type 0 whe
   pub cut : EndsEntryAt octets at
   pub entries : HasEntries (take at octets) (parts octets front ++ Ends false ∷ [])
 
-pub up_to : (octets : List ℕ) (all left : List (Result Piece Fault)) (front more : List Piece) (at : ℕ) → AreOctets octets → IsGiven octets all → all ≡ map Ok front ++ (map Ok more ++ left)
+pub up_to : (octets : List ℕ) (all left : List (Result Piece Fault)) (front more : List Piece) (at : ℕ) → AreOctets octets → AreItemsOf octets all → all ≡ map Ok front ++ (map Ok more ++ left)
     → 0 < length more + length left → EndsHere front at → UpTo octets front at
 up_to octets all left front more at o g e some ends =
     let f : List Piece = ends.0 in
@@ -41,11 +41,11 @@ up_to octets all left front more at o g e some ends =
     let long : 0 < length follows = omega (arith, some, length-append (map {B = Result Piece Fault} Ok more) left, oks_length more) in
     let shape : all ≡ map Ok f ++ Ok (end_at at b) ∷ follows =
     e ∙ ap (λ l. map Ok l ++ follows) ends.2 ∙ ap (λ l. l ++ follows) (map-append Ok f last) ∙ append_assoc (map Ok f) (map Ok last) follows in
-    let here : IsGiven octets (map Ok f ++ Ok (end_at at b) ∷ follows) = subst (IsGiven octets) shape g in
+    let here : AreItemsOf octets (map Ok f ++ Ok (end_at at b) ∷ follows) = subst (AreItemsOf octets) shape g in
     let g0 = cut_given octets f at b follows o here long in
-    let g1 : IsGiven (take at octets) (map Ok front ++ map Ok end) =
-    subst (IsGiven (take at octets)) (sym (ap (λ l. map Ok l ++ map Ok end) ends.2 ∙ ap (λ l. l ++ map Ok end) (map-append Ok f last) ∙ append_assoc (map Ok f) (map Ok last) (map Ok end))) g0 in
-    let z = given_zone (take at octets) (front ++ end) (subst (IsGiven (take at octets)) (sym (map-append Ok front end)) g1) in
+    let g1 : AreItemsOf (take at octets) (map Ok front ++ map Ok end) =
+    subst (AreItemsOf (take at octets)) (sym (ap (λ l. map Ok l ++ map Ok end) ends.2 ∙ ap (λ l. l ++ map Ok end) (map-append Ok f last) ∙ append_assoc (map Ok f) (map Ok last) (map Ok end))) g0 in
+    let z = given_zone (take at octets) (front ++ end) (subst (AreItemsOf (take at octets)) (sym (map-append Ok front end)) g1) in
     let own : parts (take at octets) (pieces_in (map Ok (front ++ end))) ≡ parts (take at octets) front ++ Ends false ∷ [] =
     ap (λ l. parts (take at octets) (pieces_in l)) (map-append Ok front end) ∙ ap (parts (take at octets)) (pieces_after front (map Ok end)) ∙ parts_append (take at octets) None front end in
     let same : parts octets front ≡ parts (take at octets) front =
@@ -66,11 +66,11 @@ none_entries octets at z = subst (λ n. HasEntries (take n octets) (Ends false �
 here_none : (front : List Piece) (at : ℕ) → EndsHere front at → ended_after_pieces None front ≡ None
 here_none front at e = ended_none front (inr (e.0, at, e.1, e.2))
 
-pub tokens_to : (octets : List ℕ) (front : List Piece) (at : ℕ) → EndsHere front at → UpTo octets front at → HasTokenEntries (take at octets) (says octets None front)
+pub tokens_to : (octets : List ℕ) (front : List Piece) (at : ℕ) → EndsHere front at → UpTo octets front at → HasTokenEntries (take at octets) (compared_parts octets None front)
 tokens_to octets front at e u =
     let end : List Piece = end_at at false ∷ [] in
-    let none : says octets None (front ++ end) ≡ says octets None front =
-    says_append octets None front end ∙ ap (λ o. says octets None front ++ says octets o end) (here_none front at e) ∙ append-nil (says octets None front) in
+    let none : compared_parts octets None (front ++ end) ≡ compared_parts octets None front =
+    says_append octets None front end ∙ ap (λ o. compared_parts octets None front ++ compared_parts octets o end) (here_none front at e) ∙ append-nil (compared_parts octets None front) in
     (parts octets front ++ Ends false ∷ [], u.entries, ap (with_tokens false) (sym (parts_append octets None front end)) ∙ none)
 
 -- an entry ended here, before which the parts are these; what follows is of one entry, unless none has begun
@@ -79,7 +79,7 @@ pub record Begun (octets : List ℕ) (all left : List (Result Piece Fault)) (end
   pub more : List Piece
   pub is : all ≡ map Ok front ++ (map Ok more ++ left)
   pub ends : EndsAt front at
-  pub says_is : says octets None front ≡ es
+  pub says_is : compared_parts octets None front ≡ es
   pub none : ended ≡ None → more ≡ []
 
 abbrev pub Last : (first second : List ℕ) (all_ours all_theirs ours theirs : List (Result Piece Fault)) (ended that_ended : Option ℕ) (at there : ℕ) → Type 0
@@ -118,13 +118,13 @@ end_begun octets all old new ended next common e p end is x s same =
       more = [];
       is = k.is ∙ ap (λ l. map Ok k.taken ++ l) s.takes.0 ∙ sym (append_assoc (map Ok k.taken) (Ok p ∷ []) new) ∙ ap (λ l. l ++ new) (sym (map-append Ok k.taken last));
       ends = inr (k.taken, end.begins_blank, ap (λ (q : Piece). k.taken ++ q ∷ []) is);
-      says_is = says_append octets None k.taken last ∙ ap (λ o. says octets None k.taken ++ says octets o last) k.ends ∙ ap (λ l. says octets None k.taken ++ l) (s.takes.1 octets)
+      says_is = says_append octets None k.taken last ∙ ap (λ o. compared_parts octets None k.taken ++ compared_parts octets o last) k.ends ∙ ap (λ l. compared_parts octets None k.taken ++ l) (s.takes.1 octets)
           ∙ ap (λ l. l ++ part octets ended p ∷ []) k.says_is ∙ ap (λ t. common ++ t ∷ []) same;
       none = λ n. refl;
     }
 
 -- of the same part, neither piece is an end, or both are
-token_is : (octets : List ℕ) (ended next : Option ℕ) (p : Piece) → ((end : EndOfEntry) → p ≡ EndAt end → ⊥) → says octets ended (p ∷ []) ≡ part octets ended p ∷ [] → next ≡ ended_by ended p → next ≡ None → ⊥
+token_is : (octets : List ℕ) (ended next : Option ℕ) (p : Piece) → ((end : EndOfEntry) → p ≡ EndAt end → ⊥) → compared_parts octets ended (p ∷ []) ≡ part octets ended p ∷ [] → next ≡ ended_by ended p → next ≡ None → ⊥
 token_is octets ended next (WordAt p) not_end s e n = let k : Some p.end ≡ None = sym e ∙ n in cc
 token_is octets ended next (QuoteAt p) not_end s e n = let k : Some p.end ≡ None = sym e ∙ n in cc
 token_is octets ended next (CommentAt p) not_end s e n = cc
@@ -176,8 +176,8 @@ CutAt octets at es = Settled octets (Ok at) × HasTokenEntries (take at octets) 
 none_cut : (octets : List ℕ) (at : ℕ) (es : List ComparedPart) → at ≡ 0 → es ≡ [] → CutAt octets at es
 none_cut octets at es z n = (none_settled octets at z, (Ends false ∷ [], none_entries octets at z, sym n))
 
-here_cut : (octets : List ℕ) (all left : List (Result Piece Fault)) (front more : List Piece) (at : ℕ) (es : List ComparedPart) → AreOctets octets → IsGiven octets all
-    → all ≡ map Ok front ++ (map Ok more ++ left) → 0 < length more + length left → EndsHere front at → says octets None front ≡ es → CutAt octets at es
+here_cut : (octets : List ℕ) (all left : List (Result Piece Fault)) (front more : List Piece) (at : ℕ) (es : List ComparedPart) → AreOctets octets → AreItemsOf octets all
+    → all ≡ map Ok front ++ (map Ok more ++ left) → 0 < length more + length left → EndsHere front at → compared_parts octets None front ≡ es → CutAt octets at es
 here_cut octets all left front more at es o g e some ends is =
     let u = up_to octets all left front more at o g e some ends in
     (u.settled, subst (HasTokenEntries (take at octets)) is (tokens_to octets front at ends u))
@@ -186,12 +186,12 @@ begun_none : (front : List Piece) (at : ℕ) → EndsAt front at → ended_after
 begun_none front at (inl z) = ap (ended_after_pieces None) z.0
 begun_none front at (inr e) = here_none front at e
 
-cut_one : (octets : List ℕ) (all old : List (Result Piece Fault)) (ended : Option ℕ) (last at : ℕ) (es : List ComparedPart) → AreOctets octets → IsGiven octets all → Begun octets all old ended last es
+cut_one : (octets : List ℕ) (all old : List (Result Piece Fault)) (ended : Option ℕ) (last at : ℕ) (es : List ComparedPart) → AreOctets octets → AreItemsOf octets all → Begun octets all old ended last es
     → CanCut ended last old at → CutAt octets at es
 cut_one octets all old ended last at es o g x c = go c.ends
   where
     stay : EndsAt x.front last → at ≡ last → CutAt octets at es
-    stay (inl z) e = none_cut octets at es (e ∙ z.1) (sym x.says_is ∙ ap (says octets None) z.0)
+    stay (inl z) e = none_cut octets at es (e ∙ z.1) (sym x.says_is ∙ ap (compared_parts octets None) z.0)
     stay (inr k) e =
         subst (λ n. CutAt octets n es) (sym e) (here_cut octets all old x.front x.more last es o g x.is (omega (arith, some_left old c.left c.passed c.is c.some)) k x.says_is)
 
@@ -203,13 +203,13 @@ cut_one octets all old ended last at es o g x c = go c.ends
         x.is ∙ ap (λ l. map Ok x.front ++ (map Ok l ++ old)) (x.none k.0) ∙ ap (λ l. map Ok x.front ++ l) c.is ∙ sym (append_assoc (map Ok x.front) (map Ok c.passed) c.left)
         ∙ ap (λ l. l ++ c.left) (sym (map-append Ok x.front c.passed)) in
         let ends : EndsHere front at = (x.front ++ k.1, k.2, ap (λ l. x.front ++ l) k.3 ∙ sym (append_assoc x.front k.1 (end_at at k.2 ∷ []))) in
-        let is : says octets None front ≡ es =
-        says_append octets None x.front c.passed ∙ ap (λ v. says octets None x.front ++ says octets v c.passed) (begun_none x.front last x.ends ∙ sym k.0)
-        ∙ ap (λ l. says octets None x.front ++ l) (c.no_parts octets) ∙ append-nil (says octets None x.front) ∙ x.says_is in
+        let is : compared_parts octets None front ≡ es =
+        says_append octets None x.front c.passed ∙ ap (λ v. compared_parts octets None x.front ++ compared_parts octets v c.passed) (begun_none x.front last x.ends ∙ sym k.0)
+        ∙ ap (λ l. compared_parts octets None x.front ++ l) (c.no_parts octets) ∙ append-nil (compared_parts octets None x.front) ∙ x.says_is in
         here_cut octets all c.left front [] at es o g e (omega (arith, c.some)) ends is
 
 both_cut : (first second : List ℕ) (all_ours all_theirs ours theirs : List (Result Piece Fault)) (ended that_ended : Option ℕ) (last that_last cut that_cut : ℕ) (here there : Option ℕ)
-    → AreOctets first → AreOctets second → IsGiven first all_ours → IsGiven second all_theirs → Last first second all_ours all_theirs ours theirs ended that_ended last that_last
+    → AreOctets first → AreOctets second → AreItemsOf first all_ours → AreItemsOf second all_theirs → Last first second all_ours all_theirs ours theirs ended that_ended last that_last
     → IfSome here (CanCut ended last ours) → IfSome there (CanCut that_ended that_last theirs) → SameUntil first second cut that_cut
     → SameUntil first second (if_both here there cut) (if_both there here that_cut)
 both_cut first second all_ours all_theirs ours theirs ended that_ended last that_last cut that_cut (Some a) (Some b) o p g h x c d u =
@@ -221,7 +221,7 @@ both_cut first second all_ours all_theirs ours theirs ended that_ended last that
 both_cut first second all_ours all_theirs ours theirs ended that_ended last that_last cut that_cut None None o p g h x c d u = u
 
 pub cut_both : (first second : List ℕ) (all_ours all_theirs ours theirs : List (Result Piece Fault)) (ended that_ended : Option ℕ) (last that_last cut that_cut : ℕ) (here there : Option ℕ) (now that_now : ℕ)
-    → AreOctets first → AreOctets second → IsGiven first all_ours → IsGiven second all_theirs → Last first second all_ours all_theirs ours theirs ended that_ended last that_last
+    → AreOctets first → AreOctets second → AreItemsOf first all_ours → AreItemsOf second all_theirs → Last first second all_ours all_theirs ours theirs ended that_ended last that_last
     → IfSome here (CanCut ended last ours) → IfSome there (CanCut that_ended that_last theirs) → SameUntil first second cut that_cut
     → now ≡ if_both here there cut → that_now ≡ if_both there here that_cut → SameUntil first second now that_now
 cut_both first second all_ours all_theirs ours theirs ended that_ended last that_last cut that_cut here there now that_now o p g h x c d u e k =
@@ -244,13 +244,13 @@ pub record Reached (ended : Option ℕ) (last : ℕ) (old now : List (Result Pie
   pub front : List Piece
   pub more : List Piece
   pub is : old ≡ map Ok front ++ (map Ok more ++ now)
-  pub no_parts : (octets : List ℕ) → says octets ended front ≡ []
+  pub no_parts : (octets : List ℕ) → compared_parts octets ended front ≡ []
   pub ends : ((front ≡ []) × (at ≡ last)) ⊎ ((ended ≡ None) × (first : List Piece) × (blank : Bool) × (front ≡ first ++ end_at at blank ∷ []))
 
 pub none_reached : (ended : Option ℕ) (last : ℕ) (old : List (Result Piece Fault)) → Reached ended last old old last
 none_reached ended last old = record { front = []; more = []; is = refl; no_parts = λ octets. none ended octets; ends = inl (refl, refl) }
   where
-    none : (ended : Option ℕ) (octets : List ℕ) → says octets ended [] ≡ []
+    none : (ended : Option ℕ) (octets : List ℕ) → compared_parts octets ended [] ≡ []
     none None octets = refl
     none (Some e) octets = refl
 
@@ -274,8 +274,8 @@ reached_end ended last old now new at p h e o x = let none = passed_none ended p
   front = o.passed ++ EndAt p ∷ [];
   more = [];
   is = o.is ∙ ap (λ l. map Ok o.passed ++ l) e ∙ sym (append_assoc (map Ok o.passed) (Ok (EndAt p) ∷ []) new) ∙ ap (λ l. l ++ new) (sym (map-append Ok o.passed (EndAt p ∷ [])));
-  no_parts = λ octets. says_append octets ended o.passed (EndAt p ∷ []) ∙ ap (λ v. says octets ended o.passed ++ says octets v (EndAt p ∷ [])) (o.stays ∙ none)
-      ∙ append-nil (says octets ended o.passed) ∙ o.no_parts octets;
+  no_parts = λ octets. says_append octets ended o.passed (EndAt p ∷ []) ∙ ap (λ v. compared_parts octets ended o.passed ++ compared_parts octets v (EndAt p ∷ [])) (o.stays ∙ none)
+      ∙ append-nil (compared_parts octets ended o.passed) ∙ o.no_parts octets;
   ends = inr (none, o.passed, p.begins_blank, refl);
 }
 

@@ -3,11 +3,11 @@ use Rattle.std.proofs.Common.{◌≡◌, ℕ, ◌<◌, ◌≤◌, Bool, true, fa
 use Rattle.std.specs.Prelude.{◌⊎◌, map, Option, Some, None, Result, Ok, IfSome}
 use Rattle.std.specs.Option.{is_some}
 use Rattle.std.proofs.lemmas.List.{map-append, take-append-le}
-use Rattle.dns_split.specs.declared.pieces.Piece.{Piece}
-use Rattle.dns_split.specs.declared.pieces.Piece.TheVariants.{Word as WordAt, Quote as QuoteAt, Comment as CommentAt, End as EndAt}
-use Rattle.dns_split.specs.declared.pieces.EndOfEntry.{EndOfEntry}
-use Rattle.dns_split.specs.declared.pieces.Fault.{Fault}
-use Rattle.dns_split.specs.Pieces.{AreOctets, EachWithin, IsGiven, end_at, next_blank}
+use Rattle.dns_lexer.specs.declared.pieces.Piece.{Piece}
+use Rattle.dns_lexer.specs.declared.pieces.Piece.TheVariants.{Word as WordAt, Quote as QuoteAt, Comment as CommentAt, End as EndAt}
+use Rattle.dns_lexer.specs.declared.pieces.EndOfEntry.{EndOfEntry}
+use Rattle.dns_lexer.specs.declared.pieces.Fault.{Fault}
+use Rattle.dns_lexer.specs.Pieces.{AreOctets, EachWithin, AreItemsOf, end_at, next_blank}
 use Rattle.zonetext_lib.specs.declared.layout.Gap.{Gap}
 use Rattle.zonetext_lib.specs.Blocks.{Settled}
 use Rattle.zonetext_lib.specs.Entries.{ComparedPart, Token, Ends, parts, parts_after}
@@ -139,7 +139,7 @@ mark_here gap octets old given left now out new ended p e is x =
     })
 
 -- what is out at a mark
-pub marked : (gap : Gap) (octets old : List ℕ) (given left : List (Result Piece Fault)) (at : ℕ) (out : List ℕ) → AreOctets octets → IsGiven octets given → 0 < length left → Mark gap octets old given left at out
+pub marked : (gap : Gap) (octets old : List ℕ) (given left : List (Result Piece Fault)) (at : ℕ) (out : List ℕ) → AreOctets octets → AreItemsOf octets given → 0 < length left → Mark gap octets old given left at out
     → Settled octets (Ok at) × ((more : List ℕ) × (out ≡ old ++ more) × HasLines (take at octets) gap more)
 marked gap octets old given left at out o g some (inl z) =
     (none_settled octets at z.0, ([], z.1 ∙ sym (append-nil old), inl (Ends false ∷ [], none_entries octets at z.0, refl)))
@@ -148,7 +148,7 @@ marked gap octets old given left at out o g some (inr x) =
     let es : List ComparedPart = parts octets x.front ++ Ends false ∷ [] in
     (u.settled, (laid_out gap false es, x.text, inl (es, u.entries, refl)))
 
-pub marked_before : (gap : Gap) (octets old : List ℕ) (given left : List (Result Piece Fault)) (at : ℕ) (out : List ℕ) → AreOctets octets → IsGiven octets given → MarkBefore gap octets old given left at out
+pub marked_before : (gap : Gap) (octets old : List ℕ) (given left : List (Result Piece Fault)) (at : ℕ) (out : List ℕ) → AreOctets octets → AreItemsOf octets given → MarkBefore gap octets old given left at out
     → Settled octets (Ok at) × ((more : List ℕ) × (out ≡ old ++ more) × HasLines (take at octets) gap more)
 marked_before gap octets old given left at out o g (inl z) =
     (none_settled octets at z.0, ([], z.1 ∙ sym (append-nil old), inl (Ends false ∷ [], none_entries octets at z.0, refl)))
@@ -159,7 +159,7 @@ marked_before gap octets old given left at out o g (inr x) =
 
 -- the state of the loop
 pub record Settling (gap : Gap) (octets old : List ℕ) (given left : List (Result Piece Fault)) (out : List ℕ) (ended : Option ℕ) (kept before made_before last made : ℕ) : Type 0 where
-  pub given_is : IsGiven octets given
+  pub given_is : AreItemsOf octets given
   pub laid : Laid gap octets old given left out ended
   pub last_mark : Mark gap octets old given left last (take made out)
   pub before_mark_is : MarkBefore gap octets old given left before (take made_before out)
@@ -208,7 +208,7 @@ turns gap octets old given left now out new ended kept before made_before last m
       made_before_within = longer made out new more x.made_within n;
     }
 
-pub starts : (gap : Gap) (octets old : List ℕ) (given : List (Result Piece Fault)) (kept : ℕ) → kept ≡ length old → IsGiven octets given → Settling gap octets old given given old None kept 0 kept 0 kept
+pub starts : (gap : Gap) (octets old : List ℕ) (given : List (Result Piece Fault)) (kept : ℕ) → kept ≡ length old → AreItemsOf octets given → Settling gap octets old given given old None kept 0 kept 0 kept
 starts gap octets old given kept long g =
     let all : take kept old ≡ old = ap (λ n. take n old) long ∙ take_all (length old) old (omega arith) in
     let within : kept ≤ length old = omega (arith, long) in

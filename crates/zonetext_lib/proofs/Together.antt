@@ -4,15 +4,15 @@ use Rattle.std.specs.Prelude.{Option, Some, None, option_map, map, Result, Ok, E
 use Rattle.std.proofs.lemmas.List.{map-append}
 use Rattle.std.proofs.lemmas.List.Sums.{count_by-le-length, sum_by-take-le}
 use Rattle.std.proofs.Math.Seq.{take-append-add}
-use Rattle.dns_split.specs.declared.pieces.Piece.{Piece}
-use Rattle.dns_split.specs.declared.pieces.Piece.TheVariants.{Word as WordAt, Quote as QuoteAt, Comment as CommentAt, End as EndAt}
-use Rattle.dns_split.specs.declared.pieces.Fault.{Fault}
-use Rattle.dns_split.specs.declared.position.Position.{Position}
-use Rattle.dns_split.specs.Pieces.{AreOctets, IsGiven, end_at, later, moved, moved_fault, moved_piece, piece_start}
-use Rattle.dns_split.proofs.OctetsOnce.{run_given}
+use Rattle.dns_lexer.specs.declared.pieces.Piece.{Piece}
+use Rattle.dns_lexer.specs.declared.pieces.Piece.TheVariants.{Word as WordAt, Quote as QuoteAt, Comment as CommentAt, End as EndAt}
+use Rattle.dns_lexer.specs.declared.pieces.Fault.{Fault}
+use Rattle.dns_lexer.specs.declared.position.Position.{Position}
+use Rattle.dns_lexer.specs.Pieces.{AreOctets, AreItemsOf, end_at, later, moved, moved_fault, moved_piece, piece_start}
+use Rattle.dns_lexer.proofs.OctetsOnce.{run_given}
 use Rattle.zonetext_lib.specs.declared.diff.Comparison.TheVariants.{Differ}
 use Rattle.zonetext_lib.specs.Blocks.{EndsEntry, Holds, Releases, Settled}
-use Rattle.zonetext_lib.specs.Compare.{ComesNext, Compares, DifferAt, GoesOnWithPart, part, says}
+use Rattle.zonetext_lib.specs.Compare.{ComesNext, Compares, DifferAt, ContinuesWithPart, part, compared_parts}
 use Rattle.zonetext_lib.specs.Comparing.{Compared}
 use Rattle.zonetext_lib.specs.Entries.{ComparedPart, Ends, HasTokenEntries, ended_after_pieces, parts, with_tokens}
 use Rattle.zonetext_lib.specs.Found.{IsOctetFault, IsZone}
@@ -24,51 +24,51 @@ use Rattle.zonetext_lib.proofs.Feeds.{column_after, ends_feed, feeds_after}
 use Rattle.zonetext_lib.proofs.Following.{parts_back, parts_front, token_back}
 use Rattle.zone_format.proofs.Givens.{first_fault, moved_oks, pieces_after, pieces_in, whole_of}
 use Rattle.zonetext_lib.proofs.Givens.{fault_of}
-use Rattle.zonetext_lib.proofs.Holding.{let_go}
+use Rattle.zonetext_lib.proofs.Holding.{discard_read}
 use Rattle.zonetext_lib.proofs.Made.{given_zone, pieces_moved, zone_is, zone_none, zone_not_bad}
 use Rattle.zonetext_lib.proofs.Parts.{ended_append, ended_none, says_ended}
 
 -- the entries with tokens that came before are the parts before what is read on
-own_tokens : (before x : List ℕ) (alone : List (Result Piece Fault)) (es : List ComparedPart) (r : ReadOn before x alone) → HasTokenEntries before es → es ≡ says before None r.front
+own_tokens : (before x : List ℕ) (alone : List (Result Piece Fault)) (es : List ComparedPart) (r : ReadOn before x alone) → HasTokenEntries before es → es ≡ compared_parts before None r.front
 own_tokens before x alone es r h =
     let end : List Piece = end_at (length before) false ∷ [] in
     sym h.2 ∙ ap (with_tokens false) (zone_is before h.0 (map Ok r.front ++ map Ok end) h.1 r.own ∙ ap (parts before) (pieces_after r.front (map Ok end)))
-    ∙ says_ended before r.front end r.ended ∙ append-nil (says before None r.front)
+    ∙ says_ended before r.front end r.ended ∙ append-nil (compared_parts before None r.front)
 
-says_front : (before x : List ℕ) (alone : List (Result Piece Fault)) (es : List ComparedPart) (r : ReadOn before x alone) → HasTokenEntries before es → says (before ++ x) None r.front ≡ es
+says_front : (before x : List ℕ) (alone : List (Result Piece Fault)) (es : List ComparedPart) (r : ReadOn before x alone) → HasTokenEntries before es → compared_parts (before ++ x) None r.front ≡ es
 says_front before x alone es r h =
     ap (with_tokens false) (parts_front before x None r.front (Ok (end_at (length before) false) ∷ []) r.own.1) ∙ sym (own_tokens before x alone es r h)
 
 says_back : (before x : List ℕ) (ended : Option ℕ) (found : List Piece)
-    → says (before ++ x) (option_map (λ i. length before + i) ended) (map (moved_piece (λ i. length before + i)) found) ≡ says x ended found
+    → compared_parts (before ++ x) (option_map (λ i. length before + i) ended) (map (moved_piece (λ i. length before + i)) found) ≡ compared_parts x ended found
 says_back before x None found = ap (with_tokens false) (parts_back before x None found)
 says_back before x (Some e) found = ap (with_tokens true) (parts_back before x (Some e) found)
 
 -- the entries with tokens of octets that follow others
 tokens_follow : (before x : List ℕ) (es fs : List ComparedPart) → AreOctets before → AreOctets x → EndsEntry before → HasTokenEntries before es → HasTokenEntries x fs → HasTokenEntries (before ++ x) (es ++ fs)
 tokens_follow before x es fs b o e h k =
-    let read : (given : List (Result Piece Fault)) × IsGiven x given = (_, run_given x o) in
+    let read : (given : List (Result Piece Fault)) × AreItemsOf x given = (_, run_given x o) in
     let alone : List (Result Piece Fault) = read.0 in
     let n : ℕ = length before in
     let r = read_on before x alone b o e read.1 in
     let all = map Ok r.front ++ later n alone in
     let none : first_fault all ≡ None = first_on before x alone r ∙ ap (option_map (moved_fault (λ i. n + i))) (zone_none x k.0 alone k.1 read.1) in
-    let back : says (before ++ x) None (pieces_in (later n alone)) ≡ fs =
-    ap (says (before ++ x) None) (pieces_moved (λ i. n + i) alone) ∙ says_back before x None (pieces_in alone) ∙ ap (with_tokens false) (sym (zone_is x k.0 alone k.1 read.1)) ∙ k.2 in
-    let shape : says (before ++ x) None (pieces_in all) ≡ es ++ fs =
-    ap (says (before ++ x) None) (pieces_after r.front (later n alone)) ∙ says_ended (before ++ x) r.front (pieces_in (later n alone)) r.ended
-    ∙ ap (λ l. l ++ says (before ++ x) None (pieces_in (later n alone))) (says_front before x alone es r h) ∙ ap (λ l. es ++ l) back in
+    let back : compared_parts (before ++ x) None (pieces_in (later n alone)) ≡ fs =
+    ap (compared_parts (before ++ x) None) (pieces_moved (λ i. n + i) alone) ∙ says_back before x None (pieces_in alone) ∙ ap (with_tokens false) (sym (zone_is x k.0 alone k.1 read.1)) ∙ k.2 in
+    let shape : compared_parts (before ++ x) None (pieces_in all) ≡ es ++ fs =
+    ap (compared_parts (before ++ x) None) (pieces_after r.front (later n alone)) ∙ says_ended (before ++ x) r.front (pieces_in (later n alone)) r.ended
+    ∙ ap (λ l. l ++ compared_parts (before ++ x) None (pieces_in (later n alone))) (says_front before x alone es r h) ∙ ap (λ l. es ++ l) back in
     (parts (before ++ x) (pieces_in all), (pieces_in all, whole_of (before ++ x) all r.is.0 none, refl), shape)
 
 -- what is the same is dropped
 pub compared_on : (one other : List ℕ) (old new : Both) (cut there : ℕ) (fs : List ComparedPart) → Compared one other old → AreOctets old.first.octets → AreOctets old.second.octets
     → Settled old.first.octets (Ok cut) → Settled old.second.octets (Ok there) → HasTokenEntries (take cut old.first.octets) fs → HasTokenEntries (take there old.second.octets) fs
     → Releases old.first new.first cut → Releases old.second new.second there → Compared one other new
-unfolding let_go
+unfolding discard_read
 compared_on one other old new cut there fs x oa ob sa sb ha hb ra rb =
     record {
-      first = let_go one old.first new.first cut x.first oa sa ra.octets ra.at ra.position;
-      second = let_go other old.second new.second there x.second ob sb rb.octets rb.at rb.position;
+      first = discard_read one old.first new.first cut x.first oa sa ra.octets ra.at ra.position;
+      second = discard_read other old.second new.second there x.second ob sb rb.octets rb.at rb.position;
       entries = x.entries ++ fs;
       in_first = tokens_follow x.first.before (take cut old.first.octets) x.entries fs x.first.octets (take_octets cut old.first.octets oa) x.first.ended x.in_first ha;
       in_second = tokens_follow x.second.before (take there old.second.octets) x.entries fs x.second.octets (take_octets there old.second.octets ob) x.second.ended x.in_second hb;
@@ -114,8 +114,8 @@ next_back before x ended (Ok p ∷ rest) e at h = (
 next_back before x ended (Err f ∷ rest) e at h = absurd h
 
 -- octets that follow continue alike
-go_on : (before x : List ℕ) (es common : List ComparedPart) (e : Option ComparedPart) (p q : Position) → AreOctets before → AreOctets x → EndsEntry before → HasTokenEntries before es → GoesOnWithPart x common e p
-    → q.line ≡ feeds before + p.line → q.column ≡ p.column → GoesOnWithPart (before ++ x) (es ++ common) e q
+go_on : (before x : List ℕ) (es common : List ComparedPart) (e : Option ComparedPart) (p q : Position) → AreOctets before → AreOctets x → EndsEntry before → HasTokenEntries before es → ContinuesWithPart x common e p
+    → q.line ≡ feeds before + p.line → q.column ≡ p.column → ContinuesWithPart (before ++ x) (es ++ common) e q
 go_on before x es common e p q b o ends h g line column =
     let n : ℕ = length before in
     let alone : List (Result Piece Fault) = map Ok g.before ++ g.rest in
@@ -124,7 +124,7 @@ go_on before x es common e p q b o ends h g line column =
     let shape : map Ok r.front ++ later n alone ≡ map Ok (r.front ++ m) ++ later n g.rest =
     ap (λ l. map Ok r.front ++ l) (map-append (moved (λ i. n + i)) (map Ok g.before) g.rest ∙ ap (λ l. l ++ later n g.rest) (moved_oks (λ i. n + i) g.before))
     ∙ sym (append_assoc (map Ok r.front) (map Ok m) (later n g.rest)) ∙ ap (λ l. l ++ later n g.rest) (sym (map-append Ok r.front m)) in
-    let whole : IsGiven (before ++ x) (map Ok (r.front ++ m) ++ later n g.rest) = subst (IsGiven (before ++ x)) shape r.is in
+    let whole : AreItemsOf (before ++ x) (map Ok (r.front ++ m) ++ later n g.rest) = subst (AreItemsOf (before ++ x)) shape r.is in
     let place : take (n + g.at) (before ++ x) ≡ before ++ take g.at x = take-append-add before x g.at in
     let ended : option_map (λ i. n + i) (ended_after_pieces None g.before) ≡ ended_after_pieces None (r.front ++ m) =
     sym (ended_append None r.front m ∙ ap (λ v. ended_after_pieces v m) (ended_none r.front r.ended) ∙ ended_back n None g.before) in
@@ -133,7 +133,7 @@ go_on before x es common e p q b o ends h g line column =
       rest = later n g.rest;
       reads = whole.0;
       within = whole.1;
-      is = says_ended (before ++ x) r.front m r.ended ∙ ap (λ l. l ++ says (before ++ x) None m) (says_front before x alone es r h)
+      is = says_ended (before ++ x) r.front m r.ended ∙ ap (λ l. l ++ compared_parts (before ++ x) None m) (says_front before x alone es r h)
           ∙ ap (λ l. es ++ l) (says_back before x None g.before ∙ g.is);
       at = n + g.at;
       next = subst (λ v. ComesNext (before ++ x) v (later n g.rest) e (n + g.at)) ended (next_back before x (ended_after_pieces None g.before) g.rest e g.at g.next);
@@ -156,8 +156,8 @@ compared_differ one other c p q s t x oa ob d sl sc tl tc =
       common = common;
       one = d.one;
       other = d.other;
-      in_first = subst (λ l. GoesOnWithPart l common d.one s) (sym x.first.is) g;
-      in_second = subst (λ l. GoesOnWithPart l common d.other t) (sym x.second.is) h;
+      in_first = subst (λ l. ContinuesWithPart l common d.one s) (sym x.first.is) g;
+      in_second = subst (λ l. ContinuesWithPart l common d.other t) (sym x.second.is) h;
       apart = d.apart;
     } in
     (all, no_common one other s t all)
@@ -166,7 +166,7 @@ compared_differ one other c p q s t x oa ob d sl sc tl tc =
 pub still_well : (all : List ℕ) (h : Held) (f : Fault) → Holds all h → AreOctets h.octets → IsOctetFault h.octets f → IsZone all → ⊥
 still_well all h f x o bad zone = go (first_fault alone) refl
   where
-    read : (given : List (Result Piece Fault)) × IsGiven h.octets given
+    read : (given : List (Result Piece Fault)) × AreItemsOf h.octets given
     read = (_, run_given h.octets o)
 
     alone : List (Result Piece Fault)

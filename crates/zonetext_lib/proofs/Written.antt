@@ -2,18 +2,18 @@
 use Rattle.std.proofs.Common.{◌≡◌, ℕ, ◌+◌, ◌-◌, List, [], ◌∷◌, ◌++◌, length, take, sym, ap, ◌∙◌, subst, arith, append_assoc, length-append}
 use Rattle.std.specs.Prelude.{map, Option, Some, None, Result, Ok, Err}
 use Rattle.std.proofs.lemmas.List.{map-append}
-use Rattle.dns_split.specs.declared.pieces.Piece.{Piece}
-use Rattle.dns_split.specs.declared.pieces.Fault.{Fault}
-use Rattle.dns_split.specs.Pieces.{AreOctets, IsGiven, later, moved, moved_fault, moved_piece}
+use Rattle.dns_lexer.specs.declared.pieces.Piece.{Piece}
+use Rattle.dns_lexer.specs.declared.pieces.Fault.{Fault}
+use Rattle.dns_lexer.specs.Pieces.{AreOctets, AreItemsOf, later, moved, moved_fault, moved_piece}
 use Rattle.zonetext_lib.specs.declared.writer.Output.{Output}
 use Rattle.zonetext_lib.specs.Blocks.{Releases, Settled}
 use Rattle.zonetext_lib.specs.Held.{Held, Writing}
 use Rattle.zone_format.specs.Place.{IsAt, feeds}
 use Rattle.zonetext_lib.specs.Writing.{MadeAfter, WritesOutput, WritesAll, WritesSettled, Wrote}
-use Rattle.dns_split.proofs.Blocks.{both_octets}
+use Rattle.dns_lexer.proofs.Blocks.{both_octets}
 use Rattle.zonetext_lib.proofs.Cuts.{read_on, take_octets}
 use Rattle.zone_format.proofs.Givens.{moved_oks}
-use Rattle.zonetext_lib.proofs.Holding.{added, let_go}
+use Rattle.zonetext_lib.proofs.Holding.{added, discard_read}
 use Rattle.zonetext_lib.proofs.Made.{made_stays, makes_follow}
 
 abbrev pub writing : Output → Held → Writing
@@ -32,9 +32,9 @@ counted output octets more before h lines at is m = let same : lines ≡ feeds b
 -- what could be cut off was written
 pub wrote_on : (all written more : List ℕ) (output : Output) (old new : Held) (cut lines : ℕ) → Wrote all written (writing output old) → AreOctets old.octets → Settled old.octets (Ok cut)
     → lines ≡ old.place.position.line - 1 → WritesOutput output (take cut old.octets) lines more → Releases old new cut → Wrote all (written ++ more) (writing output new)
-unfolding let_go
+unfolding discard_read
 wrote_on all written more output old new cut lines x o s is m r = record {
-  held = let_go all old new cut x.held o s r.octets r.at r.position;
+  held = discard_read all old new cut x.held o s r.octets r.at r.position;
   made = makes_follow output x.held.before (take cut old.octets) written more x.held.octets (take_octets cut old.octets o) x.held.ended x.made
       (counted output (take cut old.octets) more x.held.before old lines x.held.position is m);
 }
@@ -67,7 +67,7 @@ wrote_bad all written more rest output h lines f x o r is s m =
     let shape : map Ok k.front ++ later n (map Ok s.0 ++ bad) ≡ map Ok (k.front ++ map g s.0) ++ on =
     ap (λ l. map Ok k.front ++ l) (map-append (moved (λ i. n + i)) (map Ok s.0) bad ∙ ap (λ l. l ++ on) (moved_oks (λ i. n + i) s.0))
     ∙ sym (append_assoc (map Ok k.front) (map Ok (map g s.0)) on) ∙ ap (λ l. l ++ on) (sym (map-append Ok k.front (map g s.0))) in
-    let whole : IsGiven (before ++ h.octets) (map Ok (k.front ++ map g s.0) ++ on) = subst (IsGiven (before ++ h.octets)) shape k.is in
+    let whole : AreItemsOf (before ++ h.octets) (map Ok (k.front ++ map g s.0) ++ on) = subst (AreItemsOf (before ++ h.octets)) shape k.is in
     let made = subst (λ l. WritesOutput output l 0 (written ++ more)) x.held.is (wrote_rest all written more output h lines x o is m) in
     subst (λ l. WritesOutput output (l ++ rest) 0 (written ++ more)) (sym x.held.is)
     (made_stays output (before ++ h.octets) rest (written ++ more) (k.front ++ map g s.0) (moved_fault (λ i. n + i) f)

@@ -1,7 +1,7 @@
 -- Two zone files that arrive in chunks, and are compared.
 use Rattle.std.specs.Prelude.{ℕ, ◌+◌, ◌≤◌, ◌⊎◌, List, [], ◌∷◌, Option, Some, Ok, Err, encode_utf8_all, take}
-use Rattle.dns_split.specs.Viable.{IsViable}
-use Rattle.dns_split.specs.declared.pieces.Fault.{Fault}
+use Rattle.dns_lexer.specs.Viable.{IsViable}
+use Rattle.dns_lexer.specs.declared.pieces.Fault.{Fault}
 use Rattle.zonetext_lib.specs.declared.comparer.Side.{Side}
 use Rattle.zonetext_lib.specs.declared.comparer.Side.TheVariants.{First as FirstSide, Second as SecondSide}
 use Rattle.zonetext_lib.specs.Blocks.{Holds, EndsEntryAt, Settled}
@@ -32,16 +32,16 @@ ends (Token g t ∷ es) = ends es
 ends (Ends b ∷ es) = ends es + 1
 
 -- two entries with tokens end, and something follows
-abbrev pub EndTwice : List ℕ → Type 0
-EndTwice octets = (at : ℕ) × (es : List ComparedPart) × EndsEntryAt octets at × HasTokenEntries (take at octets) es × (2 ≤ ends es)
+abbrev pub HasTwoEntries : List ℕ → Type 0
+HasTwoEntries octets = (at : ℕ) × (es : List ComparedPart) × EndsEntryAt octets at × HasTokenEntries (take at octets) es × (2 ≤ ends es)
 
 -- or there is an error that stays
-abbrev pub Suffices : List ℕ → Type 0
-Suffices octets = EndTwice octets ⊎ ((f : Fault) × Settled octets (Err f))
+abbrev pub CanCompare : List ℕ → Type 0
+CanCompare octets = HasTwoEntries octets ⊎ ((f : Fault) × Settled octets (Err f))
 
 -- what follows may still make it of the grammar, and decides how it compares
 abbrev pub NeedsMore : List ℕ → Type 0
-NeedsMore octets = IsViable (encode_utf8_all octets) × (EndTwice octets → ⊥)
+NeedsMore octets = IsViable (encode_utf8_all octets) × (HasTwoEntries octets → ⊥)
 
 -- the same entries with tokens end here in both, and something follows in both
 abbrev pub SameUntil : List ℕ → List ℕ → ℕ → ℕ → Type 0

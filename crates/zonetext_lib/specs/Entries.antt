@@ -1,12 +1,12 @@
 -- The entries of a zone file, one after another.
 use Rattle.std.specs.Prelude.{◌≡◌, ℕ, ◌==◌, Bool, true, false, List, [], ◌∷◌, Option, Some, None}
-use Rattle.dns_split.specs.Pieces.{IsOctetPieces, between}
-use Rattle.dns_split.specs.declared.pieces.Piece.{Piece}
-use Rattle.dns_split.specs.declared.pieces.Piece.TheVariants.{Word as WordAt, Quote as QuoteAt, Comment as CommentAt, End as EndAt}
+use Rattle.dns_lexer.specs.Pieces.{IsOctetPieces, between}
+use Rattle.dns_lexer.specs.declared.pieces.Piece.{Piece}
+use Rattle.dns_lexer.specs.declared.pieces.Piece.TheVariants.{Word as WordAt, Quote as QuoteAt, Comment as CommentAt, End as EndAt}
 
 -- a token of an entry, and whether it is adjacent to the one before; or the entry's end, and whether it began with a blank
 pub data ComparedPart : Type 0 where
-  Token : (is_glued : Bool) → List ℕ → ComparedPart
+  Token : (is_adjacent : Bool) → List ℕ → ComparedPart
   Ends : (begins_blank : Bool) → ComparedPart
 
 -- a token is adjacent if it begins where the one before it in its entry, if there is one, ended

@@ -1,8 +1,8 @@
 -- The form of octets that arrive in chunks.
 use Rattle.std.specs.Prelude.{⊤, ◌≡◌, ◌≤◌, ◌+◌, ◌^◌, ℕ, List, [], ◌++◌, length, take, Result, Ok, Err}
-use Rattle.dns_split.specs.Pieces.{AreOctets}
-use Rattle.dns_split.specs.declared.pieces.Fault.{Fault}
-use Rattle.dns_split.specs.declared.position.Position.{Position}
+use Rattle.dns_lexer.specs.Pieces.{AreOctets}
+use Rattle.dns_lexer.specs.declared.pieces.Fault.{Fault}
+use Rattle.dns_lexer.specs.declared.position.Position.{Position}
 use Rattle.zone_format.specs.Blocks.{FormatsEntries, FormedTo}
 use Rattle.zone_format.specs.Formats.{Formats}
 use Rattle.zone_format.specs.Refusal.{IsWithoutForm}
@@ -10,15 +10,15 @@ use Rattle.zone_format.specs.declared.refusal.Refusal.TheVariants.{Nul as NulAt,
 use Rattle.zonetext_lib.specs.declared.formatter.FormedCut.{FormedCut}
 use Rattle.zonetext_lib.specs.declared.formatter.NoForm.{NoForm}
 use Rattle.zonetext_lib.specs.declared.formatter.NoForm.TheVariants.{Wrong, Nul, OrderMark, OutOfMemory, TooLong}
-use Rattle.zonetext_lib.specs.declared.blocks.Halt.{Halt}
-use Rattle.zonetext_lib.specs.declared.blocks.Halt.TheVariants.{Wrong as WrongHalt, OutOfMemory as OutOfMemoryHalt, TooLong as TooLongHalt}
-use Rattle.zone_format.specs.declared.place.Place.{Place}
+use Rattle.zonetext_lib.specs.declared.blocks.ChunkError.{ChunkError}
+use Rattle.zonetext_lib.specs.declared.blocks.ChunkError.TheVariants.{Wrong as WrongHalt, OutOfMemory as OutOfMemoryHalt, TooLong as TooLongHalt}
+use Rattle.zone_format.specs.declared.place.LocatedOffset.{LocatedOffset}
 use Rattle.zonetext_lib.specs.Blocks.{Holds, Settled}
 use Rattle.zonetext_lib.specs.Found.{IsFound, IsOctetFault}
 use Rattle.zonetext_lib.specs.HeldForm.{Forming}
 use Rattle.zone_format.specs.Place.{IsAt}
 
-abbrev pub as_no_form : Halt → NoForm
+abbrev pub as_no_form : ChunkError → NoForm
 as_no_form (WrongHalt f) = Wrong f
 as_no_form OutOfMemoryHalt = OutOfMemory
 as_no_form TooLongHalt = TooLong
@@ -29,7 +29,7 @@ pub record FormedSoFar (all written : List ℕ) (f : Forming) : Type 0 where
   pub formed : FormedTo held.before written f.seam
 
 -- the position of an octet that follows others
-abbrev pub HasPosition : Place → List ℕ → ℕ → Position → Type 0
+abbrev pub HasPosition : LocatedOffset → List ℕ → ℕ → Position → Type 0
 HasPosition place octets at p = (before : List ℕ) → IsAt 0 before place.position → IsAt 0 (before ++ take at octets) p
 
 -- why octets have no form, and at which position
@@ -41,7 +41,7 @@ HasNoForm all OutOfMemory = ⊤
 HasNoForm all TooLong = ⊥
 
 -- why octets that follow others have no form, and where among all
-abbrev pub HasNoFormAfter : Place → List ℕ → NoForm → Type 0
+abbrev pub HasNoFormAfter : LocatedOffset → List ℕ → NoForm → Type 0
 HasNoFormAfter place octets (Wrong r) = (f : Fault) × IsOctetFault octets f
 HasNoFormAfter place octets (Nul p) = (at : ℕ) × IsWithoutForm octets (NulAt at) × HasPosition place octets at p
 HasNoFormAfter place octets (OrderMark p) = (at : ℕ) × IsWithoutForm octets (OrderMarkAt at) × HasPosition place octets at p

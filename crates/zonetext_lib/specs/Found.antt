@@ -1,15 +1,15 @@
 -- Octets of the grammar of zone files, and the errors of others.
 use Rattle.std.specs.Prelude.{⊤, ◌≡◌, ◌≤◌, ℕ, List, [], ◌++◌, length, take, Option, None, IsSomeAnd, encode_utf8_all}
-use Rattle.dns_split.specs.Opening.{IsOpener}
-use Rattle.dns_split.specs.Pieces.{IsFault, IsOctetPieces, moved_fault, place_of}
-use Rattle.dns_split.specs.declared.pieces.Piece.{Piece}
-use Rattle.dns_split.specs.declared.pieces.Fault.{Fault}
-use Rattle.dns_split.specs.declared.pieces.Wrong.{Wrong}
-use Rattle.dns_split.specs.declared.pieces.Wrong.TheVariants.{OpenParenthesis, OpenQuote}
-use Rattle.dns_split.specs.declared.position.Position.{Position}
+use Rattle.dns_lexer.specs.Unclosed.{IsOpener}
+use Rattle.dns_lexer.specs.Pieces.{IsFault, IsOctetPieces, moved_fault, place_of}
+use Rattle.dns_lexer.specs.declared.pieces.Piece.{Piece}
+use Rattle.dns_lexer.specs.declared.pieces.Fault.{Fault}
+use Rattle.dns_lexer.specs.declared.pieces.Wrong.{Wrong}
+use Rattle.dns_lexer.specs.declared.pieces.Wrong.TheVariants.{OpenParenthesis, OpenQuote}
+use Rattle.dns_lexer.specs.declared.position.Position.{Position}
 use Rattle.zonetext_lib.specs.declared.check.Found.{Found}
-use Rattle.zonetext_lib.specs.declared.tokens.Stop.{Stop}
-use Rattle.zonetext_lib.specs.declared.tokens.Stop.TheVariants.{Wrong as WrongStop, OutOfMemory}
+use Rattle.zonetext_lib.specs.declared.tokens.CommandError.{CommandError}
+use Rattle.zonetext_lib.specs.declared.tokens.CommandError.TheVariants.{Wrong as WrongStop, OutOfMemory}
 use Rattle.zone_format.specs.Place.{IsAt}
 
 -- the characters with these numbers are a text of the grammar
@@ -35,6 +35,6 @@ pub record IsFound (octets : List ℕ) (lines : ℕ) (f : Found) : Type 0 where
   pub opened : IsOpenedAfter lines [] octets f.fault.wrong f.opened
 
 -- the reason why a command stopped
-abbrev pub IsStop : List ℕ → ℕ → Stop → Type 0
+abbrev pub IsStop : List ℕ → ℕ → CommandError → Type 0
 IsStop octets lines (WrongStop f) = IsFound octets lines f
 IsStop octets lines OutOfMemory = ⊤

@@ -1,11 +1,11 @@
 -- Octets that are stored, and their offset; and the output for them.
 use Rattle.std.specs.Prelude.{ℕ, List}
-use Rattle.zone_format.specs.declared.place.Place.{Place}
+use Rattle.zone_format.specs.declared.place.LocatedOffset.{LocatedOffset}
 use Rattle.zonetext_lib.specs.declared.writer.Output.{Output}
 
 pub record Held : Type 0 where
   pub octets : List ℕ
-  pub place : Place
+  pub place : LocatedOffset
   -- number of octets that were left when they were last parsed
   pub left : ℕ
 

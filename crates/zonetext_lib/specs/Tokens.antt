@@ -2,14 +2,14 @@
 use Rattle.std.specs.Prelude.{⊤, ◌≡◌, ℕ, ◌+◌, Bool, true, false, List, [], ◌∷◌, ◌++◌, take, codes, Option, Some, None, Result, Ok, Err}
 use Rattle.std.specs.List.{flat_map}
 use Rattle.std.specs.Fmt.{decimal}
-use Rattle.dns_split.specs.Pieces.{IsGiven, between}
-use Rattle.dns_split.specs.declared.pieces.Piece.{Piece}
-use Rattle.dns_split.specs.declared.pieces.Piece.TheVariants.{Word as WordAt, Quote as QuoteAt, Comment as CommentAt, End as EndAt}
-use Rattle.dns_split.specs.declared.pieces.Fault.{Fault}
+use Rattle.dns_lexer.specs.Pieces.{AreItemsOf, between}
+use Rattle.dns_lexer.specs.declared.pieces.Piece.{Piece}
+use Rattle.dns_lexer.specs.declared.pieces.Piece.TheVariants.{Word as WordAt, Quote as QuoteAt, Comment as CommentAt, End as EndAt}
+use Rattle.dns_lexer.specs.declared.pieces.Fault.{Fault}
 use Rattle.zonetext_lib.specs.declared.tokens.Form.{Form}
 use Rattle.zonetext_lib.specs.declared.tokens.Form.TheVariants.{Plain, Json}
-use Rattle.zonetext_lib.specs.declared.tokens.Stop.{Stop}
-use Rattle.zonetext_lib.specs.declared.tokens.Stop.TheVariants.{Wrong, OutOfMemory}
+use Rattle.zonetext_lib.specs.declared.tokens.CommandError.{CommandError}
+use Rattle.zonetext_lib.specs.declared.tokens.CommandError.TheVariants.{Wrong, OutOfMemory}
 use Rattle.zonetext_lib.specs.Entries.{begins_glued}
 use Rattle.zone_format.specs.Place.{feeds, column_of}
 use Rattle.zonetext_report.specs.declared.json.Charset.TheVariants.{Octets}
@@ -49,9 +49,9 @@ rows_after octets lines form ended (Err f ∷ given) = rows_after octets lines f
 
 -- unless an allocation failed, the rows of the pieces were appended
 abbrev pub Appended : List ℕ → ℕ → Form → List ℕ → List ℕ → Type 0
-Appended octets lines form old new = (given : List (Result Piece Fault)) × IsGiven octets given × (new ≡ old ++ rows_after octets lines form None given)
+Appended octets lines form old new = (given : List (Result Piece Fault)) × AreItemsOf octets given × (new ≡ old ++ rows_after octets lines form None given)
 
-abbrev pub HasRows : {U : Type 0} → List ℕ → ℕ → Form → List ℕ → List ℕ → Result U Stop → Type 0
+abbrev pub HasRows : {U : Type 0} → List ℕ → ℕ → Form → List ℕ → List ℕ → Result U CommandError → Type 0
 HasRows octets lines form old new (Ok u) = Appended octets lines form old new
 HasRows octets lines form old new (Err (Wrong f)) = Appended octets lines form old new
 HasRows octets lines form old new (Err OutOfMemory) = ⊤

@@ -1,12 +1,12 @@
 -- The output for octets that arrive in chunks.
 use Rattle.std.specs.declared.alloc.AllocError.{AllocError}
 use Rattle.std.specs.Prelude.{⊤, ◌≡◌, ℕ, ◌⊎◌, Bool, true, false, List, [], ◌∷◌, ◌++◌, length, take, map, Option, Some, None, Result, Ok, Err}
-use Rattle.dns_split.specs.Pieces.{AreOctets, IsGiven, end_at}
-use Rattle.dns_split.specs.declared.pieces.Piece.{Piece}
-use Rattle.dns_split.specs.declared.pieces.Piece.TheVariants.{Word as WordAt, Quote as QuoteAt, Comment as CommentAt, End as EndAt}
-use Rattle.dns_split.specs.declared.pieces.Fault.{Fault}
-use Rattle.zonetext_lib.specs.declared.blocks.Halt.{Halt}
-use Rattle.zonetext_lib.specs.declared.blocks.Halt.TheVariants.{Wrong, OutOfMemory, TooLong}
+use Rattle.dns_lexer.specs.Pieces.{AreOctets, AreItemsOf, end_at}
+use Rattle.dns_lexer.specs.declared.pieces.Piece.{Piece}
+use Rattle.dns_lexer.specs.declared.pieces.Piece.TheVariants.{Word as WordAt, Quote as QuoteAt, Comment as CommentAt, End as EndAt}
+use Rattle.dns_lexer.specs.declared.pieces.Fault.{Fault}
+use Rattle.zonetext_lib.specs.declared.blocks.ChunkError.{ChunkError}
+use Rattle.zonetext_lib.specs.declared.blocks.ChunkError.TheVariants.{Wrong, OutOfMemory, TooLong}
 use Rattle.zonetext_lib.specs.declared.layout.Gap.{Gap}
 use Rattle.zonetext_lib.specs.declared.writer.Output.{Output}
 use Rattle.zonetext_lib.specs.declared.writer.Output.TheVariants.{Rows, Lines}
@@ -34,7 +34,7 @@ pub record FaultAfter (octets : List ℕ) (at : ℕ) : Type 0 where
   pub ended : List Piece
   pub last : List Piece
   pub fault : Fault
-  pub given : IsGiven octets (map Ok ended ++ (map Ok last ++ Err fault ∷ []))
+  pub given : AreItemsOf octets (map Ok ended ++ (map Ok last ++ Err fault ∷ []))
   pub ends : EndsAt ended at
   pub none : has_end last ≡ false
 
@@ -69,7 +69,7 @@ WritesSettled output octets lines old new (Err e) = ⊤
 
 -- the offset up to which to lay out: the whole file, or the entries before an error
 abbrev pub Until : List ℕ → ℕ → Type 0
-Until octets at = ((found : List Piece) × IsGiven octets (map Ok found) × (at ≡ length octets)) ⊎ FaultAfter octets at
+Until octets at = ((found : List Piece) × AreItemsOf octets (map Ok found) × (at ≡ length octets)) ⊎ FaultAfter octets at
 
 -- the output for all octets that were added: that for those that aren't stored
 pub record Wrote (all written : List ℕ) (w : Writing) : Type 0 where
@@ -77,7 +77,7 @@ pub record Wrote (all written : List ℕ) (w : Writing) : Type 0 where
   pub made : WritesOutput w.output held.before 0 written
 
 -- the output that a block adds; before an error it is the whole output, whatever follows
-abbrev pub Writes : {U : Type 0} → Writing → Writing → List ℕ → List ℕ → List ℕ → Result U Halt → Type 0
+abbrev pub Writes : {U : Type 0} → Writing → Writing → List ℕ → List ℕ → List ℕ → Result U ChunkError → Type 0
 Writes old new block from to (Ok u) = (all written : List ℕ) → Wrote all written old → (more : List ℕ) × (to ≡ from ++ more) × Wrote (all ++ block) (written ++ more) new
 Writes old new block from to (Err (Wrong f)) = (all written : List ℕ) → Wrote all written old
     → (more : List ℕ) × (to ≡ from ++ more) × ((rest : List ℕ) → AreOctets rest → WritesOutput old.output ((all ++ block) ++ rest) 0 (written ++ more))
@@ -89,14 +89,14 @@ abbrev pub WritesAll : Writing → List ℕ → List ℕ → Type 0
 WritesAll w from to = (all written : List ℕ) → Wrote all written w → (more : List ℕ) × (to ≡ from ++ more) × WritesOutput w.output all 0 (written ++ more)
 
 -- so at the end, whether they are of the grammar or have an error
-abbrev pub WritesRest : {U : Type 0} → Writing → List ℕ → List ℕ → Result U Halt → Type 0
+abbrev pub WritesRest : {U : Type 0} → Writing → List ℕ → List ℕ → Result U ChunkError → Type 0
 WritesRest w from to (Ok u) = WritesAll w from to
 WritesRest w from to (Err (Wrong f)) = WritesAll w from to
 WritesRest w from to (Err OutOfMemory) = ⊤
 WritesRest w from to (Err TooLong) = ⊥
 
 -- why writing ended
-abbrev pub IsEnd : {U : Type 0} → List ℕ → Result U Halt → Type 0
+abbrev pub IsEnd : {U : Type 0} → List ℕ → Result U ChunkError → Type 0
 IsEnd all (Ok u) = ⊤
 IsEnd all (Err (Wrong f)) = IsFound all 0 f
 IsEnd all (Err OutOfMemory) = ⊤

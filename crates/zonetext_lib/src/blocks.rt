@@ -1,23 +1,23 @@
 //! Checks octets that arrive in chunks against the grammar of zone files.
 ghost use Rattle.std.specs.Prelude.{◌≡◌, ◌+◌, ◌-◌, ◌++◌, ◌<◌, ◌≤◌, ◌^◌, ℕ, [], List, length, take};
 ghost use Rattle.std.specs.Prelude.{IfOk, IfErr, encode_utf8_all};
-ghost use Rattle.dns_split.specs.Pieces.{AreOctets, moved_fault};
-ghost use Rattle.dns_split.specs.Viable.{IsViable};
+ghost use Rattle.dns_lexer.specs.Pieces.{AreOctets, moved_fault};
+ghost use Rattle.dns_lexer.specs.Viable.{IsViable};
 ghost use Rattle.zonetext_lib.specs.Blocks.{AddsBlock, AddsInTime, EndsWith, Holds, IsHeld};
-ghost use Rattle.zonetext_lib.specs.Blocks.{Releases, Settled, SettlesHeld, TakesBlock};
+ghost use Rattle.zonetext_lib.specs.Blocks.{Releases, Settled, SettlesHeld, StoresChunk};
 ghost use Rattle.zonetext_lib.specs.Found.{IsFound, IsOctetFault, IsOpenedAfter, IsZone};
 ghost use Rattle.zone_format.specs.Place.{IsAt};
 
 use crate::check::{Found, locate_from};
-use dns_split::pieces::{Fault, Piece, Pieces};
-use dns_split::position::Position;
+use dns_lexer::pieces::{Fault, Piece, Pieces};
+use dns_lexer::position::Position;
 use std::alloc::{AllocError, Allocator};
 use std::marker::Model;
-use zone_format::place::{Place, advance, moved};
+use zone_format::place::{LocatedOffset, advance, moved};
 
 /// The error of adding octets.
 #[derive(Clone, Copy, PartialEq, Eq)]
-pub enum Halt {
+pub enum ChunkError {
     /// The octets aren't of the grammar of zone files.
     Wrong(Found),
     /// An allocation failed.
@@ -26,13 +26,13 @@ pub enum Halt {
     TooLong,
 }
 
-impl From<AllocError> for Halt {
-    ghost use Rattle.zonetext_lib.specs.declared.blocks.Halt.TheVariants.{OutOfMemory};
+impl From<AllocError> for ChunkError {
+    ghost use Rattle.zonetext_lib.specs.declared.blocks.ChunkError.TheVariants.{OutOfMemory};
 
     ghost from_gives = { λ _ e. e ≡ OutOfMemory };
 
-    fn from(_error: AllocError) -> Halt {
-        Halt::OutOfMemory
+    fn from(_error: AllocError) -> ChunkError {
+        ChunkError::OutOfMemory
     }
 }
 
@@ -87,7 +87,7 @@ fn fault_of(octets: &[u8]) -> Option<Fault>
 }
 
 /// Returns the syntax error of octets that begin at `place`, with its positions.
-pub(crate) fn locate_after(place: Place, octets: &[u8], fault: Fault) -> Found
+pub(crate) fn locate_after(place: LocatedOffset, octets: &[u8], fault: Fault) -> Found
     requires room { place.at + length octets.now + 2 < 2 ^ 64 }
     requires line { place.position.line ≤ place.at + 1 }
     requires column { place.position.column ≤ place.at + 1 }
@@ -113,7 +113,7 @@ pub(crate) fn locate_after(place: Place, octets: &[u8], fault: Fault) -> Found
 #[derive(Drop)]
 pub struct Checker<A: Allocator> {
     held: Vec<u8, A>,
-    place: Place,
+    place: LocatedOffset,
     /// Number of octets that were left when they were last parsed.
     left: usize,
 }
@@ -138,7 +138,7 @@ impl<A: Allocator> Checker<A> {
     {
         Checker {
             held: Vec::new(alloc),
-            place: Place {
+            place: LocatedOffset {
                 at: 0,
                 position: Position { line: 1, column: 1 },
             },
@@ -165,19 +165,19 @@ impl<A: Allocator> Checker<A> {
 
     /// Adds octets, and returns whether enough are stored to parse them: twice the number that was
     /// left the last time. Fails if an allocation fails, or if there would be too many octets.
-    pub(crate) fn take(&mut self, block: &[u8]) -> Result<bool, Halt>
-        ensures { TakesBlock self.old self.new block.now result }
+    pub(crate) fn take(&mut self, block: &[u8]) -> Result<bool, ChunkError>
+        ensures { StoresChunk self.old self.new block.now result }
     {
         let room = usize::MAX - 2 - self.place.at - self.held.len();
         if block.len() > room {
-            return Err(Halt::TooLong);
+            return Err(ChunkError::TooLong);
         }
         self.held.extend_from_slice(block)?;
         Ok(self.held.len() / 2 >= self.left)
     }
 
     /// Truncates the stored octets to the first `count`.
-    pub(crate) fn forget(&mut self, count: usize)
+    pub(crate) fn clear_saved(&mut self, count: usize)
         ensures { IsHeld (take count self.old.octets) self.old self.new }
     {
         self.held.truncate(count);
@@ -198,7 +198,7 @@ impl<A: Allocator> Checker<A> {
     }
 
     /// Returns the offset and position of the first stored octet.
-    pub(crate) fn place(&self) -> Place
+    pub(crate) fn place(&self) -> LocatedOffset
         ensures place { result ≡ self.now.place }
         ensures room { result.at + length self.now.octets + 2 < 2 ^ 64 }
         ensures line { result.position.line ≤ result.at + 1 }
@@ -213,7 +213,7 @@ impl<A: Allocator> Checker<A> {
         ensures { Releases self.old self.new cut }
     {
         let held = self.held.as_slice();
-        self.place = Place {
+        self.place = LocatedOffset {
             at: self.place.at + cut,
             position: advance(self.place.position, &held[..cut]),
         };
@@ -230,7 +230,7 @@ impl<A: Allocator> Checker<A> {
     /// twice those that were left the last time, so an error is returned before the stored octets
     /// have doubled. The octets are added also if a syntax error is returned, but not if an
     /// allocation fails.
-    pub fn add(&mut self, block: &[u8]) -> Result<(), Halt>
+    pub fn add(&mut self, block: &[u8]) -> Result<(), ChunkError>
         ensures added { AddsBlock self.old self.new block.now result }
         ensures in_time { AddsInTime self.old self.new block.now result }
     {
@@ -242,7 +242,7 @@ impl<A: Allocator> Checker<A> {
                 self.release(cut);
                 Ok(())
             }
-            Err(found) => Err(Halt::Wrong(found)),
+            Err(found) => Err(ChunkError::Wrong(found)),
         }
     }
 

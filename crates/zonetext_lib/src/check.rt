@@ -3,9 +3,9 @@ ghost use Rattle.std.specs.Prelude.{◌≡◌, ◌+◌, ◌++◌, ◌<◌, ◌^�
 ghost use Rattle.zonetext_lib.specs.Found.{IsFound, IsOctetFault, IsOpenedAfter, IsZone};
 ghost use Rattle.zone_format.specs.Place.{IsAt};
 
-use dns_split::opening::outermost_open_of_octets;
-use dns_split::pieces::{Fault, Pieces, Wrong};
-use dns_split::position::Position;
+use dns_lexer::pieces::{Fault, Pieces, Wrong};
+use dns_lexer::position::Position;
+use dns_lexer::unclosed::outermost_open_of_octets;
 use zone_format::place::{advance, line_start};
 
 /// The first syntax error of octets that aren't of the grammar of zone files.

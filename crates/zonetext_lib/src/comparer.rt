@@ -1,19 +1,19 @@
 //! Compares two zone files that arrive in chunks.
 ghost use Rattle.std.specs.Prelude.{◌≡◌, ◌+◌, ◌-◌, ◌<◌, ◌^◌, ◌↔◌, [], ℕ, List, false, true};
-ghost use Rattle.zonetext_lib.specs.Blocks.{TakesBlock};
+ghost use Rattle.zonetext_lib.specs.Blocks.{StoresChunk};
 ghost use Rattle.zonetext_lib.specs.Compare.{Compares};
-ghost use Rattle.zonetext_lib.specs.Comparing.{Compared, EndTwice, NeedsMore, Suffices, on_side, opposite};
+ghost use Rattle.zonetext_lib.specs.Comparing.{Compared, HasTwoEntries, NeedsMore, CanCompare, on_side, opposite};
 
-use crate::blocks::{Checker, Halt};
+use crate::blocks::{Checker, ChunkError};
 use crate::diff::{Comparison, diff, same_until};
-use dns_split::pieces::{Piece, Pieces};
-use dns_split::position::Position;
+use dns_lexer::pieces::{Piece, Pieces};
+use dns_lexer::position::Position;
 use std::alloc::Allocator;
 use std::marker::Model;
 
 /// Returns whether two entries with tokens end, and something follows them.
 fn end_twice(octets: &[u8]) -> bool
-    ensures { (result ≡ true) ↔ EndTwice octets.now }
+    ensures { (result ≡ true) ↔ HasTwoEntries octets.now }
 {
     let mut count: usize = 0;
     let mut has_tokens = false;
@@ -96,8 +96,8 @@ impl<A: Allocator + Copy> Comparer<A> {
     /// Adds octets of one file, and returns whether enough of it are stored to compare them. Fails
     /// if an allocation fails, or if there would be too many octets; then nothing is added. The
     /// other file is unchanged.
-    pub fn add(&mut self, side: Side, block: &[u8]) -> Result<bool, Halt>
-        ensures added { TakesBlock (on_side side self.old) (on_side side self.new)
+    pub fn add(&mut self, side: Side, block: &[u8]) -> Result<bool, ChunkError>
+        ensures added { StoresChunk (on_side side self.old) (on_side side self.new)
             block.now result }
         ensures other { on_side (opposite side) self.new ≡ on_side (opposite side) self.old }
     {
@@ -111,7 +111,7 @@ impl<A: Allocator + Copy> Comparer<A> {
     /// tokens have ended and something follows them, or if there is a syntax error that stays the
     /// same whatever follows.
     pub fn wants_more(&self, side: Side) -> bool
-        ensures enough { result ≡ false → Suffices (on_side side self.now).octets }
+        ensures enough { result ≡ false → CanCompare (on_side side self.now).octets }
         ensures more { result ≡ true → NeedsMore (on_side side self.now).octets }
     {
         let text = self.on(side);
@@ -123,7 +123,7 @@ impl<A: Allocator + Copy> Comparer<A> {
 
     /// Drops the first entries that have ended in both and are the same, and the entries without
     /// tokens between and after them.
-    pub fn let_go(&mut self)
+    pub fn discard_read(&mut self)
         ensures { (first second : List ℕ) → Compared first second self.old
             → Compared first second self.new }
     {

@@ -1,15 +1,15 @@
 //! Compares the entries of two zone files.
 ghost use Rattle.std.specs.Prelude.{◌≡◌, ◌+◌, ◌<◌, ◌≤◌, ◌^◌, ◌↔◌, IfSome, IsTrue, Ok, length, take};
-ghost use Rattle.dns_split.specs.Pieces.{IsWithin, piece_start};
+ghost use Rattle.dns_lexer.specs.Pieces.{IsWithin, piece_start};
 ghost use Rattle.zonetext_lib.specs.Compare.{CanCut, Compares, IsPieceText, is_passed, part, SkipsToPart};
 ghost use Rattle.zonetext_lib.specs.Entries.{ended_by};
 ghost use Rattle.zonetext_lib.specs.Comparing.{SameUntil, if_both};
 ghost use Rattle.zone_format.specs.Place.{IsAt};
 
 use crate::check::{Found, locate};
-use crate::glue::is_glued;
-use dns_split::pieces::{Fault, Piece, Pieces};
-use dns_split::position::Position;
+use crate::glue::is_adjacent;
+use dns_lexer::pieces::{Fault, Piece, Pieces};
+use dns_lexer::position::Position;
 use zone_format::place::position_after;
 use zonetext_report::lint::piece_start;
 
@@ -116,7 +116,7 @@ fn is_same(
         (Piece::End(_), _) => false,
         (_, Piece::End(_)) => false,
         _ => {
-            is_glued(ended, piece_start(one)) == is_glued(that_ended, piece_start(other))
+            is_adjacent(ended, piece_start(one)) == is_adjacent(that_ended, piece_start(other))
                 && text(first, one) == text(second, other)
         }
     }

@@ -5,13 +5,13 @@ ghost use Rattle.zonetext_lib.specs.Blocks.{Holds};
 ghost use Rattle.zonetext_lib.specs.Forming.{AddsForm, FormedSoFar, FormsAll, FormsSettled};
 ghost use Rattle.zonetext_lib.specs.Forming.{HasNoForm, HasNoFormAfter, HasPosition};
 
-use crate::blocks::{Checker, Halt, locate_after};
+use crate::blocks::{Checker, ChunkError, locate_after};
 use crate::check::Found;
-use dns_split::position::Position;
+use dns_lexer::position::Position;
 use std::alloc::Allocator;
 use std::marker::Model;
-use zone_format::blocks::{Seam, format_entries, format_last};
-use zone_format::place::{Place, advance};
+use zone_format::blocks::{FormatState, format_entries, format_last};
+use zone_format::place::{LocatedOffset, advance};
 use zone_format::refusal::Refusal;
 
 /// The error if octets have no form.
@@ -29,16 +29,16 @@ pub enum NoForm {
     TooLong,
 }
 
-impl From<Halt> for NoForm {
+impl From<ChunkError> for NoForm {
     ghost use Rattle.zonetext_lib.specs.Forming.{as_no_form};
 
     ghost from_gives = { λ h w. w ≡ as_no_form h };
 
-    fn from(halt: Halt) -> NoForm {
+    fn from(halt: ChunkError) -> NoForm {
         match halt {
-            Halt::Wrong(found) => NoForm::Wrong(found),
-            Halt::OutOfMemory => NoForm::OutOfMemory,
-            Halt::TooLong => NoForm::TooLong,
+            ChunkError::Wrong(found) => NoForm::Wrong(found),
+            ChunkError::OutOfMemory => NoForm::OutOfMemory,
+            ChunkError::TooLong => NoForm::TooLong,
         }
     }
 }
@@ -47,7 +47,7 @@ impl From<Halt> for NoForm {
 const MOST: usize = 1 << 62;
 
 /// Returns the position of an octet of those that begin at a place, or of their end.
-fn position_in(place: Place, octets: &[u8], at: usize) -> Position
+fn position_in(place: LocatedOffset, octets: &[u8], at: usize) -> Position
     requires room { place.at + length octets.now + 2 < 2 ^ 64 }
     requires line { place.position.line ≤ place.at + 1 }
     requires column { place.position.column ≤ place.at + 1 }
@@ -58,7 +58,7 @@ fn position_in(place: Place, octets: &[u8], at: usize) -> Position
 }
 
 /// Returns the error of octets that begin at a place, with its position.
-fn why_after(place: Place, octets: &[u8], refusal: Refusal) -> NoForm
+fn why_after(place: LocatedOffset, octets: &[u8], refusal: Refusal) -> NoForm
     requires room { place.at + length octets.now + 2 < 2 ^ 64 }
     requires line { place.position.line ≤ place.at + 1 }
     requires column { place.position.column ≤ place.at + 1 }
@@ -77,7 +77,7 @@ fn why_after(place: Place, octets: &[u8], refusal: Refusal) -> NoForm
 #[derive(Clone, Copy)]
 pub(crate) struct FormedCut {
     pub(crate) at: usize,
-    pub(crate) seam: Seam,
+    pub(crate) seam: FormatState,
 }
 
 /// A formatter to which octets are added in chunks. It writes their form as soon as it is settled.
@@ -87,7 +87,7 @@ pub(crate) struct FormedCut {
 #[derive(Drop)]
 pub struct Formatter<A: Allocator> {
     checker: Checker<A>,
-    seam: Seam,
+    seam: FormatState,
 }
 
 impl<A: Allocator> Model for Formatter<A> {
@@ -108,7 +108,7 @@ impl<A: Allocator> Formatter<A> {
     {
         Formatter {
             checker: Checker::new(alloc),
-            seam: Seam::first(),
+            seam: FormatState::first(),
         }
     }
 
@@ -156,7 +156,7 @@ impl<A: Allocator> Formatter<A> {
                 Ok(())
             }
             Err(NoForm::OutOfMemory) => {
-                self.checker.forget(before);
+                self.checker.clear_saved(before);
                 Err(NoForm::OutOfMemory)
             }
             Err(NoForm::Wrong(found)) => Err(NoForm::Wrong(found)),

@@ -5,7 +5,7 @@ ghost use Rattle.zonetext_lib.specs.Entries.{begins_glued};
 
 /// Returns whether a token that begins here is adjacent, where `ended` is the end of the token
 /// before it in its entry.
-pub(crate) fn is_glued(ended: Option<usize>, start: usize) -> bool
+pub(crate) fn is_adjacent(ended: Option<usize>, start: usize) -> bool
     ensures { result ≡ begins_glued ended start }
 {
     match ended {

@@ -6,8 +6,8 @@ ghost use Rattle.zonetext_lib.specs.Writing.{LaysSettled};
 
 use crate::check::locate;
 use crate::glue::owes_gap;
-use crate::tokens::Stop;
-use dns_split::pieces::{Piece, Pieces};
+use crate::tokens::CommandError;
+use dns_lexer::pieces::{Piece, Pieces};
 use std::alloc::{AllocError, Allocator};
 
 /// What separates two tokens, and precedes the first of an entry that begins with a blank.
@@ -93,7 +93,7 @@ pub fn lay_out<A: Allocator>(
     lines_before: usize,
     gap: Gap,
     out: &mut Vec<u8, A>,
-) -> Result<(), Stop>
+) -> Result<(), CommandError>
     requires { lines_before + length octets.now + 2 < 2 ^ 64 }
     ensures lines { LaysOut octets.now gap out.old.items out.new.items result }
     ensures bad { IfErr result (IsStop octets.now lines_before) }
@@ -125,7 +125,7 @@ pub fn lay_out<A: Allocator>(
                 owes_feed = true;
                 ended = None;
             }
-            Err(fault) => return Err(Stop::Wrong(locate(octets, lines_before, fault))),
+            Err(fault) => return Err(CommandError::Wrong(locate(octets, lines_before, fault))),
         }
     }
     Ok(())

@@ -4,11 +4,11 @@ ghost use Rattle.zonetext_lib.specs.Found.{IsStop, IsZone};
 ghost use Rattle.zonetext_lib.specs.Tokens.{form_head, glued_member, plain_kind, token_row, HasRows};
 
 use crate::check::{Found, locate};
-use crate::glue::is_glued;
-use dns_split::pieces::{Piece, Pieces};
-use dns_split::position::Position;
+use crate::glue::is_adjacent;
+use dns_lexer::pieces::{Piece, Pieces};
+use dns_lexer::position::Position;
 use std::alloc::{AllocError, Allocator};
-use zone_format::place::{Place, move_to, position_after};
+use zone_format::place::{LocatedOffset, move_to, position_after};
 use zonetext_report::json::{Charset, push_string};
 use zonetext_report::push::{push_number, push_text};
 
@@ -24,20 +24,20 @@ pub enum Form {
 
 /// The reason why a command stopped.
 #[derive(Clone, Copy)]
-pub enum Stop {
+pub enum CommandError {
     /// The octets aren't of the grammar of zone files.
     Wrong(Found),
     /// An allocation failed.
     OutOfMemory,
 }
 
-impl From<AllocError> for Stop {
-    ghost use Rattle.zonetext_lib.specs.declared.tokens.Stop.TheVariants.{OutOfMemory};
+impl From<AllocError> for CommandError {
+    ghost use Rattle.zonetext_lib.specs.declared.tokens.CommandError.TheVariants.{OutOfMemory};
 
     ghost from_gives = { λ _ e. e ≡ OutOfMemory };
 
-    fn from(_error: AllocError) -> Stop {
-        Stop::OutOfMemory
+    fn from(_error: AllocError) -> CommandError {
+        CommandError::OutOfMemory
     }
 }
 
@@ -127,13 +127,13 @@ pub fn tokens<A: Allocator>(
     lines_before: usize,
     form: Form,
     out: &mut Vec<u8, A>,
-) -> Result<(), Stop>
+) -> Result<(), CommandError>
     requires { lines_before + length octets.now + 2 < 2 ^ 64 }
     ensures rows { HasRows octets.now lines_before form out.old.items out.new.items result }
     ensures well { IfOk result (λ _. IsZone octets.now) }
     ensures bad { IfErr result (IsStop octets.now lines_before) }
 {
-    let mut place = Place {
+    let mut place = LocatedOffset {
         at: 0,
         position: position_after(lines_before, &[]),
     };
@@ -142,21 +142,21 @@ pub fn tokens<A: Allocator>(
         match piece {
             Ok(Piece::Word(span)) => {
                 place = move_to(octets, lines_before, place, span.start);
-                let glued = is_glued(ended, span.start);
+                let glued = is_adjacent(ended, span.start);
                 let word = span.of_octets(octets);
                 push_row(out, form, place.position, "word", glued, word)?;
                 ended = Some(span.end);
             }
             Ok(Piece::Quote(span)) => {
                 place = move_to(octets, lines_before, place, span.start);
-                let glued = is_glued(ended, span.start);
+                let glued = is_adjacent(ended, span.start);
                 let quote = span.of_octets(octets);
                 push_row(out, form, place.position, "quoted", glued, quote)?;
                 ended = Some(span.end);
             }
             Ok(Piece::Comment(_)) => {}
             Ok(Piece::End(_)) => ended = None,
-            Err(fault) => return Err(Stop::Wrong(locate(octets, lines_before, fault))),
+            Err(fault) => return Err(CommandError::Wrong(locate(octets, lines_before, fault))),
         }
     }
     Ok(())

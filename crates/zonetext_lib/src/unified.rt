@@ -160,7 +160,7 @@ fn is_blank(line: &[u8]) -> bool {
 }
 
 /// Drops the first octets.
-fn let_go(text: &mut Vec<u8>, count: usize) {
+fn discard_read(text: &mut Vec<u8>, count: usize) {
     if count > text.len() {
         return;
     }
@@ -213,8 +213,8 @@ impl Unified {
                 self.hunks.add(new_line)?;
             }
         }
-        let_go(&mut self.old, from);
-        let_go(&mut self.new, to);
+        discard_read(&mut self.old, from);
+        discard_read(&mut self.new, to);
         Ok(())
     }
 

@@ -1,19 +1,19 @@
 //! Writes the output for octets that arrive in chunks.
 ghost use Rattle.std.specs.Prelude.{◌≡◌, ◌+◌, ◌++◌, ◌<◌, ◌≤◌, ◌^◌, ℕ, [], List, length};
 ghost use Rattle.std.specs.Prelude.{IfErr, IfOk, OnOk, Ok, map};
-ghost use Rattle.dns_split.specs.Pieces.{AreOctets, IsGiven};
-ghost use Rattle.dns_split.specs.declared.pieces.Piece.{Piece};
+ghost use Rattle.dns_lexer.specs.Pieces.{AreOctets, AreItemsOf};
+ghost use Rattle.dns_lexer.specs.declared.pieces.Piece.{Piece};
 ghost use Rattle.zonetext_lib.specs.Blocks.{AddsBlock, Holds};
-ghost use Rattle.zonetext_lib.specs.declared.blocks.Halt.TheVariants.{OutOfMemory};
+ghost use Rattle.zonetext_lib.specs.declared.blocks.ChunkError.TheVariants.{OutOfMemory};
 ghost use Rattle.zonetext_lib.specs.Found.{IsZone};
 ghost use Rattle.zonetext_lib.specs.declared.writer.Output.TheVariants.{Rows};
 ghost use Rattle.zonetext_lib.specs.Writing.{HasLines, IsEnd, MadeAfter, Until};
 ghost use Rattle.zonetext_lib.specs.Writing.{Writes, WritesRest, WritesSettled, Wrote};
 
-use crate::blocks::{Checker, Halt};
+use crate::blocks::{Checker, ChunkError};
 use crate::layout::{Gap, lay_out, lay_out_settled};
-use crate::tokens::{Form, Stop, tokens};
-use dns_split::pieces::{Piece, Pieces};
+use crate::tokens::{CommandError, Form, tokens};
+use dns_lexer::pieces::{Piece, Pieces};
 use std::alloc::{AllocError, Allocator};
 use std::marker::Model;
 
@@ -52,7 +52,7 @@ fn write_lines<A: Allocator>(
     lines_before: usize,
     gap: Gap,
     out: &mut Vec<u8, A>,
-) -> Result<(), Halt>
+) -> Result<(), ChunkError>
     requires { lines_before + length octets.now + 2 < 2 ^ 64 }
     ensures lines { OnOk result ((more : List ℕ) × (out.new.items ≡ out.old.items ++ more)
         × HasLines octets.now gap more) }
@@ -61,8 +61,8 @@ fn write_lines<A: Allocator>(
     let until = until_fault(octets);
     match lay_out(&octets[..until], lines_before, gap, out) {
         Ok(()) => Ok(()),
-        Err(Stop::Wrong(_)) => Ok(()),
-        Err(Stop::OutOfMemory) => Err(Halt::OutOfMemory),
+        Err(CommandError::Wrong(_)) => Ok(()),
+        Err(CommandError::OutOfMemory) => Err(ChunkError::OutOfMemory),
     }
 }
 
@@ -72,7 +72,7 @@ fn write_rows<A: Allocator>(
     lines_before: usize,
     form: Form,
     out: &mut Vec<u8, A>,
-) -> Result<(), Halt>
+) -> Result<(), ChunkError>
     requires { lines_before + length octets.now + 2 < 2 ^ 64 }
     ensures rows { OnOk result
         (MadeAfter (Rows form) octets.now lines_before out.old.items out.new.items) }
@@ -80,8 +80,8 @@ fn write_rows<A: Allocator>(
 {
     match tokens(octets, lines_before, form, out) {
         Ok(()) => Ok(()),
-        Err(Stop::Wrong(_)) => Ok(()),
-        Err(Stop::OutOfMemory) => Err(Halt::OutOfMemory),
+        Err(CommandError::Wrong(_)) => Ok(()),
+        Err(CommandError::OutOfMemory) => Err(ChunkError::OutOfMemory),
     }
 }
 
@@ -91,7 +91,7 @@ fn write<A: Allocator>(
     octets: &[u8],
     lines_before: usize,
     out: &mut Vec<u8, A>,
-) -> Result<(), Halt>
+) -> Result<(), ChunkError>
     requires { lines_before + length octets.now + 2 < 2 ^ 64 }
     ensures octets { AreOctets octets.now }
     ensures made { OnOk result
@@ -110,17 +110,17 @@ fn write_all_lines<A: Allocator>(
     lines_before: usize,
     gap: Gap,
     out: &mut Vec<u8, A>,
-) -> Result<(), Halt>
+) -> Result<(), ChunkError>
     requires room { lines_before + length octets.now + 2 < 2 ^ 64 }
-    requires whole { (found : List Piece) × IsGiven octets.now (map Ok found) }
+    requires whole { (found : List Piece) × AreItemsOf octets.now (map Ok found) }
     ensures lines { OnOk result ((more : List ℕ) × (out.new.items ≡ out.old.items ++ more)
         × HasLines octets.now gap more) }
     ensures short { IfErr result (λ h. h ≡ OutOfMemory) }
 {
     match lay_out(octets, lines_before, gap, out) {
         Ok(()) => Ok(()),
-        Err(Stop::Wrong(_)) => Ok(()),
-        Err(Stop::OutOfMemory) => Err(Halt::OutOfMemory),
+        Err(CommandError::Wrong(_)) => Ok(()),
+        Err(CommandError::OutOfMemory) => Err(ChunkError::OutOfMemory),
     }
 }
 
@@ -130,9 +130,9 @@ fn write_ended<A: Allocator>(
     octets: &[u8],
     lines_before: usize,
     out: &mut Vec<u8, A>,
-) -> Result<(), Halt>
+) -> Result<(), ChunkError>
     requires room { lines_before + length octets.now + 2 < 2 ^ 64 }
-    requires whole { (found : List Piece) × IsGiven octets.now (map Ok found) }
+    requires whole { (found : List Piece) × AreItemsOf octets.now (map Ok found) }
     ensures made { OnOk result
         (MadeAfter output octets.now lines_before out.old.items out.new.items) }
     ensures short { IfErr result (λ h. h ≡ OutOfMemory) }
@@ -197,7 +197,7 @@ impl<A: Allocator> Writer<A> {
     /// Fails with a syntax error as soon as it is the same whatever follows, after the output
     /// before it; the octets are added then too, and [`Writer::finish`] fails with it again. If an
     /// allocation fails, nothing is added, and `out` is unspecified.
-    pub fn add(&mut self, block: &[u8], out: &mut Vec<u8, A>) -> Result<(), Halt>
+    pub fn add(&mut self, block: &[u8], out: &mut Vec<u8, A>) -> Result<(), ChunkError>
         ensures output { self.new.output ≡ self.old.output }
         ensures told { AddsBlock self.old.held self.new.held block.now result }
         ensures written { Writes self.old self.new block.now out.old.items out.new.items result }
@@ -213,8 +213,8 @@ impl<A: Allocator> Writer<A> {
             }
             Ok(None) => {}
             Err(error) => {
-                self.checker.forget(before);
-                return Err(Halt::from(error));
+                self.checker.clear_saved(before);
+                return Err(ChunkError::from(error));
             }
         }
         let lines = self.checker.lines_before();
@@ -222,7 +222,7 @@ impl<A: Allocator> Writer<A> {
             Ok(cut) => {
                 let ended = &self.checker.held()[..cut];
                 if let Err(halt) = write_ended(self.output, ended, lines, out) {
-                    self.checker.forget(before);
+                    self.checker.clear_saved(before);
                     return Err(halt);
                 }
                 self.checker.release(cut);
@@ -231,10 +231,10 @@ impl<A: Allocator> Writer<A> {
             Err(found) => {
                 let held = self.checker.held();
                 if let Err(halt) = write(self.output, held, lines, out) {
-                    self.checker.forget(before);
+                    self.checker.clear_saved(before);
                     return Err(halt);
                 }
-                Err(Halt::Wrong(found))
+                Err(ChunkError::Wrong(found))
             }
         }
     }
@@ -243,7 +243,7 @@ impl<A: Allocator> Writer<A> {
     /// that were added aren't of the grammar of zone files.
     ///
     /// If an allocation fails, `out` is unspecified.
-    pub fn finish(&self, out: &mut Vec<u8, A>) -> Result<(), Halt>
+    pub fn finish(&self, out: &mut Vec<u8, A>) -> Result<(), ChunkError>
         ensures well { (all : List ℕ) → Holds all self.now.held → IfOk result (λ _. IsZone all) }
         ensures bad { (all : List ℕ) → Holds all self.now.held → IsEnd all result }
         ensures written { WritesRest self.now out.old.items out.new.items result }
@@ -252,7 +252,7 @@ impl<A: Allocator> Writer<A> {
         write(self.output, self.checker.held(), lines, out)?;
         match self.checker.finish() {
             Ok(()) => Ok(()),
-            Err(found) => Err(Halt::Wrong(found)),
+            Err(found) => Err(ChunkError::Wrong(found)),
         }
     }
 }

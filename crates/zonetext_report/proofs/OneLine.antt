@@ -7,7 +7,7 @@ use Rattle.std.proofs.lemmas.Bool.{ne_eqb, eqb-true, ltb-false, leb-true, and_pa
 use Rattle.std.proofs.lemmas.List.Concat.{flat_map-cons}
 use Rattle.std.proofs.lemmas.List.Folds.{list_all-append}
 use Rattle.std.proofs.Common.{inl, inr}
-use Rattle.dns_split.specs.declared.position.Position.{Position}
+use Rattle.dns_lexer.specs.declared.position.Position.{Position}
 use Rattle.zonetext_report.specs.declared.code.Code.{Code}
 use Rattle.zonetext_report.specs.declared.code.Code.TheVariants.{OpenQuote}
 use Rattle.zonetext_report.specs.declared.code.Severity.{Severity}
@@ -16,7 +16,7 @@ use Rattle.zonetext_report.specs.declared.finding.Finding.{Finding}
 use Rattle.zonetext_report.specs.declared.json.Charset.TheVariants.{Utf8}
 use Rattle.zonetext_report.specs.Code.{code_name, severity_name}
 use Rattle.zonetext_report.specs.Finding.{FindingsAreLines, IsOneLine, IsUpToOneLine, bold, bracketed_code, finding_line, further_line, opened_text, place_text, position_text, severity_style, severity_text, style_if, subject_part, subject_text, unstyled}
-use Rattle.zonetext_report.specs.Json.{hex_digit, json_finding, json_octet, json_opened, json_position, json_text, stands_plain}
+use Rattle.zonetext_report.specs.Json.{hex_digit, json_finding, json_octet, json_opened, json_position, json_text, is_written_plain}
 use Rattle.zone_format.specs.Place.{begins_character}
 use Rattle.zonetext_report.specs.Shown.{is_control, shown_octet, shown_text}
 
@@ -83,7 +83,7 @@ hex_none n = hex_by (nat_lt n 10) n
 marked : (c : ℕ) → (c == 34 || c == 92) ≡ true → no_feed c ≡ true
 marked c h = elim (or_cases (c == 34) (c == 92) h) [ inl e ↦ above c (omega (arith, eqb-true c 34 e)) | inr e ↦ above c (omega (arith, eqb-true c 92 e)) ]
 
-stands : (c : ℕ) → stands_plain Utf8 c ≡ true → no_feed c ≡ true
+stands : (c : ℕ) → is_written_plain Utf8 c ≡ true → no_feed c ≡ true
 stands c h = above c (omega (arith, leb-true 32 c (and_parts (nat_le 32 c) (not (c == 127)) h).0))
 
 octet_by : (a b : Bool) (c : ℕ) → (a ≡ true → no_feed c ≡ true) → (b ≡ true → no_feed c ≡ true)
@@ -96,7 +96,7 @@ octet_by false false c f g =
 json_none : (xs : List ℕ) → HasNone (json_text xs)
 json_none [] = refl
 json_none (c ∷ cs) =
-    let one : HasNone (json_octet Utf8 c) = octet_by (c == 34 || c == 92) (stands_plain Utf8 c) c (marked c) (stands c) in
+    let one : HasNone (json_octet Utf8 c) = octet_by (c == 34 || c == 92) (is_written_plain Utf8 c) c (marked c) (stands c) in
     ap (list_all no_feed) (flat_map-cons (json_octet Utf8) c cs) ∙ both (json_octet Utf8 c) (json_text cs) one (json_none cs)
 
 -- in the parts of a line

@@ -5,7 +5,7 @@ use Rattle.std.proofs.lemmas.Grind.{flat_map-append}
 use Rattle.std.proofs.lemmas.List.{take_more, take-append-drop, length-drop, length-take-le, get_or-drop}
 use Rattle.std.proofs.lemmas.List.Concat.{flat_map-cons}
 use Rattle.std.proofs.Math.Seq.{take-append-add}
-use Rattle.dns_split.specs.Pieces.{between}
+use Rattle.dns_lexer.specs.Pieces.{between}
 
 between_more : (xs : List ℕ) (s e : ℕ) → s ≤ e → e < length xs → between xs s (e + 1) ≡ between xs s e ++ get_or xs e 0 ∷ []
 between_more xs s e h k =

@@ -4,7 +4,7 @@ use Rattle.std.specs.List.{flat_map}
 use Rattle.std.specs.Fmt.{decimal}
 use Rattle.dns_symbol.specs.Characters.{space, double_quote, backslash}
 use Rattle.dns_symbol.specs.Symbol.{is_printable}
-use Rattle.dns_split.specs.declared.position.Position.{Position}
+use Rattle.dns_lexer.specs.declared.position.Position.{Position}
 use Rattle.zonetext_report.specs.declared.finding.Finding.{Finding}
 use Rattle.zonetext_report.specs.declared.json.Charset.{Charset}
 use Rattle.zonetext_report.specs.declared.json.Charset.TheVariants.{Octets, Utf8}
@@ -16,13 +16,13 @@ abbrev pub hex_digit : ℕ → ℕ
 hex_digit n = if nat_lt n 10 then 48 + n else 97 + (n - 10)
 
 -- an octet that is written unchanged: printable ASCII; in UTF-8 all but the control characters of ASCII
-abbrev pub stands_plain : Charset → ℕ → Bool
-stands_plain Octets c = is_printable c
-stands_plain Utf8 c = nat_le space c && not (c == 127)
+abbrev pub is_written_plain : Charset → ℕ → Bool
+is_written_plain Octets c = is_printable c
+is_written_plain Utf8 c = nat_le space c && not (c == 127)
 
 -- an octet in a JSON string: a double quote and a backslash come after a backslash, and an octet that is not written unchanged is \u00 and two digits
 abbrev pub json_octet : Charset → ℕ → List ℕ
-json_octet charset c = if c == double_quote || c == backslash then backslash ∷ c ∷ [] else if stands_plain charset c then c ∷ [] else codes "\\u00" ++ hex_digit (c / 16) ∷ hex_digit (c % 16) ∷ []
+json_octet charset c = if c == double_quote || c == backslash then backslash ∷ c ∷ [] else if is_written_plain charset c then c ∷ [] else codes "\\u00" ++ hex_digit (c / 16) ∷ hex_digit (c % 16) ∷ []
 
 abbrev pub json_text : List ℕ → List ℕ
 json_text text = flat_map (json_octet Utf8) text

@@ -2,14 +2,14 @@
 use Rattle.std.specs.Prelude.{◌≡◌, ℕ, ◌+◌, ◌-◌, ◌==◌, ◌||◌, ◌&&◌, not, nat_lt, nat_le, if◌then◌else◌, Bool, true, false, List, [], ◌∷◌, ◌++◌, length, drop, slice_index, ◌≤◌, Option, Some, None, Result, Ok, Err}
 use Rattle.std.specs.List.{position}
 use Rattle.dns_symbol.specs.Characters.{tab, line_feed, carriage_return, open_parenthesis, close_parenthesis}
-use Rattle.dns_split.specs.Pieces.{IsGiven, between, piece_start}
-use Rattle.dns_split.specs.declared.pieces.Piece.{Piece}
-use Rattle.dns_split.specs.declared.pieces.Piece.TheVariants.{Word as WordAt, Quote as QuoteAt, Comment as CommentAt, End as EndAt}
-use Rattle.dns_split.specs.declared.pieces.Fault.{Fault}
+use Rattle.dns_lexer.specs.Pieces.{AreItemsOf, between, piece_start}
+use Rattle.dns_lexer.specs.declared.pieces.Piece.{Piece}
+use Rattle.dns_lexer.specs.declared.pieces.Piece.TheVariants.{Word as WordAt, Quote as QuoteAt, Comment as CommentAt, End as EndAt}
+use Rattle.dns_lexer.specs.declared.pieces.Fault.{Fault}
 use Rattle.zonetext_report.specs.declared.code.Code.{Code}
 use Rattle.zonetext_report.specs.declared.code.Code.TheVariants.{Nul, HighOctet, ControlOctet, ControlZ, NestedParentheses, LeadingParenthesis, AdjacentTokens, Crlf, NoFinalNewline}
 use Rattle.zonetext_report.specs.declared.lint.Block.{Block}
-use Rattle.zonetext_report.specs.declared.lint.Reached.{Reached}
+use Rattle.zonetext_report.specs.declared.lint.LintState.{LintState}
 use Rattle.zonetext_report.specs.declared.lint.Remark.{Remark}
 use Rattle.zonetext_report.specs.Shown.{is_control}
 
@@ -81,7 +81,7 @@ is_token_piece (QuoteAt p) = true
 is_token_piece _ = false
 
 -- a token begins where another ends
-abbrev pub adjacent_remarks : Reached → Piece → List Remark
+abbrev pub adjacent_remarks : LintState → Piece → List Remark
 adjacent_remarks old p = if old.is_after_token && (is_token_piece p && piece_start p == old.at) then remark old.at AdjacentTokens ∷ [] else []
 
 -- the offset after a piece
@@ -99,31 +99,31 @@ piece_remarks octets (CommentAt p) = []
 piece_remarks octets (EndAt p) = beginning_remarks octets p.at
 
 -- the findings of parentheses in the octets before a piece, and then those of the piece
-abbrev pub next_remarks : List ℕ → Reached → Piece → List Remark
+abbrev pub next_remarks : List ℕ → LintState → Piece → List Remark
 next_remarks octets old p = nested_remarks old.depth old.at (between octets old.at (piece_start p)) ++ (adjacent_remarks old p ++ piece_remarks octets p)
 
 -- the state after a piece
-abbrev pub reached_after : List ℕ → Reached → Piece → Reached
+abbrev pub reached_after : List ℕ → LintState → Piece → LintState
 reached_after octets old p = record { at = piece_end p; depth = open_after old.depth (between octets old.at (piece_start p)); is_after_token = is_token_piece p }
 
-abbrev pub entry_remarks : List ℕ → Reached → List (Result Piece Fault) → List Remark
+abbrev pub entry_remarks : List ℕ → LintState → List (Result Piece Fault) → List Remark
 entry_remarks octets old [] = []
 entry_remarks octets old (Ok p ∷ given) = next_remarks octets old p ++ entry_remarks octets (reached_after octets old p) given
 entry_remarks octets old (Err f ∷ given) = []
 
 -- the state at the start of octets
-abbrev pub first_reached : Reached
+abbrev pub first_reached : LintState
 first_reached = record { at = 0; depth = 0; is_after_token = false }
 
 -- a piece and the octets before it were checked
-pub record Shows (octets : List ℕ) (old : Reached) (p : Piece) (before after : List Remark) (new : Reached) : Type 0 where
+pub record Shows (octets : List ℕ) (old : LintState) (p : Piece) (before after : List Remark) (new : LintState) : Type 0 where
   pub reached : new ≡ reached_after octets old p
   pub deep : new.depth ≤ new.at
   pub remarks : after ≡ before ++ next_remarks octets old p
 
 -- all pieces of the octets were checked
 abbrev pub ShowsPieces : List ℕ → (before after : List Remark) → Type 0
-ShowsPieces octets before after = (given : List (Result Piece Fault)) × IsGiven octets given × (after ≡ before ++ entry_remarks octets first_reached given)
+ShowsPieces octets before after = (given : List (Result Piece Fault)) × AreItemsOf octets given × (after ≡ before ++ entry_remarks octets first_reached given)
 
 -- the last octet is not a line feed
 abbrev pub unended : List ℕ → List Remark
@@ -137,5 +137,5 @@ end_remarks block octets = if block.is_last then unended octets else []
 
 -- the findings of octets of whole entries
 abbrev pub ShowsBlock : List ℕ → Block → (before after : List Remark) → Type 0
-ShowsBlock octets block before after = (given : List (Result Piece Fault)) × IsGiven octets given
+ShowsBlock octets block before after = (given : List (Result Piece Fault)) × AreItemsOf octets given
     × (after ≡ before ++ (beginning_remarks octets 0 ++ entry_remarks octets first_reached given ++ crlf_remarks block octets ++ end_remarks block octets))

@@ -1,7 +1,7 @@
 -- Worked examples: findings, lines and texts.
 use Rattle.std.specs.Prelude.{◌≡◌, true, false, [], ◌∷◌, ◌++◌, codes, Some, Ok, refl, replicate}
 use Rattle.std.specs.Fmt.{digits}
-use Rattle.dns_split.specs.Pieces.{comment_at, end_at, quote_at, word_at}
+use Rattle.dns_lexer.specs.Pieces.{comment_at, end_at, quote_at, word_at}
 use Rattle.zonetext_report.specs.Excerpt.{caret_line, first_shown, mark_width}
 use Rattle.zonetext_report.specs.Finding.{opened_text, place_text, severity_text}
 use Rattle.zonetext_report.specs.Json.{json_opened, json_position, json_text}

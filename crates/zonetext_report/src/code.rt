@@ -147,6 +147,16 @@ pub enum Code {
     KeyProtocol,
     /// The algorithm of a DNSKEY or DS is 0.
     KeyAlgorithm,
+    /// The target of a CNAME has no records in the zone.
+    CnameTargetMissing,
+    /// CNAMEs lead back to the owner of one.
+    CnameLoop,
+    /// A name has two SPF records.
+    TwoSpf,
+    /// The only digest of a key in DS is SHA-1.
+    WeakDigest,
+    /// The apex or a delegation has only one NS.
+    SingleNs,
     /// The zone must be signed, and has no DNSKEY at its apex.
     NoDnskey,
     /// An RRSIG has expired.
@@ -241,7 +251,7 @@ fn find_named(codes: &[Code], name: &str) -> Option<Code>
 
 impl Code {
     /// Every code.
-    pub const ALL: [Code; 100] = [
+    pub const ALL: [Code; 105] = [
         Code::OpenQuote,
         Code::OpenParenthesis,
         Code::ClosingParenthesis,
@@ -301,6 +311,11 @@ impl Code {
         Code::NotAtApex,
         Code::KeyProtocol,
         Code::KeyAlgorithm,
+        Code::CnameTargetMissing,
+        Code::CnameLoop,
+        Code::TwoSpf,
+        Code::WeakDigest,
+        Code::SingleNs,
         Code::NoDnskey,
         Code::Expired,
         Code::ExpiresSoon,
@@ -408,6 +423,11 @@ impl Code {
             Code::NotAtApex => "not-at-apex",
             Code::KeyProtocol => "key-protocol",
             Code::KeyAlgorithm => "key-algorithm",
+            Code::CnameTargetMissing => "cname-target-missing",
+            Code::CnameLoop => "cname-loop",
+            Code::TwoSpf => "two-spf",
+            Code::WeakDigest => "weak-digest",
+            Code::SingleNs => "single-ns",
             Code::NoDnskey => "no-dnskey",
             Code::Expired => "expired",
             Code::ExpiresSoon => "expires-soon",
@@ -524,7 +544,12 @@ impl Code {
             | Code::DsWithoutNs
             | Code::NotAtApex
             | Code::KeyProtocol
-            | Code::KeyAlgorithm => Severity::Warning,
+            | Code::KeyAlgorithm
+            | Code::CnameTargetMissing
+            | Code::CnameLoop
+            | Code::TwoSpf
+            | Code::WeakDigest
+            | Code::SingleNs => Severity::Warning,
             // (the rules of a signed zone)
             Code::ExpiresSoon
             | Code::RrsigTtl

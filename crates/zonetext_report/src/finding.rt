@@ -5,7 +5,7 @@ ghost use Rattle.zonetext_report.specs.Finding.{bracketed_code, finding_line, fi
 use crate::code::{Code, Severity};
 use crate::push::push_number;
 use crate::shown::push_shown;
-use dns_split::position::Position;
+use dns_lexer::position::Position;
 use std::alloc::{AllocError, Allocator};
 
 /// A finding in a file, with its position. Lines and columns are counted from 1; columns count the

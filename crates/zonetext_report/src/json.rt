@@ -1,12 +1,12 @@
 //! Formats findings as JSON objects, one a line (RFC 8259).
 ghost use Rattle.std.specs.Prelude.{◌≡◌, ◌+◌, ◌++◌, ◌∷◌, [], ◌<◌, ◌≤◌, OnOk, length, true};
 ghost use Rattle.std.specs.List.{flat_map};
-ghost use Rattle.dns_split.specs.Pieces.{between};
-ghost use Rattle.zonetext_report.specs.Json.{hex_digit, json_octet, json_opened, json_position, json_finding, stands_plain};
+ghost use Rattle.dns_lexer.specs.Pieces.{between};
+ghost use Rattle.zonetext_report.specs.Json.{hex_digit, json_octet, json_opened, json_position, json_finding, is_written_plain};
 
 use crate::finding::Finding;
 use crate::push::{push_number, push_text};
-use dns_split::position::Position;
+use dns_lexer::position::Position;
 use std::alloc::{AllocError, Allocator};
 
 /// The encoding of a string that is written as JSON.
@@ -32,8 +32,8 @@ fn digit(value: u8) -> u8
 
 /// Returns whether an octet is written unchanged in a JSON string, unless it is a double quote or a
 /// backslash.
-fn stands_plain(charset: Charset, octet: u8) -> bool
-    ensures { result ≡ stands_plain charset octet }
+fn is_written_plain(charset: Charset, octet: u8) -> bool
+    ensures { result ≡ is_written_plain charset octet }
 {
     match charset {
         Charset::Octets => (0x20..=0x7E).contains(&octet),
@@ -51,7 +51,7 @@ fn push_octet<A: Allocator>(
 {
     if octet == b'"' || octet == b'\\' {
         out.extend_from_slice(&[b'\\', octet])
-    } else if stands_plain(charset, octet) {
+    } else if is_written_plain(charset, octet) {
         out.extend_from_slice(&[octet])
     } else {
         let (high, low) = (digit(octet / 16), digit(octet % 16));
@@ -63,7 +63,7 @@ fn push_octet<A: Allocator>(
 fn is_plain(charset: Charset, octet: u8) -> bool
     ensures { result ≡ true → json_octet charset octet ≡ octet ∷ [] }
 {
-    octet != b'"' && octet != b'\\' && stands_plain(charset, octet)
+    octet != b'"' && octet != b'\\' && is_written_plain(charset, octet)
 }
 
 /// Returns the offset where the octets end, from `start` on, that are written unchanged in a JSON

@@ -2,7 +2,7 @@
 ghost use Rattle.std.specs.Prelude.{◌≡◌, ◌+◌, ◌++◌, ◌<◌, ◌≤◌, ◌^◌, IfOk, IfSome, OnOk, length, true, false, Ok};
 ghost use Rattle.std.specs.List.{position};
 ghost use Rattle.std.specs.Option.{ForSome};
-ghost use Rattle.dns_split.specs.Pieces.{IsWithin, piece_start};
+ghost use Rattle.dns_lexer.specs.Pieces.{IsWithin, piece_start};
 ghost use Rattle.zone_format.specs.Refusal.{begins_order_mark};
 ghost use Rattle.zonetext_report.specs.Lint.{adjacent_remarks, beginning_remarks, code_of_first, open_after, depth_by, is_high, is_nul};
 ghost use Rattle.zonetext_report.specs.Lint.{is_token_piece, is_unusual_control, is_return, nested_remarks, opens_inside, piece_end};
@@ -10,7 +10,7 @@ ghost use Rattle.zonetext_report.specs.Lint.{piece_remarks, remarks_at, token_re
 ghost use Rattle.zonetext_report.specs.Lint.{Shows, ShowsBlock, ShowsPieces, unended};
 
 use crate::code::Code;
-use dns_split::pieces::{Piece, Pieces};
+use dns_lexer::pieces::{Piece, Pieces};
 use std::alloc::{AllocError, Allocator};
 
 /// A finding at an offset of octets.
@@ -236,7 +236,7 @@ fn piece_end(piece: Piece) -> usize
 
 /// The octets that were checked so far.
 #[derive(Clone, Copy)]
-struct Reached {
+struct LintState {
     at: usize,
     /// Number of parentheses that are open there.
     depth: usize,
@@ -246,7 +246,7 @@ struct Reached {
 
 /// Appends the start of a piece, if it is a token that begins where another ends.
 fn lint_start<A: Allocator>(
-    reached: Reached,
+    reached: LintState,
     piece: Piece,
     found: &mut Vec<Remark, A>,
 ) -> Result<(), AllocError>
@@ -264,10 +264,10 @@ fn lint_start<A: Allocator>(
 /// Appends the findings of a piece, and of the octets before it.
 fn lint_next<A: Allocator>(
     octets: &[u8],
-    reached: Reached,
+    reached: LintState,
     piece: Piece,
     found: &mut Vec<Remark, A>,
-) -> Result<Reached, AllocError>
+) -> Result<LintState, AllocError>
     requires room { length octets.now + 1 < 2 ^ 64 }
     requires within { IsWithin (length octets.now) (Ok piece) }
     requires order { reached.at ≤ piece_start piece }
@@ -278,7 +278,7 @@ fn lint_next<A: Allocator>(
     let depth = lint_gap(gap, reached.at, reached.depth, found)?;
     lint_start(reached, piece, found)?;
     lint_piece(octets, piece, found)?;
-    Ok(Reached {
+    Ok(LintState {
         at: piece_end(piece),
         depth,
         is_after_token: is_token_piece(piece),
@@ -290,7 +290,7 @@ fn lint_pieces<A: Allocator>(octets: &[u8], found: &mut Vec<Remark, A>) -> Resul
     requires { length octets.now + 1 < 2 ^ 64 }
     ensures { OnOk result (ShowsPieces octets.now found.old.items found.new.items) }
 {
-    let mut reached = Reached {
+    let mut reached = LintState {
         at: 0,
         depth: 0,
         is_after_token: false,

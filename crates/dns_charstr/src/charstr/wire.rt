@@ -1,7 +1,7 @@
 //! The wire format of character strings: a length octet and the octets (RFC 1035 section 3.3).
 ghost use Rattle.std.specs.Prelude.{◌≡◌, ◌≤◌, ◌-◌, ◌∷◌, [], ◌++◌, ℕ, List, length, min, IfOk, IsOk, OnOk, OnErr};
-ghost use Rattle.dns_octets.specs.Parsing.{rest, gone_on};
-ghost use Rattle.dns_charstr.specs.Wire.{wire_of, BeginsNoWireForm, IsLeftByRefusal};
+ghost use Rattle.dns_octets.specs.Parsing.{rest, advanced_by};
+ghost use Rattle.dns_charstr.specs.Wire.{wire_of, BeginsNoWireForm, IsAfterFailedAppend};
 
 use crate::charstr::CharStr;
 use dns_octets::{AsOctets, OctetsBuilder, ParseError, Parser, ShortBuf};
@@ -13,9 +13,9 @@ impl<'a> CharStr<&'a [u8]> {
     /// follow the length octet, and the parser is then after that octet.
     pub fn parse(parser: &mut Parser<'a>) -> Result<Self, ParseError>
         ensures value { IfOk result (λ s. rest parser.old ≡ wire_of s ++ rest parser.new) }
-        ensures goes { IfOk result (λ s. parser.new ≡ gone_on (length (wire_of s)) parser.old) }
+        ensures goes { IfOk result (λ s. parser.new ≡ advanced_by (length (wire_of s)) parser.old) }
         ensures refused { OnErr result (BeginsNoWireForm (rest parser.old)) }
-        ensures left { OnErr result (parser.new ≡ gone_on (min 1 (length (rest parser.old))) parser.old) }
+        ensures left { OnErr result (parser.new ≡ advanced_by (min 1 (length (rest parser.old))) parser.old) }
     {
         let len = parser.parse_u8()? as usize;
         let octets = parser.parse_octets(len)?;
@@ -25,9 +25,9 @@ impl<'a> CharStr<&'a [u8]> {
     /// Parses a character string as `parse` does.
     pub fn parse_slice(parser: &mut Parser<'a>) -> Result<Self, ParseError>
         ensures value { IfOk result (λ s. rest parser.old ≡ wire_of s ++ rest parser.new) }
-        ensures goes { IfOk result (λ s. parser.new ≡ gone_on (length (wire_of s)) parser.old) }
+        ensures goes { IfOk result (λ s. parser.new ≡ advanced_by (length (wire_of s)) parser.old) }
         ensures refused { OnErr result (BeginsNoWireForm (rest parser.old)) }
-        ensures left { OnErr result (parser.new ≡ gone_on (min 1 (length (rest parser.old))) parser.old) }
+        ensures left { OnErr result (parser.new ≡ advanced_by (min 1 (length (rest parser.old))) parser.old) }
     {
         Self::parse(parser)
     }
@@ -36,9 +36,9 @@ impl<'a> CharStr<&'a [u8]> {
     /// position.
     pub fn skip(parser: &mut Parser<'a>) -> Result<(), ParseError>
         ensures goes { OnOk result ((s : List ℕ) × (rest parser.old ≡ wire_of s ++ rest parser.new)
-            × (parser.new ≡ gone_on (length (wire_of s)) parser.old)) }
+            × (parser.new ≡ advanced_by (length (wire_of s)) parser.old)) }
         ensures refused { OnErr result (BeginsNoWireForm (rest parser.old)) }
-        ensures left { OnErr result (parser.new ≡ gone_on (min 1 (length (rest parser.old))) parser.old) }
+        ensures left { OnErr result (parser.new ≡ advanced_by (min 1 (length (rest parser.old))) parser.old) }
     {
         let len = parser.parse_u8()? as usize;
         parser.advance(len)
@@ -59,7 +59,7 @@ impl<Octs: AsOctets> CharStr<Octs> {
     /// then unchanged, or has the length octet appended.
     pub fn compose<Target: OctetsBuilder>(&self, target: &mut Target) -> Result<(), ShortBuf>
         ensures ok { OnOk result (Target.octets target.new ≡ Target.octets target.old ++ wire_of self.now) }
-        ensures err { OnErr result (IsLeftByRefusal Target.room self.now (Target.octets target.old) (Target.octets target.new)) }
+        ensures err { OnErr result (IsAfterFailedAppend Target.room self.now (Target.octets target.old) (Target.octets target.new)) }
         ensures fits { length (wire_of self.now) ≤ Target.room.fits - length (Target.octets target.old) → IsOk result }
         ensures within { OnOk result (length (Target.octets target.new) ≤ Target.room.capacity) }
     {

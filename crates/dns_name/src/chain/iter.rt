@@ -62,11 +62,11 @@ impl<'a, N: ToLabelIter> Clone for LabelIter<'a, N> {
 
 impl<'a, N: ToLabelIter> Iterator for LabelIter<'a, N> {
     ghost use Rattle.std.specs.Iterator.{item_count};
-    ghost use Rattle.dns_wire.specs.Takes.{TakesFirst};
+    ghost use Rattle.dns_wire.specs.LabelCalls.{YieldsFirstLabel};
 
     type Item = Label<'a>;
 
-    ghost next_gives = { TakesFirst };
+    ghost next_gives = { YieldsFirstLabel };
 
     ghost remaining = { item_count (λ s. s) };
 
@@ -81,9 +81,9 @@ impl<'a, N: ToLabelIter> Iterator for LabelIter<'a, N> {
 }
 
 impl<'a, N: ToLabelIter> DoubleEndedIterator for LabelIter<'a, N> {
-    ghost use Rattle.dns_wire.specs.Takes.{TakesLast};
+    ghost use Rattle.dns_wire.specs.LabelCalls.{YieldsLastLabel};
 
-    ghost next_back_gives = { TakesLast };
+    ghost next_back_gives = { YieldsLastLabel };
 
     fn next_back(&mut self) -> Option<Label<'a>> {
         if self.front == self.back {

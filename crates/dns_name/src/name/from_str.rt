@@ -1,7 +1,7 @@
 //! Parses names in presentation format.
 ghost use Rattle.std.specs.Prelude.{◌≡◌};
 ghost use Rattle.dns_name.specs.Reading.{is_dot};
-ghost use Rattle.dns_name.specs.ReadingSteps.{TakesSymbol, MakesAbsolute, Finishes};
+ghost use Rattle.dns_name.specs.ReadingSteps.{PushesSymbol, MakesAbsolute, Finishes};
 
 use crate::name::{FromStrError, UncertainName};
 use dns_octets::{AsOctets, AsOctetsMut, EmptyBuilder, FreezeBuilder, FromBuilder, OctetsBuilder};
@@ -19,7 +19,7 @@ fn push_symbol<B: OctetsBuilder + AsOctetsMut>(
     builder: &mut NameBuilder<B>,
     symbol: Symbol,
 ) -> Result<(), FromStrError>
-    ensures { TakesSymbol B.room builder.old symbol result builder.new }
+    ensures { PushesSymbol B.room builder.old symbol result builder.new }
 {
     if symbol == Symbol::SimpleEscape(b'[') && !builder.in_label() {
         return Err(FromStrError::BinaryLabel);

@@ -3,7 +3,7 @@ ghost use Rattle.std.specs.Prelude.{◌≡◌, ◌<◌, ◌⊎◌, length, List,
 ghost use Rattle.std.specs.Fmt.{WritesInCalls};
 ghost use Rattle.dns_symbol.specs.Characters.{space};
 ghost use Rattle.dns_zone.specs.Layout.{Step, begin, comment, line_width};
-ghost use Rattle.dns_zone.specs.Multiline.{MultilineStands, MultilineStep, IndentFits, LinePasses, MultilineFails, WritesLine, multiline_sink, multiline_blocks, MultilineWrites, TakesHidden};
+ghost use Rattle.dns_zone.specs.Multiline.{MultilineFollows, MultilineStep, IndentFits, LinePasses, MultilineFails, WritesLine, multiline_sink, multiline_blocks, MultilineWrites, AcceptsHidden};
 ghost use Rattle.dns_zone.specs.Sinks.{greatest_usize};
 ghost use Rattle.dns_zone.specs.Writers.{TextOnErr, TextOnOk};
 
@@ -38,7 +38,7 @@ pub struct MultiLineWriter<W> {
 impl<W> MultiLineWriter<W> {
     /// Returns a writer over a sink, which has printed nothing yet.
     pub fn new(writer: W) -> MultiLineWriter<W>
-        ensures stands { MultilineStands result [] }
+        ensures stands { MultilineFollows result [] }
         ensures sink { multiline_sink result ≡ writer }
     {
         MultiLineWriter {
@@ -54,7 +54,7 @@ impl<W> MultiLineWriter<W> {
 
     /// Returns the number of bytes after the last line end or shown comment, with its indent.
     pub(crate) fn line_width(&self) -> usize
-        ensures { (past : List Step) → MultilineStands self.now past → result ≡ line_width past }
+        ensures { (past : List Step) → MultilineFollows self.now past → result ≡ line_width past }
     {
         self.line.column.unwrap_or(0)
     }
@@ -147,7 +147,7 @@ impl<W: Sink> FormatWriter for MultiLineWriter<W> {
             (T.output text) }
 
         // A comment that isn't shown writes nothing to the sink.
-        ensures hidden { TakesHidden self.old result }
+        ensures hidden { AcceptsHidden self.old result }
     {
         if let Some(indent) = self.block_indent {
             self.line.writer.put_str(COMMENT_MARK)?;

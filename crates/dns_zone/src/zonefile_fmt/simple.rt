@@ -3,7 +3,7 @@ ghost use Rattle.std.specs.Prelude.{◌≡◌, ◌<◌, ◌↔◌, [], IsOk, OnO
 ghost use Rattle.dns_zone.specs.Layout.{begin, end, comment};
 ghost use Rattle.dns_zone.specs.Sinks.{greatest_usize};
 ghost use Rattle.dns_zone.specs.Writers.{TextOnErr, TextOnOk};
-ghost use Rattle.dns_zone.specs.Simple.{SimpleStands, SimpleStep, SimpleFails, simple_sink, simple_blocks, SimpleWrites};
+ghost use Rattle.dns_zone.specs.Simple.{SimpleFollows, SimpleStep, SimpleFails, simple_sink, simple_blocks, SimpleWrites};
 
 use crate::zonefile_fmt::blocks::Blocks;
 use crate::zonefile_fmt::{FormatWriter, LINE_FEED, Result, SPACE, Sink};
@@ -23,7 +23,7 @@ pub struct SimpleWriter<W> {
 impl<W> SimpleWriter<W> {
     /// Returns a writer over a sink, which has printed nothing yet.
     pub fn new(writer: W) -> SimpleWriter<W>
-        ensures stands { SimpleStands result [] }
+        ensures stands { SimpleFollows result [] }
         ensures sink { simple_sink result ≡ writer }
     {
         SimpleWriter {

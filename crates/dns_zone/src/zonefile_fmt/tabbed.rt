@@ -4,7 +4,7 @@ ghost use Rattle.dns_symbol.specs.Characters.{tab, space};
 ghost use Rattle.dns_zone.specs.Layout.{begin, end, comment};
 ghost use Rattle.dns_zone.specs.Sinks.{greatest_usize};
 ghost use Rattle.dns_zone.specs.Writers.{TextOnErr, TextOnOk};
-ghost use Rattle.dns_zone.specs.Tabbed.{TabbedStands, TabbedStep, TabbedFails, tabbed_sink, tabbed_blocks, TabbedWrites};
+ghost use Rattle.dns_zone.specs.Tabbed.{TabbedFollows, TabbedStep, TabbedFails, tabbed_sink, tabbed_blocks, TabbedWrites};
 
 use crate::zonefile_fmt::blocks::Blocks;
 use crate::zonefile_fmt::{FormatWriter, LINE_FEED, Result, SPACE, Sink, TAB};
@@ -27,7 +27,7 @@ pub struct TabbedWriter<W> {
 impl<W> TabbedWriter<W> {
     /// Returns a writer over a sink, which has printed nothing yet.
     pub fn new(writer: W) -> TabbedWriter<W>
-        ensures stands { TabbedStands result [] }
+        ensures stands { TabbedFollows result [] }
         ensures sink { tabbed_sink result ≡ writer }
     {
         TabbedWriter {

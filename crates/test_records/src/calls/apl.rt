@@ -1,15 +1,15 @@
 //! Items of address prefix lists.
-use super::tell::{Octets, tell, tell_width};
-use dns_kinds::ErrorKind;
-use dns_places::{Prefix, append_prefix, item_width};
-use row_table::{Answer, Failure, Inputs};
+use super::results::{Octets, add_result, add_width};
+use rdata_tails::{Prefix, append_prefix, item_width};
+use rdata_values::ErrorKind;
+use test_support::{Answer, Failure, Inputs};
 
 /// Answers a row: calls what it names.
 pub fn call(name: &str, inputs: &Inputs, answer: &mut Answer) {
     match name {
         "item" => item(inputs.octets(answer), answer),
         "print" => print(inputs.octets(answer), answer),
-        "width" => tell_width(item_width(inputs.octets(answer)), answer),
+        "width" => add_width(item_width(inputs.octets(answer)), answer),
         _ => answer.fail(Failure::NoCall),
     }
 }
@@ -18,7 +18,7 @@ pub fn call(name: &str, inputs: &Inputs, answer: &mut Answer) {
 fn item(text: &[u8], answer: &mut Answer) {
     let mut target: Octets = Vec::new(answer.heap());
     let made = append_prefix(text, &mut target);
-    tell(made, target.as_slice(), answer);
+    add_result(made, target.as_slice(), answer);
 }
 
 /// Adds the item of octets.

@@ -1,8 +1,7 @@
 //! Types as bitmaps.
-use super::tell::{Octets, add_comma, number16, tell};
-use dns_kinds::RecordType;
-use dns_lists::{BitmapTypes, TypeSet, check_bitmap};
-use row_table::{Answer, Failure, Inputs};
+use super::results::{Octets, add_comma, add_result, number16};
+use rdata_values::{BitmapTypes, RecordType, TypeSet, check_bitmap};
+use test_support::{Answer, Failure, Inputs};
 
 /// Answers a row: calls what it names.
 pub fn call(name: &str, inputs: &Inputs, answer: &mut Answer) {
@@ -31,7 +30,7 @@ fn compose(numbers: &[u8], answer: &mut Answer) {
     answer.hold(types.is_empty() == numbers.is_empty());
     let mut target: Octets = Vec::new(answer.heap());
     let made = types.append_to(&mut target);
-    tell(made, target.as_slice(), answer);
+    add_result(made, target.as_slice(), answer);
 }
 
 /// Adds the types of a bitmap, separated by commas, or why octets are not a bitmap.

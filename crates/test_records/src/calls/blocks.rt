@@ -1,11 +1,11 @@
 //! Entries of zone files that arrive in blocks.
-use super::tell::Octets;
-use super::zone::{state_of, tell_not_given, tell_read};
-use dns_fields::RecordError;
-use dns_reader::{EntryRead, State};
-use dns_zonefile::{AddError, BlockReader, BlockRefusal};
-use row_table::input::number_of;
-use row_table::{Answer, Failure, Heap, Inputs};
+use super::results::Octets;
+use super::zone::{add_not_yielded, add_read, state_of};
+use rdata_fields::RecordError;
+use test_support::input::number_of;
+use test_support::{Answer, Failure, Heap, Inputs};
+use zone_reader::{ParsedEntry, State};
+use zone_stream::{AddError, BlockReader, BlockRefusal};
 
 /// The blocks of a text: the length of the first, and of each of the others.
 #[derive(Clone, Copy)]
@@ -91,28 +91,28 @@ fn entries(zone: Zone<'_>, cut: Cut, answer: &mut Answer) {
     let mut state = state_of(zone.origin, answer);
     let mut reader = BlockReader::new(answer.heap(), zone.limit);
     let (first, rest) = zone.text.split_at(cut.first.min(zone.text.len()));
-    if !tell_block(&mut reader, first, &mut state, answer) {
+    if !add_block(&mut reader, first, &mut state, answer) {
         return;
     }
     for block in rest.chunks(cut.each.max(1)) {
-        if !tell_block(&mut reader, block, &mut state, answer) {
+        if !add_block(&mut reader, block, &mut state, answer) {
             return;
         }
     }
     reader.finish();
-    let _whole = tell_given(&mut reader, &mut state, answer);
+    let _whole = add_yielded(&mut reader, &mut state, answer);
 }
 
 /// Adds a block to the reader, and the entries to the answer. Returns whether another block may
 /// follow.
-fn tell_block(
+fn add_block(
     reader: &mut BlockReader<&Heap>,
     block: &[u8],
     state: &mut State,
     answer: &mut Answer,
 ) -> bool {
     match reader.add(block) {
-        Ok(()) => tell_given(reader, state, answer),
+        Ok(()) => add_yielded(reader, state, answer),
         Err(AddError::OutOfMemory) => {
             answer.refuse_text("buffer size exceeded");
             false
@@ -126,7 +126,7 @@ fn tell_block(
 
 /// Adds an entry that is too long, and checks that no entry is returned after it, and no octets are
 /// accepted.
-fn tell_long(reader: &mut BlockReader<&Heap>, state: &mut State, answer: &mut Answer) {
+fn add_long(reader: &mut BlockReader<&Heap>, state: &mut State, answer: &mut Answer) {
     answer.refuse_text("long");
     answer.add_text("|");
     answer.add_number(reader.began());
@@ -145,33 +145,33 @@ pub fn record_error(refusal: BlockRefusal) -> Option<RecordError> {
 }
 
 /// Adds a rejected entry. Returns whether others may follow.
-fn tell_refused(
+fn add_rejected(
     reader: &mut BlockReader<&Heap>,
     state: &mut State,
     refusal: BlockRefusal,
     answer: &mut Answer,
 ) -> bool {
     match record_error(refusal) {
-        Some(error) => tell_not_given(error, answer),
+        Some(error) => add_not_yielded(error, answer),
         None => {
-            tell_long(reader, state, answer);
+            add_long(reader, state, answer);
             false
         }
     }
 }
 
 /// Adds the entries that the reader returns. Returns whether another block may follow.
-fn tell_given(reader: &mut BlockReader<&Heap>, state: &mut State, answer: &mut Answer) -> bool {
+fn add_yielded(reader: &mut BlockReader<&Heap>, state: &mut State, answer: &mut Answer) -> bool {
     for _ in 0..u64::MAX {
         let mut target: Octets = Vec::new(answer.heap());
         let Some(given) = reader.next_entry(state, &mut target) else {
             return true;
         };
         match given {
-            Ok(EntryRead::Nothing) => continue,
-            Ok(read) => tell_read(state, read, target.as_slice(), answer),
+            Ok(ParsedEntry::Nothing) => continue,
+            Ok(read) => add_read(state, read, target.as_slice(), answer),
             Err(refusal) => {
-                if !tell_refused(reader, state, refusal, answer) {
+                if !add_rejected(reader, state, refusal, answer) {
                     return false;
                 }
             }

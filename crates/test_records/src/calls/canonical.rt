@@ -1,19 +1,19 @@
 //! The canonical form and order of names, data and records.
 ghost use Rattle.std.specs.Prelude.{IfSome};
-ghost use Rattle.dns_spelling.specs.NameSpelling.{IsWireName};
+ghost use Rattle.rdata_tokens.specs.NameSpelling.{IsWireName};
 
 use super::fields::fields_of;
-use super::tell::{Octets, number16, tell};
-use dns_canonical::{
+use super::results::{Octets, add_result, number16};
+use dns_octets::ShortBuf;
+use rdata_fields::RecordRef;
+use rdata_tokens::name_width;
+use rdata_values::{Class, RecordType};
+use std::cmp::Ordering;
+use test_support::{Answer, Failure, Inputs};
+use zone_record::{
     append_canonical_fields, append_lowered, compare_keys, compare_names, compare_octets,
     compare_records, lowers_names, push_order_key,
 };
-use dns_fields::RecordRef;
-use dns_kinds::{Class, RecordType};
-use dns_octets::ShortBuf;
-use dns_spelling::name_width;
-use row_table::{Answer, Failure, Inputs};
-use std::cmp::Ordering;
 
 /// Answers a row: calls what it names.
 pub fn call(name: &str, inputs: &Inputs, answer: &mut Answer) {
@@ -32,7 +32,7 @@ pub fn call(name: &str, inputs: &Inputs, answer: &mut Answer) {
 }
 
 /// Adds an order.
-pub fn tell_order(order: Ordering, answer: &mut Answer) {
+pub fn add_order(order: Ordering, answer: &mut Answer) {
     answer.add_text(match order {
         Ordering::Less => "less",
         Ordering::Equal => "equal",
@@ -59,7 +59,7 @@ fn names((left, right): (&[u8], &[u8]), answer: &mut Answer) {
     let Some(right) = name_of(right) else {
         return answer.fail(Failure::BadInputs);
     };
-    tell_order(compare_names(left, right), answer);
+    add_order(compare_names(left, right), answer);
 }
 
 /// Returns the order key of a name. If it has none, the reason is added to the answer.
@@ -97,7 +97,7 @@ fn keys((left, right): (&[u8], &[u8]), answer: &mut Answer) {
         right.as_slice().get(1..).unwrap_or(&[]),
     );
     answer.hold(order == below_root);
-    tell_order(order, answer);
+    add_order(order, answer);
 }
 
 /// Adds whether a name is another or below it: whether its key begins with the other's.
@@ -115,12 +115,12 @@ fn within((name, top): (&[u8], &[u8]), answer: &mut Answer) {
 fn lower(octets: &[u8], answer: &mut Answer) {
     let mut target: Octets = Vec::new(answer.heap());
     let made = append_lowered(octets, &mut target);
-    tell(made, target.as_slice(), answer);
+    add_result(made, target.as_slice(), answer);
 }
 
 /// Adds the order of data of one type.
 fn octets((left, right): (&[u8], &[u8]), answer: &mut Answer) {
-    tell_order(compare_octets(left, right), answer);
+    add_order(compare_octets(left, right), answer);
 }
 
 /// Adds the canonical form of data that begins with fields, whose kinds are separated by commas.
@@ -128,7 +128,7 @@ fn data((kinds, octets): (&[u8], &[u8]), answer: &mut Answer) {
     let fields = fields_of(kinds, answer);
     let mut target: Octets = Vec::new(answer.heap());
     let made = append_canonical_fields(fields.as_slice(), octets, &mut target);
-    tell(made, target.as_slice(), answer);
+    add_result(made, target.as_slice(), answer);
 }
 
 /// Adds whether the names in data of a type are lowered.
@@ -162,5 +162,5 @@ fn records(inputs: &[Vec<u8>], answer: &mut Answer) {
         rtype: RecordType(number16(g.as_slice(), answer)),
         data: h.as_slice(),
     };
-    tell_order(compare_records(&left, &right), answer);
+    add_order(compare_records(&left, &right), answer);
 }

@@ -1,7 +1,7 @@
 //! Classes, which no field has.
-use super::tell::number16;
-use dns_kinds::Class;
-use row_table::{Answer, Failure, Inputs};
+use super::results::number16;
+use rdata_values::Class;
+use test_support::{Answer, Failure, Inputs};
 
 /// Answers a row: calls what it names.
 pub fn call(name: &str, inputs: &Inputs, answer: &mut Answer) {

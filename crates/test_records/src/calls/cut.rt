@@ -1,14 +1,13 @@
 //! Zone files that are cut into parts.
 use super::blocks::record_error;
-use super::tell::Octets;
-use super::zone::{state_of, tell_not_given};
-use dns_fields::RecordRef;
-use dns_kinds::Class;
-use dns_reader::{EntryRead, RecordReader, State};
-use dns_zonefile::BlockReader;
-use row_table::input::number_of;
-use row_table::{Answer, Failure, Heap, Inputs};
-use zone_cut::{CutError, Cutter};
+use super::results::Octets;
+use super::zone::{add_not_yielded, state_of};
+use rdata_fields::RecordRef;
+use rdata_values::Class;
+use test_support::input::number_of;
+use test_support::{Answer, Failure, Heap, Inputs};
+use zone_reader::{ParsedEntry, RecordReader, State};
+use zone_stream::{BlockReader, CutError, Cutter};
 
 /// The error of an allocation that fails.
 const SHORT: &str = "buffer size exceeded";
@@ -44,7 +43,7 @@ pub fn cut(inputs: &Inputs, answer: &mut Answer) {
     if !fill(&mut parts, cutter, text, state, answer) {
         return;
     }
-    tell_parts(&parts, answer);
+    add_parts(&parts, answer);
     if !repeats_soa(soa.as_slice()) {
         check_records(&parts, text, origin, answer);
     }
@@ -56,15 +55,15 @@ fn repeats_soa(word: &[u8]) -> bool {
 }
 
 /// Adds the error of an allocation that fails.
-fn tell_short(answer: &mut Answer) -> bool {
+fn add_short(answer: &mut Answer) -> bool {
     answer.refuse_text(SHORT);
     false
 }
 
 /// Adds why a part can't begin. Returns false.
-fn tell_cut_error(error: CutError, answer: &mut Answer) -> bool {
+fn add_cut_error(error: CutError, answer: &mut Answer) -> bool {
     match error {
-        CutError::OutOfMemory => tell_short(answer),
+        CutError::OutOfMemory => add_short(answer),
         _ => {
             answer.refuse(&error);
             false
@@ -108,7 +107,7 @@ fn fill<'a>(
 ) -> bool {
     let mut reader = BlockReader::new(answer.heap(), usize::MAX);
     if reader.add(text).is_err() {
-        return tell_short(answer);
+        return add_short(answer);
     }
     reader.finish();
     for _ in 0..u64::MAX {
@@ -117,14 +116,14 @@ fn fill<'a>(
             break;
         };
         let read = match given {
-            Ok(EntryRead::Include { .. }) => {
+            Ok(ParsedEntry::Include { .. }) => {
                 answer.refuse_text("include");
                 return false;
             }
             Ok(read) => read,
             Err(refusal) => {
                 if let Some(error) = record_error(refusal) {
-                    let _memory = tell_not_given(error, answer);
+                    let _memory = add_not_yielded(error, answer);
                 }
                 return false;
             }
@@ -138,21 +137,21 @@ fn fill<'a>(
                 if !parts.fill_up(text, reader.began())
                     || !parts.begin(lines.as_str(), reader.place())
                 {
-                    return tell_short(answer);
+                    return add_short(answer);
                 }
             }
             Ok(false) => {}
-            Err(error) => return tell_cut_error(error, answer),
+            Err(error) => return add_cut_error(error, answer),
         }
     }
     if parts.fill_up(text, text.len()) {
         return true;
     }
-    tell_short(answer)
+    add_short(answer)
 }
 
 /// Adds the parts, each after a bar.
-fn tell_parts(parts: &Parts<'_>, answer: &mut Answer) {
+fn add_parts(parts: &Parts<'_>, answer: &mut Answer) {
     for number in 0..parts.starts.len() {
         answer.add_text("|");
         answer.add(parts.part(number));
@@ -160,7 +159,7 @@ fn tell_parts(parts: &Parts<'_>, answer: &mut Answer) {
 }
 
 /// Adds a record in full.
-fn tell_record(record: &RecordRef<'_>, answer: &mut Answer) {
+fn add_record(record: &RecordRef<'_>, answer: &mut Answer) {
     answer.add(record.owner);
     answer.add_number(usize::try_from(record.ttl).unwrap_or(0));
     answer.add_text("|");
@@ -172,7 +171,7 @@ fn tell_record(record: &RecordRef<'_>, answer: &mut Answer) {
 }
 
 /// Adds the records of a text in full. Returns whether memory sufficed.
-fn tell_records(text: &[u8], state: State, answer: &mut Answer) -> bool {
+fn add_records(text: &[u8], state: State, answer: &mut Answer) -> bool {
     let mut reader = RecordReader::new(text, state);
     for _ in 0..=text.len() {
         let mut data: Octets = Vec::new(answer.heap());
@@ -182,14 +181,14 @@ fn tell_records(text: &[u8], state: State, answer: &mut Answer) -> bool {
         let read = match given {
             Ok(read) => read,
             Err(error) => {
-                if !tell_not_given(error, answer) {
+                if !add_not_yielded(error, answer) {
                     return false;
                 }
                 continue;
             }
         };
         match reader.state.record(&read, data.as_slice()) {
-            Some(record) => tell_record(&record, answer),
+            Some(record) => add_record(&record, answer),
             None => answer.add_text("no record"),
         }
     }
@@ -200,13 +199,13 @@ fn tell_records(text: &[u8], state: State, answer: &mut Answer) -> bool {
 fn check_records(parts: &Parts<'_>, text: &[u8], origin: &[Vec<u8>], answer: &mut Answer) {
     let mut whole = answer.another();
     let mut row = answer.another();
-    if !tell_records(text, state_of(origin, answer), &mut whole) {
-        let _short = tell_short(answer);
+    if !add_records(text, state_of(origin, answer), &mut whole) {
+        let _short = add_short(answer);
         return;
     }
     for number in 0..parts.starts.len() {
-        if !tell_records(parts.part(number), State::new(Class::IN), &mut row) {
-            let _short = tell_short(answer);
+        if !add_records(parts.part(number), State::new(Class::IN), &mut row) {
+            let _short = add_short(answer);
             return;
         }
     }

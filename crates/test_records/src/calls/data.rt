@@ -1,13 +1,13 @@
 //! Record data by the type of the record.
-use super::tell::{Octets, origin_of};
-use dns_data::{Shape, check_data, field_text, read_type, type_row, write_data};
-use dns_fields::{FieldName, RecordError, TokenList};
-use dns_kinds::{ErrorKind, RecordType};
-use dns_split::entry_tokens::{EntryToken, EntryTokens};
+use super::results::{Octets, origin_of};
+use dns_lexer::entry_tokens::{EntryToken, EntryTokens};
 use dns_wire::Name;
 use dns_zone::zonefile_fmt::SimpleWriter;
-use row_table::{Answer, Failure, Inputs};
+use rdata::{Shape, check_data, field_text, read_type, type_row, write_data};
+use rdata_fields::{FieldName, RecordError, TokenList};
+use rdata_values::{ErrorKind, RecordType};
 use std::fmt;
+use test_support::{Answer, Failure, Inputs};
 
 /// The origin of rows without one: `example.`.
 const ORIGIN: &[u8] = b"\x07example\x00";
@@ -52,7 +52,7 @@ impl fmt::Display for Shown<'_> {
 }
 
 /// Adds the text as which data of a type is printed.
-fn tell_printed(rtype: RecordType, octets: &[u8], answer: &mut Answer) {
+fn add_printed(rtype: RecordType, octets: &[u8], answer: &mut Answer) {
     match type_row(rtype) {
         Some(row) => answer.add_shown(&Shown {
             shape: row.shape(),
@@ -63,23 +63,23 @@ fn tell_printed(rtype: RecordType, octets: &[u8], answer: &mut Answer) {
 }
 
 /// Adds the result for data that was parsed.
-fn tell_read(wanted: Wanted, rtype: RecordType, octets: &[u8], answer: &mut Answer) {
+fn add_read(wanted: Wanted, rtype: RecordType, octets: &[u8], answer: &mut Answer) {
     match wanted {
-        Wanted::Text => tell_printed(rtype, octets, answer),
+        Wanted::Text => add_printed(rtype, octets, answer),
         _ => answer.add(octets),
     }
 }
 
 /// Adds the result for an error.
-fn tell_refusal(wanted: Wanted, error: RecordError, answer: &mut Answer) {
+fn add_error(wanted: Wanted, error: RecordError, answer: &mut Answer) {
     match wanted {
-        Wanted::Why => tell_why(error, answer),
-        _ => tell_refused(error, answer),
+        Wanted::Why => add_why(error, answer),
+        _ => add_rejected(error, answer),
     }
 }
 
 /// Adds that an entry is rejected, or that memory is out.
-pub fn tell_refused(error: RecordError, answer: &mut Answer) {
+pub fn add_rejected(error: RecordError, answer: &mut Answer) {
     match error.kind {
         ErrorKind::ShortBuf => answer.refuse(&error),
         _ => answer.refuse_text("refused"),
@@ -109,7 +109,7 @@ impl fmt::Display for Why {
 }
 
 /// Adds why data is rejected, and the offset, or that memory is out.
-fn tell_why(error: RecordError, answer: &mut Answer) {
+fn add_why(error: RecordError, answer: &mut Answer) {
     match error.kind {
         ErrorKind::ShortBuf => answer.refuse(&error),
         _ => {
@@ -138,7 +138,7 @@ fn read(inputs: &[Vec<u8>], wanted: Wanted, answer: &mut Answer) {
     let mut source = TokenList::new(tokens.as_slice(), text.len());
     let mut target: Octets = Vec::new(answer.heap());
     match read_type(rtype, origin.as_ref(), &mut source, &mut target) {
-        Ok(()) => tell_read(wanted, rtype, target.as_slice(), answer),
-        Err(error) => tell_refusal(wanted, error, answer),
+        Ok(()) => add_read(wanted, rtype, target.as_slice(), answer),
+        Err(error) => add_error(wanted, error, answer),
     }
 }

@@ -1,12 +1,12 @@
 //! Octets in digits, and the lengths of hashes, salts and digests.
-use super::tell::{Octets, number8, tell, tell_width};
-use dns_digits::{
+use super::results::{Octets, add_result, add_width, number8};
+use rdata_tokens::{
     Digests, DigitsKind, DigitsReader, append_base32hex, append_base64, append_hex, hash_width,
     is_digest_length, salt_width,
 };
-use dns_kinds::ErrorKind;
-use row_table::input::number_of;
-use row_table::{Answer, Failure, Inputs};
+use rdata_values::ErrorKind;
+use test_support::input::number_of;
+use test_support::{Answer, Failure, Inputs};
 
 /// Answers a row: calls what it names.
 pub fn call(name: &str, inputs: &Inputs, answer: &mut Answer) {
@@ -14,8 +14,8 @@ pub fn call(name: &str, inputs: &Inputs, answer: &mut Answer) {
         "hex" => pieces(DigitsKind::Hex, inputs.all(), answer),
         "base64" => pieces(DigitsKind::Base64, inputs.all(), answer),
         "base32hex" => hash(inputs.octets(answer), answer),
-        "hash_width" => tell_width(hash_width(inputs.octets(answer)), answer),
-        "salt_width" => tell_width(salt_width(inputs.octets(answer)), answer),
+        "hash_width" => add_width(hash_width(inputs.octets(answer)), answer),
+        "salt_width" => add_width(salt_width(inputs.octets(answer)), answer),
         "digest" => digest(inputs.all(), answer),
         _ => answer.fail(Failure::NoCall),
     }
@@ -34,7 +34,7 @@ fn take(kind: DigitsKind, pieces: &[Vec<u8>], target: &mut Octets<'_>) -> Result
 fn pieces(kind: DigitsKind, pieces: &[Vec<u8>], answer: &mut Answer) {
     let mut target: Octets = Vec::new(answer.heap());
     let made = take(kind, pieces, &mut target);
-    tell(made, target.as_slice(), answer);
+    add_result(made, target.as_slice(), answer);
     if let [piece] = pieces {
         let mut other = answer.another();
         token(kind, piece.as_slice(), &mut other);
@@ -49,14 +49,14 @@ fn token(kind: DigitsKind, text: &[u8], answer: &mut Answer) {
         DigitsKind::Hex => append_hex(text, &mut target),
         DigitsKind::Base64 => append_base64(text, &mut target),
     };
-    tell(made, target.as_slice(), answer);
+    add_result(made, target.as_slice(), answer);
 }
 
 /// Adds the octets of a hash after its length.
 fn hash(text: &[u8], answer: &mut Answer) {
     let mut target: Octets = Vec::new(answer.heap());
     let made = append_base32hex(text, &mut target);
-    tell(made, target.as_slice(), answer);
+    add_result(made, target.as_slice(), answer);
 }
 
 /// Returns the list of digests with a name.

@@ -1,10 +1,10 @@
 //! Fields that are one token.
 use super::kind::field_of;
-use super::tell::{Octets, origin_of, tell, tell_width};
-use dns_fields::{Field, append_field, field_width, write_field};
-use dns_split::entry_tokens::EntryToken;
-use row_table::{Answer, Failure, Inputs};
+use super::results::{Octets, add_result, add_width, origin_of};
+use dns_lexer::entry_tokens::EntryToken;
+use rdata_fields::{Field, append_field, field_width, write_field};
 use std::fmt;
+use test_support::{Answer, Failure, Inputs};
 
 /// Answers a row: calls what it names.
 pub fn call(name: &str, inputs: &Inputs, answer: &mut Answer) {
@@ -27,18 +27,18 @@ fn read(is_quoted: bool, inputs: &[Vec<u8>], answer: &mut Answer) {
     let token = EntryToken {
         text: text.as_slice(),
         is_quoted,
-        is_glued: false,
+        is_adjacent: false,
         at: 0,
     };
     let mut target: Octets = Vec::new(answer.heap());
     let made = append_field(field, &token, origin.as_ref(), &mut target);
-    tell(made, target.as_slice(), answer);
+    add_result(made, target.as_slice(), answer);
 }
 
 /// Adds the number of octets of the field with which octets begin.
 fn width((kind, octets): (&[u8], &[u8]), answer: &mut Answer) {
     let field = field_of(kind, answer);
-    tell_width(field_width(field, octets), answer);
+    add_width(field_width(field, octets), answer);
 }
 
 /// The field with which octets begin, printed as its token.

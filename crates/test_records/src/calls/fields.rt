@@ -1,9 +1,9 @@
 //! Fields over the tokens of an entry.
 use super::kind::field_of;
-use super::tell::{Octets, origin_of};
-use dns_fields::{Field, RecordError, TokenList, TokenSource, take_each, take_fields};
-use dns_split::entry_tokens::{EntryToken, EntryTokens};
-use row_table::{Answer, Failure, Inputs};
+use super::results::{Octets, origin_of};
+use dns_lexer::entry_tokens::{EntryToken, EntryTokens};
+use rdata_fields::{Field, RecordError, TokenList, TokenSource, parse_each, parse_fields};
+use test_support::{Answer, Failure, Inputs};
 
 /// Answers a row: calls what it names.
 pub fn call(name: &str, inputs: &Inputs, answer: &mut Answer) {
@@ -40,14 +40,14 @@ pub fn tokens_of<'t>(text: &'t [u8], answer: &mut Answer) -> Vec<EntryToken<'t>>
 }
 
 /// Adds the octets of fields, a bar, and the offset of the next token or of the end.
-fn tell_taken(target: &[u8], place: usize, answer: &mut Answer) {
+fn add_parsed(target: &[u8], place: usize, answer: &mut Answer) {
     answer.add(target);
     answer.add_text("|");
     answer.add_number(place);
 }
 
 /// Adds why a token is rejected, a bar, and its offset.
-fn tell_refusal(error: RecordError, answer: &mut Answer) {
+fn add_error(error: RecordError, answer: &mut Answer) {
     answer.refuse(&error);
     answer.add_text("|");
     answer.add_number(error.offset);
@@ -63,11 +63,11 @@ fn take(inputs: &[Vec<u8>], answer: &mut Answer) {
     let origin = origin_of(origin, answer);
     let mut source = TokenList::new(tokens.as_slice(), text.len());
     let mut target: Octets = Vec::new(answer.heap());
-    match take_fields(fields.as_slice(), origin.as_ref(), &mut source, &mut target) {
-        Ok(_) => tell_taken(target.as_slice(), source.place(), answer),
+    match parse_fields(fields.as_slice(), origin.as_ref(), &mut source, &mut target) {
+        Ok(_) => add_parsed(target.as_slice(), source.place(), answer),
         Err(error) => {
             let field = error.field;
-            tell_refusal(error, answer);
+            add_error(error, answer);
             if let Some(field) = field {
                 answer.add_text("|");
                 answer.add_number(field.0);
@@ -86,8 +86,8 @@ fn each(inputs: &[Vec<u8>], answer: &mut Answer) {
     let origin = origin_of(origin, answer);
     let mut source = TokenList::new(tokens.as_slice(), text.len());
     let mut target: Octets = Vec::new(answer.heap());
-    match take_each(field, origin.as_ref(), &mut source, &mut target) {
-        Ok(()) => tell_taken(target.as_slice(), source.place(), answer),
-        Err(error) => tell_refusal(error, answer),
+    match parse_each(field, origin.as_ref(), &mut source, &mut target) {
+        Ok(()) => add_parsed(target.as_slice(), source.place(), answer),
+        Err(error) => add_error(error, answer),
     }
 }

@@ -1,8 +1,8 @@
 //! Gateways that are not names.
-use super::tell::{Octets, number8, tell};
-use dns_kinds::ErrorKind;
-use dns_places::Gateway;
-use row_table::{Answer, Failure, Inputs};
+use super::results::{Octets, add_result, number8};
+use rdata_tails::Gateway;
+use rdata_values::ErrorKind;
+use test_support::{Answer, Failure, Inputs};
 
 /// Answers a row: calls what it names.
 pub fn call(name: &str, inputs: &Inputs, answer: &mut Answer) {
@@ -25,7 +25,7 @@ fn append(number: u8, text: &[u8], target: &mut Octets<'_>) -> Result<(), ErrorK
 fn octets(number: u8, text: &[u8], answer: &mut Answer) {
     let mut target: Octets = Vec::new(answer.heap());
     let made = append(number, text, &mut target);
-    tell(made, target.as_slice(), answer);
+    add_result(made, target.as_slice(), answer);
 }
 
 /// Adds the gateway with which octets begin.

@@ -1,10 +1,12 @@
 //! Headers of entries: the meaning of an entry's first tokens.
-use super::tell::Octets;
-use dns_fields::{RecordError, TokenList, TokenSource};
-use dns_heads::{Directive, take_default_ttl, take_directive, take_end, take_file, take_words};
-use dns_kinds::Class;
-use dns_split::entry_tokens::{EntryToken, EntryTokens};
-use row_table::{Answer, Failure, Inputs};
+use super::results::Octets;
+use dns_lexer::entry_tokens::{EntryToken, EntryTokens};
+use rdata_fields::{RecordError, TokenList, TokenSource};
+use rdata_values::Class;
+use test_support::{Answer, Failure, Inputs};
+use zone_reader::{
+    Directive, parse_default_ttl, parse_directive, parse_end, parse_file_name, parse_header,
+};
 
 /// Answers a row: calls what it names.
 pub fn call(name: &str, inputs: &Inputs, answer: &mut Answer) {
@@ -15,7 +17,7 @@ pub fn call(name: &str, inputs: &Inputs, answer: &mut Answer) {
 }
 
 /// Adds a number, or `none`.
-fn tell_said(said: Option<usize>, answer: &mut Answer) {
+fn add_declared(said: Option<usize>, answer: &mut Answer) {
     match said {
         Some(number) => answer.add_number(number),
         None => answer.add_text("none"),
@@ -31,21 +33,21 @@ fn tell_token(token: Option<EntryToken<'_>>, answer: &mut Answer) {
 }
 
 /// Adds a TTL and a class.
-fn tell_head(ttl: Option<u32>, class: Option<Class>, answer: &mut Answer) {
+fn add_header(ttl: Option<u32>, class: Option<Class>, answer: &mut Answer) {
     answer.add_text("|");
     match ttl {
-        Some(ttl) => tell_said(usize::try_from(ttl).ok(), answer),
-        None => tell_said(None, answer),
+        Some(ttl) => add_declared(usize::try_from(ttl).ok(), answer),
+        None => add_declared(None, answer),
     }
     answer.add_text("|");
     match class {
-        Some(class) => tell_said(Some(usize::from(class.0)), answer),
-        None => tell_said(None, answer),
+        Some(class) => add_declared(Some(usize::from(class.0)), answer),
+        None => add_declared(None, answer),
     }
 }
 
 /// Adds why a token is rejected, and its offset.
-fn tell_refusal(error: &RecordError, answer: &mut Answer) {
+fn add_error(error: &RecordError, answer: &mut Answer) {
     answer.refuse(error);
     answer.add_text("|");
     answer.add_number(error.offset);
@@ -53,30 +55,30 @@ fn tell_refusal(error: &RecordError, answer: &mut Answer) {
 
 /// Adds a record: its owner, TTL, class and type, and the offset of its data.
 fn record(owner: Option<EntryToken<'_>>, source: &mut TokenList<'_>, answer: &mut Answer) {
-    match take_words(source) {
+    match parse_header(source) {
         Ok(words) => {
             tell_token(owner, answer);
-            tell_head(words.ttl, words.class, answer);
+            add_header(words.ttl, words.class, answer);
             answer.add_text("|");
             answer.add_number(usize::from(words.rtype.0));
             answer.add_text("|");
             answer.add_number(source.place());
         }
         Err(refusal) => {
-            tell_refusal(&refusal.error, answer);
-            tell_head(refusal.ttl, refusal.class, answer);
+            add_error(&refusal.error, answer);
+            add_header(refusal.ttl, refusal.class, answer);
         }
     }
 }
 
 /// Adds `$TTL`, and the seconds.
 fn default_ttl(source: &mut TokenList<'_>, answer: &mut Answer) {
-    match take_default_ttl(source) {
+    match parse_default_ttl(source) {
         Ok(ttl) => {
             answer.add_text("ttl ");
-            tell_said(usize::try_from(ttl).ok(), answer);
+            add_declared(usize::try_from(ttl).ok(), answer);
         }
-        Err(error) => tell_refusal(&error, answer),
+        Err(error) => add_error(&error, answer),
     }
 }
 
@@ -85,32 +87,32 @@ fn origin(name: Option<EntryToken<'_>>, source: &mut TokenList<'_>, answer: &mut
     if name.is_some() {
         source.advance();
     }
-    match take_end(source) {
+    match parse_end(source) {
         Ok(()) => {
             answer.add_text("origin ");
             tell_token(name, answer);
         }
-        Err(error) => tell_refusal(&error, answer),
+        Err(error) => add_error(&error, answer),
     }
 }
 
 /// Adds `$INCLUDE`, its file, and the token of an origin.
 fn include(origin: Option<EntryToken<'_>>, source: &mut TokenList<'_>, answer: &mut Answer) {
     let mut file: Octets = Vec::new(answer.heap());
-    if let Err(error) = take_file(source, &mut file) {
-        return tell_refusal(&error, answer);
+    if let Err(error) = parse_file_name(source, &mut file) {
+        return add_error(&error, answer);
     }
     if origin.is_some() {
         source.advance();
     }
-    match take_end(source) {
+    match parse_end(source) {
         Ok(()) => {
             answer.add_text("include ");
             answer.add(file.as_slice());
             answer.add_text("|");
             tell_token(origin, answer);
         }
-        Err(error) => tell_refusal(&error, answer),
+        Err(error) => add_error(&error, answer),
     }
 }
 
@@ -123,7 +125,7 @@ fn read(text: &[u8], answer: &mut Answer) {
     };
     let tokens = tokens.as_slice();
     let mut source = TokenList::new(tokens, text.len());
-    match take_directive(end.begins_blank, &mut source) {
+    match parse_directive(end.begins_blank, &mut source) {
         Ok(Some(Directive::Origin)) => origin(tokens.get(1).copied(), &mut source, answer),
         Ok(Some(Directive::Ttl)) => default_ttl(&mut source, answer),
         Ok(Some(Directive::Include)) => include(tokens.get(2).copied(), &mut source, answer),
@@ -132,6 +134,6 @@ fn read(text: &[u8], answer: &mut Answer) {
             source.advance();
             record(tokens.first().copied(), &mut source, answer);
         }
-        Err(error) => tell_refusal(&error, answer),
+        Err(error) => add_error(&error, answer),
     }
 }

@@ -1,6 +1,6 @@
 //! The names of kinds of fields in rows.
-use dns_fields::Field;
-use row_table::{Answer, Failure};
+use rdata_fields::Field;
+use test_support::{Answer, Failure};
 
 /// Returns the kind of a number or an address with a name.
 fn number_kind(name: &[u8]) -> Option<Field> {

@@ -1,7 +1,7 @@
 //! Lists of strings as one text.
-use super::tell::{Octets, tell};
-use dns_lists::{append_list, append_list_text};
-use row_table::{Answer, Failure, Inputs};
+use super::results::{Octets, add_result};
+use rdata_svcb::{append_list, append_list_text};
+use test_support::{Answer, Failure, Inputs};
 
 /// Answers a row: calls what it names.
 pub fn call(name: &str, inputs: &Inputs, answer: &mut Answer) {
@@ -16,12 +16,12 @@ pub fn call(name: &str, inputs: &Inputs, answer: &mut Answer) {
 fn read(text: &[u8], answer: &mut Answer) {
     let mut target: Octets = Vec::new(answer.heap());
     let made = append_list(text, &mut target);
-    tell(made, target.as_slice(), answer);
+    add_result(made, target.as_slice(), answer);
 }
 
 /// Adds the text of strings.
 fn print(octets: &[u8], answer: &mut Answer) {
     let mut target: Octets = Vec::new(answer.heap());
     let made = append_list_text(octets, &mut target);
-    tell(made, target.as_slice(), answer);
+    add_result(made, target.as_slice(), answer);
 }

@@ -1,12 +1,12 @@
 //! Locations.
 use super::fields::tokens_of;
-use super::tell::Octets;
-use dns_fields::{RecordError, TokenList};
+use super::results::Octets;
+use dns_lexer::entry_tokens::EntryToken;
 use dns_octets::OctetsBuilder;
-use dns_places::{LocationWord, is_location, location_words, take_location};
-use dns_split::entry_tokens::EntryToken;
-use row_table::{Answer, Failure, Inputs};
+use rdata_fields::{RecordError, TokenList};
+use rdata_tails::{LocationWord, is_location, location_words, parse_location};
 use std::fmt;
+use test_support::{Answer, Failure, Inputs};
 
 /// Answers a row: calls what it names.
 pub fn call(name: &str, inputs: &Inputs, answer: &mut Answer) {
@@ -24,7 +24,7 @@ fn take<B: OctetsBuilder>(
     target: &mut B,
 ) -> Result<(), RecordError> {
     let mut source = TokenList::new(tokens, end);
-    take_location(&mut source, target)
+    parse_location(&mut source, target)
 }
 
 /// Adds the octets of the location that a text spells; or why it doesn't spell one, a bar, and the
@@ -67,7 +67,7 @@ fn spells(text: &[u8], octets: &[u8], answer: &mut Answer) -> bool {
 }
 
 /// Adds the text of the words of a location, and checks that it spells the location.
-fn tell_words(words: &[LocationWord], octets: &[u8], answer: &mut Answer) {
+fn add_words(words: &[LocationWord], octets: &[u8], answer: &mut Answer) {
     let shown = Shown(words);
     answer.add_shown(&shown);
     match shown.to_string(answer.alloc()) {
@@ -84,7 +84,7 @@ fn print(octets: &[u8], answer: &mut Answer) {
     let words = location_words(octets);
     answer.hold(is_location(octets) == words.is_some());
     match words {
-        Some(words) => tell_words(words.as_slice(), octets, answer),
+        Some(words) => add_words(words.as_slice(), octets, answer),
         None => answer.add_text("none"),
     }
 }

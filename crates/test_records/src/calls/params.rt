@@ -1,11 +1,11 @@
 //! Service parameters as octets.
+use super::results::{Octets, add_comma, add_result, number16};
 use super::service;
-use super::tell::{Octets, add_comma, number16, tell};
-use dns_kinds::ErrorKind;
-use dns_lists::{Params, check_params, settle_last};
 use dns_octets::{OctetsBuilder, ShortBuf};
-use row_table::{Answer, Failure, Inputs};
+use rdata_svcb::{Params, check_params, settle_last};
+use rdata_values::ErrorKind;
 use std::fmt;
+use test_support::{Answer, Failure, Inputs};
 
 /// Answers a row: calls what it names.
 pub fn call(name: &str, inputs: &Inputs, answer: &mut Answer) {
@@ -43,7 +43,7 @@ impl fmt::Display for KeyFault {
 
 /// Adds whether octets are parameters.
 fn check(octets: &[u8], answer: &mut Answer) {
-    tell(check_params(octets).map_err(KeyFault), b"ok", answer);
+    add_result(check_params(octets).map_err(KeyFault), b"ok", answer);
 }
 
 /// Adds parameters as `KEY=VALUE`, separated by commas.

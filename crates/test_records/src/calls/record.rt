@@ -1,15 +1,15 @@
 //! Records, and their data as values.
-use super::data::tell_refused;
-use super::tell::{Octets, number16};
-use dns_fields::TokenList;
-use dns_kinds::{Class, RecordType};
-use dns_resource::{Data, Record, data_of_tokens};
-use dns_split::entry_tokens::{EntryToken, EntryTokens};
+use super::data::add_rejected;
+use super::results::{Octets, number16};
+use dns_lexer::entry_tokens::{EntryToken, EntryTokens};
 use dns_wire::Name;
 use dns_zone::zonefile_fmt::{DisplayKind, ZonefileFmt};
-use row_table::input::number_of;
-use row_table::{Answer, Failure, Inputs};
+use rdata_fields::TokenList;
+use rdata_values::{Class, RecordType};
 use std::cmp::Ordering;
+use test_support::input::number_of;
+use test_support::{Answer, Failure, Inputs};
+use zone_record::{Data, Record, data_of_tokens};
 
 /// The origin of all rows: `example.`.
 const ORIGIN: &[u8] = b"\x07example\x00";
@@ -51,7 +51,7 @@ fn data_of<'a>(kind: &[u8], text: &[u8], answer: &mut Answer<'a>) -> Option<Data
     match data_of_tokens::<_, _, Octets<'a>>(answer.heap(), rtype, origin.as_ref(), &mut source) {
         Ok(data) => Some(data),
         Err(error) => {
-            tell_refused(error, answer);
+            add_rejected(error, answer);
             None
         }
     }

@@ -1,18 +1,18 @@
 //! Findings of zones.
-use super::tell::{Octets, number16, origin_of};
+use super::results::{Octets, number16, origin_of};
 use super::zone::state_of;
-use dns_fields::RecordError;
-use dns_kinds::{Class, ErrorKind};
 use dns_octets::ShortBuf;
-use dns_reader::{EntryRead, RecordReader, State};
-use dns_resource::{Data, Record};
-use dns_spelling::NameText;
 use dns_wire::Name;
-use row_table::{Answer, Failure, Heap};
+use rdata_fields::RecordError;
+use rdata_tokens::NameText;
+use rdata_values::{Class, ErrorKind};
 use std::alloc::{AllocError, Allocator};
 use std::slice;
+use test_support::{Answer, Failure, Heap};
 use zone_dnssec::nsec3_hash::{hash_name, hashed_name};
 use zone_dnssec::{SecurityFinding, Times, check_signed};
+use zone_reader::{ParsedEntry, RecordReader, State};
+use zone_record::{Data, Record};
 use zone_rules::names::view;
 use zone_rules::{Finding, RrsetName, SortedRecords, SortedSets, check_zone};
 
@@ -48,12 +48,12 @@ fn record_of<'a>(
 /// Appends the record of an entry that was read, if it is one. Returns whether reading continues.
 fn add_record<'a>(
     state: &State,
-    read: EntryRead,
+    read: ParsedEntry,
     octets: Octets<'a>,
     records: &mut Vec<HeapRecord<'a>, &'a Heap>,
     answer: &mut Answer<'a>,
 ) -> bool {
-    let EntryRead::Record {
+    let ParsedEntry::Record {
         ttl,
         class,
         rtype,
@@ -77,7 +77,7 @@ fn add_record<'a>(
 }
 
 /// Adds why an entry is rejected. A row is not run if its text has a syntax error.
-fn tell_error(error: RecordError, answer: &mut Answer) {
+fn add_error(error: RecordError, answer: &mut Answer) {
     match error.kind {
         ErrorKind::Syntax(_) => answer.fail(Failure::BadInputs),
         _ => answer.refuse(&error),
@@ -102,7 +102,7 @@ fn read_records<'a>(
                 }
             }
             Some(Err(error)) => {
-                tell_error(error, answer);
+                add_error(error, answer);
                 return records;
             }
         }
@@ -111,7 +111,7 @@ fn read_records<'a>(
 }
 
 /// Adds a rule, and owner and type of the record that breaks it.
-fn tell_broken(rule: &str, place: Option<usize>, records: &[HeapRecord<'_>], answer: &mut Answer) {
+fn add_broken(rule: &str, place: Option<usize>, records: &[HeapRecord<'_>], answer: &mut Answer) {
     answer.add_text(rule);
     if let Some(place) = place {
         if let Some(record) = records.get(place) {
@@ -125,18 +125,18 @@ fn tell_broken(rule: &str, place: Option<usize>, records: &[HeapRecord<'_>], ans
 }
 
 /// Adds a finding of a zone, by rule and record.
-fn tell_finding(finding: &Finding, records: &[HeapRecord<'_>], answer: &mut Answer) {
-    tell_broken(finding.rule.name(), finding.record, records, answer);
+fn add_finding(finding: &Finding, records: &[HeapRecord<'_>], answer: &mut Answer) {
+    add_broken(finding.rule.name(), finding.record, records, answer);
 }
 
 /// Adds a finding of a signed zone, by rule and record.
-fn tell_insecure(finding: &SecurityFinding, records: &[HeapRecord<'_>], answer: &mut Answer) {
+fn add_insecure(finding: &SecurityFinding, records: &[HeapRecord<'_>], answer: &mut Answer) {
     let place = Some(finding.record);
-    tell_broken(finding.rule.name(), place, records, answer);
+    add_broken(finding.rule.name(), place, records, answer);
 }
 
 /// Adds the findings of a zone of sorted records, with RRsets that have a rejected entry.
-fn tell_found(
+fn add_found(
     records: &[HeapRecord<'_>],
     refused: &SortedSets<'_>,
     name: &Name<&[u8]>,
@@ -148,7 +148,7 @@ fn tell_found(
     match check_zone(answer.heap(), name, &sorted, refused) {
         Ok(found) => {
             for finding in found.as_slice() {
-                tell_finding(finding, records, answer);
+                add_finding(finding, records, answer);
             }
         }
         Err(_) => answer.refuse(&ShortBuf),
@@ -168,7 +168,7 @@ pub fn rules(inputs: &[Vec<u8>], answer: &mut Answer) {
     if records.sort_by(|left, right| left.compare(right)).is_err() {
         return answer.refuse(&ShortBuf);
     }
-    tell_found(records.as_slice(), &SortedSets::none(), &name, answer);
+    add_found(records.as_slice(), &SortedSets::none(), &name, answer);
 }
 
 /// Returns the RRsets of records, in canonical order.
@@ -211,7 +211,7 @@ pub fn refused(inputs: &[Vec<u8>], answer: &mut Answer) {
     let Some(sets) = SortedSets::new(sets.as_slice()) else {
         return answer.fail(Failure::Unlike);
     };
-    tell_found(records.as_slice(), &sets, &name, answer);
+    add_found(records.as_slice(), &sets, &name, answer);
 }
 
 /// Returns the seconds that a text spells.
@@ -243,7 +243,7 @@ pub fn dnssec(inputs: &[Vec<u8>], answer: &mut Answer) {
     match check_signed(answer.heap(), &name, Times { instant, margin }, &sorted) {
         Ok(found) => {
             for finding in found.as_slice() {
-                tell_insecure(finding, records.as_slice(), answer);
+                add_insecure(finding, records.as_slice(), answer);
             }
         }
         Err(_) => answer.refuse(&ShortBuf),

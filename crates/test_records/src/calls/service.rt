@@ -1,12 +1,11 @@
 //! Service parameters as tokens.
-use super::tell::Octets;
-use dns_fields::{RecordError, TokenList};
-use dns_lists::Params;
+use super::results::Octets;
+use dns_lexer::entry_tokens::{EntryToken, EntryTokens};
 use dns_octets::{AsOctetsMut, OctetsBuilder};
-use dns_params::{ParamText, take_params};
-use dns_split::entry_tokens::{EntryToken, EntryTokens};
-use row_table::Answer;
+use rdata_fields::{RecordError, TokenList};
+use rdata_svcb::{ParamText, Params, parse_params};
 use std::fmt;
+use test_support::Answer;
 
 /// Appends the octets of the parameters that tokens spell.
 fn take<B: OctetsBuilder + AsOctetsMut>(
@@ -15,7 +14,7 @@ fn take<B: OctetsBuilder + AsOctetsMut>(
     target: &mut B,
 ) -> Result<(), RecordError> {
     let mut source = TokenList::new(tokens, end);
-    take_params(&mut source, target)
+    parse_params(&mut source, target)
 }
 
 /// Adds the octets of the parameters that a text spells, or why it has a syntax error or doesn't

@@ -1,17 +1,19 @@
 //! Sets of records: in canonical order, compared and digested.
-use super::tell::{Octets, number16, number32, origin_of};
+use super::results::{Octets, number16, number32, origin_of};
 use arrayvec::ArrayVec;
 use dns_codec::base16;
-use dns_fields::RecordError;
-use dns_kinds::{Class, ErrorKind, RecordType};
-use dns_reader::{EntryRead, NameBuffer, RecordReader, State};
-use dns_resource::{Data, Record};
 use dns_wire::{MAX_NAME, Name};
 use dns_zone::zonefile_fmt::{DisplayKind, ZonefileFmt};
-use row_table::input::number_of;
-use row_table::{Answer, Failure, Heap, Inputs};
-use zone_digest::{Verdict, check_zone, sha384_digest, sha512_digest};
-use zone_set::{CanonicalSet, Change, ZoneSet, changes_between, is_dnssec, serial_rises};
+use rdata_fields::RecordError;
+use rdata_values::{Class, ErrorKind, RecordType};
+use test_support::input::number_of;
+use test_support::{Answer, Failure, Heap, Inputs};
+use zone_reader::{NameBuffer, ParsedEntry, RecordReader, State};
+use zone_record::{Data, Record};
+use zone_set::{
+    CanonicalSet, Change, Verdict, ZoneSet, changes_between, check_zone, is_dnssec, serial_rises,
+    sha384_digest, sha512_digest,
+};
 
 type Owner = ArrayVec<u8, MAX_NAME>;
 
@@ -41,7 +43,7 @@ fn lack(answer: &mut Answer) {
 }
 
 /// Adds that an entry is rejected, or that memory is out.
-fn tell_refusal(error: RecordError, answer: &mut Answer) {
+fn add_error(error: RecordError, answer: &mut Answer) {
     match error.kind {
         ErrorKind::ShortBuf => lack(answer),
         _ => answer.refuse_text("refused"),
@@ -76,7 +78,7 @@ fn read<'a>(text: &[u8], state: State, answer: &mut Answer<'a>) -> Option<Record
         match reader.next_entry(&mut octets) {
             None => return Some(records),
             Some(Ok(read)) => {
-                let EntryRead::Record {
+                let ParsedEntry::Record {
                     ttl,
                     class,
                     rtype,
@@ -96,7 +98,7 @@ fn read<'a>(text: &[u8], state: State, answer: &mut Answer<'a>) -> Option<Record
                 }
             }
             Some(Err(error)) => {
-                tell_refusal(error, answer);
+                add_error(error, answer);
                 return None;
             }
         }
@@ -134,7 +136,7 @@ fn canonical<'a>(
 }
 
 /// Adds a record as one line, and a semicolon after it.
-fn tell_record(record: &OneRecord<'_>, answer: &mut Answer) {
+fn add_record(record: &OneRecord<'_>, answer: &mut Answer) {
     answer.add_shown(&record.display_zonefile(DisplayKind::Simple));
     answer.add_text(";");
 }
@@ -152,7 +154,7 @@ fn sort(inputs: &[Vec<u8>], answer: &mut Answer) {
         return lack(answer);
     }
     for record in records.as_slice() {
-        tell_record(record, answer);
+        add_record(record, answer);
     }
 }
 
@@ -168,26 +170,26 @@ fn unique(inputs: &[Vec<u8>], answer: &mut Answer) {
     answer.add_number(duplicates);
     answer.add_text(";");
     for record in records.as_slice() {
-        tell_record(record, answer);
+        add_record(record, answer);
     }
 }
 
 /// Adds a change: `-` or `+` before the record, or `~` and the old TTL before it.
-fn tell_change(change: &Change<'_, Owner, Octets<'_>>, answer: &mut Answer) {
+fn add_change(change: &Change<'_, Owner, Octets<'_>>, answer: &mut Answer) {
     match change {
         Change::Removed(record) => {
             answer.add_text("-");
-            tell_record(record, answer);
+            add_record(record, answer);
         }
         Change::Added(record) => {
             answer.add_text("+");
-            tell_record(record, answer);
+            add_record(record, answer);
         }
         Change::NewTtl(before, after) => {
             answer.add_text("~");
             answer.add_number(usize::try_from(before.ttl).unwrap_or(usize::MAX));
             answer.add_text(" ");
-            tell_record(after, answer);
+            add_record(after, answer);
         }
     }
 }
@@ -203,7 +205,7 @@ fn diff((old, new): (&[u8], &[u8]), answer: &mut Answer) {
     match changes_between(answer.heap(), &old, &new) {
         Ok(changes) => {
             for change in changes.as_slice() {
-                tell_change(change, answer);
+                add_change(change, answer);
             }
         }
         Err(_) => lack(answer),

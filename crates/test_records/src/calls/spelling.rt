@@ -1,17 +1,17 @@
 //! Names, character strings, tags and octets as texts with escapes.
-use super::tell::{Octets, origin_of, tell, tell_width};
-use dns_spelling::{
+use super::results::{Octets, add_result, add_width, origin_of};
+use rdata_tokens::{
     NameText, QuotedOctets, TagText, append_name, append_spelled, append_string, append_tag,
     name_width, string_width, tag_width,
 };
-use row_table::{Answer, Failure, Inputs};
+use test_support::{Answer, Failure, Inputs};
 
 /// Answers a row about names.
 pub fn name(name: &str, inputs: &Inputs, answer: &mut Answer) {
     match name {
         "spell" => spell_name(inputs.all(), answer),
         "print" => print_name(inputs.octets(answer), answer),
-        "width" => tell_width(name_width(inputs.octets(answer)), answer),
+        "width" => add_width(name_width(inputs.octets(answer)), answer),
         _ => answer.fail(Failure::NoCall),
     }
 }
@@ -21,7 +21,7 @@ pub fn string(name: &str, inputs: &Inputs, answer: &mut Answer) {
     match name {
         "spell" => spell_string(inputs.octets(answer), answer),
         "print" => print_string(inputs.octets(answer), answer),
-        "width" => tell_width(string_width(inputs.octets(answer)), answer),
+        "width" => add_width(string_width(inputs.octets(answer)), answer),
         _ => answer.fail(Failure::NoCall),
     }
 }
@@ -31,7 +31,7 @@ pub fn tag(name: &str, inputs: &Inputs, answer: &mut Answer) {
     match name {
         "spell" => spell_tag(inputs.octets(answer), answer),
         "print" => print_tag(inputs.octets(answer), answer),
-        "width" => tell_width(tag_width(inputs.octets(answer)), answer),
+        "width" => add_width(tag_width(inputs.octets(answer)), answer),
         _ => answer.fail(Failure::NoCall),
     }
 }
@@ -53,25 +53,25 @@ fn spell_name(inputs: &[Vec<u8>], answer: &mut Answer) {
     let origin = origin_of(origin, answer);
     let mut target: Octets = Vec::new(answer.heap());
     let made = append_name(text.as_slice(), origin.as_ref(), &mut target);
-    tell(made, target.as_slice(), answer);
+    add_result(made, target.as_slice(), answer);
 }
 
 fn spell_string(text: &[u8], answer: &mut Answer) {
     let mut target: Octets = Vec::new(answer.heap());
     let made = append_string(text, &mut target);
-    tell(made, target.as_slice(), answer);
+    add_result(made, target.as_slice(), answer);
 }
 
 fn spell_tag(text: &[u8], answer: &mut Answer) {
     let mut target: Octets = Vec::new(answer.heap());
     let made = append_tag(text, &mut target);
-    tell(made, target.as_slice(), answer);
+    add_result(made, target.as_slice(), answer);
 }
 
 fn spell_octets(text: &[u8], answer: &mut Answer) {
     let mut target: Octets = Vec::new(answer.heap());
     let made = append_spelled(text, &mut target);
-    tell(made, target.as_slice(), answer);
+    add_result(made, target.as_slice(), answer);
 }
 
 /// Returns the octets of a character string or a tag after its length.

@@ -1,14 +1,14 @@
-//! Calls of `zone_store`: records in memory, and their octets.
+//! Calls of `zone_set`: records in memory, and their octets.
 ghost use Rattle.std.specs.Prelude.{◌≡◌, ◌^◌, length, nat_lt};
 
-use super::tell::{Octets, number16, number32};
-use dns_kinds::{Class, RecordType};
+use super::results::{Octets, number16, number32};
 use dns_octets::ShortBuf;
-use row_table::input::number_of;
-use row_table::{Answer, Failure, Heap, Inputs};
+use rdata_values::{Class, RecordType};
 use std::alloc::AllocError;
-use zone_store::{
-    EntryHeader, GroupEntry, RecordStore, SortedStore, push_counted, push_record, split_counted,
+use test_support::input::number_of;
+use test_support::{Answer, Failure, Heap, Inputs};
+use zone_set::{
+    EntryHeader, GroupEntry, RecordStore, SortedStore, append_stored, push_counted, split_counted,
     split_record,
 };
 
@@ -274,7 +274,7 @@ fn add_octets<'a>(
         return Ok(());
     }
     let mut out: Octets<'a> = Vec::new(answer.heap());
-    push_record(&GroupEntry { header, rdata }, &mut out)?;
+    append_stored(&GroupEntry { header, rdata }, &mut out)?;
     answer.add(out.as_slice());
     out.push(5)?;
     let is_same = match split_record(out.as_slice()) {

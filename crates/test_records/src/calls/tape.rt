@@ -1,10 +1,10 @@
 //! Tapes: the tokens of the first entry of octets, by their spans.
-ghost use Rattle.dns_tape.specs.Tape.{FillsWith};
+ghost use Rattle.zone_reader.specs.Tape.{FillsWith};
 
-use dns_fields::TokenSource;
-use dns_split::entry_tokens::{EntryPart, EntryToken, EntryTokens};
-use dns_tape::{TAPE_CAPACITY, Tape, TapeTokens, TokenSpan, fill, fill_line};
-use row_table::{Answer, Failure, Inputs};
+use dns_lexer::entry_tokens::{EntryPart, EntryToken, EntryTokens};
+use rdata_fields::TokenSource;
+use test_support::{Answer, Failure, Inputs};
+use zone_reader::{TAPE_CAPACITY, Tape, TapeTokens, TokenSpan, fill, fill_line};
 
 /// The base of offsets that is tried besides 0.
 const BASE: usize = 100;
@@ -71,14 +71,14 @@ fn add_tape(octets: &[u8], spans: &[TokenSpan], end: usize, answer: &mut Answer)
 fn add_token(token: EntryToken, answer: &mut Answer) {
     let quote = if token.is_quoted { "\"" } else { "" };
     answer.add_number(token.at);
-    answer.add_text(if token.is_glued { "+" } else { ":" });
+    answer.add_text(if token.is_adjacent { "+" } else { ":" });
     answer.add_text(quote);
     answer.add(token.text);
     answer.add_text(quote);
     answer.add_text("|");
 }
 
-/// Adds the tokens of a tape and the offset of its end. The reader of `dns_split` returns the same.
+/// Adds the tokens of a tape and the offset of its end. The reader of `dns_lexer` returns the same.
 fn add_tokens(mut tokens: TapeTokens, mut reader: EntryTokens, answer: &mut Answer) {
     for _ in 0..=TAPE_CAPACITY {
         let place = tokens.place();

@@ -2,13 +2,13 @@
 use super::blocks::{blocks, limit};
 use super::cut::cut;
 use super::data::Why;
+use super::results::{Octets, origin_of};
 use super::rules::{dnssec, hash, refused, rules};
-use super::tell::{Octets, origin_of};
-use dns_fields::RecordError;
-use dns_kinds::{Class, ErrorKind};
-use dns_reader::{EntryRead, NameBuffer, RecordReader, RecordTtl, State, include_parts};
-use dns_split::pieces::Wrong;
-use row_table::{Answer, Failure, Inputs};
+use dns_lexer::pieces::Wrong;
+use rdata_fields::RecordError;
+use rdata_values::{Class, ErrorKind};
+use test_support::{Answer, Failure, Inputs};
+use zone_reader::{NameBuffer, ParsedEntry, RecordReader, RecordTtl, State, include_parts};
 
 /// The steps of a row: each entry; or each entry from a new reader, which starts where the one
 /// before stopped; or only records and files.
@@ -47,7 +47,7 @@ fn ttl_kind(ttl: RecordTtl) -> &'static str {
 }
 
 /// Adds a TTL, and where it comes from.
-fn tell_ttl(ttl: RecordTtl, answer: &mut Answer) {
+fn add_ttl(ttl: RecordTtl, answer: &mut Answer) {
     answer.add_text(ttl_kind(ttl));
     answer.add_text(" ");
     answer.add_number(usize::try_from(ttl.seconds()).unwrap_or(usize::MAX));
@@ -55,7 +55,7 @@ fn tell_ttl(ttl: RecordTtl, answer: &mut Answer) {
 }
 
 /// Adds the owner of a record.
-fn tell_owner(state: &State, answer: &mut Answer) {
+fn add_owner(state: &State, answer: &mut Answer) {
     match state.owner() {
         Ok(owner) => answer.add(owner.as_slice()),
         Err(why) => answer.refuse(&why),
@@ -64,11 +64,11 @@ fn tell_owner(state: &State, answer: &mut Answer) {
 }
 
 /// Adds an entry: of a record its offset, owner, TTL, class, type and data.
-pub fn tell_read(state: &State, read: EntryRead, octets: &[u8], answer: &mut Answer) {
+pub fn add_read(state: &State, read: ParsedEntry, octets: &[u8], answer: &mut Answer) {
     match read {
-        EntryRead::Nothing => answer.add_text("nothing"),
-        EntryRead::Directive => answer.add_text("directive"),
-        EntryRead::Include { file, has_origin } => {
+        ParsedEntry::Nothing => answer.add_text("nothing"),
+        ParsedEntry::Directive => answer.add_text("directive"),
+        ParsedEntry::Include { file, has_origin } => {
             let (name, origin) = include_parts(octets, file);
             answer.add_text("include ");
             answer.add(name);
@@ -77,7 +77,7 @@ pub fn tell_read(state: &State, read: EntryRead, octets: &[u8], answer: &mut Ans
                 answer.add(origin);
             }
         }
-        EntryRead::Record {
+        ParsedEntry::Record {
             at,
             ttl,
             class,
@@ -85,8 +85,8 @@ pub fn tell_read(state: &State, read: EntryRead, octets: &[u8], answer: &mut Ans
         } => {
             answer.add_number(at);
             answer.add_text("|");
-            tell_owner(state, answer);
-            tell_ttl(ttl, answer);
+            add_owner(state, answer);
+            add_ttl(ttl, answer);
             answer.add_number(usize::from(class.0));
             answer.add_text("|");
             answer.add_number(usize::from(rtype.0));
@@ -97,7 +97,7 @@ pub fn tell_read(state: &State, read: EntryRead, octets: &[u8], answer: &mut Ans
 }
 
 /// Adds why an entry is rejected, and the offset.
-fn tell_refusal(error: RecordError, answer: &mut Answer) {
+fn add_error(error: RecordError, answer: &mut Answer) {
     let offset = error.offset;
     answer.refuse(&Why(error));
     answer.add_text("|");
@@ -116,44 +116,44 @@ fn wrong_name(wrong: Wrong) -> &'static str {
 }
 
 /// Adds a syntax error of the text, and its offset.
-fn tell_fault(offset: usize, wrong: Wrong, answer: &mut Answer) {
+fn add_fault(offset: usize, wrong: Wrong, answer: &mut Answer) {
     answer.refuse_text(wrong_name(wrong));
     answer.add_text("|");
     answer.add_number(offset);
 }
 
 /// Adds why an entry is rejected. Returns whether memory sufficed.
-pub fn tell_not_given(error: RecordError, answer: &mut Answer) -> bool {
+pub fn add_not_yielded(error: RecordError, answer: &mut Answer) -> bool {
     match error.kind {
         ErrorKind::ShortBuf => {
             answer.refuse(&error);
             return false;
         }
-        ErrorKind::Syntax(wrong) => tell_fault(error.offset, wrong, answer),
-        _ => tell_refusal(error, answer),
+        ErrorKind::Syntax(wrong) => add_fault(error.offset, wrong, answer),
+        _ => add_error(error, answer),
     }
     true
 }
 
 /// Reads one step. Returns whether more follow.
-fn tell_step(reader: &mut RecordReader<'_>, step: Step, answer: &mut Answer) -> bool {
+fn add_step(reader: &mut RecordReader<'_>, step: Step, answer: &mut Answer) -> bool {
     let mut target: Octets = Vec::new(answer.heap());
     let given = match step {
         Step::Entry | Step::Piece => reader.next_entry(&mut target),
         Step::Record => reader.next_record(&mut target),
     };
-    let goes_on = match given {
+    let continues = match given {
         Some(Ok(read)) => {
-            tell_read(&reader.state, read, target.as_slice(), answer);
+            add_read(&reader.state, read, target.as_slice(), answer);
             true
         }
-        Some(Err(error)) => tell_not_given(error, answer),
+        Some(Err(error)) => add_not_yielded(error, answer),
         None => return false,
     };
-    if goes_on {
+    if continues {
         answer.add_text(";");
     }
-    goes_on
+    continues
 }
 
 /// Returns the state at the start of reading: with an origin, or without.
@@ -189,7 +189,7 @@ fn zone(inputs: &[Vec<u8>], step: Step, answer: &mut Answer) {
     };
     let mut reader = RecordReader::new(text.as_slice(), state_of(origin, answer));
     for _ in 0..=text.len() {
-        if !tell_step(&mut reader, step, answer) {
+        if !add_step(&mut reader, step, answer) {
             return;
         }
         if matches!(step, Step::Piece) {

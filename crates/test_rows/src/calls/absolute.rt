@@ -2,7 +2,7 @@
 use dns_name::name::UncertainName;
 use dns_octets::{AsOctets, OctetsFrom, ShortBuf};
 use dns_wire::{Name, PushError, RelativeName};
-use row_table::{Answer, Failure, Heap};
+use test_support::{Answer, Failure, Heap};
 
 /// Octets whose allocator may fail one allocation.
 type Octets<'a> = Vec<u8, &'a Heap>;
@@ -22,7 +22,7 @@ fn copy<'a>(octets: &[u8], answer: &mut Answer<'a>) -> Option<RelativeName<Octet
 }
 
 /// Adds the octets of a name, or the error.
-fn tell(made: Result<Name<Octets>, PushError>, answer: &mut Answer) {
+fn add_result(made: Result<Name<Octets>, PushError>, answer: &mut Answer) {
     match made {
         Ok(name) => answer.add(AsOctets::as_slice(&name)),
         Err(error) => answer.refuse(&error),
@@ -32,11 +32,11 @@ fn tell(made: Result<Name<Octets>, PushError>, answer: &mut Answer) {
 /// Adds the absolute name of a relative one, and of one that is uncertain.
 pub fn into_absolute(octets: &[u8], answer: &mut Answer) {
     if let Some(name) = copy(octets, answer) {
-        tell(name.into_absolute(), answer);
+        add_result(name.into_absolute(), answer);
     }
     let mut other = answer.another();
     if let Some(name) = copy(octets, &mut other) {
-        tell(UncertainName::relative(name).into_absolute(), &mut other);
+        add_result(UncertainName::relative(name).into_absolute(), &mut other);
     }
     answer.check_same(&other);
 }

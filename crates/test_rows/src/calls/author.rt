@@ -1,7 +1,7 @@
 //! Record types of an author, and calls that parse all remaining tokens.
 use super::dnstext::words_of;
-use dns_records::caa::Caa;
-use dns_records::mx::Mx;
+use custom_examples::caa::Caa;
+use custom_examples::mx::Mx;
 use dns_text::document::split;
 use dns_text::record::{
     RecordData, base64_rest, hex_rest, record_reads_back, record_reads_back_in_room, scan_five,
@@ -10,8 +10,8 @@ use dns_text::record::{
 use dns_text::scan::{EntryScanner, Scanner, ScannerError, StrError, entry_scanner};
 use dns_text::wire::Ttl;
 use dns_text::zonefile_fmt::{DisplayKind, ZonefileFmt};
-use row_table::{Answer, Failure, Heap, Inputs};
 use std::alloc::{AllocError, Allocator};
+use test_support::{Answer, Failure, Heap, Inputs};
 
 /// Octets whose allocator may fail one allocation.
 type Octets<'a> = Vec<u8, &'a Heap>;
@@ -141,7 +141,7 @@ fn read_value(inputs: &Inputs, answer: &mut Answer) {
 }
 
 /// Adds the value of all remaining tokens: octets, strings in each layout, or five numbers.
-fn take_rest<S: Scanner<Error = StrError>>(scanner: &mut S, name: &str, answer: &mut Answer)
+fn scan_rest<S: Scanner<Error = StrError>>(scanner: &mut S, name: &str, answer: &mut Answer)
 where
     S::Octets: Drop,
     requires { S.can_scan scanner.old }
@@ -185,7 +185,7 @@ fn add_five<S: Scanner<Error = StrError>>(scanner: &mut S, answer: &mut Answer)
 /// Adds the value of all remaining tokens, a comma, and the result of the same call after that.
 fn scan_words<A: Allocator + Copy>(alloc: A, name: &str, words: &[&str], answer: &mut Answer) {
     let mut scanner: EntryScanner<'_, &str, Vec<u8, A>> = entry_scanner(alloc, words, false);
-    take_rest(&mut scanner, name, answer);
+    scan_rest(&mut scanner, name, answer);
     answer.add_text(",");
-    take_rest(&mut scanner, name, answer);
+    scan_rest(&mut scanner, name, answer);
 }

@@ -5,15 +5,15 @@ use arrayvec::ArrayVec;
 use dns_charstr::charstr::{CharStr, CharStrBuilder};
 use dns_octets::{AsOctets, AsOctetsMut, FreezeBuilder, FromBuilder, OctetsBuilder, Truncate};
 use dns_wire::{NameBuilder, PushError};
-use row_table::input::number_of;
-use row_table::{Answer, Failure, Heap};
 use std::alloc::Global;
+use test_support::input::number_of;
+use test_support::{Answer, Failure, Heap};
 
 /// Octets whose allocator may fail one allocation.
 type Octets<'a> = Vec<u8, &'a Heap>;
 
 /// Writes the first octet, if there is one.
-fn write_front(octets: &mut [u8], octet: u8) {
+fn write_header(octets: &mut [u8], octet: u8) {
     if let Some(first) = octets.first_mut() {
         *first = octet;
     }
@@ -21,7 +21,7 @@ fn write_front(octets: &mut [u8], octet: u8) {
 
 /// Makes a step of a character string: `+` and octets to append, `-` and a length to truncate it
 /// to, `=` and the new first octet.
-fn take_step<B: OctetsBuilder + AsOctetsMut + Truncate>(
+fn run_step<B: OctetsBuilder + AsOctetsMut + Truncate>(
     builder: &mut CharStrBuilder<B>,
     step: &[u8],
     answer: &mut Answer,
@@ -33,7 +33,7 @@ fn take_step<B: OctetsBuilder + AsOctetsMut + Truncate>(
             }
         }
         [b'-', digits @ ..] => builder.truncate(number_of(digits).unwrap_or(0)),
-        [b'=', octet] => write_front(builder.as_slice_mut(), *octet),
+        [b'=', octet] => write_header(builder.as_slice_mut(), *octet),
         _ => answer.fail(Failure::BadInputs),
     }
     answer.add(builder.as_slice());
@@ -46,7 +46,7 @@ fn string_of<B: OctetsBuilder + FreezeBuilder + AsOctetsMut + Truncate + Drop>(
     answer: &mut Answer,
 ) -> CharStr<B::Octets> {
     for step in steps {
-        take_step(&mut builder, step.as_slice(), answer);
+        run_step(&mut builder, step.as_slice(), answer);
         answer.add_text(",");
     }
     answer.check(builder.len() == builder.as_slice().len());
@@ -84,7 +84,7 @@ fn push_all<B: OctetsBuilder + AsOctetsMut>(
 }
 
 /// Makes a step of a name: `+` and octets of a label, `=` and a whole label, `.` for a label's end.
-fn take_name_step<B: OctetsBuilder + AsOctetsMut>(
+fn run_name_step<B: OctetsBuilder + AsOctetsMut>(
     builder: &mut NameBuilder<B>,
     step: &[u8],
     answer: &mut Answer,
@@ -107,13 +107,13 @@ fn take_name_step<B: OctetsBuilder + AsOctetsMut>(
 }
 
 /// Adds the result of each step, with `_` after it in a label, and a comma.
-fn take_name_steps<B: OctetsBuilder + AsOctetsMut>(
+fn run_name_steps<B: OctetsBuilder + AsOctetsMut>(
     builder: &mut NameBuilder<B>,
     steps: &[Vec<u8>],
     answer: &mut Answer,
 ) {
     for step in steps {
-        take_name_step(builder, step.as_slice(), answer);
+        run_name_step(builder, step.as_slice(), answer);
     }
 }
 
@@ -122,9 +122,9 @@ fn take_name_steps<B: OctetsBuilder + AsOctetsMut>(
 pub fn name(steps: &[Vec<u8>], answer: &mut Answer) {
     let mut other = answer.another();
     let mut array = NameBuilder::<ArrayVec<u8, 255>>::new(());
-    take_name_steps(&mut array, steps, &mut other);
+    run_name_steps(&mut array, steps, &mut other);
     let mut vector = NameBuilder::<Octets>::new(answer.heap());
-    take_name_steps(&mut vector, steps, answer);
+    run_name_steps(&mut vector, steps, answer);
     answer.check_same(&other);
     answer.add(array.finish().as_slice());
     answer.add_text("|");

@@ -5,13 +5,13 @@ use arrayvec::ArrayVec;
 use dns_charstr::charstr::{
     CharStr, CharStrBuilder, DisplayQuoted, DisplayUnquoted, FromStrError, PresentationError,
 };
+use dns_lexer::token::is_token;
 use dns_octets::{AsOctets, CanonicalOrd, OctetsFrom, Parser, ShortBuf};
-use dns_split::token::is_token;
 use dns_symbol::symbol::{BadSymbol, SymbolCharsError};
-use row_table::{Answer, Failure, Heap, Inputs};
 use std::alloc::AllocError;
 use std::cmp::Ordering;
 use std::hash::{DefaultHasher, Hash, Hasher};
+use test_support::{Answer, Failure, Heap, Inputs};
 
 /// Octets whose allocator may fail one allocation.
 type Octets<'a> = Vec<u8, &'a Heap>;
@@ -44,7 +44,7 @@ pub fn call(name: &str, inputs: &Inputs, answer: &mut Answer) {
 }
 
 /// Adds the parsed string, or the error.
-fn tell<O: AsOctets>(read: &Result<CharStr<O>, FromStrError>, answer: &mut Answer) {
+fn add_result<O: AsOctets>(read: &Result<CharStr<O>, FromStrError>, answer: &mut Answer) {
     match read {
         Ok(string) => answer.add(string.as_slice()),
         Err(error) => answer.refuse(error),
@@ -54,27 +54,27 @@ fn tell<O: AsOctets>(read: &Result<CharStr<O>, FromStrError>, answer: &mut Answe
 /// Adds the octets of a text, parsed into a vector and into an array.
 fn read(text: &str, answer: &mut Answer) {
     let mut other = answer.another();
-    tell(
+    add_result(
         &CharStr::<ArrayVec<u8, 255>>::from_str((), text),
         &mut other,
     );
-    tell(&CharStr::<Octets>::from_str(answer.heap(), text), answer);
+    add_result(&CharStr::<Octets>::from_str(answer.heap(), text), answer);
     answer.check_same(&other);
 }
 
 /// Adds the octets of a text, parsed into a capacity of two.
 fn read_into_two(text: &str, answer: &mut Answer) {
-    tell(&CharStr::<ArrayVec<u8, 2>>::from_str((), text), answer);
+    add_result(&CharStr::<ArrayVec<u8, 2>>::from_str((), text), answer);
 }
 
 /// Adds the octets of a text of octets, parsed into a vector and into an array.
 fn read_octets(text: &[u8], answer: &mut Answer) {
     let mut other = answer.another();
-    tell(
+    add_result(
         &CharStr::<ArrayVec<u8, 255>>::from_octets_text((), text),
         &mut other,
     );
-    tell(
+    add_result(
         &CharStr::<Octets>::from_octets_text(answer.heap(), text),
         answer,
     );
@@ -83,7 +83,7 @@ fn read_octets(text: &[u8], answer: &mut Answer) {
 
 /// Adds the octets of a text of octets, parsed into a capacity of two.
 fn read_octets_into_two(text: &[u8], answer: &mut Answer) {
-    tell(
+    add_result(
         &CharStr::<ArrayVec<u8, 2>>::from_octets_text((), text),
         answer,
     );
@@ -224,7 +224,7 @@ fn compose_into((octets, left): (&[u8], usize), answer: &mut Answer) {
 }
 
 /// Adds a copy, or the error.
-fn tell_copy<O: AsOctets + Drop>(copy: Result<CharStr<O>, ShortBuf>, answer: &mut Answer) {
+fn add_copy<O: AsOctets + Drop>(copy: Result<CharStr<O>, ShortBuf>, answer: &mut Answer) {
     match copy {
         Ok(copy) => answer.add(copy.as_slice()),
         Err(error) => answer.refuse(&error),
@@ -235,11 +235,11 @@ fn tell_copy<O: AsOctets + Drop>(copy: Result<CharStr<O>, ShortBuf>, answer: &mu
 fn copy(octets: &[u8], answer: &mut Answer) {
     let string = string(octets, answer);
     let mut other = answer.another();
-    tell_copy(
+    add_copy(
         CharStr::<ArrayVec<u8, 255>>::try_octets_from((), string.for_slice()),
         &mut other,
     );
-    tell_copy(
+    add_copy(
         CharStr::<Octets>::try_octets_from(answer.heap(), string.for_slice()),
         answer,
     );
@@ -249,7 +249,7 @@ fn copy(octets: &[u8], answer: &mut Answer) {
 /// Adds a copy of octets, in a capacity of two.
 fn copy_into_two(octets: &[u8], answer: &mut Answer) {
     let string = string(octets, answer);
-    tell_copy(
+    add_copy(
         CharStr::<ArrayVec<u8, 2>>::try_octets_from((), string),
         answer,
     );

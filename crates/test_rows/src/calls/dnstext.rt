@@ -1,9 +1,9 @@
 //! The command `dnstext`.
 use dnstext_lib::program;
-use refusing_heap::sink::Sink;
-use row_table::{Answer, Failure};
 use std::alloc::{AllocError, Allocator, Global};
 use std::str;
+use test_support::heap::sink::Sink;
+use test_support::{Answer, Failure};
 
 /// Returns inputs as arguments.
 pub fn words_of<'a, A: Allocator>(
@@ -49,7 +49,7 @@ fn run_into(alloc: Global, words: &[&str], writes: (usize, usize)) -> Ran {
 
 /// Returns whether a run whose output or error failed returns the status for it, after a prefix of
 /// the output.
-fn is_told(ran: &Ran, ample: &Ran) -> bool {
+fn is_reported(ran: &Ran, ample: &Ran) -> bool {
     let (out, whole) = (ran.out.text.as_str(), ample.out.text.as_str());
     if ran.out.has_refused {
         let is_lost = ran.err.text.as_str() == "refused: write failed\n";
@@ -82,7 +82,7 @@ pub fn fail(name: &str, inputs: &[Vec<u8>], answer: &mut Answer) {
             (usize::MAX, left)
         };
         let ran = run_into(alloc, words.as_slice(), writes);
-        answer.hold(is_told(&ran, &ample));
+        answer.hold(is_reported(&ran, &ample));
         is_whole = !ran.out.has_refused && !ran.err.has_refused;
         if is_whole {
             answer.hold(usize::from(is_output) < left);

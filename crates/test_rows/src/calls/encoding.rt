@@ -4,8 +4,8 @@ use arrayvec::ArrayVec;
 use dns_codec::base64::DecodeError;
 use dns_codec::{base16, base32, base64};
 use dns_octets::ShortBuf;
-use row_table::{Answer, Failure, Heap, Inputs};
 use std::str;
+use test_support::{Answer, Failure, Heap, Inputs};
 
 /// Octets whose allocator may fail one allocation.
 pub(crate) type Octets<'a> = Vec<u8, &'a Heap>;
@@ -116,7 +116,7 @@ fn just_read(base: Base, text: &[u8], octets: &[u8], room: &mut [u8], answer: &m
 }
 
 /// Adds the octets decoded into an array, or the error.
-fn tell<const N: usize>(read: Result<ArrayVec<u8, N>, DecodeError>, answer: &mut Answer) {
+fn add_result<const N: usize>(read: Result<ArrayVec<u8, N>, DecodeError>, answer: &mut Answer) {
     match read {
         Ok(octets) => answer.add(octets.as_slice()),
         Err(error) => answer.refuse(&error),
@@ -127,8 +127,8 @@ fn tell<const N: usize>(read: Result<ArrayVec<u8, N>, DecodeError>, answer: &mut
 fn read_into(base: Base, (text, room): (&[u8], usize), answer: &mut Answer) {
     let text = str::from_utf8(text).unwrap_or("");
     match (base, room) {
-        (Base::Base64, 0) => tell(base64::decode::<ArrayVec<u8, 0>>((), text), answer),
-        (Base::Base32, 3) => tell(base32::decode_hex::<ArrayVec<u8, 3>>((), text), answer),
+        (Base::Base64, 0) => add_result(base64::decode::<ArrayVec<u8, 0>>((), text), answer),
+        (Base::Base32, 3) => add_result(base32::decode_hex::<ArrayVec<u8, 3>>((), text), answer),
         _ => answer.fail(Failure::BadInputs),
     }
 }

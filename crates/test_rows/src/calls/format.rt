@@ -2,7 +2,7 @@
 ghost use Rattle.std.specs.Prelude.{◌<◌, ◌^◌, length};
 
 use super::zone::wrong_name;
-use row_table::{Answer, Failure, Inputs};
+use test_support::{Answer, Failure, Inputs};
 use zone_format::format::format;
 use zone_format::refusal::Refusal;
 

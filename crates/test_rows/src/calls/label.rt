@@ -1,9 +1,9 @@
 //! Labels.
 use super::charstr::order_name;
 use dns_wire::{Label, LabelTypeError, SplitLabelError};
-use row_table::{Answer, Failure, Inputs};
 use std::cmp::Ordering;
 use std::hash::{DefaultHasher, Hash, Hasher};
+use test_support::{Answer, Failure, Inputs};
 
 /// Answers a row: calls what it names.
 pub fn call(name: &str, inputs: &Inputs, answer: &mut Answer) {

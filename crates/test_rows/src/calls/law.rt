@@ -13,11 +13,11 @@ use dns_text::laws::numbers::number_is_scanned_back;
 use dns_text::laws::strings::unquoted_text_is_a_token;
 use dns_zone::document::Document;
 use dns_zone::zonefile_fmt::{DisplayKind, ZonefileFmt};
-use refusing_heap::Refusing;
-use row_table::input::number_of;
-use row_table::{Answer, Failure, Heap, Inputs};
 use std::alloc::{AllocError, Allocator, Global};
 use std::slice;
+use test_support::heap::Refusing;
+use test_support::input::number_of;
+use test_support::{Answer, Failure, Heap, Inputs};
 
 const KINDS: [DisplayKind; 3] = [
     DisplayKind::Simple,
@@ -110,7 +110,7 @@ fn tokens_split(words: &[Vec<u8>], answer: &mut Answer) {
 }
 
 /// Adds a text, a bar, and the number of entries that it splits into.
-fn tell(text: &str, entries: usize, answer: &mut Answer) {
+fn add_result(text: &str, entries: usize, answer: &mut Answer) {
     answer.add_text(text);
     answer.add_text("|");
     answer.add_number(entries);
@@ -122,7 +122,7 @@ fn split_items(words: &[Vec<u8>], answer: &mut Answer) {
         return answer.fail_for_memory();
     };
     match items_split(answer.heap(), items, DisplayKind::Multiline) {
-        Ok((text, entries)) => tell(text.as_str(), entries.len(), answer),
+        Ok((text, entries)) => add_result(text.as_str(), entries.len(), answer),
         Err(error) => answer.refuse(&error),
     }
 }
@@ -169,7 +169,7 @@ fn split_fields(answer: &mut Answer) {
         return answer.fail_for_memory();
     }
     match fields_split(answer.heap(), fields, DisplayKind::Multiline) {
-        Ok((text, entries)) => tell(text.as_str(), entries.len(), answer),
+        Ok((text, entries)) => add_result(text.as_str(), entries.len(), answer),
         Err(_) => answer.fail_for_memory(),
     }
 }

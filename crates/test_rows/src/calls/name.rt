@@ -8,10 +8,10 @@ use dns_wire::{
     DisplayWithDot, DisplayWithoutDot, FlattenInto, Label, LabelTypeError, Name, RelativeName,
     ToLabelIter, ToRelativeName, ZoneName,
 };
-use row_table::input::number_of;
-use row_table::{Answer, Failure, Heap, Inputs};
 use std::hash::{DefaultHasher, Hash, Hasher};
 use std::str;
+use test_support::input::number_of;
+use test_support::{Answer, Failure, Heap, Inputs};
 
 /// Octets whose allocator may fail one allocation.
 type Octets<'a> = Vec<u8, &'a Heap>;
@@ -42,7 +42,7 @@ pub fn call(name: &str, inputs: &Inputs, answer: &mut Answer) {
 }
 
 /// Adds the octets of a name, or the error.
-fn tell(read: &Result<Vector, FromStrError>, answer: &mut Answer) {
+fn add_result(read: &Result<Vector, FromStrError>, answer: &mut Answer) {
     match read {
         Ok(name) => answer.add(name.as_slice()),
         Err(error) => answer.refuse(error),
@@ -52,8 +52,8 @@ fn tell(read: &Result<Vector, FromStrError>, answer: &mut Answer) {
 /// Adds the octets of a text, and checks that parsing its characters returns the same.
 fn read(text: &str, answer: &mut Answer) {
     let mut other = answer.another();
-    tell(&Vector::from_chars(answer.heap(), text.chars()), &mut other);
-    tell(&Vector::from_str(answer.heap(), text), answer);
+    add_result(&Vector::from_chars(answer.heap(), text.chars()), &mut other);
+    add_result(&Vector::from_str(answer.heap(), text), answer);
     answer.check_same(&other);
 }
 
@@ -361,7 +361,7 @@ fn chain_labels((one, other): (&[u8], &[u8]), answer: &mut Answer) {
 }
 
 /// Adds a name that was made of labels, or the error.
-fn tell_flat(made: Result<Name<Octets>, ShortBuf>, answer: &mut Answer) {
+fn add_flat(made: Result<Name<Octets>, ShortBuf>, answer: &mut Answer) {
     match made {
         Ok(name) => answer.add(name.as_slice()),
         Err(error) => answer.refuse(&error),
@@ -384,7 +384,7 @@ fn flatten((one, other): (&[u8], &[u8]), answer: &mut Answer) {
     let Ok(chain) = name_of(one, answer).chain(&right) else {
         return answer.fail(Failure::BadInputs);
     };
-    tell_flat((&chain).try_flatten_into(answer.heap()), answer);
+    add_flat((&chain).try_flatten_into(answer.heap()), answer);
     check_composed(&chain, answer);
     let (left, _) = chain.unwrap();
     answer.check(*left.as_slice() == *one);
@@ -397,14 +397,14 @@ fn flatten_each((one, other): (&[u8], &[u8]), answer: &mut Answer) {
     let Ok(chain) = Chain::new(relative_of(one, answer), absolute_of(other, answer)) else {
         return answer.fail(Failure::BadInputs);
     };
-    tell_flat((&chain).try_flatten_into(answer.heap()), answer);
+    add_flat((&chain).try_flatten_into(answer.heap()), answer);
     check_composed(&chain, answer);
     answer.add_text("|");
-    tell_flat(chain.try_flatten_into(answer.heap()), answer);
+    add_flat(chain.try_flatten_into(answer.heap()), answer);
     answer.add_text("|");
-    tell_flat((&right).try_flatten_into(answer.heap()), answer);
+    add_flat((&right).try_flatten_into(answer.heap()), answer);
     answer.add_text("|");
-    tell_flat(right.try_flatten_into(answer.heap()), answer);
+    add_flat(right.try_flatten_into(answer.heap()), answer);
 }
 
 /// Adds the root as a name that may be relative, a bar, and the root as one that may not.
@@ -417,7 +417,7 @@ fn root(answer: &mut Answer) {
         Err(error) => answer.refuse(&error),
     }
     answer.add_text("|");
-    tell_flat(Name::root(answer.heap()), answer);
+    add_flat(Name::root(answer.heap()), answer);
 }
 
 /// The buffer of a composed name.

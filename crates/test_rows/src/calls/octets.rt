@@ -1,8 +1,8 @@
 //! Octets that are parsed step by step.
 use dns_charstr::charstr::CharStrBuilder;
 use dns_octets::{AsOctets, EmptyBuilder, OctetsFrom, ParseError, Parser, ShortBuf, Str};
-use row_table::input::number_of;
-use row_table::{Answer, Failure, Heap, Inputs};
+use test_support::input::number_of;
+use test_support::{Answer, Failure, Heap, Inputs};
 
 /// Octets whose allocator may fail one allocation.
 type Octets<'a> = Vec<u8, &'a Heap>;
@@ -18,16 +18,16 @@ pub fn call(name: &str, inputs: &Inputs, answer: &mut Answer) {
 }
 
 /// Adds that octets were skipped, or the error.
-fn tell(made: Result<(), ParseError>, answer: &mut Answer) {
+fn add_result(made: Result<(), ParseError>, answer: &mut Answer) {
     if let Err(error) = made {
         answer.refuse(&error);
     }
 }
 
 /// Makes a step: `+` and a number of octets to skip, `=` and a number to read, `.` for one octet.
-fn take_step(parser: &mut Parser, step: &[u8], answer: &mut Answer) {
+fn run_step(parser: &mut Parser, step: &[u8], answer: &mut Answer) {
     match step {
-        [b'+', digits @ ..] => tell(parser.advance(number_of(digits).unwrap_or(0)), answer),
+        [b'+', digits @ ..] => add_result(parser.advance(number_of(digits).unwrap_or(0)), answer),
         [b'=', digits @ ..] => match parser.parse_octets(number_of(digits).unwrap_or(0)) {
             Ok(octets) => answer.add(octets),
             Err(error) => answer.refuse(&error),
@@ -47,7 +47,7 @@ fn parse(inputs: &[Vec<u8>], answer: &mut Answer) {
     };
     let mut parser = Parser::from_slice(octets.as_slice());
     for step in steps {
-        take_step(&mut parser, step.as_slice(), answer);
+        run_step(&mut parser, step.as_slice(), answer);
         answer.add_text(" ");
         answer.add_number(parser.pos());
         answer.add_text(",");
@@ -70,7 +70,7 @@ fn text(octets: &[u8], answer: &mut Answer) {
 }
 
 /// Adds octets that were made, or the error.
-fn tell_made<O: AsOctets + Drop>(made: Result<O, ShortBuf>, answer: &mut Answer) {
+fn add_made<O: AsOctets + Drop>(made: Result<O, ShortBuf>, answer: &mut Answer) {
     match made {
         Ok(octets) => answer.add(octets.as_slice()),
         Err(error) => answer.refuse(&error),
@@ -81,12 +81,12 @@ fn tell_made<O: AsOctets + Drop>(made: Result<O, ShortBuf>, answer: &mut Answer)
 /// them of a character string.
 fn copy(octets: &[u8], answer: &mut Answer) {
     let copy: Result<Octets, ShortBuf> = OctetsFrom::try_octets_from(answer.heap(), octets);
-    tell_made(copy, answer);
+    add_made(copy, answer);
     answer.add_text("|");
     let room: Result<Octets, ShortBuf> = EmptyBuilder::with_capacity(answer.heap(), octets.len());
-    tell_made(room, answer);
+    add_made(room, answer);
     answer.add_text("|");
-    tell_made(
+    add_made(
         CharStrBuilder::vec_with_capacity(answer.heap(), octets.len()),
         answer,
     );

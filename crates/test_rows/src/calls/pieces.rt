@@ -1,11 +1,11 @@
 //! The pieces of octets, by each way to find them.
 use super::zone::{add_fault, add_named_piece};
-use dns_split::pieces::{Fault, Piece, Pieces, Span};
-use dns_split::standing::{Standing, next_of_octets};
-use row_table::input::number_of;
-use row_table::{Answer, Failure};
+use dns_lexer::cursor_state::{CursorState, next_of_octets};
+use dns_lexer::pieces::{Fault, Piece, Pieces, Span};
 use std::alloc::{AllocError, Global};
 use std::str;
+use test_support::input::number_of;
+use test_support::{Answer, Failure};
 
 /// A piece or the error.
 type Given = Result<Piece, Fault>;
@@ -19,7 +19,7 @@ fn list(alloc: Global, pieces: Pieces) -> Result<Vec<Given>, AllocError> {
 }
 
 /// Returns whether an iterator yields these.
-fn gives(pieces: Pieces, wanted: &[Given]) -> bool {
+fn does_yield(pieces: Pieces, wanted: &[Given]) -> bool {
     let mut place: usize = 0;
     let mut are_same = true;
     for piece in pieces {
@@ -30,7 +30,7 @@ fn gives(pieces: Pieces, wanted: &[Given]) -> bool {
 }
 
 /// Returns the next piece, or `None` if the position isn't one of these octets.
-fn next(octets: &[u8], standing: &mut Standing) -> Option<Given> {
+fn next(octets: &[u8], standing: &mut CursorState) -> Option<Given> {
     if standing.at > octets.len() || standing.depth > standing.at {
         return None;
     }
@@ -38,8 +38,8 @@ fn next(octets: &[u8], standing: &mut Standing) -> Option<Given> {
 }
 
 /// Returns whether the pieces are yielded one by one, then none, and the position stays.
-fn gives_each(octets: &[u8], wanted: &[Given]) -> bool {
-    let mut standing = Standing::at_entry(0);
+fn yields_each(octets: &[u8], wanted: &[Given]) -> bool {
+    let mut standing = CursorState::at_entry(0);
     for piece in wanted {
         if next(octets, &mut standing) != Some(*piece) {
             return false;
@@ -50,7 +50,7 @@ fn gives_each(octets: &[u8], wanted: &[Given]) -> bool {
 }
 
 /// Returns whether each entry is known to begin with a blank, or not to, before its end.
-fn tells_blanks(octets: &[u8], wanted: &[Given]) -> bool {
+fn reports_blanks(octets: &[u8], wanted: &[Given]) -> bool {
     let mut pieces = Pieces::of_octets(octets);
     for piece in wanted {
         let is_blank = pieces.begins_blank();
@@ -65,12 +65,12 @@ fn tells_blanks(octets: &[u8], wanted: &[Given]) -> bool {
 }
 
 /// Returns whether an iterator that begins there yields the rest, of octets and of a text.
-fn goes_on(octets: &[u8], at: usize, left: &[Given]) -> bool {
-    if at > octets.len() || !gives(Pieces::of_octets_starting_at(octets, at), left) {
+fn continues(octets: &[u8], at: usize, left: &[Given]) -> bool {
+    if at > octets.len() || !does_yield(Pieces::of_octets_starting_at(octets, at), left) {
         return false;
     }
     match str::from_utf8(octets) {
-        Ok(text) => text.is_char_boundary(at) && gives(Pieces::starting_at(text, at), left),
+        Ok(text) => text.is_char_boundary(at) && does_yield(Pieces::starting_at(text, at), left),
         Err(_) => true,
     }
 }
@@ -82,7 +82,7 @@ fn check_ends(octets: &[u8], whole: &[Given], answer: &mut Answer) {
         if let Ok(Piece::End(end)) = piece
             && !left.is_empty()
         {
-            answer.check(goes_on(octets, end.at, left));
+            answer.check(continues(octets, end.at, left));
         }
     }
 }
@@ -113,10 +113,10 @@ fn needs_more_or_ends(block: &[u8], given: &[Given], whole: &[Given]) -> bool {
 
 /// Returns whether a chunk at the beginning of the octets yields the entries that have ended, and
 /// the rest of it with the octets after it the others.
-fn gives_in_two(octets: &[u8], block: &[u8], given: &[Given], whole: &[Given]) -> bool {
+fn yields_in_two(octets: &[u8], block: &[u8], given: &[Given], whole: &[Given]) -> bool {
     let (count, at) = ended(given);
     whole.get(..count) == given.get(..count)
-        && goes_on(octets, at, whole.get(count..).unwrap_or_default())
+        && continues(octets, at, whole.get(count..).unwrap_or_default())
         && needs_more_or_ends(block, given, whole)
 }
 
@@ -125,7 +125,7 @@ fn check_blocks(octets: &[u8], whole: &[Given], answer: &mut Answer) {
     for cut in 0..=octets.len() {
         let block = &octets[..cut];
         match list(answer.alloc(), Pieces::of_octets(block)) {
-            Ok(given) => answer.check(gives_in_two(octets, block, given.as_slice(), whole)),
+            Ok(given) => answer.check(yields_in_two(octets, block, given.as_slice(), whole)),
             Err(AllocError) => answer.fail_for_memory(),
         }
     }
@@ -148,7 +148,7 @@ fn is_part(text: &str, span: Span) -> bool {
 
 /// Checks that a text yields the pieces of its octets, and that each denotes a part of it.
 fn check_text(text: &str, whole: &[Given], answer: &mut Answer) {
-    answer.check(gives(Pieces::new(text), whole));
+    answer.check(does_yield(Pieces::new(text), whole));
     for piece in whole {
         if let Ok(Piece::Word(span) | Piece::Quote(span) | Piece::Comment(span)) = piece {
             answer.check(is_part(text, *span));
@@ -158,8 +158,8 @@ fn check_text(text: &str, whole: &[Given], answer: &mut Answer) {
 
 /// Checks the other ways to find the pieces.
 fn check_ways(octets: &[u8], whole: &[Given], answer: &mut Answer) {
-    answer.check(gives_each(octets, whole));
-    answer.check(tells_blanks(octets, whole));
+    answer.check(yields_each(octets, whole));
+    answer.check(reports_blanks(octets, whole));
     check_ends(octets, whole, answer);
     check_blocks(octets, whole, answer);
     if let Ok(text) = str::from_utf8(octets) {
@@ -167,7 +167,7 @@ fn check_ways(octets: &[u8], whole: &[Given], answer: &mut Answer) {
     }
 }
 
-fn add_given(piece: Given, answer: &mut Answer) {
+fn add_yielded(piece: Given, answer: &mut Answer) {
     match piece {
         Ok(piece) => add_named_piece(piece, answer),
         Err(fault) => add_fault(fault, answer),
@@ -180,7 +180,7 @@ pub fn pieces(octets: &[u8], answer: &mut Answer) {
     match list(answer.alloc(), Pieces::of_octets(octets)) {
         Ok(whole) => {
             for piece in &whole {
-                add_given(*piece, answer);
+                add_yielded(*piece, answer);
             }
             check_ways(octets, whole.as_slice(), answer);
         }
@@ -190,12 +190,12 @@ pub fn pieces(octets: &[u8], answer: &mut Answer) {
 
 /// Adds the position: at an entry, or after other pieces of it. The number of blanks that it has
 /// skipped there is unspecified.
-fn add_standing(octets: &[u8], standing: Standing, answer: &mut Answer) {
+fn add_state(octets: &[u8], standing: CursorState, answer: &mut Answer) {
     if standing.is_done {
         answer.add_text("done, began ");
         return answer.add_number(standing.began);
     }
-    if standing == Standing::at_entry(standing.at) {
+    if standing == CursorState::at_entry(standing.at) {
         answer.add_text("entry at ");
     } else {
         answer.add_text("depth ");
@@ -211,11 +211,11 @@ fn add_standing(octets: &[u8], standing: Standing, answer: &mut Answer) {
 }
 
 /// Adds the piece after a position, and the position after it.
-fn next_from(octets: &[u8], mut standing: Standing, answer: &mut Answer) {
+fn next_from(octets: &[u8], mut standing: CursorState, answer: &mut Answer) {
     match next(octets, &mut standing) {
         Some(piece) => {
-            add_given(piece, answer);
-            add_standing(octets, standing, answer);
+            add_yielded(piece, answer);
+            add_state(octets, standing, answer);
         }
         None => answer.fail(Failure::BadInputs),
     }
@@ -230,7 +230,7 @@ pub fn next_piece(inputs: &[Vec<u8>], answer: &mut Answer) {
     match (number_of(at), number_of(depth), number_of(began)) {
         (Some(at), Some(depth), Some(began)) => {
             let is_done = false;
-            let standing = Standing {
+            let standing = CursorState {
                 at,
                 depth,
                 began,

@@ -1,11 +1,11 @@
 //! The reports of a checker of zone files.
 ghost use Rattle.std.specs.Prelude.{◌<◌, ◌^◌, length};
 
-use dns_split::position::Position;
-use row_table::input::number_of;
-use row_table::{Answer, Failure, Inputs};
+use dns_lexer::position::Position;
 use std::alloc::AllocError;
 use std::str;
+use test_support::input::number_of;
+use test_support::{Answer, Failure, Inputs};
 use zonetext_report::code::{Code, Severity};
 use zonetext_report::excerpt::push_excerpt;
 use zonetext_report::finding::{Finding, push_lines};
@@ -17,9 +17,9 @@ use zonetext_report::tally::Tally;
 /// Answers a row: calls what it names.
 pub fn call(name: &str, inputs: &Inputs, answer: &mut Answer) {
     match name {
-        "gnu" => tell(Form::Line, inputs.all(), answer),
-        "colour" => tell(Form::Coloured, inputs.all(), answer),
-        "json" => tell(Form::Json, inputs.all(), answer),
+        "gnu" => add_result(Form::Line, inputs.all(), answer),
+        "colour" => add_result(Form::Coloured, inputs.all(), answer),
+        "json" => add_result(Form::Json, inputs.all(), answer),
         "caret" => excerpt(false, inputs.all(), answer),
         "green" => excerpt(true, inputs.all(), answer),
         "lint" => lint_block(inputs.octets(answer), answer),
@@ -85,7 +85,7 @@ fn opened_at(fields: &[Vec<u8>], answer: &mut Answer) -> Option<Position> {
 }
 
 /// Adds the report of a finding.
-fn add_told(told: Result<(), AllocError>, out: &[u8], answer: &mut Answer) {
+fn add_reported(told: Result<(), AllocError>, out: &[u8], answer: &mut Answer) {
     match told {
         Ok(()) => answer.add(out),
         Err(_) => answer.fail_for_memory(),
@@ -94,7 +94,7 @@ fn add_told(told: Result<(), AllocError>, out: &[u8], answer: &mut Answer) {
 
 /// Adds a finding: its file, line, column, end column, code and message, and the position of an
 /// opener.
-fn tell(form: Form, fields: &[Vec<u8>], answer: &mut Answer) {
+fn add_result(form: Form, fields: &[Vec<u8>], answer: &mut Answer) {
     let [file, line, column, end_column, code, message, opened @ ..] = fields else {
         answer.fail(Failure::BadInputs);
         return;
@@ -122,7 +122,7 @@ fn tell(form: Form, fields: &[Vec<u8>], answer: &mut Answer) {
         Form::Coloured => push_lines(&mut out, true, &finding),
         Form::Json => push_json(&mut out, &finding),
     };
-    add_told(told, out.as_slice(), answer);
+    add_reported(told, out.as_slice(), answer);
 }
 
 /// Adds a line, and a caret under a column.
@@ -135,7 +135,7 @@ fn excerpt(is_coloured: bool, fields: &[Vec<u8>], answer: &mut Answer) {
     let end_column = number(end_column.as_slice(), answer);
     let mut out = Vec::new(answer.heap());
     let told = push_excerpt(&mut out, is_coloured, line.as_slice(), column, end_column);
-    add_told(told, out.as_slice(), answer);
+    add_reported(told, out.as_slice(), answer);
 }
 
 /// Maximum number of octets of a row's input.
@@ -210,5 +210,5 @@ fn count((found, most): (&[u8], usize), answer: &mut Answer) {
     answer.add_number(usize::from(tally.status()));
     let mut out = Vec::new(answer.heap());
     let told = tally.push_summary(&mut out);
-    add_told(told, out.as_slice(), answer);
+    add_reported(told, out.as_slice(), answer);
 }

@@ -7,18 +7,18 @@ use dns_charstr::charstr::CharStr;
 use dns_codec::{base16, base32, base64};
 use dns_iter::entry::{EntryScanner, entry_at, entry_scanner};
 use dns_iter::scanner::IterScanner;
+use dns_lexer::splitting::split;
 use dns_octets::{AsOctets, FreezeBuilder, Str, Ttl};
 use dns_scan::{
     RestOf, Scan, Scanner, ScannerError, StrError, expect_end, scan_rest, strings_rest,
 };
-use dns_split::splitting::split;
 use dns_symbol::symbol::{EntrySymbol, Symbol};
-use row_table::input::number_of;
-use row_table::{Answer, Failure, Inputs};
 use std::alloc::{AllocError, Allocator};
 use std::iter::Copied;
 use std::slice::Iter;
 use std::{fmt, str};
+use test_support::input::number_of;
+use test_support::{Answer, Failure, Inputs};
 
 /// Tokens as they are spelled.
 type Words<'a> = Copied<Iter<'a, &'a str>>;
@@ -44,7 +44,7 @@ pub fn call(name: &str, inputs: &Inputs, answer: &mut Answer) {
 }
 
 /// Adds octets that were parsed, or the error.
-fn tell<O: AsOctets + Drop>(made: Result<O, StrError>, answer: &mut Answer) {
+fn add_result<O: AsOctets + Drop>(made: Result<O, StrError>, answer: &mut Answer) {
     match made {
         Ok(octets) => answer.add(octets.as_slice()),
         Err(error) => answer.refuse(&error),
@@ -52,7 +52,7 @@ fn tell<O: AsOctets + Drop>(made: Result<O, StrError>, answer: &mut Answer) {
 }
 
 /// Adds the same of a value that prints.
-fn tell_value<T: fmt::Display + Drop>(made: Result<T, StrError>, answer: &mut Answer) {
+fn add_value<T: fmt::Display + Drop>(made: Result<T, StrError>, answer: &mut Answer) {
     match made {
         Ok(value) => match value.to_string(answer.alloc()) {
             Ok(text) => answer.add_text(text.as_str()),
@@ -63,7 +63,7 @@ fn tell_value<T: fmt::Display + Drop>(made: Result<T, StrError>, answer: &mut An
 }
 
 /// Adds the same of a text.
-fn tell_text<O: AsOctets + Drop>(made: Result<Str<O>, StrError>, answer: &mut Answer) {
+fn add_str<O: AsOctets + Drop>(made: Result<Str<O>, StrError>, answer: &mut Answer) {
     match made {
         Ok(text) => answer.add_text(text.as_str()),
         Err(error) => answer.refuse(&error),
@@ -71,7 +71,7 @@ fn tell_text<O: AsOctets + Drop>(made: Result<Str<O>, StrError>, answer: &mut An
 }
 
 /// Adds the same of a step without a value.
-fn tell_end(made: Result<(), StrError>, answer: &mut Answer) {
+fn add_end(made: Result<(), StrError>, answer: &mut Answer) {
     match made {
         Ok(()) => answer.add_text("ok"),
         Err(error) => answer.refuse(&error),
@@ -123,16 +123,16 @@ where
     ensures { S.can_scan scanner.new }
 {
     match step {
-        "octets" => tell(scanner.scan_octets(), answer),
-        "text" => tell_text(scanner.scan_string(), answer),
-        "name" => tell(scanner.scan_name(), answer),
-        "charstr" => tell(CharStr::scan(scanner), answer),
-        "strings" => tell(scanner.scan_charstr_entry(), answer),
-        "parameters" => tell(scanner.scan_svcb_octets(), answer),
-        "rest" => tell(scan_rest::<_, _, u8>(answer.heap(), scanner), answer),
-        "builder" => tell(new_octets(scanner), answer),
+        "octets" => add_result(scanner.scan_octets(), answer),
+        "text" => add_str(scanner.scan_string(), answer),
+        "name" => add_result(scanner.scan_name(), answer),
+        "charstr" => add_result(CharStr::scan(scanner), answer),
+        "strings" => add_result(scanner.scan_charstr_entry(), answer),
+        "parameters" => add_result(scanner.scan_svcb_octets(), answer),
+        "rest" => add_result(scan_rest::<_, _, u8>(answer.heap(), scanner), answer),
+        "builder" => add_result(new_octets(scanner), answer),
         "list" => list_strings(scanner, answer),
-        "hex_of_rest" => tell(hex_of_rest(scanner), answer),
+        "hex_of_rest" => add_result(hex_of_rest(scanner), answer),
         _ => answer.fail(Failure::BadInputs),
     }
 }
@@ -147,7 +147,7 @@ fn scan_seconds<S: Scanner>(scanner: &mut S) -> Result<u32, S::Error>
 }
 
 /// Parses a number, or else octets.
-fn take_number<S: Scanner<Error = StrError>>(scanner: &mut S, step: &str, answer: &mut Answer)
+fn scan_number<S: Scanner<Error = StrError>>(scanner: &mut S, step: &str, answer: &mut Answer)
 where
     S::Octets: Drop,
     S::Name: AsOctets + Drop,
@@ -155,12 +155,12 @@ where
     ensures { S.can_scan scanner.new }
 {
     match step {
-        "u8" => tell_value(u8::scan(scanner), answer),
-        "u16" => tell_value(u16::scan(scanner), answer),
-        "u32" => tell_value(u32::scan(scanner), answer),
-        "u64" => tell_value(u64::scan(scanner), answer),
-        "u128" => tell_value(u128::scan(scanner), answer),
-        "ttl" => tell_value(scan_seconds(scanner), answer),
+        "u8" => add_value(u8::scan(scanner), answer),
+        "u16" => add_value(u16::scan(scanner), answer),
+        "u32" => add_value(u32::scan(scanner), answer),
+        "u64" => add_value(u64::scan(scanner), answer),
+        "u128" => add_value(u128::scan(scanner), answer),
+        "ttl" => add_value(scan_seconds(scanner), answer),
         _ => take_octets(scanner, step, answer),
     }
 }
@@ -174,31 +174,31 @@ where
     ensures { S.can_scan scanner.new }
 {
     match step {
-        "hex" => tell(
+        "hex" => add_result(
             scanner.convert_token(base16::SymbolConverter::new()),
             answer,
         ),
-        "base32hex" => tell(
+        "base32hex" => add_result(
             scanner.convert_token(base32::SymbolConverter::new()),
             answer,
         ),
-        "base64" => tell(
+        "base64" => add_result(
             scanner.convert_token(base64::SymbolConverter::new()),
             answer,
         ),
-        "hex_rest" => tell(
+        "hex_rest" => add_result(
             scanner.convert_entry(base16::SymbolConverter::new()),
             answer,
         ),
-        "base32hex_rest" => tell(
+        "base32hex_rest" => add_result(
             scanner.convert_entry(base32::SymbolConverter::new()),
             answer,
         ),
-        "base64_rest" => tell(
+        "base64_rest" => add_result(
             scanner.convert_entry(base64::SymbolConverter::new()),
             answer,
         ),
-        _ => take_number(scanner, step, answer),
+        _ => scan_number(scanner, step, answer),
     }
 }
 
@@ -219,7 +219,7 @@ fn hand_over<S: Scanner<Error = StrError>>(scanner: &mut S, answer: &mut Answer)
 {
     let mut op = |symbol: Symbol| -> Result<(), StrError> { take_symbol(symbol, answer) };
     let ended = scanner.scan_symbols(&mut op);
-    tell_end(ended, answer);
+    add_end(ended, answer);
 }
 
 /// Adds the symbols of all tokens with a slash after each token, up to a dollar sign.
@@ -237,11 +237,11 @@ fn hand_all_over<S: Scanner<Error = StrError>>(scanner: &mut S, answer: &mut Ans
         }
     };
     let ended = scanner.scan_entry_symbols(&mut op);
-    tell_end(ended, answer);
+    add_end(ended, answer);
 }
 
 /// Makes a step: a question or symbols, or else a step of `convert`.
-fn take_step<S: Scanner<Error = StrError>>(scanner: &mut S, step: &str, answer: &mut Answer)
+fn run_step<S: Scanner<Error = StrError>>(scanner: &mut S, step: &str, answer: &mut Answer)
 where
     S::Octets: Drop,
     S::Name: AsOctets + Drop,
@@ -251,17 +251,17 @@ where
     match step {
         "continues" => answer.add_bool(scanner.continues()),
         "space" => answer.add_bool(scanner.has_space()),
-        "marker" => tell_value(scanner.scan_opt_unknown_marker(), answer),
-        "ascii" => tell_value(scanner.scan_ascii_str(|text| Ok(text.len())), answer),
+        "marker" => add_value(scanner.scan_opt_unknown_marker(), answer),
+        "ascii" => add_value(scanner.scan_ascii_str(|text| Ok(text.len())), answer),
         "symbols" => hand_over(scanner, answer),
         "entry_symbols" => hand_all_over(scanner, answer),
-        "end" => tell_end(expect_end(scanner), answer),
+        "end" => add_end(expect_end(scanner), answer),
         _ => convert(scanner, step, answer),
     }
 }
 
 /// Makes steps, and adds the result of each with a comma after it.
-fn take_steps<S: Scanner<Error = StrError>>(scanner: &mut S, steps: &str, answer: &mut Answer)
+fn run_steps<S: Scanner<Error = StrError>>(scanner: &mut S, steps: &str, answer: &mut Answer)
 where
     S::Octets: Drop,
     S::Name: AsOctets + Drop,
@@ -269,7 +269,7 @@ where
     ensures { S.can_scan scanner.new }
 {
     for step in steps.split(',') {
-        take_step(scanner, step, answer);
+        run_step(scanner, step, answer);
         answer.add_text(",");
     }
 }
@@ -293,7 +293,7 @@ fn steps_and_words<'a>(inputs: &'a [Vec<u8>], answer: &mut Answer) -> (&'a str, 
 /// Parses tokens as they are spelled, with an allocator.
 fn scan_words<A: Allocator + Copy>(alloc: A, words: &[&str], steps: &str, answer: &mut Answer) {
     let mut scanner: IterScanner<_, Vec<u8, A>> = IterScanner::new(alloc, words.iter().copied());
-    take_steps(&mut scanner, steps, answer);
+    run_steps(&mut scanner, steps, answer);
     let is_left = scanner.continues();
     answer.check(scanner.is_exhausted() != is_left);
 }
@@ -313,7 +313,7 @@ fn four(inputs: &[Vec<u8>], answer: &mut Answer) {
         return answer.fail_for_memory();
     };
     let mut scanner: FourScanner = IterScanner::new((), words.iter().copied());
-    take_steps(&mut scanner, steps, answer);
+    run_steps(&mut scanner, steps, answer);
 }
 
 /// Does the same with a capacity of five octets.
@@ -323,7 +323,7 @@ fn five(inputs: &[Vec<u8>], answer: &mut Answer) {
         return answer.fail_for_memory();
     };
     let mut scanner: FiveScanner = IterScanner::new((), words.iter().copied());
-    take_steps(&mut scanner, steps, answer);
+    run_steps(&mut scanner, steps, answer);
 }
 
 /// Does the same with a capacity of seven octets.
@@ -333,7 +333,7 @@ fn seven(inputs: &[Vec<u8>], answer: &mut Answer) {
         return answer.fail_for_memory();
     };
     let mut scanner: SevenScanner = IterScanner::new((), words.iter().copied());
-    take_steps(&mut scanner, steps, answer);
+    run_steps(&mut scanner, steps, answer);
 }
 
 /// Returns a repeated part.
@@ -392,7 +392,7 @@ fn many(inputs: &[Vec<u8>], answer: &mut Answer) {
 /// Parses the tokens of an entry that began with a blank, with an allocator.
 fn scan_entry<A: Allocator + Copy>(alloc: A, words: &[&str], steps: &str, answer: &mut Answer) {
     let mut scanner: EntryScanner<'_, &str, Vec<u8, A>> = entry_scanner(alloc, words, true);
-    take_steps(&mut scanner, steps, answer);
+    run_steps(&mut scanner, steps, answer);
 }
 
 fn entry(inputs: &[Vec<u8>], answer: &mut Answer) {
@@ -414,7 +414,7 @@ fn scan_entry_at<A: Allocator + Copy>(
     let found: Option<EntryScanner<'_, String, Vec<u8, A>>> = entry_at(alloc, entries, place);
     answer.check(found.is_some() == (place < entries.len()));
     if let Some(mut scanner) = found {
-        take_steps(&mut scanner, steps, answer);
+        run_steps(&mut scanner, steps, answer);
         let is_left = scanner.continues();
         answer.check(scanner.is_exhausted() != is_left);
         answer.add_text("/");

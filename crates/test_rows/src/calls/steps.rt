@@ -9,9 +9,9 @@ use dns_octets::{AsOctets, FreezeBuilder, OctetsBuilder};
 use dns_scan::{ConvertSymbols, StrError};
 use dns_symbol::symbol::{EntrySymbol, Symbol};
 use dns_symbol::symbols::Symbols;
-use row_table::{Answer, Failure};
 use std::alloc::AllocError;
 use std::str;
+use test_support::{Answer, Failure};
 
 /// Returns the result of a converter for a symbol; `|` is the end of a token, and `$` the end of
 /// all.

@@ -2,10 +2,10 @@
 use dns_symbol::form::{Form, Plain, Quoted, Unquoted, write_octets};
 use dns_symbol::symbol::Symbol;
 use dns_symbol::symbols::Symbols;
-use row_table::input::number_of;
-use row_table::{Answer, Failure, Inputs};
 use std::marker::PhantomData;
 use std::{fmt, str};
+use test_support::input::number_of;
+use test_support::{Answer, Failure, Inputs};
 
 /// Answers a row: calls what it names.
 pub fn call(name: &str, inputs: &Inputs, answer: &mut Answer) {

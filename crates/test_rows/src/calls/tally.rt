@@ -1,12 +1,12 @@
 //! The number of pieces of a long text of repeated parts.
 use super::zone::add_fault;
-use dns_split::opening::{outermost_open, outermost_open_of_octets};
-use dns_split::pieces::{Fault, Piece, Pieces, Span, Wrong};
-use dns_split::splitting::{SplitError, split};
-use row_table::input::number_of;
-use row_table::{Answer, Failure};
+use dns_lexer::pieces::{Fault, Piece, Pieces, Span, Wrong};
+use dns_lexer::splitting::{SplitError, split};
+use dns_lexer::unclosed::{outermost_open, outermost_open_of_octets};
 use std::alloc::Allocator;
 use std::str;
+use test_support::input::number_of;
+use test_support::{Answer, Failure};
 
 /// The number of pieces of each kind, of the octets of words and quoted strings and of those of
 /// comments, and the error.

@@ -1,18 +1,18 @@
 //! Zone files: how they split, and their layouts.
 use super::{pieces, tally};
-use dns_split::entry_tokens::{EntryPart, EntryToken, EntryTokens, NextEntryError};
-use dns_split::opening::{outermost_open, outermost_open_of_octets};
-use dns_split::pieces::{EndOfEntry, Fault, Piece, Pieces, Span, Wrong};
-use dns_split::position::{Position, line_and_column, line_and_column_of_octets};
-use dns_split::splitting::split;
-use dns_split::token::{content, is_token};
+use dns_lexer::entry_tokens::{EntryPart, EntryToken, EntryTokens, NextEntryError};
+use dns_lexer::pieces::{EndOfEntry, Fault, Piece, Pieces, Span, Wrong};
+use dns_lexer::position::{Position, line_and_column, line_and_column_of_octets};
+use dns_lexer::splitting::split;
+use dns_lexer::token::{content, is_token};
+use dns_lexer::unclosed::{outermost_open, outermost_open_of_octets};
 use dns_zone::document::{Document, Item};
 use dns_zone::zonefile_fmt::{DisplayKind, ZonefileFmt};
-use refusing_heap::sink::Sink;
-use row_table::{Answer, Failure, Heap, Inputs};
 use std::alloc::AllocError;
 use std::fmt::Write;
 use std::{fmt, str};
+use test_support::heap::sink::Sink;
+use test_support::{Answer, Failure, Heap, Inputs};
 
 /// Answers a row: calls what it names.
 pub fn call(name: &str, inputs: &Inputs, answer: &mut Answer) {
@@ -134,7 +134,7 @@ pub fn add_fault(fault: Fault, answer: &mut Answer) {
 fn add_entry_token(token: EntryToken, answer: &mut Answer) {
     let quote = if token.is_quoted { "\"" } else { "" };
     answer.add_number(token.at);
-    answer.add_text(if token.is_glued { "+" } else { ":" });
+    answer.add_text(if token.is_adjacent { "+" } else { ":" });
     answer.add_text(quote);
     answer.add(token.text);
     answer.add_text(quote);

@@ -2,14 +2,14 @@
 ghost use Rattle.std.specs.Prelude.{◌+◌, ◌<◌, ◌^◌, length};
 
 use super::zone::{add_position, wrong_name};
-use row_table::{Answer, Failure, Heap, Inputs};
 use std::alloc::{AllocError, Allocator, Global};
-use zonetext_lib::blocks::{Checker, Halt};
+use test_support::{Answer, Failure, Heap, Inputs};
+use zonetext_lib::blocks::{Checker, ChunkError};
 use zonetext_lib::check::{Found, check};
 use zonetext_lib::comparer::{Comparer, Side};
 use zonetext_lib::diff::{Comparison, diff};
 use zonetext_lib::layout::{Gap, lay_out};
-use zonetext_lib::tokens::{Form, Stop, tokens};
+use zonetext_lib::tokens::{CommandError, Form, tokens};
 use zonetext_lib::unified::Unified;
 use zonetext_lib::writer::{Output, Writer};
 
@@ -69,22 +69,22 @@ fn add_found(found: Found, answer: &mut Answer) {
 }
 
 /// Adds a chunk, and repeats that if an allocation failed.
-fn add_again<A: Allocator>(checker: &mut Checker<A>, block: &[u8]) -> Result<(), Halt> {
+fn add_again<A: Allocator>(checker: &mut Checker<A>, block: &[u8]) -> Result<(), ChunkError> {
     match checker.add(block) {
-        Err(Halt::OutOfMemory) => checker.add(block),
+        Err(ChunkError::OutOfMemory) => checker.add(block),
         told => told,
     }
 }
 
 /// Checks octets in chunks of a length.
-fn check_blocks<A: Allocator>(alloc: A, octets: &[u8], size: usize) -> Result<(), Halt>
+fn check_blocks<A: Allocator>(alloc: A, octets: &[u8], size: usize) -> Result<(), ChunkError>
     requires { 0 < size }
 {
     let mut checker = Checker::new(alloc);
     for block in octets.chunks(size) {
         add_again(&mut checker, block)?;
     }
-    checker.finish().map_err(Halt::Wrong)
+    checker.finish().map_err(ChunkError::Wrong)
 }
 
 fn add_check(checked: Result<(), Found>, answer: &mut Answer) {
@@ -99,7 +99,7 @@ fn check_octets(octets: &[u8], answer: &mut Answer)
     requires { length octets.now + 2 < 2 ^ 64 }
 {
     let whole = check(octets, 0);
-    let wanted = whole.map_err(Halt::Wrong);
+    let wanted = whole.map_err(ChunkError::Wrong);
     for size in 2..=octets.len() {
         answer.hold(check_blocks(answer.alloc(), octets, size) == wanted);
     }
@@ -118,10 +118,10 @@ fn write_again<A: Allocator>(
     writer: &mut Writer<A>,
     block: &[u8],
     out: &mut Vec<u8, A>,
-) -> Result<(), Halt> {
+) -> Result<(), ChunkError> {
     let before = out.len();
     match writer.add(block, out) {
-        Err(Halt::OutOfMemory) => {
+        Err(ChunkError::OutOfMemory) => {
             out.truncate(before);
             writer.add(block, out)
         }
@@ -130,10 +130,10 @@ fn write_again<A: Allocator>(
 }
 
 /// Writes the rest, and repeats that if an allocation failed.
-fn finish_again<A: Allocator>(writer: &Writer<A>, out: &mut Vec<u8, A>) -> Result<(), Halt> {
+fn finish_again<A: Allocator>(writer: &Writer<A>, out: &mut Vec<u8, A>) -> Result<(), ChunkError> {
     let before = out.len();
     match writer.finish(out) {
-        Err(Halt::OutOfMemory) => {
+        Err(ChunkError::OutOfMemory) => {
             out.truncate(before);
             writer.finish(out)
         }
@@ -148,7 +148,7 @@ fn write_blocks<A: Allocator>(
     octets: &[u8],
     size: usize,
     out: &mut Vec<u8, A>,
-) -> Result<(), Halt>
+) -> Result<(), ChunkError>
     requires { 0 < size }
 {
     let mut writer = Writer::new(alloc, output);
@@ -164,7 +164,7 @@ fn write_whole<'a>(
     octets: &[u8],
     lines: usize,
     out: &mut Vec<u8, &'a Heap>,
-) -> Result<(), Stop>
+) -> Result<(), CommandError>
     requires { length octets.now + lines + 2 < 2 ^ 64 }
 {
     match output {
@@ -177,7 +177,7 @@ fn write_whole<'a>(
 #[derive(Clone, Copy)]
 struct Written<'a> {
     octets: &'a [u8],
-    end: Result<(), Halt>,
+    end: Result<(), ChunkError>,
 }
 
 /// Returns whether chunks of another length have the same output.
@@ -197,8 +197,8 @@ fn is_whole(heap: &Heap, output: Output, octets: &[u8], wanted: &Written) -> boo
     let mut out = Vec::new(heap);
     match (write_whole(output, octets, 0, &mut out), wanted.end) {
         (Ok(()), Ok(())) => *out.as_slice() == *wanted.octets,
-        (Err(Stop::Wrong(found)), Err(Halt::Wrong(other))) => found == other,
-        (Err(Stop::OutOfMemory), _) => heap.has_refused(),
+        (Err(CommandError::Wrong(found)), Err(ChunkError::Wrong(other))) => found == other,
+        (Err(CommandError::OutOfMemory), _) => heap.has_refused(),
         _ => false,
     }
 }
@@ -224,7 +224,7 @@ fn add_written(written: Written, answer: &mut Answer) {
     answer.add(written.octets);
     match written.end {
         Ok(()) => {}
-        Err(Halt::Wrong(found)) => add_fault(found, answer),
+        Err(ChunkError::Wrong(found)) => add_fault(found, answer),
         Err(_) => answer.hold(false),
     }
 }
@@ -260,12 +260,12 @@ fn write_after(output: Output, inputs: &Inputs, answer: &mut Answer) {
         output,
     ) {
         (Ok(()), _) => answer.add(out.as_slice()),
-        (Err(Stop::Wrong(found)), Output::Rows(_)) => {
+        (Err(CommandError::Wrong(found)), Output::Rows(_)) => {
             answer.add(out.as_slice());
             add_fault(found, answer);
         }
-        (Err(Stop::Wrong(found)), Output::Lines(_)) => add_fault(found, answer),
-        (Err(Stop::OutOfMemory), _) => answer.fail_for_memory(),
+        (Err(CommandError::Wrong(found)), Output::Lines(_)) => add_fault(found, answer),
+        (Err(CommandError::OutOfMemory), _) => answer.fail_for_memory(),
     }
 }
 
@@ -274,9 +274,9 @@ fn add_twice<A: Allocator + Copy>(
     comparer: &mut Comparer<A>,
     side: Side,
     block: &[u8],
-) -> Result<(), Halt> {
+) -> Result<(), ChunkError> {
     match comparer.add(side, block) {
-        Err(Halt::OutOfMemory) => comparer.add(side, block).map(|_| ()),
+        Err(ChunkError::OutOfMemory) => comparer.add(side, block).map(|_| ()),
         told => told.map(|_| ()),
     }
 }
@@ -287,7 +287,7 @@ fn add_block<'o, A: Allocator + Copy>(
     side: Side,
     octets: &'o [u8],
     size: usize,
-) -> Result<&'o [u8], Halt> {
+) -> Result<&'o [u8], ChunkError> {
     if !comparer.wants_more(side) {
         return Ok(octets);
     }
@@ -302,7 +302,7 @@ fn compare_blocks<A: Allocator + Copy>(
     one: &[u8],
     other: &[u8],
     size: usize,
-) -> Result<Comparison, Halt> {
+) -> Result<Comparison, ChunkError> {
     let mut comparer = Comparer::new(alloc);
     let (mut ours, mut theirs) = (one, other);
     for _ in 0..u64::MAX {
@@ -313,7 +313,7 @@ fn compare_blocks<A: Allocator + Copy>(
         }
         ours = our_rest;
         theirs = their_rest;
-        comparer.let_go();
+        comparer.discard_read();
     }
     Ok(comparer.finish())
 }

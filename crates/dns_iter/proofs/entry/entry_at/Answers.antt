@@ -1,6 +1,6 @@
 use Rattle.std.proofs.Common.{List, length, refl, sym, ap, subst}
 use Rattle.std.proofs.lemmas.Option.{slice_get_read}
-use Rattle.dns_split.specs.Answer.{texts, entries_of}
+use Rattle.dns_lexer.specs.Answer.{texts, entries_of}
 use Rattle.dns_scan.specs.Tokens.{Token}
 use Rattle.dns_iter.specs.Contents.{HaveContents}
 use Rattle.dns_iter.proofs.Holding.{entry_is, held_at, holds_only, known_held, none_held}

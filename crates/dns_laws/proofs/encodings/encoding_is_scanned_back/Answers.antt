@@ -1,5 +1,5 @@
 use Rattle.std.proofs.Common.{ℕ, List}
-use Rattle.dns_scan.specs.Octets.{GivesWhere}
+use Rattle.dns_scan.specs.Octets.{ReturnsWhere}
 use Rattle.dns_scan.proofs.Whole.{of_first}
 use Rattle.dns_codec.specs.Grammar.{IsEncodingOf}
 use Rattle.dns_entry.specs.Codecs.{codec_of}
@@ -15,7 +15,7 @@ returns-clause-takes g c = λ token others stands.
     let answer = base_answer g.S.Error.ScannerError.cause g.S.OctetsBuilder.OctetsBuilder.room g.K.Encoding.base
     g.S.Octets.AsOctets.octets token c.new.result c.convert_token.result c.new.ensures first.0 in
     let whole : (octets : List ℕ) → IsEncodingOf g.K.Encoding.base token octets
-    → GivesWhere g.S.Error.ScannerError.cause g.S.Octets.AsOctets.octets g.S.OctetsBuilder.OctetsBuilder.room octets c.convert_token.result =
+    → ReturnsWhere g.S.Error.ScannerError.cause g.S.Octets.AsOctets.octets g.S.OctetsBuilder.OctetsBuilder.room octets c.convert_token.result =
     λ octets is. gives_value (codec_of g.K.Encoding.base) (base_same g.K.Encoding.base) (base_needs g.K.Encoding.base) g.K.Encoding.base
     (base_text g.K.Encoding.base g.met.K.Encoding.known) (base_only g.K.Encoding.base g.met.K.Encoding.known)
     g.S.Error.ScannerError.cause g.S.Octets.AsOctets.octets g.S.OctetsBuilder.OctetsBuilder.room

@@ -1,7 +1,7 @@
 use Rattle.std.proofs.Common.{ℕ, ◌∷◌, subst, Result, Ok, Err}
 use Rattle.dns_symbol.specs.Cause.{Cause}
 use Rattle.dns_scan.specs.Numbers.{by_cause}
-use Rattle.dns_scan.specs.Stands.{HasTokens}
+use Rattle.dns_scan.specs.Unread.{HasTokens}
 use Rattle.dns_scan.specs.Tokens.{Token}
 use Rattle.dns_laws.specs.Numbers.{NumberBack}
 use Rattle.dns_laws.proofs.numbers.number_is_scanned_back.Goals as goal

@@ -6,7 +6,7 @@ use Rattle.dns_symbol.specs.declared.error.SymbolCharsError.{SymbolCharsError}
 use Rattle.dns_symbol.specs.Symbol.{octet_of}
 use Rattle.dns_symbol.specs.Printed.{is_unquoted_escape, is_quoted_escape}
 use Rattle.dns_symbol.proofs.PrintedForms.{unquoted_form, quoted_form}
-use Rattle.dns_scan.specs.Steps.{octet_given}
+use Rattle.dns_scan.specs.Steps.{step_octet}
 use Rattle.dns_scan.proofs.Answered.{builds_answer}
 use Rattle.dns_scan.proofs.Whole.{of_first, scans_whole, scans_printed, scans_only, scans_rest, same_count}
 use Rattle.dns_scan.proofs.laws.character_strings_are_scanned_back.Goals as goal
@@ -29,7 +29,7 @@ returns-clause-takes g c = λ token others stands. (
         (λ at. scans_printed g.S.Scanner.next_token g.S.Error.ScannerError.cause _
         (λ s. s) _ _ _ c.scan_charstr.ensures.scans is_quoted_escape quoted_form octets others bytes (rw (← at) stands))
         is;
-    answer = λ symbols error read. builds_answer g.S.Error.ScannerError.cause octet_given _ (λ s. s) token c.scan_charstr.result
+    answer = λ symbols error read. builds_answer g.S.Error.ScannerError.cause step_octet _ (λ s. s) token c.scan_charstr.result
         (of_first g.S.Scanner.next_token g.S.Error.ScannerError.cause _ _ _ _ token others stands c.scan_charstr.ensures.scans).0 symbols error read;
     only = λ symbols error read. few c.scan_charstr.result g.S.OctetsBuilder.OctetsBuilder.room symbols error
         (scans_only g.S.Scanner.next_token g.S.Error.ScannerError.cause _ (λ s. s) _ _ _ c.scan_charstr.ensures.scans token others symbols error stands read);

@@ -2,7 +2,7 @@ use Rattle.std.proofs.Common.{List, Option, ◌-◌}
 use Rattle.std.specs.List.{FoldsTo}
 use Rattle.dns_symbol.specs.Cause.{Cause}
 use Rattle.dns_scan.specs.Reads.{ReadsEach}
-use Rattle.dns_scan.specs.Stands.{HasTokens}
+use Rattle.dns_scan.specs.Unread.{HasTokens}
 use Rattle.dns_scan.specs.Tokens.{Token}
 use Rattle.dns_scan.proofs.laws.scans_in_turn.Given as goal
 

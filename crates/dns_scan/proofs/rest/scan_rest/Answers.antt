@@ -3,7 +3,7 @@ use Rattle.std.proofs.lemmas.Result.{err_from_is_err_and}
 use Rattle.std.proofs.lemmas.List.{length-append}
 use Rattle.std.specs.Prelude.{◌≢◌}
 use Rattle.dns_scan.specs.Reads.{ReadsSome}
-use Rattle.dns_scan.specs.Stands.{HasTokens}
+use Rattle.dns_scan.specs.Unread.{HasTokens}
 use Rattle.dns_scan.proofs.TokensLeft.{peeked_some, peeked_none, some_more, ends_with_one, none_refused, rest_of_none}
 use Rattle.dns_scan.proofs.rest.scan_rest.Goals as goal
 

@@ -1,6 +1,6 @@
 use Rattle.std.proofs.Common.{◌≡◌, List, length}
 use Rattle.dns_scan.specs.Reads.{ReadsSome}
-use Rattle.dns_scan.specs.Stands.{HasTokens}
+use Rattle.dns_scan.specs.Unread.{HasTokens}
 use Rattle.dns_scan.specs.Tokens.{Token}
 use Rattle.dns_scan.proofs.rest.scan_rest.Given as goal
 

@@ -9,7 +9,7 @@ returns c =
     let few = c.if-octets-gt-MOST.false in
     record {
       short = λ _.
-          given (encoded base16 c.args.octets.now) c.args.text.now c.encode_slice.new.text c.encode_slice.result _ c.tell_written.result c.tell_written.new.outcome
-          c.encode_slice.ensures c.encode_slice.auto.text (sym (encoded16_length c.args.octets.now)) c.tell_written.ensures.ok c.tell_written.ensures.short c.tell_written.ensures.told;
+          given (encoded base16 c.args.octets.now) c.args.text.now c.encode_slice.new.text c.encode_slice.result _ c.report_written.result c.report_written.new.outcome
+          c.encode_slice.ensures c.encode_slice.auto.text (sym (encoded16_length c.args.octets.now)) c.report_written.ensures.ok c.report_written.ensures.short c.report_written.ensures.told;
       long = λ many. absurd (omega (arith, many, few));
     }

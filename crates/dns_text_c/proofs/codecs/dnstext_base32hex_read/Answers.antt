@@ -7,6 +7,6 @@ use Rattle.dns_text_c.proofs.codecs.dnstext_base32hex_read.Goals as goal
 
 pub returns : goal.returns
 returns c =
-    told base32hex known32 c.args.text.now c.args.octets.now c.decode_slice_hex-read.new.octets c.decode_slice_hex-read.result _ _ c.tell_read.result c.tell_read.new.outcome
+    told base32hex known32 c.args.text.now c.args.octets.now c.decode_slice_hex-read.new.octets c.decode_slice_hex-read.result _ _ c.report_read.result c.report_read.new.outcome
     (omega arith) (omega arith) (grind (arith, common_steps)) (grind (arith, common_steps)) c.decode_slice_hex-read.ensures.read c.decode_slice_hex-read.ensures.refused
-    c.tell_read.ensures.some c.tell_read.ensures.none
+    c.report_read.ensures.some c.report_read.ensures.none

@@ -7,6 +7,6 @@ use Rattle.dns_text_c.proofs.codecs.dnstext_base64_read.Goals as goal
 
 pub returns : goal.returns
 returns c =
-    told base64 known64 c.args.text.now c.args.octets.now c.decode_slice-read.new.octets c.decode_slice-read.result _ _ c.tell_read.result c.tell_read.new.outcome
+    told base64 known64 c.args.text.now c.args.octets.now c.decode_slice-read.new.octets c.decode_slice-read.result _ _ c.report_read.result c.report_read.new.outcome
     (omega arith) (omega arith) (grind (arith, common_steps)) (grind (arith, common_steps)) c.decode_slice-read.ensures.read c.decode_slice-read.ensures.refused
-    c.tell_read.ensures.some c.tell_read.ensures.none
+    c.report_read.ensures.some c.report_read.ensures.none

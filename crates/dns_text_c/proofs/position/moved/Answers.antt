@@ -1,4 +1,4 @@
-use Rattle.dns_split.proofs.Positions.{none_before}
+use Rattle.dns_lexer.proofs.Positions.{none_before}
 use Rattle.dns_text_c.proofs.position.moved.Goals as goal
 
 pub returns-then-offset-from-clause-on : goal.returns-then-offset-from-clause-on

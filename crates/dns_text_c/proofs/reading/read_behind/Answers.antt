@@ -1,6 +1,6 @@
 use Rattle.std.proofs.Common.{Ok, Err, refl, subst}
 use Rattle.dns_octets.specs.Room.{exactly}
-use Rattle.dns_text_c.specs.Reasons.{TellsError}
+use Rattle.dns_text_c.specs.Reasons.{ReportsError}
 use Rattle.dns_text_c.proofs.reading.read_behind.Goals as goal
 
 pub returns-in-Ok : goal.returns-in-Ok
@@ -11,5 +11,5 @@ returns-else-rejected c =
     let given = rw c.in-Err.is at c.read_in_room.ensures in (
       Err c.in-Err.rejected.error,
       given.0.1 c.if-rejected.false (exactly 65535),
-      subst (λ o. TellsError c.in-Err.rejected.error o c.tell_error.result c.tell_error.new.octets c.tell_error.new.outcome) given.1 c.tell_error.ensures,
+      subst (λ o. ReportsError c.in-Err.rejected.error o c.report_error.result c.report_error.new.octets c.report_error.new.outcome) given.1 c.report_error.ensures,
     )

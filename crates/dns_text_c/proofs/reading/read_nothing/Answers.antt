@@ -1,6 +1,6 @@
 use Rattle.std.proofs.Common.{◌∙◌, Err, Ok, false}
 use Rattle.std.specs.Option.{option_copied}
-use Rattle.dns_reader.proofs.TextParts.{closed_left}
+use Rattle.zone_reader.proofs.TextParts.{closed_left}
 use Rattle.dns_text_c.proofs.CutOff.{fits_if, tokens_in}
 use Rattle.dns_text_c.proofs.ReadTexts.{nothing_after}
 use Rattle.dns_text_c.proofs.reading.read_nothing.Goals as goal

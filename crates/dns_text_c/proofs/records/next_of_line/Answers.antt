@@ -11,5 +11,5 @@ returns c =
       c.load_state.new.state,
       loaded c.args.zone.now c.load_state.result c.load_state.new.state c.if-not-load_state.false c.load_state.ensures,
       omega (arith, c.if-zone-text.false),
-      line_told c.in-Some-head_of_line.head _ _ c.read_line.new.state c.in-Some.line c.as_slice.result.now _ c.in-Some-head_of_line.ensures (rw (none, all) at c.in-Some.ensures.reads) c.tell_line.ensures,
+      line_told c.in-Some-head_of_line.head _ _ c.read_line.new.state c.in-Some.line c.as_slice.result.now _ c.in-Some-head_of_line.ensures (rw (none, all) at c.in-Some.ensures.reads) c.report_line.ensures,
     )

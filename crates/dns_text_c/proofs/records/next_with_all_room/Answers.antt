@@ -3,8 +3,8 @@ use Rattle.dns_text_c.specs.Capacity.{as_reader}
 use Rattle.dns_text_c.proofs.KeptNames.{closed, included, loaded, something}
 use Rattle.dns_text_c.proofs.records.next_with_all_room.Goals as goal
 
-pub tell_given-requires : goal.tell_given-requires
-tell_given-requires c =
+pub report_result-requires : goal.report_result-requires
+report_result-requires c =
     let none : c.new-data.result.items ≡ [] = search rules in
     let all : c.next_record-read.new.target.items ≡ c.as_slice.result.now = search rules in
     let reads = c.next_record-read.ensures.0 in
@@ -28,6 +28,6 @@ returns c =
         octets = c.as_slice.result.now;
         starts = record { octets_is = starts.octets_is; parts = starts.parts; closed = starts.closed; began = starts.began; taken = starts.taken; state_is = refl };
         reads = rw (none, all) at read;
-        tells = c.tell_given.ensures;
+        tells = c.report_result.ensures;
       },
     )

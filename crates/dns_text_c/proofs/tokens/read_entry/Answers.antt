@@ -16,7 +16,7 @@ loop-token-preserved-in-Token c =
       c.put_token.ensures.put ∙ put_more i.0 c.args.tokens.now c.loop-token.tokens c.loop-token.count t i.4 i.3 c.put_token.ensures.few,
     )
 
-pub returns-in-Stop-clause-open : goal.returns-in-Stop-clause-open
-returns-in-Stop-clause-open c =
-    let s = rw c.in-Stop.is at c.next_step.ensures in
-    leaves_open c.args.text.now c.args.at _ c.in-Stop.stop c.of_octets_starting_at-pieces.ensures.reads (sym s.1 ∙ sym c.loop-token.invariant.2)
+pub returns-in-EntryEnd-clause-open : goal.returns-in-EntryEnd-clause-open
+returns-in-EntryEnd-clause-open c =
+    let s = rw c.in-EntryEnd.is at c.next_step.ensures in
+    leaves_open c.args.text.now c.args.at _ c.in-EntryEnd.stop c.of_octets_starting_at-pieces.ensures.reads (sym s.1 ∙ sym c.loop-token.invariant.2)

@@ -1,6 +1,6 @@
 use Rattle.std.proofs.Common.{subst, sym, ap, Ok, Err}
 use Rattle.std.proofs.lemmas.Result.{err_from_is_err_and}
-use Rattle.dns_scan.specs.Stands.{HasTokens}
+use Rattle.dns_scan.specs.Unread.{HasTokens}
 use Rattle.dnstext_lib.specs.Program.{LinesWritten, bytes_of_words}
 use Rattle.dnstext_lib.proofs.Printing.{drop_at, drop_all, lines_more, lines_none, lines_stop}
 use Rattle.dnstext_lib.proofs.program.print_values.Goals as goal

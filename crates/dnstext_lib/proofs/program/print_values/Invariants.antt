@@ -1,5 +1,5 @@
 use Rattle.std.proofs.Common.{drop}
-use Rattle.dns_scan.specs.Stands.{HasTokens}
+use Rattle.dns_scan.specs.Unread.{HasTokens}
 use Rattle.dnstext_lib.specs.Program.{LinesWritten, bytes_of_words}
 use Rattle.dnstext_lib.proofs.program.print_values.Given as goal
 

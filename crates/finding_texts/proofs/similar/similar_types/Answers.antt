@@ -1,5 +1,5 @@
 use Rattle.std.proofs.Common.{[], ap, sym, cond, take, ◌∙◌, length}
-use Rattle.dns_kinds.specs.Types.{type_rows}
+use Rattle.rdata_values.specs.Types.{type_rows}
 use Rattle.std.specs.Str.{str_to_ascii_uppercase}
 use Rattle.finding_texts.specs.Similar.{suggested_types}
 use Rattle.finding_texts.proofs.Suggesting.{is_between}

@@ -1,5 +1,5 @@
 use Rattle.std.proofs.Common.{◌≡◌, take}
-use Rattle.dns_kinds.specs.Registry.{code_rows}
+use Rattle.rdata_values.specs.Registry.{code_rows}
 use Rattle.finding_texts.specs.Similar.{suggested_types}
 use Rattle.finding_texts.proofs.similar.suggested_types.Given as goal
 

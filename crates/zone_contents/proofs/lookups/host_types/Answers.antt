@@ -1,5 +1,5 @@
 use Rattle.std.proofs.Common.{◌∙◌}
-use Rattle.dns_kinds.specs.Rtype as Rtype
+use Rattle.rdata_values.specs.Rtype as Rtype
 use Rattle.zone_contents.proofs.FewTypes.{few_types}
 use Rattle.zone_contents.proofs.lookups.host_types.Goals as goal
 

@@ -1,5 +1,5 @@
 use Rattle.std.proofs.Common.{sym, subst, ◌∙◌}
-use Rattle.dns_resource.specs.TypeData.{IsTypeData}
+use Rattle.zone_record.specs.TypeData.{IsTypeData}
 use Rattle.zone_contents.proofs.Listings.{valid_at}
 use Rattle.zone_contents.proofs.records.record_at.Goals as goal
 

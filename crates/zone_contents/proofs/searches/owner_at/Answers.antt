@@ -1,11 +1,11 @@
 use Rattle.std.proofs.Common.{ap, subst, sym, ◌∙◌}
-use Rattle.dns_spelling.specs.NameSpelling.{IsWireName}
+use Rattle.rdata_tokens.specs.NameSpelling.{IsWireName}
 use Rattle.dns_wire.specs.Labelled.{wire_same}
 use Rattle.dns_wire.specs.Wire.{wire}
 use Rattle.zone_contents.specs.Keys.{name_in_zone, IsNameKey}
 use Rattle.zone_contents.proofs.Listings.{valid_at}
 use Rattle.zone_contents.proofs.ZoneNames.{owner_wire}
-use Rattle.zone_store.specs.Stored.{record_at}
+use Rattle.zone_set.specs.Stored.{record_at}
 use Rattle.zone_contents.proofs.searches.owner_at.Goals as goal
 
 pub write_name-requires : goal.write_name-requires

@@ -1,5 +1,5 @@
 use Rattle.std.proofs.Common.{◌++◌, length, ap, ◌∙◌, arith}
-use Rattle.dns_canonical.specs.KeyNames.{key_name}
+use Rattle.zone_record.specs.KeyNames.{key_name}
 use Rattle.dns_wire.specs.Wire.{wire}
 use Rattle.zone_contents.proofs.ZoneNames.{other_labels, other_room, within_labels, within_octets, within_room}
 use Rattle.zone_contents.proofs.zone_key.write_name.Goals as goal

@@ -2,7 +2,7 @@ use Rattle.std.proofs.Common.{rules, tests}
 use Rattle.std.specs.Prelude.{◌==◌}
 use Rattle.std.proofs.lemmas.Iterator.Consumers.{YieldsList-from_first}
 use Rattle.std.proofs.lemmas.Iterator.Search.{any_from_yields_List}
-use Rattle.dns_lists.specs.Bitmap.{types_of}
+use Rattle.rdata_values.specs.Bitmap.{types_of}
 use Rattle.zone_dnssec.proofs.bitmaps.lists.Goals as goal
 
 pub returns : goal.returns

@@ -1,7 +1,7 @@
 use Rattle.std.proofs.Common.{rules, tests}
 use Rattle.std.proofs.lemmas.Iterator.Consumers.{YieldsList-from_first}
 use Rattle.std.proofs.lemmas.Iterator.Search.{all_from_yields_List}
-use Rattle.dns_lists.specs.Bitmap.{types_of}
+use Rattle.rdata_values.specs.Bitmap.{types_of}
 use Rattle.zone_dnssec.specs.NsecTypes.{has_listed_type}
 use Rattle.zone_dnssec.proofs.bitmaps.lists_only.Goals as goal
 

@@ -7,7 +7,7 @@ use Rattle.std.proofs.lemmas.Iterator.{YieldsList-from_slice}
 use Rattle.std.proofs.lemmas.Iterator.Search.{find_from_yields_List}
 use Rattle.std.proofs.lemmas.List.{take_all}
 use Rattle.std.proofs.lemmas.List.Sorted.{IsPartitionPoint-from_clause}
-use Rattle.dns_canonical.specs.Names.{name_order}
+use Rattle.zone_record.specs.Names.{name_order}
 use Rattle.zone_rules.specs.Zones.{AreInOrder}
 use Rattle.zone_rules.proofs.Lookups.{upto_parted}
 use Rattle.zone_dnssec.specs.NsecChain.{comes_after}

@@ -6,7 +6,7 @@ use Rattle.std.specs.Ordering.{is_lt}
 use Rattle.std.proofs.lemmas.Iterator.Adapters.{YieldsList-from_rev_slice}
 use Rattle.std.proofs.lemmas.Iterator.Search.{find_from_yields_List}
 use Rattle.std.proofs.lemmas.List.Sorted.{IsPartitionPoint-from_clause}
-use Rattle.dns_canonical.specs.Names.{name_order}
+use Rattle.zone_record.specs.Names.{name_order}
 use Rattle.zone_rules.specs.Zones.{AreInOrder}
 use Rattle.zone_rules.proofs.Lookups.{before_parted}
 use Rattle.zone_dnssec.specs.Nsec3Chain.{is_link}

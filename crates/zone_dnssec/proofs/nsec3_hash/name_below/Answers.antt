@@ -1,7 +1,7 @@
 use Rattle.std.proofs.Common.{◌∷◌, length, sym, ap, subst, ◌∙◌, arith}
 use Rattle.dns_codec.specs.Base.{base32hex, encoded}
-use Rattle.dns_spelling.specs.NameSpelling.{IsWireName}
-use Rattle.dns_spelling.specs.Spelling.{AreOctetValues}
+use Rattle.rdata_tokens.specs.NameSpelling.{IsWireName}
+use Rattle.rdata_tokens.specs.Spelling.{AreOctetValues}
 use Rattle.dns_wire.specs.Labelled.{wire_same}
 use Rattle.dns_wire.proofs.Wires.{length_wire}
 use Rattle.zone_dnssec.proofs.HashLabels.{label_length, label_name, label_octets}

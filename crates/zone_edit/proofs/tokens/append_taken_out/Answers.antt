@@ -1,6 +1,6 @@
 use Rattle.std.proofs.Common.{◌++◌, length, refl, sym, ap, ◌∙◌, arith, append-nil, rules, slice_index_or, drop_of_length-le}
-use Rattle.dns_split.specs.declared.pieces.Span.{Span}
-use Rattle.zone_edit.specs.Tokens.{taken_out}
+use Rattle.dns_lexer.specs.declared.pieces.Span.{Span}
+use Rattle.zone_edit.specs.Tokens.{removed_spans}
 use Rattle.zone_edit.proofs.Gaps.{after_gives, taken_next}
 use Rattle.zone_edit.proofs.tokens.append_taken_out.Goals as goal
 
@@ -23,4 +23,4 @@ pub returns-clause-made : goal.returns-clause-made
 returns-clause-made g c =
     let octets = c.args.octets.now in
     let rest = drop_of_length-le c.args.tokens.now (omega (arith, c.loop-token-test.false)) in
-    sym (append-nil c.loop-token.out.items) ∙ ap (λ l. c.loop-token.out.items ++ taken_out octets c.loop-token.at l) (sym rest) ∙ c.loop-token.invariant.made
+    sym (append-nil c.loop-token.out.items) ∙ ap (λ l. c.loop-token.out.items ++ removed_spans octets c.loop-token.at l) (sym rest) ∙ c.loop-token.invariant.made

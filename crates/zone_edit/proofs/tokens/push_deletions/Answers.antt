@@ -1,6 +1,6 @@
 use Rattle.std.proofs.Common.{◌++◌, ◌+◌, ◌∷◌, drop, slice_index_or, refl, sym, ap, ◌∙◌}
 use Rattle.std.specs.Prelude.{map}
-use Rattle.dns_split.specs.declared.pieces.Span.{Span}
+use Rattle.dns_lexer.specs.declared.pieces.Span.{Span}
 use Rattle.zone_edit.specs.Tokens.{no_text, spans_of, texts_of}
 use Rattle.zone_edit.proofs.Opening.{rest_of}
 use Rattle.zone_edit.proofs.Pushing.{continues_next, spans_next, texts_next}

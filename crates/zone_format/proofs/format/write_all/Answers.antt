@@ -1,12 +1,12 @@
 use Rattle.std.proofs.Common.{◌≡◌, ◌++◌, ◌∷◌, false, length, refl, sym, ap, ◌∙◌, subst, inl}
 use Rattle.std.specs.Prelude.{Some, None, Ok}
 use Rattle.std.proofs.lemmas.Result.{err_from_is_err_and}
-use Rattle.dns_split.specs.Pieces.{ReadsOctets, EachWithin, IsGiven}
-use Rattle.dns_split.specs.declared.pieces.Piece.TheVariants.{Word as WordAt, Quote as QuoteAt, Comment as CommentAt, End as EndAt}
-use Rattle.dns_split.specs.Standing.{blank_at}
+use Rattle.dns_lexer.specs.Pieces.{ReadsOctets, EachWithin, AreItemsOf}
+use Rattle.dns_lexer.specs.declared.pieces.Piece.TheVariants.{Word as WordAt, Quote as QuoteAt, Comment as CommentAt, End as EndAt}
+use Rattle.dns_lexer.specs.CursorStates.{blank_at}
 use Rattle.zone_format.specs.Blocks.{resting}
 use Rattle.zone_format.specs.Marks.{lead, marks}
-use Rattle.zone_format.specs.Writing.{accepts_from, stands_after, written_from}
+use Rattle.zone_format.specs.Writing.{accepts_from, state_after, written_from}
 use Rattle.zone_format.proofs.Follow.{follow}
 use Rattle.zone_format.proofs.Givens.{all_ok, first_fault, pieces_in, whole_of, fault_of}
 use Rattle.zone_format.proofs.Turning.{first_fits, first_goes, first_reaches, stays_word, stays_quote, stays_note, stays_end, unfit_refused}
@@ -54,7 +54,7 @@ pub returns-in_err-progress-in-Ok-Word-clause-bad : goal.returns-in_err-progress
 returns-in_err-progress-in-Ok-Word-clause-bad g c =
     let octets = c.args.octets.now in
     let same = c.into_iter-piece-iterator.ensures.into_iter_gives in
-    let given : IsGiven octets c.into_iter-piece-iterator.result = (subst (ReadsOctets octets) (sym same) c.of_octets-piece-items.ensures.reads, subst (EachWithin (length octets)) (sym same) c.of_octets-piece-items.ensures.within) in
+    let given : AreItemsOf octets c.into_iter-piece-iterator.result = (subst (ReadsOctets octets) (sym same) c.of_octets-piece-items.ensures.reads, subst (EachWithin (length octets)) (sym same) c.of_octets-piece-items.ensures.within) in
     let x = c.in-Ok-Word.span in
     let step : c.loop-piece.piece-iterator ≡ Ok (WordAt x) ∷ c.next.new.self = c.in-Some.ensures.steps ∙ ap (λ x. x ∷ c.next.new.self) (c.in-Ok-Word.is ∙ ap Ok (rw c.in-Ok-Word.is at c.in-Ok-Word.field-0-is)) in
     let inv = rw step at c.loop-piece.invariant in
@@ -65,7 +65,7 @@ pub returns-in_err-progress-in-Ok-Quote-clause-bad : goal.returns-in_err-progres
 returns-in_err-progress-in-Ok-Quote-clause-bad g c =
     let octets = c.args.octets.now in
     let same = c.into_iter-piece-iterator.ensures.into_iter_gives in
-    let given : IsGiven octets c.into_iter-piece-iterator.result = (subst (ReadsOctets octets) (sym same) c.of_octets-piece-items.ensures.reads, subst (EachWithin (length octets)) (sym same) c.of_octets-piece-items.ensures.within) in
+    let given : AreItemsOf octets c.into_iter-piece-iterator.result = (subst (ReadsOctets octets) (sym same) c.of_octets-piece-items.ensures.reads, subst (EachWithin (length octets)) (sym same) c.of_octets-piece-items.ensures.within) in
     let x = c.in-Ok-Quote.span in
     let step : c.loop-piece.piece-iterator ≡ Ok (QuoteAt x) ∷ c.next.new.self = c.in-Some.ensures.steps ∙ ap (λ x. x ∷ c.next.new.self) (c.in-Ok-Quote.is ∙ ap Ok (rw c.in-Ok-Quote.is at c.in-Ok-Quote.field-0-is)) in
     let inv = rw step at c.loop-piece.invariant in
@@ -96,12 +96,12 @@ returns-clause-well g c =
     let last = marks octets p.is_token p.at in
     let ended : written_from p.stand (last (pieces_in c.loop-piece.piece-iterator)) ≡ _ = ap (λ l. written_from p.stand (last (pieces_in l))) over in
     let taken : accepts_from p.stand (last (pieces_in c.loop-piece.piece-iterator)) ≡ _ = ap (λ l. accepts_from p.stand (last (pieces_in l))) over in
-    let stood : stands_after p.stand (last (pieces_in c.loop-piece.piece-iterator)) ≡ _ = ap (λ l. stands_after p.stand (last (pieces_in l))) over in
+    let stood : state_after p.stand (last (pieces_in c.loop-piece.piece-iterator)) ≡ _ = ap (λ l. state_after p.stand (last (pieces_in l))) over in
     record {
       marks = lead b ++ ms;
       read = (found, whole_of octets c.into_iter-piece-iterator.result (subst (ReadsOctets octets) (sym same) c.of_octets-piece-items.ensures.reads) none, subst (λ l. EachWithin (length octets) l) (all_ok c.into_iter-piece-iterator.result none) (subst (EachWithin (length octets)) (sym same) c.of_octets-piece-items.ensures.within), refl);
       accepted = sym (first_goes accepts_from (λ s m. refl) c.blank_at.result b c.led_if.result c.stand.result z ms c.stand.ensures c.led_if.ensures c.blank_at.ensures) ∙ sym inv.accepted ∙ taken;
       out = ap (λ l. c.loop-piece.out.items ++ l) (sym ended) ∙ inv.out
           ∙ ap (λ l. c.args.out.now.items ++ l) (first_goes written_from (λ s m. refl) c.blank_at.result b c.led_if.result c.stand.result z ms c.stand.ensures c.led_if.ensures c.blank_at.ensures);
-      stand = sym stood ∙ inv.stand ∙ first_goes stands_after (λ s m. refl) c.blank_at.result b c.led_if.result c.stand.result z ms c.stand.ensures c.led_if.ensures c.blank_at.ensures;
+      stand = sym stood ∙ inv.stand ∙ first_goes state_after (λ s m. refl) c.blank_at.result b c.led_if.result c.stand.result z ms c.stand.ensures c.led_if.ensures c.blank_at.ensures;
     }

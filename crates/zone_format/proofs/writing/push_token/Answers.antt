@@ -13,7 +13,7 @@ returns g c =
     let old = c.args.out.now.items in
     let s = c.args.stand in
     let x = c.args.token.now in
-    let glued = c.args.is_glued in
+    let glued = c.args.is_adjacent in
     let out : c.extend_from_slice.new.self.items ≡ old ++ (token_before s glued x ++ x) =
     c.in_ok-extend_from_slice.ensures.items ∙ ap (λ l. l ++ x) (c.in_ok-push_before.ensures ∙ ap (λ n. old ++ blanks_before s n) c.token_column-column.ensures.column) ∙ append_assoc old (token_before s glued x) x in
     record {

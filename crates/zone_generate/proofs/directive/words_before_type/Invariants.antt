@@ -1,5 +1,5 @@
 use Rattle.std.proofs.Common.{length, ◌-◌, ◌+◌, ◌≡◌, ◌≤◌, map, drop}
-use Rattle.dns_split.specs.EntryTokens.{token_seen}
+use Rattle.dns_lexer.specs.EntryTokens.{token_seen}
 use Rattle.zone_generate.specs.Directives.{words_before_type}
 use Rattle.zone_generate.proofs.directive.words_before_type.Given as goal
 

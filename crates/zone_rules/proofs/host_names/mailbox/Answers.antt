@@ -1,7 +1,7 @@
 use Rattle.std.proofs.Common.{Some, sym, ap, subst, ◌∙◌}
 use Rattle.std.specs.Option.{option_map}
-use Rattle.dns_spelling.specs.PrintedNames.{labels_in_octets}
-use Rattle.dns_spelling.proofs.NameLaws.{wire_labels}
+use Rattle.rdata_tokens.specs.PrintedNames.{labels_in_octets}
+use Rattle.rdata_tokens.proofs.NameLaws.{wire_labels}
 use Rattle.zone_rules.specs.HostNames.{IsNameField}
 use Rattle.zone_rules.proofs.FieldNames.{mailbox_named}
 use Rattle.zone_rules.proofs.host_names.mailbox.Goals as goal

@@ -1,4 +1,4 @@
-use Rattle.dns_resource.specs.Parts.{data_part}
+use Rattle.zone_record.specs.Parts.{data_part}
 use Rattle.zone_rules.proofs.FieldNames.{field_name}
 use Rattle.zone_rules.proofs.HostParts.{named_part}
 use Rattle.zone_rules.proofs.host_names.name_part.Goals as goal

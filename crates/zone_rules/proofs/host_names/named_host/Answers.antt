@@ -1,9 +1,9 @@
 use Rattle.std.proofs.Common.{Some, sym, ap, ◌∙◌}
 use Rattle.std.specs.Prelude.{option_and_then}
 use Rattle.std.specs.Option.{option_map}
-use Rattle.dns_resource.specs.Parts.{data_part}
-use Rattle.dns_spelling.specs.PrintedNames.{labels_in_octets}
-use Rattle.dns_spelling.proofs.NameLaws.{wire_labels}
+use Rattle.zone_record.specs.Parts.{data_part}
+use Rattle.rdata_tokens.specs.PrintedNames.{labels_in_octets}
+use Rattle.rdata_tokens.proofs.NameLaws.{wire_labels}
 use Rattle.zone_rules.specs.HostNames.{target_field}
 use Rattle.zone_rules.proofs.FieldNames.{target_named}
 use Rattle.zone_rules.proofs.host_names.named_host.Goals as goal

@@ -1,8 +1,8 @@
 use Rattle.std.proofs.Common.{sym, ap, ◌∙◌}
 use Rattle.std.specs.Prelude.{option_and_then}
 use Rattle.std.specs.Option.{option_map}
-use Rattle.dns_spelling.specs.PrintedNames.{labels_in_octets}
-use Rattle.dns_spelling.proofs.NameLaws.{wire_labels}
+use Rattle.rdata_tokens.specs.PrintedNames.{labels_in_octets}
+use Rattle.rdata_tokens.proofs.NameLaws.{wire_labels}
 use Rattle.zone_rules.specs.Zones.{but_root}
 use Rattle.zone_rules.proofs.hosts.host.Goals as goal
 

@@ -1,4 +1,4 @@
-use Rattle.dns_resource.proofs.WireNames.{never_refused}
+use Rattle.zone_record.proofs.WireNames.{never_refused}
 use Rattle.zone_rules.proofs.names.name_of.Goals as goal
 
 pub unreachable-requires : goal.unreachable-requires

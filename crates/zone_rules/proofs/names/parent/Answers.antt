@@ -1,7 +1,7 @@
 use Rattle.std.proofs.Common.{ℕ, ◌≡◌, ◌+◌, ◌-◌, List, length, take, drop, get_or, sym, subst, arith}
 use Rattle.dns_wire.specs.Wire.{wire, IsName, EndsInRoot}
-use Rattle.dns_spelling.specs.NameSpelling.{IsWireName}
-use Rattle.dns_spelling.specs.Spelling.{AreOctetValues}
+use Rattle.rdata_tokens.specs.NameSpelling.{IsWireName}
+use Rattle.rdata_tokens.specs.Spelling.{AreOctetValues}
 use Rattle.zone_rules.proofs.NameParts.{HasParent, parent_cut, no_parent, parent_slice, parent_same}
 use Rattle.zone_rules.proofs.names.parent.Goals as goal
 

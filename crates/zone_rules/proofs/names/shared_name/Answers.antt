@@ -1,5 +1,5 @@
 use Rattle.std.proofs.Common.{ℕ, Some, List, sym, ap, subst, ◌∙◌}
-use Rattle.dns_spelling.specs.NameSpelling.{IsWireName}
+use Rattle.rdata_tokens.specs.NameSpelling.{IsWireName}
 use Rattle.dns_wire.specs.Labelled.{wire_same}
 use Rattle.zone_rules.specs.Above.{is_within}
 use Rattle.zone_rules.proofs.SharedNames.{shared_cut}

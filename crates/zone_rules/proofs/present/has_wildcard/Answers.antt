@@ -1,7 +1,7 @@
 use Rattle.std.proofs.Common.{[], ◌∷◌, length, sym, ap, subst, ◌∙◌, arith}
 use Rattle.dns_wire.specs.Labelled.{wire_same}
 use Rattle.dns_wire.proofs.Wires.{length_wire}
-use Rattle.dns_spelling.specs.NameSpelling.{IsWireName}
+use Rattle.rdata_tokens.specs.NameSpelling.{IsWireName}
 use Rattle.zone_rules.specs.Present.{is_present}
 use Rattle.zone_rules.proofs.NameParts.{wildcard_name}
 use Rattle.zone_rules.proofs.present.has_wildcard.Goals as goal

@@ -2,7 +2,7 @@ use Rattle.std.proofs.Common.{◌≡◌, true, false, subst, rules}
 use Rattle.std.specs.List.Sorted.{IsPartitionPoint}
 use Rattle.std.specs.Ordering.{is_lt}
 use Rattle.std.proofs.lemmas.List.Sorted.{IsPartitionPoint-from_clause}
-use Rattle.dns_canonical.specs.Names.{name_order}
+use Rattle.zone_record.specs.Names.{name_order}
 use Rattle.zone_rules.specs.Present.{set_order}
 use Rattle.zone_rules.proofs.Searches.{first_parted, first_point}
 use Rattle.zone_rules.proofs.Within.{owners_parted}

@@ -3,7 +3,7 @@ use Rattle.std.specs.Ordering.{is_le}
 use Rattle.std.proofs.Math.Nat.{min-eq_left, min-eq_right, min-le_right}
 use Rattle.std.proofs.lemmas.List.{get_or_default}
 use Rattle.std.proofs.lemmas.List.Sorted.{IsPartitionPoint-from_clause}
-use Rattle.dns_canonical.specs.Names.{name_order}
+use Rattle.zone_record.specs.Names.{name_order}
 use Rattle.zone_rules.proofs.Lookups.{front_parted, front_point, reaches_further}
 use Rattle.zone_rules.proofs.sorted.count_up_to.Goals as goal
 use Rattle.zone_rules.proofs.sorted.count_up_to.Goals.{then-gallop-test+else-is_le, else-gallop-test}

@@ -3,7 +3,7 @@ use Rattle.std.specs.List.{filter}
 use Rattle.std.specs.Ordering.{is_lt}
 use Rattle.std.proofs.lemmas.List.Sorted.{IsPartitionPoint-from_clause}
 use Rattle.dns_wire.specs.Order.{same_name}
-use Rattle.dns_canonical.specs.Names.{name_order}
+use Rattle.zone_record.specs.Names.{name_order}
 use Rattle.zone_rules.specs.Zones.{AreInOrder}
 use Rattle.zone_rules.proofs.Lookups.{before_parted, rest_parted, owned_slice}
 use Rattle.zone_rules.proofs.sorted.owned_by.Goals as goal

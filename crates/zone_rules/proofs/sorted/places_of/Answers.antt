@@ -1,7 +1,7 @@
 use Rattle.std.proofs.Common.{subst, sym, rules}
 use Rattle.std.specs.Ordering.{is_le, is_lt}
 use Rattle.std.proofs.lemmas.List.Sorted.{IsPartitionPoint-from_clause}
-use Rattle.dns_canonical.specs.Names.{name_order}
+use Rattle.zone_record.specs.Names.{name_order}
 use Rattle.zone_rules.specs.Searches.{AreOwnedFrom}
 use Rattle.zone_rules.specs.Zones.{AreInOrder}
 use Rattle.zone_rules.proofs.Lookups.{before_parted, upto_parted, owned_places}

@@ -1,7 +1,7 @@
 use Rattle.std.proofs.Common.{arith, sym, ap, ◌∙◌}
 use Rattle.std.specs.Prelude.{◌==◌}
 use Rattle.std.proofs.lemmas.Bool.{eqb-true, not-false}
-use Rattle.dns_kinds.specs.Rtype as Rtype
+use Rattle.rdata_values.specs.Rtype as Rtype
 use Rattle.zone_set.proofs.SoaParts.{serial_four}
 use Rattle.zone_set.proofs.serial.serial_of.Goals as goal
 

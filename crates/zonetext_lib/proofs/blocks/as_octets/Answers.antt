@@ -1,4 +1,4 @@
-use Rattle.dns_split.proofs.OctetsOnce.{are_octets}
+use Rattle.dns_lexer.proofs.OctetsOnce.{are_octets}
 use Rattle.zonetext_lib.proofs.blocks.as_octets.Goals as goal
 
 pub returns-clause-octets : goal.returns-clause-octets

@@ -1,8 +1,8 @@
 use Rattle.std.proofs.Common.{◌≡◌, ◌<◌, ◌∷◌, sym, ap, ◌∙◌, subst, length, inl, arith, refl}
 use Rattle.std.specs.Prelude.{Ok, Err}
-use Rattle.dns_split.specs.declared.pieces.Piece.TheVariants.{End as EndAt}
-use Rattle.dns_split.specs.Pieces.{IsGiven}
-use Rattle.dns_split.proofs.OctetsOnce.{are_octets}
+use Rattle.dns_lexer.specs.declared.pieces.Piece.TheVariants.{End as EndAt}
+use Rattle.dns_lexer.specs.Pieces.{AreItemsOf}
+use Rattle.dns_lexer.proofs.OctetsOnce.{are_octets}
 use Rattle.zonetext_lib.proofs.Beginnings.{fault_viable, given_viable}
 use Rattle.zonetext_lib.proofs.Cuts.{fault_alone}
 use Rattle.zonetext_lib.proofs.Passing.{all_passed, none_walked, walked_end, walked_on, last_on, cut_or_none, cut_before, fault_passed, before_on, before_end}
@@ -35,7 +35,7 @@ loop-piece-preserved c =
 pub returns-then-needs_more-clause-settled : goal.returns-then-needs_more-clause-settled
 returns-then-needs_more-clause-settled c =
     let given = c.into_iter-piece-iterator.result in
-    let all = subst (IsGiven c.args.octets.now) (sym c.into_iter-piece-iterator.ensures.into_iter_gives) (c.of_octets-piece-items.ensures.reads, c.of_octets-piece-items.ensures.within) in
+    let all = subst (AreItemsOf c.args.octets.now) (sym c.into_iter-piece-iterator.ensures.into_iter_gives) (c.of_octets-piece-items.ensures.reads, c.of_octets-piece-items.ensures.within) in
     let now : c.loop-piece.piece-iterator ≡ c.in-Some.piece ∷ c.next.new.self = c.in-Some.ensures.steps in
     let some : 0 < length c.loop-piece.piece-iterator = subst (λ l. 0 < length l) (sym now) (omega arith) in
     cut_or_none c.args.octets.now given c.loop-piece.piece-iterator c.loop-piece.last all some c.loop-piece.invariant.walked.1
@@ -43,7 +43,7 @@ returns-then-needs_more-clause-settled c =
 pub returns-then-needs_more-clause-viable : goal.returns-then-needs_more-clause-viable
 returns-then-needs_more-clause-viable c =
     let given = c.into_iter-piece-iterator.result in
-    let all = subst (IsGiven c.args.octets.now) (sym c.into_iter-piece-iterator.ensures.into_iter_gives) (c.of_octets-piece-items.ensures.reads, c.of_octets-piece-items.ensures.within) in
+    let all = subst (AreItemsOf c.args.octets.now) (sym c.into_iter-piece-iterator.ensures.into_iter_gives) (c.of_octets-piece-items.ensures.reads, c.of_octets-piece-items.ensures.within) in
     let now : c.loop-piece.piece-iterator ≡ Err c.in-Err.fault ∷ c.next.new.self = c.in-Some.ensures.steps ∙ ap (λ x. x ∷ c.next.new.self) c.in-Err.is in
     let walked = c.loop-piece.invariant.walked.0 in
     let bad = fault_alone c.args.octets.now walked.found c.in-Err.fault (fault_passed c.args.octets.now given c.next.new.self c.loop-piece.piece-iterator c.in-Err.fault all now walked) in
@@ -52,7 +52,7 @@ returns-then-needs_more-clause-viable c =
 pub returns-else-needs_more-clause-settled : goal.returns-else-needs_more-clause-settled
 returns-else-needs_more-clause-settled c =
     let given = c.into_iter-piece-iterator.result in
-    let all = subst (IsGiven c.args.octets.now) (sym c.into_iter-piece-iterator.ensures.into_iter_gives) (c.of_octets-piece-items.ensures.reads, c.of_octets-piece-items.ensures.within) in
+    let all = subst (AreItemsOf c.args.octets.now) (sym c.into_iter-piece-iterator.ensures.into_iter_gives) (c.of_octets-piece-items.ensures.reads, c.of_octets-piece-items.ensures.within) in
     let now : c.loop-piece.piece-iterator ≡ Err c.in-Err.fault ∷ c.next.new.self = c.in-Some.ensures.steps ∙ ap (λ x. x ∷ c.next.new.self) c.in-Err.is in
     let inv = c.loop-piece.invariant in (
       inv.walked.0.found,
@@ -63,13 +63,13 @@ returns-else-needs_more-clause-settled c =
 pub returns-clause-settled : goal.returns-clause-settled
 returns-clause-settled c =
     let given = c.into_iter-piece-iterator.result in
-    let all = subst (IsGiven c.args.octets.now) (sym c.into_iter-piece-iterator.ensures.into_iter_gives) (c.of_octets-piece-items.ensures.reads, c.of_octets-piece-items.ensures.within) in
+    let all = subst (AreItemsOf c.args.octets.now) (sym c.into_iter-piece-iterator.ensures.into_iter_gives) (c.of_octets-piece-items.ensures.reads, c.of_octets-piece-items.ensures.within) in
     cut_before c.args.octets.now given c.loop-piece.piece-iterator c.loop-piece.before all c.loop-piece.invariant.before
 
 pub returns-clause-viable : goal.returns-clause-viable
 returns-clause-viable c =
     let given = c.into_iter-piece-iterator.result in
-    let all = subst (IsGiven c.args.octets.now) (sym c.into_iter-piece-iterator.ensures.into_iter_gives) (c.of_octets-piece-items.ensures.reads, c.of_octets-piece-items.ensures.within) in
+    let all = subst (AreItemsOf c.args.octets.now) (sym c.into_iter-piece-iterator.ensures.into_iter_gives) (c.of_octets-piece-items.ensures.reads, c.of_octets-piece-items.ensures.within) in
     let walked = c.loop-piece.invariant.walked.0 in
     given_viable c.args.octets.now walked.found (all_passed c.args.octets.now given c.loop-piece.piece-iterator all c.in-None.ensures.steps.0 walked)
 

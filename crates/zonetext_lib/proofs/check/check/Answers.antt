@@ -1,6 +1,6 @@
 use Rattle.std.proofs.Common.{◌≡◌, ◌∷◌, length, sym, ap, ◌∙◌, subst}
 use Rattle.std.specs.Prelude.{Some, None}
-use Rattle.dns_split.specs.Pieces.{ReadsOctets, EachWithin}
+use Rattle.dns_lexer.specs.Pieces.{ReadsOctets, EachWithin}
 use Rattle.zone_format.proofs.Givens.{first_fault, pieces_in, whole_of}
 use Rattle.zonetext_lib.proofs.Givens.{fault_of}
 use Rattle.zonetext_lib.proofs.check.check.Goals as goal

@@ -1,5 +1,5 @@
 use Rattle.std.proofs.Common.{[], sym, subst}
-use Rattle.dns_split.specs.declared.pieces.Fault.{Fault}
+use Rattle.dns_lexer.specs.declared.pieces.Fault.{Fault}
 use Rattle.zonetext_lib.specs.Found.{IsOctetFault, IsOpenedAfter}
 use Rattle.std.specs.Prelude.{take}
 use Rattle.zone_format.specs.Place.{IsAt}

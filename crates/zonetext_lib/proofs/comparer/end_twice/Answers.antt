@@ -1,9 +1,9 @@
 use Rattle.std.proofs.Common.{◌≡◌, ◌+◌, ◌<◌, ◌∷◌, length, Bool, true, false, refl, sym, ap, ◌∙◌, subst, arith}
 use Rattle.std.specs.Prelude.{Ok}
 use mir.Val.{bool_byte}
-use Rattle.dns_split.specs.declared.pieces.Piece.TheVariants.{Word as WordAt, Quote as QuoteAt, Comment as CommentAt, End as EndAt}
-use Rattle.dns_split.specs.Pieces.{IsGiven}
-use Rattle.dns_split.proofs.OctetsOnce.{are_octets}
+use Rattle.dns_lexer.specs.declared.pieces.Piece.TheVariants.{Word as WordAt, Quote as QuoteAt, Comment as CommentAt, End as EndAt}
+use Rattle.dns_lexer.specs.Pieces.{AreItemsOf}
+use Rattle.dns_lexer.proofs.OctetsOnce.{are_octets}
 use Rattle.zonetext_lib.proofs.Counted.{Counted, end_counted, end_two, none_counted, none_ends, not_twice, not_twice_before, one_if, piece_counted}
 use Rattle.zonetext_lib.proofs.comparer.end_twice.Goals as goal
 
@@ -19,7 +19,7 @@ returns-then-count-ge2 c =
     let given = c.into_iter-piece-iterator.result in
     let left = c.loop-piece.piece-iterator in
     let octets = c.args.octets.now in
-    let all = subst (IsGiven octets) (sym c.into_iter-piece-iterator.ensures.into_iter_gives) (c.of_octets-piece-items.ensures.reads, c.of_octets-piece-items.ensures.within) in
+    let all = subst (AreItemsOf octets) (sym c.into_iter-piece-iterator.ensures.into_iter_gives) (c.of_octets-piece-items.ensures.reads, c.of_octets-piece-items.ensures.within) in
     let now : left ≡ c.in-Some.piece ∷ c.next.new.self = c.in-Some.ensures.steps in
     let some : 0 < length left = subst (λ l. 0 < length l) (sym now) (omega arith) in
     (λ _. end_two octets given left c.loop-piece.count c.loop-piece.has_tokens (are_octets octets (λ k. (c.type_inv.octets k).fits)) all some c.if-count-ge2.true c.loop-piece.invariant, λ _. refl)
@@ -29,7 +29,7 @@ returns-in-Err c =
     let given = c.into_iter-piece-iterator.result in
     let rest = c.next.new.self in
     let octets = c.args.octets.now in
-    let all = subst (IsGiven octets) (sym c.into_iter-piece-iterator.ensures.into_iter_gives) (c.of_octets-piece-items.ensures.reads, c.of_octets-piece-items.ensures.within) in
+    let all = subst (AreItemsOf octets) (sym c.into_iter-piece-iterator.ensures.into_iter_gives) (c.of_octets-piece-items.ensures.reads, c.of_octets-piece-items.ensures.within) in
     let bad = c.in-Some.ensures.steps ∙ ap (λ x. x ∷ rest) c.in-Err.is in
     (λ e. cc, λ t. absurd (not_twice_before octets given c.loop-piece.piece-iterator rest c.in-Err.field-0 c.loop-piece.count c.loop-piece.has_tokens (are_octets octets (λ k. (c.type_inv.octets k).fits)) all bad (omega arith) c.loop-piece.invariant t))
 
@@ -37,7 +37,7 @@ pub returns : goal.returns
 returns c =
     let given = c.into_iter-piece-iterator.result in
     let octets = c.args.octets.now in
-    let all = subst (IsGiven octets) (sym c.into_iter-piece-iterator.ensures.into_iter_gives) (c.of_octets-piece-items.ensures.reads, c.of_octets-piece-items.ensures.within) in
+    let all = subst (AreItemsOf octets) (sym c.into_iter-piece-iterator.ensures.into_iter_gives) (c.of_octets-piece-items.ensures.reads, c.of_octets-piece-items.ensures.within) in
     (λ e. cc, λ t. absurd (not_twice octets given c.loop-piece.piece-iterator c.loop-piece.count c.loop-piece.has_tokens (are_octets octets (λ k. (c.type_inv.octets k).fits)) all c.in-None.ensures.steps.0 c.loop-piece.invariant t))
 
 pub loop-piece-preserved-in-Ok-Word : goal.loop-piece-preserved-in-Ok-Word

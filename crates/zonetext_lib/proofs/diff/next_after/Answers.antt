@@ -1,8 +1,8 @@
 use Rattle.std.proofs.Common.{◌≡◌, ◌∷◌, ◌<◌, List, length, sym, ap, ◌∙◌, subst, arith, true}
 use Rattle.std.specs.Prelude.{Ok, Result}
-use Rattle.dns_split.specs.declared.pieces.Piece.{Piece}
-use Rattle.dns_split.specs.declared.pieces.Fault.{Fault}
-use Rattle.dns_split.specs.declared.pieces.Piece.TheVariants.{End as EndAt}
+use Rattle.dns_lexer.specs.declared.pieces.Piece.{Piece}
+use Rattle.dns_lexer.specs.declared.pieces.Fault.{Fault}
+use Rattle.dns_lexer.specs.declared.pieces.Piece.TheVariants.{End as EndAt}
 use Rattle.zonetext_lib.specs.Compare.{is_passed}
 use Rattle.zonetext_lib.proofs.Comparing.{none_over, over_on, passed_piece}
 use Rattle.zonetext_lib.proofs.Same.{can_cut, none_reached, reached_end, reached_more}

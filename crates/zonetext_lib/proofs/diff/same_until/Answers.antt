@@ -1,5 +1,5 @@
 use Rattle.std.proofs.Common.{refl}
-use Rattle.dns_split.proofs.OctetsOnce.{are_octets}
+use Rattle.dns_lexer.proofs.OctetsOnce.{are_octets}
 use Rattle.zonetext_lib.proofs.Comparing.{both_on, none_in_step, piece_within}
 use Rattle.zonetext_lib.proofs.Same.{cut_both, found_skips, last_end, last_token, none_last, none_same}
 use Rattle.zonetext_lib.proofs.diff.same_until.Goals as goal

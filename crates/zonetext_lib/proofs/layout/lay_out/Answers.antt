@@ -1,8 +1,8 @@
 use Rattle.std.proofs.Common.{List, ◌≡◌, ◌++◌, ◌∷◌, [], refl, sym, ap, ◌∙◌, append-nil}
 use Rattle.std.specs.Prelude.{Some, None, Ok, Err}
 use Rattle.std.specs.Option.{is_some}
-use Rattle.dns_split.specs.declared.pieces.Piece.{Piece}
-use Rattle.dns_split.specs.declared.pieces.Piece.TheVariants.{Word as WordAt, Quote as QuoteAt}
+use Rattle.dns_lexer.specs.declared.pieces.Piece.{Piece}
+use Rattle.dns_lexer.specs.declared.pieces.Piece.TheVariants.{Word as WordAt, Quote as QuoteAt}
 use Rattle.zonetext_lib.specs.Entries.{Token, begins_glued, parts, parts_after}
 use Rattle.zone_format.proofs.Givens.{first_fault, pieces_in, whole_of}
 use Rattle.zonetext_lib.proofs.Givens.{fault_of}

@@ -1,8 +1,8 @@
 use Rattle.std.proofs.Common.{◌≡◌, ◌++◌, length, true, false, not}
 use Rattle.std.specs.Prelude.{None}
 use Rattle.std.specs.Option.{is_some}
-use Rattle.dns_split.proofs.PieceSplit.{closes}
-use Rattle.dns_split.specs.Pieces.{EachWithin}
+use Rattle.dns_lexer.proofs.PieceSplit.{closes}
+use Rattle.dns_lexer.specs.Pieces.{EachWithin}
 use Rattle.zonetext_lib.specs.Entries.{parts, parts_after}
 use Rattle.zonetext_lib.specs.Layout.{laid_out}
 use Rattle.zone_format.proofs.Givens.{first_fault, pieces_in}

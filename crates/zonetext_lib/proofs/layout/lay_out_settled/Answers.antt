@@ -1,9 +1,9 @@
 use Rattle.std.proofs.Common.{◌≡◌, ◌++◌, ◌∷◌, [], List, length, not, ◌&&◌, refl, sym, ap, ◌∙◌, subst, arith, append-nil, append_assoc, ◌<◌}
 use Rattle.std.specs.Prelude.{Ok, Some}
-use Rattle.dns_split.specs.declared.pieces.Piece.{Piece}
-use Rattle.dns_split.specs.declared.pieces.Piece.TheVariants.{Word as WordAt, Quote as QuoteAt, Comment as CommentAt, End as EndAt}
-use Rattle.dns_split.specs.Pieces.{EachWithin}
-use Rattle.dns_split.proofs.OctetsOnce.{are_octets}
+use Rattle.dns_lexer.specs.declared.pieces.Piece.{Piece}
+use Rattle.dns_lexer.specs.declared.pieces.Piece.TheVariants.{Word as WordAt, Quote as QuoteAt, Comment as CommentAt, End as EndAt}
+use Rattle.dns_lexer.specs.Pieces.{EachWithin}
+use Rattle.dns_lexer.proofs.OctetsOnce.{are_octets}
 use Rattle.zonetext_lib.specs.Entries.{Token, begins_glued, parts_after}
 use Rattle.zonetext_lib.specs.Layout.{gap_if}
 use Rattle.zonetext_lib.proofs.Settling.{comment_laid, left_within, marked, marked_before, starts, stays, token_laid, turns}

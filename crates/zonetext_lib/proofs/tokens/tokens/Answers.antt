@@ -1,6 +1,6 @@
 use Rattle.std.proofs.Common.{◌≡◌, ◌++◌, ◌∷◌, [], length, refl, sym, ap, ◌∙◌, subst, arith, append-nil}
 use Rattle.std.specs.Prelude.{Some, None, Err}
-use Rattle.dns_split.specs.Pieces.{ReadsOctets, EachWithin, IsGiven}
+use Rattle.dns_lexer.specs.Pieces.{ReadsOctets, EachWithin, AreItemsOf}
 use Rattle.zonetext_lib.specs.Tokens.{rows_after}
 use Rattle.zone_format.proofs.Givens.{first_fault, pieces_in, whole_of}
 use Rattle.zonetext_lib.proofs.Givens.{fault_of}
@@ -40,7 +40,7 @@ returns-in-Err-clause-rows g c =
     let left : rows_after octets c.args.lines_before c.args.form c.loop-piece.ended c.loop-piece.piece-iterator ≡ [] =
     ap (rows_after octets c.args.lines_before c.args.form c.loop-piece.ended) (now ∙ ap (λ l. Err c.in-Err.fault ∷ l) over) in (
       c.into_iter-piece-iterator.result,
-      subst (IsGiven octets) (sym same) (c.of_octets-piece-items.ensures.reads, c.of_octets-piece-items.ensures.within),
+      subst (AreItemsOf octets) (sym same) (c.of_octets-piece-items.ensures.reads, c.of_octets-piece-items.ensures.within),
       sym (append-nil c.loop-piece.out.items) ∙ ap (λ l. c.loop-piece.out.items ++ l) (sym left) ∙ inv.rows,
     )
 

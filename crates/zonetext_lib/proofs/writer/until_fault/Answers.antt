@@ -1,8 +1,8 @@
 use Rattle.std.proofs.Common.{◌≡◌, ◌∷◌, sym, ap, ◌∙◌, subst, inl, inr, refl}
 use Rattle.std.specs.Prelude.{Ok, Err}
-use Rattle.dns_split.specs.declared.pieces.Piece.TheVariants.{Word as WordAt, Quote as QuoteAt, Comment as CommentAt, End as EndAt}
-use Rattle.dns_split.specs.Pieces.{IsGiven}
-use Rattle.dns_split.proofs.OctetsOnce.{are_octets}
+use Rattle.dns_lexer.specs.declared.pieces.Piece.TheVariants.{Word as WordAt, Quote as QuoteAt, Comment as CommentAt, End as EndAt}
+use Rattle.dns_lexer.specs.Pieces.{AreItemsOf}
+use Rattle.dns_lexer.proofs.OctetsOnce.{are_octets}
 use Rattle.zonetext_lib.proofs.Passing.{all_parted, ends_within, none_parted, parted_bad, parted_here, parted_on}
 use Rattle.zonetext_lib.proofs.writer.until_fault.Goals as goal
 
@@ -46,14 +46,14 @@ returns-in-Err-clause-octets c = are_octets c.args.octets.now (λ k. (c.type_inv
 pub returns-in-Err-clause-within : goal.returns-in-Err-clause-within
 returns-in-Err-clause-within c =
     let given = c.into_iter-piece-iterator.result in
-    let all = subst (IsGiven c.args.octets.now) (sym c.into_iter-piece-iterator.ensures.into_iter_gives) (c.of_octets-piece-items.ensures.reads, c.of_octets-piece-items.ensures.within) in
+    let all = subst (AreItemsOf c.args.octets.now) (sym c.into_iter-piece-iterator.ensures.into_iter_gives) (c.of_octets-piece-items.ensures.reads, c.of_octets-piece-items.ensures.within) in
     let now : c.loop-piece.piece-iterator ≡ Err c.in-Err.field-0 ∷ c.next.new.self = c.in-Some.ensures.steps ∙ ap (λ x. x ∷ c.next.new.self) c.in-Err.is in
     ends_within c.args.octets.now c.loop-piece.last (parted_bad c.args.octets.now given c.next.new.self c.loop-piece.piece-iterator c.in-Err.field-0 c.loop-piece.last all now c.loop-piece.invariant)
 
 pub returns-in-Err-clause-until : goal.returns-in-Err-clause-until
 returns-in-Err-clause-until c =
     let given = c.into_iter-piece-iterator.result in
-    let all = subst (IsGiven c.args.octets.now) (sym c.into_iter-piece-iterator.ensures.into_iter_gives) (c.of_octets-piece-items.ensures.reads, c.of_octets-piece-items.ensures.within) in
+    let all = subst (AreItemsOf c.args.octets.now) (sym c.into_iter-piece-iterator.ensures.into_iter_gives) (c.of_octets-piece-items.ensures.reads, c.of_octets-piece-items.ensures.within) in
     let now : c.loop-piece.piece-iterator ≡ Err c.in-Err.field-0 ∷ c.next.new.self = c.in-Some.ensures.steps ∙ ap (λ x. x ∷ c.next.new.self) c.in-Err.is in
     inr (parted_bad c.args.octets.now given c.next.new.self c.loop-piece.piece-iterator c.in-Err.field-0 c.loop-piece.last all now c.loop-piece.invariant)
 
@@ -63,5 +63,5 @@ returns-clause-octets c = are_octets c.args.octets.now (λ k. (c.type_inv.octets
 pub returns-clause-until : goal.returns-clause-until
 returns-clause-until c =
     let given = c.into_iter-piece-iterator.result in
-    let all = subst (IsGiven c.args.octets.now) (sym c.into_iter-piece-iterator.ensures.into_iter_gives) (c.of_octets-piece-items.ensures.reads, c.of_octets-piece-items.ensures.within) in
+    let all = subst (AreItemsOf c.args.octets.now) (sym c.into_iter-piece-iterator.ensures.into_iter_gives) (c.of_octets-piece-items.ensures.reads, c.of_octets-piece-items.ensures.within) in
     inl (all_parted c.args.octets.now given c.loop-piece.piece-iterator c.loop-piece.last all c.in-None.ensures.steps.0 c.loop-piece.invariant)

@@ -1,4 +1,4 @@
-use Rattle.dns_split.proofs.OctetsOnce.{are_octets}
+use Rattle.dns_lexer.proofs.OctetsOnce.{are_octets}
 use Rattle.zonetext_lib.proofs.writer.write.Goals as goal
 
 pub returns-in-Rows-clause-octets : goal.returns-in-Rows-clause-octets

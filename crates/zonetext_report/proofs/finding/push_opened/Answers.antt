@@ -1,6 +1,6 @@
 use Rattle.std.proofs.Common.{◌≡◌, ◌++◌, sym, subst}
 use Rattle.std.specs.Prelude.{OnOk, Option, codes}
-use Rattle.dns_split.specs.declared.position.Position.{Position}
+use Rattle.dns_lexer.specs.declared.position.Position.{Position}
 use Rattle.zonetext_report.specs.Finding.{opened_text, position_text}
 use Rattle.zonetext_report.proofs.Appending.{regroup}
 use Rattle.zonetext_report.proofs.finding.push_opened.Goals as goal

@@ -1,6 +1,6 @@
 use Rattle.std.proofs.Common.{◌≡◌, ◌≤◌, ◌-◌, length}
 use Rattle.std.specs.List.{flat_map}
-use Rattle.dns_split.specs.Pieces.{between}
+use Rattle.dns_lexer.specs.Pieces.{between}
 use Rattle.zonetext_report.specs.Json.{json_octet}
 use Rattle.zonetext_report.proofs.json.plain_end.Given as goal
 

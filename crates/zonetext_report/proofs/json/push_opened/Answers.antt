@@ -1,6 +1,6 @@
 use Rattle.std.proofs.Common.{◌≡◌, ◌++◌, sym, subst}
 use Rattle.std.specs.Prelude.{OnOk, Option}
-use Rattle.dns_split.specs.declared.position.Position.{Position}
+use Rattle.dns_lexer.specs.declared.position.Position.{Position}
 use Rattle.zonetext_report.specs.Json.{json_opened}
 use Rattle.zonetext_report.proofs.Jsons.{two_members}
 use Rattle.zonetext_report.proofs.json.push_opened.Goals as goal

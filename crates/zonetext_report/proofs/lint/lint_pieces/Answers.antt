@@ -1,6 +1,6 @@
 use Rattle.std.proofs.Common.{◌≡◌, ◌∷◌, ◌++◌, length, refl, sym, ap, ◌∙◌, subst, arith, append-nil}
 use Rattle.std.specs.Prelude.{Ok, Err}
-use Rattle.dns_split.specs.Pieces.{ReadsOctets, EachWithin, IsGiven}
+use Rattle.dns_lexer.specs.Pieces.{ReadsOctets, EachWithin, AreItemsOf}
 use Rattle.zone_format.proofs.Follow.{Follows, follow}
 use Rattle.zonetext_report.specs.Lint.{entry_remarks}
 use Rattle.zonetext_report.proofs.Linting.{follows_next, looks_on}
@@ -44,7 +44,7 @@ returns-in-Err g c =
     let inv = c.loop-piece.invariant in
     let now : c.loop-piece.piece-iterator ≡ Err c.in-Err.field-0 ∷ c.next.new.self = c.in-Some.ensures.steps ∙ ap (λ x. x ∷ c.next.new.self) c.in-Err.is in (
       c.into_iter-piece-iterator.result,
-      subst (IsGiven octets) (sym same) (c.of_octets-piece-items.ensures.reads, c.of_octets-piece-items.ensures.within),
+      subst (AreItemsOf octets) (sym same) (c.of_octets-piece-items.ensures.reads, c.of_octets-piece-items.ensures.within),
       sym (append-nil c.loop-piece.found.items) ∙ ap (λ l. c.loop-piece.found.items ++ entry_remarks octets c.loop-piece.reached l) (sym now) ∙ inv.told,
     )
 
@@ -55,6 +55,6 @@ returns g c =
     let inv = c.loop-piece.invariant in
     let over = c.in-None.ensures.steps.0 in (
       c.into_iter-piece-iterator.result,
-      subst (IsGiven octets) (sym same) (c.of_octets-piece-items.ensures.reads, c.of_octets-piece-items.ensures.within),
+      subst (AreItemsOf octets) (sym same) (c.of_octets-piece-items.ensures.reads, c.of_octets-piece-items.ensures.within),
       sym (append-nil c.loop-piece.found.items) ∙ ap (λ l. c.loop-piece.found.items ++ entry_remarks octets c.loop-piece.reached l) (sym over) ∙ inv.told,
     )

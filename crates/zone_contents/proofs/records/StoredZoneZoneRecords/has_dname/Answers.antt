@@ -1,5 +1,5 @@
 use Rattle.std.proofs.Common.{ap, ◌∙◌}
-use Rattle.dns_kinds.specs.Rtype as Rtype
+use Rattle.rdata_values.specs.Rtype as Rtype
 use Rattle.zone_contents.specs.Contents.{contents}
 use Rattle.zone_rules.specs.Zones.{has_type_among}
 use Rattle.zone_contents.proofs.records.StoredZoneZoneRecords.has_dname.Goals as goal

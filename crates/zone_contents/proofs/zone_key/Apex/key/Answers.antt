@@ -1,5 +1,5 @@
 use Rattle.std.proofs.Common.{ap, ◌∙◌}
-use Rattle.dns_canonical.specs.Keys.{order_key}
+use Rattle.zone_record.specs.Keys.{order_key}
 use Rattle.zone_contents.proofs.zone_key.Apex.key.Goals as goal
 
 pub returns : goal.returns

@@ -1,8 +1,8 @@
 use Rattle.std.proofs.Common.{◌++◌, length, map, ap, subst, sym, ◌∙◌, arith}
 use Rattle.dns_octets.specs.Lowered.{lowered}
 use Rattle.dns_wire.specs.Wire.{wire}
-use Rattle.dns_canonical.specs.KeyNames.{key_name, AreKeyLabels}
-use Rattle.dns_canonical.proofs.KeyNames.{name_read}
+use Rattle.zone_record.specs.KeyNames.{key_name, AreKeyLabels}
+use Rattle.zone_record.proofs.KeyNames.{name_read}
 use Rattle.zone_contents.proofs.ZoneNames.{apex_is, key_labels, lower_wire_name, wire_name_short}
 use Rattle.zone_contents.proofs.zone_key.Apex.of.Goals as goal
 

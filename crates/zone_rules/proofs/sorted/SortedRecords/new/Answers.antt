@@ -5,9 +5,9 @@ use Rattle.std.proofs.lemmas.Bool.{false≢true}
 use Rattle.std.proofs.lemmas.Iterator.{YieldsList-from_slice}
 use Rattle.std.proofs.lemmas.Iterator.Search.{any_from_yields_List}
 use Rattle.std.proofs.lemmas.List.Sorted.{answers_always}
-use Rattle.dns_kinds.specs.Rtype as Rtype
-use Rattle.dns_canonical.specs.Records.{record_order}
-use Rattle.dns_resource.specs.CanonicalData.{record_key}
+use Rattle.rdata_values.specs.Rtype as Rtype
+use Rattle.zone_record.specs.CanonicalRecords.{record_order}
+use Rattle.zone_record.specs.CanonicalData.{record_key}
 use Rattle.zone_rules.specs.Above.{is_wildcard}
 use Rattle.zone_rules.specs.Zones.{type_of}
 use Rattle.zone_rules.proofs.Lookups.{not_in_order}

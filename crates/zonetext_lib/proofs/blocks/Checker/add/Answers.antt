@@ -1,6 +1,6 @@
 use Rattle.std.proofs.Common.{◌*◌, ◌++◌, length, inl, inr}
 use Rattle.zonetext_lib.proofs.Beginnings.{held_viable}
-use Rattle.zonetext_lib.proofs.Holding.{added, let_go}
+use Rattle.zonetext_lib.proofs.Holding.{added, discard_read}
 use Rattle.zonetext_lib.proofs.Passing.{before_end}
 use Rattle.zonetext_lib.proofs.blocks.Checker.add.Goals as goal
 
@@ -15,7 +15,7 @@ returns-in-Ok-clause-added g c = λ all h.
     let held = c.in_ok-take.ensures in
     let here = added all block c.args.self.now c.take.new.self h held.0 held.1 in
     let gone = c.release.ensures in
-    let_go _ c.take.new.self c.release.new.self c.in-Ok.cut here c.in-Ok.ensures.octets c.in-Ok.ensures.settled gone.octets gone.at gone.position
+    discard_read _ c.take.new.self c.release.new.self c.in-Ok.cut here c.in-Ok.ensures.octets c.in-Ok.ensures.settled gone.octets gone.at gone.position
 
 pub returns-in-Ok-clause-in_time : goal.returns-in-Ok-clause-in_time
 returns-in-Ok-clause-in_time g c =

@@ -1,6 +1,6 @@
 use Rattle.std.proofs.Common.{◌≡◌, sym, ap, ◌∙◌, subst}
 use Rattle.std.specs.Prelude.{Ok, Err, encode_utf8_all}
-use Rattle.dns_split.specs.Viable.{IsViable}
+use Rattle.dns_lexer.specs.Viable.{IsViable}
 use Rattle.zonetext_lib.specs.Blocks.{Holds, Settled}
 use Rattle.zonetext_lib.specs.Held.{Held}
 use Rattle.zonetext_lib.proofs.Cuts.{fault_alone}

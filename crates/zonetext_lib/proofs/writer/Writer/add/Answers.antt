@@ -1,11 +1,11 @@
 use Rattle.std.proofs.Common.{◌≤◌, ◌-◌, ◌∙◌, length, ap, refl, ◌++◌, List, append-nil, sym, subst, take}
 use Rattle.std.specs.Prelude.{[], Ok, map}
-use Rattle.dns_split.specs.declared.pieces.Piece.{Piece}
-use Rattle.dns_split.specs.Pieces.{IsGiven}
+use Rattle.dns_lexer.specs.declared.pieces.Piece.{Piece}
+use Rattle.dns_lexer.specs.Pieces.{AreItemsOf}
 use Rattle.zonetext_lib.specs.Blocks.{Holds, Settled}
 use Rattle.zonetext_lib.specs.Held.{Writing}
 use Rattle.zonetext_lib.specs.Writing.{WritesOutput, Wrote}
-use Rattle.zonetext_lib.proofs.Holding.{added, let_go}
+use Rattle.zonetext_lib.proofs.Holding.{added, discard_read}
 use Rattle.zonetext_lib.proofs.Made.{cut_whole}
 use Rattle.zonetext_lib.proofs.Written.{settled_none, settled_some, writing, wrote_bad, wrote_more, wrote_on}
 use Rattle.zonetext_lib.proofs.writer.Writer.add.Goals as goal
@@ -24,7 +24,7 @@ returns-in_default-clause-told g c = λ all h.
     let held = c.in_ok-take.ensures in
     let here = added all block c.self.inside.checker c.take.new.self (subst (λ (w : Writing). Holds all w.held) (sym c.self.view_is) h) held.0 held.1 in
     let gone = c.release-in-Ok.ensures in
-    let_go _ c.take.new.self c.release-in-Ok.new.self c.in-Ok.cut here c.in-Ok.ensures.octets c.in-Ok.ensures.settled gone.octets gone.at gone.position
+    discard_read _ c.take.new.self c.release-in-Ok.new.self c.in-Ok.cut here c.in-Ok.ensures.octets c.in-Ok.ensures.settled gone.octets gone.at gone.position
 
 pub returns-in_default-clause-written : goal.returns-in_default-clause-written
 returns-in_default-clause-written g c = λ all written x.
@@ -66,7 +66,7 @@ returns-in_default-write-clause-written g c = λ all written x.
 pub write_ended-requires-clause-whole : goal.write_ended-requires-clause-whole
 write_ended-requires-clause-whole g c =
     let e = c.in-Ok.ensures in
-    subst (λ l. (found : List Piece) × IsGiven (take c.in-Ok.cut l) (map Ok found)) (sym c.held-in-Ok.ensures.held) (cut_whole _ c.in-Ok.cut e.octets e.settled)
+    subst (λ l. (found : List Piece) × AreItemsOf (take c.in-Ok.cut l) (map Ok found)) (sym c.held-in-Ok.ensures.held) (cut_whole _ c.in-Ok.cut e.octets e.settled)
 
 pub release-requires : goal.release-requires
 release-requires g c = subst (λ l. c.in-Ok-Some.cut ≤ length l) c.held.ensures.held (settled_some c.self.inside.output c.held.result.now 0 c.args.out.now.items c.write_settled.new.out.items _ c.in-Ok-Some.cut c.in-Ok-Some.field-0-is (c.in-Ok-Some.ensures 0)).0.0
@@ -78,7 +78,7 @@ returns-in-Ok-Some-clause-told g c = λ all h.
     let here = added all block c.self.inside.checker c.take.new.self (subst (λ (w : Writing). Holds all w.held) (sym c.self.view_is) h) held.0 held.1 in
     let gone = c.release.ensures in
     let cut = c.in-Ok-Some.cut in
-    let_go _ c.take.new.self c.release.new.self cut here c.held.ensures.octets (subst (λ l. Settled l (Ok cut)) c.held.ensures.held (settled_some c.self.inside.output c.held.result.now 0 c.args.out.now.items c.write_settled.new.out.items _ c.in-Ok-Some.cut c.in-Ok-Some.field-0-is (c.in-Ok-Some.ensures 0)).0) gone.octets gone.at gone.position
+    discard_read _ c.take.new.self c.release.new.self cut here c.held.ensures.octets (subst (λ l. Settled l (Ok cut)) c.held.ensures.held (settled_some c.self.inside.output c.held.result.now 0 c.args.out.now.items c.write_settled.new.out.items _ c.in-Ok-Some.cut c.in-Ok-Some.field-0-is (c.in-Ok-Some.ensures 0)).0) gone.octets gone.at gone.position
 
 pub returns-in-Ok-Some-clause-written : goal.returns-in-Ok-Some-clause-written
 returns-in-Ok-Some-clause-written g c = λ all written x.

@@ -1,6 +1,0 @@
-use Rattle.std.proofs.Common.{drop}
-use Rattle.dns_canonical.proofs.FieldWalks.{FieldWalk}
-use Rattle.dns_canonical.proofs.fields.append_canonical_fields.Given as goal
-
-abbrev pub invariant-loop-field : goal.invariant-loop-field
-invariant-loop-field g l = FieldWalk l.fields (drop l.field-index l.fields) l.octets l.rest (g.B.AsOctets.octets l.fn.target) (g.B.AsOctets.octets l.target)

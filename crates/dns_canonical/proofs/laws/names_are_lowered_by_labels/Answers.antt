@@ -1,5 +1,0 @@
-use Rattle.dns_canonical.proofs.LoweredNames.{lowered_labels, lowered_name, lowered_again}
-use Rattle.dns_canonical.proofs.laws.names_are_lowered_by_labels.Goals as goal
-
-pub returns : goal.returns
-returns c = record { labels = lowered_labels; name = lowered_name; again = lowered_again }

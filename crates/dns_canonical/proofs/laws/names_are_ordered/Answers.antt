@@ -1,5 +1,0 @@
-use Rattle.dns_canonical.proofs.Orders.{names_total, names_tied, names_absent}
-use Rattle.dns_canonical.proofs.laws.names_are_ordered.Goals as goal
-
-pub returns : goal.returns
-returns c = record { total = names_total; equal = names_tied; below = names_absent }

@@ -1,5 +1,0 @@
-use Rattle.dns_canonical.proofs.Orders.{records_total, records_tied}
-use Rattle.dns_canonical.proofs.laws.records_are_ordered.Goals as goal
-
-pub returns : goal.returns
-returns c = record { total = records_total; equal = records_tied }

@@ -1,9 +1,0 @@
-use Rattle.std.proofs.Common.{length}
-use Rattle.dns_canonical.proofs.NameWalks.{LevelWalk}
-use Rattle.dns_canonical.proofs.names.compare_level.Given as goal
-
-abbrev pub invariant-loop-left_rest : goal.invariant-loop-left_rest
-invariant-loop-left_rest l = LevelWalk l.fn.left l.fn.right l.fn.otherwise l.left_rest l.right_rest l.order
-
-abbrev pub decreases-loop-left_rest : goal.decreases-loop-left_rest
-decreases-loop-left_rest l = length l.left_rest

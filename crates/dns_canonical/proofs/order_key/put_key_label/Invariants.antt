@@ -1,8 +1,0 @@
-use Rattle.std.proofs.Common.{◌≡◌, ◌++◌, take}
-use Rattle.std.specs.List.{flat_map}
-use Rattle.dns_octets.specs.Lowered.{lowered}
-use Rattle.dns_canonical.specs.Keys.{key_octets}
-use Rattle.dns_canonical.proofs.order_key.put_key_label.Given as goal
-
-abbrev pub invariant-loop-octet : goal.invariant-loop-octet
-invariant-loop-octet l = l.key.items ≡ l.fn.key.items ++ flat_map key_octets (lowered (take l.octet-index l.label))

@@ -1,9 +1,0 @@
-use Rattle.dns_data.proofs.DataForms.{data_are_spelled}
-use Rattle.dns_data.proofs.RestForms.{rests_are_forms}
-use Rattle.dns_data.proofs.laws.spelled_data_is_of_its_shape.Goals as goal
-
-pub returns-clause-rests : goal.returns-clause-rests
-returns-clause-rests c = rests_are_forms
-
-pub returns-clause-data : goal.returns-clause-data
-returns-clause-data c = data_are_spelled

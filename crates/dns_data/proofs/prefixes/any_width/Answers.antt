@@ -1,5 +1,0 @@
-use Rattle.dns_data.proofs.ItemLaws.{any_found}
-use Rattle.dns_data.proofs.prefixes.any_width.Goals as goal
-
-pub returns-in-None : goal.returns-in-None
-returns-in-None c = any_found c.args.octets.now c.other_width.result c.in-None.ensures c.other_width.ensures

@@ -1,6 +1,0 @@
-use Rattle.std.proofs.Common.{sym}
-use Rattle.dns_data.proofs.Textless.{behind_is}
-use Rattle.dns_data.proofs.print.behind_fields.Goals as goal
-
-pub returns : goal.returns
-returns c = sym (behind_is c.args.fields.now c.args.octets.now c.in-Some.back.now c.in-Some.ensures)

@@ -1,4 +1,0 @@
-use Rattle.dns_data.proofs.wire.is_rest.Goals as goal
-
-pub returns-in-GatewayKey : goal.returns-in-GatewayKey
-returns-in-GatewayKey c = rw c.in-GatewayKey.is c.is_gateway_key.ensures

@@ -1,8 +1,0 @@
-pub mod Spelling
-pub mod GroupLemmas
-pub mod Pairs
-pub mod Pieces
-pub mod TakenDigit
-pub mod Blocks
-pub mod Together
-pub mod TokenLemmas

@@ -1,6 +1,0 @@
-use Rattle.dns_digits.proofs.GroupLemmas.{hex_read}
-use Rattle.std.proofs.Common.{length}
-use Rattle.dns_digits.proofs.groups.read_hex.Goals as goal
-
-pub returns : goal.returns
-returns c = hex_read c.args.text.now c.decode_slice.new.octets (length c.args.octets.now) c.decode_slice.result c.requires c.decode_slice.ensures.read c.decode_slice.ensures.refused

@@ -1,5 +1,0 @@
-use Rattle.dns_digits.proofs.GroupLemmas.{pair_answer}
-use Rattle.dns_digits.proofs.groups.starts_pair.Goals as goal
-
-pub returns : goal.returns
-returns c = rw c.is_some.ensures (pair_answer c.args.digit c.read_hex.result c.read_hex.new.octets c.read_hex.ensures)

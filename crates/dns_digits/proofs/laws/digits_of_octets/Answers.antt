@@ -1,5 +1,0 @@
-use Rattle.dns_digits.proofs.Together.{hex_digits, base64_digits, base32hex_digits}
-use Rattle.dns_digits.proofs.laws.digits_of_octets.Goals as goal
-
-pub returns : goal.returns
-returns c = record { hex = hex_digits; base64 = base64_digits; base32hex = base32hex_digits }

@@ -1,5 +1,0 @@
-use Rattle.dns_fields.proofs.FormLaws.{fields_are_forms}
-use Rattle.dns_fields.proofs.laws.fields_are_read_back.Goals as goal
-
-pub returns : goal.returns
-returns c = fields_are_forms

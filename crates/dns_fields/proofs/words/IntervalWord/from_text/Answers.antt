@@ -1,4 +1,0 @@
-use Rattle.dns_fields.proofs.words.IntervalWord.from_text.Goals as goal
-
-pub returns-in-Err : goal.returns-in-Err
-returns-in-Err c = (c.in-Err.ensures.0, λ v. c.in-Err.ensures.1 v.0)

@@ -1,9 +1,0 @@
-pub mod Addresses
-pub mod Fields
-pub mod Forms
-pub mod RecordErrors
-pub mod Source
-pub mod Taking
-pub mod TokenParsers
-pub mod WordLaws
-pub mod Words

@@ -1,6 +1,0 @@
-pub mod EntryLaws
-pub mod EntryRows
-pub mod HeadLemmas
-pub mod Once
-pub mod Refusals
-pub mod WordLemmas

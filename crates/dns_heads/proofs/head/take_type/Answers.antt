@@ -1,7 +1,0 @@
-use Rattle.dns_split.specs.EntryTokens.{token_seen}
-use Rattle.dns_heads.proofs.Refusals.{type_refused}
-use Rattle.dns_heads.proofs.head.take_type.Goals as goal
-
-pub returns-in_default-type_word-clause-takes : goal.returns-in_default-type_word-clause-takes
-returns-in_default-type_word-clause-takes g c =
-    rw c.at-in_default-type_word.ensures (type_refused _ (token_seen c.in-Some.token) _ c.type_refusal-why.result c.args.may_be_ttl (g.S.TokenSource.left c.args.source.now) c.in-Some.ensures c.place-at.ensures (c.type_refusal-why.ensures, c.in_default-type_word.ensures))

@@ -1,4 +1,0 @@
-use Rattle.dns_heads.proofs.words.type_word.Goals as goal
-
-pub returns-in-Err : goal.returns-in-Err
-returns-in-Err c = λ n h. c.in-Err.ensures.1 n h.1

@@ -1,9 +1,0 @@
-use Rattle.std.proofs.Common.{arith}
-use Rattle.dns_kinds.proofs.CodeLaws.{algorithm_within}
-use Rattle.dns_kinds.proofs.algorithms.Algorithm.from_text.Goals as goal
-
-pub overflow_cast-result : goal.overflow_cast-result
-overflow_cast-result c = let small = algorithm_within c.args.text.now c.in-Ok.code c.in-Ok.ensures in omega (arith, small)
-
-pub returns-in-Err : goal.returns-in-Err
-returns-in-Err c = (c.in-Err.ensures.0, λ a h. c.in-Err.ensures.1 a.0 h)

@@ -1,5 +1,0 @@
-use Rattle.dns_kinds.proofs.CodeLaws.{algorithms_are_kind, certificates_are_kind}
-use Rattle.dns_kinds.proofs.algorithms.algorithms_are_read_back.Goals as goal
-
-pub returns : goal.returns
-returns c = record { algorithms = algorithms_are_kind; certificates = certificates_are_kind }

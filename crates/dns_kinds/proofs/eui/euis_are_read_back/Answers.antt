@@ -1,5 +1,0 @@
-use Rattle.dns_kinds.proofs.EuiLaws.{euis_are_kind}
-use Rattle.dns_kinds.proofs.eui.euis_are_read_back.Goals as goal
-
-pub returns : goal.returns
-returns c = euis_are_kind

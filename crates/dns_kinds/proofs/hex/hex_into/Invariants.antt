@@ -1,6 +1,0 @@
-use Rattle.std.proofs.Common.{ℕ, ◌<◌, ◌*◌, get_or}
-use Rattle.dns_kinds.specs.Hex.{IsPair}
-use Rattle.dns_kinds.proofs.hex.hex_into.Given as goal
-
-abbrev pub invariant-loop-index : goal.invariant-loop-index
-invariant-loop-index l = (k : ℕ) → k < l.index → IsPair l.text (2 * k) (get_or l.octets k 0)

@@ -1,5 +1,0 @@
-use Rattle.dns_kinds.proofs.SaltLaws.{salts_are_kind}
-use Rattle.dns_kinds.proofs.salt.salts_are_read_back.Goals as goal
-
-pub returns : goal.returns
-returns c = salts_are_kind

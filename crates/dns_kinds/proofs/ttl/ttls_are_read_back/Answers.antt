@@ -1,5 +1,0 @@
-use Rattle.dns_kinds.proofs.TtlLaws.{ttls_are_kind, intervals_are_kind}
-use Rattle.dns_kinds.proofs.ttl.ttls_are_read_back.Goals as goal
-
-pub returns : goal.returns
-returns c = record { ttl = ttls_are_kind; interval = intervals_are_kind }

@@ -1,5 +1,0 @@
-use Rattle.dns_kinds.proofs.CodeLaws.{types_are_kind, portable_types_are_kind, sig_types_are_kind}
-use Rattle.dns_kinds.proofs.types.types_are_read_back.Goals as goal
-
-pub returns : goal.returns
-returns c = record { named = types_are_kind; portable = portable_types_are_kind; signed = sig_types_are_kind }

@@ -1,0 +1,15 @@
+pub mod Answer
+pub mod EntryTokens
+pub mod Lexeme
+pub mod Unclosed
+pub mod PassedLine
+pub mod Pieces
+pub mod Position
+pub mod Reader
+pub mod Rows
+pub mod Run
+pub mod Skip
+pub mod Splitting
+pub mod CursorStates
+pub mod Token
+pub mod Viable

@@ -1,5 +1,0 @@
-use Rattle.dns_lists.proofs.Sets.{emptiness}
-use Rattle.dns_lists.proofs.code_set.CodeSet.is_empty.Goals as goal
-
-pub returns : goal.returns
-returns c = emptiness c.self.inside.octets c.self.inside.windows c.args.self.now c.self.invariant c.self.view_is

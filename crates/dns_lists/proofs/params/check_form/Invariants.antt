@@ -1,9 +1,0 @@
-use Rattle.std.proofs.Common.{length}
-use Rattle.dns_lists.proofs.ParamLists.{ChecksParams}
-use Rattle.dns_lists.proofs.params.check_form.Given as goal
-
-abbrev pub invariant-loop-rest : goal.invariant-loop-rest
-invariant-loop-rest l = ChecksParams l.octets l.rest l.next
-
-abbrev pub decreases-loop-rest : goal.decreases-loop-rest
-decreases-loop-rest l = length l.rest

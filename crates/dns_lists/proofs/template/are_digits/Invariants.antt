@@ -1,7 +1,0 @@
-use Rattle.std.proofs.Common.{◌≡◌, drop}
-use Rattle.std.specs.List.{list_all}
-use Rattle.dns_lists.specs.Template.{is_limit_digit}
-use Rattle.dns_lists.proofs.template.are_digits.Given as goal
-
-abbrev pub invariant-loop-octet : goal.invariant-loop-octet
-invariant-loop-octet l = list_all is_limit_digit (drop l.octet-index l.text) ≡ list_all is_limit_digit l.text

@@ -1,9 +1,0 @@
-use Rattle.std.proofs.Common.{◌≡◌, length}
-use Rattle.dns_lists.specs.Template.{are_variable_octets}
-use Rattle.dns_lists.proofs.template.are_variable_octets.Given as goal
-
-abbrev pub invariant-loop-rest : goal.invariant-loop-rest
-invariant-loop-rest l = are_variable_octets l.rest ≡ are_variable_octets l.text
-
-abbrev pub decreases-loop-rest : goal.decreases-loop-rest
-decreases-loop-rest l = length l.rest

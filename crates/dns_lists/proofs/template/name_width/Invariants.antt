@@ -1,6 +1,0 @@
-use Rattle.std.proofs.Common.{◌≡◌, ℕ, ◌<◌, false, get_or}
-use Rattle.dns_lists.specs.Template.{is_modifier_mark}
-use Rattle.dns_lists.proofs.template.name_width.Given as goal
-
-abbrev pub invariant-loop-place : goal.invariant-loop-place
-invariant-loop-place l = (k : ℕ) → k < l.place → is_modifier_mark (get_or l.text k 0) ≡ false

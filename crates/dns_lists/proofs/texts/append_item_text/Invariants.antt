@@ -1,6 +1,0 @@
-use Rattle.std.proofs.Common.{◌≡◌, ◌++◌, take}
-use Rattle.dns_lists.specs.Texts.{item_text}
-use Rattle.dns_lists.proofs.texts.append_item_text.Given as goal
-
-abbrev pub invariant-loop-octet : goal.invariant-loop-octet
-invariant-loop-octet g l = g.B.AsOctets.octets l.target ≡ g.B.AsOctets.octets l.initial.target ++ item_text (take l.octet-index l.item)

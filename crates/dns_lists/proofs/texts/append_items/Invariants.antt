@@ -1,9 +1,0 @@
-use Rattle.std.proofs.Common.{length}
-use Rattle.dns_lists.proofs.Items.{TakesList}
-use Rattle.dns_lists.proofs.texts.append_items.Given as goal
-
-abbrev pub invariant-loop-rest : goal.invariant-loop-rest
-invariant-loop-rest g l = TakesList l.text l.rest (g.B.AsOctets.octets l.fn.target) (g.B.AsOctets.octets l.target)
-
-abbrev pub decreases-loop-rest : goal.decreases-loop-rest
-decreases-loop-rest g l = length l.rest

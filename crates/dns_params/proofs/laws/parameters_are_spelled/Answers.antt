@@ -1,6 +1,0 @@
-use Rattle.dns_params.proofs.ParamLaws.{all_params_once}
-use Rattle.dns_params.proofs.ShownBack.{params_read_back, params_are_words}
-use Rattle.dns_params.proofs.laws.parameters_are_spelled.Goals as goal
-
-pub returns : goal.returns
-returns c = record { once = all_params_once; back = params_read_back; words = params_are_words }

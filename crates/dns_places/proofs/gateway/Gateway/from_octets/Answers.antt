@@ -1,9 +1,0 @@
-use Rattle.std.proofs.Common.{sym, subst}
-use Rattle.dns_places.specs.Gateways.{FindsGateway}
-use Rattle.dns_places.proofs.gateway.Gateway.from_octets.Goals as goal
-
-pub returns-in-1 : goal.returns-in-1
-returns-in-1 c = subst (λ number. FindsGateway number c.args.octets.now c.front4.result) (sym c.in-1.is) c.front4.ensures
-
-pub returns-in-2 : goal.returns-in-2
-returns-in-2 c = subst (λ number. FindsGateway number c.args.octets.now c.front16.result) (sym c.in-2.is) c.front16.ensures

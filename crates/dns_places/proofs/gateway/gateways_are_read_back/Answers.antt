@@ -1,5 +1,0 @@
-use Rattle.dns_places.proofs.GatewayLaws.{gateways_are_read}
-use Rattle.dns_places.proofs.gateway.gateways_are_read_back.Goals as goal
-
-pub returns : goal.returns
-returns c = gateways_are_read

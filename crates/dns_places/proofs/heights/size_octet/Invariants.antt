@@ -1,8 +1,0 @@
-use Rattle.dns_places.proofs.HeightLemmas.{FirstDigits}
-use Rattle.dns_places.proofs.heights.size_octet.Given as goal
-
-abbrev pub invariant-loop-digit : goal.invariant-loop-digit
-invariant-loop-digit l = FirstDigits l.number l.digit l.behind
-
-abbrev pub decreases-loop-digit : goal.decreases-loop-digit
-decreases-loop-digit l = l.digit

@@ -1,7 +1,0 @@
-use Rattle.std.proofs.Common.{Err, refl}
-use Rattle.dns_reader.proofs.Learned.{nothing_learned}
-use Rattle.dns_reader.proofs.entry.read_default_ttl.Goals as goal
-
-pub returns-in-Err-clause-reads : goal.returns-in-Err-clause-reads
-returns-in-Err-clause-reads g c =
-    (Err c.in-Err.error, g.S.TokenSource.left c.take_default_ttl.new.source, c.in-Err.ensures.takes, refl, nothing_learned c.args.state.now)

@@ -1,9 +1,0 @@
-use Rattle.std.proofs.Common.{sym, subst}
-use Rattle.dns_reader.specs.Past.{IsOriginAfter, IsOwnerAfter}
-use Rattle.dns_reader.proofs.state.State.mark.Goals as goal
-
-pub returns : goal.returns
-returns c = λ start past h. record {
-  origin = subst (IsOriginAfter start past) (sym c.copied-origin.ensures) h.origin;
-  owner = subst (IsOwnerAfter start past) (sym c.copied-owner.ensures) h.owner;
-}

@@ -1,5 +1,0 @@
-use Rattle.dns_reader.proofs.PastStates.{restored}
-use Rattle.dns_reader.proofs.state.State.restore.Goals as goal
-
-pub returns-clause-past : goal.returns-clause-past
-returns-clause-past c = λ start past included h k. restored start past included c.args.mark c.args.self.now h k

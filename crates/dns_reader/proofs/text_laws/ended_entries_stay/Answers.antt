@@ -1,5 +1,0 @@
-use Rattle.dns_reader.proofs.PartsStay.{ended_entries_stay}
-use Rattle.dns_reader.proofs.text_laws.ended_entries_stay.Goals as goal
-
-pub returns : goal.returns
-returns c = ended_entries_stay

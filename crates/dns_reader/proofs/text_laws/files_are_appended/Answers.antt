@@ -1,5 +1,0 @@
-use Rattle.dns_reader.proofs.Included.{files_are_appended}
-use Rattle.dns_reader.proofs.text_laws.files_are_appended.Goals as goal
-
-pub returns : goal.returns
-returns c = files_are_appended

@@ -1,5 +1,0 @@
-use Rattle.dns_resource.proofs.RecordBack.{record_back}
-use Rattle.dns_resource.proofs.laws.records_are_read_back.Goals as goal
-
-pub returns : goal.returns
-returns g c = λ origin tokens known small printed. record_back c.args.one.now origin tokens c.records_hold_values.ensures known small printed

@@ -1,7 +1,0 @@
-use Rattle.std.proofs.Common.{true≢false, sym, ◌∙◌}
-use Rattle.dns_resource.specs.DataTokens.{data_tokens, tokens_have_no_line}
-use Rattle.dns_resource.specs.Records.{data_of}
-use Rattle.dns_resource.proofs.record.RecordZonefileFmt.fmt.Goals as goal
-
-pub block-requires : goal.block-requires
-block-requires g c = let own = data_of c.args.self.now in λ line. absurd (true≢false (sym line ∙ tokens_have_no_line (data_tokens own.rtype own.octets)))

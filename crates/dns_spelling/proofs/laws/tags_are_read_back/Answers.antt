@@ -1,5 +1,0 @@
-use Rattle.dns_spelling.proofs.FormLaws.{tags_in_front}
-use Rattle.dns_spelling.proofs.laws.tags_are_read_back.Goals as goal
-
-pub returns-clause-front : goal.returns-clause-front
-returns-clause-front c = tags_in_front

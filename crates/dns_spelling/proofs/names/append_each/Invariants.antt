@@ -1,9 +1,0 @@
-use Rattle.std.proofs.Common.{length}
-use Rattle.dns_spelling.proofs.LabelParts.{Appended}
-use Rattle.dns_spelling.proofs.names.append_each.Given as goal
-
-abbrev pub invariant-labels : goal.invariant-labels
-invariant-labels g l = Appended l.text (g.B.AsOctets.octets l.fn.target) l.rest (g.B.AsOctets.octets l.target) l.count
-
-abbrev pub decreases-labels : goal.decreases-labels
-decreases-labels g l = length l.rest

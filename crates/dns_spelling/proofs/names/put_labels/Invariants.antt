@@ -1,9 +1,0 @@
-use Rattle.std.proofs.Common.{length, ◌-◌}
-use Rattle.dns_spelling.proofs.PutLabels.{LabelsPut}
-use Rattle.dns_spelling.proofs.names.put_labels.Given as goal
-
-abbrev pub invariant-labels : goal.invariant-labels
-invariant-labels l = LabelsPut l.text l.wire l.start
-
-abbrev pub decreases-labels : goal.decreases-labels
-decreases-labels l = length l.text - l.start

@@ -1,9 +1,0 @@
-use Rattle.std.proofs.Common.{subst}
-use Rattle.dns_split.specs.EntryTokens.{IsInEntries}
-use Rattle.dns_split.proofs.EntryParts.{in_entries}
-use Rattle.dns_split.proofs.entry_tokens.EntryTokens.again.Goals as goal
-
-pub returns-clause-entries : goal.returns-clause-entries
-returns-clause-entries c =
-    let me = c.self.inside in
-    subst IsInEntries c.self.view_is (in_entries me.octets.now me.standing me.ended c.self.invariant)

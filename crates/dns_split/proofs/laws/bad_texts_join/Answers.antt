@@ -1,5 +1,0 @@
-use Rattle.dns_split.proofs.FaultJoins.{bad_joined}
-use Rattle.dns_split.proofs.laws.bad_texts_join.Goals as goal
-
-pub returns : goal.returns
-returns c = bad_joined

@@ -1,5 +1,0 @@
-use Rattle.dns_split.proofs.Viable.{begins_viable}
-use Rattle.dns_split.proofs.laws.beginnings_are_viable.Goals as goal
-
-pub returns : goal.returns
-returns c = begins_viable

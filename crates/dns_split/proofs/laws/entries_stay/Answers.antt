@@ -1,5 +1,0 @@
-use Rattle.dns_split.proofs.Blocks.{entries_stay}
-use Rattle.dns_split.proofs.laws.entries_stay.Goals as goal
-
-pub returns : goal.returns
-returns c = entries_stay

@@ -1,5 +1,0 @@
-use Rattle.dns_split.proofs.SettledOnce.{faults_once}
-use Rattle.dns_split.proofs.laws.faults_come_one_way.Goals as goal
-
-pub returns : goal.returns
-returns c = faults_once

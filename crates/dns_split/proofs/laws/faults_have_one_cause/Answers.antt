@@ -1,5 +1,0 @@
-use Rattle.dns_split.proofs.OneCause.{one_fault}
-use Rattle.dns_split.proofs.laws.faults_have_one_cause.Goals as goal
-
-pub returns : goal.returns
-returns c = one_fault

@@ -1,5 +1,0 @@
-use Rattle.dns_split.proofs.OctetsOnce.{given_once}
-use Rattle.dns_split.proofs.laws.octets_are_read_one_way.Goals as goal
-
-pub returns : goal.returns
-returns c = given_once

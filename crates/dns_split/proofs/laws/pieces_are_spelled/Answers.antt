@@ -1,5 +1,0 @@
-use Rattle.dns_split.proofs.Entries.{given_spelled}
-use Rattle.dns_split.proofs.laws.pieces_are_spelled.Goals as goal
-
-pub returns : goal.returns
-returns c = given_spelled

@@ -1,5 +1,0 @@
-use Rattle.dns_split.proofs.PieceSplit.{pieces_split}
-use Rattle.dns_split.proofs.laws.pieces_are_tokens.Goals as goal
-
-pub returns : goal.returns
-returns c = pieces_split

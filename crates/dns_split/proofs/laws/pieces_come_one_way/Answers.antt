@@ -1,5 +1,0 @@
-use Rattle.dns_split.proofs.PieceSplit.{pieces_one_way}
-use Rattle.dns_split.proofs.laws.pieces_come_one_way.Goals as goal
-
-pub returns : goal.returns
-returns c = pieces_one_way

@@ -1,5 +1,0 @@
-use Rattle.dns_split.proofs.PieceJoins.{pieces_joined}
-use Rattle.dns_split.proofs.laws.pieces_join.Goals as goal
-
-pub returns : goal.returns
-returns c = pieces_joined

@@ -1,5 +1,0 @@
-use Rattle.dns_split.proofs.Joins.{split_cut}
-use Rattle.dns_split.proofs.laws.splits_are_cut.Goals as goal
-
-pub returns : goal.returns
-returns c = split_cut

@@ -1,5 +1,0 @@
-use Rattle.dns_split.proofs.PieceSplit.{split_pieces}
-use Rattle.dns_split.proofs.laws.splits_have_pieces.Goals as goal
-
-pub returns : goal.returns
-returns c = split_pieces

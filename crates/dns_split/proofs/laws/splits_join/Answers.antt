@@ -1,5 +1,0 @@
-use Rattle.dns_split.proofs.Joins.{split_joined}
-use Rattle.dns_split.proofs.laws.splits_join.Goals as goal
-
-pub returns : goal.returns
-returns c = split_joined

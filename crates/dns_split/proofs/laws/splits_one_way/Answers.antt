@@ -1,5 +1,0 @@
-use Rattle.dns_split.proofs.Complete.{one_way}
-use Rattle.dns_split.proofs.laws.splits_one_way.Goals as goal
-
-pub returns : goal.returns
-returns c = one_way

@@ -1,5 +1,0 @@
-use Rattle.dns_split.proofs.SettledOnce.{read_once}
-use Rattle.dns_split.proofs.laws.texts_are_read_one_way.Goals as goal
-
-pub returns : goal.returns
-returns c = read_once

@@ -1,5 +1,0 @@
-use Rattle.dns_split.proofs.EntryLaws.{seen_once}
-use Rattle.dns_split.proofs.laws.tokens_are_seen_one_way.Goals as goal
-
-pub returns : goal.returns
-returns c = seen_once

@@ -1,8 +1,0 @@
-use Rattle.dns_split.proofs.Standings.{takes_from_entry, takes_from_start}
-use Rattle.dns_split.proofs.standing.calls_give_all.Goals as goal
-
-pub returns-clause-entry : goal.returns-clause-entry
-returns-clause-entry c = takes_from_entry
-
-pub returns-clause-text : goal.returns-clause-text
-returns-clause-text c = takes_from_start

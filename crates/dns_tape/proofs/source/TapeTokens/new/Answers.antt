@@ -1,5 +1,0 @@
-use Rattle.dns_tape.proofs.Filling.{end_within}
-use Rattle.dns_tape.proofs.source.TapeTokens.new.Goals as goal
-
-pub invariant_of-result : goal.invariant_of-result
-invariant_of-result c = record { within = c.requires.fills.within; ends = end_within c.args.octets.now c.args.spans.now c.args.end c.requires.fills; room = c.requires.room }

@@ -1,5 +1,0 @@
-use Rattle.dns_zonefile.proofs.PrintedTexts.{text_is_read}
-use Rattle.dns_zonefile.proofs.laws.printed_texts_are_read.Goals as goal
-
-pub returns : goal.returns
-returns g c = text_is_read c.args.records.now c.all_hold_values.ensures c.whole_records_stand_alone.ensures c.texts_are_read_entry_by_entry.ensures.all

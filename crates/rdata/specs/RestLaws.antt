@@ -1,0 +1,22 @@
+-- Laws of each kind of tail.
+use Rattle.std.specs.Prelude.{ℕ, Option, ◌≡◌, List}
+use Rattle.std.specs.List.{AllByRecursion}
+use Rattle.rdata_tokens.specs.NameSpelling.{IsOrigin}
+use Rattle.rdata_tokens.specs.Spelling.{AreOctetValues}
+use Rattle.dns_lexer.specs.EntryTokens.{TokenSeen}
+use Rattle.rdata.specs.Rests.{RestForm}
+use Rattle.rdata.specs.RestKinds.{rest_form}
+use Rattle.rdata.specs.declared.rest.Rest.{Rest}
+
+-- what tokens hold are octets
+abbrev pub HoldOctets : List TokenSeen → Type 0
+HoldOctets tokens = AllByRecursion (λ t. AreOctetValues t.text) tokens
+
+-- What tokens spell are octets that the kind can have; and tokens spell one list of octets only.
+pub record IsRestForm (f : RestForm) : Type 0 where
+  pub are_wire : (tokens : List TokenSeen) (octets : List ℕ) → HoldOctets tokens → f.spells tokens octets → f.is_wire octets
+  pub once : (tokens : List TokenSeen) (a b : List ℕ) → f.spells tokens a → f.spells tokens b → a ≡ b
+
+-- each kind is spelled as its form defines
+abbrev pub AreRestForms : Type 0
+AreRestForms = (origin : Option (List (List ℕ))) → IsOrigin origin → (r : Rest) → IsRestForm (rest_form origin r)

@@ -1,0 +1,9 @@
+pub mod Addresses
+pub mod Fields
+pub mod Forms
+pub mod RecordErrors
+pub mod Source
+pub mod Parsing
+pub mod TokenParsers
+pub mod WordLaws
+pub mod Words

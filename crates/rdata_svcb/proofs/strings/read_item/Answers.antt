@@ -1,0 +1,33 @@
+use Rattle.std.proofs.Common.{◌≡◌, ◌∙◌, length, sym, refl, inl, inr, arith}
+use Rattle.std.proofs.lemmas.Result.{err_from_is_err_and}
+use Rattle.rdata_svcb.proofs.ListTexts.{item_more, item_smaller}
+use Rattle.rdata_svcb.proofs.ListRefusals.{no_item_bad, no_item_long, no_item_empty}
+use Rattle.rdata_svcb.proofs.strings.read_item.Goals as goal
+
+pub loop-first-smaller : goal.loop-first-smaller
+loop-first-smaller c = item_smaller c.loop-first.rest.now c.in-Some.first.rest.now c.in-Some.first.octet (rw c.in-Some.is at c.in_ok-first.ensures.ok)
+
+pub loop-first-preserved : goal.loop-first-preserved
+loop-first-preserved c =
+    let first = c.in-Some.first in
+    rw c.in-Ok.ensures.ok (item_more c.args.text.now c.loop-first.rest.now first.rest.now c.loop-first.item.items first.octet c.loop-first.invariant (rw c.in-Some.is at c.in_ok-first.ensures.ok))
+
+pub returns : goal.returns
+returns c = record { ok = ((omega arith, omega arith), c.loop-first.invariant, rw c.in_default.is at c.in_ok-first.ensures.ok); err = tt }
+
+pub returns-in_err-first-clause-err : goal.returns-in_err-first-clause-err
+returns-in_err-first-clause-err c =
+    let p = err_from_is_err_and c.from_residual.result c.from_residual.ensures.1 in
+    let err = c.in_err-first.ensures.err in
+    rw (p.1, p.2) (err.0, no_item_bad c.args.text.now c.loop-first.rest.now c.loop-first.item.items c.loop-first.invariant err.1)
+
+pub returns-in_default-try_push-clause-err : goal.returns-in_default-try_push-clause-err
+returns-in_default-try_push-clause-err c =
+    let first = c.in-Some.first in
+    let full : length c.loop-first.item.items ≡ 255 = c.in_default-try_push.ensures.full in
+    (inr (inl refl), no_item_long c.args.text.now c.loop-first.rest.now first.rest.now c.loop-first.item.items first.octet c.loop-first.invariant (rw c.in-Some.is at c.in_ok-first.ensures.ok) full)
+
+pub returns-then-count-eq0-clause-err : goal.returns-then-count-eq0-clause-err
+returns-then-count-eq0-clause-err c =
+    let ends = rw c.in_default.is at c.in_ok-first.ensures.ok in
+    (inr (inl refl), no_item_empty c.args.text.now c.loop-first.rest.now c.loop-first.item.items c.loop-first.invariant ends (sym c.len-count.ensures.value ∙ c.if-count-eq0.true))

@@ -1,0 +1,11 @@
+use Rattle.std.proofs.Common.{◌≡◌, ◌==◌, ◌+◌, [], length}
+use Rattle.std.specs.List.{list_any, slice_split}
+use Rattle.std.specs.Option.{option_map_or}
+use Rattle.rdata_svcb.specs.Template.{is_named_dns}
+use Rattle.rdata_svcb.proofs.template.has_dns.Given as goal
+
+abbrev pub invariant-loop-left : goal.invariant-loop-left
+invariant-loop-left l = list_any is_named_dns (option_map_or (λ rest. slice_split (λ o. o == 44) rest.now) l.left []) ≡ list_any is_named_dns (slice_split (λ o. o == 44) l.list)
+
+abbrev pub decreases-loop-left : goal.decreases-loop-left
+decreases-loop-left l = option_map_or (λ rest. length rest.now + 1) l.left 0

@@ -1,0 +1,17 @@
+pub mod Params
+pub mod Values
+pub mod Texts
+pub mod TextFaults
+pub mod ParamsFaults
+pub mod Template
+pub mod ListRows
+pub mod Items
+pub mod Keys
+pub mod ParamValues
+pub mod ParamTokens
+pub mod ParamSteps
+pub mod ParamRefusals
+pub mod ListItems
+pub mod ShownParams
+pub mod ParamsBack
+pub mod Rows

@@ -1,0 +1,10 @@
+pub mod Decimals
+pub mod Gateways
+pub mod LocationPlaces
+pub mod LocationParsing
+pub mod LocationWords
+pub mod Locations
+pub mod Marks
+pub mod Prefixes
+pub mod Refusals
+pub mod Rows

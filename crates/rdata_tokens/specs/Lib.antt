@@ -1,0 +1,10 @@
+pub mod Forms
+pub mod NameSpelling
+pub mod PrintedNames
+pub mod Shown
+pub mod Spelling
+pub mod DigestLengths
+pub mod Hashes
+pub mod Reading
+pub mod Spelled
+pub mod Tokens

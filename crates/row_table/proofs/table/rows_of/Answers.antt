@@ -1,8 +1,0 @@
-use Rattle.std.proofs.Common.{rules, tests}
-use Rattle.std.proofs.lemmas.Iterator.Consumers.{map_from_collect, YieldsList-from_filter}
-use Rattle.std.proofs.lemmas.Iterator.Splits.{YieldsList-from_lines}
-use Rattle.row_table.specs.Rows.{is_row}
-use Rattle.row_table.proofs.table.rows_of.Goals as goal
-
-pub returns : goal.returns
-returns c = map_from_collect _ c.collect.ensures.ran (YieldsList-from_filter _ is_row (YieldsList-from_lines c.args.text.now cc) c.filter.ensures.closure (λ x r q k. search (rules, tests)))

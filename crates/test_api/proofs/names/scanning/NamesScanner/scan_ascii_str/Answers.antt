@@ -1,0 +1,10 @@
+use Rattle.std.proofs.Common.{Some, refl, Err}
+use Rattle.test_api.proofs.CutToken.{cut_token, cut_asks}
+use Rattle.test_api.proofs.names.scanning.NamesScanner.scan_ascii_str.Goals as goal
+
+pub returns-clause-scans : goal.returns-clause-scans
+returns-clause-scans g c = record {
+  token = Some cut_token;
+  taken = refl;
+  answer = record { answer = Err c.cut.result; built = _; asks = cut_asks g.E.ScannerError.cause c.cut.result c.cut.ensures _ _; gives = refl };
+}

@@ -1,0 +1,6 @@
+use Rattle.std.proofs.Common.{Some, refl}
+use Rattle.test_api.proofs.CutToken.{cut_token, cut_asks}
+use Rattle.test_api.proofs.names.scanning.NamesScanner.scan_symbols.Goals as goal
+
+pub returns-clause-scans : goal.returns-clause-scans
+returns-clause-scans g c = record { token = Some cut_token; taken = refl; answer = cut_asks g.E.ScannerError.cause c.cut.result c.cut.ensures _ _ }

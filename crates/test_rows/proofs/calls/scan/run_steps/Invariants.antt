@@ -1,0 +1,7 @@
+use Rattle.test_rows.proofs.calls.scan.run_steps.Given as goal
+
+abbrev pub invariant-loop-step : goal.invariant-loop-step
+invariant-loop-step g l =
+    (goal.iterator-loop-step g).can_next l.step-iterator ×
+    (goal.iterator-loop-step g).is_finite l.step-iterator ×
+    g.S.Scanner.can_scan l.scanner

@@ -1,5 +1,0 @@
-pub mod AlikeRows
-pub mod AlikeStates
-pub mod HeadReads
-pub mod HeadSteps
-pub mod ReadRecords

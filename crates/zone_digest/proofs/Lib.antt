@@ -1,5 +1,0 @@
-mod AtApex
-mod HashedRecords
-mod RightData
-mod Scopes
-mod ZonemdParts

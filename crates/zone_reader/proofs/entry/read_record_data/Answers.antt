@@ -1,0 +1,48 @@
+use Rattle.std.proofs.Common.{Ok, Err, ℕ, length, ap, refl, subst}
+use Rattle.std.specs.Option.{option_copied}
+use Rattle.rdata.specs.ByType.{ReadsType}
+use Rattle.zone_reader.proofs.EntryJoins.{data_extends, minimum_gained}
+use Rattle.zone_reader.proofs.Learned.{nothing_learned}
+use Rattle.zone_reader.proofs.entry.read_record_data.Goals as goal
+
+pub returns-in-Ok-clause-reads : goal.returns-in-Ok-clause-reads
+returns-in-Ok-clause-reads g c =
+    let ends = g.S.TokenSource.end in
+    let left = g.S.TokenSource.left in
+    let octets = g.B.AsOctets.octets in
+    let old = octets c.args.target.now in
+    let new = octets c.read_type.new.target in
+    let w = c.args.words in
+    let room = g.B.OctetsBuilder.room in
+    let gains = c.in-Ok.ensures.reads.1 in
+    let begun : ℕ = length c.as_slice-begun.result.now in (
+      Ok tt,
+      left c.read_type.new.source,
+      subst (λ o. ReadsType o room w.rtype (ends c.args.source.now).at (left c.args.source.now) old (Ok tt) (left c.read_type.new.source) new) c.name.ensures c.in-Ok.ensures.reads,
+      minimum_gained c.args.state.now c.args.state.now.owner room c.args.at (ends c.args.source.now).at old new c.finish_record.result w begun gains.0 c.as_slice.result.now c.minimum_of-minimum.result gains.2
+          (ap length c.as_slice-begun.ensures.value) c.as_slice.ensures.value c.minimum_of-minimum.ensures c.finish_record.ensures.record,
+    )
+
+pub returns-in-Ok-clause-extends : goal.returns-in-Ok-clause-extends
+returns-in-Ok-clause-extends g c = let gains = c.in-Ok.ensures.reads.1 in (gains.0, gains.2)
+
+pub returns-in-Err-clause-reads : goal.returns-in-Err-clause-reads
+returns-in-Err-clause-reads g c =
+    let ends = g.S.TokenSource.end in
+    let left = g.S.TokenSource.left in
+    let octets = g.B.AsOctets.octets in
+    let old = octets c.args.target.now in
+    let new = octets c.read_type.new.target in (
+      Err c.in-Err.error,
+      left c.read_type.new.source,
+      subst (λ o. ReadsType o g.B.OctetsBuilder.room c.args.words.rtype (ends c.args.source.now).at (left c.args.source.now) old (Err c.in-Err.error) (left c.read_type.new.source) new) c.name.ensures c.in-Err.ensures.reads,
+      refl,
+    )
+
+pub returns-in-Err-clause-extends : goal.returns-in-Err-clause-extends
+returns-in-Err-clause-extends g c =
+    data_extends (option_copied c.name.result) g.B.OctetsBuilder.room c.args.words.rtype (g.S.TokenSource.end c.args.source.now).at (g.S.TokenSource.left c.args.source.now) (g.S.TokenSource.left c.read_type.new.source)
+    (g.B.AsOctets.octets c.args.target.now) (g.B.AsOctets.octets c.read_type.new.target) (Err c.in-Err.error) c.in-Err.ensures.reads
+
+pub returns-in-Err-clause-learns : goal.returns-in-Err-clause-learns
+returns-in-Err-clause-learns g c = nothing_learned c.args.state.now

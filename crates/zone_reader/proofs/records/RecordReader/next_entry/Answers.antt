@@ -1,0 +1,25 @@
+use Rattle.std.proofs.Common.{ap, ◌∙◌, Ok, refl, subst, sym}
+use Rattle.zone_reader.specs.EntryReading.{ReadsZoneEntry}
+use Rattle.zone_reader.specs.Source.{entry_end, unread_entry_tokens}
+use Rattle.zone_reader.proofs.NextEntries.{next_read, next_cut}
+use Rattle.zone_reader.proofs.records.RecordReader.next_entry.Goals as goal
+
+pub returns-in-Ok : goal.returns-in-Ok
+returns-in-Ok g c =
+    let me = c.args.self.now in
+    next_read g.B.OctetsBuilder.room me (record { octets = me.octets; source = c.finish.new.self; state = c.read_entry-read.new.state }) c.begin.new.self c.read_entry-read.new.source c.finish.new.self
+    (g.B.AsOctets.octets c.args.target.now) (g.B.AsOctets.octets c.read_entry-read.new.target) c.begin.result c.in-Ok-Some.start c.finish.result c.read_entry-read.result c.begin.ensures
+    (c.in-Ok-Some.is ∙ ap Ok c.in-Ok-Some.field-0-is) c.read_entry-read.ensures.reads c.read_entry-read.ensures.end c.finish.ensures refl c.in-Ok.field-0 c.in-Ok.is refl
+
+pub returns-in-Err-finish : goal.returns-in-Err-finish
+returns-in-Err-finish g c =
+    let me = c.args.self.now in
+    let room = g.B.OctetsBuilder.room in
+    let old = g.B.AsOctets.octets c.args.target.now in
+    let new = g.B.AsOctets.octets c.read_entry-read.new.target in
+    let passed = c.pass_fault-in-Err-finish in
+    let begun = c.begin.new.self in
+    next_cut room me passed.new.self begun c.read_entry-read.new.source c.finish.new.self old new c.begin.result c.in-Ok-Some.start c.finish.result c.read_entry-read.result c.begin.ensures
+    (c.in-Ok-Some.is ∙ ap Ok c.in-Ok-Some.field-0-is)
+    (subst (λ s. ReadsZoneEntry room c.in-Ok-Some.start.begins_blank (entry_end begun).at (unread_entry_tokens begun) me.state old c.read_entry-read.result s new) (sym passed.ensures.state) c.read_entry-read.ensures.reads)
+    c.read_entry-read.ensures.end c.finish.ensures (ap (λ o. o.now) passed.ensures.octets) c.in-Err-finish.fault c.in-Err-finish.is passed.ensures.behind passed.result passed.ensures.error

@@ -1,0 +1,12 @@
+use Rattle.std.proofs.Common.{refl}
+use Rattle.std.specs.Option.{option_copied}
+use Rattle.zone_reader.proofs.NamesTaken.{name_refused, name_is_made, taken_as}
+use Rattle.zone_reader.proofs.state.parse_known.Goals as goal
+
+pub unreachable-requires : goal.unreachable-requires
+unreachable-requires g c =
+    name_is_made (option_copied c.args.origin) _ _ _ c.from_octets.result c.in-Err-from_octets.field-0
+    (taken_as (option_copied c.args.origin) (g.S.TokenSource.end c.args.source.now).at _ _ _ _ tt c.new-octets.ensures c.in-Ok.ensures.takes) c.from_octets.ensures c.in-Err-from_octets.is
+
+pub returns-in-Err-clause-takes : goal.returns-in-Err-clause-takes
+returns-in-Err-clause-takes g c = (refl, name_refused (option_copied c.args.origin) _ _ _ _ _ c.in-Err.error c.new-octets.ensures c.in-Err.ensures.takes)

@@ -1,0 +1,4 @@
+use Rattle.zone_reader.proofs.words.type_word.Goals as goal
+
+pub returns-in-Err : goal.returns-in-Err
+returns-in-Err c = λ n h. c.in-Err.ensures.1 n h.1

@@ -1,0 +1,153 @@
+-- Worked rows of keys, records and entries.
+use Rattle.std.specs.Prelude.{◌≡◌, ℕ, true, false, List, [], ◌∷◌, ◌++◌, ◌+◌, ◌*◌, ◌^◌, replicate, codes, refl}
+use Rattle.std.specs.declared.cmp.Ordering.TheVariants.{Less, Greater}
+use Rattle.zone_set.specs.Counted.{counted_octets, first_counted, after_counted}
+use Rattle.zone_set.specs.Duplicates.{is_duplicate_at}
+use Rattle.zone_set.specs.Entries.{key_at, key_offset, parts_at, parts_offset, record_of}
+use Rattle.zone_set.specs.Parts.{RecordParts, parts_octets, octets16, octets32, octets64, begins_parts}
+use Rattle.zone_set.specs.Prefixes.{prefix_number}
+use Rattle.zone_set.specs.Stored.{AddedRecord, added_record, absent_parts, has_stored_rrset, is_same_stored, record_at, stored_order}
+use Rattle.zone_set.specs.declared.entries.Entry.{Entry}
+
+-- of no octets, of one, of eight, and of nine, the last of which does not count
+none_prefix_row : prefix_number 8 [] ≡ 0
+none_prefix_row = refl
+
+first_prefix_row : prefix_number 8 (1 ∷ []) ≡ 72057594037927936
+first_prefix_row = refl
+
+last_prefix_row : prefix_number 8 (replicate 7 0 ++ 1 ∷ []) ≡ 1
+last_prefix_row = refl
+
+greatest_prefix_row : prefix_number 8 (replicate 8 255) ≡ 18446744073709551615
+greatest_prefix_row = refl
+
+long_prefix_row : prefix_number 8 (replicate 8 0 ++ 1 ∷ []) ≡ 0
+long_prefix_row = refl
+
+-- lengths of one octet, and of three
+empty_row : counted_octets [] ≡ 0 ∷ []
+empty_row = refl
+
+short_row : counted_octets (replicate 254 7) ≡ 254 ∷ replicate 254 7
+short_row = refl
+
+long_row : counted_octets (replicate 255 7) ≡ 255 ∷ 0 ∷ 255 ∷ replicate 255 7
+long_row = refl
+
+longer_row : counted_octets (replicate 256 7) ≡ 255 ∷ 1 ∷ 0 ∷ replicate 256 7
+longer_row = refl
+
+-- octets between others, and octets of which some are absent
+first_row : first_counted (2 ∷ codes "abc") ≡ codes "ab"
+first_row = refl
+
+after_row : after_counted (2 ∷ codes "abc") ≡ codes "c"
+after_row = refl
+
+long_first_row : first_counted (255 ∷ 0 ∷ 2 ∷ codes "abc") ≡ codes "ab"
+long_first_row = refl
+
+long_after_row : after_counted (255 ∷ 0 ∷ 2 ∷ codes "abc") ≡ codes "c"
+long_after_row = refl
+
+absent_row : first_counted (4 ∷ codes "abc") ≡ codes "abc"
+absent_row = refl
+
+cut_length_row : first_counted (255 ∷ 0 ∷ []) ≡ []
+cut_length_row = refl
+
+-- A 192.0.2.1 with the TTL 3600, at the offset 12 of the first file, of class IN and of class CH
+abbrev address : ℕ → RecordParts
+address class = record { code = 1; class = class; ttl = 3600; file = 0; offset = 12; rdata = 192 ∷ 0 ∷ 2 ∷ 1 ∷ [] }
+
+short_record_row : parts_octets (address 1) ≡ 253 ∷ 1 ∷ 0 ∷ 0 ∷ 0 ∷ 14 ∷ 16 ∷ 0 ∷ 0 ∷ 0 ∷ 12 ∷ 4 ∷ 192 ∷ 0 ∷ 2 ∷ 1 ∷ []
+unfolding parts_octets octets16 octets32 octets64
+short_record_row = refl
+
+long_record_row : parts_octets (address 3) ≡ 254 ∷ 0 ∷ 1 ∷ 0 ∷ 3 ∷ 0 ∷ 0 ∷ 14 ∷ 16 ∷ 0 ∷ 0 ∷ 0 ∷ 0 ∷ (replicate 7 0 ++ 12 ∷ 4 ∷ 192 ∷ 0 ∷ 2 ∷ 1 ∷ [])
+unfolding parts_octets octets16 octets32 octets64
+long_record_row = refl
+
+-- neither a length nor octets that are cut off begin a record
+length_begins_row : begins_parts (30 ∷ replicate 30 0) ≡ false
+length_begins_row = refl
+
+cut_begins_row : begins_parts (253 ∷ replicate 9 0) ≡ false
+cut_begins_row = refl
+
+-- two records of the owner `b`: the key at 0, the first record at 2, the second at 18
+abbrev two_records : List ℕ
+two_records = 1 ∷ (codes "b" ++ (parts_octets (address 1) ++ parts_octets (address 3)))
+
+abbrev entry : ℕ → Entry
+entry offset = record { prefix = prefix_number 8 (codes "b"); at = offset * 2 ^ 24 + offset }
+
+key_row : key_at two_records 0 ≡ codes "b"
+key_row = refl
+
+second_key_row : key_offset (entry 18) ≡ 0
+second_key_row = refl
+
+second_offset_row : parts_offset (entry 18) ≡ 18
+second_offset_row = refl
+
+first_of_two_row : record_of two_records (entry 2) ≡ added_record (codes "b") (address 1)
+unfolding parts_octets octets16 octets32 octets64
+first_of_two_row = refl
+
+second_of_two_row : record_of two_records (entry 18) ≡ added_record (codes "b") (address 3)
+unfolding parts_octets octets16 octets32 octets64
+second_of_two_row = refl
+
+no_record_row : parts_at two_records 1 ≡ absent_parts
+unfolding parts_octets octets16 octets32 octets64
+no_record_row = refl
+
+-- by key, class, type and RDATA, but neither by TTL nor by file
+abbrev stored : List ℕ → ℕ → ℕ → List ℕ → AddedRecord
+stored key class code rdata = added_record key (record { code = code; class = class; ttl = 0; file = 0; offset = 0; rdata = rdata })
+
+keys_row : stored_order (stored (codes "a") 3 1 []) (stored (codes "b") 1 1 []) ≡ Less
+keys_row = refl
+
+classes_row : stored_order (stored (codes "a") 3 1 []) (stored (codes "a") 1 2 []) ≡ Greater
+classes_row = refl
+
+types_row : stored_order (stored (codes "a") 1 1 (9 ∷ [])) (stored (codes "a") 1 16 []) ≡ Less
+types_row = refl
+
+rdata_row : stored_order (stored (codes "a") 1 1 (128 ∷ [])) (stored (codes "a") 1 1 (127 ∷ 0 ∷ [])) ≡ Greater
+rdata_row = refl
+
+same_row : is_same_stored (stored (codes "a") 1 1 []) (added_record (codes "a") (record { code = 1; class = 1; ttl = 60; file = 2; offset = 7; rdata = [] })) ≡ true
+same_row = refl
+
+-- the record at an index, and an RRset among records
+abbrev some_records : List AddedRecord
+some_records = stored (codes "a") 1 1 [] ∷ stored (codes "b") 1 16 [] ∷ []
+
+at_row : record_at some_records 1 ≡ stored (codes "b") 1 16 []
+at_row = refl
+
+rrset_row : has_stored_rrset (codes "b") 1 16 some_records ≡ true
+rrset_row = refl
+
+other_key_row : has_stored_rrset (codes "a") 1 16 some_records ≡ false
+other_key_row = refl
+
+other_class_row : has_stored_rrset (codes "b") 3 16 some_records ≡ false
+other_class_row = refl
+
+-- the second of two records that are equal is a duplicate
+abbrev twice : List AddedRecord
+twice = stored (codes "a") 1 1 [] ∷ stored (codes "a") 1 1 [] ∷ stored (codes "b") 1 1 [] ∷ []
+
+first_once_row : is_duplicate_at twice 0 ≡ false
+first_once_row = refl
+
+second_row : is_duplicate_at twice 1 ≡ true
+second_row = refl
+
+other_row : is_duplicate_at twice 2 ≡ false
+other_row = refl

@@ -1,0 +1,20 @@
+//! Facts about all keys and records.
+ghost use Rattle.std.specs.Prelude.{ℕ, ◌≡◌, ◌<◌, All, List};
+ghost use Rattle.std.specs.Ordering.{nat_cmp, ordering_then};
+ghost use Rattle.zone_record.specs.Names.{octet_order};
+ghost use Rattle.zone_set.specs.Canonical.{AreInCanonicalOrder};
+ghost use Rattle.zone_set.specs.Prefixes.{prefix_number};
+ghost use Rattle.zone_set.specs.Stored.{AddedRecord};
+
+/// States that two lists of octets compare as their prefixes do, or as themselves if these are
+/// equal.
+pub fn prefixes_decide()
+    ensures { (a b : List ℕ) → All (λ o. o < 256) a → All (λ o. o < 256) b
+        → octet_order a b ≡ ordering_then (nat_cmp (prefix_number 8 a) (prefix_number 8 b)) (octet_order a b) }
+{}
+
+/// States that two records compare in canonical order (RFC 4034 section 6) if their keys are those of
+/// names and their RDATA is of their types.
+pub fn records_are_in_canonical_order()
+    ensures { (a b : AddedRecord) → AreInCanonicalOrder a b }
+{}

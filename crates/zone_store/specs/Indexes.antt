@@ -1,8 +1,0 @@
--- The record of an entry at an index.
-use Rattle.std.specs.Prelude.{ℕ, List}
-use Rattle.zone_store.specs.Stored.{AddedRecord, record_at}
-use Rattle.zone_store.specs.Stores.{stored_records}
-use Rattle.zone_store.specs.declared.entries.Entry.{Entry}
-
-abbrev pub stored_at : List ℕ → List Entry → ℕ → AddedRecord
-stored_at octets entries index = record_at (stored_records octets entries) index
