@@ -26,7 +26,7 @@ from urllib.parse import unquote_to_bytes
 
 HERE = os.path.dirname(os.path.realpath(__file__))
 ROWS = f"{HERE}/../test_records/stdin"
-TYPES = f"{HERE}/../dns_data/src/types.rt"
+TYPES = f"{HERE}/../rdata/src/types.rt"
 ORIGIN = "example."
 # Types whose presentation format BIND reads and zonetext doesn't.
 LEFT_OUT = {"HIP"}

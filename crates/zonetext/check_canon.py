@@ -187,12 +187,12 @@ def other_soa_rows():
 
 def transfer_rows():
     """What dig writes of a transfer ends with the SOA with which it begins, between comments."""
-    lines = [SOA, NS, ADDRESS]
+    lines = [SOA, NS, NS + 'net.', ADDRESS]
     put('sent', '\n; <<>> DiG 9.18.28 <<>> axfr example.\n;; global options: +cmd\n' + text(*lines, SOA)
         + ';; Query time: 0 msec\n;; SERVER: 127.0.0.1#53(127.0.0.1) (TCP)\n;; XFR size: 4 records (messages 1, bytes 198)\n\n')
     put('plain', text(*lines))
     same('check of a transfer', run('check', '--zone', 'example.', 'sent'),
-         (0, '', 'sent:7:1: warning: example. SOA: record stands twice [duplicate]\n0 errors, 1 warning\n'))
+         (0, '', 'sent:8:1: warning: example. SOA: record stands twice [duplicate]\n0 errors, 1 warning\n'))
     same('records', run('records', 'sent'), (0, text(*lines, SOA), ''))
     same('canon', run('canon', 'sent'), (0, text(*lines), 'zonetext: 1 duplicate left out\n'))
     same('diff', run('diff', 'plain', 'sent'), (0, '', ''))

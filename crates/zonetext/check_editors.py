@@ -19,7 +19,7 @@ import tempfile
 HERE = os.path.dirname(os.path.realpath(__file__))
 TOP = os.path.dirname(os.path.dirname(HERE))
 PROGRAM = os.path.abspath(os.environ.get('zonetext') or HERE + '/out/zonetext')
-GOOD = '$TTL 1h\n@ SOA ns h 1 2h 30m 2w 1h\n@ NS ns\nns A 192.0.2.1\n'
+GOOD = '@ 1h SOA ns h 1 2h 30m 2w 1h\n@ NS ns\n@ NS ns.o.\nns A 192.0.2.1\n'
 BAD = GOOD + '@ MX 10 mial\nw A 192.0.2.256\nmail A 192.0.2.3\n'
 DIFFER = []
 COUNT = 0

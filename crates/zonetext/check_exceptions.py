@@ -11,7 +11,7 @@ import sys
 import tempfile
 
 HERE = os.path.dirname(os.path.abspath(__file__))
-FRONT = "$ORIGIN example.\n$TTL 60\n@ SOA ns h 1 4 2 9 5\n@ NS ns\nns A 192.0.2.1\n"
+FRONT = "$ORIGIN example.\n@ 60 SOA ns h 1 4 2 9 5\n@ NS ns\n@ NS ns.o.\nns A 192.0.2.1\n"
 ZONE = ["--zone", "example."]
 # The lines of a zone file after FRONT, the options, and the findings: number of the line among these, column, severity,
 # code, and the word of the message if it has one.
@@ -28,8 +28,8 @@ COMMENTS = [
     ("a MX 10 mial", ZONE, [(1, 9, "warning", "target-missing", None)]),
     ("a MX 10 mial ; zonetext: allow target-missing", ZONE, []),
     ("a MX 10 mial ; zonetext: allow target-missing\nb MX 10 mial", ZONE, [(2, 9, "warning", "target-missing", None)]),
-    ("a CNAME b ; zonetext: allow cname\na TXT b", ZONE, []),
-    ("a CNAME b\na TXT b ; zonetext: allow cname", ZONE,
+    ("a CNAME b. ; zonetext: allow cname\na TXT b", ZONE, []),
+    ("a CNAME b.\na TXT b ; zonetext: allow cname", ZONE,
      [(1, 1, "error", "cname", None), (2, 27, "warning", "unused-allow", "cname")]),
     # in the comments of an entry of several lines
     ("a MX ( 10 ; zonetext: allow target-missing\n mial )", ZONE, []),

@@ -17,7 +17,7 @@ from xml.etree import ElementTree
 from xml.sax.saxutils import escape
 
 HERE = os.path.dirname(os.path.abspath(__file__))
-FRONT = b"$TTL 60\n@ SOA ns h 1 4 2 9 5\n@ NS ns\nns A 192.0.2.1\n"
+FRONT = b"@ 60 SOA ns h 1 4 2 9 5\n@ NS ns\n@ NS ns.o.\nns A 192.0.2.1\n"
 FORMATS = ["json", "github", "sarif", "checkstyle"]
 MEMBERS = ["file", "line", "column", "end_column", "opened_line", "opened_column", "severity", "code", "owner", "type",
            "message", "help"]
@@ -205,14 +205,15 @@ def objects(text):
 
 def check_records(program, folder):
     """The commands that print records as JSON."""
-    zone = FRONT + b'a\\"b\\010<&> TXT "x\\"y\\\\z" \xc3\xbc\n* A 192.0.2.2\nb 0 CAA 0 issue "c\td"\n'
+    # (without a second NS: records are found by owner and type)
+    zone = FRONT.replace(b"@ NS ns.o.\n", b"") + b'a\\"b\\010<&> TXT "x\\"y\\\\z" \xc3\xbc\n* A 192.0.2.2\nb 0 CAA 0 issue "c\td"\n'
     changed = zone.replace(b"192.0.2.2", b"192.0.2.3").replace(b"b 0 CAA", b"b 5 CAA")
     for name, octets in ("zone", zone), ("changed", changed):
         with open(os.path.join(folder, name), "wb") as file:
             file.write(octets)
     plain = run(program, "records", "--zone", "example.", "zone", cwd=folder)
     status, out, err = run(program, "records", "--zone", "example.", "--json", "zone", cwd=folder)
-    wanted = [{**it, "file": "zone", "line": line} for line, it in enumerate(parted(plain[1].splitlines()), 2)]
+    wanted = [{**it, "file": "zone", "line": line} for line, it in enumerate(parted(plain[1].splitlines()), 1)]
     expect("records --json", (status, objects(out), err), (0, wanted, ""))
     lines = {(it["owner"], it["type"]): it["line"] for it in wanted}
     for words in [], ["--wire"], ["--keep-order"], ["--memory", "1M"]:

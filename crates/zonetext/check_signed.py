@@ -20,6 +20,7 @@ ZONE = """\
 $TTL 300
 @ SOA ns h 1 4 2 9 5
 @ NS ns
+@ NS ns.example.net.
 @ MX 10 Mail
 ns A 192.0.2.1
 mail A 192.0.2.2
@@ -27,11 +28,14 @@ mail A 192.0.2.2
 a.c.b TXT "b"
 y.x.z.y A 192.0.2.3
 safe NS ns.safe
+safe NS ns.example.net.
 safe DS 60485 8 2 D4B7D520E7BB5F0F67674A0CCEB1E3E0614B93C4F9E99B8383F6A1E4469DA50A
 ns.safe A 192.0.2.4
 open NS ns.open
+open NS ns.example.net.
 ns.open A 192.0.2.5
 far.away NS ns.example.net.
+far.away NS ns2.example.net.
 """
 START, END, NOW = "20260101000000", "20260201000000", "20260115000000"
 BIND = ["dnssec-signzone", "-q", "-P", "-z", "-o", ORIGIN, "-s", START, "-e", END, "-f"]
@@ -88,6 +92,11 @@ def without(lines, pattern):
     return lines[:place] + lines[place + 1:]
 
 
+def without_all(lines, pattern):
+    """The records but those that have a pattern."""
+    return [line for line in lines if not re.search(pattern, line)]
+
+
 def turned(lines, pattern, old, new):
     """The records, with a text of the first that has a pattern replaced."""
     place = next(place for place, line in enumerate(lines) if re.search(pattern, line) and re.search(old, line))
@@ -98,7 +107,7 @@ def damaged(lines, is_hashed):
     """What is done to the records of a signed zone, and the codes that are then wanted, besides any others."""
     yield "no RRSIG", without(lines, r"^mail\S*\t.*\tRRSIG\tA "), {"unsigned"}
     yield "no set", without(lines, r"^mail\S*\t.*\tA\t"), {"signs-nothing"}
-    yield "no NS", without(lines, r"^safe\S*\t.*\tNS\t"), {"ds-without-ns"}
+    yield "no NS", without_all(lines, r"^safe\S*\t.*\tNS\t"), {"ds-without-ns"}
     signed = r"^mail\S*\t.*\tRRSIG\tA "
     yield "other labels", turned(lines, signed, r"\tA (\d+) 2 ", r"\tA \1 1 "), {"rrsig-labels"}
     yield "another original TTL", turned(lines, signed, r" 300 ", " 301 "), {"original-ttl"}
@@ -107,9 +116,9 @@ def damaged(lines, is_hashed):
     yield "ends first", turned(lines, signed, rf" {END} {START} ", f" {START} {END} "), {"rrsig-times"}
     glue = next(line for line in lines if re.search(signed, line))
     yield "signed glue", [*lines, re.sub(r"^mail", "ns.safe", glue)], {"occluded-dnssec"}
-    keyless = [line for line in lines if "\tDNSKEY\t" not in line]
+    keyless = without_all(lines, r"\tDNSKEY\t")
     yield "no keys", keyless, {"no-dnskey"}
-    yield "no keys and no NS", without(keyless, r"^safe\S*\t.*\tNS\t"), {"no-dnskey", "ds-without-ns"}
+    yield "no keys and no NS", without_all(keyless, r"^safe\S*\t.*\tNS\t"), {"no-dnskey", "ds-without-ns"}
     kind = "NSEC3" if is_hashed else "NSEC"
     small = kind.lower()
     chained = rf"\t{kind}\t"

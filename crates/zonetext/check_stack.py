@@ -17,7 +17,7 @@ WORDS = [word for word in sys.argv[1:] if word != '--least']
 PROGRAM = os.path.abspath(WORDS[0] if WORDS else f'{HERE}/out/zonetext')
 LEAST = '--least' in sys.argv
 LIMIT = 128
-SOA = '$ORIGIN example.\n$TTL 60\n@ SOA ns h 1 4 2 9 5\n@ NS ns\nns A 192.0.2.1\n'
+SOA = '$ORIGIN example.\n@ 60 SOA ns h 1 4 2 9 5\n@ NS ns\n@ NS ns.o.\nns A 192.0.2.1\n'
 LONG = '.'.join('a' * 127) + '.'
 DATA = [
     'A 192.0.2.1', 'AAAA 2001:db8::1', 'MX 1 m', 'TXT "a" b', 'SRV 1 2 3 t', 'CAA 0 issue "ca"', 'LOC 1 N 2 E 3m',
@@ -56,7 +56,7 @@ COMMANDS = ['check', 'check --text', 'check --text --json', 'check --json', 'che
             'check --zone example. --dnssec --within 7d', 'check --max-entry 4M', 'tokens', 'tokens --json', 'fmt', 'fmt --check', 'fmt --diff',
             'lines', 'records', 'records --json', 'records --max-entry 4M', 'canon', 'canon --json', 'canon --wire',
             'check --format github', 'check --format sarif', 'check --format checkstyle', 'canon --keep-order', 'canon --memory 64K',
-            'diff other', 'diff --summary other', 'diff --entries other', 'digest -v', 'fmt -w', 'digest --write', 'digest --write --force --hash sha512',
+            'diff other', 'diff --summary other', 'diff --entries other', 'digest -v', 'fmt -w', 'digest --write', 'digest --write --force --hash sha512', 'serial', 'serial -w', 'serial -w --set 1',
             'cut 4 -o part', 'cut 400 --soa -o part']
 OTHERS = ['', '--help', 'help check', 'check --help', 'check --nothing', 'diff', 'records --zone ..', '--version', 'canon --memory x', 'codes', 'explain cname', 'explain cnam']
 

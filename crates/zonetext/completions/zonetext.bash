@@ -2,31 +2,35 @@
 _zonetext() {
     local word=${COMP_WORDS[COMP_CWORD]} options
     if [ "$COMP_CWORD" -eq 1 ]; then
-        COMPREPLY=($(compgen -W 'check tokens fmt lines records canon diff digest cut codes explain help --help --version -h -V' -- "$word"))
+        COMPREPLY=($(compgen -W 'check tokens fmt lines records canon diff digest serial cut codes explain help --help --version -h -V' -- "$word"))
         return
     fi
     case ${COMP_WORDS[1]} in
         check)
             options='--text --zone --zone-from-name --include --base --stdin-name --dnssec --within --now --deny --allow --strict'
-            options+=' --max-ttl --max-entry --class --format --json --excerpt --max --color --verbose --quiet -v'
+            options+=' --conf --zones --name-form --recursive --max-ttl --max-entry --class --format --json --excerpt --max --color --verbose --quiet -v'
             ;;
         canon)
-            options='--json --keep-order --lenient --memory --wire --type --only-dnssec --zone --class --include --base --max-entry'
-            options+=' --no-dnssec --no-soa --quiet'
+            options='--json --keep-order --lenient --memory --wire --type --only-dnssec --zone --zone-from-name --class --include --base'
+            options+=' --max-entry --no-dnssec --no-soa --quiet'
             ;;
         diff)
             options='--json --entries --summary --max-changes --need-serial --nsupdate --no-prereq --update-keys'
-            options+=' --zone --class --include --base --max-entry --no-dnssec --no-soa --quiet'
+            options+=' --zone --zone-from-name --class --include --base --max-entry --no-dnssec --no-soa --quiet'
             ;;
         tokens) options='--json --quiet' ;;
         fmt) options='--write --check --diff --force --quiet -w' ;;
         lines) options='--tabbed --quiet' ;;
-        records) options='--json --zone --class --include --base --max-entry --quiet' ;;
+        records) options='--json --zone --zone-from-name --class --include --base --max-entry --quiet' ;;
         digest)
-            options='--json --write --hash --force --any --verbose --zone --class --include --base --max-entry'
-            options+=' --quiet -w -v'
+            options='--json --write --hash --force --any --verbose --zone --zone-from-name --class --include --base'
+            options+=' --max-entry --quiet -w -v'
             ;;
-        cut) options='--output --soa --zone --class --max-entry --quiet -o' ;;
+        serial)
+            options='--write --date --unix --increment --set --now --force --zone --zone-from-name --class --include --base'
+            options+=' --max-entry --quiet -w'
+            ;;
+        cut) options='--output --soa --zone --zone-from-name --class --max-entry --quiet -o' ;;
         codes) options='' ;;
         explain)
             if [[ $word != -* ]]; then
@@ -35,7 +39,7 @@ _zonetext() {
             fi
             ;;
         help)
-            COMPREPLY=($(compgen -W 'check tokens fmt lines records canon diff digest cut codes explain help' -- "$word"))
+            COMPREPLY=($(compgen -W 'check tokens fmt lines records canon diff digest serial cut codes explain help' -- "$word"))
             return
             ;;
         *) return ;;

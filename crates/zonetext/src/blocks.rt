@@ -4,7 +4,7 @@ use std::alloc::{AllocError, Global};
 use std::fs::File;
 use std::io;
 use std::io::{ErrorKind, Read, Write};
-use zonetext_lib::blocks::{Checker, Halt};
+use zonetext_lib::blocks::{Checker, ChunkError};
 use zonetext_lib::formatter::NoForm;
 use zonetext_lib::writer::{Output, Writer};
 
@@ -13,9 +13,9 @@ pub const BLOCK: usize = 64 * 1024;
 
 /// Why a file was not read to its end.
 #[derive(Drop)]
-pub enum Ended {
+pub enum FileError {
     /// No more octets are accepted.
-    Halt(Halt),
+    ChunkError(ChunkError),
     /// The text can't be formatted.
     NoForm(NoForm),
     /// The file can't be read.
@@ -24,34 +24,34 @@ pub enum Ended {
     Write(io::Error),
 }
 
-impl From<AllocError> for Ended {
-    fn from(_error: AllocError) -> Ended {
-        Ended::Halt(Halt::OutOfMemory)
+impl From<AllocError> for FileError {
+    fn from(_error: AllocError) -> FileError {
+        FileError::ChunkError(ChunkError::OutOfMemory)
     }
 }
 
-impl From<Halt> for Ended {
-    fn from(halt: Halt) -> Ended {
-        Ended::Halt(halt)
+impl From<ChunkError> for FileError {
+    fn from(halt: ChunkError) -> FileError {
+        FileError::ChunkError(halt)
     }
 }
 
 /// A consumer of the blocks of a file.
 pub trait Take {
     /// Processes a block.
-    fn take(&mut self, block: &[u8]) -> Result<(), Ended>;
+    fn take(&mut self, block: &[u8]) -> Result<(), FileError>;
     /// Processes the file's end.
-    fn end(&mut self) -> Result<(), Ended>;
+    fn end(&mut self) -> Result<(), FileError>;
 }
 
 impl Take for Checker<Global> {
-    fn take(&mut self, block: &[u8]) -> Result<(), Ended> {
+    fn take(&mut self, block: &[u8]) -> Result<(), FileError> {
         self.add(block)?;
         Ok(())
     }
 
-    fn end(&mut self) -> Result<(), Ended> {
-        self.finish().map_err(Halt::Wrong)?;
+    fn end(&mut self) -> Result<(), FileError> {
+        self.finish().map_err(ChunkError::Wrong)?;
         Ok(())
     }
 }
@@ -75,10 +75,10 @@ impl<'a> Printer<'a> {
     }
 
     /// Writes the output so far, unless memory is out, and returns the result.
-    fn print(&mut self, answer: Result<(), Halt>) -> Result<(), Ended> {
-        if answer != Err(Halt::OutOfMemory) {
+    fn print(&mut self, answer: Result<(), ChunkError>) -> Result<(), FileError> {
+        if answer != Err(ChunkError::OutOfMemory) {
             if let Err(error) = self.rt.stdout().write_all(self.out.as_slice()) {
-                return Err(Ended::Write(error));
+                return Err(FileError::Write(error));
             }
         }
         self.out.truncate(0);
@@ -88,12 +88,12 @@ impl<'a> Printer<'a> {
 }
 
 impl<'a> Take for Printer<'a> {
-    fn take(&mut self, block: &[u8]) -> Result<(), Ended> {
+    fn take(&mut self, block: &[u8]) -> Result<(), FileError> {
         let answer = self.writer.add(block, &mut self.out);
         self.print(answer)
     }
 
-    fn end(&mut self) -> Result<(), Ended> {
+    fn end(&mut self) -> Result<(), FileError> {
         let answer = self.writer.finish(&mut self.out);
         self.print(answer)
     }
@@ -116,23 +116,23 @@ fn go_through<R: Read, T: Take>(
     taker: &mut T,
     block: &mut [u8],
     progress: &mut Progress,
-) -> Result<(), Ended> {
+) -> Result<(), FileError> {
     for _ in 0..u64::MAX {
         let count = match read_block(reader, block) {
             Ok(0) => return taker.end(),
             Ok(count) => count.min(block.len()),
-            Err(error) => return Err(Ended::Read(error)),
+            Err(error) => return Err(FileError::Read(error)),
         };
         taker.take(&block[..count])?;
         if let Err(error) = progress.read(count) {
-            return Err(Ended::Write(error));
+            return Err(FileError::Write(error));
         }
     }
-    Err(Ended::Halt(Halt::TooLong))
+    Err(FileError::ChunkError(ChunkError::TooLong))
 }
 
 /// Passes octets to a consumer of blocks.
-pub fn go_through_octets<T: Take>(octets: &[u8], taker: &mut T) -> Result<(), Ended> {
+pub fn go_through_octets<T: Take>(octets: &[u8], taker: &mut T) -> Result<(), FileError> {
     for block in octets.chunks(BLOCK) {
         taker.take(block)?;
     }
@@ -145,15 +145,15 @@ pub fn go_through_file<T: Take>(
     file: &str,
     taker: &mut T,
     progress: &mut Progress,
-) -> Result<(), Ended> {
+) -> Result<(), FileError> {
     let Ok(mut block) = vec![in rt.alloc(); 0; BLOCK] else {
-        return Err(Ended::Halt(Halt::OutOfMemory));
+        return Err(FileError::ChunkError(ChunkError::OutOfMemory));
     };
     if file == "-" {
         return go_through(&mut rt.stdin(), taker, block.as_mut_slice(), progress);
     }
     match File::open(rt, file) {
         Ok(mut reader) => go_through(&mut reader, taker, block.as_mut_slice(), progress),
-        Err(error) => Err(Ended::Read(error)),
+        Err(error) => Err(FileError::Read(error)),
     }
 }

@@ -2,15 +2,15 @@
 use crate::gathered::{Gathered, NumberedRecord, gather};
 use crate::json_records::push_json_record;
 use crate::lines::Lines;
-use crate::reading::Reading;
 use crate::run_files::TakeRecord;
 use crate::sorting::{Sorting, gather_sorting};
-use crate::stop::{Stop, conclude};
-use dns_kinds::RecordType;
+use crate::stop::{RunError, exit_status};
+use crate::visit::Reading;
 use dns_octets::AsOctets;
-use dns_resource::Record;
+use rdata_values::RecordType;
 use std::alloc::{AllocError, Global};
 use std::io;
+use zone_record::Record;
 use zone_set::{Selection, push_generic, push_record};
 
 /// How records are written.
@@ -84,7 +84,7 @@ fn write_records(
     gathered: &Gathered,
     records: &[NumberedRecord<'_>],
     form: Form,
-) -> Result<(), Stop> {
+) -> Result<(), RunError> {
     let count = gathered.len();
     let order = if form.keeps_order {
         by_number(rt.alloc(), records, count)?
@@ -104,7 +104,7 @@ fn write_records(
 }
 
 /// Reports how many duplicates were omitted.
-fn tell_duplicates(rt: &HostRuntime, duplicates: u64) -> io::Result<()> {
+fn report_duplicates(rt: &HostRuntime, duplicates: u64) -> io::Result<()> {
     match duplicates {
         0 => Ok(()),
         1 => eprintln!(rt; "zonetext: 1 duplicate left out"),
@@ -113,10 +113,10 @@ fn tell_duplicates(rt: &HostRuntime, duplicates: u64) -> io::Result<()> {
 }
 
 /// Writes the records of files, and reports how many duplicates were omitted.
-fn write_gathered(rt: &HostRuntime, gathered: &Gathered, form: Form) -> Result<(), Stop> {
+fn write_gathered(rt: &HostRuntime, gathered: &Gathered, form: Form) -> Result<(), RunError> {
     let (set, duplicates) = gathered.set()?;
     write_records(rt, gathered, set.as_slice(), form)?;
-    tell_duplicates(rt, duplicates as u64)?;
+    report_duplicates(rt, duplicates as u64)?;
     Ok(())
 }
 
@@ -135,7 +135,7 @@ pub fn run(
     };
     match write_gathered(rt, &gathered, form) {
         Ok(()) => 0,
-        Err(stop) => conclude(rt, "-", stop),
+        Err(stop) => exit_status(rt, "-", stop),
     }
 }
 
@@ -150,7 +150,7 @@ impl TakeRecord for LineWriter<'_> {
     fn take_record<Owner: AsOctets, Octets: AsOctets>(
         &mut self,
         one: &Record<Owner, Octets>,
-    ) -> Result<(), Stop> {
+    ) -> Result<(), RunError> {
         push_line(&mut self.lines.text, one, self.form, None)?;
         self.lines.flush_block()?;
         Ok(())
@@ -158,12 +158,12 @@ impl TakeRecord for LineWriter<'_> {
 }
 
 /// Writes the records of files, and reports how many duplicates were omitted.
-fn write_sorted(rt: &HostRuntime, sorting: Sorting<'_>, form: Form) -> Result<(), Stop> {
+fn write_sorted(rt: &HostRuntime, sorting: Sorting<'_>, form: Form) -> Result<(), RunError> {
     let lines = Lines::new(rt);
     let mut writer = LineWriter { lines, form };
     let duplicates = sorting.finish(&mut writer)?;
     writer.lines.flush()?;
-    tell_duplicates(rt, duplicates)?;
+    report_duplicates(rt, duplicates)?;
     Ok(())
 }
 
@@ -184,6 +184,6 @@ pub fn run_bounded(
     };
     match write_sorted(rt, sorting, form) {
         Ok(()) => 0,
-        Err(stop) => conclude(rt, "-", stop),
+        Err(stop) => exit_status(rt, "-", stop),
     }
 }

@@ -2,10 +2,10 @@
 use crate::gathered::{Gathered, gather};
 use crate::json_records::push_json_change;
 use crate::lines::Lines;
-use crate::reading::Reading;
-use crate::stop::{Stop, conclude};
-use dns_kinds::RecordType;
+use crate::stop::{RunError, exit_status};
+use crate::visit::Reading;
 use dns_octets::AsOctets;
+use rdata_values::RecordType;
 use std::alloc::{AllocError, Global};
 use std::collections::BTreeMap;
 use std::io;
@@ -97,7 +97,7 @@ fn write_changes<'h>(
     new: &'h Gathered,
     changes: &[Change<'_, TaggedOctets<'h, usize>, &'h [u8]>],
     output: Output,
-) -> Result<(), Stop> {
+) -> Result<(), RunError> {
     let count = match output.most {
         Some(most) => most as usize,
         None => changes.len(),
@@ -121,7 +121,7 @@ fn write_changes<'h>(
 
 /// Reports if the serial of the second zone is not greater than that of the first, and returns
 /// whether it is so.
-pub fn tell_serial(rt: &HostRuntime, old: &Gathered, new: &Gathered) -> io::Result<bool> {
+pub fn report_serial(rt: &HostRuntime, old: &Gathered, new: &Gathered) -> io::Result<bool> {
     let (Some(old), Some(new)) = (&old.seen, &new.seen) else {
         return Ok(false);
     };
@@ -134,7 +134,12 @@ pub fn tell_serial(rt: &HostRuntime, old: &Gathered, new: &Gathered) -> io::Resu
 }
 
 /// Writes the differences between two zones, and returns the status: 1 if there are any.
-fn compare(rt: &HostRuntime, old: &Gathered, new: &Gathered, output: Output) -> Result<u8, Stop> {
+fn compare(
+    rt: &HostRuntime,
+    old: &Gathered,
+    new: &Gathered,
+    output: Output,
+) -> Result<u8, RunError> {
     let (old_set, _) = old.set()?;
     let (new_set, _) = new.set()?;
     let changes = changes_between(rt.alloc(), &old_set, &new_set)?;
@@ -147,7 +152,7 @@ fn compare(rt: &HostRuntime, old: &Gathered, new: &Gathered, output: Output) -> 
     } else {
         write_changes(rt, old, new, changes, output)?;
     }
-    let lacks_serial = tell_serial(rt, old, new)? && output.needs_serial;
+    let lacks_serial = report_serial(rt, old, new)? && output.needs_serial;
     Ok(if lacks_serial { UNFIT } else { 1 })
 }
 
@@ -171,6 +176,6 @@ pub fn run(
     };
     match compare(rt, &old, &new, output) {
         Ok(status) => status,
-        Err(stop) => conclude(rt, "-", stop),
+        Err(stop) => exit_status(rt, "-", stop),
     }
 }

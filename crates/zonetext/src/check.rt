@@ -1,61 +1,57 @@
 //! The command `check`: reports what is wrong with zone files.
-use crate::checking::{Checker, Limits};
+use crate::checker::{Checker, Limits};
 use crate::files::check_text;
-use crate::options::{USAGE, Usage, class_of, max_entry_of, name_of, number_of, seconds_of};
+use crate::options::{
+    Usage, class_of, max_entry_of, name_of, number_of, report_no_zone, seconds_of,
+};
 use crate::reporter::{Form, Reporter};
 use crate::scopes::is_of_text;
 use crate::settings::{Settings, Unusable, settings_path};
 use crate::shown::Shown;
-use crate::stop::{Stop, conclude};
+use crate::stop::{RunError, exit_status};
 use crate::times::times_of;
 use crate::totals::Totals;
 use crate::zone_files::{Begin, shown_name, visit_file};
-use crate::{machine, options};
+use crate::zone_names::Zone;
+use crate::{machine, many_zones, options};
 use clap::ArgMatches;
-use dns_kinds::Class;
-use dns_reader::{NameBuffer, State};
 use dns_wire::DisplayWithDot;
+use rdata_values::Class;
 use std::alloc::{AllocError, Global};
 use std::io::{IsTerminal, Write};
 use std::{env, io};
 use zone_dnssec::Times;
+use zone_reader::State;
 use zonetext_report::code::Code;
 use zonetext_report::policy::Policy;
 
 /// Number of findings that are shown as lines, unless another number is asked for.
 const MOST: usize = 20;
 
-/// How a file's zone is determined.
-#[derive(Clone, Copy)]
-enum Zone<'o> {
-    Unsaid,
-    Said(&'o str),
-    /// From the name of the file.
-    InName,
-}
-
 /// The options of the command.
 #[derive(Drop)]
-struct Options<'o> {
-    form: Form,
-    most: usize,
-    denied: Vec<Code>,
-    allowed: Vec<Code>,
-    is_strict: bool,
-    class: Class,
-    max_ttl: Option<u32>,
+pub struct Options<'o> {
+    pub form: Form,
+    pub most: usize,
+    pub denied: Vec<Code>,
+    pub allowed: Vec<Code>,
+    pub is_strict: bool,
+    pub class: Class,
+    pub max_ttl: Option<u32>,
     /// Greatest number of octets of an entry. With `--text` it is not limited.
-    max_entry: usize,
-    folders: &'o [&'o str],
-    base: Option<&'o str>,
-    stdin_name: Option<&'o str>,
-    zone: Zone<'o>,
+    pub max_entry: usize,
+    pub folders: &'o [&'o str],
+    pub base: Option<&'o str>,
+    pub stdin_name: Option<&'o str>,
+    pub zone: Zone<'o>,
     /// The times for signatures, if they are checked.
-    times: Option<Times>,
-    is_verbose: bool,
+    pub times: Option<Times>,
+    pub is_verbose: bool,
     /// Whether only the text is checked.
-    is_text: bool,
-    is_quiet: bool,
+    pub is_text: bool,
+    pub is_quiet: bool,
+    /// Whether the zone is one of many.
+    pub is_many: bool,
 }
 
 /// Returns the code that an option names.
@@ -119,22 +115,15 @@ fn form_of<'o>(rt: &HostRuntime, inner: &'o ArgMatches) -> Result<Form, Usage<'o
     }
 }
 
-/// Returns how the zone of files is determined.
-fn zone_of<'o>(inner: &'o ArgMatches) -> Result<Zone<'o>, Usage<'o>> {
-    if inner.get_flag("zone-from-name") {
-        return Ok(Zone::InName);
-    }
-    match options::zone_of(inner)? {
-        Some(zone) => Ok(Zone::Said(zone)),
-        None => Ok(Zone::Unsaid),
-    }
-}
-
-/// Returns the options of the command line.
-fn options_of<'o>(rt: &HostRuntime, inner: &'o ArgMatches) -> Result<Options<'o>, Usage<'o>> {
+/// Returns the options of the command line. `is_many` says that it names many zones.
+fn options_of<'o>(
+    rt: &HostRuntime,
+    inner: &'o ArgMatches,
+    is_many: bool,
+) -> Result<Options<'o>, Usage<'o>> {
     let alloc = rt.alloc();
     let most = number_of(inner.get_str("max"), "--max")?;
-    let zone = zone_of(inner)?;
+    let zone = Zone::asked(inner)?;
     let form = form_of(rt, inner)?;
     let is_text = inner.get_flag("text");
     let denied = inner.get_strs("deny").unwrap_or(&[]);
@@ -166,15 +155,21 @@ fn options_of<'o>(rt: &HostRuntime, inner: &'o ArgMatches) -> Result<Options<'o>
         base: inner.get_str("base"),
         stdin_name: inner.get_str("stdin-name"),
         zone,
-        times: times_of(rt, inner, !matches!(zone, Zone::Unsaid))?,
+        times: times_of(rt, inner, is_many || zone.is_set())?,
         is_verbose: inner.get_flag("verbose"),
         is_text,
         is_quiet: inner.get_flag("quiet"),
+        is_many: false,
     })
 }
 
 /// Reports how much was read: on standard output, unless findings go there.
-fn tell_zone(rt: &HostRuntime, file: &str, checker: &Checker, form: Form) -> Result<(), Stop> {
+fn report_zone(
+    rt: &HostRuntime,
+    file: &str,
+    checker: &Checker,
+    form: Form,
+) -> Result<(), RunError> {
     let records = checker.records;
     let file = Shown(file);
     let text = match &checker.seen {
@@ -229,7 +224,7 @@ fn go_through(
     settings: &Settings,
     checker: &mut Checker,
     state: State,
-) -> Result<(), Stop> {
+) -> Result<(), RunError> {
     let folders = paths_of(rt.alloc(), settings.folders.as_slice())?;
     let begin = Begin {
         includes: !options.is_text,
@@ -248,40 +243,17 @@ fn go_through(
     if let Err(stop) = read {
         return Err(stop);
     }
+    if options.is_many {
+        let name = shown_name(file, options.stdin_name);
+        let reporter = &checker.findings.reporter;
+        many_zones::begin_summary(rt, name, options.zone, reporter, options.form)?;
+    }
     checker.findings.reporter.summarize()?;
     if options.is_verbose {
         let name = shown_name(file, options.stdin_name);
-        tell_zone(rt, name, checker, options.form)?;
+        report_zone(rt, name, checker, options.form)?;
     }
     Ok(())
-}
-
-/// Returns the zone that a file's name contains: the part after the last slash, without `.zone` or
-/// `.db` at its end.
-fn zone_of_path(path: &str) -> &str {
-    let name = match path.rsplit_once('/') {
-        Some((_, name)) => name,
-        None => path,
-    };
-    match name.strip_suffix(".zone") {
-        Some(zone) => zone,
-        None => name.strip_suffix(".db").unwrap_or(name),
-    }
-}
-
-/// Returns the zone of a file, if it is known.
-fn origin_of(file: &str, zone: Zone) -> Option<NameBuffer> {
-    match zone {
-        Zone::Unsaid => None,
-        Zone::Said(zone) => name_of(zone),
-        Zone::InName if file == "-" => None,
-        Zone::InName => name_of(zone_of_path(file)),
-    }
-}
-
-/// Returns whether the name of a file should contain its zone, and does not.
-fn names_no_zone(name: &str, options: &Options) -> bool {
-    matches!(options.zone, Zone::InName) && origin_of(name, options.zone).is_none()
 }
 
 /// Checks a file with the settings of its folder, and returns the status.
@@ -295,11 +267,11 @@ fn check_file(rt: &HostRuntime, file: &str, options: &Options, totals: &mut Tota
     let path = match path {
         Ok(Some(path)) => path,
         Ok(None) => String::new(rt.alloc()),
-        Err(_) => return Unusable::OutOfMemory.conclude(rt, name),
+        Err(_) => return Unusable::OutOfMemory.exit_status(rt, name),
     };
     match settings_of(rt, path.as_str(), options) {
         Ok(settings) => check_with(rt, file, options, &settings, totals),
-        Err(error) => error.conclude(rt, path.as_str()),
+        Err(error) => error.exit_status(rt, path.as_str()),
     }
 }
 
@@ -317,7 +289,7 @@ fn check_with(
         is_strict: options.is_strict,
     };
     let name = shown_name(file, options.stdin_name);
-    let zone = origin_of(name, options.zone);
+    let zone = options.zone.origin(name);
     let limits = Limits {
         class: options.class,
         max_ttl: settings.max_ttl,
@@ -329,7 +301,7 @@ fn check_with(
         is_text: options.is_text,
     };
     let state = State::new(options.class);
-    let state = match origin_of(name, options.zone).or(name_of(".")) {
+    let state = match options.zone.origin(name).or(name_of(".")) {
         Some(origin) => state.with_origin(origin),
         None => state,
     };
@@ -341,7 +313,7 @@ fn check_with(
     totals.add(&checker.findings.reporter);
     match checked.and(ended) {
         Ok(()) => checker.findings.reporter.tally.status(),
-        Err(stop) => conclude(rt, name, stop),
+        Err(stop) => exit_status(rt, name, stop),
     }
 }
 
@@ -364,28 +336,38 @@ fn run_text(rt: &HostRuntime, inner: &ArgMatches, files: &[&str]) -> io::Result<
     Ok(status)
 }
 
+/// Checks a file, if its zone is known, and returns the status.
+pub fn check_argument(
+    rt: &HostRuntime,
+    file: &str,
+    options: &Options,
+    totals: &mut Totals,
+) -> io::Result<u8> {
+    let name = shown_name(file, options.stdin_name);
+    if options.zone.lacks_name(name) {
+        return report_no_zone(rt, name);
+    }
+    Ok(check_file(rt, file, options, totals))
+}
+
 /// Checks files, and returns the greatest status.
 #[inline(never)]
 pub fn run(rt: &HostRuntime, inner: &ArgMatches, files: &[&str]) -> io::Result<u8> {
     if inner.get_flag("text") && !asks_for_findings(inner) {
         return run_text(rt, inner, files);
     }
-    let options = match options_of(rt, inner) {
+    let is_many = !inner.get_flag("text") && many_zones::names_many(rt, inner, files);
+    let options = match options_of(rt, inner, is_many) {
         Ok(options) => options,
         Err(usage) => return options::status_of(rt, Err(usage)),
     };
+    if is_many {
+        return many_zones::run(rt, inner, &options);
+    }
     let mut totals = Totals::new(options.form);
     let mut status = totals.start(rt);
     for file in files {
-        let name = shown_name(file, options.stdin_name);
-        let checked = if names_no_zone(name, &options) {
-            let name = Shown(name);
-            eprintln!(rt; "zonetext: {name}: its name is no zone's")?;
-            USAGE
-        } else {
-            check_file(rt, file, &options, &mut totals)
-        };
-        status = checked.max(status);
+        status = check_argument(rt, file, &options, &mut totals)?.max(status);
     }
     Ok(totals.end(rt).max(status))
 }

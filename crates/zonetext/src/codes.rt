@@ -3,7 +3,7 @@ use crate::command::required_file;
 use crate::lines::Lines;
 use crate::options::USAGE;
 use crate::shown::Shown;
-use crate::stop::{Stop, conclude};
+use crate::stop::{RunError, exit_status};
 use clap::{ArgMatches, Command};
 use finding_codes::{example_of, summary_of, text_of};
 use std::alloc::{AllocError, Global};
@@ -86,7 +86,7 @@ fn push_explanation(text: &mut String, code: Code) -> Result<(), AllocError> {
 }
 
 /// Writes the list of codes.
-fn list(rt: &HostRuntime) -> Result<(), Stop> {
+fn list(rt: &HostRuntime) -> Result<(), RunError> {
     let mut lines = Lines::new(rt);
     for code in &Code::ALL {
         push_code(&mut lines.text, *code)?;
@@ -96,7 +96,7 @@ fn list(rt: &HostRuntime) -> Result<(), Stop> {
 }
 
 /// Writes the explanation of a code.
-fn explain(rt: &HostRuntime, code: Code) -> Result<(), Stop> {
+fn explain(rt: &HostRuntime, code: Code) -> Result<(), RunError> {
     let mut lines = Lines::new(rt);
     push_explanation(&mut lines.text, code)?;
     lines.flush()?;
@@ -138,7 +138,7 @@ fn tell_unknown(rt: &HostRuntime, word: &str) -> io::Result<u8> {
 pub fn run_codes(rt: &HostRuntime) -> io::Result<u8> {
     match list(rt) {
         Ok(()) => Ok(0),
-        Err(stop) => Ok(conclude(rt, "-", stop)),
+        Err(stop) => Ok(exit_status(rt, "-", stop)),
     }
 }
 
@@ -150,6 +150,6 @@ pub fn run_explain(rt: &HostRuntime, inner: &ArgMatches) -> io::Result<u8> {
     };
     match explain(rt, code) {
         Ok(()) => Ok(0),
-        Err(stop) => Ok(conclude(rt, "-", stop)),
+        Err(stop) => Ok(exit_status(rt, "-", stop)),
     }
 }

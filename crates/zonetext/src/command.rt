@@ -1,8 +1,9 @@
 //! The command line of the program.
-use crate::format::{Mode, Work};
+use crate::format::{FormatOptions, Mode};
 use crate::machine::FORMATS;
 use crate::options::USAGE;
-use crate::{check, codes, cut_words, files, format, zone_words};
+use crate::zone_names::{name_option, zone_option};
+use crate::{check, codes, cut_args, files, format, record_args, serial_args};
 use clap::{Arg, ArgAction, ArgMatches, Command, Error};
 use std::alloc::{AllocError, Global};
 use std::io;
@@ -49,8 +50,6 @@ pub fn values<'a>(alloc: Global, name: &'a str, value: &'a str, help: &'a str) -
 /// The help texts of the options of the command that checks files.
 const ZONE: &str = "zone origin; also checks the rules of a zone";
 
-const ZONE_FROM_NAME: &str = "like --zone, with the file's name without .zone or .db";
-
 const INCLUDE: &str = "also allow included files in this folder, besides the first file's";
 
 /// The help text of `--base`.
@@ -58,6 +57,16 @@ pub const BASE: &str =
     "folder for relative names of included files, in place of the including file's";
 
 const STDIN_NAME: &str = "name of standard input, in messages and for files that it includes";
+
+const CONF: &str = "also check the zones of a named.conf or nsd.conf";
+
+const ZONES: &str =
+    "also check the zones of a list, a zone and its file a line; - is standard input";
+
+const NAME_FORM: &str =
+    "names of zone files in folders, with % for the zone (default *.zone, *.db and db.*)";
+
+const RECURSIVE: &str = "also check the zone files in folders of a folder";
 
 const DNSSEC: &str = "also check the rules of a signed zone: signatures, NSEC and NSEC3";
 
@@ -68,9 +77,13 @@ const NOW: &str = "check at this time, not now, as 20260131235959 or seconds sin
 const WHEN: [&str; 3] = ["auto", "always", "never"];
 
 /// The options about records, which conflict with `--text`.
-const OF_RECORDS: [&str; 9] = [
+const OF_RECORDS: [&str; 13] = [
     "zone",
     "zone-from-name",
+    "conf",
+    "zones",
+    "name-form",
+    "recursive",
     "dnssec",
     "include",
     "base",
@@ -134,21 +147,29 @@ fn with_forms<'a>(alloc: Global, command: Command<'a>) -> Result<Command<'a>, Al
         .arg(flag(alloc, "verbose", verbose).short('v'))
 }
 
+/// Adds the options that name many zones.
+fn with_zones<'a>(alloc: Global, command: Command<'a>) -> Result<Command<'a>, AllocError> {
+    command
+        .arg(valued(alloc, "conf", "FILE", CONF).conflicts_with("zone")?)?
+        .arg(valued(alloc, "zones", "LIST", ZONES).conflicts_with("zone")?)?
+        .arg(values(alloc, "name-form", "FORM", NAME_FORM))?
+        .arg(flag(alloc, "recursive", RECURSIVE))
+}
+
 /// Returns the command that checks files.
 fn check_command<'a>(alloc: Global, name: &'a str) -> Result<Command<'a>, AllocError> {
-    let zone = valued(alloc, "zone", "ORIGIN", ZONE).conflicts_with("zone-from-name")?;
     let mut text = flag(alloc, "text", "check the syntax alone, not the records");
     for option in &OF_RECORDS {
         text = text.conflicts_with(*option)?;
     }
     let command = over_files(alloc, name, "Report the errors in zone files")?
         .arg(text)?
-        .arg(zone)?
-        .arg(flag(alloc, "zone-from-name", ZONE_FROM_NAME))?
+        .arg(zone_option(alloc, ZONE)?)?
+        .arg(name_option(alloc))?
         .arg(values(alloc, "include", "DIR", INCLUDE))?
         .arg(valued(alloc, "base", "DIR", BASE))?
         .arg(valued(alloc, "stdin-name", "NAME", STDIN_NAME))?;
-    let command = with_signatures(alloc, command)?;
+    let command = with_zones(alloc, with_signatures(alloc, command)?)?;
     with_forms(alloc, with_findings(alloc, command)?)
 }
 
@@ -224,7 +245,7 @@ fn command_line<'a>(alloc: Global) -> Result<Command<'a>, AllocError> {
         .version(VERSION)
         .about("Checks, formats, lists, sorts, compares, digests and cuts DNS zone files")
         .subcommand_required(true);
-    for which in &Which::ALL {
+    for which in &Subcommand::ALL {
         all = all.subcommand(which.command(alloc)?)?;
     }
     Ok(all)
@@ -247,7 +268,7 @@ pub fn run(rt: &HostRuntime, alloc: Global, words: &[&str]) -> io::Result<u8> {
     let Some((name, inner)) = matches.subcommand() else {
         return Ok(USAGE);
     };
-    match Which::named(name) {
+    match Subcommand::named(name) {
         Some(which) => which.run(rt, inner),
         None => Ok(USAGE),
     }
@@ -255,7 +276,7 @@ pub fn run(rt: &HostRuntime, alloc: Global, words: &[&str]) -> io::Result<u8> {
 
 /// A command.
 #[derive(Clone, Copy, PartialEq, Eq)]
-enum Which {
+enum Subcommand {
     Check,
     Tokens,
     Format,
@@ -264,46 +285,49 @@ enum Which {
     Canon,
     Diff,
     Digest,
+    Serial,
     Cut,
     Codes,
     Explain,
 }
 
-impl Which {
+impl Subcommand {
     /// Each command, as the help lists them.
-    const ALL: [Which; 11] = [
-        Which::Check,
-        Which::Tokens,
-        Which::Format,
-        Which::Lines,
-        Which::Records,
-        Which::Canon,
-        Which::Diff,
-        Which::Digest,
-        Which::Cut,
-        Which::Codes,
-        Which::Explain,
+    const ALL: [Subcommand; 12] = [
+        Subcommand::Check,
+        Subcommand::Tokens,
+        Subcommand::Format,
+        Subcommand::Lines,
+        Subcommand::Records,
+        Subcommand::Canon,
+        Subcommand::Diff,
+        Subcommand::Digest,
+        Subcommand::Serial,
+        Subcommand::Cut,
+        Subcommand::Codes,
+        Subcommand::Explain,
     ];
 
     /// Returns its name.
     fn name<'a>(self) -> &'a str {
         match self {
-            Which::Check => "check",
-            Which::Tokens => "tokens",
-            Which::Format => "fmt",
-            Which::Lines => "lines",
-            Which::Records => "records",
-            Which::Canon => "canon",
-            Which::Diff => "diff",
-            Which::Digest => "digest",
-            Which::Cut => "cut",
-            Which::Codes => "codes",
-            Which::Explain => "explain",
+            Subcommand::Check => "check",
+            Subcommand::Tokens => "tokens",
+            Subcommand::Format => "fmt",
+            Subcommand::Lines => "lines",
+            Subcommand::Records => "records",
+            Subcommand::Canon => "canon",
+            Subcommand::Diff => "diff",
+            Subcommand::Digest => "digest",
+            Subcommand::Serial => "serial",
+            Subcommand::Cut => "cut",
+            Subcommand::Codes => "codes",
+            Subcommand::Explain => "explain",
         }
     }
 
-    fn named(name: &str) -> Option<Which> {
-        for which in &Which::ALL {
+    fn named(name: &str) -> Option<Subcommand> {
+        for which in &Subcommand::ALL {
             if which.name() == name {
                 return Some(*which);
             }
@@ -314,18 +338,20 @@ impl Which {
     /// Returns an example of its use.
     fn example<'a>(self) -> &'a str {
         match self {
-            Which::Check => "Example: zonetext check --zone example.org. example.org.zone",
-            Which::Tokens => "Example: zonetext tokens --json example.org.zone",
-            Which::Format => "Example: zonetext fmt --diff example.org.zone",
-            Which::Lines => "Example: zonetext lines example.org.zone",
-            Which::Records => "Example: zonetext records --zone example.org. example.org.zone",
-            Which::Canon => "Example: zonetext canon --zone example.org. example.org.zone",
-            Which::Diff => "Example: zonetext diff --zone example.org. old.zone new.zone",
-            Which::Digest =>
+            Subcommand::Check => "Example: zonetext check --zone example.org. example.org.zone",
+            Subcommand::Tokens => "Example: zonetext tokens --json example.org.zone",
+            Subcommand::Format => "Example: zonetext fmt --diff example.org.zone",
+            Subcommand::Lines => "Example: zonetext lines example.org.zone",
+            Subcommand::Records => "Example: zonetext records --zone example.org. example.org.zone",
+            Subcommand::Canon => "Example: zonetext canon --zone example.org. example.org.zone",
+            Subcommand::Diff => "Example: zonetext diff --zone example.org. old.zone new.zone",
+            Subcommand::Digest =>
                 "Example: zonetext digest --write --zone example.org. example.org.zone",
-            Which::Cut => "Example: zonetext cut 8 example.org.zone -o part",
-            Which::Codes => "Example: zonetext codes",
-            Which::Explain => "Example: zonetext explain ns-address",
+            Subcommand::Serial =>
+                "Example: zonetext serial --write --zone-from-name example.org.zone",
+            Subcommand::Cut => "Example: zonetext cut 8 example.org.zone -o part",
+            Subcommand::Codes => "Example: zonetext codes",
+            Subcommand::Explain => "Example: zonetext explain ns-address",
         }
     }
 
@@ -337,35 +363,37 @@ impl Which {
     /// Returns the same without the example.
     fn plain_command<'a>(self, alloc: Global) -> Result<Command<'a>, AllocError> {
         match self {
-            Which::Check => check_command(alloc, self.name()),
-            Which::Tokens => tokens_command(alloc, self.name()),
-            Which::Format => fmt_command(alloc, self.name()),
-            Which::Lines => lines_command(alloc, self.name()),
-            Which::Records => zone_words::records_command(alloc, self.name()),
-            Which::Canon => zone_words::canon_command(alloc, self.name()),
-            Which::Diff => zone_words::diff_command(alloc, self.name()),
-            Which::Digest => zone_words::digest_command(alloc, self.name()),
-            Which::Cut => cut_words::cut_command(alloc, self.name()),
-            Which::Codes => codes::codes_command(alloc, self.name()),
-            Which::Explain => codes::explain_command(alloc, self.name()),
+            Subcommand::Check => check_command(alloc, self.name()),
+            Subcommand::Tokens => tokens_command(alloc, self.name()),
+            Subcommand::Format => fmt_command(alloc, self.name()),
+            Subcommand::Lines => lines_command(alloc, self.name()),
+            Subcommand::Records => record_args::records_command(alloc, self.name()),
+            Subcommand::Canon => record_args::canon_command(alloc, self.name()),
+            Subcommand::Diff => record_args::diff_command(alloc, self.name()),
+            Subcommand::Digest => record_args::digest_command(alloc, self.name()),
+            Subcommand::Serial => serial_args::serial_command(alloc, self.name()),
+            Subcommand::Cut => cut_args::cut_command(alloc, self.name()),
+            Subcommand::Codes => codes::codes_command(alloc, self.name()),
+            Subcommand::Explain => codes::explain_command(alloc, self.name()),
         }
     }
 
     /// Runs it, and returns the exit status.
     fn run(self, rt: &HostRuntime, inner: &ArgMatches) -> io::Result<u8> {
         match self {
-            Which::Check => check::run(rt, inner, names_of(inner)),
-            Which::Tokens => run_tokens(rt, inner),
-            Which::Format => run_format(rt, inner, names_of(inner)),
-            Which::Lines => run_lines(rt, inner),
-            Which::Records => zone_words::run_records(rt, inner, names_of(inner)),
-            Which::Canon => zone_words::run_canon(rt, inner, names_of(inner)),
-            Which::Diff if inner.get_flag("entries") => run_entries_diff(rt, inner),
-            Which::Diff => zone_words::run_diff(rt, inner),
-            Which::Digest => zone_words::run_digest(rt, inner),
-            Which::Cut => cut_words::run_cut(rt, inner),
-            Which::Codes => codes::run_codes(rt),
-            Which::Explain => codes::run_explain(rt, inner),
+            Subcommand::Check => check::run(rt, inner, names_of(inner)),
+            Subcommand::Tokens => run_tokens(rt, inner),
+            Subcommand::Format => run_format(rt, inner, names_of(inner)),
+            Subcommand::Lines => run_lines(rt, inner),
+            Subcommand::Records => record_args::run_records(rt, inner, names_of(inner)),
+            Subcommand::Canon => record_args::run_canon(rt, inner, names_of(inner)),
+            Subcommand::Diff if inner.get_flag("entries") => run_entries_diff(rt, inner),
+            Subcommand::Diff => record_args::run_diff(rt, inner),
+            Subcommand::Digest => record_args::run_digest(rt, inner),
+            Subcommand::Serial => serial_args::run_serial(rt, inner, names_of(inner)),
+            Subcommand::Cut => cut_args::run_cut(rt, inner),
+            Subcommand::Codes => codes::run_codes(rt),
+            Subcommand::Explain => codes::run_explain(rt, inner),
         }
     }
 }
@@ -422,5 +450,5 @@ fn run_format(rt: &HostRuntime, inner: &ArgMatches, names: &[&str]) -> io::Resul
         return Ok(USAGE);
     }
     let is_quiet = inner.get_flag("quiet");
-    format::run(rt, names, Work { mode, is_quiet })
+    format::run(rt, names, FormatOptions { mode, is_quiet })
 }

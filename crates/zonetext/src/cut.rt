@@ -1,18 +1,18 @@
 //! The command `cut`: splits a zone file into parts that can be read separately.
 use crate::part_files::PartFiles;
-use crate::reading::{Outcome, Reading, TakeEntry, give_entries};
 use crate::shown::Shown;
-use crate::stop::{Stop, TROUBLE, conclude};
+use crate::stop::{EXIT_IO, RunError, exit_status};
+use crate::visit::{Outcome, Reading, TakeEntry, give_entries};
 use crate::zone_files::Entry;
-use dns_fields::RecordRef;
+use rdata_fields::RecordRef;
 use std::alloc::Global;
 use std::fs::metadata;
 use std::io;
-use zone_cut::{CutError, Cutter};
+use zone_stream::{CutError, Cutter};
 
 /// The options of the command.
 #[derive(Clone, Copy)]
-pub struct Work<'w> {
+pub struct CutOptions<'w> {
     /// Greatest number of parts.
     pub count: usize,
     /// The names of the parts before their numbers.
@@ -35,7 +35,7 @@ struct Parter<'p> {
 
 impl<'p> Parter<'p> {
     /// Returns a writer before the first entry of a file of `octets` octets.
-    fn new(rt: &'p HostRuntime, octets: usize, work: Work<'p>) -> Parter<'p> {
+    fn new(rt: &'p HostRuntime, octets: usize, work: CutOptions<'p>) -> Parter<'p> {
         let alloc = rt.alloc();
         Parter {
             rt,
@@ -47,7 +47,7 @@ impl<'p> Parter<'p> {
     }
 
     /// Reports why no part can begin with the record of an entry.
-    fn refuse(&mut self, entry: &Entry<'_>, error: CutError) -> Result<(), Stop> {
+    fn refuse(&mut self, entry: &Entry<'_>, error: CutError) -> Result<(), RunError> {
         self.has_refused = true;
         let (file, position) = (Shown(entry.file), entry.place().position);
         let (line, column, why) = (position.line, position.column, error.as_str());
@@ -56,21 +56,21 @@ impl<'p> Parter<'p> {
     }
 
     /// Processes the record of an entry.
-    fn take_record(&mut self, entry: &Entry<'_>, given: &RecordRef<'_>) -> Result<(), Stop> {
+    fn take_record(&mut self, entry: &Entry<'_>, given: &RecordRef<'_>) -> Result<(), RunError> {
         match self
             .cutter
             .take(entry.state, entry.offset, given, &mut self.lines)
         {
             Ok(true) => self.begin_part(),
             Ok(false) => self.files.write(entry.octets),
-            Err(CutError::OutOfMemory) => Err(Stop::OutOfMemory),
-            Err(CutError::NoRecord) => Err(Stop::Damaged),
+            Err(CutError::OutOfMemory) => Err(RunError::OutOfMemory),
+            Err(CutError::NoRecord) => Err(RunError::Damaged),
             Err(error) => self.refuse(entry, error),
         }
     }
 
     /// Begins a part with its first lines.
-    fn begin_part(&mut self) -> Result<(), Stop> {
+    fn begin_part(&mut self) -> Result<(), RunError> {
         self.files.begin()?;
         self.files.write(self.lines.as_bytes())?;
         self.lines.truncate(0);
@@ -79,7 +79,7 @@ impl<'p> Parter<'p> {
 }
 
 impl TakeEntry for Parter<'_> {
-    fn take_entry(&mut self, entry: &Entry<'_>) -> Result<(), Stop> {
+    fn take_entry(&mut self, entry: &Entry<'_>) -> Result<(), RunError> {
         match entry.record()? {
             _ if self.has_refused => Ok(()),
             Some(given) => self.take_record(entry, &given),
@@ -119,12 +119,12 @@ fn leave(rt: &HostRuntime, mut files: PartFiles<'_>, status: u8) -> u8 {
 /// Renames all parts to their names, and returns the status.
 fn finish(rt: &HostRuntime, file: &str, mut files: PartFiles<'_>) -> u8 {
     if let Err(stop) = files.commit() {
-        let status = conclude(rt, file, stop);
+        let status = exit_status(rt, file, stop);
         return leave(rt, files, status);
     }
     match print_names(rt, files.paths()) {
         Ok(()) => 0,
-        Err(error) => conclude(rt, file, Stop::Write(error)),
+        Err(error) => exit_status(rt, file, RunError::Write(error)),
     }
 }
 
@@ -144,18 +144,18 @@ fn cut(rt: &HostRuntime, file: &str, reading: &Reading<'_>, parter: Parter<'_>) 
 
 /// Cuts a file into parts, and returns the status. If an entry is rejected, or a file is included,
 /// that is reported, and no part is written.
-pub fn run<'p>(rt: &'p HostRuntime, file: &str, reading: &Reading<'_>, work: Work<'p>) -> u8 {
+pub fn run<'p>(rt: &'p HostRuntime, file: &str, reading: &Reading<'_>, work: CutOptions<'p>) -> u8 {
     let octets = match octets_of(rt, file) {
         Ok(Some(octets)) => octets,
         Ok(None) => {
             let file = Shown(file);
             let _ = eprintln!(rt; "zonetext: {file}: not a regular file");
-            return TROUBLE;
+            return EXIT_IO;
         }
         Err(error) => {
             let file = Shown(file);
             let _ = eprintln!(rt; "zonetext: {file}: {error}");
-            return TROUBLE;
+            return EXIT_IO;
         }
     };
     cut(rt, file, reading, Parter::new(rt, octets, work))

@@ -2,10 +2,10 @@
 ghost use Rattle.std.specs.Prelude.{◌≡◌, ◌<◌, ◌≤◌, List, [], ℕ, length, All, IfOk, refl};
 ghost use Rattle.dns_octets.specs.Octets.{written_over};
 ghost use Rattle.dns_octets.specs.Room.{within};
-ghost use Rattle.dns_data.specs.Limits.{max_data};
+ghost use Rattle.rdata.specs.Limits.{max_data};
 
-use dns_data::MAX_DATA;
 use dns_octets::{AsOctets, AsOctetsMut, EmptyBuilder, OctetsBuilder, ShortBuf, Truncate};
+use rdata::MAX_DATA;
 use std::marker::Model;
 
 /// Octets of record data: at most 65,535. The buffer is reused for each record.

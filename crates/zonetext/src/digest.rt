@@ -2,14 +2,13 @@
 use crate::gathered::{Gathered, NumberedSet, gather};
 use crate::json_records::push_json_digest;
 use crate::lines::Lines;
-use crate::reading::Reading;
 use crate::shown::Shown;
-use crate::stop::{Stop, TROUBLE, conclude};
-use dns_reader::NameBuffer;
+use crate::stop::{EXIT_IO, RunError, exit_status};
+use crate::visit::Reading;
 use std::io;
-use zone_digest::scope::is_apex;
-use zone_digest::{CheckError, HashAlgorithm, Verdict, Zonemd, check_zone};
-use zone_set::Selection;
+use zone_reader::NameBuffer;
+use zone_set::scope::is_apex;
+use zone_set::{CheckError, HashAlgorithm, Selection, Verdict, Zonemd, check_zone};
 
 /// The scheme SIMPLE.
 const SIMPLE: u8 = 1;
@@ -36,7 +35,7 @@ fn verdict_text(verdict: Verdict) -> &'static str {
 
 /// The options of the command.
 #[derive(Clone, Copy)]
-pub struct Work {
+pub struct DigestOptions {
     /// Whether one digest that matches is enough (RFC 8976 section 4), whatever the others are.
     pub takes_any: bool,
     /// Whether digests with an unknown scheme or hash algorithm are listed too.
@@ -56,7 +55,7 @@ struct Outcome {
 
 impl Outcome {
     /// Returns the status: 0 if a digest matches, and all do or one is enough.
-    fn status(self, work: Work) -> u8 {
+    fn status(self, work: DigestOptions) -> u8 {
         u8::from(!self.matches || (self.differs && !work.takes_any))
     }
 }
@@ -71,7 +70,12 @@ pub fn unknown_text(zonemd: &Zonemd<'_>) -> &'static str {
 }
 
 /// Reports the verdict on a ZONEMD as a JSON object.
-fn tell_json(rt: &HostRuntime, file: &str, zonemd: &Zonemd<'_>, verdict: &str) -> Result<(), Stop> {
+fn tell_json(
+    rt: &HostRuntime,
+    file: &str,
+    zonemd: &Zonemd<'_>,
+    verdict: &str,
+) -> Result<(), RunError> {
     let mut lines = Lines::new(rt);
     push_json_digest(&mut lines.text, file, zonemd, verdict)?;
     lines.flush()?;
@@ -80,14 +84,14 @@ fn tell_json(rt: &HostRuntime, file: &str, zonemd: &Zonemd<'_>, verdict: &str) -
 
 /// Reports the verdict on each ZONEMD at the apex whose scheme and hash algorithm are known, and
 /// lists the others if that is asked for.
-fn tell_verdicts(
+fn report_verdicts(
     rt: &HostRuntime,
     file: &str,
     apex: &NameBuffer,
     set: &NumberedSet<'_>,
     verdicts: &[Verdict],
-    work: Work,
-) -> Result<Outcome, Stop> {
+    work: DigestOptions,
+) -> Result<Outcome, RunError> {
     let mut outcome = Outcome {
         matches: false,
         differs: false,
@@ -129,7 +133,7 @@ fn tell_verdicts(
 }
 
 /// Reports that the zone has no digest, or none that can be checked.
-fn tell_none(rt: &HostRuntime, file: &str, verdicts: &[Verdict]) -> io::Result<()> {
+fn report_none(rt: &HostRuntime, file: &str, verdicts: &[Verdict]) -> io::Result<()> {
     let file = Shown(file);
     if verdicts.is_empty() {
         eprintln!(rt; "zonetext: {file}: no ZONEMD at the zone's name")
@@ -141,25 +145,30 @@ fn tell_none(rt: &HostRuntime, file: &str, verdicts: &[Verdict]) -> io::Result<(
 }
 
 /// Checks the digests of a zone, and returns the status.
-fn check(rt: &HostRuntime, file: &str, gathered: &Gathered, work: Work) -> Result<u8, Stop> {
+fn check(
+    rt: &HostRuntime,
+    file: &str,
+    gathered: &Gathered,
+    work: DigestOptions,
+) -> Result<u8, RunError> {
     let name = Shown(file);
     let Some(seen) = &gathered.seen else {
         eprintln!(rt; "zonetext: {name}: no SOA")?;
-        return Ok(TROUBLE);
+        return Ok(EXIT_IO);
     };
     let (set, _) = gathered.set()?;
     let verdicts = match check_zone(rt.alloc(), &seen.zone, &set) {
         Ok(verdicts) => verdicts,
         Err(CheckError::NoSingleSoa) => {
             eprintln!(rt; "zonetext: {name}: no single SOA at the zone's name")?;
-            return Ok(TROUBLE);
+            return Ok(EXIT_IO);
         }
-        Err(CheckError::ShortBuf) => return Err(Stop::OutOfMemory),
+        Err(CheckError::ShortBuf) => return Err(RunError::OutOfMemory),
     };
     let verdicts = verdicts.as_slice();
-    let outcome = tell_verdicts(rt, file, &seen.zone, &set, verdicts, work)?;
+    let outcome = report_verdicts(rt, file, &seen.zone, &set, verdicts, work)?;
     if !outcome.matches && !outcome.differs {
-        tell_none(rt, file, verdicts)?;
+        report_none(rt, file, verdicts)?;
     }
     Ok(outcome.status(work))
 }
@@ -167,13 +176,13 @@ fn check(rt: &HostRuntime, file: &str, gathered: &Gathered, work: Work) -> Resul
 /// Checks the digests of the zone in a file, and returns the status: 0 if one matches, and all
 /// others of a known scheme and hash algorithm do too, unless one is enough.
 #[inline(never)]
-pub fn run(rt: &HostRuntime, file: &str, reading: &Reading<'_>, work: Work) -> u8 {
+pub fn run(rt: &HostRuntime, file: &str, reading: &Reading<'_>, work: DigestOptions) -> u8 {
     let gathered = match gather(rt, &[file], reading, Selection::all(), false) {
         Ok(gathered) => gathered,
         Err(status) => return status,
     };
     match check(rt, file, &gathered, work) {
         Ok(status) => status,
-        Err(stop) => conclude(rt, file, stop),
+        Err(stop) => exit_status(rt, file, stop),
     }
 }

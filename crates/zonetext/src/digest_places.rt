@@ -1,16 +1,15 @@
 //! Finds a zone's SOA and its digests in their file.
 use crate::gathered::{Gathered, Gatherer};
-use crate::reading::{Outcome, Reading, TakeEntry, give_entries};
-use crate::spots::{tokens_of, width};
-use crate::stop::Stop;
+use crate::locations::{tokens_of, width};
+use crate::stop::RunError;
+use crate::visit::{Outcome, Reading, TakeEntry, give_entries};
 use crate::zone_files::Entry;
-use dns_fields::{RecordRef, TokenSource};
-use dns_heads::take_words;
-use dns_kinds::RecordType;
-use dns_reader::EntrySource;
-use dns_resource::{Record, owned_record};
-use dns_split::pieces::Span;
+use dns_lexer::pieces::Span;
+use rdata_fields::{RecordRef, TokenSource};
+use rdata_values::RecordType;
 use std::alloc::Global;
+use zone_reader::{EntrySource, parse_header};
+use zone_record::{Record, owned_record};
 use zone_set::Selection;
 
 /// A record, and its location in its file.
@@ -29,22 +28,22 @@ pub struct Placed {
 
 /// Returns the offset of the data of a record in its entry. Fails with `Damaged` if it is not a
 /// record.
-fn data_place(octets: &[u8]) -> Result<usize, Stop> {
+fn data_place(octets: &[u8]) -> Result<usize, RunError> {
     let mut source = EntrySource::of_octets(octets);
     let Ok(Some(start)) = source.begin() else {
-        return Err(Stop::Damaged);
+        return Err(RunError::Damaged);
     };
     if !start.begins_blank {
         source.advance();
     }
-    match take_words(&mut source) {
+    match parse_header(&mut source) {
         Ok(_) => Ok(source.place()),
-        Err(_) => Err(Stop::Damaged),
+        Err(_) => Err(RunError::Damaged),
     }
 }
 
 /// Returns the spans of the tokens of a record's data in its file.
-fn data_tokens(alloc: Global, entry: &Entry<'_>) -> Result<Vec<Span>, Stop> {
+pub fn data_tokens(alloc: Global, entry: &Entry<'_>) -> Result<Vec<Span>, RunError> {
     let first = data_place(entry.octets)?;
     let mut spans = Vec::new(alloc);
     let tokens = tokens_of(alloc, entry)?;
@@ -59,13 +58,13 @@ fn data_tokens(alloc: Global, entry: &Entry<'_>) -> Result<Vec<Span>, Stop> {
 }
 
 /// Returns the record of an entry, and its location. Fails with `Damaged` if it is not a record.
-fn placed_of(alloc: Global, entry: &Entry<'_>, given: &RecordRef<'_>) -> Result<Placed, Stop> {
+fn placed_of(alloc: Global, entry: &Entry<'_>, given: &RecordRef<'_>) -> Result<Placed, RunError> {
     let is_origin = match entry.state.origin.name() {
         Some(origin) => origin.as_slice().eq_ignore_ascii_case(given.owner),
         None => false,
     };
     let Some(record) = owned_record(alloc, given)? else {
-        return Err(Stop::Damaged);
+        return Err(RunError::Damaged);
     };
     Ok(Placed {
         record,
@@ -85,7 +84,7 @@ struct Finder {
 }
 
 impl TakeEntry for Finder {
-    fn take_entry(&mut self, entry: &Entry<'_>) -> Result<(), Stop> {
+    fn take_entry(&mut self, entry: &Entry<'_>) -> Result<(), RunError> {
         self.gatherer.take_entry(entry)?;
         if let Some(given) = entry.record()? {
             if matches!(given.rtype, RecordType::SOA | RecordType::ZONEMD) {

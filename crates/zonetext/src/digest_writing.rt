@@ -1,33 +1,32 @@
 //! The command `digest --write`: corrects the digests in a zone, in the file itself.
-use crate::blocks::BLOCK;
 use crate::digest::{algorithm_of, unknown_text};
 use crate::digest_places::{Placed, find};
 use crate::format::leave;
 use crate::gathered::NumberedSet;
 use crate::options::USAGE;
-use crate::reading::Reading;
+use crate::rewriting::{OldText, RewriteError, rewrite};
 use crate::shown::Shown;
-use crate::stop::{Stop, TROUBLE, conclude};
+use crate::stop::{EXIT_IO, RunError, exit_status};
+use crate::visit::Reading;
 use dns_codec::base16::encode_string;
-use dns_fields::RecordRef;
-use dns_kinds::RecordType;
-use dns_reader::NameBuffer;
-use dns_resource::{Data, record_of};
-use dns_split::pieces::Span;
+use dns_lexer::pieces::Span;
+use rdata_fields::RecordRef;
+use rdata_values::RecordType;
 use std::alloc::{AllocError, Global};
 use std::fs::File;
-use std::io::{ErrorKind, Read};
-use std::{io, process};
-use zone_digest::scope::is_apex;
-use zone_digest::{CheckError, HashAlgorithm, Zonemd, right_data};
-use zone_edit::{Edit, EditError, Editor, TokenError, push_line_after, push_token_edits};
-use zone_set::{push_record, serial_of};
+use std::io;
+use std::io::Read;
+use zone_edit::{Edit, TokenError, push_line_after, push_token_edits};
+use zone_reader::NameBuffer;
+use zone_record::{Data, record_of};
+use zone_set::scope::is_apex;
+use zone_set::{CheckError, HashAlgorithm, Zonemd, push_record, right_data, serial_of};
 use zonetext_lib::formatter::{Formatter, NoForm};
-use zonetext_lib::replace::{Batch, Incomplete, NewText, Original, Refusal};
+use zonetext_lib::replace::{Original, Refusal};
 
 /// The options of the command.
 #[derive(Clone, Copy)]
-pub struct Work {
+pub struct DigestWriteOptions {
     /// The hash algorithm of a digest that is added.
     pub algorithm: HashAlgorithm,
     /// Whether zones with a journal next to them are changed too.
@@ -36,7 +35,7 @@ pub struct Work {
 
 /// Why nothing is written.
 #[derive(Drop)]
-enum Unwritten {
+enum DigestWriteError {
     /// Entries are rejected, or a file can't be read, with this status, and that was reported.
     Told(u8),
     NoSoa,
@@ -45,50 +44,49 @@ enum Unwritten {
     Included { what: &'static str },
     /// The file is written, but it is not known whether its name has reached the disk.
     Unsettled(Refusal),
-    Stop(Stop),
+    RunError(RunError),
     Refusal(Refusal),
 }
 
-impl From<Stop> for Unwritten {
-    fn from(stop: Stop) -> Unwritten {
-        Unwritten::Stop(stop)
+impl From<RunError> for DigestWriteError {
+    fn from(stop: RunError) -> DigestWriteError {
+        DigestWriteError::RunError(stop)
     }
 }
 
-impl From<Refusal> for Unwritten {
-    fn from(refusal: Refusal) -> Unwritten {
-        Unwritten::Refusal(refusal)
+impl From<Refusal> for DigestWriteError {
+    fn from(refusal: Refusal) -> DigestWriteError {
+        DigestWriteError::Refusal(refusal)
     }
 }
 
-impl From<AllocError> for Unwritten {
-    fn from(_error: AllocError) -> Unwritten {
-        Unwritten::Stop(Stop::OutOfMemory)
+impl From<AllocError> for DigestWriteError {
+    fn from(_error: AllocError) -> DigestWriteError {
+        DigestWriteError::RunError(RunError::OutOfMemory)
     }
 }
 
-impl From<io::Error> for Unwritten {
-    fn from(error: io::Error) -> Unwritten {
-        Unwritten::Stop(Stop::from(error))
+impl From<io::Error> for DigestWriteError {
+    fn from(error: io::Error) -> DigestWriteError {
+        DigestWriteError::RunError(RunError::from(error))
     }
 }
 
-impl From<TokenError> for Unwritten {
-    fn from(error: TokenError) -> Unwritten {
+impl From<TokenError> for DigestWriteError {
+    fn from(error: TokenError) -> DigestWriteError {
         match error {
             // They were in order when they were found.
-            TokenError::OutOfOrder => Unwritten::Refusal(Refusal::Changed),
-            TokenError::OutOfMemory => Unwritten::Stop(Stop::OutOfMemory),
+            TokenError::OutOfOrder => DigestWriteError::Refusal(Refusal::Changed),
+            TokenError::OutOfMemory => DigestWriteError::RunError(RunError::OutOfMemory),
         }
     }
 }
 
-impl From<EditError> for Unwritten {
-    fn from(error: EditError) -> Unwritten {
+impl From<RewriteError> for DigestWriteError {
+    fn from(error: RewriteError) -> DigestWriteError {
         match error {
-            EditError::OutOfMemory => Unwritten::Stop(Stop::OutOfMemory),
-            // Their tokens were in order when they were found.
-            _ => Unwritten::Refusal(Refusal::Changed),
+            RewriteError::Refusal(refusal) => DigestWriteError::Refusal(refusal),
+            RewriteError::Unsettled(refusal) => DigestWriteError::Unsettled(refusal),
         }
     }
 }
@@ -107,10 +105,10 @@ struct Plan<'p> {
 }
 
 /// Returns octets in hexadecimal digits.
-fn hex_of(alloc: Global, octets: &[u8]) -> Result<Vec<u8>, Stop> {
+fn hex_of(alloc: Global, octets: &[u8]) -> Result<Vec<u8>, RunError> {
     match encode_string(alloc, octets) {
         Ok(text) => Ok(text.into_bytes()),
-        Err(_) => Err(Stop::OutOfMemory),
+        Err(_) => Err(RunError::OutOfMemory),
     }
 }
 
@@ -125,11 +123,11 @@ fn right_of(
     apex: &NameBuffer,
     set: &NumberedSet<'_>,
     algorithm: HashAlgorithm,
-) -> Result<Vec<u8>, Unwritten> {
+) -> Result<Vec<u8>, DigestWriteError> {
     match right_data(alloc, apex, set, algorithm) {
         Ok(data) => Ok(data),
-        Err(CheckError::NoSingleSoa) => Err(Unwritten::NoSingleSoa),
-        Err(CheckError::ShortBuf) => Err(Unwritten::Stop(Stop::OutOfMemory)),
+        Err(CheckError::NoSingleSoa) => Err(DigestWriteError::NoSingleSoa),
+        Err(CheckError::ShortBuf) => Err(DigestWriteError::RunError(RunError::OutOfMemory)),
     }
 }
 
@@ -154,7 +152,7 @@ fn formed(alloc: Global, line: &str) -> Result<Vec<u8>, NoForm> {
 
 /// Returns the line of a digest next to an SOA, as `fmt` formats it. The owner is `@` if it is the
 /// origin there.
-fn line_of(alloc: Global, soa: &Placed, data: &[u8]) -> Result<Vec<u8>, Stop> {
+fn line_of(alloc: Global, soa: &Placed, data: &[u8]) -> Result<Vec<u8>, RunError> {
     let full = full_line_of(alloc, soa, data)?;
     let mut line = String::new(alloc);
     match full.as_str().split_once('\t') {
@@ -166,12 +164,12 @@ fn line_of(alloc: Global, soa: &Placed, data: &[u8]) -> Result<Vec<u8>, Stop> {
     }
     match formed(alloc, line.as_str()) {
         Ok(form) => Ok(form),
-        Err(_) => Err(Stop::OutOfMemory),
+        Err(_) => Err(RunError::OutOfMemory),
     }
 }
 
 /// Returns the line of a digest next to an SOA, with its owner in full.
-fn full_line_of(alloc: Global, soa: &Placed, data: &[u8]) -> Result<String, Stop> {
+fn full_line_of(alloc: Global, soa: &Placed, data: &[u8]) -> Result<String, RunError> {
     let mut line = String::new(alloc);
     let of_digest = RecordRef {
         rtype: RecordType::ZONEMD,
@@ -179,7 +177,7 @@ fn full_line_of(alloc: Global, soa: &Placed, data: &[u8]) -> Result<String, Stop
         ..soa.record.borrowed()
     };
     let Some(record) = record_of(&of_digest) else {
-        return Err(Stop::Damaged);
+        return Err(RunError::Damaged);
     };
     push_record(&mut line, &record)?;
     Ok(line)
@@ -211,7 +209,7 @@ impl<'p> Plan<'p> {
         old: &Zonemd<'_>,
         new: &Zonemd<'_>,
         right: &[u8],
-    ) -> Result<(), Unwritten> {
+    ) -> Result<(), DigestWriteError> {
         let (alloc, octets) = (self.alloc, self.octets);
         let edits = &mut self.edits;
         match tokens {
@@ -229,7 +227,7 @@ impl<'p> Plan<'p> {
                     push_token_edits(alloc, octets, digest, text, edits)?;
                 }
             }
-            _ => return Err(Unwritten::Stop(Stop::Damaged)),
+            _ => return Err(DigestWriteError::RunError(RunError::Damaged)),
         }
         Ok(())
     }
@@ -240,9 +238,9 @@ impl<'p> Plan<'p> {
         one: &Placed,
         apex: &NameBuffer,
         set: &NumberedSet<'_>,
-    ) -> Result<(), Unwritten> {
+    ) -> Result<(), DigestWriteError> {
         let Some(old) = Zonemd::of_data(&one.record.data) else {
-            return Err(Unwritten::Stop(Stop::Damaged));
+            return Err(DigestWriteError::RunError(RunError::Damaged));
         };
         let Some(algorithm) = algorithm_of(&old) else {
             return self.leave(&old, apex, set);
@@ -261,7 +259,7 @@ impl<'p> Plan<'p> {
         old: &Zonemd<'_>,
         apex: &NameBuffer,
         set: &NumberedSet<'_>,
-    ) -> Result<(), Unwritten> {
+    ) -> Result<(), DigestWriteError> {
         let is_old = serial_at(apex, set) != Some(old.serial);
         let serial = if is_old {
             ", with an old serial number"
@@ -275,12 +273,17 @@ impl<'p> Plan<'p> {
     }
 
     /// Replaces the data of a digest, and reports that.
-    fn write(&mut self, tokens: &[Span], old: &Zonemd<'_>, right: &[u8]) -> Result<(), Unwritten> {
+    fn write(
+        &mut self,
+        tokens: &[Span],
+        old: &Zonemd<'_>,
+        right: &[u8],
+    ) -> Result<(), DigestWriteError> {
         let Some(data) = data_of(right) else {
-            return Err(Unwritten::Stop(Stop::Damaged));
+            return Err(DigestWriteError::RunError(RunError::Damaged));
         };
         let Some(new) = Zonemd::of_data(&data) else {
-            return Err(Unwritten::Stop(Stop::Damaged));
+            return Err(DigestWriteError::RunError(RunError::Damaged));
         };
         self.change(tokens, old, &new, right)?;
         self.tell(&new, "written")?;
@@ -294,7 +297,7 @@ impl<'p> Plan<'p> {
         apex: &NameBuffer,
         set: &NumberedSet<'_>,
         algorithm: HashAlgorithm,
-    ) -> Result<(), Unwritten> {
+    ) -> Result<(), DigestWriteError> {
         for one in &parts.digests {
             self.put_right(one, apex, set)?;
         }
@@ -306,15 +309,15 @@ impl<'p> Plan<'p> {
     }
 
     /// Adds a digest with this data, after the SOA.
-    fn add(&mut self, soa: &Placed, right: &[u8]) -> Result<(), Unwritten> {
+    fn add(&mut self, soa: &Placed, right: &[u8]) -> Result<(), DigestWriteError> {
         let Some(data) = data_of(right) else {
-            return Err(Unwritten::Stop(Stop::Damaged));
+            return Err(DigestWriteError::RunError(RunError::Damaged));
         };
         let Some(new) = Zonemd::of_data(&data) else {
-            return Err(Unwritten::Stop(Stop::Damaged));
+            return Err(DigestWriteError::RunError(RunError::Damaged));
         };
         let Some(front) = self.octets.get(..soa.end) else {
-            return Err(Unwritten::Refusal(Refusal::Changed));
+            return Err(DigestWriteError::Refusal(Refusal::Changed));
         };
         let line = line_of(self.alloc, soa, right)?;
         let line = line.strip_suffix(b"\n").unwrap_or(line.as_slice());
@@ -347,7 +350,7 @@ fn parts_of<'f>(
     alloc: Global,
     found: &'f [Placed],
     apex: &NameBuffer,
-) -> Result<Parts<'f>, Unwritten> {
+) -> Result<Parts<'f>, DigestWriteError> {
     let mut soa = None;
     let mut digests = Vec::new(alloc);
     for one in found {
@@ -357,7 +360,7 @@ fn parts_of<'f>(
         let is_soa = one.record.data.rtype() == RecordType::SOA;
         if one.is_included {
             let what = if is_soa { "SOA" } else { "ZONEMD" };
-            return Err(Unwritten::Included { what });
+            return Err(DigestWriteError::Included { what });
         }
         if !is_soa {
             digests.push(one).map_err(AllocError::from)?;
@@ -367,12 +370,12 @@ fn parts_of<'f>(
     }
     match soa {
         Some(soa) => Ok(Parts { soa, digests }),
-        None => Err(Unwritten::NoSoa),
+        None => Err(DigestWriteError::NoSoa),
     }
 }
 
 /// Reads a file.
-fn read(rt: &HostRuntime, file: &str) -> Result<Vec<u8>, Stop> {
+fn read(rt: &HostRuntime, file: &str) -> Result<Vec<u8>, RunError> {
     let mut octets = Vec::new(rt.alloc());
     let answer = match File::open(rt, file) {
         Ok(mut file) => file.read_to_end(&mut octets),
@@ -382,54 +385,8 @@ fn read(rt: &HostRuntime, file: &str) -> Result<Vec<u8>, Stop> {
         Ok(_) => Ok(octets),
         Err(error) => {
             let file = String::from_str(rt.alloc(), file)?;
-            Err(Stop::Read { file, error })
+            Err(RunError::Read { file, error })
         }
-    }
-}
-
-/// Writes a text with its edits applied, in blocks.
-fn write_edited(
-    alloc: Global,
-    octets: &[u8],
-    edits: &[Edit<Global>],
-    new: &mut NewText<File>,
-) -> Result<(), Unwritten> {
-    let mut editor = Editor::new(edits)?;
-    let mut out = Vec::new(alloc);
-    for block in octets.chunks(BLOCK) {
-        editor.add(block, &mut out)?;
-        new.write(out.as_slice()).map_err(Refusal::Io)?;
-        out.truncate(0);
-    }
-    editor.finish(&mut out)?;
-    new.write(out.as_slice()).map_err(Refusal::Io)?;
-    Ok(())
-}
-
-/// Replaces a file's text by the text with its edits applied.
-fn put(
-    rt: &HostRuntime,
-    original: Original,
-    octets: &[u8],
-    edits: &[Edit<Global>],
-) -> Result<(), Unwritten> {
-    let mut new = NewText::create(rt, rt.alloc(), original, process::id(rt.process()))?;
-    if let Err(why) = write_edited(rt.alloc(), octets, edits, &mut new) {
-        let _ = new.discard(rt);
-        return Err(why);
-    }
-    let mut batch = Batch::new(rt.alloc());
-    batch.add(rt, new)?;
-    match batch.commit(rt) {
-        Ok(()) => Ok(()),
-        Err(
-            Incomplete {
-                replaced: 0,
-                why,
-                ..
-            },
-        ) => Err(Unwritten::Refusal(why)),
-        Err(Incomplete { why, .. }) => Err(Unwritten::Unsettled(why)),
     }
 }
 
@@ -462,16 +419,16 @@ fn write(
     rt: &HostRuntime,
     file: &str,
     reading: &Reading<'_>,
-    work: Work,
-) -> Result<Done, Unwritten> {
+    work: DigestWriteOptions,
+) -> Result<Done, DigestWriteError> {
     let alloc = rt.alloc();
     let original = Original::find(rt, alloc, file, work.ignores_journal)?;
     let (gathered, found) = match find(rt, file, reading) {
         Ok(read) => read,
-        Err(status) => return Err(Unwritten::Told(status)),
+        Err(status) => return Err(DigestWriteError::Told(status)),
     };
     let Some(seen) = &gathered.seen else {
-        return Err(Unwritten::NoSoa);
+        return Err(DigestWriteError::NoSoa);
     };
     let parts = parts_of(alloc, found.as_slice(), &seen.zone)?;
     let (set, _) = gathered.set()?;
@@ -480,7 +437,12 @@ fn write(
     plan.make(&parts, &seen.zone, &set, work.algorithm)?;
     let is_changed = !plan.edits.is_empty();
     if is_changed {
-        put(rt, original, old.as_slice(), plan.edits.as_slice())?;
+        rewrite(
+            rt,
+            original,
+            OldText::Octets(old.as_slice()),
+            plan.edits.as_slice(),
+        )?;
     }
     let Plan {
         lines,
@@ -495,7 +457,7 @@ fn write(
 }
 
 /// Reports the changes, and returns the status.
-fn tell_done(rt: &HostRuntime, file: &str, done: &Done) -> io::Result<u8> {
+fn report_done(rt: &HostRuntime, file: &str, done: &Done) -> io::Result<u8> {
     let file = Shown(file);
     for line in done.lines.as_str().lines() {
         println!(rt; "{file}: {line}")?;
@@ -512,25 +474,25 @@ fn tell_done(rt: &HostRuntime, file: &str, done: &Done) -> io::Result<u8> {
 }
 
 /// Reports why nothing is written, and returns the status.
-fn refuse(rt: &HostRuntime, file: &str, why: Unwritten) -> io::Result<u8> {
+fn refuse(rt: &HostRuntime, file: &str, why: DigestWriteError) -> io::Result<u8> {
     let name = Shown(file);
-    let mut status = TROUBLE;
+    let mut status = EXIT_IO;
     match why {
-        Unwritten::Told(found) => status = found,
-        Unwritten::NoSoa => eprintln!(rt; "zonetext: {name}: no SOA")?,
-        Unwritten::NoSingleSoa => {
+        DigestWriteError::Told(found) => status = found,
+        DigestWriteError::NoSoa => eprintln!(rt; "zonetext: {name}: no SOA")?,
+        DigestWriteError::NoSingleSoa => {
             eprintln!(rt; "zonetext: {name}: no single SOA at the zone's name")?;
         }
-        Unwritten::Included { what } => {
+        DigestWriteError::Included { what } => {
             eprintln!(rt; "zonetext: {name}: its {what} stands in an included file")?;
         }
-        Unwritten::Stop(stop) => {
-            conclude(rt, file, stop);
+        DigestWriteError::RunError(stop) => {
+            exit_status(rt, file, stop);
         }
-        Unwritten::Refusal(refusal) => {
+        DigestWriteError::Refusal(refusal) => {
             leave(rt, file, &refusal)?;
         }
-        Unwritten::Unsettled(refusal) => {
+        DigestWriteError::Unsettled(refusal) => {
             eprintln!(rt; "zonetext: {name}: has its digest")?;
             return leave(rt, file, &refusal);
         }
@@ -542,7 +504,7 @@ fn refuse(rt: &HostRuntime, file: &str, why: Unwritten) -> io::Result<u8> {
 /// Corrects the digests of the zone in a file, in the file itself, and returns the status: 0 if all
 /// are right then. A digest is added if the zone has none. If the SOA or a digest is in an included
 /// file, or an entry is rejected, that is reported, and nothing is written.
-pub fn run(rt: &HostRuntime, file: &str, reading: &Reading<'_>, work: Work) -> u8 {
+pub fn run(rt: &HostRuntime, file: &str, reading: &Reading<'_>, work: DigestWriteOptions) -> u8 {
     if file == "-" {
         let _ = eprintln!(rt;
             "zonetext: digest --write wants a file: standard input can't be replaced"
@@ -550,11 +512,11 @@ pub fn run(rt: &HostRuntime, file: &str, reading: &Reading<'_>, work: Work) -> u
         return USAGE;
     }
     let answer = match write(rt, file, reading, work) {
-        Ok(done) => tell_done(rt, file, &done),
+        Ok(done) => report_done(rt, file, &done),
         Err(why) => refuse(rt, file, why),
     };
     match answer {
         Ok(status) => status,
-        Err(error) => conclude(rt, file, Stop::Write(error)),
+        Err(error) => exit_status(rt, file, RunError::Write(error)),
     }
 }

@@ -1,7 +1,7 @@
 //! Exceptions: comments of zone files that except findings about their entry, as
 //! `; zonetext: allow CODE, CODE`.
-use dns_split::pieces::{Piece, Pieces, Span};
-use dns_split::position::Position;
+use dns_lexer::pieces::{Piece, Pieces, Span};
+use dns_lexer::position::Position;
 use std::alloc::{AllocError, Global};
 use std::cmp::Ordering;
 use zonetext_report::code::Code;

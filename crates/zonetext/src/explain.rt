@@ -1,20 +1,20 @@
 //! The messages about rejected entries, which name what was probably meant.
+use crate::locations::{data_start, spot_at, token_at, token_part};
 use crate::octet_texts::{ESCAPE, escape_text};
-use crate::reporter::Spot;
-use crate::spots::{data_start, spot_at, token_at, token_part};
+use crate::reporter::FindingLocation;
 use crate::subjects::{Text, quoted};
 use crate::zone_files::Entry;
-use dns_data::field_text;
-use dns_fields::RecordError;
-use dns_heads::{class_word, ttl_word, type_word};
-use dns_kinds::{ErrorKind, RecordType, u8_from_text};
-use dns_split::entry_tokens::EntryToken;
+use dns_lexer::entry_tokens::EntryToken;
 use finding_texts::digests::{digest_name, digest_place};
 use finding_texts::mistakes::{
     address_type, comment_mark, count_spelled, high_escape, is_conflict_marker,
 };
 use finding_texts::similar::similar_types;
+use rdata::field_text;
+use rdata_fields::RecordError;
+use rdata_values::{ErrorKind, RecordType, u8_from_text};
 use std::alloc::{AllocError, Global};
+use zone_reader::{class_word, ttl_word, type_word};
 use zonetext_report::code::Code;
 
 /// The key of the parameter that lists others, and the sign before its value.
@@ -24,7 +24,7 @@ const MANDATORY: &[u8] = b"mandatory=";
 #[derive(Drop)]
 pub struct Explained<'e> {
     pub code: Code,
-    pub spot: Spot<'e>,
+    pub spot: FindingLocation<'e>,
     /// Whether it is about a record, so that its owner and its type are shown.
     pub is_record: bool,
     pub text: Text,
@@ -253,7 +253,7 @@ fn digest_message(
 fn explanation<'e>(
     alloc: Global,
     refusal: Refusal<'_, '_>,
-    spot: Spot<'e>,
+    spot: FindingLocation<'e>,
     message: String,
     help: &str,
 ) -> Result<Explained<'e>, AllocError> {

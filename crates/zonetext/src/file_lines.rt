@@ -1,6 +1,6 @@
 //! Lines of files, which are read again to be shown.
 use crate::blocks::{BLOCK, read_block};
-use crate::stop::Stop;
+use crate::stop::RunError;
 use std::alloc::Global;
 use std::fs::File;
 use std::io::{Read, Seek, SeekFrom};
@@ -25,7 +25,7 @@ pub struct FileLines<'l> {
 
 /// Returns the offsets where the lines of a file begin, and after them that of the end of the last
 /// one, as far as the file can be read.
-fn starts_of(alloc: Global, file: &File) -> Result<Vec<u64>, Stop> {
+fn starts_of(alloc: Global, file: &File) -> Result<Vec<u64>, RunError> {
     let mut starts: Vec<u64> = Vec::new(alloc);
     starts.push(0)?;
     let mut block = vec![in alloc; 0; BLOCK]?;
@@ -53,7 +53,12 @@ fn starts_of(alloc: Global, file: &File) -> Result<Vec<u64>, Stop> {
 }
 
 /// Returns the line of a file between two offsets, without its end, unless it can't be read.
-fn line_between(alloc: Global, file: &File, start: u64, end: u64) -> Result<Option<Vec<u8>>, Stop> {
+fn line_between(
+    alloc: Global,
+    file: &File,
+    start: u64,
+    end: u64,
+) -> Result<Option<Vec<u8>>, RunError> {
     let Ok(count) = usize::try_from(end.saturating_sub(start)) else {
         return Ok(None);
     };
@@ -82,7 +87,7 @@ impl<'l> FileLines<'l> {
     }
 
     /// Finds the offsets of the lines of a file, unless they are known.
-    fn index(&mut self, opened: &Opened) -> Result<(), Stop> {
+    fn index(&mut self, opened: &Opened) -> Result<(), RunError> {
         for _ in self.starts.len()..opened.number.saturating_add(1) {
             self.starts.push(Vec::new(self.rt.alloc()))?;
         }
@@ -95,7 +100,7 @@ impl<'l> FileLines<'l> {
     }
 
     /// Returns a line of an open file, counted from 1.
-    fn line_in(&mut self, opened: &Opened, line: usize) -> Result<Option<Vec<u8>>, Stop> {
+    fn line_in(&mut self, opened: &Opened, line: usize) -> Result<Option<Vec<u8>>, RunError> {
         self.index(opened)?;
         let Some(starts) = self.starts.get(opened.number) else {
             return Ok(None);
@@ -128,7 +133,7 @@ impl<'l> FileLines<'l> {
         number: usize,
         path: &str,
         line: usize,
-    ) -> Result<Option<Vec<u8>>, Stop> {
+    ) -> Result<Option<Vec<u8>>, RunError> {
         let Some(opened) = self.open(number, path) else {
             return Ok(None);
         };

@@ -1,13 +1,13 @@
 //! Runs the commands over the text of files.
-use crate::blocks::{Ended, Printer, Take, go_through_file};
+use crate::blocks::{FileError, Printer, Take, go_through_file};
 use crate::pair::compare_files;
 use crate::progress::Progress;
 use crate::shown::Shown;
-use crate::stop::TROUBLE;
-use dns_kinds::ErrorKind;
+use crate::stop::EXIT_IO;
+use rdata_values::ErrorKind;
 use std::io;
 use std::io::Write;
-use zonetext_lib::blocks::{Checker, Halt};
+use zonetext_lib::blocks::{Checker, ChunkError};
 use zonetext_lib::check::Found;
 use zonetext_lib::comparer::Side;
 use zonetext_lib::diff::Comparison;
@@ -29,20 +29,24 @@ pub fn report(rt: &HostRuntime, file: &str, found: Found) -> io::Result<u8> {
 }
 
 /// Reports why a file was not read to its end, and returns the exit status.
-fn conclude(rt: &HostRuntime, file: &str, answer: Result<(), Ended>) -> io::Result<u8> {
+fn exit_status(rt: &HostRuntime, file: &str, answer: Result<(), FileError>) -> io::Result<u8> {
     match answer {
         Ok(()) => Ok(0),
-        Err(Ended::Halt(Halt::Wrong(found))) => report(rt, file, found),
-        Err(Ended::Halt(Halt::OutOfMemory)) => Err(io::Error::from(io::ErrorKind::OutOfMemory)),
-        Err(Ended::Halt(Halt::TooLong)) => Err(io::Error::from(io::ErrorKind::FileTooLarge)),
-        Err(Ended::NoForm(_)) => Ok(1),
-        Err(Ended::Read(error)) => {
+        Err(FileError::ChunkError(ChunkError::Wrong(found))) => report(rt, file, found),
+        Err(FileError::ChunkError(ChunkError::OutOfMemory)) => Err(io::Error::from(
+            io::ErrorKind::OutOfMemory,
+        )),
+        Err(FileError::ChunkError(ChunkError::TooLong)) => Err(io::Error::from(
+            io::ErrorKind::FileTooLarge,
+        )),
+        Err(FileError::NoForm(_)) => Ok(1),
+        Err(FileError::Read(error)) => {
             let file = Shown(file);
             eprintln!(rt; "zonetext: {file}: {error}")?;
-            Ok(TROUBLE)
+            Ok(EXIT_IO)
         }
-        Err(Ended::Write(error)) if error.kind() == io::ErrorKind::BrokenPipe => Ok(TROUBLE),
-        Err(Ended::Write(error)) => Err(error),
+        Err(FileError::Write(error)) if error.kind() == io::ErrorKind::BrokenPipe => Ok(EXIT_IO),
+        Err(FileError::Write(error)) => Err(error),
     }
 }
 
@@ -51,7 +55,7 @@ fn run<T: Take>(rt: &HostRuntime, file: &str, is_quiet: bool, taker: &mut T) -> 
     let mut progress = Progress::new(rt, file, is_quiet)?;
     let answer = go_through_file(rt, file, taker, &mut progress);
     progress.clear()?;
-    conclude(rt, file, answer)
+    exit_status(rt, file, answer)
 }
 
 /// Reports where a file is not a zone file, and returns the exit status. `name` is the file's name
@@ -61,7 +65,7 @@ pub fn check_text(rt: &HostRuntime, file: &str, name: &str, is_quiet: bool) -> i
     let mut progress = Progress::new(rt, name, is_quiet)?;
     let answer = go_through_file(rt, file, &mut checker, &mut progress);
     progress.clear()?;
-    conclude(rt, name, answer)
+    exit_status(rt, name, answer)
 }
 
 /// Writes a row for each token of a file, or a line for each entry.
@@ -85,12 +89,12 @@ pub fn compare(rt: &HostRuntime, first: &str, second: &str, is_quiet: bool) -> i
             )?;
             match rt.stdout().write_all(text.as_bytes()) {
                 Ok(()) => Ok(1),
-                Err(error) => conclude(rt, first, Err(Ended::Write(error))),
+                Err(error) => exit_status(rt, first, Err(FileError::Write(error))),
             }
         }
         Ok(Comparison::FirstWrong(found)) => report(rt, first, found),
         Ok(Comparison::SecondWrong(found)) => report(rt, second, found),
-        Err((Side::First, ended)) => conclude(rt, first, Err(ended)),
-        Err((Side::Second, ended)) => conclude(rt, second, Err(ended)),
+        Err((Side::First, ended)) => exit_status(rt, first, Err(ended)),
+        Err((Side::Second, ended)) => exit_status(rt, second, Err(ended)),
     }
 }

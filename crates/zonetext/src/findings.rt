@@ -3,27 +3,27 @@ use crate::exceptions::{Exception, Slip};
 use crate::explain::{Refusal, explain};
 use crate::file_lines::FileLines;
 use crate::held_zone::{HeldZone, StandingRecord};
+use crate::locations::{
+    begins_blank, fault_at, first_tokens, line_spot, part_at, spot_at, token_at, tokens_of,
+};
 use crate::lone_rules::lone_text;
 use crate::octet_texts::fault_text;
 use crate::open_file::first_place;
-use crate::reporter::{Reporter, Said, Spot};
+use crate::reporter::{FindingLocation, Reporter, Said};
 use crate::rule_texts::{ZoneRecords, is_at_target, rule_text};
-use crate::spots::{
-    begins_blank, fault_at, first_tokens, line_spot, part_at, spot_at, token_at, tokens_of,
-};
-use crate::stop::Stop;
+use crate::stop::RunError;
 use crate::subjects::{Subject, Text};
 use crate::zone_files::Entry;
+use dns_lexer::entry_tokens::EntryToken;
+use dns_lexer::pieces::Fault;
+use dns_lexer::position::Position;
 use dns_octets::AsOctets;
-use dns_reader::NameBuffer;
-use dns_split::entry_tokens::EntryToken;
-use dns_split::pieces::Fault;
-use dns_split::position::Position;
 use record_rules::RecordRule;
 use std::alloc::{AllocError, Global};
+use zone_check::codes::{code_of_fault, code_of_record_rule, code_of_rule};
+use zone_check::texts::code_text;
+use zone_reader::NameBuffer;
 use zone_rules::Finding;
-use zonetext_records::codes::{code_of_fault, code_of_record_rule, code_of_rule};
-use zonetext_records::texts::code_text;
 use zonetext_report::code::{Code, Severity};
 
 /// Greatest number of records among which names like others are looked for, in all.
@@ -44,10 +44,14 @@ fn place_of(record: Option<&StandingRecord<'_>>, at_target: bool) -> (usize, Pos
 }
 
 /// Returns the location of the code of an exception.
-fn code_spot<'s>(file: &'s str, exception: Exception, line: Option<&'s [u8]>) -> Spot<'s> {
+fn code_spot<'s>(
+    file: &'s str,
+    exception: Exception,
+    line: Option<&'s [u8]>,
+) -> FindingLocation<'s> {
     let (number, position) = (exception.number, exception.position);
     let width = exception.code.name().len();
-    Spot {
+    FindingLocation {
         end_column: position.column.saturating_add(width),
         ..line_spot(file, number, position, line)
     }
@@ -91,7 +95,7 @@ impl<'a> Findings<'a> {
     }
 
     /// Reports a finding that only has a code.
-    pub fn tell(&mut self, spot: Spot<'_>, code: Code) -> Result<(), Stop> {
+    pub fn tell(&mut self, spot: FindingLocation<'_>, code: Code) -> Result<(), RunError> {
         self.reporter
             .tell(spot, code, false, Said::message(code_text(code)))
     }
@@ -112,10 +116,10 @@ impl<'a> Findings<'a> {
         &mut self,
         entry: &Entry<'_>,
         severity: Severity,
-        spot: Spot<'_>,
+        spot: FindingLocation<'_>,
         code: Code,
         text: &Text,
-    ) -> Result<(), Stop> {
+    ) -> Result<(), RunError> {
         let subject = self.subject_of(entry)?;
         let note = text.note.as_str();
         let said = subject.said(text.message.as_str(), text.help.as_str());
@@ -127,10 +131,10 @@ impl<'a> Findings<'a> {
     pub fn tell_word(
         &mut self,
         entry: &Entry<'_>,
-        spot: Spot<'_>,
+        spot: FindingLocation<'_>,
         code: Code,
         word: Option<&[u8]>,
-    ) -> Result<(), Stop> {
+    ) -> Result<(), RunError> {
         let Some(severity) = self.reporter.count(spot, code, false) else {
             return Ok(());
         };
@@ -144,7 +148,7 @@ impl<'a> Findings<'a> {
         entry: &Entry<'_>,
         token: &EntryToken<'_>,
         code: Code,
-    ) -> Result<(), Stop> {
+    ) -> Result<(), RunError> {
         self.tell_word(entry, token_at(entry, token), code, Some(token.text))
     }
 
@@ -156,7 +160,7 @@ impl<'a> Findings<'a> {
         at: usize,
         rule: RecordRule,
         token: Option<EntryToken<'_>>,
-    ) -> Result<(), Stop> {
+    ) -> Result<(), RunError> {
         let code = code_of_record_rule(rule);
         let (spot, word) = match token {
             Some(token) => (token_at(entry, &token), Some(token.text)),
@@ -170,7 +174,7 @@ impl<'a> Findings<'a> {
     }
 
     /// Reports a syntax error of the text.
-    pub fn tell_fault(&mut self, entry: &Entry<'_>, fault: Fault) -> Result<(), Stop> {
+    pub fn report_fault(&mut self, entry: &Entry<'_>, fault: Fault) -> Result<(), RunError> {
         let code = code_of_fault(fault.wrong);
         let spot = fault_at(entry, fault);
         let Some(severity) = self.reporter.count(spot, code, true) else {
@@ -185,7 +189,7 @@ impl<'a> Findings<'a> {
         &mut self,
         entry: &Entry<'_>,
         refusal: Refusal<'_, '_>,
-    ) -> Result<(), Stop> {
+    ) -> Result<(), RunError> {
         let spot = spot_at(entry, refusal.tokens, refusal.error.offset);
         let Some(severity) = self.reporter.count(spot, refusal.code, true) else {
             return Ok(());
@@ -205,7 +209,7 @@ impl<'a> Findings<'a> {
         at: usize,
         ttl: u32,
         most: u32,
-    ) -> Result<(), Stop> {
+    ) -> Result<(), RunError> {
         let tokens = tokens_of(self.alloc, entry)?;
         let spot = spot_at(entry, tokens.as_slice(), at);
         let Some(severity) = self.reporter.count(spot, Code::MaxTtl, false) else {
@@ -217,7 +221,7 @@ impl<'a> Findings<'a> {
     }
 
     /// Reports a part of an entry's comment that is not as exceptions are written.
-    pub fn tell_slip(&mut self, entry: &Entry<'_>, slip: Slip<'_>) -> Result<(), Stop> {
+    pub fn tell_slip(&mut self, entry: &Entry<'_>, slip: Slip<'_>) -> Result<(), RunError> {
         let (part, message) = match slip {
             Slip::Word(part) => (part, "exceptions begin with 'allow', and not with"),
             Slip::Code(part) => (part, "unknown code in an exception"),
@@ -231,7 +235,7 @@ impl<'a> Findings<'a> {
     }
 
     /// Reports an exception that excepts no finding. `file` is the path of its file.
-    pub fn tell_unused(&mut self, file: &str, exception: Exception) -> Result<(), Stop> {
+    pub fn tell_unused(&mut self, file: &str, exception: Exception) -> Result<(), RunError> {
         let name = exception.code.name();
         let number = exception.number;
         let spot = code_spot(file, exception, None);
@@ -251,14 +255,14 @@ impl<'a> Findings<'a> {
     }
 
     /// Reports that a rule is broken, by a record or by what is missing in the zone.
-    pub fn tell_broken(
+    pub fn report_broken(
         &mut self,
         held: &HeldZone,
         code: Code,
         record: Option<&StandingRecord<'_>>,
-    ) -> Result<(), Stop> {
+    ) -> Result<(), RunError> {
         let text = Text::worded(self.alloc, code_text(code), None)?;
-        self.tell_at(held, code, record, false, &text)
+        self.report_at(held, code, record, false, &text)
     }
 
     /// Reports that records break a rule of zones. Its text is made only if it may be shown.
@@ -267,7 +271,7 @@ impl<'a> Findings<'a> {
         held: &HeldZone,
         records: &ZoneRecords<'_, '_, Origin>,
         finding: &Finding,
-    ) -> Result<(), Stop> {
+    ) -> Result<(), RunError> {
         let record = finding
             .record
             .and_then(|place| records.sorted.as_slice().get(place));
@@ -316,7 +320,7 @@ impl<'a> Findings<'a> {
         record: Option<&StandingRecord<'_>>,
         at_target: bool,
         text: &Text,
-    ) -> Result<(), Stop> {
+    ) -> Result<(), RunError> {
         let (file, position) = place_of(record, at_target);
         let name = held.file(file);
         let line = if self.reads_line(file) {
@@ -338,14 +342,14 @@ impl<'a> Findings<'a> {
     }
 
     /// Reports a finding at a record, or at its target, or at the first file's start.
-    pub fn tell_at(
+    pub fn report_at(
         &mut self,
         held: &HeldZone,
         code: Code,
         record: Option<&StandingRecord<'_>>,
         at_target: bool,
         text: &Text,
-    ) -> Result<(), Stop> {
+    ) -> Result<(), RunError> {
         match self.count_at(held, code, record, at_target) {
             Some(severity) => self.show_at(held, severity, code, record, at_target, text),
             None => Ok(()),

@@ -1,16 +1,16 @@
 //! The command `fmt`: formats zone files.
-use crate::blocks::{Ended, Take, go_through_file, go_through_octets};
+use crate::blocks::{FileError, Take, go_through_file, go_through_octets};
 use crate::files::report;
-use crate::formed::{Former, Looker, Shower};
+use crate::formed::{DiffPrinter, FormOutput, FormatCheck};
 use crate::progress::Progress;
 use crate::shown::Shown;
-use crate::stop::TROUBLE;
-use dns_split::position::Position;
+use crate::stop::EXIT_IO;
+use dns_lexer::position::Position;
 use std::alloc::AllocError;
 use std::fs::{File, metadata};
 use std::io::{ErrorKind, Read, Write};
 use std::{io, process};
-use zonetext_lib::blocks::Halt;
+use zonetext_lib::blocks::ChunkError;
 use zonetext_lib::formatter::NoForm;
 use zonetext_lib::replace::{Batch, Incomplete, NewText, Original, Refusal};
 
@@ -32,7 +32,7 @@ pub enum Mode {
 
 /// The options of the command.
 #[derive(Clone, Copy)]
-pub struct Work {
+pub struct FormatOptions {
     pub mode: Mode,
     pub is_quiet: bool,
 }
@@ -44,7 +44,7 @@ const FOUND: u8 = 1;
 fn say(rt: &HostRuntime, file: &str, what: &str) -> io::Result<u8> {
     let file = Shown(file);
     eprintln!(rt; "zonetext: {file}: {what}")?;
-    Ok(TROUBLE)
+    Ok(EXIT_IO)
 }
 
 /// Reports the position where a file is rejected, and returns the status.
@@ -68,17 +68,17 @@ fn refuse(rt: &HostRuntime, file: &str, why: NoForm) -> io::Result<u8> {
 
 /// Reports why a file was not read to its end, and returns the status. If standard output was
 /// closed, nothing is reported.
-fn conclude(rt: &HostRuntime, file: &str, ended: Ended) -> io::Result<u8> {
+fn exit_status(rt: &HostRuntime, file: &str, ended: FileError) -> io::Result<u8> {
     match ended {
-        Ended::NoForm(why) => refuse(rt, file, why),
-        Ended::Halt(halt) => refuse(rt, file, NoForm::from(halt)),
-        Ended::Read(error) => {
+        FileError::NoForm(why) => refuse(rt, file, why),
+        FileError::ChunkError(halt) => refuse(rt, file, NoForm::from(halt)),
+        FileError::Read(error) => {
             let file = Shown(file);
             eprintln!(rt; "zonetext: {file}: {error}")?;
-            Ok(TROUBLE)
+            Ok(EXIT_IO)
         }
-        Ended::Write(error) if error.kind() == ErrorKind::BrokenPipe => Ok(TROUBLE),
-        Ended::Write(error) => Err(error),
+        FileError::Write(error) if error.kind() == ErrorKind::BrokenPipe => Ok(EXIT_IO),
+        FileError::Write(error) => Err(error),
     }
 }
 
@@ -111,26 +111,26 @@ impl<'a> Source<'a> {
         rt: &HostRuntime,
         taker: &mut T,
         is_quiet: bool,
-    ) -> Result<(), Ended> {
+    ) -> Result<(), FileError> {
         match self {
             Source::Held(text) => go_through_octets(text.as_slice(), taker),
             Source::File(file) => {
                 let mut progress = match Progress::new(rt, file, is_quiet) {
                     Ok(progress) => progress,
-                    Err(error) => return Err(Ended::Write(error)),
+                    Err(error) => return Err(FileError::Write(error)),
                 };
                 let answer = go_through_file(rt, file, taker, &mut progress);
                 match progress.clear() {
                     Ok(()) => answer,
-                    Err(error) => Err(Ended::Write(error)),
+                    Err(error) => Err(FileError::Write(error)),
                 }
             }
         }
     }
 
     /// Returns whether the text differs from its formatted text.
-    fn differs(&self, rt: &HostRuntime, is_quiet: bool) -> Result<bool, Ended> {
-        let mut looker = Looker::new(rt.alloc());
+    fn differs(&self, rt: &HostRuntime, is_quiet: bool) -> Result<bool, FileError> {
+        let mut looker = FormatCheck::new(rt.alloc());
         self.go_through(rt, &mut looker, is_quiet)?;
         Ok(looker.differs)
     }
@@ -140,7 +140,7 @@ impl<'a> Source<'a> {
 fn put(rt: &HostRuntime, file: &str, octets: &[u8]) -> io::Result<u8> {
     match rt.stdout().write_all(octets) {
         Ok(()) => Ok(0),
-        Err(error) => conclude(rt, file, Ended::Write(error)),
+        Err(error) => exit_status(rt, file, FileError::Write(error)),
     }
 }
 
@@ -151,14 +151,14 @@ fn head_of(rt: &HostRuntime, file: &str) -> Result<String, AllocError> {
 }
 
 /// Prints the formatted text, lists a file that would change, or shows the changes.
-fn show(rt: &HostRuntime, file: &str, work: Work) -> io::Result<u8> {
+fn show(rt: &HostRuntime, file: &str, work: FormatOptions) -> io::Result<u8> {
     let source = match Source::open(rt, file) {
         Ok(source) => source,
-        Err(error) => return conclude(rt, file, Ended::Read(error)),
+        Err(error) => return exit_status(rt, file, FileError::Read(error)),
     };
     let differs = match source.differs(rt, work.is_quiet) {
         Ok(differs) => differs,
-        Err(ended) => return conclude(rt, file, ended),
+        Err(ended) => return exit_status(rt, file, ended),
     };
     match work.mode {
         Mode::Print => print(rt, file, &source, work),
@@ -172,24 +172,29 @@ fn show(rt: &HostRuntime, file: &str, work: Work) -> io::Result<u8> {
 }
 
 /// Prints the formatted text.
-fn print(rt: &HostRuntime, file: &str, source: &Source, work: Work) -> io::Result<u8> {
-    let mut former = Former::new(rt.alloc(), rt);
+fn print(rt: &HostRuntime, file: &str, source: &Source, work: FormatOptions) -> io::Result<u8> {
+    let mut former = FormOutput::new(rt.alloc(), rt);
     match source.go_through(rt, &mut former, work.is_quiet) {
         Ok(()) => Ok(0),
-        Err(ended) => conclude(rt, file, ended),
+        Err(ended) => exit_status(rt, file, ended),
     }
 }
 
 /// Shows the changes of a file.
-fn show_changes(rt: &HostRuntime, file: &str, source: &Source, work: Work) -> io::Result<u8> {
+fn show_changes(
+    rt: &HostRuntime,
+    file: &str,
+    source: &Source,
+    work: FormatOptions,
+) -> io::Result<u8> {
     let status = put(rt, file, head_of(rt, file)?.as_bytes())?;
     if status > 0 {
         return Ok(status);
     }
-    let mut shower = Shower::new(rt);
+    let mut shower = DiffPrinter::new(rt);
     match source.go_through(rt, &mut shower, work.is_quiet) {
         Ok(()) => Ok(FOUND),
-        Err(ended) => Ok(conclude(rt, file, ended)?.max(FOUND)),
+        Err(ended) => Ok(exit_status(rt, file, ended)?.max(FOUND)),
     }
 }
 
@@ -199,7 +204,7 @@ pub fn leave(rt: &HostRuntime, file: &str, refusal: &Refusal) -> io::Result<u8> 
         Refusal::Io(error) => {
             let file = Shown(file);
             eprintln!(rt; "zonetext: {file}: {error}")?;
-            Ok(TROUBLE)
+            Ok(EXIT_IO)
         }
         Refusal::NoFile => say(rt, file, "not a regular file"),
         Refusal::Journal => say(
@@ -210,7 +215,7 @@ pub fn leave(rt: &HostRuntime, file: &str, refusal: &Refusal) -> io::Result<u8> 
         Refusal::Owner(error) => {
             let file = Shown(file);
             eprintln!(rt; "zonetext: {file}: its owner and group can't be kept: {error}")?;
-            Ok(TROUBLE)
+            Ok(EXIT_IO)
         }
         Refusal::Changed => say(rt, file, "changed while it was read"),
     }
@@ -227,7 +232,7 @@ struct Change<'a> {
 fn look<'a>(
     rt: &HostRuntime,
     file: &'a str,
-    work: Work,
+    work: FormatOptions,
 ) -> io::Result<Result<Option<Change<'a>>, u8>> {
     let ignores_journal = matches!(
         work.mode,
@@ -242,19 +247,19 @@ fn look<'a>(
     match Source::File(file).differs(rt, work.is_quiet) {
         Ok(true) => Ok(Ok(Some(Change { file, original }))),
         Ok(false) => Ok(Ok(None)),
-        Err(ended) => Ok(Err(conclude(rt, file, ended)?)),
+        Err(ended) => Ok(Err(exit_status(rt, file, ended)?)),
     }
 }
 
 /// Returns why a new text was not written.
-fn refusal_of(ended: Ended) -> Refusal {
+pub fn refusal_of(ended: FileError) -> Refusal {
     match ended {
-        Ended::Read(error) | Ended::Write(error) => Refusal::Io(error),
-        Ended::Halt(Halt::OutOfMemory) | Ended::NoForm(NoForm::OutOfMemory) => {
+        FileError::Read(error) | FileError::Write(error) => Refusal::Io(error),
+        FileError::ChunkError(ChunkError::OutOfMemory) | FileError::NoForm(NoForm::OutOfMemory) => {
             Refusal::Io(io::Error::from(ErrorKind::OutOfMemory))
         }
         // It could be formatted when it was checked.
-        Ended::Halt(_) | Ended::NoForm(_) => Refusal::Changed,
+        FileError::ChunkError(_) | FileError::NoForm(_) => Refusal::Changed,
     }
 }
 
@@ -263,10 +268,10 @@ fn write_beside(
     rt: &HostRuntime,
     change: Change,
     batch: &mut Batch,
-    work: Work,
+    work: FormatOptions,
 ) -> Result<(), Refusal> {
     let new = NewText::create(rt, rt.alloc(), change.original, process::id(rt.process()))?;
-    let mut former = Former::new(rt.alloc(), new);
+    let mut former = FormOutput::new(rt.alloc(), new);
     match Source::File(change.file).go_through(rt, &mut former, work.is_quiet) {
         Ok(()) => batch.add(rt, former.sink),
         Err(ended) => {
@@ -277,8 +282,8 @@ fn write_beside(
 }
 
 /// Reports which files are formatted and which are unchanged, and returns the status.
-fn tell_of(rt: &HostRuntime, names: &[&str], incomplete: &Incomplete) -> io::Result<u8> {
-    let mut status = TROUBLE;
+fn report_of(rt: &HostRuntime, names: &[&str], incomplete: &Incomplete) -> io::Result<u8> {
+    let mut status = EXIT_IO;
     for (at, file) in names.iter().enumerate() {
         if at < incomplete.replaced {
             let file = Shown(file);
@@ -295,7 +300,7 @@ fn tell_of(rt: &HostRuntime, names: &[&str], incomplete: &Incomplete) -> io::Res
 }
 
 /// Replaces files by their formatted text, all or none.
-fn replace(rt: &HostRuntime, changes: Vec<Change>, work: Work) -> io::Result<u8> {
+fn replace(rt: &HostRuntime, changes: Vec<Change>, work: FormatOptions) -> io::Result<u8> {
     let mut batch = Batch::new(rt.alloc());
     let mut names = Vec::new(rt.alloc());
     for change in changes {
@@ -308,7 +313,7 @@ fn replace(rt: &HostRuntime, changes: Vec<Change>, work: Work) -> io::Result<u8>
     }
     match batch.commit(rt) {
         Ok(()) => Ok(0),
-        Err(incomplete) => tell_of(rt, names.as_slice(), &incomplete),
+        Err(incomplete) => report_of(rt, names.as_slice(), &incomplete),
     }
 }
 
@@ -320,7 +325,7 @@ fn is_among(changes: &[Change], change: &Change) -> bool {
 }
 
 /// Formats files in place. If any of them has an error, none is changed.
-fn write(rt: &HostRuntime, files: &[&str], work: Work) -> io::Result<u8> {
+fn write(rt: &HostRuntime, files: &[&str], work: FormatOptions) -> io::Result<u8> {
     let mut changes = Vec::new(rt.alloc());
     let mut status = 0;
     for file in files {
@@ -339,7 +344,7 @@ fn write(rt: &HostRuntime, files: &[&str], work: Work) -> io::Result<u8> {
 }
 
 /// Shows files one by one, and returns the greatest status.
-fn show_all(rt: &HostRuntime, files: &[&str], work: Work) -> io::Result<u8> {
+fn show_all(rt: &HostRuntime, files: &[&str], work: FormatOptions) -> io::Result<u8> {
     let mut status = 0;
     for file in files {
         status = show(rt, file, work)?.max(status);
@@ -348,7 +353,7 @@ fn show_all(rt: &HostRuntime, files: &[&str], work: Work) -> io::Result<u8> {
 }
 
 /// Formats files, and returns the status: the greatest that one of them has.
-pub fn run(rt: &HostRuntime, files: &[&str], work: Work) -> io::Result<u8> {
+pub fn run(rt: &HostRuntime, files: &[&str], work: FormatOptions) -> io::Result<u8> {
     let answer = if matches!(work.mode, Mode::Write { .. }) {
         write(rt, files, work)
     } else {
@@ -358,7 +363,7 @@ pub fn run(rt: &HostRuntime, files: &[&str], work: Work) -> io::Result<u8> {
         Ok(status) => Ok(status),
         Err(error) => {
             eprintln!(rt; "zonetext: {error}")?;
-            Ok(TROUBLE)
+            Ok(EXIT_IO)
         }
     }
 }

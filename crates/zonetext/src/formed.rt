@@ -1,5 +1,5 @@
 //! Formats files block by block.
-use crate::blocks::{BLOCK, Ended, Take};
+use crate::blocks::{BLOCK, FileError, Take};
 use std::alloc::Global;
 use std::fs::File;
 use std::io;
@@ -9,7 +9,7 @@ use zonetext_lib::replace::NewText;
 use zonetext_lib::unified::Unified;
 
 /// Drops the first octets.
-fn let_go(octets: &mut Vec<u8>, count: usize) {
+fn discard_read(octets: &mut Vec<u8>, count: usize) {
     if count > octets.len() {
         return;
     }
@@ -19,7 +19,7 @@ fn let_go(octets: &mut Vec<u8>, count: usize) {
 
 /// Finds out whether a text differs from its formatted text.
 #[derive(Drop)]
-pub struct Looker {
+pub struct FormatCheck {
     formatter: Formatter<Global>,
     /// Text that was read and not compared yet.
     text: Vec<u8>,
@@ -29,10 +29,10 @@ pub struct Looker {
     pub differs: bool,
 }
 
-impl Looker {
+impl FormatCheck {
     /// Returns a comparison before the first block.
-    pub fn new(alloc: Global) -> Looker {
-        Looker {
+    pub fn new(alloc: Global) -> FormatCheck {
+        FormatCheck {
             formatter: Formatter::new(alloc),
             text: Vec::new(alloc),
             form: Vec::new(alloc),
@@ -44,8 +44,8 @@ impl Looker {
     fn compare(&mut self) {
         let count = self.text.len().min(self.form.len());
         if !self.differs && self.text[..count] == self.form[..count] {
-            let_go(&mut self.text, count);
-            let_go(&mut self.form, count);
+            discard_read(&mut self.text, count);
+            discard_read(&mut self.form, count);
         } else {
             self.differs = true;
             self.text.truncate(0);
@@ -54,22 +54,22 @@ impl Looker {
     }
 }
 
-impl Take for Looker {
-    fn take(&mut self, block: &[u8]) -> Result<(), Ended> {
+impl Take for FormatCheck {
+    fn take(&mut self, block: &[u8]) -> Result<(), FileError> {
         if !self.differs {
-            self.text.extend_from_slice(block).map_err(Ended::from)?;
+            self.text.extend_from_slice(block).map_err(FileError::from)?;
         }
         self.formatter
             .add(block, &mut self.form)
-            .map_err(Ended::NoForm)?;
+            .map_err(FileError::NoForm)?;
         self.compare();
         Ok(())
     }
 
-    fn end(&mut self) -> Result<(), Ended> {
+    fn end(&mut self) -> Result<(), FileError> {
         self.formatter
             .finish(&mut self.form)
-            .map_err(Ended::NoForm)?;
+            .map_err(FileError::NoForm)?;
         self.compare();
         if !self.text.is_empty() || !self.form.is_empty() {
             self.differs = true;
@@ -98,16 +98,16 @@ impl Sink for NewText<File> {
 
 /// Writes the formatted text.
 #[derive(Drop)]
-pub struct Former<S: Sink + Drop> {
+pub struct FormOutput<S: Sink + Drop> {
     formatter: Formatter<Global>,
     form: Vec<u8>,
     pub sink: S,
 }
 
-impl<S: Sink + Drop> Former<S> {
+impl<S: Sink + Drop> FormOutput<S> {
     /// Returns a writer before the first block.
-    pub fn new(alloc: Global, sink: S) -> Former<S> {
-        Former {
+    pub fn new(alloc: Global, sink: S) -> FormOutput<S> {
+        FormOutput {
             formatter: Formatter::new(alloc),
             form: Vec::new(alloc),
             sink,
@@ -115,35 +115,35 @@ impl<S: Sink + Drop> Former<S> {
     }
 
     /// Writes the output so far.
-    fn put(&mut self) -> Result<(), Ended> {
+    fn put(&mut self) -> Result<(), FileError> {
         let answer = self.sink.put(self.form.as_slice());
         self.form.truncate(0);
-        answer.map_err(Ended::Write)
+        answer.map_err(FileError::Write)
     }
 }
 
-impl<S: Sink + Drop> Take for Former<S> {
-    fn take(&mut self, block: &[u8]) -> Result<(), Ended> {
+impl<S: Sink + Drop> Take for FormOutput<S> {
+    fn take(&mut self, block: &[u8]) -> Result<(), FileError> {
         self.formatter
             .add(block, &mut self.form)
-            .map_err(Ended::NoForm)?;
+            .map_err(FileError::NoForm)?;
         if self.form.len() < BLOCK {
             return Ok(());
         }
         self.put()
     }
 
-    fn end(&mut self) -> Result<(), Ended> {
+    fn end(&mut self) -> Result<(), FileError> {
         self.formatter
             .finish(&mut self.form)
-            .map_err(Ended::NoForm)?;
+            .map_err(FileError::NoForm)?;
         self.put()
     }
 }
 
 /// Shows the changes from a text to its formatted text.
 #[derive(Drop)]
-pub struct Shower<'a> {
+pub struct DiffPrinter<'a> {
     rt: &'a HostRuntime,
     formatter: Formatter<Global>,
     form: Vec<u8>,
@@ -151,10 +151,10 @@ pub struct Shower<'a> {
     out: Vec<u8>,
 }
 
-impl<'a> Shower<'a> {
+impl<'a> DiffPrinter<'a> {
     /// Returns a writer before the first block.
-    pub fn new(rt: &'a HostRuntime) -> Shower<'a> {
-        Shower {
+    pub fn new(rt: &'a HostRuntime) -> DiffPrinter<'a> {
+        DiffPrinter {
             rt,
             formatter: Formatter::new(rt.alloc()),
             form: Vec::new(rt.alloc()),
@@ -164,35 +164,37 @@ impl<'a> Shower<'a> {
     }
 
     /// Writes the hunks that have ended.
-    fn put(&mut self) -> Result<(), Ended> {
+    fn put(&mut self) -> Result<(), FileError> {
         let answer = self.rt.stdout().write_all(self.out.as_slice());
         self.out.truncate(0);
-        answer.map_err(Ended::Write)
+        answer.map_err(FileError::Write)
     }
 }
 
-impl<'a> Take for Shower<'a> {
-    fn take(&mut self, block: &[u8]) -> Result<(), Ended> {
+impl<'a> Take for DiffPrinter<'a> {
+    fn take(&mut self, block: &[u8]) -> Result<(), FileError> {
         self.formatter
             .add(block, &mut self.form)
-            .map_err(Ended::NoForm)?;
-        self.unified.add_old(block).map_err(Ended::from)?;
+            .map_err(FileError::NoForm)?;
+        self.unified.add_old(block).map_err(FileError::from)?;
         self.unified
             .add_new(self.form.as_slice())
-            .map_err(Ended::from)?;
+            .map_err(FileError::from)?;
         self.form.truncate(0);
-        self.unified.advance(&mut self.out).map_err(Ended::from)?;
+        self.unified
+            .advance(&mut self.out)
+            .map_err(FileError::from)?;
         self.put()
     }
 
-    fn end(&mut self) -> Result<(), Ended> {
+    fn end(&mut self) -> Result<(), FileError> {
         self.formatter
             .finish(&mut self.form)
-            .map_err(Ended::NoForm)?;
+            .map_err(FileError::NoForm)?;
         self.unified
             .add_new(self.form.as_slice())
-            .map_err(Ended::from)?;
-        self.unified.finish(&mut self.out).map_err(Ended::from)?;
+            .map_err(FileError::from)?;
+        self.unified.finish(&mut self.out).map_err(FileError::from)?;
         self.put()
     }
 }

@@ -1,13 +1,12 @@
 //! The records of zone files in canonical form, stored in memory.
-use crate::checking::Seen;
-use crate::held::Held;
-use crate::reading::{Outcome, Reading, TakeEntry, give_entries};
-use crate::stop::Stop;
+use crate::checker::SoaInfo;
+use crate::record_arena::Held;
+use crate::stop::RunError;
+use crate::visit::{Outcome, Reading, TakeEntry, give_entries};
 use crate::zone_files::Entry;
-use dns_canonical::append_lowered;
-use dns_fields::RecordRef;
-use dns_resource::{Record, append_canonical_data};
+use rdata_fields::RecordRef;
 use std::alloc::{AllocError, Global};
+use zone_record::{Record, append_canonical_data, append_lowered};
 use zone_set::{CanonicalSet, Selection, TaggedOctets};
 
 /// Records in canonical form (RFC 4034 section 6.2) or as they are spelled, each with the number of
@@ -17,7 +16,7 @@ pub struct Gathered {
     held: Held<usize>,
     places: Places,
     /// The first SOA, also if SOAs are omitted.
-    pub seen: Option<Seen>,
+    pub seen: Option<SoaInfo>,
 }
 
 /// A record with the number of records before it.
@@ -74,10 +73,10 @@ impl Gathered {
     }
 
     /// Returns the records in canonical order, and the number of duplicates that were omitted.
-    pub fn set(&self) -> Result<(NumberedSet<'_>, usize), Stop> {
+    pub fn set(&self) -> Result<(NumberedSet<'_>, usize), RunError> {
         match CanonicalSet::from_set(self.held.set()?) {
             Ok(made) => Ok(made),
-            Err(_) => Err(Stop::OutOfMemory),
+            Err(_) => Err(RunError::OutOfMemory),
         }
     }
 }
@@ -99,13 +98,13 @@ impl Lowerer {
     }
 
     /// Returns the canonical form of a record.
-    pub fn lower<'l>(&'l mut self, record: RecordRef<'_>) -> Result<RecordRef<'l>, Stop> {
+    pub fn lower<'l>(&'l mut self, record: RecordRef<'_>) -> Result<RecordRef<'l>, RunError> {
         self.owner.truncate(0);
         self.data.truncate(0);
         if append_lowered(record.owner, &mut self.owner).is_err()
             || append_canonical_data(record.rtype, record.data, &mut self.data).is_err()
         {
-            return Err(Stop::OutOfMemory);
+            return Err(RunError::OutOfMemory);
         }
         Ok(RecordRef {
             owner: self.owner.as_slice(),
@@ -158,7 +157,7 @@ impl<'s> Gatherer<'s> {
     }
 
     /// Returns the records that were collected, and the first SOA.
-    pub fn gathered(self, seen: Option<Seen>) -> Gathered {
+    pub fn gathered(self, seen: Option<SoaInfo>) -> Gathered {
         Gathered {
             held: self.held,
             places: self.places,
@@ -168,7 +167,7 @@ impl<'s> Gatherer<'s> {
 }
 
 impl TakeEntry for Gatherer<'_> {
-    fn take_entry(&mut self, entry: &Entry<'_>) -> Result<(), Stop> {
+    fn take_entry(&mut self, entry: &Entry<'_>) -> Result<(), RunError> {
         let Some(given) = entry.record()? else {
             return Ok(());
         };

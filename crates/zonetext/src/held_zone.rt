@@ -1,17 +1,17 @@
 //! The records of zone files, with their positions.
-use crate::held::Held;
+use crate::record_arena::Held;
 use crate::refused_sets::RefusedSets;
-use dns_kinds::RecordType;
-use dns_resource::Record;
-use dns_split::position::Position;
+use dns_lexer::position::Position;
+use rdata_values::RecordType;
 use std::alloc::Global;
 use zone_dnssec::SecurityRule;
+use zone_record::Record;
 use zone_rules::{Finding, Rule};
 use zone_set::TaggedOctets;
 
 /// The position of a record.
 #[derive(Clone, Copy)]
-pub struct Stand {
+pub struct RecordLocation {
     /// The number of its file.
     pub file: usize,
     pub position: Position,
@@ -20,12 +20,12 @@ pub struct Stand {
 }
 
 /// A record with its position.
-pub type StandingRecord<'h> = Record<TaggedOctets<'h, Stand>, &'h [u8]>;
+pub type StandingRecord<'h> = Record<TaggedOctets<'h, RecordLocation>, &'h [u8]>;
 
 /// The records of files, with their positions.
 #[derive(Drop)]
 pub struct HeldZone {
-    pub records: Held<Stand>,
+    pub records: Held<RecordLocation>,
     /// The RRsets with a rejected entry.
     pub refused: RefusedSets,
     /// The paths of the files, by their numbers.
@@ -85,7 +85,10 @@ pub fn is_of_absence(rule: Rule) -> bool {
         | Rule::MissingGlue
         | Rule::HostMissing
         | Rule::CdsWithoutKey
-        | Rule::DsWithoutNs => true,
+        | Rule::DsWithoutNs
+        | Rule::CnameTargetMissing
+        | Rule::WeakDigest
+        | Rule::SingleNs => true,
         _ => false,
     }
 }

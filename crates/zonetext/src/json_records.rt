@@ -1,17 +1,16 @@
 //! Records, and digests of zones, as JSON objects, one a line.
 use crate::gathered::{Gathered, NumberedRecord};
 use crate::lines::Lines;
-use crate::reading::{Reading, TakeEntry, give_entries};
-use crate::spots::beginning;
-use crate::stop::{Stop, conclude};
+use crate::locations::beginning;
+use crate::stop::{RunError, exit_status};
+use crate::visit::{Reading, TakeEntry, give_entries};
 use crate::zone_files::Entry;
 use clap::Arg;
 use dns_octets::AsOctets;
-use dns_resource::{Record, record_of};
 use finding_formats::record_json::{DigestFields, RecordFields, push_digest, push_fields};
 use std::alloc::{AllocError, Global};
-use zone_digest::Zonemd;
-use zone_set::{Change, TaggedOctets, push_generic, push_record};
+use zone_record::{Record, record_of};
+use zone_set::{Change, TaggedOctets, Zonemd, push_generic, push_record};
 
 /// Returns the option for JSON.
 pub fn option<'a>(alloc: Global) -> Arg<'a> {
@@ -142,12 +141,12 @@ struct JsonLines<'a> {
 }
 
 impl TakeEntry for JsonLines<'_> {
-    fn take_entry(&mut self, entry: &Entry<'_>) -> Result<(), Stop> {
+    fn take_entry(&mut self, entry: &Entry<'_>) -> Result<(), RunError> {
         let Some(given) = entry.record()? else {
             return Ok(());
         };
         let Some(record) = record_of(&given) else {
-            return Err(Stop::Damaged);
+            return Err(RunError::Damaged);
         };
         self.line.truncate(0);
         push_record(&mut self.line, &record)?;
@@ -175,6 +174,6 @@ pub fn run(rt: &HostRuntime, files: &[&str], reading: &Reading<'_>) -> u8 {
     let mut outcome = give_entries(rt, files, reading, taker);
     match outcome.taker.lines.flush() {
         Ok(()) => outcome.status,
-        Err(error) => conclude(rt, "-", Stop::Write(error)),
+        Err(error) => exit_status(rt, "-", RunError::Write(error)),
     }
 }

@@ -1,11 +1,11 @@
 //! Finds which rules a record alone breaks, and where.
+use crate::locations::{begins_blank, data_start};
 use crate::scan::OctetScan;
-use crate::spots::{begins_blank, data_start};
-use crate::stop::Stop;
+use crate::stop::RunError;
 use crate::zone_files::Entry;
 use arrayvec::ArrayVec;
-use dns_kinds::RecordType;
-use dns_split::entry_tokens::EntryToken;
+use dns_lexer::entry_tokens::EntryToken;
+use rdata_values::RecordType;
 use record_rules::{RecordRule, Written, broken_rules};
 
 /// Returns the message of a broken rule.
@@ -37,7 +37,11 @@ fn is_text_type(rtype: RecordType) -> bool {
 }
 
 /// Returns whether a record breaks none of the rules, as far as that is known without its tokens.
-pub fn breaks_none(entry: &Entry<'_>, scan: OctetScan, rtype: RecordType) -> Result<bool, Stop> {
+pub fn breaks_none(
+    entry: &Entry<'_>,
+    scan: OctetScan,
+    rtype: RecordType,
+) -> Result<bool, RunError> {
     if is_text_type(rtype) && (scan.has_semicolon || scan.has_backslash) {
         return Ok(false);
     }
@@ -77,7 +81,7 @@ fn how_written<'e>(entry: &Entry<'e>, tokens: &[EntryToken<'_>]) -> Option<Writt
 pub fn lone_rules(
     entry: &Entry<'_>,
     tokens: &[EntryToken<'_>],
-) -> Result<ArrayVec<RecordRule, 16>, Stop> {
+) -> Result<ArrayVec<RecordRule, 16>, RunError> {
     match entry.record()? {
         Some(record) => Ok(broken_rules(&record, how_written(entry, tokens))),
         None => Ok(ArrayVec::new()),

@@ -1,8 +1,7 @@
 //! TTLs of 2^31 seconds and more, which are read as 0 (RFC 2181 section 8).
-use dns_heads::ttl_of_seconds;
-use dns_kinds::interval_from_text;
-use dns_reader::RecordTtl;
-use dns_split::entry_tokens::EntryToken;
+use dns_lexer::entry_tokens::EntryToken;
+use rdata_values::interval_from_text;
+use zone_reader::{RecordTtl, ttl_of_seconds};
 
 /// Returns whether a token spells a TTL of 2^31 or more.
 fn is_long(token: &EntryToken<'_>) -> bool {

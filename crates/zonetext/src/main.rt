@@ -5,11 +5,12 @@ mod blocks;
 mod canon;
 mod changes;
 mod check;
-mod checking;
+mod checker;
 mod codes;
 mod command;
+mod config_files;
 mod cut;
-mod cut_words;
+mod cut_args;
 mod data_buffer;
 mod digest;
 mod digest_places;
@@ -22,45 +23,57 @@ mod findings;
 mod format;
 mod formed;
 mod gathered;
-mod held;
 mod held_zone;
 mod json_records;
 mod lines;
+mod listed_zones;
+mod locations;
 mod lone_rules;
 mod long_ttls;
 mod machine;
+mod many_zones;
 mod merging;
+mod named_zones;
+mod nsd_zones;
 mod octet_texts;
 mod open_file;
 mod options;
 mod pair;
 mod part_files;
+mod path_patterns;
 mod progress;
-mod reading;
+mod record_arena;
+mod record_args;
 mod records;
 mod refusals;
 mod refused_sets;
 mod reporter;
+mod rewriting;
 mod rule_texts;
 mod run_files;
 mod scan;
 mod scopes;
+mod serial;
+mod serial_args;
+mod serial_writing;
 mod settings;
 mod shown;
 mod signature_groups;
 mod slips;
 mod sorter;
 mod sorting;
-mod spots;
 mod stop;
 mod subjects;
 mod times;
 mod totals;
 mod update;
 mod update_lines;
+mod visit;
 mod waiting;
 mod zone_files;
-mod zone_words;
+mod zone_folders;
+mod zone_names;
+mod zone_sources;
 
 use std::process::ExitCode;
 use std::{env, io};
@@ -84,7 +97,7 @@ fn main(rt: HostRuntime) -> ExitCode {
         Ok(status) => ExitCode::from(status),
         Err(error) => {
             let _ = eprintln!(&rt; "zonetext: {error}");
-            ExitCode::from(stop::TROUBLE)
+            ExitCode::from(stop::EXIT_IO)
         }
     }
 }

@@ -1,9 +1,9 @@
 //! Reads sorted runs again, record by record, and merges them.
 use crate::run_files::{Run, RunFile, TakeRecord};
-use crate::stop::Stop;
-use dns_resource::{Record, owned_record};
+use crate::stop::RunError;
 use std::alloc::Global;
-use zone_set::{Front, Fronts, take_run_record};
+use zone_record::{Record, owned_record};
+use zone_set::{MergeHead, MergeHeads, take_run_record};
 
 /// An upper bound of the number of octets of a record of a run: an owner has 255 at most, and data
 /// 65,535.
@@ -27,16 +27,16 @@ struct RunReader {
 }
 
 /// Returns a copy of a record. Fails with `Damaged` if its octets are not a record.
-fn own(alloc: Global, one: &Record<&[u8], &[u8]>) -> Result<Record<Vec<u8>, Vec<u8>>, Stop> {
+fn own(alloc: Global, one: &Record<&[u8], &[u8]>) -> Result<Record<Vec<u8>, Vec<u8>>, RunError> {
     match owned_record(alloc, &one.borrowed())? {
         Some(owned) => Ok(owned),
-        None => Err(Stop::Damaged),
+        None => Err(RunError::Damaged),
     }
 }
 
 impl RunReader {
     /// Returns a reader before the first record.
-    fn new(alloc: Global, run: Run, block: usize) -> Result<RunReader, Stop> {
+    fn new(alloc: Global, run: Run, block: usize) -> Result<RunReader, RunError> {
         Ok(RunReader {
             alloc,
             start: run.start,
@@ -49,7 +49,7 @@ impl RunReader {
     }
 
     /// Drops the octets of records that were returned.
-    fn let_go(&mut self) {
+    fn discard_read(&mut self) {
         let given = self.given.min(self.octets.len());
         self.octets.rotate_left(given);
         self.octets
@@ -58,8 +58,8 @@ impl RunReader {
     }
 
     /// Reads the next octets.
-    fn fill(&mut self, file: &RunFile<'_>) -> Result<(), Stop> {
-        self.let_go();
+    fn fill(&mut self, file: &RunFile<'_>) -> Result<(), RunError> {
+        self.discard_read();
         let behind = self.end.saturating_sub(self.start);
         let count = behind.min(self.block as u64);
         let old = self.octets.len();
@@ -73,7 +73,7 @@ impl RunReader {
     }
 
     /// Returns the next record, if all of it was read.
-    fn read_record(&mut self) -> Result<Option<Record<Vec<u8>, Vec<u8>>>, Stop> {
+    fn read_record(&mut self) -> Result<Option<Record<Vec<u8>, Vec<u8>>>, RunError> {
         let octets = self.octets.get(self.given..).unwrap_or(&[]);
         let Some((one, rest)) = take_run_record(octets) else {
             return Ok(None);
@@ -86,7 +86,7 @@ impl RunReader {
     fn next_record(
         &mut self,
         file: &RunFile<'_>,
-    ) -> Result<Option<Record<Vec<u8>, Vec<u8>>>, Stop> {
+    ) -> Result<Option<Record<Vec<u8>, Vec<u8>>>, RunError> {
         if self.left == 0 {
             let is_read = self.start == self.end && self.given == self.octets.len();
             return if is_read {
@@ -114,15 +114,20 @@ impl RunReader {
 #[derive(Drop)]
 struct Merger {
     readers: Vec<RunReader>,
-    fronts: Fronts<Vec<u8>, Vec<u8>>,
+    fronts: MergeHeads<Vec<u8>, Vec<u8>>,
 }
 
 impl Merger {
     /// Returns a merger before the first record of the runs of a file.
-    fn new(alloc: Global, file: &RunFile<'_>, runs: &[Run], block: usize) -> Result<Merger, Stop> {
+    fn new(
+        alloc: Global,
+        file: &RunFile<'_>,
+        runs: &[Run],
+        block: usize,
+    ) -> Result<Merger, RunError> {
         let mut merger = Merger {
             readers: Vec::new(alloc),
-            fronts: Fronts::new(alloc),
+            fronts: MergeHeads::new(alloc),
         };
         for (number, run) in runs.iter().enumerate() {
             merger.readers.push(RunReader::new(alloc, *run, block)?)?;
@@ -132,12 +137,12 @@ impl Merger {
     }
 
     /// Adds the next record of a run.
-    fn advance(&mut self, file: &RunFile<'_>, run: usize) -> Result<(), Stop> {
+    fn advance(&mut self, file: &RunFile<'_>, run: usize) -> Result<(), RunError> {
         let Some(reader) = self.readers.get_mut(run) else {
             return Err(file.damaged());
         };
         if let Some(record) = reader.next_record(file)? {
-            self.fronts.push(Front { record, run })?;
+            self.fronts.push(MergeHead { record, run })?;
         }
         Ok(())
     }
@@ -146,8 +151,8 @@ impl Merger {
     fn next_record(
         &mut self,
         file: &RunFile<'_>,
-    ) -> Result<Option<Record<Vec<u8>, Vec<u8>>>, Stop> {
-        let Some(Front { record, run }) = self.fronts.take_first() else {
+    ) -> Result<Option<Record<Vec<u8>, Vec<u8>>>, RunError> {
+        let Some(MergeHead { record, run }) = self.fronts.take_first() else {
             return Ok(None);
         };
         self.advance(file, run)?;
@@ -163,7 +168,7 @@ pub fn merge<T: TakeRecord>(
     runs: &[Run],
     block: usize,
     taker: &mut T,
-) -> Result<u64, Stop> {
+) -> Result<u64, RunError> {
     let mut merger = Merger::new(alloc, file, runs, block)?;
     let mut last: Option<Record<Vec<u8>, Vec<u8>>> = None;
     let mut duplicates: u64 = 0;

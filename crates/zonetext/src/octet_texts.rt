@@ -1,20 +1,20 @@
 //! The messages of findings about the octets of entries.
-use crate::reporter::Spot;
-use crate::spots::{
+use crate::locations::{
     begins_blank, data_start, fault_at, part_at, position_at, token_part, tokens_of, width,
 };
+use crate::reporter::FindingLocation;
 use crate::subjects::{Text, quoted};
 use crate::zone_files::Entry;
-use dns_data::type_row;
-use dns_fields::Field;
-use dns_kinds::{ErrorKind, RecordType};
-use dns_reader::EntryRead;
-use dns_split::entry_tokens::EntryToken;
-use dns_split::pieces::{Fault, Wrong};
+use dns_lexer::entry_tokens::EntryToken;
+use dns_lexer::pieces::{Fault, Wrong};
 use finding_texts::ascii::ascii_name;
 use finding_texts::mistakes::{high_escape, quotation_mark};
+use rdata::type_row;
+use rdata_fields::Field;
+use rdata_values::{ErrorKind, RecordType};
 use std::alloc::{AllocError, Global};
-use zonetext_records::texts::code_text;
+use zone_check::texts::code_text;
+use zone_reader::ParsedEntry;
 use zonetext_report::code::Code;
 use zonetext_report::lint::Remark;
 
@@ -57,7 +57,7 @@ pub fn fault_text<'e>(
     alloc: Global,
     entry: &Entry<'e>,
     fault: Fault,
-) -> Result<(Spot<'e>, Text), AllocError> {
+) -> Result<(FindingLocation<'e>, Text), AllocError> {
     let spot = fault_at(entry, fault);
     match fault.wrong {
         Wrong::OpenParenthesis => Ok((spot, open_text(alloc, entry, fault)?)),
@@ -110,7 +110,7 @@ pub fn is_name(rtype: RecordType, number: usize) -> bool {
 /// Returns whether a token of an entry is a name: the owner of a record, or one in its data.
 fn is_name_token(entry: &Entry<'_>, tokens: &[EntryToken<'_>], at: usize, is_blank: bool) -> bool {
     let rtype = match entry.read {
-        Ok(EntryRead::Record { rtype, .. }) => *rtype,
+        Ok(ParsedEntry::Record { rtype, .. }) => *rtype,
         _ => return false,
     };
     let start = data_start(tokens, is_blank);
@@ -147,10 +147,10 @@ fn not_ascii(
 fn high_octet_text<'e>(
     alloc: Global,
     entry: &Entry<'e>,
-    spot: Spot<'e>,
+    spot: FindingLocation<'e>,
     at: usize,
     is_blank: bool,
-) -> Result<(Spot<'e>, Text), AllocError> {
+) -> Result<(FindingLocation<'e>, Text), AllocError> {
     let tokens = tokens_of(alloc, entry)?;
     let tokens = tokens.as_slice();
     let Some(token) = token_of(tokens, at) else {
@@ -174,9 +174,9 @@ fn high_octet_text<'e>(
 pub fn remark_text<'e>(
     alloc: Global,
     entry: &Entry<'e>,
-    spot: Spot<'e>,
+    spot: FindingLocation<'e>,
     remark: &Remark,
-) -> Result<(Spot<'e>, Text), AllocError> {
+) -> Result<(FindingLocation<'e>, Text), AllocError> {
     let is_blank = begins_blank(entry);
     match remark.code {
         Code::HighOctet => high_octet_text(alloc, entry, spot, remark.at, is_blank),

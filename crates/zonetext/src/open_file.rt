@@ -1,12 +1,12 @@
 //! An open zone file.
 use crate::blocks::read_block;
-use dns_reader::Mark;
-use dns_split::position::Position;
-use dns_zonefile::BlockReader;
+use dns_lexer::position::Position;
 use std::alloc::Global;
 use std::fs::File;
 use std::io;
-use zone_format::place::{Place, advance};
+use zone_format::place::{LocatedOffset, advance};
+use zone_reader::IncludeScope;
+use zone_stream::BlockReader;
 
 /// The source of octets.
 #[derive(Drop)]
@@ -28,10 +28,10 @@ impl Input {
 /// The state where an included file begins.
 #[derive(Drop)]
 pub struct Includer {
-    pub mark: Mark,
+    pub mark: IncludeScope,
     pub default_ttl: Option<u32>,
     /// Place of the entry that includes it.
-    pub place: Place,
+    pub place: LocatedOffset,
 }
 
 /// An open zone file.
@@ -46,7 +46,7 @@ pub struct OpenFile {
     pub input: Input,
     pub reader: BlockReader<Global>,
     /// Place up to which lines and columns are counted, at or before the next entry.
-    pub place: Place,
+    pub place: LocatedOffset,
     /// The first octets of the file, until it is known whether they are a byte order mark.
     pub head: Vec<u8>,
     /// Whether it is known if these are a byte order mark.
@@ -58,8 +58,8 @@ pub struct OpenFile {
 }
 
 /// Returns the place where files begin.
-pub fn first_place() -> Place {
-    Place {
+pub fn first_place() -> LocatedOffset {
+    LocatedOffset {
         at: 0,
         position: Position { line: 1, column: 1 },
     }
@@ -67,12 +67,12 @@ pub fn first_place() -> Place {
 
 /// Returns the place after octets that follow a place. If there are more octets than can be
 /// counted, the place is unchanged.
-pub fn behind(from: Place, octets: &[u8]) -> Place {
+pub fn behind(from: LocatedOffset, octets: &[u8]) -> LocatedOffset {
     let count = octets.len();
     let line = from.position.line.checked_add(count);
     let column = from.position.column.checked_add(count);
     match (from.at.checked_add(count), line, column) {
-        (Some(at), Some(_), Some(column)) if column < usize::MAX => Place {
+        (Some(at), Some(_), Some(column)) if column < usize::MAX => LocatedOffset {
             at,
             position: advance(from.position, octets),
         },
@@ -82,7 +82,11 @@ pub fn behind(from: Place, octets: &[u8]) -> Place {
 
 /// Returns the place of an offset at or after the place `from`. Counts the octets between them, or
 /// asks the reader if these are no longer held.
-pub fn place_from(reader: &BlockReader<Global>, from: Place, offset: usize) -> Place {
+pub fn place_from(
+    reader: &BlockReader<Global>,
+    from: LocatedOffset,
+    offset: usize,
+) -> LocatedOffset {
     if offset == from.at {
         return from;
     }
@@ -90,7 +94,7 @@ pub fn place_from(reader: &BlockReader<Global>, from: Place, offset: usize) -> P
     match reader.octets_from(from.at) {
         Some(held) => behind(from, &held[..count.min(held.len())]),
         None => match reader.position(offset) {
-            Some(position) => Place {
+            Some(position) => LocatedOffset {
                 at: offset,
                 position,
             },

@@ -1,16 +1,16 @@
 //! Parses the values of options.
 use crate::shown::Shown;
-use crate::stop::TROUBLE;
+use crate::stop::EXIT_IO;
 use arrayvec::ArrayVec;
 use clap::ArgMatches;
-use dns_kinds::{Class, interval_from_text};
-use dns_reader::NameBuffer;
-use dns_spelling::append_name;
 use dns_wire::{MAX_NAME, Name};
-use dns_zonefile::ENTRY_LIMIT;
+use rdata_tokens::append_name;
+use rdata_values::{Class, interval_from_text};
 use std::alloc::AllocError;
 use std::io;
 use std::io::ErrorKind;
+use zone_reader::NameBuffer;
+use zone_stream::ENTRY_LIMIT;
 
 /// The status of a wrong command line.
 pub const USAGE: u8 = 2;
@@ -31,6 +31,15 @@ pub enum Usage<'o> {
     },
     /// Signatures must be checked, and no zone is set.
     NoZone,
+    /// The name of a file should contain its zone, and does not.
+    NoZoneName {
+        file: &'o str,
+    },
+    /// The names of two files of one zone contain different zones.
+    OtherZone {
+        file: &'o str,
+        first: &'o str,
+    },
     /// The clock can't be read.
     Clock,
     Memory,
@@ -159,6 +168,13 @@ pub fn zone_of<'o>(inner: &'o ArgMatches) -> Result<Option<&'o str>, Usage<'o>> 
     }
 }
 
+/// Reports that the name of a file should contain its zone, and does not, and returns the status.
+pub fn report_no_zone(rt: &HostRuntime, file: &str) -> io::Result<u8> {
+    let file = Shown(file);
+    eprintln!(rt; "zonetext: {file}: its name is no zone's")?;
+    Ok(USAGE)
+}
+
 /// Returns the status of a command, or that of a wrong command line, which is reported.
 pub fn status_of(rt: &HostRuntime, answer: Result<u8, Usage<'_>>) -> io::Result<u8> {
     match answer {
@@ -184,9 +200,17 @@ pub fn status_of(rt: &HostRuntime, answer: Result<u8, Usage<'_>>) -> io::Result<
             eprintln!(rt; "zonetext: --dnssec wants --zone or --zone-from-name")?;
             Ok(USAGE)
         }
+        Err(Usage::NoZoneName { file }) => report_no_zone(rt, file),
+        Err(Usage::OtherZone { file, first }) => {
+            let (file, first) = (Shown(file), Shown(first));
+            eprintln!(rt;
+                "zonetext: {file}: its name is another zone's than {first}: give --zone"
+            )?;
+            Ok(USAGE)
+        }
         Err(Usage::Clock) => {
             eprintln!(rt; "zonetext: the clock can't be read: give --now")?;
-            Ok(TROUBLE)
+            Ok(EXIT_IO)
         }
         Err(Usage::Memory) => Err(io::Error::from(ErrorKind::OutOfMemory)),
     }

@@ -1,11 +1,11 @@
 //! Reads two files block by block, and compares them.
-use crate::blocks::{BLOCK, Ended, read_block};
+use crate::blocks::{BLOCK, FileError, read_block};
 use crate::progress::Progress;
 use std::alloc::Global;
 use std::fs::File;
 use std::io;
 use std::io::Read;
-use zonetext_lib::blocks::Halt;
+use zonetext_lib::blocks::ChunkError;
 use zonetext_lib::comparer::{Comparer, Side};
 use zonetext_lib::diff::Comparison;
 
@@ -16,23 +16,23 @@ fn fill<R: Read>(
     side: Side,
     block: &mut [u8],
     progress: &mut Progress,
-) -> Result<bool, (Side, Ended)> {
+) -> Result<bool, (Side, FileError)> {
     for _ in 0..u64::MAX {
         let count = match read_block(reader, block) {
             Ok(0) => return Ok(true),
             Ok(count) => count.min(block.len()),
-            Err(error) => return Err((side, Ended::Read(error))),
+            Err(error) => return Err((side, FileError::Read(error))),
         };
         if let Err(error) = progress.read(count) {
-            return Err((side, Ended::Write(error)));
+            return Err((side, FileError::Write(error)));
         }
         match comparer.add(side, &block[..count]) {
             Ok(true) => return Ok(false),
             Ok(false) => {}
-            Err(halt) => return Err((side, Ended::Halt(halt))),
+            Err(halt) => return Err((side, FileError::ChunkError(halt))),
         }
     }
-    Err((side, Ended::Halt(Halt::TooLong)))
+    Err((side, FileError::ChunkError(ChunkError::TooLong)))
 }
 
 /// Compares two readers. Reads on in each that holds less than two entries, until both have two
@@ -42,9 +42,9 @@ fn compare_readers<R: Read, S: Read>(
     first: &mut R,
     second: &mut S,
     progress: &mut Progress,
-) -> Result<Comparison, (Side, Ended)> {
+) -> Result<Comparison, (Side, FileError)> {
     let Ok(mut block) = vec![in rt.alloc(); 0; BLOCK] else {
-        return Err((Side::First, Ended::Halt(Halt::OutOfMemory)));
+        return Err((Side::First, FileError::ChunkError(ChunkError::OutOfMemory)));
     };
     let block = block.as_mut_slice();
     let mut comparer = Comparer::new(rt.alloc());
@@ -61,16 +61,16 @@ fn compare_readers<R: Read, S: Read>(
         if !wants_first && !wants_second {
             return Ok(comparer.finish());
         }
-        comparer.let_go();
+        comparer.discard_read();
     }
-    Err((Side::First, Ended::Halt(Halt::TooLong)))
+    Err((Side::First, FileError::ChunkError(ChunkError::TooLong)))
 }
 
 /// Opens a file.
-fn open(rt: &HostRuntime, file: &str, side: Side) -> Result<File, (Side, Ended)> {
+fn open(rt: &HostRuntime, file: &str, side: Side) -> Result<File, (Side, FileError)> {
     match File::open(rt, file) {
         Ok(file) => Ok(file),
-        Err(error) => Err((side, Ended::Read(error))),
+        Err(error) => Err((side, FileError::Read(error))),
     }
 }
 
@@ -80,7 +80,7 @@ pub fn compare_files(
     first: &str,
     second: &str,
     progress: &mut Progress,
-) -> Result<Comparison, (Side, Ended)> {
+) -> Result<Comparison, (Side, FileError)> {
     if first == "-" && second == "-" {
         return compare_readers(rt, &mut rt.stdin(), &mut io::empty(), progress);
     }

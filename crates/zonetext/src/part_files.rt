@@ -1,6 +1,6 @@
 //! Files that are written together, all of them or none.
 use crate::blocks::BLOCK;
-use crate::stop::Stop;
+use crate::stop::RunError;
 use std::alloc::{AllocError, Global};
 use std::fs::{File, Files, OpenFile, OpenOptions};
 use std::io;
@@ -57,10 +57,10 @@ fn create(rt: &HostRuntime, path: &str) -> io::Result<File> {
 }
 
 /// Returns the error of a file that can't be created.
-fn stop_at(rt: &HostRuntime, path: &str, error: io::Error) -> Stop {
+fn stop_at(rt: &HostRuntime, path: &str, error: io::Error) -> RunError {
     match String::from_str(rt.alloc(), path) {
-        Ok(file) => Stop::Create { file, error },
-        Err(_) => Stop::OutOfMemory,
+        Ok(file) => RunError::Create { file, error },
+        Err(_) => RunError::OutOfMemory,
     }
 }
 
@@ -138,7 +138,7 @@ impl<'p> PartFiles<'p> {
     }
 
     /// Ends the file before, and begins the next, under its temporary name.
-    pub fn begin(&mut self) -> Result<(), Stop> {
+    pub fn begin(&mut self) -> Result<(), RunError> {
         self.finish()?;
         let path = self.path(self.paths.len())?;
         let beside = with_suffix(self.rt.alloc(), path.as_str(), NEW)?;
@@ -152,7 +152,7 @@ impl<'p> PartFiles<'p> {
 
     /// Creates the file with the last name. If that fails, the name is dropped, since the file of
     /// that name is not ours.
-    fn create_last(&mut self) -> Result<(), Stop> {
+    fn create_last(&mut self) -> Result<(), RunError> {
         let Some(beside) = self.besides.last() else {
             return Ok(());
         };
@@ -171,7 +171,7 @@ impl<'p> PartFiles<'p> {
     }
 
     /// Appends octets to the current file. Before the first file they are dropped.
-    pub fn write(&mut self, octets: &[u8]) -> Result<(), Stop> {
+    pub fn write(&mut self, octets: &[u8]) -> Result<(), RunError> {
         if self.open.is_none() {
             return Ok(());
         }
@@ -183,7 +183,7 @@ impl<'p> PartFiles<'p> {
     }
 
     /// Renames all files to their final names.
-    pub fn commit(&mut self) -> Result<(), Stop> {
+    pub fn commit(&mut self) -> Result<(), RunError> {
         self.finish()?;
         if self.paths.is_empty() {
             return Ok(());

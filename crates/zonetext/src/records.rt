@@ -1,18 +1,18 @@
 //! The command `records`: writes each record of zone files in full.
 use crate::lines::Lines;
-use crate::reading::{Reading, TakeEntry, give_entries};
-use crate::stop::{Stop, conclude};
+use crate::stop::{RunError, exit_status};
+use crate::visit::{Reading, TakeEntry, give_entries};
 use crate::zone_files::Entry;
-use dns_resource::record_of;
+use zone_record::record_of;
 use zone_set::push_record;
 
 impl TakeEntry for Lines<'_> {
-    fn take_entry(&mut self, entry: &Entry<'_>) -> Result<(), Stop> {
+    fn take_entry(&mut self, entry: &Entry<'_>) -> Result<(), RunError> {
         let Some(given) = entry.record()? else {
             return Ok(());
         };
         let Some(record) = record_of(&given) else {
-            return Err(Stop::Damaged);
+            return Err(RunError::Damaged);
         };
         push_record(&mut self.text, &record)?;
         self.flush_block()?;
@@ -26,6 +26,6 @@ pub fn run(rt: &HostRuntime, files: &[&str], reading: &Reading<'_>) -> u8 {
     let mut outcome = give_entries(rt, files, reading, Lines::new(rt));
     match outcome.taker.flush() {
         Ok(()) => outcome.status,
-        Err(error) => conclude(rt, "-", Stop::Write(error)),
+        Err(error) => exit_status(rt, "-", RunError::Write(error)),
     }
 }

@@ -1,8 +1,8 @@
 //! The types of rejected entries.
-use dns_fields::RecordError;
-use dns_heads::{class_word, type_word};
-use dns_kinds::RecordType;
-use dns_split::entry_tokens::EntryToken;
+use dns_lexer::entry_tokens::EntryToken;
+use rdata_fields::RecordError;
+use rdata_values::RecordType;
+use zone_reader::{class_word, type_word};
 
 /// Returns whether a token may come before the type of a record: a class, or a word that begins
 /// with a digit.

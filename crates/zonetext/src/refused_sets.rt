@@ -1,7 +1,7 @@
 //! The RRsets with a rejected entry.
-use crate::stop::Stop;
-use dns_kinds::RecordType;
+use crate::stop::RunError;
 use dns_wire::Name;
+use rdata_values::RecordType;
 use std::alloc::Global;
 use zone_rules::RrsetName;
 
@@ -38,15 +38,15 @@ impl RefusedSets {
     }
 
     /// Returns the owner of an RRset. Fails with `Damaged` if its octets are missing.
-    fn owner(&self, row: Row) -> Result<&[u8], Stop> {
+    fn owner(&self, row: Row) -> Result<&[u8], RunError> {
         match self.octets.as_slice().get(row.start..row.end) {
             Some(octets) => Ok(octets),
-            None => Err(Stop::Damaged),
+            None => Err(RunError::Damaged),
         }
     }
 
     /// Returns whether an RRset was added last.
-    fn is_last(&self, owner: &[u8], rtype: RecordType) -> Result<bool, Stop> {
+    fn is_last(&self, owner: &[u8], rtype: RecordType) -> Result<bool, RunError> {
         match self.rows.last() {
             Some(last) => Ok(last.rtype == rtype && self.owner(*last)? == owner),
             None => Ok(false),
@@ -54,7 +54,7 @@ impl RefusedSets {
     }
 
     /// Adds an RRset, unless it was added last.
-    pub fn add(&mut self, owner: &[u8], rtype: RecordType) -> Result<(), Stop> {
+    pub fn add(&mut self, owner: &[u8], rtype: RecordType) -> Result<(), RunError> {
         if self.is_last(owner, rtype)? {
             return Ok(());
         }
@@ -66,11 +66,11 @@ impl RefusedSets {
     }
 
     /// Returns the RRsets in canonical order.
-    pub fn sorted(&self) -> Result<Vec<RrsetName<'_>>, Stop> {
+    pub fn sorted(&self) -> Result<Vec<RrsetName<'_>>, RunError> {
         let mut sets = Vec::with_capacity(self.alloc, self.rows.len())?;
         for row in &self.rows {
             let Ok(owner) = Name::from_octets(self.owner(*row)?) else {
-                return Err(Stop::Damaged);
+                return Err(RunError::Damaged);
             };
             sets.push(RrsetName {
                 owner,

@@ -1,9 +1,9 @@
 //! Reports findings.
 use crate::exceptions::Exceptions;
 use crate::machine::{Before, Format};
-use crate::stop::Stop;
+use crate::stop::RunError;
 use crate::waiting::Waiting;
-use dns_split::position::Position;
+use dns_lexer::position::Position;
 use std::alloc::AllocError;
 use std::io::Write;
 use zonetext_report::code::{Code, Severity};
@@ -27,7 +27,7 @@ pub enum Form {
 
 /// The span of a finding: from a column on to before another.
 #[derive(Clone, Copy)]
-pub struct Spot<'s> {
+pub struct FindingLocation<'s> {
     pub file: &'s str,
     /// Number of files that were opened before it.
     pub number: usize,
@@ -128,7 +128,7 @@ impl<'a> Reporter<'a> {
     }
 
     /// Writes what was appended.
-    fn write(&mut self) -> Result<(), Stop> {
+    fn write(&mut self) -> Result<(), RunError> {
         if self.writes_comments {
             return self.write_comments();
         }
@@ -142,7 +142,7 @@ impl<'a> Reporter<'a> {
     }
 
     /// Writes what was appended to standard output, as comments.
-    fn write_comments(&mut self) -> Result<(), Stop> {
+    fn write_comments(&mut self) -> Result<(), RunError> {
         let mut comments = Vec::new(self.rt.alloc());
         push_comments(self.out.as_slice(), &mut comments)?;
         self.rt.stdout().write_all(comments.as_slice())?;
@@ -151,7 +151,7 @@ impl<'a> Reporter<'a> {
     }
 
     /// Writes the findings that wait, in the order of the files, lines and columns.
-    pub fn flush(&mut self) -> Result<(), Stop> {
+    pub fn flush(&mut self) -> Result<(), RunError> {
         let Some(mut waiting) = self.waiting.take() else {
             return Ok(());
         };
@@ -188,7 +188,12 @@ impl<'a> Reporter<'a> {
     /// Counts a finding, and returns its severity if it is to be shown. A finding that an exception
     /// in effect names is omitted. A finding that keeps a record from being read is an error, and is
     /// not omitted.
-    pub fn count(&mut self, spot: Spot<'_>, code: Code, is_refused: bool) -> Option<Severity> {
+    pub fn count(
+        &mut self,
+        spot: FindingLocation<'_>,
+        code: Code,
+        is_refused: bool,
+    ) -> Option<Severity> {
         let can_be_excepted = !is_refused && !code.is_text_fault();
         if can_be_excepted && self.exceptions.excepts(code) {
             return None;
@@ -206,10 +211,10 @@ impl<'a> Reporter<'a> {
     pub fn show(
         &mut self,
         severity: Severity,
-        spot: Spot<'_>,
+        spot: FindingLocation<'_>,
         code: Code,
         said: Said<'_>,
-    ) -> Result<(), Stop> {
+    ) -> Result<(), RunError> {
         let finding = Finding {
             file: spot.file,
             severity,
@@ -234,11 +239,11 @@ impl<'a> Reporter<'a> {
     /// Counts and shows a finding.
     pub fn tell(
         &mut self,
-        spot: Spot<'_>,
+        spot: FindingLocation<'_>,
         code: Code,
         is_refused: bool,
         said: Said<'_>,
-    ) -> Result<(), Stop> {
+    ) -> Result<(), RunError> {
         match self.count(spot, code, is_refused) {
             Some(severity) => self.show(severity, spot, code, said),
             None => Ok(()),
@@ -268,7 +273,7 @@ impl<'a> Reporter<'a> {
     }
 
     /// Writes what comes after the findings of a file in a format for other programs.
-    pub fn end_file(&mut self) -> Result<(), Stop> {
+    pub fn end_file(&mut self) -> Result<(), RunError> {
         // (what is left of a finding for which memory was short)
         self.out.clear();
         self.before.push_file_end(&mut self.out)?;
@@ -277,7 +282,7 @@ impl<'a> Reporter<'a> {
 
     /// Reports the number of findings, unless it is 0. In a format for other programs it is
     /// reported only if a finding is not shown.
-    pub fn summarize(&mut self) -> Result<(), Stop> {
+    pub fn summarize(&mut self) -> Result<(), RunError> {
         let is_silent = matches!(self.form, Form::Machine(_)) && self.tally.hidden() == 0;
         if is_silent || self.writes_comments {
             return Ok(());

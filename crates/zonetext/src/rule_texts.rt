@@ -1,24 +1,24 @@
 //! The messages of findings about the records of a zone.
-use crate::held_zone::{Stand, StandingRecord};
+use crate::held_zone::{RecordLocation, StandingRecord};
 use crate::subjects::Text;
-use dns_kinds::RecordType;
 use dns_octets::AsOctets;
 use dns_wire::{DisplayWithDot, Name};
 use finding_texts::similar::edits_between;
+use rdata_values::RecordType;
 use std::alloc::{AllocError, Global};
+use zone_check::codes::code_of_rule;
+use zone_check::texts::code_text;
 use zone_rules::hosts::dname_over_host;
 use zone_rules::names::{is_name_below, view};
 use zone_rules::sorted::owned_by;
 use zone_rules::{Finding, Rule, SortedRecords, SortedSets};
 use zone_set::TaggedOctets;
-use zonetext_records::codes::code_of_rule;
-use zonetext_records::texts::code_text;
 
 /// The records of a zone, and its RRsets with a rejected entry.
 #[derive(Clone, Copy)]
 pub struct ZoneRecords<'z, 'h, Origin: AsOctets> {
     pub zone: &'z Name<Origin>,
-    pub sorted: &'z SortedRecords<'z, TaggedOctets<'h, Stand>, &'h [u8]>,
+    pub sorted: &'z SortedRecords<'z, TaggedOctets<'h, RecordLocation>, &'h [u8]>,
     pub refused: &'z SortedSets<'z>,
 }
 
@@ -31,13 +31,14 @@ pub fn is_at_target(rule: Rule) -> bool {
             | Rule::HostIsAlias
             | Rule::HostBelowDname
             | Rule::HostMissing
+            | Rule::CnameTargetMissing
     )
 }
 
-/// Returns the target of a record: the host of NS, MX and SRV.
+/// Returns the target of a record: the host of NS, MX and SRV, and that of CNAME.
 fn target_of<'r>(record: &'r StandingRecord<'_>) -> Option<Name<&'r [u8]>> {
     let place = match record.data.rtype() {
-        RecordType::NS => 0,
+        RecordType::NS | RecordType::CNAME => 0,
         RecordType::MX => 1,
         RecordType::SRV => 3,
         _ => return None,
@@ -103,8 +104,8 @@ fn relative_text(
     String::from_str(alloc, text.as_str().get(..count).unwrap_or(""))
 }
 
-/// Returns the message about a target without an address. If `may_search` is set, its help has the
-/// name that was probably meant.
+/// Returns the message about a target without an address, or without records. If `may_search` is
+/// set, its help has the name that was probably meant.
 fn missing_target<Origin: AsOctets>(
     alloc: Global,
     records: &ZoneRecords<'_, '_, Origin>,
@@ -119,6 +120,9 @@ fn missing_target<Origin: AsOctets>(
     let name = DisplayWithDot::new(&target);
     let message = match rule {
         Rule::HostMissing => format!(in alloc; "{rtype} target {name} has no address in the zone")?,
+        Rule::CnameTargetMissing => {
+            format!(in alloc; "{rtype} target {name} has no records in the zone")?
+        }
         Rule::NsAddress => format!(in alloc; "name server {name} has no address in the zone")?,
         _ => format!(in alloc; "name server {name} below the delegation has no address")?,
     };
@@ -139,7 +143,7 @@ fn missing_target<Origin: AsOctets>(
 /// Returns the message about a target below a DNAME.
 fn dname_target<'r, 'h>(
     alloc: Global,
-    sorted: &'r SortedRecords<'r, TaggedOctets<'h, Stand>, &'h [u8]>,
+    sorted: &'r SortedRecords<'r, TaggedOctets<'h, RecordLocation>, &'h [u8]>,
     refused: &'r SortedSets<'r>,
     record: &'r StandingRecord<'h>,
 ) -> Result<Option<Text>, AllocError> {
@@ -163,7 +167,7 @@ fn cname_target(alloc: Global, record: &StandingRecord<'_>) -> Result<Option<Tex
 }
 
 /// Returns whether a position is before another, in the same file or a later one.
-fn is_before(left: Stand, right: Stand) -> bool {
+fn is_before(left: RecordLocation, right: RecordLocation) -> bool {
     let (line, column) = (left.position.line, left.position.column);
     let (other_line, other_column) = (right.position.line, right.position.column);
     left.file < right.file
@@ -175,7 +179,7 @@ fn is_before(left: Stand, right: Stand) -> bool {
 fn first_cname<Origin: AsOctets>(
     records: &ZoneRecords<'_, '_, Origin>,
     record: &StandingRecord<'_>,
-) -> Option<Stand> {
+) -> Option<RecordLocation> {
     let mut first = record.owner.as_octets().tag;
     let own = first;
     for other in owned_by(records.sorted, &view(&record.owner)) {
@@ -215,7 +219,7 @@ fn own_text<'r, 'h, Origin: AsOctets>(
     may_search: bool,
 ) -> Result<Option<Text>, AllocError> {
     match rule {
-        Rule::HostMissing | Rule::NsAddress | Rule::MissingGlue => {
+        Rule::HostMissing | Rule::NsAddress | Rule::MissingGlue | Rule::CnameTargetMissing => {
             missing_target(alloc, records, record, rule, may_search)
         }
         Rule::HostIsAlias => cname_target(alloc, record),

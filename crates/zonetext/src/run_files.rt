@@ -1,13 +1,13 @@
 //! Sorted runs of records in a file without a name.
 use crate::blocks::BLOCK;
-use crate::stop::Stop;
+use crate::stop::RunError;
 use dns_octets::AsOctets;
-use dns_resource::Record;
 use std::alloc::{AllocError, Global};
 use std::fs::{DirBuilder, File, Files, OpenFile, OpenOptions, remove_dir};
 use std::io::ErrorKind;
 use std::os::unix::fs::{DirBuilderExt, FileExt, OpenOptionsExt};
 use std::{env, io, process};
+use zone_record::Record;
 use zone_set::push_run_record;
 
 /// The permissions of a directory: only its owner may enter it.
@@ -25,7 +25,7 @@ pub trait TakeRecord {
     fn take_record<Owner: AsOctets, Octets: AsOctets>(
         &mut self,
         one: &Record<Owner, Octets>,
-    ) -> Result<(), Stop>;
+    ) -> Result<(), RunError>;
 }
 
 /// The location of a sorted run of records in a file.
@@ -99,19 +99,19 @@ fn create_nameless(rt: &HostRuntime, parent: &str) -> io::Result<File> {
 }
 
 /// Returns the error of runs that can't be written, or read again.
-fn stop_in(rt: &HostRuntime, folder: &str, error: io::Error) -> Stop {
+fn stop_in(rt: &HostRuntime, folder: &str, error: io::Error) -> RunError {
     if error.kind() == ErrorKind::OutOfMemory {
-        return Stop::OutOfMemory;
+        return RunError::OutOfMemory;
     }
     match String::from_str(rt.alloc(), folder) {
-        Ok(folder) => Stop::Runs { folder, error },
-        Err(_) => Stop::OutOfMemory,
+        Ok(folder) => RunError::Runs { folder, error },
+        Err(_) => RunError::OutOfMemory,
     }
 }
 
 impl<'r> RunFile<'r> {
     /// Returns a file without runs, below the directory for temporary files.
-    pub fn create(rt: &'r HostRuntime) -> Result<RunFile<'r>, Stop> {
+    pub fn create(rt: &'r HostRuntime) -> Result<RunFile<'r>, RunError> {
         let folder = match env::temp_dir(rt) {
             Ok(folder) => folder.into_string(),
             Err(error) => return Err(stop_in(rt, "TMPDIR", error)),
@@ -137,17 +137,17 @@ impl<'r> RunFile<'r> {
     }
 
     /// Returns the error of runs that can't be written, or read again.
-    fn stop(&self, error: io::Error) -> Stop {
+    fn stop(&self, error: io::Error) -> RunError {
         stop_in(self.rt, self.folder.as_str(), error)
     }
 
     /// Returns the error of runs that differ from those that were written.
-    pub fn damaged(&self) -> Stop {
+    pub fn damaged(&self) -> RunError {
         self.stop(io::Error::from(ErrorKind::InvalidData))
     }
 
     /// Writes the octets so far.
-    fn flush(&mut self) -> Result<(), Stop> {
+    fn flush(&mut self) -> Result<(), RunError> {
         if let Err(error) = self.file.write_all_at(self.out.as_slice(), self.len) {
             return Err(self.stop(error));
         }
@@ -157,7 +157,7 @@ impl<'r> RunFile<'r> {
     }
 
     /// Ends the current run.
-    pub fn end_run(&mut self) -> Result<(), Stop> {
+    pub fn end_run(&mut self) -> Result<(), RunError> {
         self.flush()?;
         self.runs.push(Run {
             start: self.start,
@@ -170,7 +170,7 @@ impl<'r> RunFile<'r> {
     }
 
     /// Reads octets that were written.
-    pub fn read(&self, octets: &mut [u8], start: u64) -> Result<(), Stop> {
+    pub fn read(&self, octets: &mut [u8], start: u64) -> Result<(), RunError> {
         match self.file.read_exact_at(octets, start) {
             Ok(()) => Ok(()),
             Err(error) => Err(self.stop(error)),
@@ -182,7 +182,7 @@ impl TakeRecord for RunFile<'_> {
     fn take_record<Owner: AsOctets, Octets: AsOctets>(
         &mut self,
         one: &Record<Owner, Octets>,
-    ) -> Result<(), Stop> {
+    ) -> Result<(), RunError> {
         push_run_record(&mut self.out, one)?;
         self.count = self.count.saturating_add(1);
         if self.out.len() >= BLOCK {

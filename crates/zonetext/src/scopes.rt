@@ -58,6 +58,11 @@ fn is_of_zone(code: Code) -> bool {
             | Code::KeyProtocol
             | Code::KeyAlgorithm
             | Code::DsWithoutNs
+            | Code::CnameTargetMissing
+            | Code::CnameLoop
+            | Code::TwoSpf
+            | Code::WeakDigest
+            | Code::SingleNs
     )
 }
 

@@ -2,7 +2,7 @@
 use crate::open_file::{behind, first_place};
 use crate::options::{USAGE, seconds_in};
 use crate::shown::Shown;
-use crate::stop::TROUBLE;
+use crate::stop::EXIT_IO;
 use std::alloc::{AllocError, AllocFailed, Global};
 use std::fs::{canonicalize, exists};
 use std::io::ErrorKind;
@@ -52,12 +52,12 @@ impl<T: Drop> From<AllocFailed<T>> for Unusable {
 
 impl Unusable {
     /// Reports why the settings of a file can't be used, and returns the status.
-    pub fn conclude(self, rt: &HostRuntime, path: &str) -> u8 {
+    pub fn exit_status(self, rt: &HostRuntime, path: &str) -> u8 {
         let path = Shown(path);
         match self {
             Unusable::Read(error) => {
                 let _ = eprintln!(rt; "zonetext: {path}: {error}");
-                TROUBLE
+                EXIT_IO
             }
             Unusable::Text(text) => {
                 let text = Shown(text.as_str());
@@ -66,7 +66,7 @@ impl Unusable {
             }
             Unusable::OutOfMemory => {
                 let _ = eprintln!(rt; "zonetext: {path}: not enough memory");
-                TROUBLE
+                EXIT_IO
             }
         }
     }

@@ -1,7 +1,7 @@
 //! Findings about the times of signatures: equal ones are reported together.
-use crate::held_zone::{Stand, StandingRecord};
+use crate::held_zone::{RecordLocation, StandingRecord};
 use crate::subjects::Text;
-use dns_kinds::{Date, RecordType};
+use rdata_values::{Date, RecordType};
 use std::alloc::{AllocError, Global};
 use std::cmp::Ordering;
 use zone_dnssec::{SecurityFinding, SecurityRule};
@@ -21,7 +21,7 @@ pub struct Group {
     seconds: u32,
     /// Index of the first of the records, in the order of the files.
     pub record: usize,
-    stand: Stand,
+    stand: RecordLocation,
     count: usize,
 }
 

@@ -1,9 +1,9 @@
 //! Finds data of records that looks like a slip.
 use crate::zone_files::Entry;
-use dns_kinds::RecordType;
-use dns_reader::EntryRead;
-use dns_zonefile::BlockRefusal;
-use zonetext_records::data::{has_empty_target, has_key_algorithm_zero, has_other_match_length};
+use rdata_values::RecordType;
+use zone_check::data::{has_empty_target, has_key_algorithm_zero, has_other_match_length};
+use zone_reader::ParsedEntry;
+use zone_stream::BlockRefusal;
 use zonetext_report::code::Code;
 
 /// The key of `ohttp`.
@@ -57,7 +57,7 @@ fn has_ohttp_value(rtype: RecordType, data: &[u8]) -> bool {
 /// Returns whether the type of an entry is known, and has service parameters.
 pub fn is_of_parameters(entry: &Entry<'_>) -> bool {
     match entry.read {
-        Ok(EntryRead::Record { rtype, .. }) => has_parameters(*rtype),
+        Ok(ParsedEntry::Record { rtype, .. }) => has_parameters(*rtype),
         Err(BlockRefusal::Entry(error)) => error.rtype.is_some_and(has_parameters),
         _ => false,
     }

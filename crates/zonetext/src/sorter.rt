@@ -1,9 +1,9 @@
 //! Sorts records into canonical order, in memory and, if they don't fit, in runs on disk.
 use crate::merging::merge;
 use crate::run_files::{RunFile, TakeRecord};
-use crate::stop::Stop;
-use dns_resource::Record;
+use crate::stop::RunError;
 use std::alloc::Global;
+use zone_record::Record;
 use zone_set::{CanonicalSet, ZoneSet, push_run_record, take_run_record};
 
 /// Number of octets that a record needs while it is sorted, besides its own.
@@ -45,7 +45,7 @@ fn sorted<'l>(
     alloc: Global,
     octets: &'l [u8],
     count: usize,
-) -> Result<Option<(LentSet<'l>, usize)>, Stop> {
+) -> Result<Option<(LentSet<'l>, usize)>, RunError> {
     let mut set = ZoneSet::with_capacity(alloc, count)?;
     let mut rest = octets;
     for _ in 0..count {
@@ -60,12 +60,12 @@ fn sorted<'l>(
     }
     match CanonicalSet::from_set(set) {
         Ok(made) => Ok(Some(made)),
-        Err(_) => Err(Stop::OutOfMemory),
+        Err(_) => Err(RunError::OutOfMemory),
     }
 }
 
 /// Passes records in their order to a consumer.
-fn give<T: TakeRecord>(set: &LentSet<'_>, taker: &mut T) -> Result<(), Stop> {
+fn give<T: TakeRecord>(set: &LentSet<'_>, taker: &mut T) -> Result<(), RunError> {
     for one in set.as_slice() {
         taker.take_record(one)?;
     }
@@ -93,7 +93,7 @@ impl<'s> Sorter<'s> {
     }
 
     /// Adds a record.
-    pub fn add(&mut self, one: &Record<&[u8], &[u8]>) -> Result<(), Stop> {
+    pub fn add(&mut self, one: &Record<&[u8], &[u8]>) -> Result<(), RunError> {
         let more = one
             .owner
             .len()
@@ -112,10 +112,10 @@ impl<'s> Sorter<'s> {
 
     /// Passes the records in memory to a consumer in canonical order, only the first of duplicates,
     /// and drops them.
-    fn give_held<T: TakeRecord>(&mut self, taker: &mut T) -> Result<(), Stop> {
+    fn give_held<T: TakeRecord>(&mut self, taker: &mut T) -> Result<(), RunError> {
         let Some((set, duplicates)) = sorted(self.rt.alloc(), self.octets.as_slice(), self.count)?
         else {
-            return Err(Stop::Damaged);
+            return Err(RunError::Damaged);
         };
         give(&set, taker)?;
         self.duplicates = self.duplicates.saturating_add(duplicates as u64);
@@ -123,7 +123,7 @@ impl<'s> Sorter<'s> {
     }
 
     /// Writes the records in memory as a run.
-    fn write_run(&mut self) -> Result<(), Stop> {
+    fn write_run(&mut self) -> Result<(), RunError> {
         let mut file = match self.file.take() {
             Some(file) => file,
             None => RunFile::create(self.rt)?,
@@ -142,7 +142,7 @@ impl<'s> Sorter<'s> {
     }
 
     /// Merges runs to fewer, in another file.
-    fn merge_some(&mut self, file: RunFile<'s>) -> Result<RunFile<'s>, Stop> {
+    fn merge_some(&mut self, file: RunFile<'s>) -> Result<RunFile<'s>, RunError> {
         let mut next = RunFile::create(self.rt)?;
         for runs in file.runs().chunks(WIDTH) {
             let duplicates = merge(self.rt.alloc(), &file, runs, self.block(), &mut next)?;
@@ -154,7 +154,7 @@ impl<'s> Sorter<'s> {
 
     /// Passes all records to a consumer in canonical order, only the first one of each owner,
     /// class, type and data. Returns the number of duplicates that were omitted.
-    pub fn finish<T: TakeRecord>(mut self, taker: &mut T) -> Result<u64, Stop> {
+    pub fn finish<T: TakeRecord>(mut self, taker: &mut T) -> Result<u64, RunError> {
         if self.file.is_none() {
             self.give_held(taker)?;
             return Ok(self.duplicates);
@@ -162,7 +162,7 @@ impl<'s> Sorter<'s> {
         self.write_run()?;
         self.octets = Vec::new(self.rt.alloc());
         let Some(mut file) = self.file.take() else {
-            return Err(Stop::Damaged);
+            return Err(RunError::Damaged);
         };
         for _ in 0..PASSES {
             if file.runs().len() > WIDTH {

@@ -1,12 +1,12 @@
 //! The records of zone files in canonical order, with bounded memory.
 use crate::gathered::Lowerer;
-use crate::reading::{Outcome, Reading, TakeEntry, give_entries};
 use crate::run_files::TakeRecord;
 use crate::sorter::Sorter;
-use crate::stop::Stop;
+use crate::stop::RunError;
+use crate::visit::{Outcome, Reading, TakeEntry, give_entries};
 use crate::zone_files::Entry;
-use dns_kinds::RecordType;
-use dns_resource::record_of;
+use rdata_values::RecordType;
+use zone_record::record_of;
 use zone_set::Selection;
 
 /// The memory for SOAs is that for all records, divided by this number.
@@ -35,7 +35,7 @@ impl<'s> Sorting<'s> {
 
     /// Passes the records to a consumer in canonical order, the SOAs first, only the first one of
     /// each owner, class, type and data. Returns the number of duplicates that were omitted.
-    pub fn finish<T: TakeRecord>(self, taker: &mut T) -> Result<u64, Stop> {
+    pub fn finish<T: TakeRecord>(self, taker: &mut T) -> Result<u64, RunError> {
         let Sorting { soas, others, .. } = self;
         let duplicates = soas.finish(taker)?;
         Ok(duplicates.saturating_add(others.finish(taker)?))
@@ -43,7 +43,7 @@ impl<'s> Sorting<'s> {
 }
 
 impl TakeEntry for Sorting<'_> {
-    fn take_entry(&mut self, entry: &Entry<'_>) -> Result<(), Stop> {
+    fn take_entry(&mut self, entry: &Entry<'_>) -> Result<(), RunError> {
         let Some(given) = entry.record()? else {
             return Ok(());
         };
@@ -52,7 +52,7 @@ impl TakeEntry for Sorting<'_> {
         }
         let lowered = self.lowerer.lower(given)?;
         let Some(one) = record_of(&lowered) else {
-            return Err(Stop::Damaged);
+            return Err(RunError::Damaged);
         };
         if lowered.rtype == RecordType::SOA {
             self.soas.add(&one)

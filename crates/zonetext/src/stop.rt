@@ -1,16 +1,16 @@
 //! Why reading or writing stops.
 use crate::shown::Shown;
-use dns_zonefile::AddError;
 use std::alloc::{AllocError, AllocFailed};
 use std::io;
 use std::io::ErrorKind;
+use zone_stream::AddError;
 
 /// The status if something could not be read or written.
-pub const TROUBLE: u8 = 3;
+pub const EXIT_IO: u8 = 3;
 
 /// Why reading the entries of files stops.
 #[derive(Drop)]
-pub enum Stop {
+pub enum RunError {
     /// A file can't be read.
     Read { file: String, error: io::Error },
     /// Standard output, standard error, or a file can't be written.
@@ -27,55 +27,55 @@ pub enum Stop {
     TooLong,
 }
 
-impl From<AllocError> for Stop {
-    fn from(_error: AllocError) -> Stop {
-        Stop::OutOfMemory
+impl From<AllocError> for RunError {
+    fn from(_error: AllocError) -> RunError {
+        RunError::OutOfMemory
     }
 }
 
-impl<T: Drop> From<AllocFailed<T>> for Stop {
-    fn from(_error: AllocFailed<T>) -> Stop {
-        Stop::OutOfMemory
+impl<T: Drop> From<AllocFailed<T>> for RunError {
+    fn from(_error: AllocFailed<T>) -> RunError {
+        RunError::OutOfMemory
     }
 }
 
-impl From<AddError> for Stop {
-    fn from(error: AddError) -> Stop {
+impl From<AddError> for RunError {
+    fn from(error: AddError) -> RunError {
         match error {
-            AddError::OutOfMemory => Stop::OutOfMemory,
-            _ => Stop::TooLong,
+            AddError::OutOfMemory => RunError::OutOfMemory,
+            _ => RunError::TooLong,
         }
     }
 }
 
-impl From<io::Error> for Stop {
-    fn from(error: io::Error) -> Stop {
+impl From<io::Error> for RunError {
+    fn from(error: io::Error) -> RunError {
         if error.kind() == ErrorKind::OutOfMemory {
-            Stop::OutOfMemory
+            RunError::OutOfMemory
         } else {
-            Stop::Write(error)
+            RunError::Write(error)
         }
     }
 }
 
 /// Reports that something could not be read or written, and returns the status. If the output was
 /// closed, nothing is reported.
-pub fn conclude(rt: &HostRuntime, file: &str, stop: Stop) -> u8 {
+pub fn exit_status(rt: &HostRuntime, file: &str, stop: RunError) -> u8 {
     let name = Shown(file);
     let _ = match stop {
-        Stop::Read { file, error } | Stop::Create { file, error } => {
+        RunError::Read { file, error } | RunError::Create { file, error } => {
             let name = Shown(file.as_str());
             eprintln!(rt; "zonetext: {name}: {error}")
         }
-        Stop::Write(error) if error.kind() == ErrorKind::BrokenPipe => Ok(()),
-        Stop::Write(error) => eprintln!(rt; "zonetext: {error}"),
-        Stop::Runs { folder, error } => {
+        RunError::Write(error) if error.kind() == ErrorKind::BrokenPipe => Ok(()),
+        RunError::Write(error) => eprintln!(rt; "zonetext: {error}"),
+        RunError::Runs { folder, error } => {
             let folder = Shown(folder.as_str());
             eprintln!(rt; "zonetext: sorted runs below {folder}: {error}")
         }
-        Stop::Damaged => eprintln!(rt; "zonetext: {name}: records in memory are damaged"),
-        Stop::OutOfMemory => eprintln!(rt; "zonetext: {name}: not enough memory"),
-        Stop::TooLong => eprintln!(rt; "zonetext: {name}: more octets than can be counted"),
+        RunError::Damaged => eprintln!(rt; "zonetext: {name}: records in memory are damaged"),
+        RunError::OutOfMemory => eprintln!(rt; "zonetext: {name}: not enough memory"),
+        RunError::TooLong => eprintln!(rt; "zonetext: {name}: more octets than can be counted"),
     };
-    TROUBLE
+    EXIT_IO
 }

@@ -1,17 +1,16 @@
 //! The owner and the type of the record that a finding is about, as they are shown.
 use crate::reporter::Said;
 use crate::zone_files::Entry;
-use dns_heads::{directive_word, type_word};
-use dns_kinds::RecordType;
+use dns_lexer::entry_tokens::EntryToken;
 use dns_octets::AsOctets;
-use dns_reader::{EntryRead, NameBuffer};
-use dns_split::entry_tokens::EntryToken;
 use dns_wire::{DisplayWithDot, Name};
-use dns_zonefile::BlockRefusal;
 use finding_texts::word::push_word;
+use rdata_values::RecordType;
 use std::alloc::{AllocError, Global};
+use zone_check::names::ends_in_dot;
+use zone_reader::{NameBuffer, ParsedEntry, directive_word, type_word};
 use zone_rules::names::{is_name_below, view};
-use zonetext_records::names::ends_in_dot;
+use zone_stream::BlockRefusal;
 
 /// The owner and the type of the record that a finding is about. A text that is not known is empty.
 #[derive(Drop)]
@@ -237,7 +236,7 @@ impl Subject {
         zone: Option<&NameBuffer>,
     ) -> Result<Subject, AllocError> {
         match entry.read {
-            Ok(EntryRead::Record { rtype, .. }) => {
+            Ok(ParsedEntry::Record { rtype, .. }) => {
                 Subject::of_read(alloc, entry, Some(*rtype), zone)
             }
             Err(BlockRefusal::Entry(error)) => match tokens.first() {

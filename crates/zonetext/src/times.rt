@@ -1,7 +1,7 @@
 //! The times with which signatures are compared.
 use crate::options::{Usage, seconds_of};
 use clap::ArgMatches;
-use dns_kinds::Date;
+use rdata_values::Date;
 use std::time::{SystemTime, UNIX_EPOCH};
 use zone_dnssec::Times;
 
@@ -17,7 +17,7 @@ fn seconds_now<'o>(rt: &HostRuntime) -> Result<u32, Usage<'o>> {
 }
 
 /// Returns the instant of an option: by default the present one.
-fn instant_of<'o>(rt: &HostRuntime, text: Option<&'o str>) -> Result<u32, Usage<'o>> {
+pub fn instant_of<'o>(rt: &HostRuntime, text: Option<&'o str>) -> Result<u32, Usage<'o>> {
     let Some(value) = text else {
         return seconds_now(rt);
     };

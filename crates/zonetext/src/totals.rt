@@ -1,7 +1,7 @@
 //! What is written before and after the findings of all files.
 use crate::machine::{push_end, push_start};
 use crate::reporter::{Form, Reporter};
-use crate::stop::{Stop, conclude};
+use crate::stop::{RunError, exit_status};
 use std::io::Write;
 use zonetext_report::tally::Tally;
 
@@ -11,6 +11,8 @@ pub struct Totals {
     form: Form,
     /// Whether a finding was written.
     pub has_finding: bool,
+    /// Whether the files are those of many zones, whose number is reported otherwise.
+    pub is_of_zones: bool,
     /// Number of files.
     files: usize,
     tally: Tally,
@@ -22,9 +24,15 @@ impl Totals {
         Totals {
             form,
             has_finding: false,
+            is_of_zones: false,
             files: 0,
             tally: Tally::new(0),
         }
+    }
+
+    /// Returns the number of warnings.
+    pub fn warnings(&self) -> usize {
+        self.tally.warnings
     }
 
     /// Adds the findings of a file.
@@ -37,7 +45,7 @@ impl Totals {
     }
 
     /// Writes what comes before the findings of the first file.
-    fn write_start(&self, rt: &HostRuntime) -> Result<(), Stop> {
+    fn write_start(&self, rt: &HostRuntime) -> Result<(), RunError> {
         let Form::Machine(format) = self.form else {
             return Ok(());
         };
@@ -51,13 +59,13 @@ impl Totals {
     pub fn start(&self, rt: &HostRuntime) -> u8 {
         match self.write_start(rt) {
             Ok(()) => 0,
-            Err(stop) => conclude(rt, "-", stop),
+            Err(stop) => exit_status(rt, "-", stop),
         }
     }
 
     /// Writes what comes after the findings of the last file, or reports the number of files and
     /// findings, if there are several files and any findings.
-    fn write_end(&self, rt: &HostRuntime) -> Result<(), Stop> {
+    fn write_end(&self, rt: &HostRuntime) -> Result<(), RunError> {
         let mut out = Vec::new(rt.alloc());
         if let Form::Machine(format) = self.form {
             push_end(&mut out, format)?;
@@ -65,7 +73,7 @@ impl Totals {
             return Ok(());
         }
         self.tally.push_summary(&mut out)?;
-        if self.files < 2 || out.is_empty() {
+        if self.files < 2 || out.is_empty() || self.is_of_zones {
             return Ok(());
         }
         let files = self.files;
@@ -78,7 +86,7 @@ impl Totals {
     pub fn end(&self, rt: &HostRuntime) -> u8 {
         match self.write_end(rt) {
             Ok(()) => 0,
-            Err(stop) => conclude(rt, "-", stop),
+            Err(stop) => exit_status(rt, "-", stop),
         }
     }
 }

@@ -1,24 +1,23 @@
 //! The command `diff --nsupdate`: writes the changes from one zone to another as commands of
 //! nsupdate.
-use crate::changes::{UNFIT, tell_serial};
+use crate::changes::{UNFIT, report_serial};
 use crate::gathered::{Gathered, Gatherer, NumberedRecord, gather_by};
 use crate::lines::Lines;
-use crate::options::name_of;
-use crate::reading::Reading;
 use crate::shown::Shown;
-use crate::stop::{Stop, conclude};
+use crate::stop::{RunError, exit_status};
 use crate::update_lines::{is_long, push_without_ttl, record_text};
-use dns_kinds::{Class, RecordType};
+use crate::visit::Reading;
 use dns_octets::AsOctets;
-use dns_reader::NameBuffer;
-use dns_resource::Record;
-use dns_spelling::NameText;
+use rdata_tokens::NameText;
+use rdata_values::{Class, RecordType};
 use std::alloc::{AllocError, Global};
 use std::collections::BTreeMap;
 use std::io;
-use zone_digest::scope::is_in_zone;
+use zone_reader::NameBuffer;
+use zone_record::Record;
 use zone_rules::host_names::is_no_host_name;
 use zone_rules::zone_records::borrowed_record;
+use zone_set::scope::is_in_zone;
 use zone_set::{Change, Selection, TaggedOctets, changes_between};
 use zone_update::{
     Operation, UpdateError, allows_messages, in_one_rrset, is_sent, messages_of, push_operations,
@@ -128,10 +127,15 @@ fn has_mixed_ttls(rt: &HostRuntime, side: &Side<'_, '_>, work: Work) -> io::Resu
     Ok(true)
 }
 
-/// Returns the name of the zone: that of the option, or that of an SOA.
-fn zone_of(reading: &Reading<'_>, old: &Gathered, new: &Gathered) -> Option<NameBuffer> {
-    if let Some(origin) = reading.origin {
-        return name_of(origin);
+/// Returns the name of the zone: that of the option or of a file's name, or that of an SOA.
+fn zone_of(
+    reading: &Reading<'_>,
+    file: &str,
+    old: &Gathered,
+    new: &Gathered,
+) -> Option<NameBuffer> {
+    if reading.zone.is_set() {
+        return reading.zone.origin(file);
     }
     match (&old.seen, &new.seen) {
         (Some(seen), _) | (None, Some(seen)) => NameBuffer::from_labels((), &seen.zone).ok(),
@@ -155,7 +159,7 @@ fn has_unfit(
     rt: &HostRuntime,
     zone: &NameBuffer,
     operations: &[NumberedOperation<'_, '_>],
-) -> Result<bool, Stop> {
+) -> Result<bool, RunError> {
     for operation in operations {
         let one = operation.record();
         if !is_in_zone(&one.owner, zone) {
@@ -261,7 +265,7 @@ fn push_operation(
 fn write_messages(
     lines: &mut Lines<'_>,
     messages: &[Vec<NumberedOperation<'_, '_>>],
-) -> Result<(), Stop> {
+) -> Result<(), RunError> {
     for message in messages {
         for operation in message {
             push_operation(&mut lines.text, operation)?;
@@ -324,7 +328,7 @@ fn soas_of<'r, 'h>(
         let Some(one) = soa_of(rt, new)? else {
             return Ok(None);
         };
-        if tell_serial(rt, old.gathered, new.gathered)? {
+        if report_serial(rt, old.gathered, new.gathered)? {
             return Ok(None);
         }
         soas.added = Some(one);
@@ -445,7 +449,7 @@ fn write_commands(
     frame: &Frame<'_, '_>,
     changes: &[NumberedChange<'_, '_>],
     messages: &[Vec<NumberedOperation<'_, '_>>],
-) -> Result<(), Stop> {
+) -> Result<(), RunError> {
     let mut lines = Lines::new(rt);
     let omitted = left_out(rt.alloc(), changes, frame.work.has_keys)?;
     push_comments(&mut lines.text, &omitted, messages.len())?;
@@ -465,7 +469,7 @@ fn write_changes<'r, 'h>(
     rt: &HostRuntime,
     frame: &Frame<'r, 'h>,
     changes: &[NumberedChange<'r, 'h>],
-) -> Result<u8, Stop> {
+) -> Result<u8, RunError> {
     let operations = operations_of(rt.alloc(), changes, frame.work.has_keys)?;
     let operations = operations.as_slice();
     if has_unfit(rt, frame.zone, operations)? {
@@ -473,7 +477,7 @@ fn write_changes<'r, 'h>(
     }
     let messages = match frame.messages(rt.alloc(), operations) {
         Ok(messages) => messages,
-        Err(UpdateError::OutOfMemory) => return Err(Stop::OutOfMemory),
+        Err(UpdateError::OutOfMemory) => return Err(RunError::OutOfMemory),
         Err(UpdateError::TooLarge) => {
             eprintln!(rt;
                 "zonetext: changes at one name, or at the zone and its name servers, exceed a message of {MESSAGE} octets"
@@ -500,7 +504,7 @@ fn write_update<'r, 'h>(
     class: Class,
     work: Work,
     changes: &[NumberedChange<'r, 'h>],
-) -> Result<u8, Stop> {
+) -> Result<u8, RunError> {
     if changes.is_empty() {
         return Ok(0);
     }
@@ -546,11 +550,11 @@ fn compare<'g>(
     new: &'g Gathered,
     reading: &Reading<'_>,
     work: Work,
-) -> Result<u8, Stop> {
+) -> Result<u8, RunError> {
     let (old_set, _) = old.set()?;
     let (new_set, _) = new.set()?;
     let changes = changes_between(rt.alloc(), &old_set, &new_set)?;
-    let zone = zone_of(reading, old, new);
+    let zone = zone_of(reading, files.0, old, new);
     write_update(
         rt,
         side_of(files.0, old, old_set.as_slice()),
@@ -591,6 +595,6 @@ pub fn run(rt: &HostRuntime, first: &str, second: &str, reading: &Reading<'_>, w
     };
     match compare(rt, (first, second), &old, &new, reading, work) {
         Ok(status) => status,
-        Err(stop) => conclude(rt, "-", stop),
+        Err(stop) => exit_status(rt, "-", stop),
     }
 }

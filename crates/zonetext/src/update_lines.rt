@@ -1,8 +1,8 @@
 //! Records in commands of nsupdate.
 use dns_octets::AsOctets;
-use dns_resource::Record;
 use dns_zone::zonefile_fmt::{DisplayKind, ZonefileFmt};
 use std::alloc::{AllocError, Global};
+use zone_record::Record;
 
 /// Greatest number of octets of a record in a command. nsupdate takes lines of 128 KiB.
 const LINE: usize = 131_000;

@@ -1,5 +1,5 @@
 //! Findings that are written once all are known, in the order of the files.
-use dns_split::position::Position;
+use dns_lexer::position::Position;
 use std::alloc::{AllocError, Global};
 use std::cmp::Ordering;
 use zonetext_report::code::{Code, Severity};

@@ -3,17 +3,17 @@ use crate::blocks::BLOCK;
 use crate::data_buffer::DataBuffer;
 use crate::open_file::{Includer, Input, OpenFile, behind, place_from};
 use crate::progress::Progress;
-use crate::stop::Stop;
-use dns_fields::RecordRef;
-use dns_reader::{EntryRead, Known, NameBuffer, State, include_parts};
+use crate::stop::RunError;
 use dns_wire::Name;
-use dns_zonefile::{BlockReader, BlockRefusal};
+use rdata_fields::RecordRef;
 use std::alloc::{AllocError, Global};
 use std::fs::{File, canonicalize, metadata};
 use std::io::ErrorKind;
 use std::path::Path;
 use std::{io, mem};
-use zone_format::place::Place;
+use zone_format::place::LocatedOffset;
+use zone_reader::{NameBuffer, NameState, ParsedEntry, State, include_parts};
+use zone_stream::{BlockReader, BlockRefusal};
 use zonetext_report::lint::order_mark_len;
 
 /// Greatest number of open files that others include.
@@ -32,7 +32,7 @@ pub struct Entry<'e> {
     /// Offset of its first octet.
     pub offset: usize,
     /// Place up to which lines and columns are counted, at or before its first octet.
-    counted: Place,
+    counted: LocatedOffset,
     /// Octets of the file that are held, from its first octet on.
     pub held: &'e [u8],
     /// Its octets. A syntax error of the text ends them. If the entry is too long they are those
@@ -41,7 +41,7 @@ pub struct Entry<'e> {
     pub reader: &'e BlockReader<Global>,
     /// Whether it is the last of its file.
     pub is_last: bool,
-    pub read: &'e Result<EntryRead, BlockRefusal>,
+    pub read: &'e Result<ParsedEntry, BlockRefusal>,
     /// The octets of a record's data; or of an included file's name, with those of its origin.
     pub data: &'e [u8],
     /// The state after this entry.
@@ -50,19 +50,19 @@ pub struct Entry<'e> {
 
 impl<'e> Entry<'e> {
     /// Returns the place of its first octet.
-    pub fn place(&self) -> Place {
+    pub fn place(&self) -> LocatedOffset {
         place_from(self.reader, self.counted, self.offset)
     }
 
     /// Returns the record of the entry, if it is one. Fails with `Damaged` if no owner is known for
     /// a record.
-    pub fn record(&self) -> Result<Option<RecordRef<'e>>, Stop> {
+    pub fn record(&self) -> Result<Option<RecordRef<'e>>, RunError> {
         let Ok(read) = self.read else {
             return Ok(None);
         };
         match self.state.record(read, self.data) {
             Some(record) => Ok(Some(record)),
-            None if matches!(read, EntryRead::Record { .. }) => Err(Stop::Damaged),
+            None if matches!(read, ParsedEntry::Record { .. }) => Err(RunError::Damaged),
             None => Ok(None),
         }
     }
@@ -72,23 +72,23 @@ impl<'e> Entry<'e> {
 pub trait Visit {
     /// Reports a file that begins with the octets of a byte order mark, and the number of files
     /// that were opened before it.
-    fn begin(&mut self, file: &str, number: usize, mark: &[u8]) -> Result<(), Stop>;
+    fn begin(&mut self, file: &str, number: usize, mark: &[u8]) -> Result<(), RunError>;
 
     /// Returns whether an entry needs neither a report nor its position.
     fn is_quiet(&self, entry: &Entry<'_>) -> bool;
 
     /// Processes an entry for which [`Visit::is_quiet`] returned `true`.
-    fn take_quiet(&mut self, entry: &Entry<'_>) -> Result<(), Stop>;
+    fn take_quiet(&mut self, entry: &Entry<'_>) -> Result<(), RunError>;
 
     /// Processes another entry.
-    fn take(&mut self, entry: &Entry<'_>) -> Result<(), Stop>;
+    fn take(&mut self, entry: &Entry<'_>) -> Result<(), RunError>;
 
     /// Reports that the file that an entry names is not included, and why.
-    fn refuse(&mut self, entry: &Entry<'_>, unfit: &Unfit) -> Result<(), Stop>;
+    fn refuse(&mut self, entry: &Entry<'_>, unfit: &IncludeError) -> Result<(), RunError>;
 
     /// Reports that the `$TTL` of the file that the entry at a place includes stays in effect.
     /// `number` is that of the file with the entry.
-    fn keep_ttl(&mut self, file: &str, number: usize, place: Place) -> Result<(), Stop>;
+    fn keep_ttl(&mut self, file: &str, number: usize, place: LocatedOffset) -> Result<(), RunError>;
 }
 
 /// Open zone files, and the state after their entries so far.
@@ -121,15 +121,15 @@ fn full_path(rt: &HostRuntime, path: &str) -> io::Result<String> {
 }
 
 /// Returns the error of a file or a directory that can't be read.
-fn unread(alloc: Global, path: &str, error: io::Error) -> Stop {
+fn unread(alloc: Global, path: &str, error: io::Error) -> RunError {
     match String::from_str(alloc, path) {
-        Ok(file) => Stop::Read { file, error },
-        Err(_) => Stop::OutOfMemory,
+        Ok(file) => RunError::Read { file, error },
+        Err(_) => RunError::OutOfMemory,
     }
 }
 
 /// Returns the absolute path of a directory, without links.
-fn full_folder(rt: &HostRuntime, folder: &str) -> Result<String, Stop> {
+fn full_folder(rt: &HostRuntime, folder: &str) -> Result<String, RunError> {
     match full_path(rt, folder) {
         Ok(full) => Ok(full),
         Err(error) => Err(unread(rt.alloc(), folder, error)),
@@ -139,7 +139,11 @@ fn full_folder(rt: &HostRuntime, folder: &str) -> Result<String, Stop> {
 /// Adds the directories of the first file, by their absolute paths: the one in its path, and the
 /// one of its real path. Standard input and pipes have no real path, and the working directory is
 /// used instead.
-fn add_folders(rt: &HostRuntime, file: &OpenFile, folders: &mut Vec<String>) -> Result<(), Stop> {
+fn add_folders(
+    rt: &HostRuntime,
+    file: &OpenFile,
+    folders: &mut Vec<String>,
+) -> Result<(), RunError> {
     let named = match Path::new(file.name.as_str()).parent() {
         Some(folder) => String::from_str(rt.alloc(), folder.to_string_lossy())?,
         None => String::new(rt.alloc()),
@@ -176,22 +180,22 @@ fn open_first(rt: &HostRuntime, file: &str, name: &str, max_entry: usize) -> io:
 
 /// Why a file is not included.
 #[derive(Drop)]
-pub enum Unfit {
+pub enum IncludeError {
     Told(&'static str),
     /// Too many files were included before it.
     Full,
     Io(io::Error),
 }
 
-impl From<io::Error> for Unfit {
-    fn from(error: io::Error) -> Unfit {
-        Unfit::Io(error)
+impl From<io::Error> for IncludeError {
+    fn from(error: io::Error) -> IncludeError {
+        IncludeError::Io(error)
     }
 }
 
-impl From<AllocError> for Unfit {
-    fn from(_error: AllocError) -> Unfit {
-        Unfit::Io(io::Error::from(ErrorKind::OutOfMemory))
+impl From<AllocError> for IncludeError {
+    fn from(_error: AllocError) -> IncludeError {
+        IncludeError::Io(io::Error::from(ErrorKind::OutOfMemory))
     }
 }
 
@@ -204,15 +208,15 @@ fn open_error(alloc: Global, error: &io::Error) -> Result<String, AllocError> {
     }
 }
 
-impl Unfit {
+impl IncludeError {
     /// Returns the text of the error. `word` is the file, in single quotes.
     pub fn text(&self, alloc: Global, word: &str) -> Result<String, AllocError> {
         match self {
-            Unfit::Told(why) => format!(in alloc; "not included: {why} {word}"),
-            Unfit::Full => {
+            IncludeError::Told(why) => format!(in alloc; "not included: {why} {word}"),
+            IncludeError::Full => {
                 format!(in alloc; "not included: 10000 files are included already {word}")
             }
-            Unfit::Io(error) => {
+            IncludeError::Io(error) => {
                 let why = open_error(alloc, error)?;
                 let why = why.as_str();
                 format!(in alloc; "cannot open {word}: {why}")
@@ -227,7 +231,7 @@ impl<'a> ZoneFiles<'a> {
         rt: &'a HostRuntime,
         file: &'f str,
         begin: Begin<'f>,
-    ) -> Result<ZoneFiles<'a>, Stop> {
+    ) -> Result<ZoneFiles<'a>, RunError> {
         let alloc = rt.alloc();
         let first = match open_first(rt, file, begin.name_of(file), begin.max_entry) {
             Ok(first) => first,
@@ -246,7 +250,7 @@ impl<'a> ZoneFiles<'a> {
         let mut files = Vec::new(alloc);
         files.push(first)?;
         let Ok(data) = DataBuffer::with_room(alloc) else {
-            return Err(Stop::OutOfMemory);
+            return Err(RunError::OutOfMemory);
         };
         Ok(ZoneFiles {
             rt,
@@ -268,14 +272,14 @@ impl<'a> ZoneFiles<'a> {
         &mut self,
         visitor: &mut V,
         progress: &mut Progress,
-    ) -> Result<(), Stop> {
+    ) -> Result<(), RunError> {
         for _ in 0..u64::MAX {
             let Some(file) = self.files.pop() else {
                 return Ok(());
             };
             self.step(file, visitor, progress)?;
         }
-        Err(Stop::TooLong)
+        Err(RunError::TooLong)
     }
 
     /// Reads the next part of the file that was opened last: passes its entries as far as they were
@@ -285,7 +289,7 @@ impl<'a> ZoneFiles<'a> {
         mut file: OpenFile,
         visitor: &mut V,
         progress: &mut Progress,
-    ) -> Result<(), Stop> {
+    ) -> Result<(), RunError> {
         if !file.is_begun {
             return self.begin(file, visitor, progress);
         }
@@ -295,7 +299,7 @@ impl<'a> ZoneFiles<'a> {
             match &next {
                 Some(
                     Ok(
-                        EntryRead::Include {
+                        ParsedEntry::Include {
                             file: count,
                             has_origin,
                         },
@@ -309,11 +313,11 @@ impl<'a> ZoneFiles<'a> {
                 None => return self.read(file, progress),
             }
         }
-        Err(Stop::TooLong)
+        Err(RunError::TooLong)
     }
 
     /// Reads a block of a file.
-    fn read(&mut self, mut file: OpenFile, progress: &mut Progress) -> Result<(), Stop> {
+    fn read(&mut self, mut file: OpenFile, progress: &mut Progress) -> Result<(), RunError> {
         let count = self.fill(&mut file, progress)?;
         file.reader.add(self.read_octets(count))?;
         if file.is_read {
@@ -324,7 +328,7 @@ impl<'a> ZoneFiles<'a> {
     }
 
     /// Reads a block, and returns the number of its octets. It is 0 at the end of the file.
-    fn fill(&mut self, file: &mut OpenFile, progress: &mut Progress) -> Result<usize, Stop> {
+    fn fill(&mut self, file: &mut OpenFile, progress: &mut Progress) -> Result<usize, RunError> {
         match file.input.read(self.rt, self.block.as_mut_slice()) {
             Ok(0) => {
                 file.is_read = true;
@@ -334,7 +338,7 @@ impl<'a> ZoneFiles<'a> {
                 progress.read(count)?;
                 Ok(count)
             }
-            Err(error) => Err(Stop::Read {
+            Err(error) => Err(RunError::Read {
                 file: String::from_str(self.rt.alloc(), file.name.as_str())?,
                 error,
             }),
@@ -353,7 +357,7 @@ impl<'a> ZoneFiles<'a> {
         mut file: OpenFile,
         visitor: &mut V,
         progress: &mut Progress,
-    ) -> Result<(), Stop> {
+    ) -> Result<(), RunError> {
         let count = self.fill(&mut file, progress)?;
         file.head.extend_from_slice(self.read_octets(count))?;
         if !file.is_read && file.head.len() < 3 {
@@ -376,7 +380,7 @@ impl<'a> ZoneFiles<'a> {
     }
 
     /// Adds the octets that were read at the beginning to the reader, after the byte order mark.
-    fn add_head(&mut self, mut file: OpenFile, count: usize) -> Result<(), Stop> {
+    fn add_head(&mut self, mut file: OpenFile, count: usize) -> Result<(), RunError> {
         let head = mem::replace(&mut file.head, Vec::new(self.rt.alloc()));
         file.is_begun = true;
         let octets = head.as_slice();
@@ -393,7 +397,7 @@ impl<'a> ZoneFiles<'a> {
     fn entry<'e>(
         &'e self,
         file: &'e OpenFile,
-        read: &'e Result<EntryRead, BlockRefusal>,
+        read: &'e Result<ParsedEntry, BlockRefusal>,
     ) -> Entry<'e> {
         let offset = file.reader.began();
         let held = file.reader.octets_from(offset).unwrap_or(&[]);
@@ -418,9 +422,9 @@ impl<'a> ZoneFiles<'a> {
     fn give<V: Visit>(
         &mut self,
         file: &mut OpenFile,
-        read: &Result<EntryRead, BlockRefusal>,
+        read: &Result<ParsedEntry, BlockRefusal>,
         visitor: &mut V,
-    ) -> Result<(), Stop> {
+    ) -> Result<(), RunError> {
         let entry = self.entry(file, read);
         if visitor.is_quiet(&entry) {
             return visitor.take_quiet(&entry);
@@ -434,12 +438,12 @@ impl<'a> ZoneFiles<'a> {
     fn give_counted<V: Visit>(
         &self,
         file: &mut OpenFile,
-        read: &Result<EntryRead, BlockRefusal>,
+        read: &Result<ParsedEntry, BlockRefusal>,
         visitor: &mut V,
-    ) -> Result<(), Stop> {
+    ) -> Result<(), RunError> {
         let offset = file.reader.began();
         if file.reader.octets_from(offset).is_none() {
-            return Err(Stop::Damaged);
+            return Err(RunError::Damaged);
         }
         file.count_to(offset);
         visitor.take(&self.entry(file, read))
@@ -447,7 +451,7 @@ impl<'a> ZoneFiles<'a> {
 
     /// Passes an entry that is too long to a visitor, and continues after its file, whose rest is
     /// not read.
-    fn give_long<V: Visit>(&mut self, mut file: OpenFile, visitor: &mut V) -> Result<(), Stop> {
+    fn give_long<V: Visit>(&mut self, mut file: OpenFile, visitor: &mut V) -> Result<(), RunError> {
         self.give(&mut file, &Err(BlockRefusal::LongEntry), visitor)?;
         self.close(file, visitor)
     }
@@ -460,18 +464,18 @@ impl<'a> ZoneFiles<'a> {
         count: usize,
         has_origin: bool,
         visitor: &mut V,
-    ) -> Result<(), Stop> {
+    ) -> Result<(), RunError> {
         let offset = file.reader.began();
         file.count_to(offset);
         let found = self.find_included(&file, count);
         let origin = self.included_origin(count);
-        let read = Ok(EntryRead::Include {
+        let read = Ok(ParsedEntry::Include {
             file: count,
             has_origin,
         });
         let entry = self.entry(&file, &read);
         visitor.take(&entry)?;
-        let is_full = matches!(found, Err(Unfit::Full));
+        let is_full = matches!(found, Err(IncludeError::Full));
         if let Err(unfit) = &found {
             if !is_full || !self.is_full {
                 visitor.refuse(&entry, unfit)?;
@@ -498,19 +502,19 @@ impl<'a> ZoneFiles<'a> {
 
     /// Opens the file that an entry of another names, by the first `count` of the octets that were
     /// appended.
-    fn find_included(&self, file: &OpenFile, count: usize) -> Result<OpenFile, Unfit> {
+    fn find_included(&self, file: &OpenFile, count: usize) -> Result<OpenFile, IncludeError> {
         if !self.includes {
-            return Err(Unfit::Told("a file that includes others is not cut"));
+            return Err(IncludeError::Told("a file that includes others is not cut"));
         }
         if self.files.len() >= MOST_INCLUDED {
-            return Err(Unfit::Told("more than 10 files include one another"));
+            return Err(IncludeError::Told("more than 10 files include one another"));
         }
         if self.count > MOST_FILES {
-            return Err(Unfit::Full);
+            return Err(IncludeError::Full);
         }
         let (octets, _) = include_parts(self.data.as_slice(), count);
         let Ok(name) = str::from_utf8(octets) else {
-            return Err(Unfit::Told("file name is not UTF-8"));
+            return Err(IncludeError::Told("file name is not UTF-8"));
         };
         let alloc = self.rt.alloc();
         let path = Path::new(name);
@@ -526,16 +530,16 @@ impl<'a> ZoneFiles<'a> {
     }
 
     /// Opens a file, unless it is not in a directory from which files may be included, or is open.
-    fn open_included(&self, file: &OpenFile, name: String) -> Result<OpenFile, Unfit> {
+    fn open_included(&self, file: &OpenFile, name: String) -> Result<OpenFile, IncludeError> {
         let full = full_path(self.rt, name.as_str())?;
         if !self.is_allowed(full.as_str()) {
-            return Err(Unfit::Told("file outside of the folders that are open to it"));
+            return Err(IncludeError::Told("file outside of the folders that are open to it"));
         }
         if file.full == full || self.is_open(full.as_str()) {
-            return Err(Unfit::Told("file that includes itself"));
+            return Err(IncludeError::Told("file that includes itself"));
         }
         if !metadata(self.rt, name.as_str())?.is_file() {
-            return Err(Unfit::Told("not a regular file"));
+            return Err(IncludeError::Told("not a regular file"));
         }
         let input = Input::File(File::open(self.rt, name.as_str())?);
         let alloc = self.rt.alloc();
@@ -567,15 +571,15 @@ impl<'a> ZoneFiles<'a> {
         &mut self,
         mut file: OpenFile,
         origin: Option<NameBuffer>,
-        place: Place,
-    ) -> Result<(), Stop> {
+        place: LocatedOffset,
+    ) -> Result<(), RunError> {
         file.includer = Some(Includer {
             mark: self.state.mark(),
             default_ttl: self.state.default_ttl,
             place,
         });
         if let Some(origin) = origin {
-            self.state.origin = Known::Name(origin);
+            self.state.origin = NameState::Name(origin);
         }
         self.count = self.count.saturating_add(1);
         self.files.push(file)?;
@@ -584,7 +588,7 @@ impl<'a> ZoneFiles<'a> {
 
     /// Continues after a file that was read: the origin and the owners of an included file are
     /// dropped.
-    fn close<V: Visit>(&mut self, mut file: OpenFile, visitor: &mut V) -> Result<(), Stop> {
+    fn close<V: Visit>(&mut self, mut file: OpenFile, visitor: &mut V) -> Result<(), RunError> {
         let Some(includer) = file.includer.take() else {
             return Ok(());
         };
@@ -644,7 +648,7 @@ pub fn visit_file<'f, V: Visit>(
     file: &'f str,
     begin: Begin<'f>,
     visitor: &mut V,
-) -> Result<(), Stop> {
+) -> Result<(), RunError> {
     let (name, is_quiet) = (begin.name_of(file), begin.is_quiet);
     let mut files = ZoneFiles::open(rt, file, begin)?;
     let mut progress = Progress::new(rt, name, is_quiet)?;

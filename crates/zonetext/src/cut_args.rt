@@ -1,8 +1,9 @@
 //! The arguments of the command `cut`.
 use crate::command::{QUIET, flag, max_entry, required_file, valued};
 use crate::cut;
-use crate::options::{Usage, class_of, max_entry_of, status_of, zone_of};
-use crate::reading::Reading;
+use crate::options::{Usage, class_of, max_entry_of, status_of};
+use crate::visit::Reading;
+use crate::zone_names::{name_option, zone_of_files, zone_option};
 use clap::{Arg, ArgAction, ArgMatches, Command};
 use std::alloc::{AllocError, Global};
 use std::io;
@@ -24,7 +25,8 @@ pub fn cut_command<'a>(alloc: Global, name: &'a str) -> Result<Command<'a>, Allo
         .arg(required_file(alloc, "FILE", "a zone file"))?
         .arg(output)?
         .arg(flag(alloc, "soa", "repeat the SOA at the start of each part"))?
-        .arg(valued(alloc, "zone", "ORIGIN", zone).visible_alias("origin")?)?
+        .arg(zone_option(alloc, zone)?.visible_alias("origin")?)?
+        .arg(name_option(alloc))?
         .arg(valued(alloc, "class", "CLASS", class))?
         .arg(max_entry(alloc))?
         .arg(flag(alloc, "quiet", QUIET))
@@ -45,13 +47,14 @@ fn count_of<'o>(value: &'o str) -> Result<usize, Usage<'o>> {
 /// Cuts a file by the arguments.
 fn cut_by<'o>(rt: &HostRuntime, inner: &'o ArgMatches) -> Result<u8, Usage<'o>> {
     let base: Option<&'o str> = None;
-    let origin = zone_of(inner)?;
+    let file = inner.get_str("FILE").unwrap_or("-");
+    let zone = zone_of_files(inner, &[file], true)?;
     let class = match class_of(inner.get_str("class")) {
         Ok(class) => class,
         Err(usage) => return Err(usage),
     };
     let reading = Reading {
-        origin,
+        zone,
         class,
         is_one_class: false,
         includes: false,
@@ -62,12 +65,11 @@ fn cut_by<'o>(rt: &HostRuntime, inner: &'o ArgMatches) -> Result<u8, Usage<'o>> 
         is_quiet: inner.get_flag("quiet"),
         is_lenient: false,
     };
-    let work = cut::Work {
+    let work = cut::CutOptions {
         count: count_of(inner.get_str("N").unwrap_or(""))?,
         prefix: inner.get_str("output").unwrap_or("part"),
         repeats_soa: inner.get_flag("soa"),
     };
-    let file = inner.get_str("FILE").unwrap_or("-");
     Ok(cut::run(rt, file, &reading, work))
 }
 

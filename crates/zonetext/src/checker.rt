@@ -3,7 +3,11 @@ use crate::exceptions::{may_except, stated_of};
 use crate::explain::Refusal;
 use crate::findings::Findings;
 use crate::held_zone::{
-    HeldZone, Stand, StandingRecord, is_of_absence, is_of_signed_absence, other_soa,
+    HeldZone, RecordLocation, StandingRecord, is_of_absence, is_of_signed_absence, other_soa,
+};
+use crate::locations::{
+    beginning, begins_blank, data_start, line_spot, long_at, octet_at, position_at, spot_at,
+    target_position, token_at, tokens_of,
 };
 use crate::lone_rules::{breaks_none, lone_rules, token_of_rule};
 use crate::long_ttls::{long_ttl, long_ttl_of};
@@ -16,32 +20,27 @@ use crate::scan::{OctetScan, ends_twice, needs_lint, repeats_origin, scan_octets
 use crate::scopes::{Scope, scope_of};
 use crate::signature_groups::{groups_of, is_of_time};
 use crate::slips::{is_of_parameters, slip_of};
-use crate::spots::{
-    beginning, begins_blank, data_start, line_spot, long_at, octet_at, position_at, spot_at,
-    target_position, token_at, tokens_of,
-};
-use crate::stop::Stop;
+use crate::stop::RunError;
 use crate::subjects::{Text, quoted};
-use crate::zone_files::{Entry, Unfit, Visit};
-use dns_fields::RecordError;
-use dns_heads::{class_word, directive_word};
-use dns_kinds::{Class, RecordType};
+use crate::zone_files::{Entry, IncludeError, Visit};
+use dns_lexer::entry_tokens::EntryToken;
 use dns_octets::AsOctets;
-use dns_reader::{EntryRead, NameBuffer, RecordTtl};
-use dns_resource::Data;
-use dns_split::entry_tokens::EntryToken;
 use dns_wire::{DisplayWithDot, DisplayWithoutDot, Name};
-use dns_zonefile::BlockRefusal;
+use rdata_fields::RecordError;
+use rdata_values::{Class, RecordType};
 use record_rules::RecordRule;
 use std::alloc::Global;
+use zone_check::codes::{code_of_entry, code_of_rule, code_of_security};
+use zone_check::names::{ends_in_dot, ends_like};
 use zone_dnssec::{Times, check_signed};
-use zone_format::place::Place;
+use zone_format::place::LocatedOffset;
+use zone_reader::{NameBuffer, ParsedEntry, RecordTtl, class_word, directive_word};
+use zone_record::Data;
 use zone_rules::names::view;
 use zone_rules::sorted::has_type;
 use zone_rules::{Rule, SortedRecords, SortedSets, check_zone};
 use zone_set::{TaggedOctets, serial_of};
-use zonetext_records::codes::{code_of_entry, code_of_rule, code_of_security};
-use zonetext_records::names::{ends_in_dot, ends_like};
+use zone_stream::BlockRefusal;
 use zonetext_report::code::Code;
 use zonetext_report::lint::{Block, lint};
 
@@ -72,7 +71,7 @@ pub struct Limits {
 
 /// The first SOA of a file.
 #[derive(Drop)]
-pub struct Seen {
+pub struct SoaInfo {
     /// Name of the zone.
     pub zone: NameBuffer,
     pub serial: u32,
@@ -91,7 +90,7 @@ pub struct Checker<'a> {
     /// Number of records.
     pub records: usize,
     /// The first SOA.
-    pub seen: Option<Seen>,
+    pub seen: Option<SoaInfo>,
     /// Numbers of the files for which CR LF was reported.
     crlf_files: Vec<usize>,
     /// Whether it was reported that no origin is known.
@@ -162,7 +161,7 @@ impl<'a> Checker<'a> {
     }
 
     /// Reports an entry that is too long.
-    fn tell_long(&mut self, entry: &Entry<'_>) -> Result<(), Stop> {
+    fn report_long(&mut self, entry: &Entry<'_>) -> Result<(), RunError> {
         self.has_gap = true;
         let limit = entry.reader.limit();
         let text = format!(in self.alloc; "entry longer than {limit} octets")?;
@@ -191,7 +190,7 @@ impl<'a> Checker<'a> {
     }
 
     /// Reports why an entry is rejected.
-    fn tell_refusal(&mut self, entry: &Entry<'_>, error: &RecordError) -> Result<(), Stop> {
+    fn report_rejection(&mut self, entry: &Entry<'_>, error: &RecordError) -> Result<(), RunError> {
         let tokens = tokens_of(self.alloc, entry)?;
         let is_directive = directive_of(tokens.as_slice(), begins_blank(entry)).is_some();
         let code = code_of_entry(is_directive, error);
@@ -218,7 +217,7 @@ impl<'a> Checker<'a> {
     }
 
     /// Reports if no origin is known for a relative name, or if it ends like the origin.
-    fn check_name(&mut self, entry: &Entry<'_>, token: &EntryToken<'_>) -> Result<(), Stop> {
+    fn check_name(&mut self, entry: &Entry<'_>, token: &EntryToken<'_>) -> Result<(), RunError> {
         if token.is_quoted || ends_in_dot(token.text) {
             return Ok(());
         }
@@ -266,7 +265,7 @@ impl<'a> Checker<'a> {
         entry: &Entry<'_>,
         tokens: &[EntryToken<'_>],
         rtype: RecordType,
-    ) -> Result<(), Stop> {
+    ) -> Result<(), RunError> {
         let is_blank = begins_blank(entry);
         if !is_blank {
             if let Some(owner) = tokens.first() {
@@ -286,7 +285,11 @@ impl<'a> Checker<'a> {
     }
 
     /// Reports that the class of a record is not that of the zone.
-    fn tell_class(&mut self, entry: &Entry<'_>, tokens: &[EntryToken<'_>]) -> Result<(), Stop> {
+    fn report_class(
+        &mut self,
+        entry: &Entry<'_>,
+        tokens: &[EntryToken<'_>],
+    ) -> Result<(), RunError> {
         let words = tokens
             .get(usize::from(!begins_blank(entry))..)
             .unwrap_or(&[]);
@@ -299,7 +302,7 @@ impl<'a> Checker<'a> {
     }
 
     /// Stores the first SOA. Fails with `Damaged` if its octets are not an SOA.
-    fn see_soa(&mut self, entry: &Entry<'_>) -> Result<(), Stop> {
+    fn see_soa(&mut self, entry: &Entry<'_>) -> Result<(), RunError> {
         if self.seen.is_some() {
             return Ok(());
         }
@@ -307,31 +310,31 @@ impl<'a> Checker<'a> {
             entry.state.owner(),
             Data::from_octets(RecordType::SOA, entry.data),
         ) else {
-            return Err(Stop::Damaged);
+            return Err(RunError::Damaged);
         };
         let (Ok(zone), Some(serial)) = (NameBuffer::from_labels((), owner), serial_of(&data)) else {
-            return Err(Stop::Damaged);
+            return Err(RunError::Damaged);
         };
         if self.findings.zone.is_none() {
             self.findings.zone = NameBuffer::from_labels((), owner).ok();
         }
-        self.seen = Some(Seen { zone, serial });
+        self.seen = Some(SoaInfo { zone, serial });
         Ok(())
     }
 
     /// Reports a finding about a record as a whole, at its first token.
-    fn tell_record(&mut self, entry: &Entry<'_>, at: usize, code: Code) -> Result<(), Stop> {
+    fn report_record(&mut self, entry: &Entry<'_>, at: usize, code: Code) -> Result<(), RunError> {
         let tokens = tokens_of(self.alloc, entry)?;
         self.findings
             .tell_word(entry, spot_at(entry, tokens.as_slice(), at), code, None)
     }
 
     /// Reports a token that spells a TTL of 2^31 or more, if there is one.
-    fn tell_long_ttl(
+    fn report_long_ttl(
         &mut self,
         entry: &Entry<'_>,
         token: Option<EntryToken<'_>>,
-    ) -> Result<(), Stop> {
+    ) -> Result<(), RunError> {
         match token {
             Some(token) => self.findings.tell_token(entry, &token, Code::Ttl),
             None => Ok(()),
@@ -345,14 +348,14 @@ impl<'a> Checker<'a> {
         at: usize,
         ttl: RecordTtl,
         rtype: RecordType,
-    ) -> Result<(), Stop> {
+    ) -> Result<(), RunError> {
         if let RecordTtl::Minimum(_) = ttl {
-            self.tell_record(entry, at, Code::SoaMinimumTtl)?;
+            self.report_record(entry, at, Code::SoaMinimumTtl)?;
         }
         if ttl.seconds() == 0 {
             let tokens = tokens_of(self.alloc, entry)?;
             let token = long_ttl_of(tokens.as_slice(), begins_blank(entry), ttl, entry.data);
-            self.tell_long_ttl(entry, token)?;
+            self.report_long_ttl(entry, token)?;
         }
         if let Some(most) = self.limits.max_ttl {
             if ttl.seconds() > most {
@@ -360,7 +363,7 @@ impl<'a> Checker<'a> {
             }
         }
         if let Some(code) = slip_of(rtype, entry.data) {
-            self.tell_record(entry, at, code)?;
+            self.report_record(entry, at, code)?;
         }
         Ok(())
     }
@@ -380,7 +383,7 @@ impl<'a> Checker<'a> {
         scan: OctetScan,
         at: usize,
         rtype: RecordType,
-    ) -> Result<(), Stop> {
+    ) -> Result<(), RunError> {
         if breaks_none(entry, scan, rtype)? {
             return Ok(());
         }
@@ -420,9 +423,9 @@ impl<'a> Checker<'a> {
             );
         }
         match entry.read {
-            Ok(EntryRead::Nothing) => true,
+            Ok(ParsedEntry::Nothing) => true,
             Ok(
-                EntryRead::Record {
+                ParsedEntry::Record {
                     ttl,
                     class,
                     rtype,
@@ -448,7 +451,7 @@ impl<'a> Checker<'a> {
     }
 
     /// Stores a record and the position of its type, if records are held. `at` is the type's offset.
-    fn hold_record(&mut self, entry: &Entry<'_>, at: usize) -> Result<(), Stop> {
+    fn hold_record(&mut self, entry: &Entry<'_>, at: usize) -> Result<(), RunError> {
         let Some(held) = &mut self.held else {
             return Ok(());
         };
@@ -456,7 +459,7 @@ impl<'a> Checker<'a> {
             return Ok(());
         };
         let position = position_at(entry, at.saturating_sub(entry.offset));
-        let stand = Stand {
+        let stand = RecordLocation {
             file: entry.number,
             position,
             target: target_position(entry, position),
@@ -466,7 +469,11 @@ impl<'a> Checker<'a> {
 
     /// Stores the RRset of a rejected record, if records are stored and its owner and its type are
     /// known.
-    fn hold_refused(&mut self, entry: &Entry<'_>, rtype: Option<RecordType>) -> Result<(), Stop> {
+    fn hold_refused(
+        &mut self,
+        entry: &Entry<'_>,
+        rtype: Option<RecordType>,
+    ) -> Result<(), RunError> {
         match (&mut self.held, rtype, entry.state.owner()) {
             (Some(held), Some(rtype), Ok(owner)) => held.refused.add(owner.as_slice(), rtype),
             _ => Ok(()),
@@ -482,7 +489,7 @@ impl<'a> Checker<'a> {
         ttl: RecordTtl,
         class: Class,
         rtype: RecordType,
-    ) -> Result<(), Stop> {
+    ) -> Result<(), RunError> {
         self.count_record();
         let has_class = class == self.limits.class;
         if has_class && rtype == RecordType::SOA {
@@ -498,7 +505,7 @@ impl<'a> Checker<'a> {
         if !has_class {
             self.hold_refused(entry, Some(rtype))?;
             let tokens = tokens_of(self.alloc, entry)?;
-            return self.tell_class(entry, tokens.as_slice());
+            return self.report_class(entry, tokens.as_slice());
         }
         self.check_values(entry, at, ttl, rtype)?;
         self.check_lone_rules(entry, scan, at, rtype)?;
@@ -511,7 +518,7 @@ impl<'a> Checker<'a> {
         entry: &Entry<'_>,
         tokens: &[EntryToken<'_>],
         place: usize,
-    ) -> Result<(), Stop> {
+    ) -> Result<(), RunError> {
         match tokens.get(place) {
             Some(token) if !ends_in_dot(token.text) => {
                 self.findings.tell_token(entry, token, Code::RelativeOrigin)
@@ -521,7 +528,7 @@ impl<'a> Checker<'a> {
     }
 
     /// Reports findings about a directive.
-    fn check_directive(&mut self, entry: &Entry<'_>) -> Result<(), Stop> {
+    fn check_directive(&mut self, entry: &Entry<'_>) -> Result<(), RunError> {
         let tokens = tokens_of(self.alloc, entry)?;
         let tokens = tokens.as_slice();
         match tokens.first() {
@@ -532,7 +539,7 @@ impl<'a> Checker<'a> {
             Some(word) if word.text.eq_ignore_ascii_case(b"$INCLUDE") => self.check_origin(
                 entry, tokens, 2,
             ),
-            Some(word) if word.text.eq_ignore_ascii_case(b"$TTL") => self.tell_long_ttl(
+            Some(word) if word.text.eq_ignore_ascii_case(b"$TTL") => self.report_long_ttl(
                 entry,
                 long_ttl(tokens),
             ),
@@ -542,7 +549,7 @@ impl<'a> Checker<'a> {
 
     /// Reports findings about several records, once all were read, and the exceptions that were not
     /// used.
-    pub fn finish(&mut self) -> Result<(), Stop> {
+    pub fn finish(&mut self) -> Result<(), RunError> {
         let Some(held) = self.held.take() else {
             return Ok(());
         };
@@ -560,7 +567,7 @@ impl<'a> Checker<'a> {
     }
 
     /// Reports findings about the records that are held.
-    fn check_held(&mut self, held: &HeldZone) -> Result<(), Stop> {
+    fn check_held(&mut self, held: &HeldZone) -> Result<(), RunError> {
         match self.zone.take() {
             Some(zone) => self.check_zone(held, &zone, true),
             None => self.check_zone(held, &Name::root_ref(), false),
@@ -573,7 +580,7 @@ impl<'a> Checker<'a> {
         held: &HeldZone,
         number: usize,
         has_zone: bool,
-    ) -> Result<(), Stop> {
+    ) -> Result<(), RunError> {
         let found = self.findings.reporter.exceptions.all().get(number).copied();
         match found {
             Some(exception) if !exception.is_used() && self.looks_for(exception.code, has_zone) => {
@@ -598,10 +605,10 @@ impl<'a> Checker<'a> {
     }
 
     /// Puts the exceptions of an entry in effect, and reports what is malformed in them.
-    fn begin_exceptions(&mut self, entry: &Entry<'_>) -> Result<(), Stop> {
+    fn begin_exceptions(&mut self, entry: &Entry<'_>) -> Result<(), RunError> {
         let stated = stated_of(self.alloc, entry.octets)?;
         let record = match entry.read {
-            Ok(EntryRead::Record { at, .. }) => {
+            Ok(ParsedEntry::Record { at, .. }) => {
                 Some(position_at(entry, at.saturating_sub(entry.offset)))
             }
             _ => None,
@@ -621,7 +628,7 @@ impl<'a> Checker<'a> {
 
     /// Reports the exceptions of an entry that were not used, unless records are held, and drops
     /// them.
-    fn end_exceptions(&mut self, entry: &Entry<'_>) -> Result<(), Stop> {
+    fn end_exceptions(&mut self, entry: &Entry<'_>) -> Result<(), RunError> {
         if self.held.is_some() {
             return Ok(());
         }
@@ -645,12 +652,12 @@ impl<'a> Checker<'a> {
     }
 
     /// Processes an entry, with its exceptions in effect.
-    fn take_entry(&mut self, entry: &Entry<'_>, scan: OctetScan) -> Result<(), Stop> {
+    fn take_entry(&mut self, entry: &Entry<'_>, scan: OctetScan) -> Result<(), RunError> {
         if !self.shows_nothing(entry, scan) {
             return self.check_entry(entry, scan);
         }
         match entry.read {
-            Ok(EntryRead::Record { at, .. }) => {
+            Ok(ParsedEntry::Record { at, .. }) => {
                 self.count_record();
                 self.hold_record(entry, *at)
             }
@@ -664,22 +671,22 @@ impl<'a> Checker<'a> {
         held: &HeldZone,
         zone: &Name<Origin>,
         is_zone: bool,
-    ) -> Result<(), Stop> {
+    ) -> Result<(), RunError> {
         let mut set = held.records.set()?;
         set.sort()?;
         let records = set.as_slice();
         let Some(sorted) = SortedRecords::new(records) else {
-            return Err(Stop::Damaged);
+            return Err(RunError::Damaged);
         };
         let refused = held.refused.sorted()?;
         let Some(refused) = SortedSets::new(refused.as_slice()) else {
-            return Err(Stop::Damaged);
+            return Err(RunError::Damaged);
         };
         let found = check_zone(self.alloc, zone, &sorted, &refused)?;
         if is_zone {
             if let Some(finding) = other_soa(found.as_slice(), records) {
                 let record = finding.record.and_then(|place| records.get(place));
-                return self.tell_other_soa(held, code_of_rule(finding.rule), record, zone);
+                return self.report_other_soa(held, code_of_rule(finding.rule), record, zone);
             }
         }
         for finding in &found {
@@ -708,17 +715,17 @@ impl<'a> Checker<'a> {
     }
 
     /// Reports that the records have an SOA only at a name that is not the zone's.
-    fn tell_other_soa<Origin: AsOctets>(
+    fn report_other_soa<Origin: AsOctets>(
         &mut self,
         held: &HeldZone,
         code: Code,
         record: Option<&StandingRecord<'_>>,
         zone: &Name<Origin>,
-    ) -> Result<(), Stop> {
+    ) -> Result<(), RunError> {
         let zone = DisplayWithDot::new(zone);
         let message = format!(in self.alloc; "the SOA is not that of the zone {zone}")?;
         self.findings
-            .tell_at(held, code, record, false, &Text::new(self.alloc, message))
+            .report_at(held, code, record, false, &Text::new(self.alloc, message))
     }
 
     /// Reports which rules of DNSSEC the records of a zone break.
@@ -727,13 +734,13 @@ impl<'a> Checker<'a> {
         held: &HeldZone,
         zone: &Name<Origin>,
         times: Times,
-        records: &SortedRecords<'_, TaggedOctets<'_, Stand>, &[u8]>,
-    ) -> Result<(), Stop> {
+        records: &SortedRecords<'_, TaggedOctets<'_, RecordLocation>, &[u8]>,
+    ) -> Result<(), RunError> {
         // Findings that an unread record might explain are not reported.
         let is_whole = !self.has_gap && held.refused.is_empty();
         if !has_type(records, &view(zone), RecordType::DNSKEY) {
             return if is_whole {
-                self.findings.tell_broken(held, Code::NoDnskey, None)
+                self.findings.report_broken(held, Code::NoDnskey, None)
             } else {
                 Ok(())
             };
@@ -745,7 +752,7 @@ impl<'a> Checker<'a> {
             }
             let record = records.as_slice().get(finding.record);
             self.findings
-                .tell_broken(held, code_of_security(finding.rule), record)?;
+                .report_broken(held, code_of_security(finding.rule), record)?;
         }
         let joins = self.findings.reporter.joins_equal();
         let groups = groups_of(self.alloc, found.as_slice(), records.as_slice(), joins)?;
@@ -753,7 +760,7 @@ impl<'a> Checker<'a> {
             let text = group.text(self.alloc)?;
             let record = records.as_slice().get(group.record);
             self.findings
-                .tell_at(held, code_of_security(group.rule), record, false, &text)?;
+                .report_at(held, code_of_security(group.rule), record, false, &text)?;
         }
         Ok(())
     }
@@ -785,13 +792,13 @@ impl<'a> Checker<'a> {
     }
 
     /// Reports findings about the octets of an entry. Returns whether it begins with Ctrl-Z.
-    fn lint(&mut self, entry: &Entry<'_>, scan: OctetScan) -> Result<bool, Stop> {
+    fn lint(&mut self, entry: &Entry<'_>, scan: OctetScan) -> Result<bool, RunError> {
         let is_long = matches!(entry.read, Err(BlockRefusal::LongEntry));
         if is_long || !needs_lint(entry.octets, scan) {
             return Ok(false);
         }
         if entry.octets.len() >= usize::MAX - 1 {
-            return Err(Stop::TooLong);
+            return Err(RunError::TooLong);
         }
         let block = Block {
             is_last: entry.is_last && entry.octets.first() != Some(&CONTROL_Z),
@@ -827,31 +834,31 @@ impl<'a> Checker<'a> {
 
     /// Reports findings about an entry.
     #[inline(never)]
-    fn check_entry(&mut self, entry: &Entry<'_>, scan: OctetScan) -> Result<(), Stop> {
+    fn check_entry(&mut self, entry: &Entry<'_>, scan: OctetScan) -> Result<(), RunError> {
         let is_end = self.lint(entry, scan)?;
         match entry.read {
             _ if is_end => Ok(()),
-            Err(BlockRefusal::Text(fault)) => self.findings.tell_fault(entry, *fault),
-            Err(BlockRefusal::LongEntry) => self.tell_long(entry),
+            Err(BlockRefusal::Text(fault)) => self.findings.report_fault(entry, *fault),
+            Err(BlockRefusal::LongEntry) => self.report_long(entry),
             _ if self.limits.is_text => Ok(()),
-            Ok(EntryRead::Nothing) => Ok(()),
-            Ok(EntryRead::Directive) => self.check_directive(entry),
-            Ok(EntryRead::Include { .. }) => self.check_directive(entry),
+            Ok(ParsedEntry::Nothing) => Ok(()),
+            Ok(ParsedEntry::Directive) => self.check_directive(entry),
+            Ok(ParsedEntry::Include { .. }) => self.check_directive(entry),
             Ok(
-                EntryRead::Record {
+                ParsedEntry::Record {
                     at,
                     ttl,
                     class,
                     rtype,
                 },
             ) => self.check_record(entry, scan, *at, *ttl, *class, *rtype),
-            Err(BlockRefusal::Entry(error)) => self.tell_refusal(entry, error),
+            Err(BlockRefusal::Entry(error)) => self.report_rejection(entry, error),
         }
     }
 }
 
 impl<'a> Visit for Checker<'a> {
-    fn begin(&mut self, file: &str, number: usize, mark: &[u8]) -> Result<(), Stop> {
+    fn begin(&mut self, file: &str, number: usize, mark: &[u8]) -> Result<(), RunError> {
         if let Some(held) = &mut self.held {
             let name = String::from_str(self.alloc, file)?;
             held.files.push(name)?;
@@ -878,14 +885,14 @@ impl<'a> Visit for Checker<'a> {
         !has_exceptions(entry, scan) && self.shows_nothing(entry, scan)
     }
 
-    fn take_quiet(&mut self, entry: &Entry<'_>) -> Result<(), Stop> {
-        if let Ok(EntryRead::Record { .. }) = entry.read {
+    fn take_quiet(&mut self, entry: &Entry<'_>) -> Result<(), RunError> {
+        if let Ok(ParsedEntry::Record { .. }) = entry.read {
             self.count_record();
         }
         Ok(())
     }
 
-    fn take(&mut self, entry: &Entry<'_>) -> Result<(), Stop> {
+    fn take(&mut self, entry: &Entry<'_>) -> Result<(), RunError> {
         let scan = scan_octets(entry.octets);
         self.findings.reporter.exceptions.begin();
         if !has_exceptions(entry, scan) {
@@ -896,7 +903,7 @@ impl<'a> Visit for Checker<'a> {
         self.end_exceptions(entry)
     }
 
-    fn refuse(&mut self, entry: &Entry<'_>, unfit: &Unfit) -> Result<(), Stop> {
+    fn refuse(&mut self, entry: &Entry<'_>, unfit: &IncludeError) -> Result<(), RunError> {
         if self.limits.is_text {
             return Ok(());
         }
@@ -912,7 +919,12 @@ impl<'a> Visit for Checker<'a> {
         self.findings.reporter.tell(spot, Code::Include, true, said)
     }
 
-    fn keep_ttl(&mut self, file: &str, number: usize, place: Place) -> Result<(), Stop> {
+    fn keep_ttl(
+        &mut self,
+        file: &str,
+        number: usize,
+        place: LocatedOffset,
+    ) -> Result<(), RunError> {
         self.findings.tell(
             line_spot(file, number, place.position, None),
             Code::IncludeTtl,

@@ -1,14 +1,14 @@
 //! The arguments of the commands that read records: `records`, `canon`, `diff` and `digest`.
 use crate::command::{BASE, QUIET, flag, max_entry, over_files, required_file, valued, values};
-use crate::options::{Usage, class_of, max_entry_of, number_of, size_of, status_of, zone_of};
-use crate::reading::Reading;
+use crate::options::{Usage, class_of, max_entry_of, number_of, size_of, status_of};
+use crate::visit::Reading;
+use crate::zone_names::{Zone, name_option, zone_of_files, zone_option};
 use crate::{canon, changes, digest, digest_writing, json_records, records, update};
 use clap::{ArgMatches, Command};
-use dns_kinds::RecordType;
+use rdata_values::RecordType;
 use std::alloc::{AllocError, Global};
 use std::io;
-use zone_digest::HashAlgorithm;
-use zone_set::Selection;
+use zone_set::{HashAlgorithm, Selection};
 
 /// The help texts of the options of all of them.
 const ZONE: &str = "origin at the start of each file";
@@ -33,10 +33,11 @@ const UPDATE_KEYS: &str = "also update DNSKEY, CDS, CDNSKEY and NSEC3PARAM";
 const NEED_SERIAL: &str = "status 4 if records differ and the serial did not rise";
 
 /// Adds the options of all of them.
-fn with_reading<'a>(alloc: Global, command: Command<'a>) -> Result<Command<'a>, AllocError> {
-    let zone = valued(alloc, "zone", "ORIGIN", ZONE).visible_alias("origin")?;
+pub fn with_reading<'a>(alloc: Global, command: Command<'a>) -> Result<Command<'a>, AllocError> {
+    let zone = zone_option(alloc, ZONE)?.visible_alias("origin")?;
     command
         .arg(zone)?
+        .arg(name_option(alloc))?
         .arg(valued(alloc, "class", "CLASS", CLASS))?
         .arg(values(alloc, "include", "DIR", INCLUDE))?
         .arg(valued(alloc, "base", "DIR", BASE))?
@@ -161,14 +162,27 @@ fn types_of<'o>(alloc: Global, names: &[&'o str]) -> Result<Vec<RecordType>, Usa
 }
 
 /// Returns how files are read, by the arguments of a command.
-fn reading_of<'o>(inner: &'o ArgMatches, is_one_zone: bool) -> Result<Reading<'o>, Usage<'o>> {
-    let origin = zone_of(inner)?;
+fn reading_of<'o>(
+    inner: &'o ArgMatches,
+    files: &[&'o str],
+    is_one_zone: bool,
+) -> Result<Reading<'o>, Usage<'o>> {
+    let zone = zone_of_files(inner, files, is_one_zone)?;
+    reading_with(inner, zone, is_one_zone)
+}
+
+/// Returns how files of which the zones are determined are read, by the arguments of a command.
+pub fn reading_with<'o>(
+    inner: &'o ArgMatches,
+    zone: Zone<'o>,
+    is_one_zone: bool,
+) -> Result<Reading<'o>, Usage<'o>> {
     let class = match class_of(inner.get_str("class")) {
         Ok(class) => class,
         Err(usage) => return Err(usage),
     };
     Ok(Reading {
-        origin,
+        zone,
         class,
         is_one_class: is_one_zone,
         includes: true,
@@ -185,15 +199,18 @@ fn reading_of<'o>(inner: &'o ArgMatches, is_one_zone: bool) -> Result<Reading<'o
 /// root is appended to relative names.
 fn lenient(reading: Reading<'_>) -> Reading<'_> {
     Reading {
-        origin: Some(reading.origin.unwrap_or(".")),
+        zone: match reading.zone {
+            Zone::Unset => Zone::Set("."),
+            zone => zone,
+        },
         is_lenient: true,
         ..reading
     }
 }
 
 /// Writes the records of files as they come.
-fn list<'o>(rt: &HostRuntime, inner: &'o ArgMatches, files: &[&str]) -> Result<u8, Usage<'o>> {
-    match reading_of(inner, false) {
+fn list<'o>(rt: &HostRuntime, inner: &'o ArgMatches, files: &[&'o str]) -> Result<u8, Usage<'o>> {
+    match reading_of(inner, files, false) {
         Ok(reading) if inner.get_flag("json") => Ok(json_records::run(rt, files, &reading)),
         Ok(reading) => Ok(records::run(rt, files, &reading)),
         Err(usage) => Err(usage),
@@ -204,7 +221,7 @@ fn list<'o>(rt: &HostRuntime, inner: &'o ArgMatches, files: &[&str]) -> Result<u
 fn write_canonical<'o>(
     rt: &HostRuntime,
     inner: &'o ArgMatches,
-    files: &[&str],
+    files: &[&'o str],
 ) -> Result<u8, Usage<'o>> {
     let types = types_of(rt.alloc(), inner.get_strs("type").unwrap_or(&[]))?;
     let selection = Selection {
@@ -219,7 +236,7 @@ fn write_canonical<'o>(
         is_json: inner.get_flag("json"),
     };
     let is_lenient = inner.get_flag("lenient");
-    let reading = match reading_of(inner, !is_lenient) {
+    let reading = match reading_of(inner, files, !is_lenient) {
         Ok(reading) if is_lenient => lenient(reading),
         Ok(reading) => reading,
         Err(usage) => return Err(usage),
@@ -245,7 +262,7 @@ fn compare<'o>(rt: &HostRuntime, inner: &'o ArgMatches) -> Result<u8, Usage<'o>>
     };
     let first = inner.get_str("A").unwrap_or("-");
     let second = inner.get_str("B").unwrap_or("-");
-    match reading_of(inner, true) {
+    match reading_of(inner, &[first, second], true) {
         Ok(reading) => Ok(changes::run(rt, first, second, &reading, selection, output)),
         Err(usage) => Err(usage),
     }
@@ -261,7 +278,7 @@ fn write_update<'o>(rt: &HostRuntime, inner: &'o ArgMatches) -> Result<u8, Usage
     };
     let first = inner.get_str("A").unwrap_or("-");
     let second = inner.get_str("B").unwrap_or("-");
-    match reading_of(inner, true) {
+    match reading_of(inner, &[first, second], true) {
         Ok(reading) => Ok(update::run(rt, first, second, &reading, work)),
         Err(usage) => Err(usage),
     }
@@ -270,24 +287,28 @@ fn write_update<'o>(rt: &HostRuntime, inner: &'o ArgMatches) -> Result<u8, Usage
 /// Checks the digests of a file.
 fn check_digests<'o>(rt: &HostRuntime, inner: &'o ArgMatches) -> Result<u8, Usage<'o>> {
     let file = inner.get_str("FILE").unwrap_or("-");
-    let work = digest::Work {
+    let work = digest::DigestOptions {
         takes_any: inner.get_flag("any"),
         is_verbose: inner.get_flag("verbose"),
         is_json: inner.get_flag("json"),
     };
-    match reading_of(inner, true) {
+    match reading_of(inner, &[file], true) {
         Ok(reading) => Ok(digest::run(rt, file, &reading, work)),
         Err(usage) => Err(usage),
     }
 }
 
 /// Runs the command `records`, and returns the status.
-pub fn run_records(rt: &HostRuntime, inner: &ArgMatches, files: &[&str]) -> io::Result<u8> {
+pub fn run_records<'o>(
+    rt: &HostRuntime,
+    inner: &'o ArgMatches,
+    files: &[&'o str],
+) -> io::Result<u8> {
     status_of(rt, list(rt, inner, files))
 }
 
 /// Runs the command `canon`, and returns the status.
-pub fn run_canon(rt: &HostRuntime, inner: &ArgMatches, files: &[&str]) -> io::Result<u8> {
+pub fn run_canon<'o>(rt: &HostRuntime, inner: &'o ArgMatches, files: &[&'o str]) -> io::Result<u8> {
     status_of(rt, write_canonical(rt, inner, files))
 }
 
@@ -302,14 +323,14 @@ pub fn run_diff(rt: &HostRuntime, inner: &ArgMatches) -> io::Result<u8> {
 /// Writes the digests of a file.
 fn write_digests<'o>(rt: &HostRuntime, inner: &'o ArgMatches) -> Result<u8, Usage<'o>> {
     let file = inner.get_str("FILE").unwrap_or("-");
-    let work = digest_writing::Work {
+    let work = digest_writing::DigestWriteOptions {
         algorithm: match inner.get_str("hash") {
             Some("sha512") => HashAlgorithm::Sha512,
             _ => HashAlgorithm::Sha384,
         },
         ignores_journal: inner.get_flag("force"),
     };
-    match reading_of(inner, true) {
+    match reading_of(inner, &[file], true) {
         Ok(reading) => Ok(digest_writing::run(rt, file, &reading, work)),
         Err(usage) => Err(usage),
     }

@@ -1,10 +1,10 @@
 //! Records that are stored in memory.
-use crate::stop::Stop;
-use dns_fields::RecordRef;
-use dns_kinds::{Class, RecordType};
-use dns_resource::{Data, Record};
+use crate::stop::RunError;
 use dns_wire::Name;
+use rdata_fields::RecordRef;
+use rdata_values::{Class, RecordType};
 use std::alloc::Global;
+use zone_record::{Data, Record};
 use zone_set::{TaggedOctets, ZoneSet};
 
 /// The span of octets among those that are stored.
@@ -53,15 +53,15 @@ impl<Tag: Copy> Held<Tag> {
 
     /// Returns the octets of a span. Fails with `Damaged` if the span is not within the stored
     /// octets.
-    fn part(&self, part: Part) -> Result<&[u8], Stop> {
+    fn part(&self, part: Part) -> Result<&[u8], RunError> {
         match self.octets.as_slice().get(part.start..part.end) {
             Some(octets) => Ok(octets),
-            None => Err(Stop::Damaged),
+            None => Err(RunError::Damaged),
         }
     }
 
     /// Appends octets.
-    fn append(&mut self, octets: &[u8]) -> Result<Part, Stop> {
+    fn append(&mut self, octets: &[u8]) -> Result<Part, RunError> {
         let start = self.octets.len();
         self.octets.extend_from_slice(octets)?;
         let end = self.octets.len();
@@ -69,7 +69,7 @@ impl<Tag: Copy> Held<Tag> {
     }
 
     /// Appends an owner, unless the record before has the same.
-    fn append_owner(&mut self, owner: &[u8]) -> Result<Part, Stop> {
+    fn append_owner(&mut self, owner: &[u8]) -> Result<Part, RunError> {
         if let Some(last) = self.rows.last() {
             if self.part(last.owner)? == owner {
                 return Ok(last.owner);
@@ -79,7 +79,7 @@ impl<Tag: Copy> Held<Tag> {
     }
 
     /// Stores a record.
-    pub fn add(&mut self, record: RecordRef<'_>, tag: Tag) -> Result<(), Stop> {
+    pub fn add(&mut self, record: RecordRef<'_>, tag: Tag) -> Result<(), RunError> {
         let owner = self.append_owner(record.owner)?;
         let data = self.append(record.data)?;
         self.rows.push(Row {
@@ -95,7 +95,7 @@ impl<Tag: Copy> Held<Tag> {
 
     /// Returns the records, in the order in which they were added. Fails with `Damaged` if an owner
     /// is not a name, or data is not of its type.
-    pub fn set(&self) -> Result<HeldSet<'_, Tag>, Stop> {
+    pub fn set(&self) -> Result<HeldSet<'_, Tag>, RunError> {
         let mut set = ZoneSet::new(self.alloc);
         for row in &self.rows {
             let octets = TaggedOctets {
@@ -105,7 +105,7 @@ impl<Tag: Copy> Held<Tag> {
             let owner = Name::from_octets(octets);
             let data = Data::from_octets(row.rtype, self.part(row.data)?);
             let (Ok(owner), Ok(data)) = (owner, data) else {
-                return Err(Stop::Damaged);
+                return Err(RunError::Damaged);
             };
             let (ttl, class) = (row.ttl, row.class);
             set.push(Record {

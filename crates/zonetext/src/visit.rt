@@ -1,18 +1,18 @@
 //! Reads the entries of zone files, one by one, for the commands that write, compare, digest and
 //! cut them.
-use crate::checking::{Checker, Limits, Seen};
-use crate::options::name_of;
+use crate::checker::{Checker, Limits, SoaInfo};
+use crate::locations::position_at;
 use crate::reporter::{Form, Reporter};
 use crate::shown::Shown;
-use crate::spots::position_at;
-use crate::stop::{Stop, conclude};
-use crate::zone_files::{Begin, Entry, Unfit, Visit, visit_file};
-use dns_kinds::{Class, RecordType};
-use dns_reader::{EntryRead, NameBuffer, State};
+use crate::stop::{RunError, exit_status};
+use crate::zone_files::{Begin, Entry, IncludeError, Visit, visit_file};
+use crate::zone_names::Zone;
 use dns_wire::DisplayWithDot;
+use rdata_values::{Class, RecordType};
 use std::alloc::{AllocError, Global};
-use zone_digest::scope::is_apex;
-use zone_format::place::Place;
+use zone_format::place::LocatedOffset;
+use zone_reader::{NameBuffer, ParsedEntry, State};
+use zone_set::scope::is_apex;
 use zonetext_report::code::{Code, Severity};
 use zonetext_report::policy::Policy;
 
@@ -22,8 +22,8 @@ const MOST: usize = 20;
 /// How files are read.
 #[derive(Drop)]
 pub struct Reading<'o> {
-    /// The origin at the beginning of each file, as it is spelled.
-    pub origin: Option<&'o str>,
+    /// How the origin at the beginning of each file is determined, which is its zone.
+    pub zone: Zone<'o>,
     /// The class of records without one.
     pub class: Class,
     /// Whether other classes are rejected.
@@ -57,15 +57,15 @@ impl Reading<'_> {
 /// A consumer of the entries of files, including rejected ones.
 pub trait TakeEntry {
     /// Processes an entry.
-    fn take_entry(&mut self, entry: &Entry<'_>) -> Result<(), Stop>;
+    fn take_entry(&mut self, entry: &Entry<'_>) -> Result<(), RunError>;
 }
 
 /// Passes entries to a consumer, and reports rejected ones.
 #[derive(Drop)]
-struct Giver<'g, T: Drop> {
+struct ReportingVisitor<'g, T: Drop> {
     rt: &'g HostRuntime,
     checker: Checker<'g>,
-    /// The zone of the option.
+    /// The zone of the option, or of the file's name.
     zone: Option<NameBuffer>,
     /// Whether SOAs of other zones are rejected.
     is_one_zone: bool,
@@ -74,8 +74,9 @@ struct Giver<'g, T: Drop> {
     taker: T,
 }
 
-impl<T: Drop> Giver<'_, T> {
-    /// Returns the zone, if it is known: that of the option, or that of the first SOA.
+impl<T: Drop> ReportingVisitor<'_, T> {
+    /// Returns the zone, if it is known: that of the option or the file's name, or that of the first
+    /// SOA.
     fn zone(&self) -> Option<&NameBuffer> {
         match (&self.zone, &self.checker.seen) {
             (Some(zone), _) => Some(zone),
@@ -85,12 +86,12 @@ impl<T: Drop> Giver<'_, T> {
     }
 
     /// Rejects an entry if it is an SOA of another zone. The first one is reported.
-    fn check_soa(&mut self, entry: &Entry<'_>) -> Result<(), Stop> {
+    fn check_soa(&mut self, entry: &Entry<'_>) -> Result<(), RunError> {
         let rt = self.rt;
         if !self.is_one_zone || self.has_other_soa {
             return Ok(());
         }
-        let (Some(given), Ok(EntryRead::Record { at, .. }), Ok(owner)) = (
+        let (Some(given), Ok(ParsedEntry::Record { at, .. }), Ok(owner)) = (
             entry.record()?,
             entry.read,
             entry.state.owner(),
@@ -115,8 +116,8 @@ impl<T: Drop> Giver<'_, T> {
     }
 }
 
-impl<T: TakeEntry + Drop> Visit for Giver<'_, T> {
-    fn begin(&mut self, file: &str, number: usize, mark: &[u8]) -> Result<(), Stop> {
+impl<T: TakeEntry + Drop> Visit for ReportingVisitor<'_, T> {
+    fn begin(&mut self, file: &str, number: usize, mark: &[u8]) -> Result<(), RunError> {
         self.checker.begin(file, number, mark)
     }
 
@@ -124,22 +125,27 @@ impl<T: TakeEntry + Drop> Visit for Giver<'_, T> {
         self.checker.is_quiet(entry)
     }
 
-    fn take_quiet(&mut self, entry: &Entry<'_>) -> Result<(), Stop> {
+    fn take_quiet(&mut self, entry: &Entry<'_>) -> Result<(), RunError> {
         self.checker.take_quiet(entry)?;
         self.taker.take_entry(entry)
     }
 
-    fn take(&mut self, entry: &Entry<'_>) -> Result<(), Stop> {
+    fn take(&mut self, entry: &Entry<'_>) -> Result<(), RunError> {
         self.checker.take(entry)?;
         self.check_soa(entry)?;
         self.taker.take_entry(entry)
     }
 
-    fn refuse(&mut self, entry: &Entry<'_>, unfit: &Unfit) -> Result<(), Stop> {
+    fn refuse(&mut self, entry: &Entry<'_>, unfit: &IncludeError) -> Result<(), RunError> {
         self.checker.refuse(entry, unfit)
     }
 
-    fn keep_ttl(&mut self, file: &str, number: usize, place: Place) -> Result<(), Stop> {
+    fn keep_ttl(
+        &mut self,
+        file: &str,
+        number: usize,
+        place: LocatedOffset,
+    ) -> Result<(), RunError> {
         self.checker.keep_ttl(file, number, place)
     }
 }
@@ -157,10 +163,10 @@ fn unsaid_codes(alloc: Global, is_one_class: bool) -> Result<Vec<Code>, AllocErr
     Ok(codes)
 }
 
-/// Returns the state at the beginning of each file.
-fn first_state(reading: &Reading<'_>) -> State {
+/// Returns the state at the beginning of a file.
+fn first_state(reading: &Reading<'_>, file: &str) -> State {
     let state = State::new(reading.class);
-    match reading.origin.and_then(name_of) {
+    match reading.zone.origin(file) {
         Some(origin) => state.with_origin(origin),
         None => state,
     }
@@ -172,12 +178,13 @@ fn give_files<T: TakeEntry + Drop>(
     rt: &HostRuntime,
     files: &[&str],
     reading: &Reading<'_>,
-    giver: &mut Giver<'_, T>,
+    giver: &mut ReportingVisitor<'_, T>,
 ) -> u8 {
     let mut status = 0;
     for file in files {
+        giver.zone = reading.zone.origin(file);
         let begin = Begin {
-            state: first_state(reading),
+            state: first_state(reading, file),
             includes: reading.includes,
             max_entry: reading.max_entry,
             folders: reading.folders,
@@ -186,15 +193,15 @@ fn give_files<T: TakeEntry + Drop>(
             is_quiet: reading.is_quiet,
         };
         if let Err(stop) = visit_file(rt, file, begin, giver) {
-            let goes_on = matches!(stop, Stop::Read { .. });
-            status = conclude(rt, file, stop);
+            let goes_on = matches!(stop, RunError::Read { .. });
+            status = exit_status(rt, file, stop);
             if !goes_on {
                 return status;
             }
         }
     }
     if let Err(stop) = giver.checker.findings.reporter.summarize() {
-        return conclude(rt, "-", stop);
+        return exit_status(rt, "-", stop);
     }
     let found = giver.checker.findings.reporter.tally.status();
     found.max(u8::from(giver.has_other_soa)).max(status)
@@ -207,15 +214,19 @@ pub struct Outcome<T: Drop> {
     /// be written.
     pub status: u8,
     /// The first SOA.
-    pub seen: Option<Seen>,
+    pub seen: Option<SoaInfo>,
     /// The consumer of the records.
     pub taker: T,
 }
 
 /// Reports that no origin is known, if relative names were rejected for that, and returns the
 /// result.
-fn finish<T: TakeEntry + Drop>(rt: &HostRuntime, giver: Giver<'_, T>, status: u8) -> Outcome<T> {
-    let Giver { checker, taker, .. } = giver;
+fn finish<T: TakeEntry + Drop>(
+    rt: &HostRuntime,
+    giver: ReportingVisitor<'_, T>,
+    status: u8,
+) -> Outcome<T> {
+    let ReportingVisitor { checker, taker, .. } = giver;
     if checker.has_told_origin {
         let _ = eprintln!(rt; "zonetext: no origin: give --zone");
     }
@@ -238,7 +249,7 @@ pub fn give_entries<T: TakeEntry + Drop>(
         Ok(allowed) => allowed,
         Err(_) => {
             return Outcome {
-                status: conclude(rt, "-", Stop::OutOfMemory),
+                status: exit_status(rt, "-", RunError::OutOfMemory),
                 seen: None,
                 taker,
             };
@@ -269,10 +280,10 @@ pub fn give_entries<T: TakeEntry + Drop>(
         Reporter::new(rt, policy, form, MOST)
     };
     let checker = Checker::new(rt, reporter, limits, None);
-    let mut giver = Giver {
+    let mut giver = ReportingVisitor {
         rt,
         checker,
-        zone: reading.origin.and_then(name_of),
+        zone: None,
         is_one_zone: reading.is_one_zone,
         has_other_soa: false,
         taker,

@@ -2,16 +2,15 @@
 ghost use Rattle.std.specs.Prelude.{◌≤◌, length};
 
 use crate::open_file::behind;
-use crate::reporter::Spot;
+use crate::reporter::FindingLocation;
 use crate::zone_files::Entry;
-use dns_heads::type_word;
-use dns_kinds::RecordType;
-use dns_reader::EntryRead;
-use dns_split::entry_tokens::{EntryPart, EntryToken, EntryTokens, NextEntryError};
-use dns_split::opening::outermost_open_of_octets;
-use dns_split::pieces::{Fault, Wrong};
-use dns_split::position::Position;
+use dns_lexer::entry_tokens::{EntryPart, EntryToken, EntryTokens, NextEntryError};
+use dns_lexer::pieces::{Fault, Wrong};
+use dns_lexer::position::Position;
+use dns_lexer::unclosed::outermost_open_of_octets;
+use rdata_values::RecordType;
 use std::alloc::{AllocError, Global};
+use zone_reader::{ParsedEntry, type_word};
 
 /// Returns the number of tokens of a record before its data: those up to its type.
 pub fn data_start(tokens: &[EntryToken<'_>], is_blank: bool) -> usize {
@@ -34,8 +33,8 @@ pub fn line_spot<'s>(
     number: usize,
     position: Position,
     line: Option<&'s [u8]>,
-) -> Spot<'s> {
-    Spot {
+) -> FindingLocation<'s> {
+    FindingLocation {
         file,
         number,
         position,
@@ -45,10 +44,11 @@ pub fn line_spot<'s>(
     }
 }
 
-/// Returns the number of the field of a type's data that is a target: the host of NS, MX and SRV.
+/// Returns the number of the field of a type's data that is a target: the host of NS, MX and SRV, and
+/// the target of CNAME.
 fn target_number(rtype: RecordType) -> Option<usize> {
     match rtype {
-        RecordType::NS => Some(0),
+        RecordType::NS | RecordType::CNAME => Some(0),
         RecordType::MX => Some(1),
         RecordType::SRV => Some(3),
         _ => None,
@@ -77,7 +77,7 @@ fn offset_after_type(entry: &Entry<'_>, number: usize) -> Option<usize> {
 
 /// Returns the position of the target of a record, or that of its first token if it has none.
 pub fn target_position(entry: &Entry<'_>, first: Position) -> Position {
-    let Ok(EntryRead::Record { rtype, .. }) = entry.read else {
+    let Ok(ParsedEntry::Record { rtype, .. }) = entry.read else {
         return first;
     };
     let Some(number) = target_number(*rtype) else {
@@ -166,11 +166,11 @@ fn line_at(octets: &[u8], at: usize) -> &[u8] {
 
 /// Returns the location of `width` octets from an offset of an entry on, which is counted from the
 /// entry's beginning.
-fn spot<'e>(entry: &Entry<'e>, at: usize, width: usize) -> Spot<'e> {
+fn spot<'e>(entry: &Entry<'e>, at: usize, width: usize) -> FindingLocation<'e> {
     let position = position_at(entry, at);
     let end = position_at(entry, at.saturating_add(width));
     let next = position.column.saturating_add(1);
-    Spot {
+    FindingLocation {
         file: entry.file,
         number: entry.number,
         position,
@@ -185,31 +185,31 @@ fn spot<'e>(entry: &Entry<'e>, at: usize, width: usize) -> Spot<'e> {
 }
 
 /// Returns the location of an entry's beginning.
-pub fn beginning<'e>(entry: &Entry<'e>) -> Spot<'e> {
+pub fn beginning<'e>(entry: &Entry<'e>) -> FindingLocation<'e> {
     spot(entry, 0, 1)
 }
 
 /// Returns the location of the token of an entry that begins at an offset of the file. If no token
 /// does, as at the entry's end, it is the location after its last token.
-pub fn spot_at<'e>(entry: &Entry<'e>, tokens: &[EntryToken<'_>], at: usize) -> Spot<'e> {
+pub fn spot_at<'e>(entry: &Entry<'e>, tokens: &[EntryToken<'_>], at: usize) -> FindingLocation<'e> {
     let at = at.saturating_sub(entry.offset);
     let (at, width) = token_from(tokens, at);
     spot(entry, at, width)
 }
 
 /// Returns the location of an octet of an entry, at an offset of the file.
-pub fn octet_at<'e>(entry: &Entry<'e>, at: usize) -> Spot<'e> {
+pub fn octet_at<'e>(entry: &Entry<'e>, at: usize) -> FindingLocation<'e> {
     spot(entry, at.saturating_sub(entry.offset), 1)
 }
 
 /// Returns the location of a token of an entry.
-pub fn token_at<'e>(entry: &Entry<'e>, token: &EntryToken<'_>) -> Spot<'e> {
+pub fn token_at<'e>(entry: &Entry<'e>, token: &EntryToken<'_>) -> FindingLocation<'e> {
     spot(entry, token.at, width(token))
 }
 
 /// Returns the location of `count` octets of an entry, from an offset on that is counted from its
 /// beginning.
-pub fn part_at<'e>(entry: &Entry<'e>, at: usize, count: usize) -> Spot<'e> {
+pub fn part_at<'e>(entry: &Entry<'e>, at: usize, count: usize) -> FindingLocation<'e> {
     spot(entry, at, count)
 }
 
@@ -220,19 +220,19 @@ pub fn token_part<'e>(
     token: &EntryToken<'_>,
     offset: usize,
     count: usize,
-) -> Spot<'e> {
+) -> FindingLocation<'e> {
     spot(entry, token.at.saturating_add(offset), count)
 }
 
 /// Returns the location of a syntax error of an entry: of a parenthesis that is left open, or of the
 /// octet that is wrong, with the position where a quote was opened.
-pub fn fault_at<'e>(entry: &Entry<'e>, fault: Fault) -> Spot<'e> {
+pub fn fault_at<'e>(entry: &Entry<'e>, fault: Fault) -> FindingLocation<'e> {
     match fault.wrong {
         Wrong::OpenParenthesis => match outermost_open_of_octets(entry.octets) {
             Some(at) => spot(entry, at, 1),
             None => octet_at(entry, fault.at),
         },
-        Wrong::OpenQuote(at) => Spot {
+        Wrong::OpenQuote(at) => FindingLocation {
             opened: Some(position_at(entry, at.saturating_sub(entry.offset))),
             ..octet_at(entry, fault.at)
         },
@@ -242,13 +242,13 @@ pub fn fault_at<'e>(entry: &Entry<'e>, fault: Fault) -> Spot<'e> {
 
 /// Returns the location of the beginning of an entry that is too long, and of the outermost
 /// parenthesis that is open where the entry exceeds the limit.
-pub fn long_at<'e>(entry: &Entry<'e>) -> Spot<'e> {
+pub fn long_at<'e>(entry: &Entry<'e>) -> FindingLocation<'e> {
     let count = entry.reader.limit().min(entry.octets.len());
     let opened = match outermost_open_of_octets(&entry.octets[..count]) {
         Some(at) => Some(position_at(entry, at)),
         None => None,
     };
-    Spot {
+    FindingLocation {
         opened,
         ..beginning(entry)
     }

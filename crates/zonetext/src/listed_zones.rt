@@ -1,0 +1,111 @@
+//! Lists of zones: lines with a zone and its file.
+use crate::options::name_of;
+use crate::zone_sources::{
+    SourceError, Sources, ZoneSource, error_at, octets_between, octets_in, text_of_file,
+};
+use server_config::{ListLine, TextSpan, list_line};
+use std::alloc::Global;
+
+/// A line of a list, and its place.
+#[derive(Clone, Copy)]
+struct Line<'l> {
+    /// The name of the list.
+    file: &'l str,
+    /// The text of the list.
+    text: &'l [u8],
+    /// Offset of the line.
+    at: usize,
+    /// The line, without its end.
+    octets: &'l [u8],
+}
+
+impl<'l> Line<'l> {
+    /// Returns the error of a word of the line.
+    fn error(&self, alloc: Global, span: TextSpan, message: &str) -> SourceError {
+        let span = TextSpan {
+            at: self.at.saturating_add(span.at),
+            end: self.at.saturating_add(span.end),
+        };
+        error_at(alloc, self.file, self.text, span, message)
+    }
+
+    /// Returns a word of the line.
+    fn word(&self, alloc: Global, span: TextSpan) -> Result<&'l str, SourceError> {
+        match str::from_utf8(octets_in(self.octets, span)) {
+            Ok(word) => Ok(word),
+            Err(_) => Err(self.error(alloc, span, "word is not UTF-8")),
+        }
+    }
+
+    /// Returns the zone and the file of the line.
+    fn source(
+        &self,
+        alloc: Global,
+        zone: TextSpan,
+        file: TextSpan,
+    ) -> Result<ZoneSource, SourceError> {
+        let name = self.word(alloc, zone)?;
+        let path = self.word(alloc, file)?;
+        if name_of(name).is_none() {
+            return Err(self.error(alloc, zone, "not a domain name"));
+        }
+        Ok(ZoneSource {
+            zone: Some(String::from_str(alloc, name)?),
+            file: String::from_str(alloc, path)?,
+            class: None,
+            base: None,
+            max_ttl: None,
+            needs_host_names: false,
+        })
+    }
+
+    /// Adds the zone of the line, if it has one.
+    fn add(&self, alloc: Global, sources: &mut Sources) -> Result<(), SourceError> {
+        match list_line(self.octets) {
+            ListLine::Blank => Ok(()),
+            ListLine::Entry(zone, file) => {
+                let source = self.source(alloc, zone, file)?;
+                sources.zones.push(source)?;
+                Ok(())
+            }
+            ListLine::NoFile(zone) => Err(self.error(alloc, zone, "no file after the zone")),
+            ListLine::Trailing(word) => {
+                Err(self.error(alloc, word, "third word in a line of a zone and its file"))
+            }
+        }
+    }
+}
+
+/// Returns the offset of the end of the line at an offset.
+fn line_end(text: &[u8], from: usize) -> usize {
+    let mut at = from;
+    for octet in octets_between(text, from, text.len()) {
+        if *octet == b'\n' {
+            return at;
+        }
+        at = at.saturating_add(1);
+    }
+    at
+}
+
+/// Adds the zones of a list, `-` for standard input.
+pub fn add_listed(rt: &HostRuntime, file: &str, sources: &mut Sources) -> Result<(), SourceError> {
+    let text = text_of_file(rt, file)?;
+    let text = text.as_slice();
+    let mut at = 0;
+    for _ in 0..u64::MAX {
+        if text.len() <= at {
+            break;
+        }
+        let end = line_end(text, at);
+        let line = Line {
+            file,
+            text,
+            at,
+            octets: octets_between(text, at, end),
+        };
+        line.add(rt.alloc(), sources)?;
+        at = end.saturating_add(1);
+    }
+    Ok(())
+}

@@ -1,0 +1,343 @@
+//! The command `check` over many zones: those of folders, of a configuration or of a list.
+use crate::check::{Options, check_argument};
+use crate::listed_zones::add_listed;
+use crate::named_zones::add_named;
+use crate::nsd_zones::add_nsd;
+use crate::options::{USAGE, Usage};
+use crate::reporter::{Form, Reporter};
+use crate::shown::Shown;
+use crate::stop::{EXIT_IO, RunError};
+use crate::totals::Totals;
+use crate::zone_folders::{FORMS, FolderOptions, add_folder};
+use crate::zone_names::Zone;
+use crate::zone_sources::{LeftOutCounts, SourceError, Sources, ZoneSource, text_of_file};
+use clap::ArgMatches;
+use server_config::{is_name_form, is_nsd_config};
+use std::alloc::{AllocError, Global};
+use std::fs::metadata;
+use std::io;
+use zonetext_report::code::Code;
+
+/// Returns whether a path is that of a folder. `-` is standard input.
+fn is_folder(rt: &HostRuntime, path: &str) -> bool {
+    if path == "-" {
+        return false;
+    }
+    match metadata(rt, path) {
+        Ok(found) => found.is_dir(),
+        Err(_) => false,
+    }
+}
+
+/// Returns whether the arguments name many zones: by a configuration, a list or a folder.
+pub fn names_many(rt: &HostRuntime, inner: &ArgMatches, files: &[&str]) -> bool {
+    if inner.get_str("conf").is_some() || inner.get_str("zones").is_some() {
+        return true;
+    }
+    for file in files {
+        if is_folder(rt, file) {
+            return true;
+        }
+    }
+    false
+}
+
+/// Returns the forms of the names of files in folders.
+fn forms_of<'o>(inner: &'o ArgMatches) -> Result<&'o [&'o str], Usage<'o>> {
+    let Some(forms) = inner.get_strs("name-form") else {
+        return Ok(&FORMS);
+    };
+    for form in forms {
+        if !is_name_form(form.as_bytes()) {
+            return Err(Usage::Value {
+                option: "--name-form",
+                value: form,
+                wants: "a name with one % or * in the place of the zone, as db.%",
+            });
+        }
+    }
+    Ok(forms)
+}
+
+/// Adds the zones of a configuration.
+fn add_configured(rt: &HostRuntime, file: &str, sources: &mut Sources) -> Result<(), SourceError> {
+    let text = text_of_file(rt, file)?;
+    if is_nsd_config(text.as_slice()) {
+        add_nsd(rt, file, text, sources)
+    } else {
+        add_named(rt, file, text, sources)
+    }
+}
+
+/// Adds a file of the command line.
+fn add_file(alloc: Global, file: &str, sources: &mut Sources) -> Result<(), SourceError> {
+    sources.zones.push(ZoneSource {
+        zone: None,
+        file: String::from_str(alloc, file)?,
+        class: None,
+        base: None,
+        max_ttl: None,
+        needs_host_names: false,
+    })?;
+    Ok(())
+}
+
+/// Adds the zones of the files and folders of the command line.
+fn add_arguments(
+    rt: &HostRuntime,
+    files: &[&str],
+    folders: FolderOptions<'_>,
+    sources: &mut Sources,
+) -> Result<(), SourceError> {
+    for file in files {
+        if is_folder(rt, file) {
+            add_folder(rt, file, folders, sources)?;
+        } else {
+            add_file(rt.alloc(), file, sources)?;
+        }
+    }
+    Ok(())
+}
+
+/// Returns the zones that the arguments name.
+fn sources_of(
+    rt: &HostRuntime,
+    inner: &ArgMatches,
+    folders: FolderOptions<'_>,
+) -> Result<Sources, SourceError> {
+    let mut sources = Sources::new(rt.alloc());
+    if let Some(file) = inner.get_str("conf") {
+        add_configured(rt, file, &mut sources)?;
+    }
+    if let Some(file) = inner.get_str("zones") {
+        add_listed(rt, file, &mut sources)?;
+    }
+    // (without files, standard input is not read)
+    let files = inner.get_strs("FILE").unwrap_or(&[]);
+    add_arguments(rt, files, folders, &mut sources)?;
+    drop_repeated(rt.alloc(), &mut sources.zones)?;
+    Ok(sources)
+}
+
+/// Returns what is the same for zones of the same name and file.
+fn key_of(alloc: Global, source: &ZoneSource) -> Result<String, AllocError> {
+    let zone = match &source.zone {
+        Some(zone) => zone.as_str(),
+        None => "",
+    };
+    let zone = zone
+        .strip_suffix('.')
+        .unwrap_or(zone)
+        .to_ascii_lowercase(alloc)?;
+    let (zone, file) = (zone.as_str(), source.file.as_str());
+    format!(in alloc; "{zone} {file}")
+}
+
+/// Drops zones with the name and the file of one before them, as in several views.
+fn drop_repeated(alloc: Global, zones: &mut Vec<ZoneSource>) -> Result<(), AllocError> {
+    let mut keys = Vec::new(alloc);
+    for number in 0..zones.len() {
+        if let Some(source) = zones.get(number) {
+            if source.zone.is_some() {
+                keys.push((key_of(alloc, source)?, number))?;
+            }
+        }
+    }
+    keys.sort()?;
+    let mut repeated = Vec::new(alloc);
+    let mut before = "";
+    for (key, number) in &keys {
+        if key.as_str() == before {
+            repeated.push(*number)?;
+        }
+        before = key.as_str();
+    }
+    repeated.sort()?;
+    for number in repeated.iter().rev() {
+        if *number < zones.len() {
+            zones.remove(*number);
+        }
+    }
+    Ok(())
+}
+
+impl<'o> Options<'o> {
+    /// Returns the options for a zone.
+    fn of_source<'z>(
+        &'z self,
+        alloc: Global,
+        source: &'z ZoneSource,
+    ) -> Result<Options<'z>, AllocError> {
+        let mut denied = Vec::from_slice(alloc, self.denied.as_slice())?;
+        if source.needs_host_names {
+            denied.push(Code::HostName)?;
+        }
+        let base = match &source.base {
+            Some(base) => Some(base.as_str()),
+            None => None,
+        };
+        Ok(Options {
+            form: self.form,
+            most: self.most,
+            denied,
+            allowed: Vec::from_slice(alloc, self.allowed.as_slice())?,
+            is_strict: self.is_strict,
+            class: source.class.unwrap_or(self.class),
+            max_ttl: self.max_ttl.or(source.max_ttl),
+            max_entry: self.max_entry,
+            folders: self.folders,
+            base: self.base.or(base),
+            stdin_name: self.stdin_name,
+            zone: match &source.zone {
+                Some(zone) => Zone::Set(zone.as_str()),
+                None => self.zone,
+            },
+            times: self.times,
+            is_verbose: self.is_verbose,
+            is_text: self.is_text,
+            is_quiet: self.is_quiet,
+            is_many: true,
+        })
+    }
+}
+
+/// Writes the file and the zone before the number of its findings, if that is written.
+pub fn begin_summary(
+    rt: &HostRuntime,
+    file: &str,
+    zone: Zone<'_>,
+    reporter: &Reporter<'_>,
+    form: Form,
+) -> Result<(), RunError> {
+    let tally = &reporter.tally;
+    let is_silent = matches!(form, Form::Machine(_)) && tally.hidden() == 0;
+    if is_silent || (tally.errors == 0 && tally.warnings == 0) {
+        return Ok(());
+    }
+    let file = Shown(file);
+    match zone {
+        Zone::Set(zone) => {
+            let zone = Shown(zone);
+            eprint!(rt; "{file}: zone {zone}: ")?;
+        }
+        Zone::Unset | Zone::FromName => eprint!(rt; "{file}: ")?,
+    }
+    Ok(())
+}
+
+/// Appends a number of zones that are left out, and why, unless it is 0.
+fn push_left_out(out: &mut String, number: usize, reason: &str) -> Result<(), AllocError> {
+    if number == 0 {
+        return Ok(());
+    }
+    let gap = if out.is_empty() { "" } else { ", " };
+    let text = format!(in *out.allocator(); "{gap}{number} {reason}")?;
+    out.push_str(text.as_str())
+}
+
+/// Returns the numbers of zones that are left out, and why. It is empty if there are none.
+fn left_out_text(alloc: Global, counts: LeftOutCounts) -> Result<String, AllocError> {
+    let mut out = String::new(alloc);
+    push_left_out(&mut out, counts.other_type, "of another type than primary")?;
+    push_left_out(&mut out, counts.in_view, "of another view")?;
+    push_left_out(&mut out, counts.database, "in a database")?;
+    push_left_out(&mut out, counts.format, "not in text format")?;
+    push_left_out(&mut out, counts.template, "with a template")?;
+    Ok(out)
+}
+
+/// Reports what is not checked. Returns 1 if the zone of a file is not clear and findings are
+/// strict.
+fn report_omitted(rt: &HostRuntime, sources: &Sources, is_strict: bool) -> io::Result<u8> {
+    let mut status = 0;
+    for note in &sources.notes {
+        let note = Shown(note.as_str());
+        eprintln!(rt; "zonetext: {note}")?;
+    }
+    for file in &sources.unclear {
+        let file = Shown(file.as_str());
+        eprintln!(rt; "zonetext: {file}: not checked: its name doesn't say the zone")?;
+        if is_strict {
+            status = 1;
+        }
+    }
+    Ok(status)
+}
+
+/// Reports the number of zones and findings, and the zones that are left out.
+fn report_zones(
+    rt: &HostRuntime,
+    sources: &Sources,
+    totals: &Totals,
+    failed: usize,
+) -> io::Result<()> {
+    let left_out = left_out_text(rt.alloc(), sources.left_out)?;
+    if !left_out.is_empty() {
+        let left_out = left_out.as_str();
+        eprintln!(rt; "left out: {left_out}")?;
+    }
+    let (zones, warnings) = (sources.zones.len(), totals.warnings());
+    let plural = if zones == 1 { "" } else { "s" };
+    let all = if warnings == 1 { "" } else { "s" };
+    eprintln!(rt; "{zones} zone{plural}, {failed} with errors, {warnings} warning{all}")
+}
+
+/// Checks a zone, and returns the status.
+fn check_source(
+    rt: &HostRuntime,
+    source: &ZoneSource,
+    options: &Options,
+    totals: &mut Totals,
+) -> io::Result<u8> {
+    match options.of_source(rt.alloc(), source) {
+        Ok(options) => check_argument(rt, source.file.as_str(), &options, totals),
+        Err(_) => {
+            let file = Shown(source.file.as_str());
+            eprintln!(rt; "zonetext: {file}: not enough memory")?;
+            Ok(EXIT_IO)
+        }
+    }
+}
+
+/// Checks zones, and returns the greatest status.
+fn check_sources(rt: &HostRuntime, sources: &Sources, options: &Options) -> io::Result<u8> {
+    let mut totals = Totals::new(options.form);
+    totals.is_of_zones = true;
+    let mut status = totals.start(rt);
+    let mut failed: usize = 0;
+    for source in &sources.zones {
+        let checked = check_source(rt, source, options, &mut totals)?;
+        if checked != 0 {
+            failed = failed.saturating_add(1);
+        }
+        status = checked.max(status);
+    }
+    status = totals.end(rt).max(status);
+    status = report_omitted(rt, sources, options.is_strict)?.max(status);
+    report_zones(rt, sources, &totals, failed)?;
+    Ok(status)
+}
+
+/// Checks the zones that the arguments name, and returns the greatest status.
+#[inline(never)]
+pub fn run(rt: &HostRuntime, inner: &ArgMatches, options: &Options) -> io::Result<u8> {
+    let forms = match forms_of(inner) {
+        Ok(forms) => forms,
+        Err(usage) => return crate::options::status_of(rt, Err(usage)),
+    };
+    if let Zone::Set(zone) = options.zone {
+        let zone = Shown(zone);
+        eprintln!(rt;
+            "zonetext: --zone {zone}: the zones of a folder have the names of their files"
+        )?;
+        return Ok(USAGE);
+    }
+    let folders = FolderOptions {
+        forms,
+        is_recursive: inner.get_flag("recursive"),
+    };
+    match sources_of(rt, inner, folders) {
+        Ok(sources) => check_sources(rt, &sources, options),
+        Err(error) => Ok(error.exit_status(rt)),
+    }
+}
