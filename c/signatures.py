@@ -12,7 +12,7 @@ HERE = os.path.dirname(os.path.abspath(__file__))
 NUMBERS = {'usize': 'size_t', 'u64': 'uint64_t', 'u32': 'uint32_t', 'u16': 'uint16_t', 'u8': 'bool'}
 STRUCTS = {'Outcome': 'struct dnstext_outcome', 'Token': 'struct dnstext_token',
            'Cursor': 'struct dnstext_cursor', 'Piece': 'struct dnstext_piece',
-           'Standing': 'struct dnstext_standing', 'KeptName': 'struct dnstext_kept_name',
+           'CursorState': 'struct dnstext_lexer', 'KeptName': 'struct dnstext_kept_name',
            'Zone': 'struct dnstext_zone', 'Record': 'struct dnstext_record',
            'Position': 'struct dnstext_position'}
 

@@ -6,13 +6,13 @@
 static uint8_t text[1024 * 1024];
 
 int main(void) {
-    struct dnstext_standing standing = DNSTEXT_STANDING_INIT;
+    struct dnstext_lexer lexer = DNSTEXT_LEXER_INIT;
     struct dnstext_piece piece;
     struct dnstext_outcome outcome;
     size_t length = fread(text, 1, sizeof text, stdin);
     unsigned long entry = 1;
     uint32_t status;
-    while ((status = dnstext_tokens_next(text, length, &standing, &piece, &outcome)) == DNSTEXT_OK) {
+    while ((status = dnstext_tokens_next(text, length, &lexer, &piece, &outcome)) == DNSTEXT_OK) {
         if (piece.kind == DNSTEXT_WORD || piece.kind == DNSTEXT_QUOTED)
             printf("%lu %.*s\n", entry, (int)(piece.end - piece.start), (const char *)text + piece.start);
         if (piece.kind == DNSTEXT_ENTRY_END)

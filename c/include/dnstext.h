@@ -46,7 +46,7 @@ enum dnstext_status {
     DNSTEXT_OPEN_PARENTHESIS = 10, /* the text ends inside parentheses */
     DNSTEXT_OPEN_QUOTE = 11,       /* the text or a line ends inside a quoted string */
     DNSTEXT_LONE_RETURN = 12,      /* a CR that LF doesn't follow */
-    DNSTEXT_BAD_CURSOR = 13,       /* a cursor, a standing or a zone after the end of the text; a standing
+    DNSTEXT_BAD_CURSOR = 13,       /* a cursor, a lexer or a zone after the end of the text; a lexer
                                       with more open parentheses than octets before it; a zone with octets
                                       of a name that aren't a name */
     DNSTEXT_EMPTY_LABEL = 14,      /* a plain dot after an empty label */
@@ -244,7 +244,7 @@ uint32_t dnstext_entry_next(const uint8_t *text, size_t text_len, struct dnstext
 
 /* ---- Zone files, piece by piece: an entry of any length is parsed without memory for its tokens.
  *
- * A standing holds all state between two calls. It may be copied, stored and used again. */
+ * A lexer holds all state between two calls. It may be copied, stored and used again. */
 enum dnstext_piece_kind {
     DNSTEXT_WORD = 0,
     DNSTEXT_QUOTED = 1,   /* a quoted string, which includes its double quotes */
@@ -259,23 +259,23 @@ struct dnstext_piece {
     bool begins_blank; /* whether the piece's entry begins with a blank */
 };
 
-/* Initialized to DNSTEXT_STANDING_INIT, all zeros; or `at` and `began` are both the offset of an entry. */
-struct dnstext_standing {
+/* Initialized to DNSTEXT_LEXER_INIT, all zeros; or `at` and `began` are both the offset of an entry. */
+struct dnstext_lexer {
     size_t at;    /* offset at which parsing continues, where no piece is open */
     size_t depth; /* number of open parentheses */
     size_t began; /* offset of the beginning of the open entry */
     bool is_done; /* whether no piece is left */
 };
 /* clang-format off */
-#define DNSTEXT_STANDING_INIT {0, 0, 0, false}
+#define DNSTEXT_LEXER_INIT {0, 0, 0, false}
 /* clang-format on */
 
-/* Returns the next piece, and advances the standing. The last piece is an end. A syntax error has its
+/* Returns the next piece, and advances the lexer. The last piece is an end. A syntax error has its
  * place, and comes after the pieces before it; then the text is done. dnstext_entry_next from `began`,
  * with an array of length 0, reports the offset of the unclosed opener. Once no piece is left the
  * status is DNSTEXT_END. The piece is written only with DNSTEXT_OK, and the length is 0. With
- * DNSTEXT_BAD_CURSOR the standing is unchanged. */
-uint32_t dnstext_tokens_next(const uint8_t *text, size_t text_len, struct dnstext_standing *standing,
+ * DNSTEXT_BAD_CURSOR the lexer is unchanged. */
+uint32_t dnstext_tokens_next(const uint8_t *text, size_t text_len, struct dnstext_lexer *lexer,
                              struct dnstext_piece *piece, struct dnstext_outcome *outcome);
 
 /* ---- Zone files, record by record (RFC 1035 section 5.1, RFC 2308 section 4).

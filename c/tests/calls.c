@@ -474,11 +474,11 @@ static void cursors(void) {
     EXPECT(tells(outcome, 0, 0) && past.is_done == 0);
 }
 
-static void next(const uint8_t *text, size_t length, struct dnstext_standing *standing, uint32_t status,
+static void next(const uint8_t *text, size_t length, struct dnstext_lexer *lexer, uint32_t status,
                  size_t place, struct dnstext_piece wanted, int line) {
     struct dnstext_piece piece = {9, 9, 9, true};
     struct dnstext_outcome outcome = {7, 7};
-    expect(dnstext_tokens_next(text, length, standing, &piece, &outcome) == status, "status", line);
+    expect(dnstext_tokens_next(text, length, lexer, &piece, &outcome) == status, "status", line);
     expect(outcome.length == 0 && outcome.place == place, "length and place", line);
     expect(piece.kind == wanted.kind && piece.start == wanted.start && piece.end == wanted.end &&
                piece.begins_blank == wanted.begins_blank,
@@ -487,34 +487,32 @@ static void next(const uint8_t *text, size_t length, struct dnstext_standing *st
 
 static const struct dnstext_piece no_piece = {9, 9, 9, true};
 
-static int is_standing(struct dnstext_standing standing, size_t at, size_t depth, size_t began,
-                       bool is_done) {
-    return standing.at == at && standing.depth == depth && standing.began == began &&
-           standing.is_done == is_done;
+static int is_lexer(struct dnstext_lexer lexer, size_t at, size_t depth, size_t began, bool is_done) {
+    return lexer.at == at && lexer.depth == depth && lexer.began == began && lexer.is_done == is_done;
 }
 
-static void piece(const uint8_t *text, size_t length, struct dnstext_standing *standing, size_t kind,
-                  size_t start, size_t end, bool begins_blank, int line) {
+static void piece(const uint8_t *text, size_t length, struct dnstext_lexer *lexer, size_t kind, size_t start,
+                  size_t end, bool begins_blank, int line) {
     struct dnstext_piece wanted;
     wanted.kind = kind;
     wanted.start = start;
     wanted.end = end;
     wanted.begins_blank = begins_blank;
-    next(text, length, standing, DNSTEXT_OK, 0, wanted, line);
+    next(text, length, lexer, DNSTEXT_OK, 0, wanted, line);
 }
-#define PIECE(text, standing, kind, start, end, blank) \
-    piece(BYTES(text), standing, kind, start, end, blank, __LINE__)
-#define NO_PIECE(text, standing, status, place) next(BYTES(text), standing, status, place, no_piece, __LINE__)
+#define PIECE(text, lexer, kind, start, end, blank) \
+    piece(BYTES(text), lexer, kind, start, end, blank, __LINE__)
+#define NO_PIECE(text, lexer, status, place) next(BYTES(text), lexer, status, place, no_piece, __LINE__)
 
 static void wrong_piece(const uint8_t *text, size_t length, uint32_t status, size_t place, int line) {
-    struct dnstext_standing standing = DNSTEXT_STANDING_INIT;
+    struct dnstext_lexer lexer = DNSTEXT_LEXER_INIT;
     struct dnstext_cursor cursor = DNSTEXT_CURSOR_INIT;
     struct dnstext_outcome outcome;
-    piece(text, length, &standing, DNSTEXT_WORD, 0, 1, 0, line);
-    next(text, length, &standing, status, place, no_piece, line);
-    expect(standing.is_done == 1 && standing.began == 0, "standing", line);
-    next(text, length, &standing, DNSTEXT_END, 0, no_piece, line);
-    cursor.at = standing.began;
+    piece(text, length, &lexer, DNSTEXT_WORD, 0, 1, 0, line);
+    next(text, length, &lexer, status, place, no_piece, line);
+    expect(lexer.is_done == 1 && lexer.began == 0, "lexer", line);
+    next(text, length, &lexer, DNSTEXT_END, 0, no_piece, line);
+    cursor.at = lexer.began;
     expect(dnstext_entry_next(text, length, &cursor, NULL, 0, &outcome) == status, "entry", line);
     expect(cursor.opened == (status == DNSTEXT_OPEN_QUOTE || status == DNSTEXT_OPEN_PARENTHESIS ? 2 : 0),
            "where it was opened", line);
@@ -523,26 +521,26 @@ static void wrong_piece(const uint8_t *text, size_t length, uint32_t status, siz
 
 static void pieces(void) {
     static const char whole[] = " a (b ;c\n\"d\") \351\n\ne";
-    struct dnstext_standing standing = DNSTEXT_STANDING_INIT, inside, done;
-    struct dnstext_standing past = {3, 0, 0, false}, deep = {1, 2, 0, false};
-    struct dnstext_standing empty = DNSTEXT_STANDING_INIT, first = empty, second = empty;
-    PIECE(whole, &standing, DNSTEXT_WORD, 1, 2, 1);
-    PIECE(whole, &standing, DNSTEXT_WORD, 4, 5, 1);
-    EXPECT(standing.depth == 1 && standing.began == 0);
-    inside = standing;
-    PIECE(whole, &standing, DNSTEXT_COMMENT, 6, 8, 1);
-    PIECE(whole, &standing, DNSTEXT_QUOTED, 9, 12, 1);
-    PIECE(whole, &standing, DNSTEXT_WORD, 14, 15, 1);
-    PIECE(whole, &standing, DNSTEXT_ENTRY_END, 16, 16, 1);
-    EXPECT(standing.at == 16 && standing.began == 16 && standing.depth == 0);
-    PIECE(whole, &standing, DNSTEXT_ENTRY_END, 17, 17, 0);
-    PIECE(whole, &standing, DNSTEXT_WORD, 17, 18, 0);
-    EXPECT(standing.is_done == 0);
-    PIECE(whole, &standing, DNSTEXT_ENTRY_END, 18, 18, 0);
-    EXPECT(standing.is_done == 1);
-    done = standing;
-    NO_PIECE(whole, &standing, DNSTEXT_END, 0);
-    EXPECT(is_standing(standing, done.at, done.depth, done.began, true));
+    struct dnstext_lexer lexer = DNSTEXT_LEXER_INIT, inside, done;
+    struct dnstext_lexer past = {3, 0, 0, false}, deep = {1, 2, 0, false};
+    struct dnstext_lexer empty = DNSTEXT_LEXER_INIT, first = empty, second = empty;
+    PIECE(whole, &lexer, DNSTEXT_WORD, 1, 2, 1);
+    PIECE(whole, &lexer, DNSTEXT_WORD, 4, 5, 1);
+    EXPECT(lexer.depth == 1 && lexer.began == 0);
+    inside = lexer;
+    PIECE(whole, &lexer, DNSTEXT_COMMENT, 6, 8, 1);
+    PIECE(whole, &lexer, DNSTEXT_QUOTED, 9, 12, 1);
+    PIECE(whole, &lexer, DNSTEXT_WORD, 14, 15, 1);
+    PIECE(whole, &lexer, DNSTEXT_ENTRY_END, 16, 16, 1);
+    EXPECT(lexer.at == 16 && lexer.began == 16 && lexer.depth == 0);
+    PIECE(whole, &lexer, DNSTEXT_ENTRY_END, 17, 17, 0);
+    PIECE(whole, &lexer, DNSTEXT_WORD, 17, 18, 0);
+    EXPECT(lexer.is_done == 0);
+    PIECE(whole, &lexer, DNSTEXT_ENTRY_END, 18, 18, 0);
+    EXPECT(lexer.is_done == 1);
+    done = lexer;
+    NO_PIECE(whole, &lexer, DNSTEXT_END, 0);
+    EXPECT(is_lexer(lexer, done.at, done.depth, done.began, true));
     PIECE(whole, &inside, DNSTEXT_COMMENT, 6, 8, 1);
     piece(NULL, 0, &empty, DNSTEXT_ENTRY_END, 0, 0, 0, __LINE__);
     PIECE("", &first, DNSTEXT_ENTRY_END, 0, 0, 0);
@@ -560,13 +558,13 @@ static void pieces(void) {
     WRONG_PIECE("a b\\256", DNSTEXT_BAD_ESCAPE, 6);
 }
 
-static void standings_outside_the_text(void) {
-    struct dnstext_standing past = {2, 0, 0, false}, deep = {0, 1, 0, false}, done = {2, 0, 0, true};
-    struct dnstext_standing elsewhere = {1, 0, 99, false};
+static void lexers_outside_the_text(void) {
+    struct dnstext_lexer past = {2, 0, 0, false}, deep = {0, 1, 0, false}, done = {2, 0, 0, true};
+    struct dnstext_lexer elsewhere = {1, 0, 99, false};
     NO_PIECE("a", &past, DNSTEXT_BAD_CURSOR, 0);
-    EXPECT(is_standing(past, 2, 0, 0, 0));
+    EXPECT(is_lexer(past, 2, 0, 0, 0));
     NO_PIECE("a", &deep, DNSTEXT_BAD_CURSOR, 0);
-    EXPECT(is_standing(deep, 0, 1, 0, 0));
+    EXPECT(is_lexer(deep, 0, 1, 0, 0));
     /* The other fields are ignored if it is done. */
     NO_PIECE("a", &done, DNSTEXT_END, 0);
     /* The beginning of the entry may have any offset. */
@@ -575,14 +573,14 @@ static void standings_outside_the_text(void) {
 
 /* States of any octets that no call returned: a flag other than 0 and 1 counts as 1. */
 static void states_of_any_octets(void) {
-    struct dnstext_standing standing;
+    struct dnstext_lexer lexer;
     struct dnstext_cursor cursor;
     struct dnstext_outcome outcome;
     unsigned octet;
     for (octet = 0; octet < 256; octet++) {
         if (octet != 0) {
-            memset(&standing, (int)octet, sizeof standing);
-            NO_PIECE("", &standing, DNSTEXT_END, 0);
+            memset(&lexer, (int)octet, sizeof lexer);
+            NO_PIECE("", &lexer, DNSTEXT_END, 0);
             memset(&cursor, (int)octet, sizeof cursor);
             EXPECT(dnstext_entry_next(NULL, 0, &cursor, NULL, 0, &outcome) == DNSTEXT_END);
             EXPECT(tells(outcome, 0, 0));
@@ -642,7 +640,7 @@ int main(void) {
     entries();
     cursors();
     pieces();
-    standings_outside_the_text();
+    lexers_outside_the_text();
     states_of_any_octets();
     texts();
     version();

@@ -273,14 +273,14 @@ static void try_entries(struct dnstext_cursor cursor) {
     CHECK(status == DNSTEXT_BAD_CURSOR || status == DNSTEXT_END || outcome.place <= text_len);
 }
 
-static void try_pieces(struct dnstext_standing standing) {
+static void try_pieces(struct dnstext_lexer lexer) {
     struct dnstext_piece piece;
     struct dnstext_outcome outcome;
     uint32_t status;
     size_t calls_left = 2 * text_len + 3;
     do {
         memset(&piece, FILL, sizeof piece);
-        status = dnstext_tokens_next(text, text_len, &standing, &piece, &outcome);
+        status = dnstext_tokens_next(text, text_len, &lexer, &piece, &outcome);
         CHECK(status < STATUSES && status != DNSTEXT_NO_ROOM && outcome.length == 0);
         if (status == DNSTEXT_OK)
             CHECK(piece.kind <= DNSTEXT_ENTRY_END && piece.start <= piece.end && piece.end <= text_len);
@@ -323,7 +323,7 @@ static void try_records(struct dnstext_zone *zone) {
 /* States that no call returned, made of the octets of the input. */
 static void try_states(void) {
     struct dnstext_cursor cursor;
-    struct dnstext_standing standing;
+    struct dnstext_lexer lexer;
     struct dnstext_zone zone;
     struct dnstext_token token;
     struct dnstext_piece piece;
@@ -333,15 +333,15 @@ static void try_states(void) {
     size_t i;
     for (i = 0; i < 2; i++) {
         memset(&cursor, FILL, sizeof cursor);
-        memset(&standing, FILL, sizeof standing);
+        memset(&lexer, FILL, sizeof lexer);
         memset(&zone, 0, sizeof zone);
         memcpy(&cursor, text, text_len < sizeof cursor ? text_len : sizeof cursor);
-        memcpy(&standing, text, text_len < sizeof standing ? text_len : sizeof standing);
+        memcpy(&lexer, text, text_len < sizeof lexer ? text_len : sizeof lexer);
         memcpy(&zone, text, text_len < sizeof zone ? text_len : sizeof zone);
         if (i == 1)
-            cursor.at = standing.at = standing.depth = zone.at = number % (text_len + 2);
+            cursor.at = lexer.at = lexer.depth = zone.at = number % (text_len + 2);
         CHECK(dnstext_entry_next(text, text_len, &cursor, &token, 1, &outcome) < STATUSES);
-        CHECK(dnstext_tokens_next(text, text_len, &standing, &piece, &outcome) < STATUSES);
+        CHECK(dnstext_tokens_next(text, text_len, &lexer, &piece, &outcome) < STATUSES);
         CHECK(dnstext_record_next(text, text_len, &zone, &record, octets, 9, &outcome) < STATUSES);
         CHECK(dnstext_zone_origin(&zone, text, text_len, &outcome) < STATUSES && outcome.length == 0);
     }
@@ -350,11 +350,11 @@ static void try_states(void) {
 
 static void try_input(const uint8_t *from, size_t length) {
     static const struct dnstext_cursor cursor = DNSTEXT_CURSOR_INIT;
-    static const struct dnstext_standing standing = DNSTEXT_STANDING_INIT;
+    static const struct dnstext_lexer lexer = DNSTEXT_LEXER_INIT;
     static const struct dnstext_zone empty = DNSTEXT_ZONE_INIT;
     static const uint8_t origin[] = "\7example";
     struct dnstext_cursor inside = cursor;
-    struct dnstext_standing at = standing;
+    struct dnstext_lexer at = lexer;
     struct dnstext_zone zone = empty;
     struct dnstext_outcome outcome;
     uint8_t *copy;
@@ -376,7 +376,7 @@ static void try_input(const uint8_t *from, size_t length) {
     inside.at = at.at = at.began = number;
     try_entries(cursor);
     try_entries(inside);
-    try_pieces(standing);
+    try_pieces(lexer);
     try_pieces(at);
     CHECK(dnstext_zone_origin(&zone, origin, sizeof origin, &outcome) == DNSTEXT_OK);
     try_records(&zone);

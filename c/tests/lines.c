@@ -47,11 +47,11 @@ static int is_same(struct dnstext_token token, struct dnstext_token other) {
 
 /* Parses the text piece by piece: the tokens, and each line end with its flag. */
 static void read_pieces(const size_t *ends, const uint8_t *blanks) {
-    struct dnstext_standing standing = DNSTEXT_STANDING_INIT;
+    struct dnstext_lexer lexer = DNSTEXT_LEXER_INIT;
     struct dnstext_piece piece;
     struct dnstext_outcome outcome;
     size_t line = 0, at = 0;
-    while (dnstext_tokens_next(text, length, &standing, &piece, &outcome) == DNSTEXT_OK) {
+    while (dnstext_tokens_next(text, length, &lexer, &piece, &outcome) == DNSTEXT_OK) {
         if (line == LINES || piece.begins_blank != blanks[line])
             fail("another flag", line);
         if (piece.kind == DNSTEXT_ENTRY_END) {
@@ -66,7 +66,7 @@ static void read_pieces(const size_t *ends, const uint8_t *blanks) {
             at++;
         }
     }
-    if (!standing.is_done || line != LINES || at != count)
+    if (!lexer.is_done || line != LINES || at != count)
         fail("another number of pieces", line);
 }
 

@@ -329,31 +329,31 @@ static bool is_blank_at(const uint8_t *text, size_t length, size_t place) {
     return place < length && (text[place] == ' ' || text[place] == '\t');
 }
 
-/* The next piece, and the standing after it. */
+/* The next piece, and the lexer after it. */
 static void answer_next(char **fields) {
     size_t length;
     uint8_t *text = octets_of(fields[1], &length);
-    struct dnstext_standing standing = DNSTEXT_STANDING_INIT;
+    struct dnstext_lexer lexer = DNSTEXT_LEXER_INIT;
     struct dnstext_piece piece = {0, 0, 0, false};
     struct dnstext_outcome outcome;
     uint32_t status;
     size_t began;
-    standing.at = strtoul(fields[2], NULL, 10);
-    standing.depth = strtoul(fields[3], NULL, 10);
-    standing.began = began = strtoul(fields[4], NULL, 10);
-    status = dnstext_tokens_next(text, length, &standing, &piece, &outcome);
+    lexer.at = strtoul(fields[2], NULL, 10);
+    lexer.depth = strtoul(fields[3], NULL, 10);
+    lexer.began = began = strtoul(fields[4], NULL, 10);
+    status = dnstext_tokens_next(text, length, &lexer, &piece, &outcome);
     add_piece(text, length, status, &piece, outcome.place, began);
-    if (standing.is_done)
+    if (lexer.is_done)
         add_text("done, began ");
-    else if (standing.at == standing.began && standing.depth == 0)
+    else if (lexer.at == lexer.began && lexer.depth == 0)
         add_text("entry at ");
     else {
         add_text("depth ");
-        add_number(standing.depth);
+        add_number(lexer.depth);
         add_text(", began ");
     }
-    add_number(standing.began);
-    add_text(!standing.is_done && is_blank_at(text, length, standing.began) ? ", blank" : "");
+    add_number(lexer.began);
+    add_text(!lexer.is_done && is_blank_at(text, length, lexer.began) ? ", blank" : "");
     free(text);
     judge_row(NULL);
 }
@@ -362,13 +362,13 @@ static void answer_next(char **fields) {
 static void answer_pieces(const char *input) {
     size_t length, began = 0;
     uint8_t *text = octets_of(input, &length);
-    struct dnstext_standing standing = DNSTEXT_STANDING_INIT;
+    struct dnstext_lexer lexer = DNSTEXT_LEXER_INIT;
     struct dnstext_piece piece;
     struct dnstext_outcome outcome;
     uint32_t status;
-    while ((status = dnstext_tokens_next(text, length, &standing, &piece, &outcome)) != DNSTEXT_END) {
+    while ((status = dnstext_tokens_next(text, length, &lexer, &piece, &outcome)) != DNSTEXT_END) {
         add_piece(text, length, status, &piece, outcome.place, began);
-        began = standing.began;
+        began = lexer.began;
     }
     free(text);
     judge_row(NULL);
@@ -402,10 +402,10 @@ static void answer_split(const char *input) {
 static void answer_is_token(const char *input) {
     size_t length;
     uint8_t *text = octets_of(input, &length);
-    struct dnstext_standing standing = DNSTEXT_STANDING_INIT;
+    struct dnstext_lexer lexer = DNSTEXT_LEXER_INIT;
     struct dnstext_piece piece = {0, 0, 0, false};
     struct dnstext_outcome outcome;
-    bool is_token = dnstext_tokens_next(text, length, &standing, &piece, &outcome) == DNSTEXT_OK &&
+    bool is_token = dnstext_tokens_next(text, length, &lexer, &piece, &outcome) == DNSTEXT_OK &&
                     piece.kind <= DNSTEXT_QUOTED && piece.start == 0 && piece.end == length;
     free(text);
     add_text(is_token ? "true" : "false");

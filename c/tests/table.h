@@ -1,5 +1,5 @@
 /* Test rows on standard input: a call, its inputs and the expected result, separated by tabs
- * (crates/row_table). `%` and two hexadecimal digits are an octet; `!` begins an error. A line number can
+ * (crates/test_support). `%` and two hexadecimal digits are an octet; `!` begins an error. A line number can
  * precede a row; otherwise lines are counted.
  *
  *     PROGRAM [--list] FILE < ROWS

@@ -91,7 +91,7 @@ pub struct dnstext_piece {
 /// The state of reading pieces. The default is the start of a text.
 #[repr(C)]
 #[derive(Clone, Copy, Debug, Default, PartialEq, Eq)]
-pub struct dnstext_standing {
+pub struct dnstext_lexer {
     pub at: usize,
     pub depth: usize,
     pub began: usize,
@@ -347,7 +347,7 @@ extern "C" {
     pub fn dnstext_tokens_next(
         text: *const u8,
         text_len: usize,
-        standing: *mut dnstext_standing,
+        lexer: *mut dnstext_lexer,
         piece: *mut dnstext_piece,
         outcome: *mut dnstext_outcome,
     ) -> u32;

@@ -2,7 +2,7 @@
 use crate::library;
 use crate::zone::{Fault, FaultKind};
 use dns_text_sys::{
-    dnstext_cursor, dnstext_entry_next, dnstext_outcome, dnstext_piece, dnstext_standing,
+    dnstext_cursor, dnstext_entry_next, dnstext_lexer, dnstext_outcome, dnstext_piece,
     dnstext_tokens_next, DNSTEXT_COMMENT, DNSTEXT_END, DNSTEXT_ENTRY_END, DNSTEXT_OK,
     DNSTEXT_QUOTED, DNSTEXT_WORD,
 };
@@ -69,7 +69,7 @@ pub fn pieces(text: &[u8]) -> Pieces<'_> {
     library::check();
     Pieces {
         text,
-        standing: dnstext_standing::default(),
+        lexer: dnstext_lexer::default(),
     }
 }
 
@@ -79,7 +79,7 @@ pub fn pieces(text: &[u8]) -> Pieces<'_> {
 #[derive(Clone, Debug)]
 pub struct Pieces<'t> {
     text: &'t [u8],
-    standing: dnstext_standing,
+    lexer: dnstext_lexer,
 }
 
 impl<'t> Pieces<'t> {
@@ -103,7 +103,7 @@ impl<'t> Pieces<'t> {
     /// Returns the offset of the unclosed opener in the open entry.
     fn opened(&self) -> usize {
         let mut cursor = dnstext_cursor {
-            at: self.standing.began,
+            at: self.lexer.began,
             ..dnstext_cursor::default()
         };
         let mut outcome = dnstext_outcome::default();
@@ -133,7 +133,7 @@ impl<'t> Iterator for Pieces<'t> {
             dnstext_tokens_next(
                 self.text.as_ptr(),
                 self.text.len(),
-                &mut self.standing,
+                &mut self.lexer,
                 &mut piece,
                 &mut outcome,
             )
