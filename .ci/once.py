@@ -18,7 +18,7 @@ from dataclasses import dataclass
 
 TOP = pathlib.Path(__file__).resolve().parent.parent / "crates"
 # The table of names of types, for which TYPE is a placeholder in patterns.
-TYPES = TOP / "dns_kinds/src/types.rt"
+TYPES = TOP / "rdata_values/src/types.rt"
 
 
 @dataclass
@@ -38,7 +38,7 @@ RULES = [
             "dns_symbol/src/chars.rt": 1,
             "dns_symbol/src/escape.rt": 1,
             # an octet of an IPv4 address
-            "dns_fields/src/addresses.rt": 1,
+            "rdata_fields/src/addresses.rt": 1,
         },
     ),
     Rule(
@@ -46,9 +46,9 @@ RULES = [
         pattern=r"\bconst (?:TYPE|IN|CH|HS|CLASS): (?:u16|RecordType|Class) =",
         example="pub(crate) const SOA: u16 = 6;",
         places={
-            "dns_kinds/src/classes.rt": 3,  # (the table)
-            "dns_kinds/src/type_codes.rt": 97,  # (the table)
-            "dns_resource/src/codes.rt": 16,
+            "rdata_values/src/classes.rt": 3,  # (the table)
+            "rdata_values/src/type_codes.rt": 97,  # (the table)
+            "zone_record/src/codes.rt": 16,
         },
     ),
     Rule(
@@ -61,12 +61,12 @@ RULES = [
         ),
         example="if record.data.code() == 6 {",
         places={
-            "dns_data/specs/ByType.antt": 1,
-            "dns_data/specs/TypeLists.antt": 1,
-            "dns_kinds/src/classes.rt": 3,  # (the table)
-            "dns_kinds/src/type_codes.rt": 97,  # (the table)
+            "rdata/specs/ByType.antt": 1,
+            "rdata/specs/TypeLists.antt": 1,
+            "rdata_values/src/classes.rt": 3,  # (the table)
+            "rdata_values/src/type_codes.rt": 97,  # (the table)
             "dns_text_c/src/records.rt": 2,
-            "zone_digest/src/algorithm.rt": 3,
+            "zone_set/src/algorithm.rt": 3,
             "zone_rules/src/pairs.rt": 2,
             "zone_rules/src/search.rt": 1,
         },
@@ -76,10 +76,10 @@ RULES = [
         pattern=r"\b(?:class|rtype|record_type|type_code|code): (?:Option<|&\[|Vec<)?u16\b",
         example="struct Row {\n    class: u16,\n}",
         places={
-            "dns_kinds/src/registry.rt": 1,
-            "dns_kinds/src/types.rt": 1,
-            "dns_lists/src/code_set.rt": 2,
-            "dns_params/src/keys.rt": 1,
+            "rdata_values/src/registry.rt": 1,
+            "rdata_values/src/types.rt": 1,
+            "rdata_values/src/code_set.rt": 2,
+            "rdata_svcb/src/keys.rt": 1,
             "dns_text_c/src/canonical.rt": 1,
             "dns_text_c/src/kinds.rt": 2,
             "dns_text_c/src/printing.rt": 1,
@@ -95,10 +95,12 @@ RULES = [
         ),
         example="struct HeadRefusal {\n    at: usize,\n    why: HeadError,\n}",
         places={
-            "dns_fields/src/record_error.rt": 1,  # (the one)
-            "dns_split/src/pieces.rt": 1,
+            "rdata_fields/src/record_error.rt": 1,  # (the one)
+            "dns_lexer/src/pieces.rt": 1,
             "dns_text_c/src/outcome.rt": 1,
-            "zone_generate/src/error.rt": 1,  # (below dns_fields)
+            "server_config/src/error.rt": 1,  # (of configurations)
+            "server_config/src/token.rt": 1,  # (a token, no error)
+            "zone_generate/src/error.rt": 1,  # (below rdata_fields)
             "zone_generate/src/side.rt": 1,
             "zonetext_lib/src/replace.rt": 1,
         },
@@ -108,30 +110,43 @@ RULES = [
         pattern=r"\benum (?:\w*(?:Error|Refusal|Fault)|ErrorKind)\b",
         example="enum HeadError {\n    Field(FieldError),\n}",
         places={
-            "dns_canonical/src/fields.rt": 1,
+            "zone_record/src/fields.rt": 1,
             "dns_charstr/src/charstr/error.rt": 2,
+            "dnstext_lib/src/line.rt": 1,
+            "dnstext_lib/src/print.rt": 1,
+            "dnstext_lib/src/program.rt": 1,
+            "zonetext/src/blocks.rt": 1,
+            "zonetext/src/digest_writing.rt": 1,
+            "zonetext/src/rewriting.rt": 1,
+            "zonetext/src/serial.rt": 1,
+            "zonetext/src/stop.rt": 1,
+            "zone_serial/src/next.rt": 1,
+            "zonetext/src/zone_files.rt": 1,
+            "zonetext/src/zone_sources.rt": 1,
+            "zonetext_lib/src/blocks.rt": 1,
+            "zonetext_lib/src/tokens.rt": 1,
             "dns_codec/src/error.rt": 1,
             "dns_entry/src/error.rt": 1,
-            "dns_kinds/src/error.rt": 1,  # (the one)
+            "rdata_values/src/error.rt": 1,  # (the one)
             "dns_laws/src/layouts.rt": 1,
             "dns_laws/src/lines.rt": 1,
-            "dns_lists/src/bitmap.rt": 1,
+            "rdata_values/src/bitmap.rt": 1,
             "dns_name/src/name/error.rt": 2,
             "dns_octets/src/error.rt": 1,
-            "dns_resource/src/error.rt": 1,
+            "zone_record/src/error.rt": 1,
             "dns_scan/src/error.rt": 1,
-            "dns_split/src/entry_tokens.rt": 1,
-            "dns_split/src/error.rt": 1,
+            "dns_lexer/src/entry_tokens.rt": 1,
+            "dns_lexer/src/error.rt": 1,
             "dns_symbol/src/error.rt": 2,
             "dns_text_c/src/outcome.rt": 1,
             "dns_wire/src/error.rt": 3,
             "dns_zone/src/error.rt": 1,
-            "dns_zonefile/src/error.rt": 1,
-            "dns_zonefile/src/refusal.rt": 1,
-            "row_table/src/refusal.rt": 1,
-            "test_calls/src/checks.rt": 1,
-            "zone_cut/src/error.rt": 1,
-            "zone_digest/src/error.rt": 1,
+            "zone_stream/src/error.rt": 1,
+            "zone_stream/src/refusal.rt": 1,
+            "test_support/src/refusal.rt": 1,
+            "test_api/src/checks.rt": 1,
+            "zone_stream/src/cut_error.rt": 1,
+            "zone_set/src/error.rt": 1,
             "zone_dnssec/src/hashed.rt": 1,
             "zone_edit/src/edit.rt": 1,
             "zone_edit/src/tokens.rt": 1,
@@ -141,19 +156,19 @@ RULES = [
         },
     ),
     Rule(
-        what="a struct of a record: use RecordRef of dns_fields, or Record of dns_resource",
+        what="a struct of a record: use RecordRef of rdata_fields, or Record of zone_record",
         pattern=(
             r"\bstruct \w*Record\b"
             r"|\bstruct (?!\w*Record\b)\w+[^;{}]*\{(?=[^}]*\bclass\w*: )(?=[^}]*\b(?:data|rdata): )"
         ),
         example="struct Row {\n    owner: usize,\n    class: u16,\n    data: usize,\n}",
         places={
-            "dns_fields/src/record_ref.rt": 1,  # (the borrowed one)
-            "dns_resource/src/record.rt": 1,  # (the one)
+            "rdata_fields/src/record_ref.rt": 1,  # (the borrowed one)
+            "zone_record/src/record.rt": 1,  # (the one)
             "dns_text_c/src/records.rt": 1,
             "finding_formats/src/record_json.rt": 1,  # (its fields in presentation format)
-            "test_calls/src/zones/example.rt": 1,
-            "zonetext/src/held.rt": 1,
+            "test_api/src/zones/example.rt": 1,
+            "zonetext/src/record_arena.rt": 1,
         },
     ),
 ]

@@ -11,7 +11,7 @@ RULES = {
     "no-soa", "no-ns", "outside", "two-soas", "ns-address", "cname", "dname", "below-dname", "ds-apex", "wildcard-ns",
     "soa-not-apex", "ns-beside-dname", "nsec3-wildcard",
     "glue", "target-cname", "target-missing", "host-name", "cds", "ds-without-ns", "not-at-apex", "key-protocol",
-    "key-algorithm", "ttl-differs", "duplicate",
+    "key-algorithm", "cname-target-missing", "cname-loop", "two-spf", "weak-digest", "single-ns", "ttl-differs", "duplicate",
 }
 SECURITY = {
     "expired", "expires-soon", "not-yet-valid", "rrsig-times", "rrsig-signer", "rrsig-labels", "original-ttl",
@@ -599,13 +599,18 @@ def verdicts_row(row):
 
 
 def rises_row(row):
-    """`diff` reports that the serial of a changed zone did not rise."""
+    """`diff` reports that the serial of a changed zone did not rise, and `serial --write --set` rejects such a number."""
     files = {name: b"example. 1 SOA a. b. %s 1 1 1 %d\n" % (serial, number)
              for number, (name, serial) in enumerate(zip("fg", row.inputs))}
     rises = row.wanted == b"true"
     reported = b": %s -> %s" % tuple(row.inputs)
-    return judged(files, zonetext("diff", "--zone", "example.", "f", "g"), f"status 1, {'no ' if rises else ''}word of the serial number",
-                  lambda ran: ran.status == 1 and len(lines(ran.out)) == 2 and (reported in ran.err) != rises)
+    differ = judged(files, zonetext("diff", "--zone", "example.", "f", "g"), f"status 1, {'no ' if rises else ''}word of the serial number",
+                    lambda ran: ran.status == 1 and len(lines(ran.out)) == 2 and (reported in ran.err) != rises)
+    new = b"example. 1 SOA a. b. %s 1 1 1 0\n" % row.inputs[1]
+    words = zonetext("serial", "--write", "--force", "--set", row.inputs[1], "--zone", "example.", "f")
+    put = judged({"f": files["f"]}, words, f"the new serial in the file: {rises}",
+                 lambda ran: (ran.status, ran.made) == ((0, (("f", new),)) if rises else (1, ())))
+    return Plans([differ, put])
 
 
 # RDATA of types.

@@ -46,7 +46,7 @@ LACKS = {
     program_calls.DNSTEXT: [(rb"refused: (short buffer|buffer size exceeded|invalid domain name)\n\Z", {1})],
     program_calls.ZONETEXT: [
         (rb"(\A|\n)(error: out of memory|zonetext: ([^\n]*: )?(out of|not enough) memory)\n"
-         rb"(zonetext: (nothing is written|no origin: give --zone)\n)?\Z", {2, 3}),
+         rb"(zonetext: (([^\n]*: )?nothing is written|no origin: give --zone)\n)?\Z", {2, 3}),
         # An included file without memory is an error of the file that includes it.
         (rb"(\A|\n)[^\n]*: error: cannot open [^\n]*: out of memory \[include\]\n", {1}),
     ],

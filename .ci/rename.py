@@ -576,8 +576,8 @@ class Wave:
             new = self.crate(name)
             kinds[new] = kind
             deps[new] += below.split()
-        if "dns_lists_params" in self.known:
-            deps[self.crate("dns_lists_params")] += ["dns_lists", "dns_kinds", "dns_octets"]
+        if "rdata_svcb" in self.known:
+            deps[self.crate("rdata_svcb")] += ["rdata_values", "rdata_values", "dns_octets"]
         lines, layers = [], table("layers.tsv")
         others = [it for it in deps if it not in dict(layers)]
         for name, layer in [*layers, *((it, "" if number else "others") for number, it in enumerate(others))]:

@@ -1,4 +1,4 @@
-"""Parses files of test rows: a call, its inputs and the expected result, separated by tabs (crates/row_table)."""
+"""Parses files of test rows: a call, its inputs and the expected result, separated by tabs (crates/test_support)."""
 from urllib.parse import unquote_to_bytes
 
 # The row files, by their path in the repository.

@@ -3,7 +3,7 @@
 
 usage: .ci/run_rows.py PROGRAM FILE [--calls PATTERN] [--without PATTERN] [--part K/N] [--line N]
                                  [--at-most CALL:FIELD:COUNT] [--count]
-Rows are lines of a call, its inputs and the expected result, separated by tabs (crates/row_table). The
+Rows are lines of a call, its inputs and the expected result, separated by tabs (crates/test_support). The
 options select rows: those whose call matches a regular expression, or doesn't; each Nth row from the
 Kth on; the row of one line. With --at-most rows of a call are skipped if their FIELD (from 1 on, after
 the call) begins with a number above COUNT; the last line counts them as left. With --count nothing is
