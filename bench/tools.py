@@ -27,7 +27,7 @@ TOP = os.path.dirname(os.path.dirname(os.path.abspath(__file__)))
 ZONETEXT = os.path.join(TOP, "crates/zonetext/out/zonetext")
 ZONE = "example."
 # The meaning of + in zones.tsv.
-FRONT = b"$TTL 60\n@ SOA ns h 1 4 2 9 5\n@ NS ns\nns A 192.0.2.1\n"
+FRONT = b"@ 60 SOA ns h 1 4 2 9 5\n@ NS ns\n@ NS ns.o.\nns A 192.0.2.1\n"
 HEAD = ("$ORIGIN example.\n$TTL 3600\n@ IN SOA ns1.example. host.example. 1 7200 3600 1209600 3600\n"
         "@ IN NS ns1.example.\nns1 IN A 192.0.2.1\n")
 SIZE = 10_500_000

@@ -59,7 +59,7 @@ impl Reader<'_, '_> {
         })
     }
 
-    fn zone_digest(&mut self) -> Option<()> {
+    fn zone_set(&mut self) -> Option<()> {
         self.word32(number)?;
         self.number8()?;
         self.digest(|number, count| match number {
@@ -188,7 +188,7 @@ impl Reader<'_, '_> {
                 self.number16()?;
                 self.types()?;
             }
-            63 => self.zone_digest()?,
+            63 => self.zone_set()?,
             64 | 65 => {
                 self.number16()?;
                 self.name()?;
