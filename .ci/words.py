@@ -25,6 +25,19 @@ def parts(name):
     return [it.lower() for it in re.findall(r"[A-Z]+(?![a-z])|[A-Z]?[a-z]+|\d+", name)]
 
 
+def declared(text):
+    """Yields what a file of src/ declares, by kind and name: items, variants and fields."""
+    code = "\n".join(it for it in text.split("\n") if not it.lstrip().startswith("//"))
+    for it in re.finditer(r"\b(fn|struct|enum|trait|mod|const|static|type) (\w+)", code):
+        yield it[1], it[2]
+    for it in re.finditer(r"\benum \w+[^{;]*\{(.*?)\n\s*\}", code, re.DOTALL):
+        for name in re.findall(r"^\s*([A-Z]\w*)\b", it[1], re.MULTILINE):
+            yield "variant", name
+    for it in re.finditer(r"\bstruct \w+[^{;()]*\{(.*?)\n\s*\}", code, re.DOTALL):
+        for name in re.findall(r"^\s*(?:pub(?:\([\w ]+\))? )?(\w+):", it[1], re.MULTILINE):
+            yield "field", name
+
+
 def reasons():
     """Returns the reason of each listed name."""
     lines = LISTED.read_text(encoding="utf-8").splitlines() if LISTED.exists() else []
