@@ -2,12 +2,13 @@
 use dns_lexer::entry_tokens::{EntryToken, EntryTokens};
 use dns_wire::Name;
 use dns_zone::zonefile_fmt::SimpleWriter;
-use rdata::{Shape, check_data, read_type, type_row, write_data};
+use rdata::{Shape, check_data, read_type, type_row};
 use rdata_fields::TokenList;
 use rdata_values::RecordType;
 use std::alloc::Global;
 use std::fmt;
 use test_support::Answer;
+use zone_record::write_data;
 
 /// Data of a shape, which is printed as tokens with a blank between.
 #[derive(Drop)]

@@ -3,11 +3,12 @@ use super::results::{Octets, origin_of};
 use dns_lexer::entry_tokens::{EntryToken, EntryTokens};
 use dns_wire::Name;
 use dns_zone::zonefile_fmt::SimpleWriter;
-use rdata::{Shape, check_data, field_text, read_type, type_row, write_data};
+use rdata::{Shape, check_data, field_text, read_type, type_row};
 use rdata_fields::{FieldName, RecordError, TokenList};
 use rdata_values::{ErrorKind, RecordType};
 use std::fmt;
 use test_support::{Answer, Failure, Inputs};
+use zone_record::write_data;
 
 /// The origin of rows without one: `example.`.
 const ORIGIN: &[u8] = b"\x07example\x00";
