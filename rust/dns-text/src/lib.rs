@@ -49,7 +49,7 @@
 //!     }
 //! }
 //! assert_eq!(addresses, 1);
-//! assert_eq!(wrong, ["3:13: AAAA address: expected IPv6 address"]);
+//! assert_eq!(wrong, ["3:13: AAAA: address: expected IPv6 address"]);
 //! ```
 //!
 //! An entry that begins with a blank has the owner of the one before:
@@ -142,8 +142,11 @@ pub use number::{number, NumberError, NumberErrorKind};
 pub use pieces::{pieces, Piece, PieceKind, Pieces};
 pub use position::{position, Position, Positions};
 pub use records::{
-    records, Record, RecordFault, RecordFaultKind, Records, RelativeOrigin, ZoneItem,
+    records, Record, RecordFault, RecordFaultKind, Records, RelativeOrigin, RelativeOwner, ZoneItem,
 };
 pub use status::Status;
-pub use stream::{read_entries, read_records, EntryReader, OwnedEntry, RecordReader, StreamError};
+pub use stream::{
+    read_entries, read_records, EntryReader, FollowError, FollowErrorKind, FollowedRecords,
+    OwnedEntry, RecordReader, StreamError, TextReader,
+};
 pub use zone::{entries, tokens, Entries, Entry, Fault, FaultKind, Token, Tokens};
