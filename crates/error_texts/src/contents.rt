@@ -19,7 +19,7 @@ fn append_long_string(count: usize, target: &mut ArrayVec<u8, MOST>)
 
 /// Returns the text of a character string of more than 255 octets.
 pub fn long_string_text(count: usize) -> ArrayVec<u8, MOST>
-    ensures { result.items ≡ take MOST (long_string_text count) }
+    ensures { result.items ≡ take 255 (long_string_text count) }
 {
     let mut text = ArrayVec::new();
     append_long_string(count, &mut text);
@@ -37,7 +37,7 @@ fn append_high_escape(escape: &[u8], target: &mut ArrayVec<u8, MOST>)
 
 /// Returns the text of an escape of three digits that is above 255, with its backslash.
 pub fn high_escape_text(escape: &[u8]) -> ArrayVec<u8, MOST>
-    ensures { result.items ≡ take MOST (high_escape_text escape.now) }
+    ensures { result.items ≡ take 255 (high_escape_text escape.now) }
 {
     let mut text = ArrayVec::new();
     append_high_escape(escape, &mut text);
@@ -77,7 +77,7 @@ fn append_digest_name(rtype: RecordType, digest: u8, target: &mut ArrayVec<u8, M
 fn append_length(rtype: RecordType, digest: u8, wanted: usize, target: &mut ArrayVec<u8, MOST>)
     ensures { AppendsCut (length_text rtype digest wanted) target.old.items target.new.items }
 {
-    append_counted(b" octets; type ", usize::from(digest), target);
+    append_counted(b" octets; type ", digest as usize, target);
     append_digest_name(rtype, digest, target);
     append_counted(b" has ", wanted, target);
 }
@@ -100,7 +100,7 @@ fn append_digest(
 /// Returns the text of a digest of `found` octets in RDATA of a type, whose digest type has
 /// `wanted`.
 pub fn digest_text(rtype: RecordType, digest: u8, found: usize, wanted: usize) -> ArrayVec<u8, MOST>
-    ensures { result.items ≡ take MOST (digest_text rtype digest found wanted) }
+    ensures { result.items ≡ take 255 (digest_text rtype digest found wanted) }
 {
     let mut text = ArrayVec::new();
     append_digest(rtype, digest, found, wanted, &mut text);

@@ -50,7 +50,7 @@ pub fn append_error(error: &RecordError, target: &mut ArrayVec<u8, MOST>)
 /// Returns the text of an error without the type: the part, such as `preference` or `owner`, and
 /// what is wrong.
 pub fn part_message(part: Option<&'static str>, error: &RecordError) -> ArrayVec<u8, MOST>
-    ensures { result.items ≡ take MOST (part_message (option_copied part.entry) error.now) }
+    ensures { result.items ≡ take 255 (part_message (option_copied part.entry) error.now) }
 {
     let mut text = ArrayVec::new();
     append_message(part, error, &mut text);
@@ -60,7 +60,7 @@ pub fn part_message(part: Option<&'static str>, error: &RecordError) -> ArrayVec
 /// Returns the text of an error, as in `MX: preference: decimal number overflow`: the type and the
 /// field of RDATA, and what is wrong.
 pub fn error_text(error: &RecordError) -> ArrayVec<u8, MOST>
-    ensures { result.items ≡ take MOST (error_text error.now) }
+    ensures { result.items ≡ take 255 (error_text error.now) }
 {
     let mut text = ArrayVec::new();
     append_error(error, &mut text);

@@ -55,7 +55,7 @@ pub fn append_type(rtype: RecordType, target: &mut ArrayVec<u8, MOST>)
 {
     match rtype.name() {
         Some(name) => append_text(name.as_bytes(), target),
-        None => append_counted(b"TYPE", usize::from(rtype.0), target),
+        None => append_counted(b"TYPE", rtype.0 as usize, target),
     }
 }
 

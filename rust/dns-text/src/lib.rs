@@ -24,6 +24,7 @@
 //! | also comments and ends of entries, or without memory | [`pieces`] | none |
 //! | records of a file or a stream | [`read_records`] | a chunk, the longest entry twice, the RDATA |
 //! | entries of a file or a stream | [`read_entries`] | the same, and each entry |
+//! | records of a file and of those that it includes | [`RecordReader::follow_includes`] | the same, for each open file |
 //!
 //! [`tokens`], [`entries`] and [`pieces`] return what comes before the first syntax error, and then the
 //! error. The others continue after its line. An error has an offset (`place`). [`Fault::locate`] and
