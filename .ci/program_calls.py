@@ -120,6 +120,8 @@ NAMED = [
     (rb"digest of [0-9]+ octets; type .*", rb"wrong number of octets"),
     (rb"escape \\[0-9]{3} is above \\255", rb"illegal escape sequence|bad escape"),
 ]
+# A message about another token than the one at the error's offset.
+ELSEWHERE = rb"mandatory names (a key that is missing|[^ ]+, which is missing)"
 
 
 def says(message, reason):
