@@ -1,5 +1,6 @@
 -- Worked examples of the definitions, each computed.
 use Rattle.std.specs.Prelude.{◌≡◌, ℕ, List, [], ◌∷◌, ◌++◌, map, codes, decimal, Some, None, refl}
+use Rattle.std.specs.Fmt.{digits}
 use Rattle.dns_lexer.specs.declared.pieces.Wrong.TheVariants.{Closing, OpenParenthesis, OpenQuote, LoneReturn, BadEscape as WrongEscape}
 use Rattle.rdata_values.specs.Rtype as Rtype
 use Rattle.rdata_values.specs.Types.{type_rows}
@@ -119,9 +120,11 @@ high_escape = refl
 
 -- as in `digest of 3 octets; type 2 (SHA-256) has 32`
 short_digest : digest_text Rtype.ds 2 3 32 ≡ codes "digest of " ++ decimal 3 ++ codes " octets; type " ++ decimal 2 ++ codes " (SHA-256) has " ++ decimal 32
+unfolding digits
 short_digest = refl
 
 unknown_digest : digest_text Rtype.sshfp 9 3 32 ≡ codes "digest of " ++ decimal 3 ++ codes " octets; type " ++ decimal 9 ++ codes " has " ++ decimal 32
+unfolding digits
 unknown_digest = refl
 
 delegation : digest_name Rtype.ds 2 ≡ Some (codes "SHA-256")
