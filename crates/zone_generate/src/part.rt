@@ -7,7 +7,7 @@ use crate::error::GenerateErrorKind;
 use crate::format::{NumberFormat, read_format};
 use crate::number::append_number;
 use crate::numeral::octet_index;
-use std::alloc::{AllocError, Allocator};
+use dns_octets::{OctetsBuilder, ShortBuf};
 
 /// A part of the owner or of the RDATA.
 #[derive(Clone, Copy, Debug, PartialEq, Eq)]
@@ -135,28 +135,22 @@ pub(crate) fn read_part(
     })
 }
 
-/// Appends the text of a part for a number. Without memory, the first octets may be appended.
-pub(crate) fn append_part<A: Allocator>(
+/// Appends the text of a part for a number. On an error, the first octets may be appended.
+pub(crate) fn append_part<B: OctetsBuilder>(
     part: Part,
     number: u32,
-    out: &mut Vec<u8, A>,
-) -> Result<(), AllocError>
-    ensures made { OnOk result (out.new.items ≡ out.old.items ++ written_part number part) }
-    ensures err { OnErr result (Extends out.old.items out.new.items) }
+    out: &mut B,
+) -> Result<(), ShortBuf>
+    ensures made { OnOk result (B.octets out.new
+        ≡ B.octets out.old ++ written_part number part) }
+    ensures extends { OnErr result (Extends (B.octets out.old) (B.octets out.new)) }
+    ensures fits { OnErr result (B.room.fits
+        < length (B.octets out.old) + length (written_part number part)) }
 {
     match part {
-        Part::Octet(octet) => {
-            out.push(octet)?;
-            Ok(())
-        }
-        Part::Escape(octet) => {
-            out.extend_from_slice(&[b'\\', octet])?;
-            Ok(())
-        }
-        Part::Dollar => {
-            out.extend_from_slice(b"\\$")?;
-            Ok(())
-        }
+        Part::Octet(octet) => out.append_slice(&[octet]),
+        Part::Escape(octet) => out.append_slice(&[b'\\', octet]),
+        Part::Dollar => out.append_slice(b"\\$"),
         Part::Number(format) => append_number(format, number, out),
     }
 }

@@ -1,11 +1,11 @@
 //! The owner or the RDATA of a directive.
-ghost use Rattle.std.specs.Prelude.{◌≡◌, ◌++◌, IsOk, MatchResult, OnErr, OnOk, Err};
+ghost use Rattle.std.specs.Prelude.{◌≡◌, ◌++◌, ◌+◌, ◌<◌, IsOk, MatchResult, OnErr, OnOk, Err, length};
 ghost use Rattle.dns_octets.specs.Appending.{Extends};
 ghost use Rattle.zone_generate.specs.Parts.{side_parts, parts_or_none, side_text};
 
 use crate::error::GenerateErrorKind;
 use crate::part::{append_part, read_part};
-use std::alloc::{AllocError, Allocator};
+use dns_octets::{OctetsBuilder, ShortBuf, Truncate};
 use std::marker::Model;
 
 /// Why the owner or the RDATA of a directive are rejected.
@@ -32,18 +32,20 @@ fn check_parts(text: &[u8], is_quoted: bool, last: u32) -> Result<(), SideError>
     Ok(())
 }
 
-/// Appends the text of all parts for a number. Without memory, the first octets may be appended.
-fn append_parts<A: Allocator>(
+/// Appends the text of all parts for a number. On an error, the first octets may be appended.
+fn append_parts<B: OctetsBuilder>(
     text: &[u8],
     is_quoted: bool,
     last: u32,
     number: u32,
-    out: &mut Vec<u8, A>,
-) -> Result<(), AllocError>
+    out: &mut B,
+) -> Result<(), ShortBuf>
     requires { IsOk (side_parts last is_quoted text.now) }
-    ensures made { OnOk result (out.new.items
-        ≡ out.old.items ++ side_text number (parts_or_none (side_parts last is_quoted text.now))) }
-    ensures err { OnErr result (Extends out.old.items out.new.items) }
+    ensures made { OnOk result (B.octets out.new ≡ B.octets out.old
+        ++ side_text number (parts_or_none (side_parts last is_quoted text.now))) }
+    ensures extends { OnErr result (Extends (B.octets out.old) (B.octets out.new)) }
+    ensures fits { OnErr result (B.room.fits < length (B.octets out.old)
+        + length (side_text number (parts_or_none (side_parts last is_quoted text.now)))) }
 {
     let mut at = 0;
     while at < text.len() {
@@ -102,12 +104,20 @@ impl<'t> Side<'t> {
         }
     }
 
-    /// Appends the text for a number. If an allocation fails, `out` is unchanged.
-    pub fn append<A: Allocator>(&self, number: u32, out: &mut Vec<u8, A>) -> Result<(), AllocError>
-        ensures made { OnOk result (out.new.items ≡ out.old.items ++ side_text number self.now) }
-        ensures unchanged { OnErr result (out.new.items ≡ out.old.items) }
+    /// Appends the text for a number. Fails if `out` has no capacity for it, or if an allocation
+    /// fails; then `out` is unchanged.
+    pub fn append<B: OctetsBuilder + Truncate>(
+        &self,
+        number: u32,
+        out: &mut B,
+    ) -> Result<(), ShortBuf>
+        ensures made { OnOk result (B.octets out.new
+            ≡ B.octets out.old ++ side_text number self.now) }
+        ensures unchanged { OnErr result (B.octets out.new ≡ B.octets out.old) }
+        ensures fits { OnErr result (B.room.fits
+            < length (B.octets out.old) + length (side_text number self.now)) }
     {
-        let before = out.len();
+        let before = out.as_slice().len();
         match append_parts(self.text, self.is_quoted, self.last, number, out) {
             Ok(()) => Ok(()),
             Err(error) => {

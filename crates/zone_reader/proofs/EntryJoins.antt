@@ -12,10 +12,10 @@ use Rattle.rdata.specs.ByType.{RefusesData, RefusesGeneric, ReadsType, shape_of_
 use Rattle.rdata.specs.Types.{TypeShape}
 use Rattle.rdata.proofs.Reading.{gained_is}
 use Rattle.zone_reader.specs.Directives.{ParsesDirective}
-use Rattle.zone_reader.specs.EntryMeanings.{EntryMeans, says_nothing, says_origin, says_default_ttl, says_include, says_record, says_refused}
+use Rattle.zone_reader.specs.EntryMeanings.{EntryMeans, says_nothing, says_origin, says_default_ttl, says_include, says_generate, says_record, says_refused}
 use Rattle.zone_reader.specs.Headers.{ParsesHeader}
 use Rattle.zone_reader.specs.declared.directive.Directive.{Directive}
-use Rattle.zone_reader.specs.declared.directive.Directive.TheVariants.{Origin, Ttl, Include as OfInclude}
+use Rattle.zone_reader.specs.declared.directive.Directive.TheVariants.{Origin, Ttl, Include as OfInclude, Generate as OfGenerate}
 use Rattle.zone_reader.specs.declared.header.RecordHeader.{RecordHeader}
 use Rattle.zone_reader.specs.declared.header.HeaderRefusal.{HeaderRefusal}
 use Rattle.zone_reader.proofs.EntryLaws.{entries_say_taken}
@@ -138,7 +138,7 @@ module _ (room : Room) (blank : Bool) (end : ℕ) (tokens : List TokenSeen) (bef
 
 module _ (room : Room) (blank : Bool) (end : ℕ) (tokens : List TokenSeen) (before : State) (old : List ℕ) (r : Result ParsedEntry RecordError) (after : State) (new : List ℕ) where
   -- the origin
-  origin_read : (left : List TokenSeen) → ParsesDirective blank end tokens (Ok (Some Origin)) left → ReadsDirective Origin room end left before old r after new → ReadsZoneEntry room blank end tokens before old r after new
+  origin_read : (left : List TokenSeen) → ParsesDirective blank end tokens (Ok (Some Origin)) left → ReadsDirective Origin room (next_place tokens end) end left before old r after new → ReadsZoneEntry room blank end tokens before old r after new
   origin_read [] d h = record {
     meaning = says_refused (error_at end EndOfEntry);
     says = entries_say_taken.directive blank end tokens [] Origin _ d refl;
@@ -161,7 +161,7 @@ module _ (room : Room) (blank : Bool) (end : ℕ) (tokens : List TokenSeen) (bef
     learns = subst (λ f. Updates (declared_by_rejected f) before after) (sym d.1) h.1;
   }
 
-  default_read : (left : List TokenSeen) → ParsesDirective blank end tokens (Ok (Some Ttl)) left → ReadsDirective Ttl room end left before old r after new → ReadsZoneEntry room blank end tokens before old r after new
+  default_read : (left : List TokenSeen) → ParsesDirective blank end tokens (Ok (Some Ttl)) left → ReadsDirective Ttl room (next_place tokens end) end left before old r after new → ReadsZoneEntry room blank end tokens before old r after new
   default_read left d h = record {
     meaning = says_default_ttl h.0.0;
     says = entries_say_taken.directive blank end tokens left Ttl _ d (h.0.0, h.0.1, h.0.2, refl);
@@ -177,7 +177,7 @@ module _ (room : Room) (blank : Bool) (end : ℕ) (tokens : List TokenSeen) (bef
   stays : after ≡ before → SaidNothing
   stays is = subst (λ s. Updates [] before s) (sym is) (nothing_learned before)
 
-  include_read : (left : List TokenSeen) → ParsesDirective blank end tokens (Ok (Some OfInclude)) left → ReadsDirective OfInclude room end left before old r after new → ReadsZoneEntry room blank end tokens before old r after new
+  include_read : (left : List TokenSeen) → ParsesDirective blank end tokens (Ok (Some OfInclude)) left → ReadsDirective OfInclude room (next_place tokens end) end left before old r after new → ReadsZoneEntry room blank end tokens before old r after new
   include_read [] d h = record {
     meaning = says_refused (error_at end EndOfEntry);
     says = entries_say_taken.directive blank end tokens [] OfInclude _ d refl;
@@ -207,10 +207,22 @@ module _ (room : Room) (blank : Bool) (end : ℕ) (tokens : List TokenSeen) (bef
     learns = subst (λ f. Updates (declared_by_rejected f) before after) (sym d.1) (stays h.1);
   }
 
-  pub directive_read : (d : Directive) (left : List TokenSeen) → ParsesDirective blank end tokens (Ok (Some d)) left → ReadsDirective d room end left before old r after new → ReadsZoneEntry room blank end tokens before old r after new
+  -- entries by numbers
+  generate_read : (left : List TokenSeen) → ParsesDirective blank end tokens (Ok (Some OfGenerate)) left → ReadsDirective OfGenerate room (next_place tokens end) end left before old r after new
+      → ReadsZoneEntry room blank end tokens before old r after new
+  generate_read left d h = record {
+    meaning = says_generate;
+    says = entries_say_taken.directive blank end tokens left OfGenerate _ d refl;
+    reads = (h.0, h.1);
+    extends = same_octets old new h.1;
+    learns = stays h.2;
+  }
+
+  pub directive_read : (d : Directive) (left : List TokenSeen) → ParsesDirective blank end tokens (Ok (Some d)) left → ReadsDirective d room (next_place tokens end) end left before old r after new → ReadsZoneEntry room blank end tokens before old r after new
   directive_read Origin left d h = origin_read left d h
   directive_read Ttl left d h = default_read left d h
   directive_read OfInclude left d h = include_read left d h
+  directive_read OfGenerate left d h = generate_read left d h
 
   pub record_read : (left : List TokenSeen) → tokens ≢ [] → ParsesDirective blank end tokens (Ok None) left → ReadsRecordTokens room blank end tokens before old r after new → ReadsZoneEntry room blank end tokens before old r after new
   record_read left some d h = record {

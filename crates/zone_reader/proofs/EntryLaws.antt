@@ -13,7 +13,7 @@ use Rattle.zone_reader.specs.HeaderLaws.{HeadsFoundOnce, WordsFoundOnce, Entries
 use Rattle.zone_reader.specs.HeaderWords.{TokenIsTtl, TokenIsClass, TokenIsType}
 use Rattle.zone_reader.specs.Headers.{WhyNoType, ParsesHeader}
 use Rattle.zone_reader.specs.declared.directive.Directive.{Directive}
-use Rattle.zone_reader.specs.declared.directive.Directive.TheVariants.{Origin, Ttl, Include}
+use Rattle.zone_reader.specs.declared.directive.Directive.TheVariants.{Origin, Ttl, Include, Generate}
 use Rattle.zone_reader.specs.declared.header.RecordHeader.{RecordHeader}
 use Rattle.zone_reader.specs.declared.header.HeaderRefusal.{HeaderRefusal}
 use Rattle.zone_reader.proofs.Once.{heads_once}
@@ -110,6 +110,7 @@ directive_says_once Include end [] m n h k = h ∙ sym k
 directive_says_once Include end (file ∷ []) m n h k = h ∙ sym k
 directive_says_once Include end (file ∷ origin ∷ []) m n h k = h ∙ sym k
 directive_says_once Include end (file ∷ origin ∷ t ∷ ts) m n h k = h ∙ sym k
+directive_says_once Generate end tokens m n h k = h ∙ sym k
 
 record_says_once : (owner : Option TokenSeen) (end : ℕ) (tokens : List TokenSeen) (m n : EntryMeaning) → RecordMeans owner end tokens m → RecordMeans owner end tokens n → m ≡ n
 record_says_once owner end tokens m n h k =

@@ -5,9 +5,9 @@ use Rattle.dns_lexer.specs.declared.pieces.Fault.{Fault}
 use Rattle.dns_lexer.specs.EntryTokens.{EndIs, TokenIs, TokenSeen}
 use Rattle.rdata_fields.specs.declared.record_error.RecordError.{RecordError}
 use Rattle.rdata_values.specs.declared.error.ErrorKind.{ErrorKind}
-use Rattle.zone_reader.specs.EntryMeanings.{DirectiveMeans, EntryMeaning, EntryMeans, FirstTokenMeans, says_nothing, says_origin, says_default_ttl, says_include, says_record, says_refused}
+use Rattle.zone_reader.specs.EntryMeanings.{DirectiveMeans, EntryMeaning, EntryMeans, FirstTokenMeans, says_nothing, says_origin, says_default_ttl, says_include, says_generate, says_record, says_refused}
 use Rattle.zone_reader.specs.declared.directive.Directive.{Directive}
-use Rattle.zone_reader.specs.declared.directive.Directive.TheVariants.{Origin, Ttl, Include as OfInclude}
+use Rattle.zone_reader.specs.declared.directive.Directive.TheVariants.{Origin, Ttl, Include as OfInclude, Generate as OfGenerate}
 use Rattle.zone_reader.specs.declared.header.RecordHeader.{RecordHeader}
 use Rattle.zone_reader.specs.EntryReading.{ReadsMeaning, directive_with, record_with}
 use Rattle.zone_reader.specs.Records.{AreSuccessiveResults, ReadsBegun, given_next, none_given}
@@ -42,6 +42,7 @@ directive_silent OfInclude end [] h = cc
 directive_silent OfInclude end (t ∷ []) h = cc
 directive_silent OfInclude end (t ∷ u ∷ []) h = cc
 directive_silent OfInclude end (t ∷ u ∷ v ∷ ts) h = cc
+directive_silent OfGenerate end tokens h = cc
 
 first_silent : (d : Option (Result Directive ErrorKind)) (end : ℕ) (t : TokenSeen) (tokens : List TokenSeen) → FirstTokenMeans d end t tokens says_nothing → ⊥
 first_silent None end t tokens h = let no = h.3 in cc
@@ -68,6 +69,7 @@ something_read before room blank end tokens says_nothing old new owner some says
 something_read before room blank end tokens (says_origin t) old new owner some says h = let no = h.0.0 in cc
 something_read before room blank end tokens (says_default_ttl r) old new owner some says h = no_directive r h.0
 something_read before room blank end tokens (says_include file token) old new owner some says h = let no = h.1 in cc
+something_read before room blank end tokens says_generate old new owner some says h = let no = h.0 in cc
 something_read before room blank end tokens (says_record token words left) old new owner some says h = not_words before room _ end old new Nothing (no_record before _) h.0 words left h.2
 something_read before room blank end tokens (says_refused r) old new owner some says h = cc
 

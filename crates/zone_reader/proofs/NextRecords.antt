@@ -7,7 +7,7 @@ use Rattle.dns_lexer.specs.declared.pieces.EndOfEntry.{EndOfEntry}
 use Rattle.dns_lexer.specs.declared.pieces.Fault.{Fault}
 use Rattle.dns_lexer.specs.EntryTokens.{EndIs, TokenIs, TokenSeen}
 use Rattle.rdata_fields.specs.declared.record_error.RecordError.{RecordError}
-use Rattle.zone_reader.specs.EntryMeanings.{EntryMeaning, says_nothing, says_origin, says_default_ttl, says_include, says_record, says_refused}
+use Rattle.zone_reader.specs.EntryMeanings.{EntryMeaning, says_nothing, says_origin, says_default_ttl, says_include, says_generate, says_record, says_refused}
 use Rattle.zone_reader.specs.declared.header.RecordHeader.{RecordHeader}
 use Rattle.zone_reader.specs.declared.header.HeaderRefusal.{HeaderRefusal}
 use Rattle.zone_reader.specs.EntryReading.{ReadsDataAfterHeader, ReadsMeaning, ReadsWords, record_with}
@@ -47,6 +47,7 @@ directive_is_read before room end tokens says_nothing old new owner h = h.1
 directive_is_read before room end tokens (says_origin t) old new owner h = h.1
 directive_is_read before room end tokens (says_default_ttl r) old new owner h = h.1
 directive_is_read before room end tokens (says_include file token) old new owner h = let no = h.1 in cc
+directive_is_read before room end tokens says_generate old new owner h = h.1
 directive_is_read before room end tokens (says_record token words left) old new owner h = absurd (not_words before room _ end old new Directive (no_record before _) h.0 words left h.2)
 directive_is_read before room end tokens (says_refused r) old new owner h = cc
 

@@ -17,7 +17,7 @@ use Rattle.rdata_values.specs.declared.error.ErrorKind.TheVariants.{ShortBuf, No
 use Rattle.rdata_values.specs.declared.types.RecordType.{RecordType}
 use Rattle.rdata.specs.ByType.{ReadsType}
 use Rattle.zone_reader.specs.Directives.{first_directive}
-use Rattle.zone_reader.specs.EntryMeanings.{EntryMeaning, EntryMeans, says_nothing, says_origin, says_default_ttl, says_include, says_record, says_refused}
+use Rattle.zone_reader.specs.EntryMeanings.{EntryMeaning, EntryMeans, says_nothing, says_origin, says_default_ttl, says_include, says_generate, says_record, says_refused}
 use Rattle.zone_reader.specs.HeaderWords.{ttl_of_seconds}
 use Rattle.zone_reader.specs.declared.directive.Directive.{Directive}
 use Rattle.zone_reader.specs.declared.directive.Directive.TheVariants.{Origin}
@@ -26,7 +26,7 @@ use Rattle.zone_reader.specs.declared.header.HeaderRefusal.{HeaderRefusal}
 use Rattle.zone_reader.specs.Learning.{Updates, WhyNoOwner, chosen_ttl}
 use Rattle.zone_reader.specs.Past.{Declared, NewOrigin, NewOwner, NewDefaultTtl, NewTtl, known_name}
 use Rattle.zone_reader.specs.declared.entry.ParsedEntry.{ParsedEntry}
-use Rattle.zone_reader.specs.declared.entry.ParsedEntry.TheVariants.{Nothing, Directive as IsDirective, Include, Record}
+use Rattle.zone_reader.specs.declared.entry.ParsedEntry.TheVariants.{Nothing, Directive as IsDirective, Include, Generate, Record}
 use Rattle.zone_reader.specs.declared.known.NameState.{NameState}
 use Rattle.zone_reader.specs.declared.known.NameState.TheVariants.{Name, Refused}
 use Rattle.zone_reader.specs.declared.state.State.{State}
@@ -162,6 +162,7 @@ declared_by_entry first says_nothing result = []
 declared_by_entry first (says_origin t) result = NewOrigin (Some t) ∷ []
 declared_by_entry first (says_default_ttl r) result = default_ttl_of r
 declared_by_entry first (says_include file token) result = []
+declared_by_entry first says_generate result = []
 declared_by_entry first (says_record owner words left) result = declared_by_record owner words result
 declared_by_entry first (says_refused r) result = declared_by_rejected first
 
@@ -173,6 +174,7 @@ ReadsMeaning before room end tokens says_nothing old result owner new = (result 
 ReadsMeaning before room end tokens (says_origin t) old result owner new = ReadsOrigin (known_name before.origin) t result × (new ≡ old)
 ReadsMeaning before room end tokens (says_default_ttl r) old result owner new = (result ≡ directive_with r) × (new ≡ old)
 ReadsMeaning before room end tokens (says_include file token) old result owner new = ReadsInclude (known_name before.origin) room (next_place (drop 1 tokens) end) file token old result new
+ReadsMeaning before room end tokens says_generate old result owner new = (result ≡ Ok (Generate (next_place tokens end))) × (new ≡ old)
 ReadsMeaning before room end tokens (says_record token words left) old result owner new = ReadsRecord before room (next_place tokens end) end token words left old result owner new
 ReadsMeaning before room end tokens (says_refused e) old result owner new = result ≡ Err e
 

@@ -10,14 +10,14 @@ use Rattle.rdata_fields.specs.declared.record_error.RecordError.{RecordError}
 use Rattle.zone_reader.specs.Arguments.{ParsesDefaultTtl}
 use Rattle.zone_reader.specs.Headers.{ParsesHeader}
 use Rattle.zone_reader.specs.declared.directive.Directive.{Directive}
-use Rattle.zone_reader.specs.declared.directive.Directive.TheVariants.{Origin, Ttl, Include as OfInclude}
+use Rattle.zone_reader.specs.declared.directive.Directive.TheVariants.{Origin, Ttl, Include as OfInclude, Generate as OfGenerate}
 use Rattle.zone_reader.specs.declared.header.RecordHeader.{RecordHeader}
 use Rattle.zone_reader.specs.declared.header.HeaderRefusal.{HeaderRefusal}
 use Rattle.zone_reader.specs.EntryReading.{IncludesOrigin, ReadsInclude, NamesOrRefuses, ReadsRecord, RefusesOrigin, default_ttl_of, directive_with, origin_octets, declared_by_record}
 use Rattle.zone_reader.specs.Learning.{Updates}
 use Rattle.zone_reader.specs.Past.{NewOrigin, known_name}
 use Rattle.zone_reader.specs.declared.entry.ParsedEntry.{ParsedEntry}
-use Rattle.zone_reader.specs.declared.entry.ParsedEntry.TheVariants.{Directive as IsDirective, Include}
+use Rattle.zone_reader.specs.declared.entry.ParsedEntry.TheVariants.{Directive as IsDirective, Include, Generate}
 use Rattle.zone_reader.specs.declared.state.State.{State}
 
 -- no token is left if one is expected; or one is left if none is expected
@@ -87,11 +87,13 @@ ReadsLastInclude origin room end (file ∷ []) old r new = Extends old new × Re
 ReadsLastInclude origin room end (file ∷ t ∷ []) old r new = Extends old new × ReadsInclude origin room file.at file.text (Some t) old r new
 ReadsLastInclude origin room end (file ∷ t ∷ u ∷ ts) old r new = Extends old new × (r ≡ Err (too_many u))
 
-abbrev pub ReadsDirective : Directive → Room → ℕ → List TokenSeen → State → List ℕ → Result ParsedEntry RecordError → State → List ℕ → Type 0
-ReadsDirective Origin room end tokens before old r after new =
+-- the directive, whose word is at an offset
+abbrev pub ReadsDirective : Directive → Room → ℕ → ℕ → List TokenSeen → State → List ℕ → Result ParsedEntry RecordError → State → List ℕ → Type 0
+ReadsDirective Origin room at end tokens before old r after new =
     ReadsLastOrigin (known_name before.origin) end tokens r × Updates (NewOrigin (only_token tokens) ∷ []) before after × (new ≡ old)
-ReadsDirective Ttl room end tokens before old r after new = ReadsDefaultTtl end tokens before r after × (new ≡ old)
-ReadsDirective OfInclude room end tokens before old r after new = ReadsLastInclude (known_name before.origin) room end tokens old r new × (after ≡ before)
+ReadsDirective Ttl room at end tokens before old r after new = ReadsDefaultTtl end tokens before r after × (new ≡ old)
+ReadsDirective OfInclude room at end tokens before old r after new = ReadsLastInclude (known_name before.origin) room end tokens old r new × (after ≡ before)
+ReadsDirective OfGenerate room at end tokens before old r after new = (r ≡ Ok (Generate at)) × (new ≡ old) × (after ≡ before)
 
 -- the token of the owner, and the tokens after it
 abbrev pub owner_token : Bool → List TokenSeen → Option TokenSeen

@@ -34,6 +34,12 @@ pub enum ParsedEntry {
         file: usize,
         has_origin: bool,
     },
+    /// The entry is `$GENERATE`, whose word is at this offset. The tokens after it are not read, and
+    /// nothing has changed: the caller parses the octets of the entry from there on, and reads the
+    /// entry of each number by the state ([`read_text_entry`](crate::read_text_entry)).
+    Generate {
+        at: usize,
+    },
     /// The entry is a record: the offset of its first token, its TTL, class and type. Its owner is
     /// the state's, and the octets of its data are appended.
     Record {
@@ -217,23 +223,25 @@ fn read_include<S: TokenSource, B: OctetsBuilder>(
     }
 }
 
-/// Reads the operands of a directive.
+/// Reads the operands of a directive, whose word is at an offset.
 ///
 /// It is a function of its own, since a record doesn't need its stack space for names.
 #[inline(never)]
 fn read_directive<S: TokenSource, B: OctetsBuilder>(
     directive: Directive,
+    at: usize,
     state: &mut State,
     source: &mut S,
     target: &mut B,
 ) -> Result<ParsedEntry, RecordError>
-    ensures reads { ReadsDirective directive B.room (S.end source.old).at (S.left source.old) state.old (B.octets target.old) result state.new (B.octets target.new) }
+    ensures reads { ReadsDirective directive B.room at (S.end source.old).at (S.left source.old) state.old (B.octets target.old) result state.new (B.octets target.new) }
     ensures end { S.end source.new ≡ S.end source.old }
 {
     match directive {
         Directive::Origin => read_origin(state, source),
         Directive::Ttl => read_default_ttl(state, source),
         Directive::Include => read_include(state, source, target),
+        Directive::Generate => Ok(ParsedEntry::Generate { at }),
     }
 }
 
@@ -456,8 +464,9 @@ pub fn read_entry<S: TokenSource, B: OctetsBuilder + AsOctetsMut>(
     if source.current().is_none() {
         return Ok(ParsedEntry::Nothing);
     }
+    let at = source.place();
     match parse_directive(begins_blank, source) {
-        Ok(Some(directive)) => read_directive(directive, state, source, target),
+        Ok(Some(directive)) => read_directive(directive, at, state, source, target),
         Ok(None) => read_record(state, begins_blank, source, target),
         Err(error) => Err(error),
     }

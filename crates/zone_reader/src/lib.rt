@@ -33,7 +33,7 @@ pub use entry::{ParsedEntry, include_parts, read_entry};
 pub use header::{HeaderRefusal, RecordHeader, parse_header};
 pub use known::{NameBuffer, NameState};
 pub use line::{LineRead, read_line};
-pub use records::RecordReader;
+pub use records::{RecordReader, read_text_entry};
 pub use source::{EntrySource, StartOfEntry};
 pub use state::{IncludeScope, State};
 pub use tape::{TAPE_CAPACITY, Tape, TokenSpan, fill, fill_line};

@@ -7,7 +7,7 @@ use Rattle.dns_lexer.specs.EntryTokens.{TokenSeen}
 use Rattle.rdata_fields.specs.Source.{next_place}
 use Rattle.rdata.specs.ByType.{ReadsType}
 use Rattle.zone_reader.specs.Directives.{first_directive}
-use Rattle.zone_reader.specs.EntryMeanings.{EntryMeaning, says_nothing, says_origin, says_default_ttl, says_include, says_record, says_refused}
+use Rattle.zone_reader.specs.EntryMeanings.{EntryMeaning, says_nothing, says_origin, says_default_ttl, says_include, says_generate, says_record, says_refused}
 use Rattle.zone_reader.specs.declared.header.RecordHeader.{RecordHeader}
 use Rattle.zone_reader.specs.declared.header.HeaderRefusal.{HeaderRefusal}
 use Rattle.rdata_fields.specs.declared.record_error.RecordError.{RecordError}
@@ -110,6 +110,7 @@ module _ (a b : State) (alike : AreAlike a b) where
   same_meaning room end tokens (says_default_ttl r) old new result owner h = h
   same_meaning room end tokens (says_include file token) old new result owner h =
       subst (λ o. ReadsInclude (known_name o) room (next_place (drop 1 tokens) end) file token old result new) alike.origin h
+  same_meaning room end tokens says_generate old new result owner h = h
   same_meaning room end tokens (says_record token words left) old new result owner h = (
     h.0,
     same_owner room (next_place tokens end) end old new result token h.0 owner h.1,

@@ -22,7 +22,7 @@ use Rattle.zone_reader.specs.Records.{result_of_entry}
 use Rattle.zone_reader.specs.TextEntries.{parts_of_entries, tokens_end}
 use Rattle.zone_reader.specs.WholeTexts.{EntryAsRead, IsReadAfterEarlier, IsReadSoFar, TextsAreReadToTheEnd, all_declared, result_as_read}
 use Rattle.zone_reader.specs.declared.entry.ParsedEntry.{ParsedEntry}
-use Rattle.zone_reader.specs.declared.entry.ParsedEntry.TheVariants.{Nothing, Directive, Include, Record as IsRecord}
+use Rattle.zone_reader.specs.declared.entry.ParsedEntry.TheVariants.{Nothing, Directive, Include, Generate, Record as IsRecord}
 use Rattle.zone_reader.specs.declared.state.State.{State}
 use Rattle.zone_reader.specs.declared.ttl.RecordTtl.{RecordTtl}
 use Rattle.zone_reader.specs.declared.ttl.RecordTtl.TheVariants.{Own, Default, Last, Minimum}
@@ -45,6 +45,7 @@ quiet_minimum : (read : Result ParsedEntry RecordError) → NoneDeclared origin_
 quiet_minimum (Ok Nothing) = tt
 quiet_minimum (Ok Directive) = tt
 quiet_minimum (Ok (Include file has_origin)) = tt
+quiet_minimum (Ok (Generate at)) = tt
 quiet_minimum (Ok (IsRecord at ttl class rtype)) = quiet_ttl ttl
 quiet_minimum (Err r) = tt
 

@@ -7,7 +7,7 @@ use Rattle.zone_reader.specs.Directives.{first_directive}
 use Rattle.rdata_values.specs.declared.classes.Class.{Class}
 use Rattle.rdata_values.specs.declared.error.ErrorKind.{ErrorKind}
 use Rattle.rdata_values.specs.declared.types.RecordType.{RecordType}
-use Rattle.zone_reader.specs.EntryMeanings.{EntryMeaning, says_nothing, says_origin, says_default_ttl, says_include, says_record, says_refused}
+use Rattle.zone_reader.specs.EntryMeanings.{EntryMeaning, says_nothing, says_origin, says_default_ttl, says_include, says_generate, says_record, says_refused}
 use Rattle.zone_reader.specs.declared.directive.Directive.{Directive}
 use Rattle.zone_reader.specs.declared.header.RecordHeader.{RecordHeader}
 use Rattle.zone_reader.specs.declared.header.HeaderRefusal.{HeaderRefusal}
@@ -148,6 +148,7 @@ module _ (room : Room) (blank : Bool) (end : ℕ) (tokens : List TokenSeen) (bef
   by_meaning (says_default_ttl (Ok n)) d owner h known = let no = h.0 in cc
   by_meaning (says_default_ttl (Err r)) d owner h known = let no = h.0 in cc
   by_meaning (says_include file token) d owner h known = let no = h.1 in cc
+  by_meaning says_generate d owner h known = let no = h.0 in cc
   by_meaning (says_record token words left) d owner h known = by_words _ token h.0 words left d h.2 known
   by_meaning (says_refused r) d owner h known = cc
 

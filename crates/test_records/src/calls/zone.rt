@@ -77,6 +77,10 @@ pub fn add_read(state: &State, read: ParsedEntry, octets: &[u8], answer: &mut An
                 answer.add(origin);
             }
         }
+        ParsedEntry::Generate { at } => {
+            answer.add_text("generate ");
+            answer.add_number(at);
+        }
         ParsedEntry::Record {
             at,
             ttl,
