@@ -50,6 +50,7 @@ pub fn summary_of(code: Code) -> &'static str {
         Code::SoaMinimumTtl => "The minimum of the SOA is used as a TTL",
         Code::IncludeTtl => "The $TTL of an included file stays in effect",
         Code::MissingDot => "A relative name ends like the origin",
+        Code::GenerateDot => "A name of $GENERATE ends in a dot of nibbles",
         Code::EmptyUri => "The target of a URI record is empty",
         Code::TlsaLength =>
             "The data of a TLSA or SMIMEA has another length than its matching type",
@@ -206,6 +207,8 @@ pub fn text_of(code: Code) -> &'static str {
             "RFC 1035 section 5.1 restores the origin after an included file, and not the TTL. Name servers differ. Write $TTL after the $INCLUDE.",
         Code::MissingDot =>
             "With the origin appended, the name has it twice, as www.example.example. Write a dot at its end (RFC 1035 section 5.1).",
+        Code::GenerateDot =>
+            "Dots count in the width of the bases n and N, so 8 writes 4 digits with a dot after each. The name is absolute: write 7, or a label after the brace.",
         Code::EmptyUri => "The target has at least one octet (RFC 7553 section 4.4).",
         Code::TlsaLength =>
             "SHA-256, matching type 1, has 32 octets, and SHA-512, matching type 2, has 64 (RFC 6698 section 2.1.3, RFC 8162 section 2).",
@@ -373,6 +376,7 @@ pub fn example_of(code: Code) -> &'static str {
         Code::SoaMinimumTtl => "@ SOA ns h 1 4 2 9 5\n@ NS ns\nns A 192.0.2.1",
         Code::IncludeTtl => "$INCLUDE sub.db",
         Code::MissingDot => "a MX 10 ns.example",
+        Code::GenerateDot => "$GENERATE 1-2 ${0,8,n} PTR ns",
         Code::EmptyUri => "a URI 10 1 \"\"",
         Code::TlsaLength => "_443._tcp.a TLSA 3 1 1 0011",
         Code::IpseckeyAlgorithm => "a IPSECKEY 10 1 0 192.0.2.38",

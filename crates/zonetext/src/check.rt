@@ -1,8 +1,10 @@
 //! The command `check`: reports what is wrong with zone files.
 use crate::checker::{Checker, Limits};
 use crate::files::check_text;
+use crate::generated::{GenerateMode, GenerateOptions};
 use crate::options::{
-    Usage, class_of, max_entry_of, name_of, number_of, report_no_zone, seconds_of,
+    Usage, class_of, max_entry_of, most_generated_of, name_of, number_of, report_no_zone,
+    seconds_of,
 };
 use crate::reporter::{Form, Reporter};
 use crate::scopes::is_of_text;
@@ -40,6 +42,7 @@ pub struct Options<'o> {
     pub max_ttl: Option<u32>,
     /// Greatest number of octets of an entry. With `--text` it is not limited.
     pub max_entry: usize,
+    pub generate: GenerateOptions,
     pub folders: &'o [&'o str],
     pub base: Option<&'o str>,
     pub stdin_name: Option<&'o str>,
@@ -151,6 +154,14 @@ fn options_of<'o>(
         } else {
             max_entry_of(inner)?
         },
+        generate: GenerateOptions {
+            mode: if is_text {
+                GenerateMode::Skip
+            } else {
+                GenerateMode::Read
+            },
+            most: most_generated_of(inner)?,
+        },
         folders: inner.get_strs("include").unwrap_or(&[]),
         base: inner.get_str("base"),
         stdin_name: inner.get_str("stdin-name"),
@@ -228,6 +239,7 @@ fn go_through(
     let folders = paths_of(rt.alloc(), settings.folders.as_slice())?;
     let begin = Begin {
         includes: !options.is_text,
+        generate: options.generate,
         max_entry: options.max_entry,
         state,
         folders: folders.as_slice(),

@@ -2,12 +2,15 @@
 use crate::exceptions::{may_except, stated_of};
 use crate::explain::Refusal;
 use crate::findings::Findings;
+use crate::generate_findings::{dot_in, refusal_text};
+use crate::generated::GenerateRefusal;
 use crate::held_zone::{
-    HeldZone, RecordLocation, StandingRecord, is_of_absence, is_of_signed_absence, other_soa,
+    HeldZone, RecordLocation, Repeats, StandingRecord, is_of_absence, is_of_signed_absence,
+    other_soa,
 };
 use crate::locations::{
-    beginning, begins_blank, data_start, line_spot, long_at, octet_at, position_at, spot_at,
-    target_position, token_at, tokens_of,
+    beginning, begins_blank, data_start, line_spot, long_at, number_of, octet_at, position_at,
+    spot_at, target_position, token_at, tokens_of,
 };
 use crate::lone_rules::{breaks_none, lone_rules, token_of_rule};
 use crate::long_ttls::{long_ttl, long_ttl_of};
@@ -116,9 +119,16 @@ fn directive_of<'e>(tokens: &[EntryToken<'e>], begins_blank: bool) -> Option<Ent
     }
 }
 
-/// Returns whether the comments of an entry may contain exceptions.
+/// Returns whether the comments of an entry may contain exceptions. Those of a directive apply to its
+/// entries.
 fn has_exceptions(entry: &Entry<'_>, scan: OctetScan) -> bool {
-    scan.has_semicolon && may_except(entry.octets)
+    entry.generated.is_none() && scan.has_semicolon && may_except(entry.octets)
+}
+
+/// Returns whether findings about the octets of an entry are looked for. Those of a generated entry
+/// are not in the file.
+fn lints(entry: &Entry<'_>, scan: OctetScan) -> bool {
+    entry.generated.is_none() && needs_lint(entry.octets, scan)
 }
 
 impl<'a> Checker<'a> {
@@ -413,7 +423,7 @@ impl<'a> Checker<'a> {
 
     /// Returns whether an entry is blank, or a record other than an SOA that has no findings.
     fn shows_nothing(&self, entry: &Entry<'_>, scan: OctetScan) -> bool {
-        if needs_lint(entry.octets, scan) {
+        if lints(entry, scan) {
             return false;
         }
         if self.limits.is_text {
@@ -463,6 +473,7 @@ impl<'a> Checker<'a> {
             file: entry.number,
             position,
             target: target_position(entry, position),
+            generated: number_of(entry),
         };
         held.records.add(given, stand)
     }
@@ -524,6 +535,21 @@ impl<'a> Checker<'a> {
                 self.findings.tell_token(entry, token, Code::RelativeOrigin)
             }
             _ => Ok(()),
+        }
+    }
+
+    /// Reports a format of `$GENERATE` that ends a name in a dot.
+    fn check_generate(&mut self, entry: &Entry<'_>) -> Result<(), RunError> {
+        if !self.limits.tells_slips {
+            return Ok(());
+        }
+        let tokens = tokens_of(self.alloc, entry)?;
+        match dot_in(entry, tokens.as_slice()) {
+            Some((spot, word)) => {
+                self.findings
+                    .tell_word(entry, spot, Code::GenerateDot, Some(word))
+            }
+            None => Ok(()),
         }
     }
 
@@ -611,6 +637,8 @@ impl<'a> Checker<'a> {
             Ok(ParsedEntry::Record { at, .. }) => {
                 Some(position_at(entry, at.saturating_sub(entry.offset)))
             }
+            // (the position of its entries)
+            Ok(ParsedEntry::Generate { .. }) => Some(position_at(entry, 0)),
             _ => None,
         };
         for (code, part) in &stated.codes {
@@ -689,7 +717,12 @@ impl<'a> Checker<'a> {
                 return self.report_other_soa(held, code_of_rule(finding.rule), record, zone);
             }
         }
+        let mut repeats = Repeats::new(self.alloc);
         for finding in &found {
+            let record = finding.record.and_then(|place| records.get(place));
+            if repeats.has(finding.rule, record)? {
+                continue;
+            }
             if self.tells_rule(finding.rule, is_zone) {
                 let records = ZoneRecords {
                     zone,
@@ -794,7 +827,7 @@ impl<'a> Checker<'a> {
     /// Reports findings about the octets of an entry. Returns whether it begins with Ctrl-Z.
     fn lint(&mut self, entry: &Entry<'_>, scan: OctetScan) -> Result<bool, RunError> {
         let is_long = matches!(entry.read, Err(BlockRefusal::LongEntry));
-        if is_long || !needs_lint(entry.octets, scan) {
+        if is_long || !lints(entry, scan) {
             return Ok(false);
         }
         if entry.octets.len() >= usize::MAX - 1 {
@@ -844,6 +877,7 @@ impl<'a> Checker<'a> {
             Ok(ParsedEntry::Nothing) => Ok(()),
             Ok(ParsedEntry::Directive) => self.check_directive(entry),
             Ok(ParsedEntry::Include { .. }) => self.check_directive(entry),
+            Ok(ParsedEntry::Generate { .. }) => self.check_generate(entry),
             Ok(
                 ParsedEntry::Record {
                     at,
@@ -894,12 +928,19 @@ impl<'a> Visit for Checker<'a> {
 
     fn take(&mut self, entry: &Entry<'_>) -> Result<(), RunError> {
         let scan = scan_octets(entry.octets);
+        if entry.generated.is_some() {
+            return self.take_entry(entry, scan);
+        }
         self.findings.reporter.exceptions.begin();
         if !has_exceptions(entry, scan) {
             return self.take_entry(entry, scan);
         }
         self.begin_exceptions(entry)?;
         self.take_entry(entry, scan)?;
+        if let Ok(ParsedEntry::Generate { .. }) = entry.read {
+            // (they stay in effect for its entries)
+            return Ok(());
+        }
         self.end_exceptions(entry)
     }
 
@@ -929,5 +970,22 @@ impl<'a> Visit for Checker<'a> {
             line_spot(file, number, place.position, None),
             Code::IncludeTtl,
         )
+    }
+
+    fn refuse_generate(
+        &mut self,
+        entry: &Entry<'_>,
+        refusal: GenerateRefusal,
+    ) -> Result<(), RunError> {
+        self.has_gap = true;
+        let tokens = tokens_of(self.alloc, entry)?;
+        let (spot, text) = refusal_text(self.alloc, entry, tokens.as_slice(), refusal)?;
+        self.findings.refuse_directive(entry, spot, &text)?;
+        self.end_exceptions(entry)
+    }
+
+    fn end_generate(&mut self, entry: &Entry<'_>, is_whole: bool) -> Result<(), RunError> {
+        self.has_gap = self.has_gap || !is_whole;
+        self.end_exceptions(entry)
     }
 }

@@ -1,4 +1,5 @@
 //! The command line of the program.
+use crate::expand::{MAX_GENERATE, expand_command, run_expand};
 use crate::format::{FormatOptions, Mode};
 use crate::machine::FORMATS;
 use crate::options::USAGE;
@@ -77,7 +78,7 @@ const NOW: &str = "check at this time, not now, as 20260131235959 or seconds sin
 const WHEN: [&str; 3] = ["auto", "always", "never"];
 
 /// The options about records, which conflict with `--text`.
-const OF_RECORDS: [&str; 13] = [
+const OF_RECORDS: [&str; 14] = [
     "zone",
     "zone-from-name",
     "conf",
@@ -90,6 +91,7 @@ const OF_RECORDS: [&str; 13] = [
     "class",
     "max-ttl",
     "max-entry",
+    "max-generate",
     "verbose",
 ];
 
@@ -106,6 +108,7 @@ fn with_findings<'a>(alloc: Global, command: Command<'a>) -> Result<Command<'a>,
         .arg(flag(alloc, "strict", "report every finding as an error"))?
         .arg(valued(alloc, "max-ttl", "TIME", "maximum TTL, as 1d"))?
         .arg(max_entry(alloc))?
+        .arg(valued(alloc, "max-generate", "N", MAX_GENERATE))?
         .arg(valued(alloc, "class", "CLASS", "class of the zone (default IN)"))
 }
 
@@ -287,13 +290,14 @@ enum Subcommand {
     Digest,
     Serial,
     Cut,
+    Expand,
     Codes,
     Explain,
 }
 
 impl Subcommand {
     /// Each command, as the help lists them.
-    const ALL: [Subcommand; 12] = [
+    const ALL: [Subcommand; 13] = [
         Subcommand::Check,
         Subcommand::Tokens,
         Subcommand::Format,
@@ -304,6 +308,7 @@ impl Subcommand {
         Subcommand::Digest,
         Subcommand::Serial,
         Subcommand::Cut,
+        Subcommand::Expand,
         Subcommand::Codes,
         Subcommand::Explain,
     ];
@@ -321,6 +326,7 @@ impl Subcommand {
             Subcommand::Digest => "digest",
             Subcommand::Serial => "serial",
             Subcommand::Cut => "cut",
+            Subcommand::Expand => "expand",
             Subcommand::Codes => "codes",
             Subcommand::Explain => "explain",
         }
@@ -350,6 +356,7 @@ impl Subcommand {
             Subcommand::Serial =>
                 "Example: zonetext serial --write --zone-from-name example.org.zone",
             Subcommand::Cut => "Example: zonetext cut 8 example.org.zone -o part",
+            Subcommand::Expand => "Example: zonetext expand example.org.zone",
             Subcommand::Codes => "Example: zonetext codes",
             Subcommand::Explain => "Example: zonetext explain ns-address",
         }
@@ -373,6 +380,7 @@ impl Subcommand {
             Subcommand::Digest => record_args::digest_command(alloc, self.name()),
             Subcommand::Serial => serial_args::serial_command(alloc, self.name()),
             Subcommand::Cut => cut_args::cut_command(alloc, self.name()),
+            Subcommand::Expand => expand_command(alloc, self.name()),
             Subcommand::Codes => codes::codes_command(alloc, self.name()),
             Subcommand::Explain => codes::explain_command(alloc, self.name()),
         }
@@ -392,6 +400,7 @@ impl Subcommand {
             Subcommand::Digest => record_args::run_digest(rt, inner),
             Subcommand::Serial => serial_args::run_serial(rt, inner, names_of(inner)),
             Subcommand::Cut => cut_args::run_cut(rt, inner),
+            Subcommand::Expand => run_expand(rt, inner),
             Subcommand::Codes => codes::run_codes(rt),
             Subcommand::Explain => codes::run_explain(rt, inner),
         }

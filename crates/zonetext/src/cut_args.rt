@@ -1,6 +1,7 @@
 //! The arguments of the command `cut`.
 use crate::command::{QUIET, flag, max_entry, required_file, valued};
 use crate::cut;
+use crate::generated::{GenerateMode, GenerateOptions};
 use crate::options::{Usage, class_of, max_entry_of, status_of};
 use crate::visit::Reading;
 use crate::zone_names::{name_option, zone_of_files, zone_option};
@@ -64,6 +65,10 @@ fn cut_by<'o>(rt: &HostRuntime, inner: &'o ArgMatches) -> Result<u8, Usage<'o>> 
         is_one_zone: inner.get_flag("soa"),
         is_quiet: inner.get_flag("quiet"),
         is_lenient: false,
+        generate: GenerateOptions {
+            mode: GenerateMode::Reject,
+            most: 0,
+        },
     };
     let work = cut::CutOptions {
         count: count_of(inner.get_str("N").unwrap_or(""))?,

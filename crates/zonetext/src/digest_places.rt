@@ -18,6 +18,8 @@ pub struct Placed {
     pub record: Record<Vec<u8>, Vec<u8>>,
     /// Whether its file is included by another.
     pub is_included: bool,
+    /// Whether it is from a `$GENERATE`.
+    pub is_generated: bool,
     /// Whether its owner is the origin there.
     pub is_origin: bool,
     /// Spans of the tokens of its data.
@@ -69,6 +71,7 @@ fn placed_of(alloc: Global, entry: &Entry<'_>, given: &RecordRef<'_>) -> Result<
     Ok(Placed {
         record,
         is_included: entry.number > 0,
+        is_generated: entry.generated.is_some(),
         is_origin,
         tokens: data_tokens(alloc, entry)?,
         end: entry.offset.saturating_add(entry.octets.len()),

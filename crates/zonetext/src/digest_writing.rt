@@ -42,6 +42,8 @@ enum DigestWriteError {
     NoSingleSoa,
     /// The SOA or a digest is in an included file.
     Included { what: &'static str },
+    /// The SOA or a digest is from a `$GENERATE`.
+    Generated { what: &'static str },
     /// The file is written, but it is not known whether its name has reached the disk.
     Unsettled(Refusal),
     RunError(RunError),
@@ -345,7 +347,7 @@ struct Parts<'f> {
     digests: Vec<&'f Placed>,
 }
 
-/// Returns the SOA of a zone and its digests, unless one is in an included file.
+/// Returns the SOA of a zone and its digests, unless one is in an included file or generated.
 fn parts_of<'f>(
     alloc: Global,
     found: &'f [Placed],
@@ -361,6 +363,10 @@ fn parts_of<'f>(
         if one.is_included {
             let what = if is_soa { "SOA" } else { "ZONEMD" };
             return Err(DigestWriteError::Included { what });
+        }
+        if one.is_generated {
+            let what = if is_soa { "SOA" } else { "ZONEMD" };
+            return Err(DigestWriteError::Generated { what });
         }
         if !is_soa {
             digests.push(one).map_err(AllocError::from)?;
@@ -485,6 +491,9 @@ fn refuse(rt: &HostRuntime, file: &str, why: DigestWriteError) -> io::Result<u8>
         }
         DigestWriteError::Included { what } => {
             eprintln!(rt; "zonetext: {name}: its {what} stands in an included file")?;
+        }
+        DigestWriteError::Generated { what } => {
+            eprintln!(rt; "zonetext: {name}: its {what} is from $GENERATE")?;
         }
         DigestWriteError::RunError(stop) => {
             exit_status(rt, file, stop);

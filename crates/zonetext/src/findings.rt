@@ -43,6 +43,14 @@ fn place_of(record: Option<&StandingRecord<'_>>, at_target: bool) -> (usize, Pos
     }
 }
 
+/// Returns the number of a record's entry, if it is generated.
+fn number_of(record: Option<&StandingRecord<'_>>) -> Option<u32> {
+    match record {
+        Some(record) => record.owner.as_octets().tag.generated,
+        None => None,
+    }
+}
+
 /// Returns the location of the code of an exception.
 fn code_spot<'s>(
     file: &'s str,
@@ -182,6 +190,19 @@ impl<'a> Findings<'a> {
         };
         let (spot, text) = fault_text(self.alloc, entry, fault)?;
         self.show_entry(entry, severity, spot, code, &text)
+    }
+
+    /// Reports why a directive is rejected.
+    pub fn refuse_directive(
+        &mut self,
+        entry: &Entry<'_>,
+        spot: FindingLocation<'_>,
+        text: &Text,
+    ) -> Result<(), RunError> {
+        match self.reporter.count(spot, Code::Directive, true) {
+            Some(severity) => self.show_entry(entry, severity, spot, Code::Directive, text),
+            None => Ok(()),
+        }
     }
 
     /// Reports a rejected entry with what was probably meant.
@@ -336,7 +357,10 @@ impl<'a> Findings<'a> {
             None => Subject::none(self.alloc),
         };
         let octets = line.as_ref().map(|line| line.as_slice());
-        let spot = line_spot(name, file, position, octets);
+        let spot = FindingLocation {
+            generated: number_of(record),
+            ..line_spot(name, file, position, octets)
+        };
         let said = subject.said(text.message.as_str(), text.help.as_str());
         self.reporter.show(severity, spot, code, said)
     }

@@ -3,7 +3,7 @@ use crate::record_arena::Held;
 use crate::refused_sets::RefusedSets;
 use dns_lexer::position::Position;
 use rdata_values::RecordType;
-use std::alloc::Global;
+use std::alloc::{AllocError, Global};
 use zone_dnssec::SecurityRule;
 use zone_record::Record;
 use zone_rules::{Finding, Rule};
@@ -17,6 +17,8 @@ pub struct RecordLocation {
     pub position: Position,
     /// Position of the target in its data, if it has one, and otherwise that of the record.
     pub target: Position,
+    /// Number of its entry, if it is generated.
+    pub generated: Option<u32>,
 }
 
 /// A record with its position.
@@ -48,6 +50,44 @@ impl HeldZone {
             Some(file) => file.as_str(),
             None => "-",
         }
+    }
+}
+
+/// The directives with a duplicate that was reported. The duplicates of a directive are reported once.
+#[derive(Drop)]
+pub struct Repeats {
+    /// Number of the file, and line of the directive.
+    places: Vec<(usize, usize)>,
+}
+
+impl Repeats {
+    /// Returns no directives.
+    pub fn new(alloc: Global) -> Repeats {
+        Repeats {
+            places: Vec::new(alloc),
+        }
+    }
+
+    /// Returns whether a finding is a duplicate of a directive with one that was reported. Adds the
+    /// directive otherwise.
+    pub fn has(
+        &mut self,
+        rule: Rule,
+        record: Option<&StandingRecord<'_>>,
+    ) -> Result<bool, AllocError> {
+        let Some(record) = record else {
+            return Ok(false);
+        };
+        let stand = record.owner.as_octets().tag;
+        if rule != Rule::Duplicate || stand.generated.is_none() {
+            return Ok(false);
+        }
+        let place = (stand.file, stand.position.line);
+        if self.places.contains(&place) {
+            return Ok(true);
+        }
+        self.places.push(place)?;
+        Ok(false)
     }
 }
 

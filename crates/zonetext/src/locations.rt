@@ -1,6 +1,7 @@
 //! The locations of findings in an entry.
 ghost use Rattle.std.specs.Prelude.{◌≤◌, length};
 
+use crate::generated::Generated;
 use crate::open_file::behind;
 use crate::reporter::FindingLocation;
 use crate::zone_files::Entry;
@@ -11,6 +12,9 @@ use dns_lexer::unclosed::outermost_open_of_octets;
 use rdata_values::RecordType;
 use std::alloc::{AllocError, Global};
 use zone_reader::{ParsedEntry, type_word};
+
+/// The word of the directive of generated entries.
+const DIRECTIVE: &[u8] = b"$GENERATE";
 
 /// Returns the number of tokens of a record before its data: those up to its type.
 pub fn data_start(tokens: &[EntryToken<'_>], is_blank: bool) -> usize {
@@ -41,6 +45,7 @@ pub fn line_spot<'s>(
         end_column: position.column.saturating_add(1),
         opened: None,
         line,
+        generated: None,
     }
 }
 
@@ -137,8 +142,20 @@ fn token_from(tokens: &[EntryToken<'_>], at: usize) -> (usize, usize) {
     (behind, 1)
 }
 
-/// Returns the position of an offset of an entry, which is counted from the entry's beginning.
+/// Returns the number of a generated entry.
+pub fn number_of(entry: &Entry<'_>) -> Option<u32> {
+    match entry.generated {
+        Some(generated) => Some(generated.number),
+        None => None,
+    }
+}
+
+/// Returns the position of an offset of an entry, which is counted from the entry's beginning. That of
+/// a generated entry is the position of its directive.
 pub fn position_at(entry: &Entry<'_>, at: usize) -> Position {
+    if entry.generated.is_some() {
+        return entry.place().position;
+    }
     let count = at.min(entry.held.len());
     behind(entry.place(), &entry.held[..count]).position
 }
@@ -164,9 +181,26 @@ fn line_at(octets: &[u8], at: usize) -> &[u8] {
     line.strip_suffix(b"\r").unwrap_or(line)
 }
 
+/// Returns the location of the directive of a generated entry: its word.
+fn directive_spot<'e>(entry: &Entry<'e>, generated: Generated<'e>) -> FindingLocation<'e> {
+    let position = entry.place().position;
+    FindingLocation {
+        file: entry.file,
+        number: entry.number,
+        position,
+        end_column: position.column.saturating_add(DIRECTIVE.len()),
+        opened: None,
+        line: Some(line_at(generated.held, 0)),
+        generated: Some(generated.number),
+    }
+}
+
 /// Returns the location of `width` octets from an offset of an entry on, which is counted from the
 /// entry's beginning.
 fn spot<'e>(entry: &Entry<'e>, at: usize, width: usize) -> FindingLocation<'e> {
+    if let Some(generated) = entry.generated {
+        return directive_spot(entry, generated);
+    }
     let position = position_at(entry, at);
     let end = position_at(entry, at.saturating_add(width));
     let next = position.column.saturating_add(1);
@@ -181,6 +215,7 @@ fn spot<'e>(entry: &Entry<'e>, at: usize, width: usize) -> FindingLocation<'e> {
         },
         opened: None,
         line: Some(line_at(entry.held, at)),
+        generated: None,
     }
 }
 
@@ -227,6 +262,9 @@ pub fn token_part<'e>(
 /// Returns the location of a syntax error of an entry: of a parenthesis that is left open, or of the
 /// octet that is wrong, with the position where a quote was opened.
 pub fn fault_at<'e>(entry: &Entry<'e>, fault: Fault) -> FindingLocation<'e> {
+    if entry.generated.is_some() {
+        return beginning(entry);
+    }
     match fault.wrong {
         Wrong::OpenParenthesis => match outermost_open_of_octets(entry.octets) {
             Some(at) => spot(entry, at, 1),

@@ -60,7 +60,7 @@ fn known(text: &str) -> Option<&[u8]> {
 }
 
 /// Returns a finding as the formats have it.
-fn formatted<'a>(finding: &'a Finding<'a>) -> finding_formats::Finding<'a> {
+fn formatted<'a>(finding: &'a Finding<'a>, generated: Option<u32>) -> finding_formats::Finding<'a> {
     let opened = match finding.opened {
         Some(position) => Some(Opening {
             line: position.line,
@@ -74,6 +74,10 @@ fn formatted<'a>(finding: &'a Finding<'a>) -> finding_formats::Finding<'a> {
         column: finding.position.column,
         end_column: finding.end_column,
         opened,
+        generate: match generated {
+            Some(number) => Some(number as usize),
+            None => None,
+        },
         is_error: is_error(finding.severity),
         code: finding.code.name().as_bytes(),
         owner: known(finding.owner),
@@ -146,8 +150,9 @@ impl Before {
         out: &mut Vec<u8>,
         format: Format,
         finding: &Finding<'_>,
+        generated: Option<u32>,
     ) -> Result<(), AllocError> {
-        let formatted = formatted(finding);
+        let formatted = formatted(finding, generated);
         match format {
             Format::Json => json::push_finding(out, &formatted)?,
             Format::Github => github::push_finding(out, &formatted)?,

@@ -185,6 +185,7 @@ impl<'o> Options<'o> {
             class: source.class.unwrap_or(self.class),
             max_ttl: self.max_ttl.or(source.max_ttl),
             max_entry: self.max_entry,
+            generate: self.generate,
             folders: self.folders,
             base: self.base.or(base),
             stdin_name: self.stdin_name,

@@ -1,4 +1,5 @@
 //! Parses the values of options.
+use crate::generated::MOST_GENERATED;
 use crate::shown::Shown;
 use crate::stop::EXIT_IO;
 use arrayvec::ArrayVec;
@@ -154,6 +155,14 @@ pub fn size_of<'o>(
 pub fn max_entry_of<'o>(inner: &'o ArgMatches) -> Result<usize, Usage<'o>> {
     let size = size_of(inner.get_str("max-entry"), "--max-entry")?;
     Ok(size.unwrap_or(ENTRY_LIMIT))
+}
+
+/// Returns the greatest number of entries of a `$GENERATE` directive.
+pub fn most_generated_of<'o>(inner: &'o ArgMatches) -> Result<u64, Usage<'o>> {
+    match number_of(inner.get_str("max-generate"), "--max-generate")? {
+        Some(most) => Ok(u64::from(most)),
+        None => Ok(MOST_GENERATED),
+    }
 }
 
 /// Returns the zone of an option, if it is set.

@@ -4,7 +4,7 @@ use crate::machine::{Before, Format};
 use crate::stop::RunError;
 use crate::waiting::Waiting;
 use dns_lexer::position::Position;
-use std::alloc::AllocError;
+use std::alloc::{AllocError, Global};
 use std::io::Write;
 use zonetext_report::code::{Code, Severity};
 use zonetext_report::excerpt::push_excerpt;
@@ -36,6 +36,8 @@ pub struct FindingLocation<'s> {
     pub opened: Option<Position>,
     /// The line of the file, without its end, if it is known.
     pub line: Option<&'s [u8]>,
+    /// Number of the entry, if it is generated.
+    pub generated: Option<u32>,
 }
 
 /// What a finding says. A text that it doesn't have is empty.
@@ -63,6 +65,18 @@ impl<'s> Said<'s> {
             help: "",
             note: "",
         }
+    }
+}
+
+/// Returns the message of a finding about a generated entry, which begins with its number.
+fn generated_message(
+    alloc: Global,
+    generated: Option<u32>,
+    message: &str,
+) -> Result<Option<String>, AllocError> {
+    match generated {
+        Some(number) => Ok(Some(format!(in alloc; "$GENERATE {number}: {message}")?)),
+        None => Ok(None),
     }
 }
 
@@ -158,7 +172,7 @@ impl<'a> Reporter<'a> {
         waiting.sort()?;
         for number in 0..waiting.len() {
             if let Some((finding, line)) = waiting.finding(number) {
-                self.push(&finding, line)?;
+                self.push(&finding, line, waiting.generated(number))?;
                 self.write()?;
             }
         }
@@ -166,9 +180,14 @@ impl<'a> Reporter<'a> {
     }
 
     /// Appends a finding as it is shown, with its line of the file if that is known.
-    fn push(&mut self, finding: &Finding<'_>, line: Option<&[u8]>) -> Result<(), AllocError> {
+    fn push(
+        &mut self,
+        finding: &Finding<'_>,
+        line: Option<&[u8]>,
+        generated: Option<u32>,
+    ) -> Result<(), AllocError> {
         match self.form {
-            Form::Machine(format) => self.before.push(&mut self.out, format, finding),
+            Form::Machine(format) => self.before.push(&mut self.out, format, finding, generated),
             Form::Lines {
                 is_coloured,
                 has_excerpt,
@@ -215,6 +234,7 @@ impl<'a> Reporter<'a> {
         code: Code,
         said: Said<'_>,
     ) -> Result<(), RunError> {
+        let message = generated_message(self.rt.alloc(), spot.generated, said.message)?;
         let finding = Finding {
             file: spot.file,
             severity,
@@ -224,15 +244,18 @@ impl<'a> Reporter<'a> {
             opened: spot.opened,
             owner: said.owner,
             rtype: said.rtype,
-            message: said.message,
+            message: match &message {
+                Some(text) => text.as_str(),
+                None => said.message,
+            },
             help: said.help,
             note: said.note,
         };
         if let Some(waiting) = &mut self.waiting {
-            waiting.add(spot.number, &finding, spot.line)?;
+            waiting.add(spot.number, &finding, spot.line, spot.generated)?;
             return Ok(());
         }
-        self.push(&finding, spot.line)?;
+        self.push(&finding, spot.line, spot.generated)?;
         self.write()
     }
 

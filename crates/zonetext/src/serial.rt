@@ -27,6 +27,8 @@ pub enum Spelling {
     Escaped { token: String, position: Position },
     /// In the format for unknown types (RFC 3597 section 5), which begins at a position.
     Generic { position: Position },
+    /// By the `$GENERATE` at a position.
+    Generated { position: Position },
 }
 
 /// An SOA, and its location.
@@ -78,6 +80,10 @@ pub enum SerialError {
     },
     /// The SOA at a position is in the format for unknown types.
     Generic {
+        position: Position,
+    },
+    /// The SOA is from the `$GENERATE` at a position.
+    Generated {
         position: Position,
     },
     /// A number is not greater than the serial.
@@ -138,6 +144,11 @@ fn shown_token(alloc: Global, octets: &[u8]) -> Result<String, AllocError> {
 
 /// Returns how the serial of an SOA is spelled.
 fn spelling_of(alloc: Global, entry: &Entry<'_>) -> Result<Spelling, RunError> {
+    if entry.generated.is_some() {
+        return Ok(Spelling::Generated {
+            position: position_at(entry, 0),
+        });
+    }
     let tokens = data_tokens(alloc, entry)?;
     let (first, serial) = match tokens.as_slice() {
         [first, _, serial, ..] => (*first, *serial),
@@ -299,6 +310,9 @@ pub fn serial_span(alloc: Global, soa: &PlacedSoa) -> Result<Span, SerialError> 
             position: *position,
         }),
         Spelling::Generic { position } => Err(SerialError::Generic {
+            position: *position,
+        }),
+        Spelling::Generated { position } => Err(SerialError::Generated {
             position: *position,
         }),
     }

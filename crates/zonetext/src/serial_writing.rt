@@ -196,6 +196,12 @@ pub fn report(rt: &HostRuntime, file: &str, why: SerialError) -> io::Result<u8> 
                 "{name}:{line}:{column}: error: SOA in the format for unknown types '\\#'"
             )?;
         }
+        SerialError::Generated { position } => {
+            let (line, column) = (position.line, position.column);
+            eprintln!(rt;
+                "{name}:{line}:{column}: error: SOA is from $GENERATE: write it as a record"
+            )?;
+        }
         SerialError::Set { old, number, error } => report_set(rt, file, old, number, error)?,
         SerialError::RunError(stop) => return Ok(exit_status(rt, file, stop)),
         SerialError::Refusal(refusal) => return leave(rt, file, &refusal),

@@ -1,6 +1,7 @@
 //! Reads the entries of zone files, one by one, for the commands that write, compare, digest and
 //! cut them.
 use crate::checker::{Checker, Limits, SoaInfo};
+use crate::generated::{GenerateMode, GenerateOptions, GenerateRefusal};
 use crate::locations::position_at;
 use crate::reporter::{Form, Reporter};
 use crate::shown::Shown;
@@ -45,6 +46,8 @@ pub struct Reading<'o> {
     /// Whether rejected entries are written to standard output, as comments, and the others are
     /// used.
     pub is_lenient: bool,
+    /// How `$GENERATE` directives are read.
+    pub generate: GenerateOptions,
 }
 
 impl Reading<'_> {
@@ -148,6 +151,18 @@ impl<T: TakeEntry + Drop> Visit for ReportingVisitor<'_, T> {
     ) -> Result<(), RunError> {
         self.checker.keep_ttl(file, number, place)
     }
+
+    fn refuse_generate(
+        &mut self,
+        entry: &Entry<'_>,
+        refusal: GenerateRefusal,
+    ) -> Result<(), RunError> {
+        self.checker.refuse_generate(entry, refusal)
+    }
+
+    fn end_generate(&mut self, entry: &Entry<'_>, is_whole: bool) -> Result<(), RunError> {
+        self.checker.end_generate(entry, is_whole)
+    }
 }
 
 /// Returns the codes that are not reported here: those of findings that keep no record from being
@@ -186,6 +201,7 @@ fn give_files<T: TakeEntry + Drop>(
         let begin = Begin {
             state: first_state(reading, file),
             includes: reading.includes,
+            generate: reading.generate,
             max_entry: reading.max_entry,
             folders: reading.folders,
             base: reading.base,
@@ -255,9 +271,11 @@ pub fn give_entries<T: TakeEntry + Drop>(
             };
         }
     };
+    let is_text = reading.generate.mode == GenerateMode::Texts;
     let policy = Policy {
         allowed: allowed.as_slice(),
-        denied: &[],
+        // (an expanded text has no place for it)
+        denied: if is_text { &[Code::ByteOrderMark] } else { &[] },
         is_strict: false,
     };
     let form = Form::Lines {
@@ -272,7 +290,7 @@ pub fn give_entries<T: TakeEntry + Drop>(
         tells_slips: false,
         times: None,
         is_standard: true,
-        is_text: false,
+        is_text,
     };
     let reporter = if reading.is_lenient {
         Reporter::new(rt, policy, form, 0).as_comments()

@@ -24,6 +24,8 @@ struct Row {
     ends: [usize; TEXTS],
     /// Whether the line of the file is known.
     has_line: bool,
+    /// Number of the entry, if it is generated.
+    generated: Option<u32>,
 }
 
 /// Findings, with the numbers of their files.
@@ -102,6 +104,7 @@ impl Waiting {
         number: usize,
         finding: &Finding<'_>,
         line: Option<&[u8]>,
+        generated: Option<u32>,
     ) -> Result<(), AllocError> {
         let start = self.octets.len();
         let ends = [
@@ -123,6 +126,7 @@ impl Waiting {
             start,
             ends,
             has_line: line.is_some(),
+            generated,
         })?;
         if self.most > 0 && self.rows.len() / 2 >= self.most {
             self.prune()?;
@@ -160,6 +164,11 @@ impl Waiting {
         self.rows = rows;
         self.last = self.rows.last().copied();
         Ok(())
+    }
+
+    /// Returns the number of the generated entry that the finding with a number is about.
+    pub fn generated(&self, number: usize) -> Option<u32> {
+        self.rows.get(number)?.generated
     }
 
     /// Returns the finding with a number, and its line of the file if that is known.

@@ -1,6 +1,9 @@
 //! Reads zone files and the files that they include, entry by entry.
 use crate::blocks::BLOCK;
 use crate::data_buffer::DataBuffer;
+use crate::generated::{
+    GenerateMode, GenerateOptions, GenerateRefusal, Generated, read_of, refusal_at,
+};
 use crate::open_file::{Includer, Input, OpenFile, behind, place_from};
 use crate::progress::Progress;
 use crate::stop::RunError;
@@ -12,7 +15,8 @@ use std::io::ErrorKind;
 use std::path::Path;
 use std::{io, mem};
 use zone_format::place::LocatedOffset;
-use zone_reader::{NameBuffer, NameState, ParsedEntry, State, include_parts};
+use zone_generate::{DirectiveTokens, Generate};
+use zone_reader::{NameBuffer, NameState, ParsedEntry, State, include_parts, read_text_entry};
 use zone_stream::{BlockReader, BlockRefusal};
 use zonetext_report::lint::order_mark_len;
 
@@ -46,6 +50,9 @@ pub struct Entry<'e> {
     pub data: &'e [u8],
     /// The state after this entry.
     pub state: &'e State,
+    /// If the entry is generated, its number and the octets of its directive. Its own octets are then
+    /// not those of the file, and its place is that of the directive.
+    pub generated: Option<Generated<'e>>,
 }
 
 impl<'e> Entry<'e> {
@@ -89,6 +96,17 @@ pub trait Visit {
     /// Reports that the `$TTL` of the file that the entry at a place includes stays in effect.
     /// `number` is that of the file with the entry.
     fn keep_ttl(&mut self, file: &str, number: usize, place: LocatedOffset) -> Result<(), RunError>;
+
+    /// Reports why the `$GENERATE` directive that was processed last is rejected.
+    fn refuse_generate(
+        &mut self,
+        entry: &Entry<'_>,
+        refusal: GenerateRefusal,
+    ) -> Result<(), RunError>;
+
+    /// Processes the end of the entries of a `$GENERATE` directive. `is_whole` says whether all were
+    /// passed.
+    fn end_generate(&mut self, entry: &Entry<'_>, is_whole: bool) -> Result<(), RunError>;
 }
 
 /// Open zone files, and the state after their entries so far.
@@ -97,6 +115,8 @@ struct ZoneFiles<'a> {
     rt: &'a HostRuntime,
     /// Whether files are included.
     includes: bool,
+    /// How `$GENERATE` directives are read.
+    generate: GenerateOptions,
     /// Greatest number of octets of an entry.
     max_entry: usize,
     /// The directories from which files may be included, by their absolute paths, without links.
@@ -255,6 +275,7 @@ impl<'a> ZoneFiles<'a> {
         Ok(ZoneFiles {
             rt,
             includes: begin.includes,
+            generate: begin.generate,
             max_entry: begin.max_entry,
             folders,
             base,
@@ -306,6 +327,9 @@ impl<'a> ZoneFiles<'a> {
                     ),
                 ) => {
                     return self.give_including(file, *count, *has_origin, visitor);
+                }
+                Some(Ok(ParsedEntry::Generate { at })) if self.generates() => {
+                    self.give_generate(&mut file, *at, visitor)?;
                 }
                 Some(Err(BlockRefusal::LongEntry)) => return self.give_long(file, visitor),
                 Some(read) => self.give(&mut file, read, visitor)?,
@@ -415,6 +439,7 @@ impl<'a> ZoneFiles<'a> {
             read,
             data: self.data.as_slice(),
             state: &self.state,
+            generated: None,
         }
     }
 
@@ -454,6 +479,105 @@ impl<'a> ZoneFiles<'a> {
     fn give_long<V: Visit>(&mut self, mut file: OpenFile, visitor: &mut V) -> Result<(), RunError> {
         self.give(&mut file, &Err(BlockRefusal::LongEntry), visitor)?;
         self.close(file, visitor)
+    }
+
+    /// Returns whether `$GENERATE` directives are not entries like others.
+    fn generates(&self) -> bool {
+        self.generate.mode != GenerateMode::Skip
+    }
+
+    /// Passes a `$GENERATE` directive to a visitor, and then its entries. `at` is the offset of its
+    /// word. The names that it leaves are those before it.
+    #[inline(never)]
+    fn give_generate<V: Visit>(
+        &mut self,
+        file: &mut OpenFile,
+        at: usize,
+        visitor: &mut V,
+    ) -> Result<(), RunError> {
+        let read = Ok(ParsedEntry::Generate { at });
+        self.give_counted(file, &read, visitor)?;
+        if self.generate.mode == GenerateMode::Reject {
+            return visitor.refuse_generate(&self.entry(file, &read), GenerateRefusal::NotCut);
+        }
+        let most = self.generate.most;
+        let tokens = match DirectiveTokens::new(directive_octets(file, at)) {
+            Ok(tokens) => tokens,
+            Err(error) => {
+                let refusal = refusal_at(error, at, most);
+                return visitor.refuse_generate(&self.entry(file, &read), refusal);
+            }
+        };
+        match tokens.parse(most) {
+            Ok(directive) => {
+                let is_whole = self.give_numbers(file, &directive, visitor)?;
+                visitor.end_generate(&self.entry(file, &read), is_whole)
+            }
+            Err(error) => {
+                let refusal = refusal_at(error, at, most);
+                visitor.refuse_generate(&self.entry(file, &read), refusal)
+            }
+        }
+    }
+
+    /// Passes the entry of each number of a directive to a visitor, up to one that is rejected. Returns
+    /// whether none was.
+    fn give_numbers<V: Visit>(
+        &mut self,
+        file: &OpenFile,
+        directive: &Generate<'_, '_>,
+        visitor: &mut V,
+    ) -> Result<bool, RunError> {
+        let mark = self.state.mark();
+        let mut text = Vec::new(self.rt.alloc());
+        let mut is_whole = true;
+        for index in 0..directive.range().count() {
+            let Some(number) = directive.range().number(index) else {
+                break;
+            };
+            text.truncate(0);
+            if directive.append_entry(number, &mut text).is_err() {
+                return Err(RunError::OutOfMemory);
+            }
+            is_whole = self.give_number(file, number, text.as_slice(), visitor)?;
+            if !is_whole {
+                break;
+            }
+        }
+        self.state.restore(mark);
+        Ok(is_whole)
+    }
+
+    /// Passes the entry of a number, by its text, to a visitor. Returns whether it is not rejected.
+    fn give_number<V: Visit>(
+        &mut self,
+        file: &OpenFile,
+        number: u32,
+        text: &[u8],
+        visitor: &mut V,
+    ) -> Result<bool, RunError> {
+        let offset = file.reader.began();
+        self.data.clear();
+        let read = if self.generate.mode == GenerateMode::Texts {
+            Ok(ParsedEntry::Nothing)
+        } else {
+            let given = read_text_entry(text, &mut self.state, &mut self.data);
+            read_of(given, offset)?
+        };
+        let held = file.reader.octets_from(offset).unwrap_or(&[]);
+        let entry = Entry {
+            held: text,
+            octets: text,
+            is_last: false,
+            generated: Some(Generated { number, held }),
+            ..self.entry(file, &read)
+        };
+        if visitor.is_quiet(&entry) {
+            visitor.take_quiet(&entry)?;
+        } else {
+            visitor.take(&entry)?;
+        }
+        Ok(read.is_ok())
     }
 
     /// Passes an entry that includes a file to a visitor, and opens that file. `count` of the
@@ -607,6 +731,13 @@ impl<'a> ZoneFiles<'a> {
     }
 }
 
+/// Returns the octets of the entry of a file that was read last, from an offset of the file on.
+fn directive_octets(file: &OpenFile, at: usize) -> &[u8] {
+    let held = file.reader.octets_from(at).unwrap_or(&[]);
+    let len = file.reader.place().saturating_sub(at);
+    held.get(..len).unwrap_or(held)
+}
+
 /// How a file is read.
 #[derive(Drop)]
 pub struct Begin<'f> {
@@ -614,6 +745,8 @@ pub struct Begin<'f> {
     pub state: State,
     /// Whether files are included.
     pub includes: bool,
+    /// How `$GENERATE` directives are read.
+    pub generate: GenerateOptions,
     /// Greatest number of octets of an entry.
     pub max_entry: usize,
     /// The directories, besides its own, from which files may be included.

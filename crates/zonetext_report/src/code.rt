@@ -119,6 +119,8 @@ pub enum Code {
     IncludeTtl,
     /// A name without a final dot ends like the origin.
     MissingDot,
+    /// A name of `$GENERATE` ends in the dot of nibbles of an even width.
+    GenerateDot,
     /// The target of a URI is empty.
     EmptyUri,
     /// The data of a TLSA does not have the length of its matching type.
@@ -251,7 +253,7 @@ fn find_named(codes: &[Code], name: &str) -> Option<Code>
 
 impl Code {
     /// Every code.
-    pub const ALL: [Code; 105] = [
+    pub const ALL: [Code; 106] = [
         Code::OpenQuote,
         Code::OpenParenthesis,
         Code::ClosingParenthesis,
@@ -297,6 +299,7 @@ impl Code {
         Code::SoaMinimumTtl,
         Code::IncludeTtl,
         Code::MissingDot,
+        Code::GenerateDot,
         Code::EmptyUri,
         Code::TlsaLength,
         Code::IpseckeyAlgorithm,
@@ -409,6 +412,7 @@ impl Code {
             Code::SoaMinimumTtl => "soa-minimum-ttl",
             Code::IncludeTtl => "include-ttl",
             Code::MissingDot => "missing-dot",
+            Code::GenerateDot => "generate-dot",
             Code::EmptyUri => "empty-uri",
             Code::TlsaLength => "tlsa-length",
             Code::IpseckeyAlgorithm => "ipseckey-algorithm",
@@ -517,6 +521,7 @@ impl Code {
             | Code::SoaMinimumTtl
             | Code::IncludeTtl
             | Code::MissingDot
+            | Code::GenerateDot
             | Code::EmptyUri
             | Code::TlsaLength
             | Code::IpseckeyAlgorithm
