@@ -14,7 +14,7 @@ use Rattle.zone_reader.specs.Included.{OriginAppended, IsIncluded}
 use Rattle.zone_reader.specs.Records.{ReadsBegun, ReadsNextEntry, ReadsNextRecord, IsAfterEntry}
 use Rattle.zone_reader.specs.Source.{IsAtStart, SourceSeen}
 use Rattle.zone_reader.specs.declared.entry.ParsedEntry.{ParsedEntry}
-use Rattle.zone_reader.specs.declared.entry.ParsedEntry.TheVariants.{Nothing, Directive, Include, Record as RecordRead}
+use Rattle.zone_reader.specs.declared.entry.ParsedEntry.TheVariants.{Nothing, Directive, Include, Generate, Record as RecordRead}
 use Rattle.zone_reader.specs.declared.known.NameState.TheVariants.{Name, Unset}
 use Rattle.zone_reader.specs.declared.records.RecordReader.{RecordReader}
 use Rattle.zone_reader.specs.declared.source.StartOfEntry.{StartOfEntry}
@@ -59,6 +59,7 @@ included room before after new None r = tt
 included room before after new (Some (Err e)) r = tt
 included room before after new (Some (Ok Nothing)) r = tt
 included room before after new (Some (Ok Directive)) r = tt
+included room before after new (Some (Ok (Generate at))) r = tt
 included room before after new (Some (Ok (RecordRead at ttl class rtype))) r = tt
 included room before after new (Some (Ok (Include file has_origin))) r =
     let h = files_are_appended room r.middle after [] new file has_origin r.last in

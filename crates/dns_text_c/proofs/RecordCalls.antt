@@ -21,7 +21,7 @@ use Rattle.zone_reader.specs.Source.{BeginsEntry, SourceSeen}
 use Rattle.zone_reader.specs.TextEntries.{counts_with, end_seen}
 use Rattle.zone_reader.specs.TextPieces.{StartsAt, seen_later}
 use Rattle.zone_reader.specs.declared.entry.ParsedEntry.{ParsedEntry}
-use Rattle.zone_reader.specs.declared.entry.ParsedEntry.TheVariants.{Nothing, Directive, Include, Record as RecordRead}
+use Rattle.zone_reader.specs.declared.entry.ParsedEntry.TheVariants.{Nothing, Directive, Include, Generate, Record as RecordRead}
 use Rattle.zone_reader.specs.declared.known.NameState.{NameState}
 use Rattle.zone_reader.specs.declared.known.NameState.TheVariants.{Unset, Name, Refused}
 use Rattle.zone_reader.specs.declared.records.RecordReader.{RecordReader}
@@ -43,7 +43,7 @@ use Rattle.dns_text_c.specs.declared.outcome.Outcome.{Outcome}
 use Rattle.dns_text_c.specs.declared.outcome.Refusal.{Refusal}
 use Rattle.dns_text_c.specs.declared.outcome.Refusal.TheVariants.{NoRoom, BadEscape, ShortInput, BadUtf8, BadSymbol, TooLong, BadEncoding, Closing, OpenParenthesis, OpenQuote, LoneReturn, BadCursor, EmptyLabel, LongLabel, BinaryLabel}
 use Rattle.dns_text_c.specs.declared.outcome.Refusal.TheVariants.{BadLabel, Pointer, TrailingOctets, NoDigit, TooGreat, BadPlace, BadTtl, UnknownType, UnknownClass, BadHead, NotSupported, BadName, NoOrigin, NoOwner, RefusedOwner}
-use Rattle.dns_text_c.specs.declared.outcome.Refusal.TheVariants.{BadData, NoTtl, RelativeName}
+use Rattle.dns_text_c.specs.declared.outcome.Refusal.TheVariants.{BadData, NoTtl, RelativeName, BadGenerate}
 use Rattle.dns_text_c.proofs.LastEnds.{nothing_behind}
 
 abbrev room : Room
@@ -290,6 +290,7 @@ never_one RefusedOwner h = cc
 never_one BadData h = cc
 never_one NoTtl h = cc
 never_one RelativeName h = cc
+never_one BadGenerate h = cc
 
 error_some : (wrong : Option Wrong) (e : RecordError) (old new : List ℕ) (told : ℕ) (outcome : Outcome) → ReportsErrorText wrong e old told new outcome → told ≢ 1
 error_some (Some wrong) e old new told outcome t = λ one. never_one _ (sym one ∙ t.0.0)
@@ -309,6 +310,7 @@ module _ (after : RecordReader) (octets : List ℕ) (call : RecordCall) where
   some_told (Err e) t = error_some (syntax_of e.kind) e _ _ _ _ t.reason
   some_told (Ok (RecordRead at ttl class rtype)) t = found_some 0 _ _ _ (λ e. cc) t
   some_told (Ok (Include file has_origin)) t = found_some 26 _ _ _ (λ e. cc) t.1
+  some_told (Ok (Generate at)) t = found_some 36 _ _ _ (λ e. cc) t
   some_told (Ok Nothing) t = absurd t
   some_told (Ok Directive) t = absurd t
 
@@ -316,6 +318,7 @@ module _ (after : RecordReader) (octets : List ℕ) (call : RecordCall) where
   some_keeps (Err e) fits t = t.keeps
   some_keeps (Ok (RecordRead at ttl class rtype)) fits t = found_keeps 0 _ _ _ fits t
   some_keeps (Ok (Include file has_origin)) fits t = found_keeps 26 _ _ _ fits t.1
+  some_keeps (Ok (Generate at)) fits t = found_keeps 36 _ _ _ fits t
   some_keeps (Ok Nothing) fits t = absurd t
   some_keeps (Ok Directive) fits t = absurd t
 

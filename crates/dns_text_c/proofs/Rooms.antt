@@ -22,7 +22,7 @@ use Rattle.rdata_fields.specs.declared.record_error.RecordError.{RecordError}
 use Rattle.rdata_values.specs.declared.error.ErrorKind.{ErrorKind}
 use Rattle.rdata_values.specs.declared.error.ErrorKind.TheVariants.{ShortBuf}
 use Rattle.rdata_values.specs.declared.types.RecordType.{RecordType}
-use Rattle.zone_reader.specs.EntryMeanings.{EntryMeaning, says_nothing, says_origin, says_default_ttl, says_include, says_record, says_refused}
+use Rattle.zone_reader.specs.EntryMeanings.{EntryMeaning, says_nothing, says_origin, says_default_ttl, says_include, says_generate, says_record, says_refused}
 use Rattle.zone_reader.specs.declared.header.RecordHeader.{RecordHeader}
 use Rattle.zone_reader.specs.declared.header.HeaderRefusal.{HeaderRefusal}
 use Rattle.zone_reader.specs.EntryReading.{ReadsDataAfterHeader, ReadsInclude, ReadsMeaning, ReadsRecordData, ReadsWords, ReadsZoneEntry}
@@ -161,6 +161,7 @@ module _ (one other : Room) where
   meaning_so before end tokens (says_origin t) old new result owner fits h = h
   meaning_so before end tokens (says_default_ttl r) old new result owner fits h = h
   meaning_so before end tokens (says_include file token) old new result owner fits h = include_so (known_name before.origin) _ file token old new result fits h
+  meaning_so before end tokens says_generate old new result owner fits h = h
   meaning_so before end tokens (says_record token words left) old new result owner fits h = (h.0, h.1, words_so before _ end h.0 words left old new result fits h.2)
   meaning_so before end tokens (says_refused r) old new result owner fits h = h
 

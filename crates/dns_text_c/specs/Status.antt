@@ -21,4 +21,5 @@ status_text n =
     if n == 29 then codes "name refused" else (if n == 30 then codes "relative name, and no origin" else (
     if n == 31 then codes "no owner" else (if n == 32 then codes "the owner before is refused" else (
     if n == 33 then codes "data refused" else (if n == 34 then codes "no time to live" else (
-    if n == 35 then codes "name without the root at its end" else codes "unknown status")))))))))))))))))))))))))))))))))))
+    if n == 35 then codes "name without the root at its end" else (if n == 36 then codes "a $GENERATE directive" else (
+    if n == 37 then codes "$GENERATE refused" else codes "unknown status")))))))))))))))))))))))))))))))))))))

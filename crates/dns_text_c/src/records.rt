@@ -11,7 +11,7 @@ ghost use Rattle.dns_text_c.specs.declared.records.Record.{Record};
 ghost use Rattle.dns_text_c.specs.Records.{HasIncluded, IsHeadOfLine, KeepsReader, NextIfRead, NextRecord, ReportsFound, ReportsResult, ReportsLine, ReportsRejected, head_in, head_of, memory};
 
 use crate::kept::{KeptName, Zone, keep_name, keep_state, load_state, name_of, put_over};
-use crate::outcome::{END, Fault, INCLUDE, OK, Outcome, Refusal, number_of, refuse};
+use crate::outcome::{END, Fault, GENERATE, INCLUDE, OK, Outcome, Refusal, number_of, refuse};
 use crate::reasons::report_error;
 use crate::record_reading::ZoneReader;
 use arrayvec::ArrayVec;
@@ -25,18 +25,19 @@ const MOST: usize = 65535;
 /// Number of octets that suffices for most record data.
 const FEW: usize = 1024;
 
-/// A record of a zone file, whose data is in another buffer; or a file to include.
+/// A record of a zone file, whose data is in another buffer; or a file to include; or a `$GENERATE`
+/// directive.
 #[repr(C)]
 pub struct Record {
-    /// Offset of the record's first token; 0 for a file.
+    /// Offset of the first token of the record or of the directive; 0 for a file.
     pub place: usize,
-    /// TTL, in seconds; 0 for a file.
+    /// TTL, in seconds; 0 for a file or a directive.
     pub ttl: u32,
-    /// Class; 0 for a file.
+    /// Class; 0 for a file or a directive.
     pub class_code: u16,
-    /// Type; 0 for a file.
+    /// Type; 0 for a file or a directive.
     pub type_code: u16,
-    /// The owner; or the origin of the file, if the entry has one.
+    /// The owner; or the origin of the file, if the entry has one; a directive has none.
     pub name: KeptName,
 }
 
@@ -65,7 +66,10 @@ fn head_in(read: &ParsedEntry) -> Option<RecordNumbers>
             class: *class,
             rtype: *rtype,
         }),
-        ParsedEntry::Include { .. } | ParsedEntry::Nothing | ParsedEntry::Directive => None,
+        ParsedEntry::Include { .. }
+        | ParsedEntry::Generate { .. }
+        | ParsedEntry::Nothing
+        | ParsedEntry::Directive => None,
     }
 }
 
@@ -155,8 +159,8 @@ fn included_origin(has_origin: bool, octets: &[u8]) -> NameState
     }
 }
 
-/// Reports what a reader returned: a record with its owner, a file to include, an error, or that
-/// nothing is left.
+/// Reports what a reader returned: a record with its owner, a file to include, a `$GENERATE` directive,
+/// an error, or that nothing is left.
 fn report_result(
     given: Option<Result<ParsedEntry, RecordError>>,
     reader: &ZoneReader,
@@ -189,6 +193,25 @@ fn report_result(
             let known = included_origin(has_origin, origin);
             report_found(
                 INCLUDE, reader, name, &known, head, zone, found, octets, outcome,
+            )
+        }
+        Some(Ok(ParsedEntry::Generate { at })) => {
+            let head = RecordNumbers {
+                place: at,
+                ttl: 0,
+                class: Class(0),
+                rtype: RecordType(0),
+            };
+            report_found(
+                GENERATE,
+                reader,
+                &[],
+                &NameState::Unset,
+                head,
+                zone,
+                found,
+                octets,
+                outcome,
             )
         }
         Some(Ok(read)) => {
@@ -391,8 +414,9 @@ fn next_of_line(
 /// Reads the next record of a zone file, and advances the zone (RFC 1035 section 5.1, RFC 2308
 /// section 4). `$ORIGIN` and `$TTL` are processed on the way.
 ///
-/// The octets are the record's data; or with [`INCLUDE`] the name of a file; or the text of an
-/// entry's error, at most 255 of them, cut to the buffer's length. Errors are reported with their
+/// The octets are the record's data; or with [`INCLUDE`] the name of a file; or with [`GENERATE`] none,
+/// and the place is that of the directive; or the text of an entry's error, at most 255 of them, cut to
+/// the buffer's length. Errors are reported with their
 /// place, and reading continues at the next entry, or after the line of a syntax error. If data
 /// doesn't fit, nothing is written, and the zone is unchanged. Once nothing is left the status is
 /// [`END`]. A zone past the end of the text, or with a name that is not valid, is rejected.

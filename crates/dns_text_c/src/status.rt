@@ -46,6 +46,8 @@ pub fn status_text(status: u32) -> &'static str
         33 => "data refused",
         34 => "no time to live",
         35 => "name without the root at its end",
+        36 => "a $GENERATE directive",
+        37 => "$GENERATE refused",
         _ => "unknown status",
     }
 }

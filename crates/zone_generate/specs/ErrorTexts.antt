@@ -3,7 +3,7 @@ use Rattle.std.specs.Prelude.{ℕ, List, codes}
 use Rattle.dns_lexer.specs.declared.pieces.Wrong.{Wrong}
 use Rattle.dns_lexer.specs.declared.pieces.Wrong.TheVariants.{BadEscape, Closing, LoneReturn, OpenParenthesis, OpenQuote}
 use Rattle.zone_generate.specs.declared.error.GenerateErrorKind.{GenerateErrorKind}
-use Rattle.zone_generate.specs.declared.error.GenerateErrorKind.TheVariants.{BadBase, BadOffset, BadRange, BadWidth, LargeNumber, LargeOffset, LargeSum, LargeWidth, LineBreak, MissingToken, NotGenerate, OpenBrace, OpenEscape, Parenthesis, QuotedToken, StartAfterStop, Syntax, TooManyEntries, TrailingToken, ZeroStep}
+use Rattle.zone_generate.specs.declared.error.GenerateErrorKind.TheVariants.{BadBase, BadOffset, BadRange, BadWidth, LargeNumber, LargeOffset, LargeSum, LargeWidth, LineBreak, MissingToken, NotGenerate, OpenBrace, OpenEscape, Parenthesis, PlainAfterOffset, QuotedToken, StartAfterStop, Syntax, TooManyEntries, TrailingToken, ZeroStep}
 
 abbrev pub syntax_error_text : Wrong → List ℕ
 syntax_error_text Closing = codes "closing parenthesis without an open one"
@@ -28,6 +28,7 @@ generate_error_text LargeWidth = codes "width in braces exceeds 127"
 generate_error_text BadBase = codes "base in braces is not d, o, x, X, n or N"
 generate_error_text OpenBrace = codes "brace is not closed"
 generate_error_text LargeSum = codes "number plus offset exceeds 2147483647"
+generate_error_text PlainAfterOffset = codes "$ after an offset, which BIND adds to it: write ${0}"
 generate_error_text OpenEscape = codes "backslash at the end"
 generate_error_text LineBreak = codes "line break in quotes"
 generate_error_text Parenthesis = codes "parenthesis in $GENERATE"

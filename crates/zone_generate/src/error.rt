@@ -40,6 +40,9 @@ pub enum GenerateErrorKind {
     OpenBrace,
     /// The last number plus an offset exceeds 2147483647.
     LargeSum,
+    /// A dollar sign without braces comes after a format with an offset other than 0, which BIND adds
+    /// to it.
+    PlainAfterOffset,
     /// A backslash ends the owner or the RDATA.
     OpenEscape,
     /// The owner or the RDATA have a line feed or a carriage return.
@@ -86,6 +89,8 @@ impl GenerateErrorKind {
             GenerateErrorKind::BadBase => "base in braces is not d, o, x, X, n or N",
             GenerateErrorKind::OpenBrace => "brace is not closed",
             GenerateErrorKind::LargeSum => "number plus offset exceeds 2147483647",
+            GenerateErrorKind::PlainAfterOffset =>
+                "$ after an offset, which BIND adds to it: write ${0}",
             GenerateErrorKind::OpenEscape => "backslash at the end",
             GenerateErrorKind::LineBreak => "line break in quotes",
             GenerateErrorKind::Parenthesis => "parenthesis in $GENERATE",

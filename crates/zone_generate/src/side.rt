@@ -4,7 +4,7 @@ ghost use Rattle.dns_octets.specs.Appending.{Extends};
 ghost use Rattle.zone_generate.specs.Parts.{side_parts, parts_or_none, side_text};
 
 use crate::error::GenerateErrorKind;
-use crate::part::{append_part, read_part};
+use crate::part::{append_part, offset_after, read_part};
 use dns_octets::{OctetsBuilder, ShortBuf, Truncate};
 use std::marker::Model;
 
@@ -23,9 +23,13 @@ fn check_parts(text: &[u8], is_quoted: bool, last: u32) -> Result<(), SideError>
         (λ e. side_parts last is_quoted text.now ≡ Err e) }
 {
     let mut at = 0;
+    let mut has_offset = false;
     while at < text.len() {
-        match read_part(&text[at..], is_quoted, last) {
-            Ok(part) => at += part.len,
+        match read_part(&text[at..], is_quoted, last, has_offset) {
+            Ok(part) => {
+                has_offset = offset_after(has_offset, part.part);
+                at += part.len;
+            }
             Err(kind) => return Err(SideError { offset: at, kind }),
         }
     }
@@ -48,9 +52,11 @@ fn append_parts<B: OctetsBuilder>(
         + length (side_text number (parts_or_none (side_parts last is_quoted text.now)))) }
 {
     let mut at = 0;
+    let mut has_offset = false;
     while at < text.len() {
-        match read_part(&text[at..], is_quoted, last) {
+        match read_part(&text[at..], is_quoted, last, has_offset) {
             Ok(part) => {
+                has_offset = offset_after(has_offset, part.part);
                 append_part(part.part, number, out)?;
                 at += part.len;
             }
@@ -62,7 +68,8 @@ fn append_parts<B: OctetsBuilder>(
 
 /// The owner or the RDATA of a directive: a text in which dollar signs are replaced.
 ///
-/// - `$` is the number, and `${offset,width,base}` the number in a format ([`crate::format`]).
+/// - `$` is the number, and `${offset,width,base}` the number in a format ([`crate::format`]). A `$`
+///   after a format with an offset is an error, since BIND adds the offset to it: `${0}` is the number.
 /// - `$$` is a dollar sign. It is written `\$`, so that an entry never begins with a dollar sign.
 /// - A backslash and the octet after it are written as they are. In a quoted string, `\"` is
 ///   written `"`, since the text of the string is read as RDATA.
@@ -89,8 +96,8 @@ impl<'t> Side<'t> {
     /// Parses the text of a token, for numbers up to `last`.
     ///
     /// Fails with the first part that is rejected: a format with its error, `OpenBrace`,
-    /// `LargeSum` if the sum of `last` and an offset exceeds 2147483647, `OpenEscape`, or
-    /// `LineBreak`.
+    /// `LargeSum` if the sum of `last` and an offset exceeds 2147483647, `PlainAfterOffset`,
+    /// `OpenEscape`, or `LineBreak`.
     pub fn new(text: &'t [u8], is_quoted: bool, last: u32) -> Result<Side<'t>, SideError>
         ensures { result ≡ side_parts last is_quoted text.now }
     {

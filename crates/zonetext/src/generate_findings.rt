@@ -26,6 +26,17 @@ fn is_of_part(kind: GenerateErrorKind) -> bool {
             | GenerateErrorKind::BadBase
             | GenerateErrorKind::OpenBrace
             | GenerateErrorKind::LargeSum
+            | GenerateErrorKind::PlainAfterOffset
+            | GenerateErrorKind::OpenEscape
+            | GenerateErrorKind::LineBreak
+    )
+}
+
+/// Returns whether an error is one of an octet.
+fn is_of_octet(kind: GenerateErrorKind) -> bool {
+    matches!(
+        kind,
+        GenerateErrorKind::PlainAfterOffset
             | GenerateErrorKind::OpenEscape
             | GenerateErrorKind::LineBreak
     )
@@ -73,6 +84,11 @@ fn place_of<'e>(
         return (token_at(entry, &token), Some(token.text));
     }
     let word = format_at(token.text, error.offset);
+    let word = if is_of_octet(error.kind) {
+        word.get(..1).unwrap_or(word)
+    } else {
+        word
+    };
     let quote = usize::from(token.is_quoted);
     let offset = error.offset.saturating_add(quote);
     (
