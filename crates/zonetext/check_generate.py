@@ -66,7 +66,7 @@ READ = [
     ("1-2 h${1,2,} A 192.0.2.$", "${1,2,}"),
     ("1-2 h${1,2,D} A 192.0.2.$", "${1,2,D}"),
     ("1-2 h${0x10} A 192.0.2.$", "${0x10}"),
-    ("1-2 h${ 1} A 192.0.2.$", None),  # (two tokens: the owner, and a class that is none)
+    ("1-2 h${ 1} A 192.0.2.$", None),  # (two tokens: the owner, and a type that is unknown)
     ("1-1 h TXT ${0,128}", "${0,128}"),
     ("1-2 h$ TXT ${2147483646}", "${2147483646}"),
     ("1-2 h$ MX 10 m$", "m$"),

@@ -4,7 +4,7 @@ use Rattle.dns_lexer.specs.EntryTokens.{TokenSeen}
 use Rattle.zone_generate.specs.Directives.{Generating, entry_text, generate_of}
 use Rattle.zone_generate.specs.ErrorTexts.{generate_error_text}
 use Rattle.zone_generate.specs.Ranges.{number_at}
-use Rattle.zone_generate.specs.Tokens.{FindsDirective, tokens_end}
+use Rattle.zone_generate.specs.Tokens.{FindsDirective, directive_end}
 use Rattle.zone_generate.specs.declared.error.GenerateError.{GenerateError}
 use Rattle.dns_text_c.specs.Reports.{CopiesWhole, ReportsFault, WritesPrefix, at_start, number_of}
 use Rattle.dns_text_c.specs.declared.outcome.Outcome.{Outcome}
@@ -50,10 +50,10 @@ WritesIndex (Ok g) index call = WritesNumberIf (number_at g.range index) g call
 WritesIndex (Err e) index call = ReportsRefusal e call
 
 -- the directive of tokens, with any number of entries
-abbrev pub directive_of : Result (List TokenSeen) GenerateError → Result Generating GenerateError
-directive_of (Ok tokens) = generate_of (2 ^ 64 - 1) (tokens_end 0 tokens) (drop 1 tokens)
-directive_of (Err e) = Err e
+abbrev pub found_directive : Result (List TokenSeen) GenerateError → Result Generating GenerateError
+found_directive (Ok tokens) = generate_of (2 ^ 64 - 1) (directive_end 0 tokens) (drop 1 tokens)
+found_directive (Err e) = Err e
 
 -- the entry of an index of the directive that some octets are
 abbrev pub GeneratesEntry : List ℕ → ℕ → EntryCall → Type 0
-GeneratesEntry octets index call = (found : Result (List TokenSeen) GenerateError) × FindsDirective octets found × WritesIndex (directive_of found) index call
+GeneratesEntry octets index call = (found : Result (List TokenSeen) GenerateError) × FindsDirective octets found × WritesIndex (found_directive found) index call

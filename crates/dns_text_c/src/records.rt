@@ -8,7 +8,7 @@ ghost use Rattle.dns_text_c.specs.Kept.{KeepsName, optional_origin};
 ghost use Rattle.dns_text_c.specs.Reports.{ReportsFault, at_start};
 ghost use Rattle.dns_text_c.specs.declared.outcome.Refusal.TheVariants.{BadCursor};
 ghost use Rattle.dns_text_c.specs.declared.records.Record.{Record};
-ghost use Rattle.dns_text_c.specs.Records.{HasIncluded, IsHeadOfLine, KeepsReader, NextIfRead, NextRecord, ReportsFound, ReportsResult, ReportsLine, ReportsRejected, head_in, head_of, memory};
+ghost use Rattle.dns_text_c.specs.Records.{HasIncluded, IsHeadOfLine, KeepsReader, NextIfRead, NextRecord, ReportsFound, ReportsResult, ReportsLine, ReportsRejected, head_in, head_of, head_with, memory};
 
 use crate::kept::{KeptName, Zone, keep_name, keep_state, load_state, name_of, put_over};
 use crate::outcome::{END, Fault, GENERATE, INCLUDE, OK, Outcome, Refusal, number_of, refuse};
@@ -48,6 +48,18 @@ pub(crate) struct RecordNumbers {
     ttl: u32,
     class: Class,
     rtype: RecordType,
+}
+
+/// Returns the numbers of an entry that is not a record: its place, and zeros.
+fn no_record(place: usize) -> RecordNumbers
+    ensures { result ≡ head_with place 0 0 0 }
+{
+    RecordNumbers {
+        place,
+        ttl: 0,
+        class: Class(0),
+        rtype: RecordType(0),
+    }
 }
 
 /// Returns the numbers of a record that was read, or `None` for other entries.
@@ -183,12 +195,7 @@ fn report_result(
 {
     match given {
         Some(Ok(ParsedEntry::Include { file, has_origin })) => {
-            let head = RecordNumbers {
-                place: 0,
-                ttl: 0,
-                class: Class(0),
-                rtype: RecordType(0),
-            };
+            let head = no_record(0);
             let (name, origin) = include_parts(content, file);
             let known = included_origin(has_origin, origin);
             report_found(
@@ -196,12 +203,7 @@ fn report_result(
             )
         }
         Some(Ok(ParsedEntry::Generate { at })) => {
-            let head = RecordNumbers {
-                place: at,
-                ttl: 0,
-                class: Class(0),
-                rtype: RecordType(0),
-            };
+            let head = no_record(at);
             report_found(
                 GENERATE,
                 reader,

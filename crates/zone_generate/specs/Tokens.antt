@@ -36,9 +36,9 @@ abbrev pub saturated_end : TokenSeen → ℕ
 saturated_end t = min (t.at + length (spelled t)) (2 ^ 64 - 1)
 
 -- and where the last one ends, or the offset before them
-abbrev pub tokens_end : ℕ → List TokenSeen → ℕ
-tokens_end end [] = end
-tokens_end end (t ∷ tokens) = tokens_end (saturated_end t) tokens
+abbrev pub directive_end : ℕ → List TokenSeen → ℕ
+directive_end end [] = end
+directive_end end (t ∷ tokens) = directive_end (saturated_end t) tokens
 
 -- the tokens of the first entry, and what comes after them
 abbrev pub entry_tokens : List (Result PartSeen Fault) → List TokenSeen
@@ -57,8 +57,8 @@ EndsNext (Ok (TokenIs t b) ∷ parts) = ⊥
 EndsNext (Err f ∷ parts) = ⊥
 
 -- the first eight tokens of the first entry, if no syntax error comes before its end
-abbrev pub HasTokens : List ℕ → List TokenSeen → Type 0
-HasTokens octets tokens = (seen : List (Result PartSeen Fault)) × IsSeen octets seen × (tokens ≡ take 8 (entry_tokens seen)) × EndsNext (after_tokens seen)
+abbrev pub HasFirstTokens : List ℕ → List TokenSeen → Type 0
+HasFirstTokens octets tokens = (seen : List (Result PartSeen Fault)) × IsSeen octets seen × (tokens ≡ take 8 (entry_tokens seen)) × EndsNext (after_tokens seen)
 
 -- and that syntax error
 abbrev pub HasFault : List ℕ → Fault → Type 0
@@ -73,7 +73,7 @@ is_directive_word (t ∷ tokens) = not t.is_quoted && ((t.at == 0) && same_lower
 abbrev pub WhyNoDirective : List ℕ → GenerateError → Type 0
 WhyNoDirective octets e =
     ((f : Fault) × HasFault octets f × (e ≡ error_at_token f.at (Syntax f.wrong)))
-    ⊎ ((tokens : List TokenSeen) × HasTokens octets tokens × (is_directive_word tokens ≡ false) × (e ≡ error_at_token 0 NotGenerate))
+    ⊎ ((tokens : List TokenSeen) × HasFirstTokens octets tokens × (is_directive_word tokens ≡ false) × (e ≡ error_at_token 0 NotGenerate))
 
 -- the first error: a parenthesis, if there is one
 abbrev pub IsFirstError : List ℕ → Option ℕ → GenerateError → Type 0
@@ -82,5 +82,5 @@ IsFirstError octets None e = WhyNoDirective octets e
 
 -- the tokens of a text without parentheses that begins with the word; or the first error
 abbrev pub FindsDirective : List ℕ → Result (List TokenSeen) GenerateError → Type 0
-FindsDirective octets (Ok tokens) = (parenthesis_from Plain 0 octets ≡ None) × HasTokens octets tokens × (is_directive_word tokens ≡ true)
+FindsDirective octets (Ok tokens) = (parenthesis_from Plain 0 octets ≡ None) × HasFirstTokens octets tokens × (is_directive_word tokens ≡ true)
 FindsDirective octets (Err e) = IsFirstError octets (parenthesis_from Plain 0 octets) e

@@ -2,7 +2,7 @@
 ghost use Rattle.std.specs.Prelude.{◌≡◌, ◌≤◌, IfOk, MatchResult, drop, map, take};
 ghost use Rattle.dns_lexer.specs.EntryTokens.{token_seen};
 ghost use Rattle.zone_generate.specs.Directives.{generate_of};
-ghost use Rattle.zone_generate.specs.Tokens.{FindsDirective, HasFault, HasTokens, is_directive_word, is_parenthesis, mode_after, parenthesis_from, saturated_end, tokens_end};
+ghost use Rattle.zone_generate.specs.Tokens.{FindsDirective, HasFault, HasFirstTokens, is_directive_word, is_parenthesis, mode_after, parenthesis_from, saturated_end, directive_end};
 ghost use Rattle.zone_generate.specs.declared.tokens.TextMode.TheVariants.{Plain};
 
 use crate::directive::Generate;
@@ -94,8 +94,8 @@ fn token_end(token: &EntryToken<'_>) -> usize
 }
 
 /// Returns the offset where the last token ends, or 0 without tokens.
-fn tokens_end(tokens: &[EntryToken<'_>]) -> usize
-    ensures { result ≡ tokens_end 0 (map token_seen tokens.now) }
+fn directive_end(tokens: &[EntryToken<'_>]) -> usize
+    ensures { result ≡ directive_end 0 (map token_seen tokens.now) }
 {
     let mut end = 0;
     for token in tokens {
@@ -104,13 +104,14 @@ fn tokens_end(tokens: &[EntryToken<'_>]) -> usize
     end
 }
 
-/// Fills a list with the first tokens of the first entry, as many as it holds, and returns how many
-/// these are. Fails if a syntax error comes before the end of the entry.
+/// Fills a list with the first tokens of the first entry, up to its length, and returns their number.
+/// Fails if a syntax error comes before the end of the entry.
 fn fill<'t>(
     octets: &'t [u8],
     tokens: &mut [EntryToken<'t>; DIRECTIVE_TOKENS],
 ) -> Result<usize, Fault>
-    ensures value { MatchResult result (λ n. HasTokens octets.now (map token_seen (take n tokens.new)))
+    ensures value { MatchResult result
+        (λ n. HasFirstTokens octets.now (map token_seen (take n tokens.new)))
         (λ f. HasFault octets.now f) }
     ensures within { IfOk result (λ n. n ≤ DIRECTIVE_TOKENS) }
 {
@@ -204,9 +205,9 @@ impl<'t> DirectiveTokens<'t> {
     /// Parses the directive, which has at most `most` numbers ([`Generate::parse`]). An offset is
     /// one in the octets.
     pub fn parse(&self, most: u64) -> Result<Generate<'_, 't>, GenerateError>
-        ensures { result ≡ generate_of most (tokens_end 0 self.now) (drop 1 self.now) }
+        ensures { result ≡ generate_of most (directive_end 0 self.now) (drop 1 self.now) }
     {
         let tokens = &self.tokens[..self.count];
-        Generate::parse(&tokens[1..], tokens_end(tokens), most)
+        Generate::parse(&tokens[1..], directive_end(tokens), most)
     }
 }

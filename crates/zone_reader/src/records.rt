@@ -39,7 +39,8 @@ pub fn read_text_entry<B: OctetsBuilder + AsOctetsMut>(
     state: &mut State,
     target: &mut B,
 ) -> Option<Result<ParsedEntry, RecordError>>
-    ensures { ReadsTextEntry B.room text.now state.old (B.octets target.old) result state.new (B.octets target.new) }
+    ensures { ReadsTextEntry B.room text.now state.old (B.octets target.old) result state.new
+        (B.octets target.new) }
 {
     let mut reader = RecordReader::new(text, state.copied());
     let read = reader.next_entry(target);

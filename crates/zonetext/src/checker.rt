@@ -3,7 +3,7 @@ use crate::exceptions::{may_except, stated_of};
 use crate::explain::Refusal;
 use crate::findings::Findings;
 use crate::generate_findings::{dot_in, refusal_text};
-use crate::generated::GenerateRefusal;
+use crate::generated::RejectedDirective;
 use crate::held_zone::{
     HeldZone, RecordLocation, Repeats, StandingRecord, is_of_absence, is_of_signed_absence,
     other_soa,
@@ -975,7 +975,7 @@ impl<'a> Visit for Checker<'a> {
     fn refuse_generate(
         &mut self,
         entry: &Entry<'_>,
-        refusal: GenerateRefusal,
+        refusal: RejectedDirective,
     ) -> Result<(), RunError> {
         self.has_gap = true;
         let tokens = tokens_of(self.alloc, entry)?;

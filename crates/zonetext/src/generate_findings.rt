@@ -1,5 +1,5 @@
 //! Findings about `$GENERATE` directives.
-use crate::generated::GenerateRefusal;
+use crate::generated::RejectedDirective;
 use crate::locations::{octet_at, spot_at, token_at, token_part};
 use crate::octet_texts::is_name;
 use crate::reporter::FindingLocation;
@@ -102,11 +102,11 @@ pub fn refusal_text<'e>(
     alloc: Global,
     entry: &Entry<'e>,
     tokens: &[EntryToken<'e>],
-    refusal: GenerateRefusal,
+    refusal: RejectedDirective,
 ) -> Result<(FindingLocation<'e>, Text), AllocError> {
     let (error, most) = match refusal {
-        GenerateRefusal::Error { error, most } => (error, most),
-        GenerateRefusal::NotCut => {
+        RejectedDirective::Error { error, most } => (error, most),
+        RejectedDirective::NotCut => {
             let text = "a file with $GENERATE is not cut: run zonetext expand first";
             return Ok((
                 octet_at(entry, entry.offset),

@@ -41,7 +41,7 @@ pub struct Generated<'e> {
 
 /// Why a `$GENERATE` directive is rejected.
 #[derive(Clone, Copy)]
-pub enum GenerateRefusal {
+pub enum RejectedDirective {
     /// A file with a directive is not cut.
     NotCut,
     /// An error, at an offset of the file. A directive has at most `most` entries.
@@ -49,8 +49,8 @@ pub enum GenerateRefusal {
 }
 
 /// Returns the error of a directive whose octets begin at an offset of the file.
-pub fn refusal_at(error: GenerateError, offset: usize, most: u64) -> GenerateRefusal {
-    GenerateRefusal::Error {
+pub fn refusal_at(error: GenerateError, offset: usize, most: u64) -> RejectedDirective {
+    RejectedDirective::Error {
         error: GenerateError {
             at: error.at.saturating_add(offset),
             ..error

@@ -1,7 +1,7 @@
 //! Reads the entries of zone files, one by one, for the commands that write, compare, digest and
 //! cut them.
 use crate::checker::{Checker, Limits, SoaInfo};
-use crate::generated::{GenerateMode, GenerateOptions, GenerateRefusal};
+use crate::generated::{GenerateMode, GenerateOptions, RejectedDirective};
 use crate::locations::position_at;
 use crate::reporter::{Form, Reporter};
 use crate::shown::Shown;
@@ -155,7 +155,7 @@ impl<T: TakeEntry + Drop> Visit for ReportingVisitor<'_, T> {
     fn refuse_generate(
         &mut self,
         entry: &Entry<'_>,
-        refusal: GenerateRefusal,
+        refusal: RejectedDirective,
     ) -> Result<(), RunError> {
         self.checker.refuse_generate(entry, refusal)
     }

@@ -2,7 +2,7 @@
 use crate::blocks::BLOCK;
 use crate::data_buffer::DataBuffer;
 use crate::generated::{
-    GenerateMode, GenerateOptions, GenerateRefusal, Generated, read_of, refusal_at,
+    GenerateMode, GenerateOptions, Generated, RejectedDirective, read_of, refusal_at,
 };
 use crate::open_file::{Includer, Input, OpenFile, behind, place_from};
 use crate::progress::Progress;
@@ -101,7 +101,7 @@ pub trait Visit {
     fn refuse_generate(
         &mut self,
         entry: &Entry<'_>,
-        refusal: GenerateRefusal,
+        refusal: RejectedDirective,
     ) -> Result<(), RunError>;
 
     /// Processes the end of the entries of a `$GENERATE` directive. `is_whole` says whether all were
@@ -498,7 +498,7 @@ impl<'a> ZoneFiles<'a> {
         let read = Ok(ParsedEntry::Generate { at });
         self.give_counted(file, &read, visitor)?;
         if self.generate.mode == GenerateMode::Reject {
-            return visitor.refuse_generate(&self.entry(file, &read), GenerateRefusal::NotCut);
+            return visitor.refuse_generate(&self.entry(file, &read), RejectedDirective::NotCut);
         }
         let most = self.generate.most;
         let tokens = match DirectiveTokens::new(directive_octets(file, at)) {
