@@ -289,7 +289,7 @@ def entries_row(row):
             reason, place = item[1:].rsplit(b"|", 1)
             is_of_text = reason in FAULTS.values()
             reported.append((at(text, int(place)) if is_of_text else spot(text, int(place), reason), reason))
-        elif item.startswith(b"include "):
+        elif item.startswith((b"include ", b"generate ")):
             return None
         elif item not in (b"directive", b"nothing"):
             fields = re.fullmatch(rb"[0-9]+\|(.*)\|(?:own|default|last|minimum) ([0-9]+)\|([0-9]+)\|([0-9]+)\|(.*)", item, re.S)
@@ -309,7 +309,7 @@ def entries_row(row):
     return Plan({"f": text, "g": records}, [words + [b"f"], words + [b"g"]], f"the records of g, and {reported}", agrees)
 
 
-ITEM = re.compile(rb"!.*?\|[0-9]+;|directive;|nothing;|include .*?;", re.S)
+ITEM = re.compile(rb"!.*?\|[0-9]+;|directive;|nothing;|include .*?;|generate [0-9]+;", re.S)
 RECORD = re.compile(rb"([0-9]+)\|((?:[\x01-\x3f].*?)?\0)\|(?:own|default|last|minimum) ([0-9]+)\|([0-9]+)\|([0-9]+)\|", re.S)
 
 
@@ -347,6 +347,8 @@ BEFORE = b"$TTL 77\n$ORIGIN example.\nprev 5 A 192.0.2.9\n"
 def head_row(row):
     """Headers and directives: a record with a complete header prints the same line."""
     (text,) = row.inputs
+    if row.wanted == b"generate":
+        return None
     words, files = zonetext("records", "main"), {"main": BEFORE + text + b"\n"}
     if row.is_refused:
         reason, place = row.wanted[1:].split(b"|")[:2]
@@ -377,6 +379,27 @@ def head_row(row):
     return Plan(files, [words, zonetext("records", "alike")], f"the records of {short(alike)}",
                 lambda rans: all(it.status == 0 and not it.err for it in rans) and rans[0].out == rans[1].out
                 and len(lines(rans[0].out)) == 2)
+
+
+# ---- $GENERATE
+
+# The greatest number of entries of the rows.
+MOST_GENERATED = "1000"
+
+
+def generate_row(row):
+    """A directive is expanded to the texts of its entries, or its error has a position and a reason."""
+    (text,) = row.inputs
+    words = zonetext("expand", "--max-generate", MOST_GENERATED, "f")
+    if not row.is_refused:
+        return exact(words, row.wanted, files={"f": text})
+    reason, place, offset = row.wanted[1:].split(b"|")
+    if reason in (b"expected $GENERATE", b"quoted string is not closed"):
+        return None  # (no directive for the program)
+    quote = int(offset) > 0 and text[int(place) : int(place) + 1] == b'"'
+    wanted = (b"f", at(text, int(place) + int(offset) + quote), b"error", reason)
+    return judged({"f": text}, words, f"status 1, no output, an error {short(reason)}",
+                  lambda ran: ran.status == 1 and not ran.out and are_said(error_lines(ran), [wanted]))
 
 
 # ---- Zones
@@ -647,6 +670,7 @@ CALLS = {
     "zone.cut": cut_row,
     "zone.hash": hash_row,
     "head.read": head_row,
+    "generate.texts": generate_row,
     "set.unique": unique_row,
     "set.sort": sort_row,
     "set.diff": set_diff,
