@@ -1,4 +1,6 @@
 pub mod DigitSteps
 pub mod DigitTexts
 pub mod PartSteps
+pub mod TextModes
+pub mod TokenFills
 pub mod TokenSteps
