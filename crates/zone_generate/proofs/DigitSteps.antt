@@ -1,13 +1,13 @@
 -- Digits that are written one by one.
-use Rattle.std.proofs.Common.{append-nil, lit<, ℕ, zero, suc, ◌-◌, ◌≡◌, ◌<◌, ◌≤◌, ◌+◌, ◌/◌, ◌%◌, Bool, true, false, List, [], ◌∷◌, ◌++◌, length, refl, sym, subst, ap, ◌∙◌, arith, drop}
+use Rattle.std.proofs.Common.{lit<, ℕ, zero, suc, ◌-◌, ◌≡◌, ◌<◌, ◌≤◌, ◌+◌, ◌/◌, ◌%◌, Bool, true, false, List, [], ◌∷◌, ◌++◌, length, refl, sym, ap, ◌∙◌, arith, drop}
 use Rattle.std.specs.Prelude.{◌==◌, cond, replicate}
 use Rattle.std.proofs.lemmas.Bool.{eq-eqb, ne_eqb}
 use Rattle.std.proofs.Math.ListN.{set}
 use Rattle.std.specs.Fmt.{digit_glyph, digits, digits_onto}
-use Rattle.std.proofs.lemmas.List.{append_assoc, drop-set, drop_all}
-use Rattle.dns_octets.specs.Appending.{Extends}
+use Rattle.std.proofs.lemmas.List.{append_assoc, drop-set, drop_all, length-append, length-replicate}
 use Rattle.dns_symbol.specs.Characters.{dot}
-use Rattle.zone_generate.specs.NumberTexts.{dotted_nibbles, zero_padded}
+use Rattle.zone_generate.specs.NumberTexts.{dotted_nibbles}
+use Rattle.zone_generate.proofs.Appends.{lacks}
 
 -- the digit of a number, and those before it, if there are any
 module _ (base : ℕ) (upper : Bool) (n : ℕ) (acc : List ℕ) where
@@ -107,6 +107,11 @@ zeros_more zero out one all some is so = absurd (omega (arith, some))
 zeros_more (suc left) out one all some is so =
     ap (λ l. l ++ replicate (suc left - 1) 48) is ∙ append_assoc out (48 ∷ []) (replicate (suc left - 1) 48) ∙ ap (λ n. out ++ (48 ∷ replicate n 48)) {x = suc left - 1} {y = left} (omega arith) ∙ so
 
+pub zeros_lack : (fits left count : ℕ) (old out : List ℕ) → 0 < left → out ++ replicate left 48 ≡ old ++ replicate count 48 → fits < length out + 1 → fits < length old + count
+zeros_lack fits left count old out some is h =
+    let n = ap length is in
+    omega (arith, some, n, h, length-append out (replicate left 48), length-append old (replicate count 48), length-replicate left 48, length-replicate count 48)
+
 -- two characters of the nibbles
 pub dotted_more : (upper : Bool) (left rest : ℕ) → 1 < left → dotted_nibbles upper left rest ≡ digit_glyph upper (rest % 16) ∷ dot ∷ dotted_nibbles upper (left - 1) (rest / 16)
 dotted_more upper zero rest lt = absurd (omega (arith, lt))
@@ -118,20 +123,21 @@ dotted_last upper zero rest lt le = absurd (omega (arith, lt))
 dotted_last upper (suc zero) rest lt le = refl
 dotted_last upper (suc (suc left)) rest lt le = absurd (omega (arith, le))
 
-pub dotted_next : (upper : Bool) (left rest : ℕ) (out one two all : List ℕ) → 1 < left → one ≡ out ++ (digit_glyph upper (rest % 16) ∷ []) → two ≡ one ++ (dot ∷ [])
-    → out ++ dotted_nibbles upper left rest ≡ all → two ++ dotted_nibbles upper (left - 1) (rest / 16) ≡ all
-dotted_next upper left rest out one two all lt first second is =
-    let more = dotted_nibbles upper (left - 1) (rest / 16) in
-    let g = digit_glyph upper (rest % 16) in
-    ap (λ l. l ++ more) second ∙ append_assoc one (dot ∷ []) more ∙ ap (λ l. l ++ (dot ∷ more)) first ∙ append_assoc out (g ∷ []) (dot ∷ more)
-    ∙ ap (λ l. out ++ l) (sym (dotted_more upper left rest lt)) ∙ is
+module _ (upper : Bool) (left rest : ℕ) (out : List ℕ) where
+  pub dotted_next : (new all : List ℕ) → 1 < left → new ≡ out ++ (digit_glyph upper (rest % 16) ∷ dot ∷ []) → out ++ dotted_nibbles upper left rest ≡ all → new ++ dotted_nibbles upper (left - 1) (rest / 16) ≡ all
+  dotted_next new all lt made is =
+      let more = dotted_nibbles upper (left - 1) (rest / 16) in
+      let two = digit_glyph upper (rest % 16) ∷ dot ∷ [] in
+      ap (λ l. l ++ more) made ∙ append_assoc out two more ∙ ap (λ l. out ++ l) (sym (dotted_more upper left rest lt)) ∙ is
 
--- more octets are appended
-pub extends_on : (old middle new more : List ℕ) → Extends old middle → new ≡ middle ++ more → Extends old new
-extends_on old middle new more e is = (e.0 ++ more, is ∙ ap (λ l. l ++ more) e.1 ∙ append_assoc old e.0 more)
+  pub dotted_ended : (new all : List ℕ) → 0 < left → left ≤ 1 → new ≡ out ++ (digit_glyph upper (rest % 16) ∷ []) → out ++ dotted_nibbles upper left rest ≡ all → new ≡ all
+  dotted_ended new all some le made is = made ∙ ap (λ l. out ++ l) (sym (dotted_last upper left rest some le)) ∙ is
 
-pub extends_same : (old middle new : List ℕ) → Extends old middle → new ≡ middle → Extends old new
-extends_same old middle new e is = subst (Extends old) (sym is) e
+  -- and if they don't fit
+  pub dotted_lacks : (fits : ℕ) (old text : List ℕ) → 1 < left → out ++ dotted_nibbles upper left rest ≡ old ++ text → fits < length out + 2 → fits < length old + length text
+  dotted_lacks fits old text lt is h =
+      lacks fits old text out (digit_glyph upper (rest % 16) ∷ dot ∷ []) (dotted_nibbles upper (left - 1) (rest / 16)) (ap (λ l. out ++ l) (sym (dotted_more upper left rest lt)) ∙ is) h
 
-pub extends_none : (old : List ℕ) → Extends old old
-extends_none old = ([], sym (append-nil old))
+  pub dotted_last_lacks : (fits : ℕ) (old text : List ℕ) → 0 < left → left ≤ 1 → out ++ dotted_nibbles upper left rest ≡ old ++ text → fits < length out + 1 → fits < length old + length text
+  dotted_last_lacks fits old text some le is h =
+      lacks fits old text out (digit_glyph upper (rest % 16) ∷ []) [] (ap (λ l. out ++ l) (sym (dotted_last upper left rest some le)) ∙ is) h

@@ -1,6 +1,1 @@
-pub mod DigitSteps
-pub mod DigitTexts
-pub mod PartSteps
-pub mod TextModes
-pub mod TokenFills
-pub mod TokenSteps
+pub mod Appends

@@ -2,6 +2,7 @@
 use Rattle.std.proofs.Common.{append-nil, ℕ, zero, suc, ◌-◌, ◌≡◌, ◌<◌, ◌≤◌, ◌+◌, Bool, List, [], ◌∷◌, ◌++◌, length, refl, sym, subst, ap, ◌∙◌, arith, take, drop, length-drop}
 use Rattle.std.specs.Prelude.{false, Result, Ok, Err, IsOk, is_ok}
 use Rattle.std.proofs.lemmas.List.{append_assoc, drop-drop, drop_all, take_rest}
+use Rattle.zone_generate.proofs.Appends.{lacks}
 use Rattle.zone_generate.specs.Parts.{offset_after, parts_then, part_before, part_of, written_part, parts_from, side_parts, parts_or_none, side_text}
 use Rattle.zone_generate.specs.declared.error.GenerateErrorKind.{GenerateErrorKind}
 use Rattle.zone_generate.specs.declared.part.Part.{Part}
@@ -130,6 +131,18 @@ module _ (last : ℕ) (q o : Bool) (text : List ℕ) (at n : ℕ) (out all : Lis
   pub text_next : (p : ReadPart) (new : List ℕ) → 0 < p.len → part_of last q o (drop at text) ≡ Ok p → new ≡ out ++ written_part n p.part
       → TextLeft last q o text at n out all → TextLeft last q (offset_after o p.part) text (at + p.len) n new all
   text_next p new some is made h = text_next_by p new some is made h.most h.parts h.bound h.read h.made
+
+  -- the text of a part that doesn't fit
+  text_lacks_by : (p : ReadPart) → part_of last q o (drop at text) ≡ Ok p → (fits : ℕ) (old whole : List ℕ) → fits < length out + length (written_part n p.part)
+      → (most : ℕ) (parts : List Part) → length (drop at text) ≤ most → parts_from most last q o at (drop at text) ≡ Ok parts → out ++ side_text n parts ≡ old ++ whole → fits < length old + length whole
+  text_lacks_by p is fits old whole few zero parts bound read so = absurd (omega (arith, bound, some_left text at lt))
+  text_lacks_by p is fits old whole few (suc most) parts bound read so =
+      let others = parts_from most last q (offset_after o p.part) (at + p.len) (drop p.len (drop at text)) in
+      let split = split_parts p.part others parts (sym (part_first most last q o at (drop at text) p (some_left text at lt) is) ∙ read) in
+      lacks fits old whole out (written_part n p.part) (side_text n (parts_or_none others)) (ap (λ l. out ++ side_text n l) (sym split.1) ∙ so) few
+
+  pub text_lacks : (p : ReadPart) → part_of last q o (drop at text) ≡ Ok p → (fits : ℕ) (old whole : List ℕ) → all ≡ old ++ whole → fits < length out + length (written_part n p.part) → TextLeft last q o text at n out all → fits < length old + length whole
+  text_lacks p is fits old whole all_is few h = text_lacks_by p is fits old whole few h.most h.parts h.bound h.read (h.made ∙ all_is)
 
   text_rejected_by : (k : GenerateErrorKind) → part_of last q o (drop at text) ≡ Err k → (most : ℕ) (parts : List Part) → length (drop at text) ≤ most
       → parts_from most last q o at (drop at text) ≡ Ok parts → ⊥

@@ -58,7 +58,7 @@ module _ (seen now new : Parts) (tokens : List EntryToken) (count : ℕ) (h : Fi
   fills_all octets s is = (seen, s, ended (ap entry_tokens is), subst EndsNext (sym (h.after ∙ ap after_tokens is)) tt)
 
   pub fills_to_fault : (octets : List ℕ) (f : Fault) → IsSeen octets seen → IsInEntries now → now ≡ Err f ∷ new → HasFault octets f
-  fills_to_fault octets f s open is = (seen, s, h.after ∙ ap after_tokens is ∙ ap (λ l. Err f ∷ l) (none open))
+  fills_to_fault octets f s among is = (seen, s, h.after ∙ ap after_tokens is ∙ ap (λ l. Err f ∷ l) (none among))
     where
       none : IsInEntries now → new ≡ []
       none (inl e) = let no : [] ≡ Err f ∷ new = sym e ∙ is in cc
