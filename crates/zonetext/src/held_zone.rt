@@ -78,11 +78,11 @@ impl Repeats {
         let Some(record) = record else {
             return Ok(false);
         };
-        let stand = record.owner.as_octets().tag;
-        if rule != Rule::Duplicate || stand.generated.is_none() {
+        let location = record.owner.as_octets().tag;
+        if rule != Rule::Duplicate || location.generated.is_none() {
             return Ok(false);
         }
-        let place = (stand.file, stand.position.line);
+        let place = (location.file, location.position.line);
         if self.places.contains(&place) {
             return Ok(true);
         }

@@ -329,7 +329,7 @@ impl<'a> ZoneFiles<'a> {
                     return self.give_including(file, *count, *has_origin, visitor);
                 }
                 Some(Ok(ParsedEntry::Generate { at })) if self.generates() => {
-                    self.give_generate(&mut file, *at, visitor)?;
+                    self.visit_generate(&mut file, *at, visitor)?;
                 }
                 Some(Err(BlockRefusal::LongEntry)) => return self.give_long(file, visitor),
                 Some(read) => self.give(&mut file, read, visitor)?,
@@ -489,7 +489,7 @@ impl<'a> ZoneFiles<'a> {
     /// Passes a `$GENERATE` directive to a visitor, and then its entries. `at` is the offset of its
     /// word. The names that it leaves are those before it.
     #[inline(never)]
-    fn give_generate<V: Visit>(
+    fn visit_generate<V: Visit>(
         &mut self,
         file: &mut OpenFile,
         at: usize,
@@ -510,7 +510,7 @@ impl<'a> ZoneFiles<'a> {
         };
         match tokens.parse(most) {
             Ok(directive) => {
-                let is_whole = self.give_numbers(file, &directive, visitor)?;
+                let is_whole = self.visit_numbers(file, &directive, visitor)?;
                 visitor.end_generate(&self.entry(file, &read), is_whole)
             }
             Err(error) => {
@@ -522,7 +522,7 @@ impl<'a> ZoneFiles<'a> {
 
     /// Passes the entry of each number of a directive to a visitor, up to one that is rejected. Returns
     /// whether none was.
-    fn give_numbers<V: Visit>(
+    fn visit_numbers<V: Visit>(
         &mut self,
         file: &OpenFile,
         directive: &Generate<'_, '_>,
@@ -539,7 +539,7 @@ impl<'a> ZoneFiles<'a> {
             if directive.append_entry(number, &mut text).is_err() {
                 return Err(RunError::OutOfMemory);
             }
-            is_whole = self.give_number(file, number, text.as_slice(), visitor)?;
+            is_whole = self.visit_number(file, number, text.as_slice(), visitor)?;
             if !is_whole {
                 break;
             }
@@ -549,7 +549,7 @@ impl<'a> ZoneFiles<'a> {
     }
 
     /// Passes the entry of a number, by its text, to a visitor. Returns whether it is not rejected.
-    fn give_number<V: Visit>(
+    fn visit_number<V: Visit>(
         &mut self,
         file: &OpenFile,
         number: u32,
