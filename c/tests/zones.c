@@ -264,12 +264,12 @@ static void directives(void) {
     GIVES(text, "\300\0\2\1");
     gives(TEXT(text), DNSTEXT_GENERATE, "", 0, __LINE__);
     is(17, 0, 0, 0, "", 0, __LINE__);
-    EXPECT(zone.at == 56);
+    EXPECT(zone.at == 55);
     inner = zone;
     inner.at = 0;
     EXPECT(dnstext_generate_entry((const uint8_t *)text + record.place, zone.at - record.place, 1, &of,
                                   octets, sizeof octets, &outcome) == DNSTEXT_OK);
-    EXPECT(of == 2 && outcome.length == 19 && memcmp(octets, "h2 77 A 192.0.2.2\n", 18) == 0);
+    EXPECT(of == 2 && outcome.length == 18 && memcmp(octets, "h2 77 A 192.0.2.2\n", 18) == 0);
     EXPECT(dnstext_generate_entry((const uint8_t *)text + record.place, zone.at - record.place, 2, &of,
                                   octets, sizeof octets, &outcome) == DNSTEXT_END);
     EXPECT(of == 2 && outcome.length == 0 && outcome.place == 0);
@@ -284,11 +284,11 @@ static void directives(void) {
     }
     /* The owner is that before the directive, and the TTL that of its entries. */
     GIVES(text, "\1x");
-    IS(57, 77, 1, 16, "\1w\7example\0");
+    IS(56, 77, 1, 16, "\1w\7example\0");
     ENDS(text);
     GENERATES("$GENERATE 0-9/3 s$ A 192.0.2.$", 3, 9, "s9 A 192.0.2.9\n");
     GENERATES("$generate 1-1 m$ MX \"10 m$\"\n", 0, 1, "m1 MX 10 m1\n");
-    GENERATES("$GENERATE 1-1 n${4659,7,N}.rev ${0,3} PTR n", 0, 1, "n4.3.2.1.rev ${0,3} PTR n\n");
+    GENERATES("$GENERATE 1-1 n${4659,7,N}.rev PTR ${0,3}n", 0, 1, "n4.3.2.1.rev PTR 001n\n");
     GENERATES("$GENERATE 2147483647-2147483647 $ 1 IN TXT x", 0, 2147483647, "2147483647 1 IN TXT x\n");
     REJECTS("$GENERATE 3-1 a A 192.0.2.1", 10, "start of the range exceeds its stop");
     REJECTS("$GENERATE 1-2/0 a A 192.0.2.1", 10, "step of the range is 0");
