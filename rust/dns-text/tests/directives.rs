@@ -4,8 +4,8 @@ use std::io::BufReader;
 
 const ZONE: &[u8] = b"w 60 A 192.0.2.1\n$GENERATE 1-3/2 h$ 77 MX \"10 m$\" ; two\n TXT x\n";
 
-/// Owner, TTL and RDATA of an item.
-fn told(item: ZoneItem) -> String {
+/// The owner, the TTL and the RDATA of an item.
+fn item_line(item: ZoneItem) -> String {
     match item {
         ZoneItem::Record(record) => {
             format!("{} {} {:?}", record.owner, record.ttl, record.data)
@@ -25,17 +25,17 @@ fn directive(text: &str) -> Generate {
 fn entries_are_read_in_the_place_of_their_directive() {
     let origin = "example.".parse().unwrap();
     let mut found = records(ZONE).with_origin(&origin).unwrap();
-    let mut said = Vec::new();
+    let mut lines = Vec::new();
     while let Some(item) = found.next() {
         match item.unwrap() {
             ZoneItem::Generate(directive) => {
                 assert_eq!(directive.place, 17);
                 for entry in directive.entries() {
                     let record = found.read_entry(&entry.unwrap().text).unwrap();
-                    said.push(told(record.unwrap()));
+                    lines.push(item_line(record.unwrap()));
                 }
             }
-            item => said.push(told(item)),
+            item => lines.push(item_line(item)),
         }
     }
     let mx = |number| RecordData::Mx {
@@ -55,7 +55,7 @@ fn entries_are_read_in_the_place_of_their_directive() {
             RecordData::Txt(vec!["x".parse().unwrap()])
         ),
     ];
-    assert_eq!(said, wanted);
+    assert_eq!(lines, wanted);
 }
 
 #[test]
