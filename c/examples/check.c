@@ -53,7 +53,8 @@ static uint32_t read_entries(const uint8_t *directive, size_t length, struct dns
         struct dnstext_record record;
         struct dnstext_zone inner = *zone;
         size_t entry_length;
-        uint32_t of, status = dnstext_generate_entry(directive, length, index, &of, entry, sizeof entry, outcome);
+        uint32_t of,
+            status = dnstext_generate_entry(directive, length, index, &of, entry, sizeof entry, outcome);
         if (status == DNSTEXT_BAD_GENERATE)
             memcpy(octets, entry, outcome->length);
         if (status != DNSTEXT_OK)

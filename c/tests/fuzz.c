@@ -329,8 +329,7 @@ static void try_directive(void) {
         size_t room = number % 97, written = 0;
         uint8_t *octets = guarded(room);
         uint32_t of = FILL;
-        uint32_t status =
-            dnstext_generate_entry(text, text_len, indexes[i], &of, octets, room, &outcome);
+        uint32_t status = dnstext_generate_entry(text, text_len, indexes[i], &of, octets, room, &outcome);
         CHECK(status < STATUSES && outcome.place <= text_len);
         CHECK(status == DNSTEXT_OK || of == FILL);
         if (status == DNSTEXT_OK || status == DNSTEXT_BAD_GENERATE) {

@@ -225,8 +225,8 @@ static void generates(const char *text, uint64_t index, uint32_t number, const c
     for (room = length - 1; room <= length; room++) {
         uint32_t status;
         memset(octets, '-', sizeof octets);
-        status = dnstext_generate_entry((const uint8_t *)text, strlen(text), index, &of, octets, room,
-                                        &outcome);
+        status =
+            dnstext_generate_entry((const uint8_t *)text, strlen(text), index, &of, octets, room, &outcome);
         expect(status == (room < length ? DNSTEXT_NO_ROOM : DNSTEXT_OK), "status", line);
         expect(outcome.length == length && outcome.place == 0, "length and place", line);
         expect(of == (room < length ? 7 : number), "number", line);
@@ -243,8 +243,7 @@ static void rejects(const char *text, size_t place, const char *why, int line) {
     for (room = 0; room < 99; room += 9) {
         size_t given = strlen(why) < room ? strlen(why) : room;
         memset(octets, '-', sizeof octets);
-        status =
-            dnstext_generate_entry((const uint8_t *)text, strlen(text), 0, &of, octets, room, &outcome);
+        status = dnstext_generate_entry((const uint8_t *)text, strlen(text), 0, &of, octets, room, &outcome);
         expect(status == DNSTEXT_BAD_GENERATE && of == 7, "status and number", line);
         expect(outcome.place == place && outcome.length == given, "place and length", line);
         expect(memcmp(octets, why, given) == 0 && octets[given] == '-', "text", line);
@@ -309,8 +308,7 @@ static void directives(void) {
                                       &outcome) == (i == 0 ? DNSTEXT_OK : DNSTEXT_TOO_LONG));
         EXPECT(outcome.length == (i == 0 ? LONGEST : 0) && outcome.place == 0);
     }
-    EXPECT(dnstext_generate_entry(TEXT_OCTETS(wide), 0, &of, octets, sizeof octets, &outcome) ==
-           DNSTEXT_OK);
+    EXPECT(dnstext_generate_entry(TEXT_OCTETS(wide), 0, &of, octets, sizeof octets, &outcome) == DNSTEXT_OK);
     EXPECT(outcome.length == 6 + 254 + 1);
 }
 
