@@ -1,5 +1,5 @@
 -- Octets that are appended piece by piece.
-use Rattle.std.proofs.Common.{append-nil, ℕ, ◌-◌, ◌≡◌, ◌<◌, ◌≤◌, ◌+◌, false, List, [], ◌++◌, length, sym, ap, ◌∙◌, arith, append_assoc}
+use Rattle.std.proofs.Common.{append-nil, ℕ, ◌-◌, ◌≡◌, ◌<◌, ◌≤◌, ◌+◌, ◌⊎◌, inl, inr, false, List, [], ◌++◌, length, sym, ap, ◌∙◌, arith, append_assoc}
 use Rattle.std.specs.Prelude.{IsTrue, Result, Ok, Err, IsOk, OnErr, OnOk}
 use Rattle.std.proofs.lemmas.Bool.{cases_lt}
 use Rattle.std.proofs.lemmas.List.{length-append}

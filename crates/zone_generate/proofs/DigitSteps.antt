@@ -110,7 +110,7 @@ zeros_more (suc left) out one all some is so =
 pub zeros_lack : (fits left count : ℕ) (old out : List ℕ) → 0 < left → out ++ replicate left 48 ≡ old ++ replicate count 48 → fits < length out + 1 → fits < length old + count
 zeros_lack fits left count old out some is h =
     let n = ap length is in
-    omega (arith, some, n, h, length-append out (replicate left 48), length-append old (replicate count 48), length-replicate left 48, length-replicate count 48)
+    omega (arith, some, n, h, length-append out (replicate left 48), length-append old (replicate count 48), length-replicate {A = ℕ} left 48, length-replicate {A = ℕ} count 48)
 
 -- two characters of the nibbles
 pub dotted_more : (upper : Bool) (left rest : ℕ) → 1 < left → dotted_nibbles upper left rest ≡ digit_glyph upper (rest % 16) ∷ dot ∷ dotted_nibbles upper (left - 1) (rest / 16)

@@ -23,11 +23,11 @@ pub fills_none : (seen : Parts) (tokens : List EntryToken) → length tokens ≡
 fills_none seen tokens size = record { size = size; within = omega arith; same = refl; after = refl }
 
 module _ (seen now new : Parts) (tokens : List EntryToken) (count : ℕ) (h : Fills seen now tokens count) where
-  stored : List TokenSeen
+  abbrev stored : List TokenSeen
   stored = map token_seen (take count tokens)
 
   stored_size : length stored ≡ count
-  stored_size = length-map token_seen (take count tokens) ∙ length-take count tokens (omega (arith, h.within, h.size))
+  stored_size = length-map (take count tokens) token_seen ∙ length-take count tokens (omega (arith, h.within, h.size))
 
   -- one more is stored
   pub fills_more : (t : EntryToken) (b : Bool) (set_tokens : List EntryToken) → count < 8 → now ≡ Ok (TokenIs (token_seen t) b) ∷ new → set_tokens ≡ set tokens count t → length set_tokens ≡ length tokens → Fills seen new set_tokens (count + 1)

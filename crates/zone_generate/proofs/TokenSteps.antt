@@ -34,16 +34,22 @@ words_left tokens count is = texts_taken (count + 1) tokens ∙ ap (λ n. map (�
 word_first : (words : List EntryToken) (i : ℕ) (d : EntryToken) → i < length words → words_text (word_texts (drop i words)) ≡ (space ∷ (get_or words i d).text.now) ++ words_text (word_texts (drop (i + 1) words))
 word_first words i d lt = ap (λ l. words_text (word_texts l)) (drop_more words i d lt)
 
+blank_first : (words : List EntryToken) (i : ℕ) → i < length words → (more : List ℕ) × (words_text (word_texts (drop i words)) ≡ space ∷ more)
+blank_first [] i lt = absurd (omega (arith, lt))
+blank_first (w ∷ words) zero lt = (w.text.now ++ words_text (word_texts words), refl)
+blank_first (w ∷ words) (suc i) lt = blank_first words i (omega (arith, lt))
+
+pub blank_lacks : (words : List EntryToken) (i : ℕ) → i < length words → (fits : ℕ) (old text out : List ℕ) → out ++ words_text (word_texts (drop i words)) ≡ old ++ text → fits < length out + 1 → fits < length old + length text
+blank_lacks words i lt fits old text out is h =
+    let first = blank_first words i lt in
+    lacks fits old text out (space ∷ []) first.0 (ap (λ l. out ++ l) (sym first.1) ∙ is) h
+
 module _ (words : List EntryToken) (i : ℕ) (d : EntryToken) (lt : i < length words) (out : List ℕ) where
   pub word_next : (one new all : List ℕ) → one ≡ out ++ (space ∷ []) → new ≡ one ++ (get_or words i d).text.now → out ++ words_text (word_texts (drop i words)) ≡ all → new ++ words_text (word_texts (drop (i + 1) words)) ≡ all
   word_next one new all first second is =
       let word = (get_or words i d).text.now in
       let more = words_text (word_texts (drop (i + 1) words)) in
       ap (λ l. l ++ more) (second ∙ ap (λ l. l ++ word) first ∙ append_assoc out (space ∷ []) word) ∙ append_assoc out (space ∷ word) more ∙ ap (λ l. out ++ l) (sym (word_first words i d lt)) ∙ is
-
-  pub blank_lacks : (fits : ℕ) (old text : List ℕ) → out ++ words_text (word_texts (drop i words)) ≡ old ++ text → fits < length out + 1 → fits < length old + length text
-  blank_lacks fits old text is h =
-      lacks fits old text out (space ∷ []) ((get_or words i d).text.now ++ words_text (word_texts (drop (i + 1) words))) (ap (λ l. out ++ l) (sym (word_first words i d lt)) ∙ is) h
 
   pub word_lacks : (fits : ℕ) (old text one : List ℕ) → one ≡ out ++ (space ∷ []) → out ++ words_text (word_texts (drop i words)) ≡ old ++ text → fits < length one + length (get_or words i d).text.now → fits < length old + length text
   word_lacks fits old text one first is h =

@@ -12,7 +12,7 @@ returns-in_err-append_slice-clause-fits g c =
     let old = octets c.args.out.now in
     let text = words_text (word_texts c.args.words.now) in
     when_err (g.B.OctetsBuilder.room.fits < length old + length text) c.from_residual.result
-    (blank_lacks c.args.words.now l.word-index _ c.loop-word-test.true (octets l.out) g.B.OctetsBuilder.room.fits old text l.invariant.made (short_of _ _ _ c.in_err-append_slice.ensures.fits))
+    (blank_lacks c.args.words.now l.word-index c.loop-word-test.true g.B.OctetsBuilder.room.fits old text (octets l.out) l.invariant.made (short_of _ _ _ c.in_err-append_slice.ensures.fits))
 
 pub returns-in_err-append_slice-2-clause-fits : goal.returns-in_err-append_slice-2-clause-fits
 returns-in_err-append_slice-2-clause-fits g c =

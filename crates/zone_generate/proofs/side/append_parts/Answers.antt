@@ -19,7 +19,7 @@ loop-at-preserved g c =
     let is = rest_read a.last a.is_quoted l.has_offset a.text.now l.at c.read_part.result _ c.read_part.ensures.value c.in-Ok.is in
     record {
       within = rest_within a.text.now l.at p.len l.invariant.within inside.1;
-      left = subst (λ o. TextLeft a.last a.is_quoted o a.text.now _ a.number new (old ++ whole)) (sym c.offset_after-has_offset.ensures)
+      left = subst (λ o. TextLeft a.last a.is_quoted o a.text.now (l.at + p.len) a.number new (old ++ whole)) (sym c.offset_after-has_offset.ensures)
           (text_next a.last a.is_quoted l.has_offset a.text.now l.at a.number (octets l.out) (old ++ whole) c.loop-at-test.true p new inside.0 is made l.invariant.left);
       extends = extends_on old (octets l.out) new (written_part a.number p.part) l.invariant.extends made;
     }
