@@ -1,7 +1,7 @@
 -- The first tokens of an entry, collected one by one.
 use Rattle.std.proofs.Common.{append-nil, ℕ, ◌≡◌, ◌<◌, ◌≤◌, ◌+◌, ◌⊎◌, inl, inr, Bool, List, [], ◌∷◌, ◌++◌, length, refl, sym, ap, subst, ◌∙◌, arith, append_assoc, take}
 use Rattle.std.specs.Prelude.{Result, Ok, Err, map}
-use Rattle.std.proofs.lemmas.List.{length-map, map-append, take_all, take_more_set, take-append-le, length-take}
+use Rattle.std.proofs.lemmas.List.{length-map, map-append, take_all, take_more_set, take-append-le, length-take-le}
 use Rattle.std.proofs.Math.ListN.{set}
 use Rattle.dns_lexer.specs.declared.pieces.EndOfEntry.{EndOfEntry}
 use Rattle.dns_lexer.specs.declared.pieces.Fault.{Fault}
@@ -27,7 +27,7 @@ module _ (seen now new : Parts) (tokens : List EntryToken) (count : ℕ) (h : Fi
   stored = map token_seen (take count tokens)
 
   stored_size : length stored ≡ count
-  stored_size = length-map (take count tokens) token_seen ∙ length-take count tokens (omega (arith, h.within, h.size))
+  stored_size = length-map (take count tokens) token_seen ∙ length-take-le count tokens (omega (arith, h.within, h.size))
 
   -- one more is stored
   pub fills_more : (t : EntryToken) (b : Bool) (set_tokens : List EntryToken) → count < 8 → now ≡ Ok (TokenIs (token_seen t) b) ∷ new → set_tokens ≡ set tokens count t → length set_tokens ≡ length tokens → Fills seen new set_tokens (count + 1)

@@ -1,5 +1,5 @@
 //! The tokens of a directive in a text.
-ghost use Rattle.std.specs.Prelude.{◌≡◌, ◌≤◌, IfOk, MatchResult, drop, map, take};
+ghost use Rattle.std.specs.Prelude.{◌≡◌, ◌≤◌, IfOk, MatchResult, drop, length, map, take};
 ghost use Rattle.dns_lexer.specs.EntryTokens.{token_seen};
 ghost use Rattle.zone_generate.specs.Directives.{generate_of};
 ghost use Rattle.zone_generate.specs.Tokens.{FindsDirective, HasFault, HasFirstTokens, is_directive_word, is_parenthesis, mode_after, parenthesis_from, saturated_end, directive_end};
@@ -114,6 +114,7 @@ fn fill<'t>(
         (λ n. HasFirstTokens octets.now (map token_seen (take n tokens.new)))
         (λ f. HasFault octets.now f) }
     ensures within { IfOk result (λ n. n ≤ DIRECTIVE_TOKENS) }
+    ensures size { length tokens.new ≡ DIRECTIVE_TOKENS }
 {
     let mut count = 0;
     let mut source = EntryTokens::of_octets(octets);
