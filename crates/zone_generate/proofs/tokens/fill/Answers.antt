@@ -8,9 +8,8 @@ pub tokens-preserved : goal.tokens-preserved
 tokens-preserved c =
     let l = c.tokens in
     let new = c.next_token.new.self in
-    let some = c.in-Some-Ok-Token.is in
-    let ok = rw some at c.in-Some-Ok-Token.field-0-is in
-    let token = rw ok at (rw some at c.in-Some-Ok-Token.field-0-0-is) in
+    let ok = c.in-Some-Ok-Token.field-0-is in
+    let token = c.in-Some-Ok-Token.field-0-0-is in
     fills_enough c.of_octets-source.result l.source new l.tokens l.count l.invariant (token_seen c.in-Some-Ok-Token.token) c.in-Some-Ok-Token.field-0-0-1 (omega (arith, c.if-count-lt-DIRECTIVE_TOKENS.false))
     (c.in-Some-Ok-Token.ensures.takes ∙ ap (λ r. answer_seen r ∷ new) (ok ∙ ap Ok token))
 
@@ -18,9 +17,8 @@ pub returns-in-Some-Ok-End-clause-value : goal.returns-in-Some-Ok-End-clause-val
 returns-in-Some-Ok-End-clause-value c =
     let l = c.tokens in
     let new = c.next_token.new.self in
-    let some = c.in-Some-Ok-End.is in
-    let ok = rw some at c.in-Some-Ok-End.field-0-is in
-    let end = rw ok at (rw some at c.in-Some-Ok-End.field-0-0-is) in
+    let ok = c.in-Some-Ok-End.field-0-is in
+    let end = c.in-Some-Ok-End.field-0-0-is in
     fills_to_end c.of_octets-source.result l.source new l.tokens l.count l.invariant c.args.octets.now c.in-Some-Ok-End.field-0-0-0 c.of_octets-source.ensures
     (c.in-Some-Ok-End.ensures.takes ∙ ap (λ r. answer_seen r ∷ new) (ok ∙ ap Ok end))
 
