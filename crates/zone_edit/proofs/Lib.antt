@@ -1,7 +1,9 @@
 pub mod Applying
+pub mod Changes
 pub mod Gaps
 pub mod Opening
 pub mod Outside
 pub mod Pushing
 pub mod Replaced
+pub mod TokenSpans
 pub mod Whole

@@ -11,6 +11,8 @@ use std::alloc::{AllocError, Allocator};
 pub enum TokenError {
     /// A token begins before the token before it ends, or ends after the text.
     OutOfOrder,
+    /// A record has fewer tokens than fields.
+    TooFew,
     /// An allocation failed.
     OutOfMemory,
 }
@@ -135,7 +137,7 @@ fn append_stretches<A: Allocator>(
     append_taken_out(octets, first.end, others, out)
 }
 
-/// PushesEdit edits that delete spans. The first of them may be pushed without memory.
+/// Pushes edits that delete spans. The first of them may be pushed without memory.
 fn push_deletions<B: Allocator + Copy>(
     alloc: B,
     spans: &[Span],
@@ -144,7 +146,7 @@ fn push_deletions<B: Allocator + Copy>(
     ensures spans { OnOk result (spans_of edits.new.items ≡ spans_of edits.old.items ++ spans.now) }
     ensures texts { OnOk result (texts_of edits.new.items
         ≡ texts_of edits.old.items ++ map no_text spans.now) }
-    ensures err { OnErr result (Continues edits.old.items edits.new.items) }
+    ensures continues { Continues edits.old.items edits.new.items }
 {
     for span in spans {
         push_edit(*span, Vec::new(alloc), edits)?;
@@ -152,8 +154,8 @@ fn push_deletions<B: Allocator + Copy>(
     Ok(())
 }
 
-/// PushesEdit an edit, or nothing without memory.
-fn push_edit<B: Allocator>(
+/// Pushes an edit, or nothing without memory.
+pub(crate) fn push_edit<B: Allocator>(
     span: Span,
     text: Vec<u8, B>,
     edits: &mut Vec<Edit<B>, B>,
@@ -166,13 +168,13 @@ fn push_edit<B: Allocator>(
     Ok(())
 }
 
-/// PushesEdit the edits that replace several tokens by one with this text. The first token is replaced
+/// Pushes the edits that replace several tokens by one with this text. The first token is replaced
 /// by the text. Each other is deleted with the octets before it, except parentheses, and comments
 /// with their line ends ([`kept_len`]). Without tokens nothing is pushed.
 ///
 /// Fails with `OutOfOrder` if a token begins before the one before it ends, or ends after the text,
 /// and with `OutOfMemory` if an allocation fails. After an error `edits` is unchanged.
-#[tactic(auto, using(crate::proofs::Pushing::all_spans, crate::proofs::Pushing::all_texts))]
+#[tactic(auto, using(crate::proofs::Pushing::all_spans, crate::proofs::Pushing::all_texts, crate::proofs::Pushing::all_continue, crate::proofs::Pushing::continues_same))]
 pub fn push_token_edits<B: Allocator + Copy>(
     alloc: B,
     octets: &[u8],
@@ -184,6 +186,7 @@ pub fn push_token_edits<B: Allocator + Copy>(
         ≡ spans_of edits.old.items ++ stretches octets.now tokens.now) }
     ensures texts { OnOk result (texts_of edits.new.items
         ≡ texts_of edits.old.items ++ first_only text.items (stretches octets.now tokens.now)) }
+    ensures continues { OnOk result (Continues edits.old.items edits.new.items) }
     ensures err { IfErr result (IsTokenError (length octets.now) 0 tokens.now) }
     ensures unchanged { OnErr result (edits.new.items ≡ edits.old.items) }
 {

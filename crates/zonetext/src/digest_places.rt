@@ -42,14 +42,15 @@ fn data_place(octets: &[u8]) -> Result<usize, RunError> {
     }
 }
 
-/// Returns the spans of the tokens of a record's data in its file.
-pub fn data_tokens(alloc: Global, entry: &Entry<'_>) -> Result<Vec<Span>, RunError> {
+/// Returns the spans of the tokens of a record's data, where its entry begins at an offset: that in
+/// its file, or 0.
+pub fn data_tokens(alloc: Global, entry: &Entry<'_>, from: usize) -> Result<Vec<Span>, RunError> {
     let first = data_place(entry.octets)?;
     let mut spans = Vec::new(alloc);
     let tokens = tokens_of(alloc, entry)?;
     for token in &tokens {
         if token.at >= first {
-            let start = entry.offset.saturating_add(token.at);
+            let start = from.saturating_add(token.at);
             let end = start.saturating_add(width(token));
             spans.push(Span { start, end })?;
         }
@@ -70,7 +71,7 @@ fn placed_of(alloc: Global, entry: &Entry<'_>, given: &RecordRef<'_>) -> Result<
         record,
         is_included: entry.number > 0,
         is_origin,
-        tokens: data_tokens(alloc, entry)?,
+        tokens: data_tokens(alloc, entry, entry.offset)?,
         end: entry.offset.saturating_add(entry.octets.len()),
     })
 }

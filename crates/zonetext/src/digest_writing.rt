@@ -8,15 +8,16 @@ use crate::rewriting::{OldText, RewriteError, rewrite};
 use crate::shown::Shown;
 use crate::stop::{EXIT_IO, RunError, exit_status};
 use crate::visit::Reading;
-use dns_codec::base16::encode_string;
-use dns_lexer::pieces::Span;
 use rdata_fields::RecordRef;
 use rdata_values::RecordType;
 use std::alloc::{AllocError, Global};
 use std::fs::File;
 use std::io;
 use std::io::Read;
-use zone_edit::{Edit, TokenError, push_line_after, push_token_edits};
+use zone_edit::{
+    Edit, InsertError, PlaceError, RecordPlace, TokenError, ZonemdEdit, is_same_zonemd,
+    push_entry_after, push_zonemd_edits, soa_place,
+};
 use zone_reader::NameBuffer;
 use zone_record::{Data, record_of};
 use zone_set::scope::is_apex;
@@ -77,7 +78,17 @@ impl From<TokenError> for DigestWriteError {
         match error {
             // They were in order when they were found.
             TokenError::OutOfOrder => DigestWriteError::Refusal(Refusal::Changed),
+            TokenError::TooFew => DigestWriteError::RunError(RunError::Damaged),
             TokenError::OutOfMemory => DigestWriteError::RunError(RunError::OutOfMemory),
+        }
+    }
+}
+
+impl From<InsertError> for DigestWriteError {
+    fn from(error: InsertError) -> DigestWriteError {
+        match error {
+            InsertError::PastEnd => DigestWriteError::Refusal(Refusal::Changed),
+            InsertError::OutOfMemory => DigestWriteError::RunError(RunError::OutOfMemory),
         }
     }
 }
@@ -93,10 +104,8 @@ impl From<RewriteError> for DigestWriteError {
 
 /// The changes to the digests in a zone.
 #[derive(Drop)]
-struct Plan<'p> {
+struct Plan {
     alloc: Global,
-    /// The octets of the file.
-    octets: &'p [u8],
     edits: Vec<Edit<Global>>,
     /// The report on each digest.
     lines: String,
@@ -104,17 +113,17 @@ struct Plan<'p> {
     is_added: bool,
 }
 
-/// Returns octets in hexadecimal digits.
-fn hex_of(alloc: Global, octets: &[u8]) -> Result<Vec<u8>, RunError> {
-    match encode_string(alloc, octets) {
-        Ok(text) => Ok(text.into_bytes()),
-        Err(_) => Err(RunError::OutOfMemory),
-    }
+/// Returns ZONEMD data of octets.
+fn zonemd_data(octets: Vec<u8>) -> Result<Data<Vec<u8>>, RunError> {
+    Data::from_octets(RecordType::ZONEMD, octets).map_err(|_| RunError::Damaged)
 }
 
-/// Returns ZONEMD data.
-fn data_of(octets: &[u8]) -> Option<Data<&[u8]>> {
-    Data::from_octets(RecordType::ZONEMD, octets).ok()
+/// Returns the fields of ZONEMD data.
+fn zonemd_of(data: &Data<Vec<u8>>) -> Result<Zonemd<'_>, RunError> {
+    match Zonemd::of_data(data) {
+        Some(zonemd) => Ok(zonemd),
+        None => Err(RunError::Damaged),
+    }
 }
 
 /// Returns the data of the digest that is right for a zone.
@@ -123,9 +132,9 @@ fn right_of(
     apex: &NameBuffer,
     set: &NumberedSet<'_>,
     algorithm: HashAlgorithm,
-) -> Result<Vec<u8>, DigestWriteError> {
+) -> Result<Data<Vec<u8>>, DigestWriteError> {
     match right_data(alloc, apex, set, algorithm) {
-        Ok(data) => Ok(data),
+        Ok(data) => Ok(zonemd_data(data)?),
         Err(CheckError::NoSingleSoa) => Err(DigestWriteError::NoSingleSoa),
         Err(CheckError::ShortBuf) => Err(DigestWriteError::RunError(RunError::OutOfMemory)),
     }
@@ -183,12 +192,11 @@ fn full_line_of(alloc: Global, soa: &Placed, data: &[u8]) -> Result<String, RunE
     Ok(line)
 }
 
-impl<'p> Plan<'p> {
+impl Plan {
     /// Returns a plan without changes.
-    fn new(alloc: Global, octets: &'p [u8]) -> Plan<'p> {
+    fn new(alloc: Global) -> Plan {
         Plan {
             alloc,
-            octets,
             edits: Vec::new(alloc),
             lines: String::new(alloc),
             is_added: false,
@@ -201,141 +209,104 @@ impl<'p> Plan<'p> {
         writeln!(&mut self.lines, "ZONEMD {serial} {scheme} {hash}: {what}")
     }
 
-    /// Replaces the data of a digest: only the tokens that differ are changed. In the format for
-    /// unknown types (RFC 3597 section 5) these are all its digits.
-    fn change(
-        &mut self,
-        tokens: &[Span],
-        old: &Zonemd<'_>,
-        new: &Zonemd<'_>,
-        right: &[u8],
-    ) -> Result<(), DigestWriteError> {
-        let (alloc, octets) = (self.alloc, self.octets);
-        let edits = &mut self.edits;
-        match tokens {
-            [first, _, digits @ ..]
-                if octets.get(first.start..first.end) == Some(b"\\#".as_slice()) => {
-                push_token_edits(alloc, octets, digits, hex_of(alloc, right)?, edits)?;
-            }
-            [serial, _, _, digest @ ..] => {
-                if old.serial != new.serial {
-                    let text = new.serial.to_string(alloc)?;
-                    push_token_edits(alloc, octets, &[*serial], text.into_bytes(), edits)?;
-                }
-                if old.digest != new.digest {
-                    let text = hex_of(alloc, new.digest)?;
-                    push_token_edits(alloc, octets, digest, text, edits)?;
-                }
-            }
-            _ => return Err(DigestWriteError::RunError(RunError::Damaged)),
-        }
-        Ok(())
-    }
-
-    /// Corrects a digest, if it is wrong.
-    fn put_right(
-        &mut self,
-        one: &Placed,
-        apex: &NameBuffer,
-        set: &NumberedSet<'_>,
-    ) -> Result<(), DigestWriteError> {
-        let Some(old) = Zonemd::of_data(&one.record.data) else {
-            return Err(DigestWriteError::RunError(RunError::Damaged));
-        };
-        let Some(algorithm) = algorithm_of(&old) else {
-            return self.leave(&old, apex, set);
-        };
-        let right = right_of(self.alloc, apex, set, algorithm)?;
-        if right.as_slice() == one.record.data.as_slice() {
-            self.tell(&old, "matches")?;
-            return Ok(());
-        }
-        self.write(one.tokens.as_slice(), &old, right.as_slice())
-    }
-
     /// Reports that a digest with an unknown scheme or hash algorithm is unchanged.
-    fn leave(
-        &mut self,
-        old: &Zonemd<'_>,
-        apex: &NameBuffer,
-        set: &NumberedSet<'_>,
-    ) -> Result<(), DigestWriteError> {
-        let is_old = serial_at(apex, set) != Some(old.serial);
-        let serial = if is_old {
-            ", with an old serial number"
-        } else {
+    fn leave(&mut self, old: &Zonemd<'_>, serial: Option<u32>) -> Result<(), AllocError> {
+        let note = if serial == Some(old.serial) {
             ""
+        } else {
+            ", with an old serial number"
         };
         let why = unknown_text(old);
-        let text = format!(in self.alloc; "{why}, left as it is{serial}")?;
-        self.tell(old, text.as_str())?;
-        Ok(())
+        let text = format!(in self.alloc; "{why}, left as it is{note}")?;
+        self.tell(old, text.as_str())
     }
 
-    /// Replaces the data of a digest, and reports that.
-    fn write(
+    /// Corrects each digest of a zone that is wrong. `rights` has the right data of each, if its scheme
+    /// and hash algorithm are known.
+    fn correct(
         &mut self,
-        tokens: &[Span],
-        old: &Zonemd<'_>,
-        right: &[u8],
+        octets: &[u8],
+        digests: &[&Placed],
+        rights: &[Option<Data<Vec<u8>>>],
+        serial: Option<u32>,
     ) -> Result<(), DigestWriteError> {
-        let Some(data) = data_of(right) else {
-            return Err(DigestWriteError::RunError(RunError::Damaged));
-        };
-        let Some(new) = Zonemd::of_data(&data) else {
-            return Err(DigestWriteError::RunError(RunError::Damaged));
-        };
-        self.change(tokens, old, &new, right)?;
-        self.tell(&new, "written")?;
-        Ok(())
-    }
-
-    /// Corrects each digest of a zone, or adds one after the SOA if the zone has none.
-    fn make(
-        &mut self,
-        parts: &Parts<'_>,
-        apex: &NameBuffer,
-        set: &NumberedSet<'_>,
-        algorithm: HashAlgorithm,
-    ) -> Result<(), DigestWriteError> {
-        for one in &parts.digests {
-            self.put_right(one, apex, set)?;
+        let mut records = Vec::new(self.alloc);
+        for (one, right) in digests.iter().zip(rights) {
+            let before = zonemd_of(&one.record.data)?;
+            let Some(right) = right else {
+                self.leave(&before, serial)?;
+                continue;
+            };
+            let after = zonemd_of(right)?;
+            let is_same = is_same_zonemd(&before, &after);
+            self.tell(&after, if is_same { "matches" } else { "written" })?;
+            let tokens = one.tokens.as_slice();
+            records
+                .push(ZonemdEdit {
+                    before,
+                    after,
+                    tokens,
+                })
+                .map_err(AllocError::from)?;
         }
-        if parts.digests.is_empty() {
-            let right = right_of(self.alloc, apex, set, algorithm)?;
-            self.add(parts.soa, right.as_slice())?;
-        }
+        push_zonemd_edits(self.alloc, octets, records.as_slice(), &mut self.edits)?;
         Ok(())
     }
 
     /// Adds a digest with this data, after the SOA.
-    fn add(&mut self, soa: &Placed, right: &[u8]) -> Result<(), DigestWriteError> {
-        let Some(data) = data_of(right) else {
-            return Err(DigestWriteError::RunError(RunError::Damaged));
-        };
-        let Some(new) = Zonemd::of_data(&data) else {
-            return Err(DigestWriteError::RunError(RunError::Damaged));
-        };
-        let Some(front) = self.octets.get(..soa.end) else {
-            return Err(DigestWriteError::Refusal(Refusal::Changed));
-        };
-        let line = line_of(self.alloc, soa, right)?;
+    fn add(
+        &mut self,
+        octets: &[u8],
+        soa: &Placed,
+        right: &Data<Vec<u8>>,
+    ) -> Result<(), DigestWriteError> {
+        let line = line_of(self.alloc, soa, right.as_slice())?;
         let line = line.strip_suffix(b"\n").unwrap_or(line.as_slice());
-        let mut text = Vec::new(self.alloc);
-        push_line_after(front, line, &mut text)?;
-        let (start, end) = (soa.end, soa.end);
-        self.edits
-            .push(Edit { start, end, text })
-            .map_err(AllocError::from)?;
+        push_entry_after(self.alloc, octets, soa.end, line, &mut self.edits)?;
         self.is_added = true;
-        self.tell(&new, "added")?;
+        self.tell(&zonemd_of(right)?, "added")?;
         Ok(())
     }
 }
 
-/// Returns whether a record is at the apex of a zone.
-fn is_at(one: &Placed, apex: &NameBuffer) -> bool {
-    is_apex(&one.record.owner, apex)
+/// Returns the right data of each digest, if its scheme and hash algorithm are known.
+fn rights_of(
+    alloc: Global,
+    apex: &NameBuffer,
+    set: &NumberedSet<'_>,
+    digests: &[&Placed],
+) -> Result<Vec<Option<Data<Vec<u8>>>>, DigestWriteError> {
+    let mut rights = Vec::new(alloc);
+    for one in digests {
+        let right = match algorithm_of(&zonemd_of(&one.record.data)?) {
+            Some(algorithm) => Some(right_of(alloc, apex, set, algorithm)?),
+            None => None,
+        };
+        rights.push(right).map_err(AllocError::from)?;
+    }
+    Ok(rights)
+}
+
+/// Returns the changes that correct each digest of a zone, or add one after the SOA if the zone has
+/// none.
+fn planned(
+    alloc: Global,
+    octets: &[u8],
+    parts: &Parts<'_>,
+    apex: &NameBuffer,
+    set: &NumberedSet<'_>,
+    algorithm: HashAlgorithm,
+) -> Result<Plan, DigestWriteError> {
+    let mut plan = Plan::new(alloc);
+    let digests = parts.digests.as_slice();
+    if digests.is_empty() {
+        let right = right_of(alloc, apex, set, algorithm)?;
+        plan.add(octets, parts.soa, &right)?;
+    } else {
+        let rights = rights_of(alloc, apex, set, digests)?;
+        plan.correct(octets, digests, rights.as_slice(), serial_at(apex, set))?;
+    }
+    Ok(plan)
 }
 
 /// The SOA of a zone, and its digests.
@@ -345,32 +316,48 @@ struct Parts<'f> {
     digests: Vec<&'f Placed>,
 }
 
+/// Returns whether a record is an SOA.
+fn is_soa(one: &Placed) -> bool {
+    one.record.data.rtype() == RecordType::SOA
+}
+
 /// Returns the SOA of a zone and its digests, unless one is in an included file.
 fn parts_of<'f>(
     alloc: Global,
     found: &'f [Placed],
     apex: &NameBuffer,
 ) -> Result<Parts<'f>, DigestWriteError> {
-    let mut soa = None;
+    let mut records: Vec<&'f Placed> = Vec::new(alloc);
+    let mut places = Vec::new(alloc);
     let mut digests = Vec::new(alloc);
     for one in found {
-        if !is_at(one, apex) {
+        if !is_apex(&one.record.owner, apex) {
             continue;
         }
-        let is_soa = one.record.data.rtype() == RecordType::SOA;
-        if one.is_included {
-            let what = if is_soa { "SOA" } else { "ZONEMD" };
-            return Err(DigestWriteError::Included { what });
-        }
-        if !is_soa {
+        let place = RecordPlace {
+            is_soa: is_soa(one),
+            is_included: one.is_included,
+        };
+        places.push(place).map_err(AllocError::from)?;
+        records.push(one).map_err(AllocError::from)?;
+        if !place.is_soa {
             digests.push(one).map_err(AllocError::from)?;
-        } else if soa.is_none() {
-            soa = Some(one);
         }
     }
-    match soa {
-        Some(soa) => Ok(Parts { soa, digests }),
-        None => Err(DigestWriteError::NoSoa),
+    let records = records.as_slice();
+    match soa_place(places.as_slice()) {
+        Ok(index) => match records.get(index) {
+            Some(soa) => Ok(Parts { soa: *soa, digests }),
+            None => Err(DigestWriteError::NoSoa),
+        },
+        Err(PlaceError::NoSoa) => Err(DigestWriteError::NoSoa),
+        Err(PlaceError::Included { index }) => {
+            let what = match records.get(index) {
+                Some(one) if is_soa(*one) => "SOA",
+                _ => "ZONEMD",
+            };
+            Err(DigestWriteError::Included { what })
+        }
     }
 }
 
@@ -433,16 +420,11 @@ fn write(
     let parts = parts_of(alloc, found.as_slice(), &seen.zone)?;
     let (set, _) = gathered.set()?;
     let old = read(rt, file)?;
-    let mut plan = Plan::new(alloc, old.as_slice());
-    plan.make(&parts, &seen.zone, &set, work.algorithm)?;
+    let octets = old.as_slice();
+    let plan = planned(alloc, octets, &parts, &seen.zone, &set, work.algorithm)?;
     let is_changed = !plan.edits.is_empty();
     if is_changed {
-        rewrite(
-            rt,
-            original,
-            OldText::Octets(old.as_slice()),
-            plan.edits.as_slice(),
-        )?;
+        rewrite(rt, original, OldText::Octets(octets), plan.edits.as_slice())?;
     }
     let Plan {
         lines,

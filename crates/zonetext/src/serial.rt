@@ -13,21 +13,12 @@ use rdata_fields::RecordRef;
 use rdata_values::RecordType;
 use std::alloc::{AllocError, AllocFailed, Global};
 use std::io;
+use zone_edit::{SerialToken, SoaEdit, SoaError, check_soas, serial_token};
 use zone_reader::NameBuffer;
 use zone_record::owned_record;
+use zone_serial::SerialError;
 use zone_set::serial_of;
 use zonetext_lib::replace::Refusal;
-
-/// How the serial of an SOA is spelled.
-#[derive(Drop)]
-pub enum Spelling {
-    /// In digits, at a span of the file.
-    Digits(Span),
-    /// As a token with quotes or escapes.
-    Escaped { token: String, position: Position },
-    /// In the format for unknown types (RFC 3597 section 5), which begins at a position.
-    Generic { position: Position },
-}
 
 /// An SOA, and its location.
 #[derive(Drop)]
@@ -41,7 +32,12 @@ pub struct PlacedSoa {
     is_included: bool,
     /// Position of its entry.
     position: Position,
-    pub spelling: Spelling,
+    /// The token of its serial, in its file.
+    token: SerialToken,
+    /// Position of this token.
+    token_position: Position,
+    /// The octets of this token.
+    text: String,
 }
 
 /// The serial of a zone, and what depends on it.
@@ -58,33 +54,20 @@ pub struct ZoneSerial {
 
 /// Why a zone has no serial, or it isn't replaced.
 #[derive(Drop)]
-pub enum SerialError {
+pub enum SerialCommandError {
     /// Entries are rejected, or a file can't be read, with this status, and that was reported.
     Told(u8),
     NoSoa,
-    /// Two SOAs differ. The locations are those of the first and of another.
-    Differing {
-        first: String,
-        other: String,
-    },
-    /// The SOA is in an included file.
-    Included {
-        file: String,
-    },
-    /// The serial at a position is not in digits.
-    Escaped {
-        token: String,
-        position: Position,
-    },
-    /// The SOA at a position is in the format for unknown types.
-    Generic {
-        position: Position,
+    /// An SOA is rejected.
+    Soa {
+        soas: Vec<PlacedSoa>,
+        error: SoaError,
     },
     /// A number is not greater than the serial.
     Set {
         old: u32,
         number: u32,
-        error: zone_serial::SerialError,
+        error: SerialError,
     },
     RunError(RunError),
     Refusal(Refusal),
@@ -92,39 +75,22 @@ pub enum SerialError {
     Unsettled(Refusal),
 }
 
-impl From<RunError> for SerialError {
-    fn from(stop: RunError) -> SerialError {
-        SerialError::RunError(stop)
+impl From<RunError> for SerialCommandError {
+    fn from(stop: RunError) -> SerialCommandError {
+        SerialCommandError::RunError(stop)
     }
 }
 
-impl From<AllocError> for SerialError {
-    fn from(_error: AllocError) -> SerialError {
-        SerialError::RunError(RunError::OutOfMemory)
+impl From<AllocError> for SerialCommandError {
+    fn from(_error: AllocError) -> SerialCommandError {
+        SerialCommandError::RunError(RunError::OutOfMemory)
     }
 }
 
-impl<T: Drop> From<AllocFailed<T>> for SerialError {
-    fn from(_error: AllocFailed<T>) -> SerialError {
-        SerialError::RunError(RunError::OutOfMemory)
+impl<T: Drop> From<AllocFailed<T>> for SerialCommandError {
+    fn from(_error: AllocFailed<T>) -> SerialCommandError {
+        SerialCommandError::RunError(RunError::OutOfMemory)
     }
-}
-
-/// Returns whether octets are decimal digits.
-fn are_digits(octets: &[u8]) -> bool {
-    for octet in octets {
-        if !octet.is_ascii_digit() {
-            return false;
-        }
-    }
-    true
-}
-
-/// Returns the octets of a span of a file, which is in an entry.
-fn octets_at<'e>(entry: &Entry<'e>, span: Span) -> &'e [u8] {
-    let start = span.start.saturating_sub(entry.offset);
-    let end = span.end.saturating_sub(entry.offset);
-    entry.octets.get(start..end).unwrap_or(&[])
 }
 
 /// Returns a token as it is shown.
@@ -136,28 +102,13 @@ fn shown_token(alloc: Global, octets: &[u8]) -> Result<String, AllocError> {
     }
 }
 
-/// Returns how the serial of an SOA is spelled.
-fn spelling_of(alloc: Global, entry: &Entry<'_>) -> Result<Spelling, RunError> {
-    let tokens = data_tokens(alloc, entry)?;
-    let (first, serial) = match tokens.as_slice() {
-        [first, _, serial, ..] => (*first, *serial),
-        _ => return Err(RunError::Damaged),
-    };
-    if octets_at(entry, first) == b"\\#".as_slice() {
-        let at = first.start.saturating_sub(entry.offset);
-        return Ok(Spelling::Generic {
-            position: position_at(entry, at),
-        });
+/// Returns the token of the serial of an SOA, in its entry.
+fn token_of(alloc: Global, entry: &Entry<'_>) -> Result<SerialToken, RunError> {
+    let tokens = data_tokens(alloc, entry, 0)?;
+    match serial_token(entry.octets, tokens.as_slice()) {
+        Some(token) => Ok(token),
+        None => Err(RunError::Damaged),
     }
-    let octets = octets_at(entry, serial);
-    if !octets.is_empty() && are_digits(octets) {
-        return Ok(Spelling::Digits(serial));
-    }
-    let at = serial.start.saturating_sub(entry.offset);
-    Ok(Spelling::Escaped {
-        token: shown_token(alloc, octets)?,
-        position: position_at(entry, at),
-    })
 }
 
 /// Returns whether a record is a signature of SOA records (RFC 4034 section 3.1.1).
@@ -187,13 +138,21 @@ fn placed_soa(
     let Some(serial) = serial_of(&record.data) else {
         return Err(RunError::Damaged);
     };
+    let token = token_of(alloc, entry)?;
+    let Span { start, end } = token.span;
+    let span = Span {
+        start: entry.offset.saturating_add(start),
+        end: entry.offset.saturating_add(end),
+    };
     Ok(PlacedSoa {
         serial,
         data: Vec::from_slice(alloc, lowered.data)?,
         file: String::from_str(alloc, entry.file)?,
         is_included: entry.number > 0,
         position: entry.place().position,
-        spelling: spelling_of(alloc, entry)?,
+        token: SerialToken { span, ..token },
+        token_position: position_at(entry, start),
+        text: shown_token(alloc, entry.octets.get(start..end).unwrap_or(&[]))?,
     })
 }
 
@@ -216,31 +175,24 @@ impl TakeEntry for SoaFinder {
     }
 }
 
-/// Returns the location of an SOA.
-fn location(alloc: Global, soa: &PlacedSoa) -> Result<String, AllocError> {
-    let (file, line, column) = (
-        Shown(soa.file.as_str()),
-        soa.position.line,
-        soa.position.column,
-    );
-    format!(in alloc; "{file}:{line}:{column}")
-}
-
-/// Fails if SOAs differ. Each of a zone must be the same (RFC 5936 section 2.2).
-fn check_equal(alloc: Global, soas: &[PlacedSoa]) -> Result<(), SerialError> {
-    let (first, others) = match soas {
-        [first, others @ ..] => (first, others),
-        [] => return Err(SerialError::NoSoa),
-    };
-    for other in others {
-        if other.data.as_slice() != first.data.as_slice() {
-            return Err(SerialError::Differing {
-                first: location(alloc, first)?,
-                other: location(alloc, other)?,
-            });
+impl PlacedSoa {
+    /// Returns the SOA for its edit.
+    fn edit(&self) -> SoaEdit<'_> {
+        SoaEdit {
+            rdata: self.data.as_slice(),
+            is_included: self.is_included,
+            serial: self.token,
         }
     }
-    Ok(())
+}
+
+/// Returns SOAs for their edits.
+pub fn soa_edits(alloc: Global, soas: &[PlacedSoa]) -> Result<Vec<SoaEdit<'_>>, AllocError> {
+    let mut edits = Vec::new(alloc);
+    for soa in soas {
+        edits.push(soa.edit()).map_err(AllocError::from)?;
+    }
+    Ok(edits)
 }
 
 /// Returns the serial of the zone in a file. Fails if the file has no SOA, or SOAs that differ, or if
@@ -249,7 +201,7 @@ pub fn find_serial(
     rt: &HostRuntime,
     file: &str,
     reading: &Reading<'_>,
-) -> Result<ZoneSerial, SerialError> {
+) -> Result<ZoneSerial, SerialCommandError> {
     let alloc = rt.alloc();
     let finder = SoaFinder {
         alloc,
@@ -264,10 +216,10 @@ pub fn find_serial(
         taker,
     } = give_entries(rt, &[file], reading, finder);
     if status > 0 {
-        return Err(SerialError::Told(status));
+        return Err(SerialCommandError::Told(status));
     }
     let Some(seen) = seen else {
-        return Err(SerialError::NoSoa);
+        return Err(SerialCommandError::NoSoa);
     };
     let SoaFinder {
         soas,
@@ -275,7 +227,10 @@ pub fn find_serial(
         has_signature,
         ..
     } = taker;
-    check_equal(alloc, soas.as_slice())?;
+    let answer = check_soas(soa_edits(alloc, soas.as_slice())?.as_slice());
+    if let Err(error) = answer {
+        return Err(SerialCommandError::Soa { soas, error });
+    }
     Ok(ZoneSerial {
         zone: seen.zone,
         soas,
@@ -284,23 +239,58 @@ pub fn find_serial(
     })
 }
 
-/// Returns the span of the serial of an SOA. Fails if the SOA is in an included file, or if its serial
-/// is not in digits.
-pub fn serial_span(alloc: Global, soa: &PlacedSoa) -> Result<Span, SerialError> {
-    if soa.is_included {
-        return Err(SerialError::Included {
-            file: String::from_str(alloc, soa.file.as_str())?,
-        });
-    }
-    match &soa.spelling {
-        Spelling::Digits(span) => Ok(*span),
-        Spelling::Escaped { token, position } => Err(SerialError::Escaped {
-            token: String::from_str(alloc, token.as_str())?,
-            position: *position,
-        }),
-        Spelling::Generic { position } => Err(SerialError::Generic {
-            position: *position,
-        }),
+/// Returns the location of an SOA.
+fn location(alloc: Global, soa: &PlacedSoa) -> Result<String, AllocError> {
+    let (file, line, column) = (
+        Shown(soa.file.as_str()),
+        soa.position.line,
+        soa.position.column,
+    );
+    format!(in alloc; "{file}:{line}:{column}")
+}
+
+/// Reports that an SOA differs from the first.
+fn report_differing(rt: &HostRuntime, first: &PlacedSoa, other: &PlacedSoa) -> io::Result<()> {
+    let alloc = rt.alloc();
+    let (first, other) = (location(alloc, first)?, location(alloc, other)?);
+    eprintln!(rt; "{other}: error: SOA differs from that at {first}")
+}
+
+/// Reports why SOAs are rejected.
+pub fn report_soa(
+    rt: &HostRuntime,
+    file: &str,
+    soas: &[PlacedSoa],
+    error: SoaError,
+) -> io::Result<()> {
+    let name = Shown(file);
+    let index = match error {
+        SoaError::Differing { index }
+        | SoaError::Included { index }
+        | SoaError::NotDecimal { index }
+        | SoaError::GenericForm { index } => index,
+        SoaError::NoSoa => return eprintln!(rt; "zonetext: {name}: no SOA"),
+        SoaError::OutOfMemory => return eprintln!(rt; "zonetext: {name}: not enough memory"),
+    };
+    let (Some(first), Some(soa)) = (soas.first(), soas.get(index)) else {
+        return Ok(());
+    };
+    let (line, column) = (soa.token_position.line, soa.token_position.column);
+    match error {
+        SoaError::Differing { .. } => report_differing(rt, first, soa),
+        SoaError::Included { .. } => {
+            let included = Shown(soa.file.as_str());
+            eprintln!(rt;
+                "zonetext: {name}: its SOA is in the included file {included}: name that file"
+            )
+        }
+        SoaError::NotDecimal { .. } => {
+            let token = Shown(soa.text.as_str());
+            eprintln!(rt; "{name}:{line}:{column}: error: serial is not in plain digits '{token}'")
+        }
+        _ => eprintln!(rt;
+            "{name}:{line}:{column}: error: SOA in the format for unknown types '\\#'"
+        ),
     }
 }
 

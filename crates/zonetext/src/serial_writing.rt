@@ -1,14 +1,14 @@
 //! The command `serial --write`: replaces the serial of a zone in its file.
 use crate::format::leave;
 use crate::rewriting::{OldText, RewriteError, rewrite};
-use crate::serial::{SerialError, ZoneSerial, find_serial, serial_span};
+use crate::serial::{SerialCommandError, ZoneSerial, find_serial, report_soa, soa_edits};
 use crate::shown::Shown;
 use crate::stop::{RunError, exit_status};
 use crate::visit::Reading;
 use std::alloc::Global;
 use std::io;
-use zone_edit::Edit;
-use zone_serial::{NextSerial, SerialMode, farthest_serial, next_serial, usual_mode};
+use zone_edit::{Edit, SoaError, push_serial_edits};
+use zone_serial::{NextSerial, SerialError, SerialMode, farthest_serial, next_serial, usual_mode};
 use zonetext_lib::replace::Original;
 
 /// How the new serial is determined.
@@ -28,11 +28,11 @@ pub struct SerialOptions {
     pub ignores_journal: bool,
 }
 
-impl From<RewriteError> for SerialError {
-    fn from(error: RewriteError) -> SerialError {
+impl From<RewriteError> for SerialCommandError {
+    fn from(error: RewriteError) -> SerialCommandError {
         match error {
-            RewriteError::Refusal(refusal) => SerialError::Refusal(refusal),
-            RewriteError::Unsettled(refusal) => SerialError::Unsettled(refusal),
+            RewriteError::Refusal(refusal) => SerialCommandError::Refusal(refusal),
+            RewriteError::Unsettled(refusal) => SerialCommandError::Unsettled(refusal),
         }
     }
 }
@@ -58,30 +58,22 @@ fn mode_of(choice: Choice, old: u32) -> SerialMode {
 }
 
 /// Returns the serial after another. Fails if a number that is set is not greater.
-fn next_of(old: u32, mode: SerialMode) -> Result<NextSerial, SerialError> {
+fn next_of(old: u32, mode: SerialMode) -> Result<NextSerial, SerialCommandError> {
     match (next_serial(old, mode), mode) {
         (Ok(next), _) => Ok(next),
-        (Err(error), SerialMode::Set(number)) => Err(SerialError::Set { old, number, error }),
+        (Err(error), SerialMode::Set(number)) => {
+            Err(SerialCommandError::Set { old, number, error })
+        }
         // Only a number that is set is rejected.
-        (Err(_), _) => Err(SerialError::RunError(RunError::Damaged)),
+        (Err(_), _) => Err(SerialCommandError::RunError(RunError::Damaged)),
     }
 }
 
 /// Returns the edits that replace the serial of each SOA of a zone.
-fn edits_of(
-    alloc: Global,
-    found: &ZoneSerial,
-    serial: u32,
-) -> Result<Vec<Edit<Global>>, SerialError> {
+fn edits_of(alloc: Global, found: &ZoneSerial, serial: u32) -> Result<Vec<Edit<Global>>, SoaError> {
+    let soas = soa_edits(alloc, found.soas.as_slice())?;
     let mut edits = Vec::new(alloc);
-    for soa in &found.soas {
-        let span = serial_span(alloc, soa)?;
-        edits.push(Edit {
-            start: span.start,
-            end: span.end,
-            text: serial.to_string(alloc)?.into_bytes(),
-        })?;
-    }
+    push_serial_edits(alloc, soas.as_slice(), serial, &mut edits)?;
     Ok(edits)
 }
 
@@ -91,20 +83,26 @@ fn raise(
     file: &str,
     reading: &Reading<'_>,
     work: SerialOptions,
-) -> Result<Raised, SerialError> {
+) -> Result<Raised, SerialCommandError> {
     let alloc = rt.alloc();
     let original = match Original::find(rt, alloc, file, work.ignores_journal) {
         Ok(original) => original,
-        Err(refusal) => return Err(SerialError::Refusal(refusal)),
+        Err(refusal) => return Err(SerialCommandError::Refusal(refusal)),
     };
     let found = find_serial(rt, file, reading)?;
     let old = match found.soas.first() {
         Some(soa) => soa.serial,
-        None => return Err(SerialError::NoSoa),
+        None => return Err(SerialCommandError::NoSoa),
     };
     let mode = mode_of(work.choice, old);
     let new = next_of(old, mode)?;
-    let edits = edits_of(alloc, &found, new.serial)?;
+    let edits = match edits_of(alloc, &found, new.serial) {
+        Ok(edits) => edits,
+        Err(error) => {
+            let soas = found.soas;
+            return Err(SerialCommandError::Soa { soas, error });
+        }
+    };
     rewrite(rt, original, OldText::File(file), edits.as_slice())?;
     Ok(Raised {
         old,
@@ -143,15 +141,15 @@ fn report_set(
     file: &str,
     old: u32,
     number: u32,
-    error: zone_serial::SerialError,
+    error: SerialError,
 ) -> io::Result<()> {
     let name = Shown(file);
     let why = match error {
-        zone_serial::SerialError::Same => {
+        SerialError::Same => {
             return eprintln!(rt; "zonetext: {name}: --set {number}: is the serial already");
         }
-        zone_serial::SerialError::Less => "goes back",
-        zone_serial::SerialError::Undefined => "is 2^31 away, and neither is greater,",
+        SerialError::Less => "goes back",
+        SerialError::Undefined => "is 2^31 away, and neither is greater,",
     };
     eprintln!(rt; "zonetext: {name}: --set {number}: {why} from serial {old} (RFC 1982)")?;
     let first = farthest_serial(old);
@@ -170,36 +168,22 @@ fn report_set(
 }
 
 /// Reports why a zone has no serial, or why it isn't replaced, and returns the status.
-pub fn report(rt: &HostRuntime, file: &str, why: SerialError) -> io::Result<u8> {
+pub fn report(rt: &HostRuntime, file: &str, why: SerialCommandError) -> io::Result<u8> {
     let name = Shown(file);
     match why {
-        SerialError::Told(status) => return Ok(status),
-        SerialError::NoSoa => eprintln!(rt; "zonetext: {name}: no SOA")?,
-        SerialError::Differing { first, other } => {
-            eprintln!(rt; "{other}: error: SOA differs from that at {first}")?;
+        SerialCommandError::Told(status) => return Ok(status),
+        SerialCommandError::NoSoa => eprintln!(rt; "zonetext: {name}: no SOA")?,
+        SerialCommandError::Soa {
+            error: SoaError::OutOfMemory,
+            ..
+        } => return Ok(exit_status(rt, file, RunError::OutOfMemory)),
+        SerialCommandError::Soa { soas, error } => report_soa(rt, file, soas.as_slice(), error)?,
+        SerialCommandError::Set { old, number, error } => {
+            report_set(rt, file, old, number, error)?;
         }
-        SerialError::Included { file } => {
-            let included = Shown(file.as_str());
-            eprintln!(rt;
-                "zonetext: {name}: its SOA is in the included file {included}: name that file"
-            )?;
-        }
-        SerialError::Escaped { token, position } => {
-            let (line, column, token) = (position.line, position.column, Shown(token.as_str()));
-            eprintln!(rt;
-                "{name}:{line}:{column}: error: serial is not in plain digits '{token}'"
-            )?;
-        }
-        SerialError::Generic { position } => {
-            let (line, column) = (position.line, position.column);
-            eprintln!(rt;
-                "{name}:{line}:{column}: error: SOA in the format for unknown types '\\#'"
-            )?;
-        }
-        SerialError::Set { old, number, error } => report_set(rt, file, old, number, error)?,
-        SerialError::RunError(stop) => return Ok(exit_status(rt, file, stop)),
-        SerialError::Refusal(refusal) => return leave(rt, file, &refusal),
-        SerialError::Unsettled(refusal) => {
+        SerialCommandError::RunError(stop) => return Ok(exit_status(rt, file, stop)),
+        SerialCommandError::Refusal(refusal) => return leave(rt, file, &refusal),
+        SerialCommandError::Unsettled(refusal) => {
             eprintln!(rt; "zonetext: {name}: has its serial")?;
             return leave(rt, file, &refusal);
         }
@@ -208,8 +192,8 @@ pub fn report(rt: &HostRuntime, file: &str, why: SerialError) -> io::Result<u8> 
 }
 
 /// Reports why the serial of a file isn't replaced, and returns the status.
-fn refuse(rt: &HostRuntime, file: &str, why: SerialError) -> io::Result<u8> {
-    let is_written = matches!(why, SerialError::Unsettled(_));
+fn refuse(rt: &HostRuntime, file: &str, why: SerialCommandError) -> io::Result<u8> {
+    let is_written = matches!(why, SerialCommandError::Unsettled(_));
     let status = report(rt, file, why)?;
     if !is_written {
         let name = Shown(file);
