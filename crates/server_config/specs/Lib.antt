@@ -4,6 +4,7 @@ pub mod Lexemes
 pub mod NameRows
 pub mod Nsd
 pub mod NsdLexemes
+pub mod PathPatterns
 pub mod Rows
 pub mod Settings
 pub mod Statements

@@ -5,11 +5,12 @@ use Rattle.dns_lexer.specs.declared.pieces.Span.{Span}
 use Rattle.zone_edit.specs.declared.edit.Edit.{Edit}
 use Rattle.zone_edit.specs.Changes.{Change, PushesChanges, change, change_spans, change_texts}
 use Rattle.zone_edit.specs.declared.tokens.TokenError.{TokenError}
+use Rattle.zone_edit.specs.declared.tokens.TokenError.TheVariants.{OutOfMemory, OutOfOrder, TooFew}
 use Rattle.zone_edit.specs.declared.zonemd.ZonemdEdit.{ZonemdEdit}
 use Rattle.zone_edit.specs.Zonemds.{IsAnyError, IsRecordError, all_changes, zonemd_changes}
 use Rattle.zone_edit.proofs.Opening.{rest_of}
 use Rattle.zone_edit.proofs.Pushing.{continues_both, continues_same}
-use Rattle.zone_edit.specs.Tokens.{AreAfterTokens, Continues, first_only, spans_of, stretches, texts_of}
+use Rattle.zone_edit.specs.Tokens.{AreAfterTokens, Continues, IsTokenError, first_only, spans_of, stretches, texts_of}
 
 spans_joined : (octets : List ℕ) (first second : List Change) → change_spans octets (first ++ second) ≡ change_spans octets first ++ change_spans octets second
 spans_joined octets [] second = refl
@@ -69,6 +70,23 @@ pub after_three : (count : ℕ) (a b d : Span) (tokens : List Span) → AreAfter
 after_three count a b d tokens h =
     let low : 0 ≤ d.end = omega arith in
     after_less count 0 d.end tokens low h.1.1.1
+
+-- an error of some tokens of a record is one of the record
+pub error_two : (octets : List ℕ) (a b : Span) (tokens : List Span) (e : TokenError) → IsTokenError (length octets) 0 tokens e → IsRecordError octets (a ∷ b ∷ tokens) e
+error_two octets a b tokens OutOfMemory h = tt
+error_two octets a b tokens OutOfOrder h = λ ordered. h (after_two (length octets) a b tokens ordered)
+error_two octets a b tokens TooFew h = absurd h
+
+pub error_first : (octets : List ℕ) (t : Span) (tokens : List Span) (e : TokenError) → IsTokenError (length octets) 0 (t ∷ []) e → IsRecordError octets (t ∷ tokens) e
+error_first octets t tokens OutOfMemory h = tt
+error_first octets t tokens OutOfOrder h = λ ordered. h (after_first (length octets) t tokens ordered)
+error_first octets t tokens TooFew h = absurd h
+
+pub error_three : (octets : List ℕ) (a b d : Span) (tokens : List Span) (e : TokenError) → IsTokenError (length octets) 0 tokens e
+    → IsRecordError octets (a ∷ b ∷ d ∷ tokens) e
+error_three octets a b d tokens OutOfMemory h = tt
+error_three octets a b d tokens OutOfOrder h = λ ordered. h (after_three (length octets) a b d tokens ordered)
+error_three octets a b d tokens TooFew h = absurd h
 
 -- the record of an index, and those after it
 module _ (octets : List ℕ) (records : List ZonemdEdit) (i : ℕ) (r d : ZonemdEdit) (lt : i < length records) (is : r ≡ get_or records i d) where

@@ -5,5 +5,6 @@ pub mod Opening
 pub mod Outside
 pub mod Pushing
 pub mod Replaced
+pub mod Soas
 pub mod TokenSpans
 pub mod Whole

@@ -7,6 +7,8 @@ pub mod Marks
 pub mod Outside
 pub mod Places
 pub mod Replaced
+pub mod Rows
 pub mod Serials
+pub mod Stale
 pub mod Tokens
 pub mod Zonemds

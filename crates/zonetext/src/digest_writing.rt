@@ -15,8 +15,8 @@ use std::fs::File;
 use std::io;
 use std::io::Read;
 use zone_edit::{
-    Edit, InsertError, PlaceError, RecordPlace, TokenError, ZonemdEdit, is_same_zonemd,
-    push_entry_after, push_zonemd_edits, soa_place,
+    Edit, InsertError, PlaceError, RecordPlace, TokenError, ZonemdEdit, is_of_signed_zone,
+    is_same_zonemd, push_entry_after, push_zonemd_edits, soa_place,
 };
 use zone_reader::NameBuffer;
 use zone_record::{Data, record_of};
@@ -380,10 +380,7 @@ fn read(rt: &HostRuntime, file: &str) -> Result<Vec<u8>, RunError> {
 /// Returns whether records are signed.
 fn is_signed(set: &NumberedSet<'_>) -> bool {
     for record in set.as_slice() {
-        if matches!(
-            record.data.rtype(),
-            RecordType::RRSIG | RecordType::NSEC | RecordType::NSEC3
-        ) {
+        if is_of_signed_zone(record.data.rtype()) {
             return true;
         }
     }

@@ -13,7 +13,7 @@ use rdata_fields::RecordRef;
 use rdata_values::RecordType;
 use std::alloc::{AllocError, AllocFailed, Global};
 use std::io;
-use zone_edit::{SerialToken, SoaEdit, SoaError, check_soas, serial_token};
+use zone_edit::{SerialToken, SoaEdit, SoaError, check_soas, serial_token, signs_soa};
 use zone_reader::NameBuffer;
 use zone_record::owned_record;
 use zone_serial::SerialError;
@@ -111,11 +111,6 @@ fn token_of(alloc: Global, entry: &Entry<'_>) -> Result<SerialToken, RunError> {
     }
 }
 
-/// Returns whether a record is a signature of SOA records (RFC 4034 section 3.1.1).
-fn signs_soa(given: &RecordRef<'_>) -> bool {
-    given.rtype == RecordType::RRSIG && given.data.starts_with(&[0, 6])
-}
-
 /// Finds the SOAs of a file.
 #[derive(Drop)]
 struct SoaFinder {
@@ -169,7 +164,7 @@ impl TakeEntry for SoaFinder {
                 self.soas.push(soa)?;
             }
             RecordType::ZONEMD => self.has_digest = true,
-            _ => self.has_signature = self.has_signature || signs_soa(&given),
+            rtype => self.has_signature = self.has_signature || signs_soa(rtype, given.data),
         }
         Ok(())
     }

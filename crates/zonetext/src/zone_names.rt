@@ -1,6 +1,7 @@
 //! How the zone of a file is determined: by an option, or by the name of the file.
 use crate::options::{Usage, name_of, zone_of};
 use clap::{Arg, ArgMatches};
+use server_config::zone_in_path;
 use std::alloc::{AllocError, Global};
 use zone_reader::NameBuffer;
 
@@ -27,17 +28,10 @@ pub fn name_option<'a>(alloc: Global) -> Arg<'a> {
     crate::command::flag(alloc, "zone-from-name", HELP)
 }
 
-/// Returns the zone that a file's name contains: the part after the last slash, without `.zone` or
-/// `.db` at its end.
-fn zone_of_path(path: &str) -> &str {
-    let name = match path.rsplit_once('/') {
-        Some((_, name)) => name,
-        None => path,
-    };
-    match name.strip_suffix(".zone") {
-        Some(zone) => zone,
-        None => name.strip_suffix(".db").unwrap_or(name),
-    }
+/// Returns the zone that a file's name contains, as `example.org.zone` does.
+fn zone_of_path(path: &str) -> Option<NameBuffer> {
+    let span = zone_in_path(path.as_bytes());
+    name_of(path.get(span.at..span.end)?)
 }
 
 impl<'o> Zone<'o> {
@@ -63,7 +57,7 @@ impl<'o> Zone<'o> {
             Zone::Unset => None,
             Zone::Set(zone) => name_of(zone),
             Zone::FromName if file == "-" => None,
-            Zone::FromName => name_of(zone_of_path(file)),
+            Zone::FromName => zone_of_path(file),
         }
     }
 
