@@ -149,6 +149,7 @@ RULES = [
             "zone_set/src/error.rt": 1,
             "zone_dnssec/src/hashed.rt": 1,
             "zone_edit/src/edit.rt": 1,
+            "zone_edit/src/serial.rt": 1,
             "zone_edit/src/tokens.rt": 1,
             "zone_update/src/messages.rt": 1,
             "zone_format/src/refusal.rt": 1,

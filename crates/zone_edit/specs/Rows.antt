@@ -1,9 +1,9 @@
 -- Worked examples of the definitions, each computed.
 use Rattle.std.specs.Prelude.{◌≡◌, Bool, true, false, List, [], ◌∷◌, map, None, Some, Ok, Err, codes, refl}
 use Rattle.dns_lexer.specs.declared.pieces.Span.{Span}
-use Rattle.zone_edit.specs.declared.place.PlaceError.TheVariants.{Included as IncludedPlace, NoSoa as NoSoaPlace}
 use Rattle.zone_edit.specs.declared.place.RecordPlace.{RecordPlace}
 use Rattle.zone_edit.specs.declared.serial.SerialSpelling.TheVariants.{Decimal, Escaped, Generic}
+use Rattle.zone_edit.specs.declared.serial.SoaError.TheVariants.{Included, NoSoa}
 use Rattle.zone_edit.specs.Changes.{change, change_spans, change_texts, hex_changes, number_changes}
 use Rattle.zone_edit.specs.Lines.{line_after}
 use Rattle.zone_edit.specs.Marks.{is_generic}
@@ -57,7 +57,7 @@ place_of_record b c = record { is_soa = b; is_included = c }
 soa_places : map soa_place
     ((place_of_record true false ∷ []) ∷ (place_of_record false false ∷ place_of_record true false ∷ []) ∷ (place_of_record false false ∷ []) ∷ []
     ∷ (place_of_record true false ∷ place_of_record false true ∷ []) ∷ (place_of_record true true ∷ place_of_record false true ∷ []) ∷ [])
-    ≡ Ok 0 ∷ Ok 1 ∷ Err NoSoaPlace ∷ Err NoSoaPlace ∷ Err (IncludedPlace 1) ∷ Err (IncludedPlace 0) ∷ []
+    ≡ Ok 0 ∷ Ok 1 ∷ Err NoSoa ∷ Err NoSoa ∷ Err (Included 1) ∷ Err (Included 0) ∷ []
 soa_places = refl
 
 -- ---- an RRSIG of SOA, one of NS, and an NS; types of signed zones

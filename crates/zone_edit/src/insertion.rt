@@ -6,33 +6,14 @@ ghost use Rattle.zone_edit.specs.Tokens.{PushesEdit, span_between};
 
 use crate::edit::Edit;
 use crate::lines::push_line_after;
-use crate::tokens::push_edit;
+use crate::tokens::{TokenError, push_edit};
 use dns_lexer::pieces::Span;
-use std::alloc::{AllocError, Allocator};
-
-/// The error of inserting an entry.
-#[derive(Clone, Copy, PartialEq, Eq)]
-pub enum InsertError {
-    /// The entry ends after the file.
-    PastEnd,
-    /// An allocation failed.
-    OutOfMemory,
-}
-
-impl From<AllocError> for InsertError {
-    ghost use Rattle.zone_edit.specs.declared.insertion.InsertError.TheVariants.{OutOfMemory};
-
-    ghost from_gives = { λ _ e. e ≡ OutOfMemory };
-
-    fn from(_error: AllocError) -> InsertError {
-        InsertError::OutOfMemory
-    }
-}
+use std::alloc::Allocator;
 
 /// Pushes the edit that inserts an entry after another, which ends at an offset of a file: a line of
 /// its own, with the line end of the lines before it ([`push_line_after`]).
 ///
-/// `line` must have no line end. Fails with `PastEnd` if the offset is after the file, and with
+/// `line` must have no line end. Fails with `OutOfOrder` if the offset is after the file, and with
 /// `OutOfMemory` if an allocation fails. After an error `edits` is unchanged.
 pub fn push_entry_after<B: Allocator + Copy>(
     alloc: B,
@@ -40,14 +21,14 @@ pub fn push_entry_after<B: Allocator + Copy>(
     end: usize,
     line: &[u8],
     edits: &mut Vec<Edit<B>, B>,
-) -> Result<(), InsertError>
+) -> Result<(), TokenError>
     ensures ok { OnOk result (PushesEdit (span_between end end)
         (line_after (take end octets.now) line.now) edits.old.items edits.new.items) }
     ensures err { IfErr result (IsInsertError (length octets.now) end) }
     ensures unchanged { OnErr result (edits.new.items ≡ edits.old.items) }
 {
     if octets.len() < end {
-        return Err(InsertError::PastEnd);
+        return Err(TokenError::OutOfOrder);
     }
     let mut text = Vec::new(alloc);
     push_line_after(&octets[..end], line, &mut text)?;

@@ -29,9 +29,9 @@ pub mod zonemd;
 
 pub use edit::{Edit, EditError, append_edited};
 pub use editor::Editor;
-pub use insertion::{InsertError, push_entry_after};
+pub use insertion::push_entry_after;
 pub use lines::push_line_after;
-pub use place::{PlaceError, RecordPlace, soa_place};
+pub use place::{RecordPlace, soa_place};
 pub use serial::{
     SerialSpelling, SerialToken, SoaEdit, SoaError, check_soas, push_serial_edits, serial_token,
 };

@@ -2,6 +2,8 @@
 ghost use Rattle.std.specs.Prelude.{◌≡◌};
 ghost use Rattle.zone_edit.specs.Places.{first_included, first_soa, soa_place};
 
+use crate::serial::SoaError;
+
 /// An SOA or ZONEMD record at the apex of a zone.
 #[derive(Clone, Copy)]
 pub struct RecordPlace {
@@ -9,15 +11,6 @@ pub struct RecordPlace {
     pub is_soa: bool,
     /// Whether its file is included by another.
     pub is_included: bool,
-}
-
-/// The error of records that can't be edited in one file.
-#[derive(Clone, Copy, PartialEq, Eq)]
-pub enum PlaceError {
-    /// There is no SOA.
-    NoSoa,
-    /// The record of this index is the first in an included file.
-    Included { index: usize },
 }
 
 /// Returns the index of the first record in an included file.
@@ -53,14 +46,14 @@ fn first_soa(records: &[RecordPlace]) -> Option<usize>
 ///
 /// Fails with `Included` if a record is in an included file, with the index of the first such record,
 /// and else with `NoSoa` if there is no SOA. There is no other error.
-pub fn soa_place(records: &[RecordPlace]) -> Result<usize, PlaceError>
+pub fn soa_place(records: &[RecordPlace]) -> Result<usize, SoaError>
     ensures { result ≡ soa_place records.now }
 {
     if let Some(index) = first_included(records) {
-        return Err(PlaceError::Included { index });
+        return Err(SoaError::Included { index });
     }
     match first_soa(records) {
         Some(index) => Ok(index),
-        None => Err(PlaceError::NoSoa),
+        None => Err(SoaError::NoSoa),
     }
 }

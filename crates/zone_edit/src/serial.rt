@@ -40,14 +40,14 @@ pub struct SoaEdit<'s> {
     pub serial: SerialToken,
 }
 
-/// The error of SOAs whose serial can't be replaced.
+/// The error of SOAs that can't be edited.
 #[derive(Clone, Copy, PartialEq, Eq)]
 pub enum SoaError {
     /// There is no SOA.
     NoSoa,
     /// The SOA of this index is the first whose RDATA is not that of the first SOA.
     Differing { index: usize },
-    /// The SOA of this index is in an included file.
+    /// The SOA of this index, or a ZONEMD ([`crate::soa_place`]), is in an included file.
     Included { index: usize },
     /// The serial of the SOA of this index has quotes or escapes.
     NotDecimal { index: usize },

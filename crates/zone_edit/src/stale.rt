@@ -5,7 +5,7 @@ ghost use Rattle.zone_edit.specs.Stale.{is_of_signed_zone, signs_soa};
 use rdata_values::RecordType;
 
 /// Returns whether a record of a type is a signature of SOA records (RFC 4034 section 3.1.1), which
-/// is no longer valid after a change of the SOA. `rdata` is its RDATA in wire format.
+/// isn't valid after a change of the SOA. `rdata` is its RDATA in wire format.
 pub fn signs_soa(rtype: RecordType, rdata: &[u8]) -> bool
     ensures { result ≡ signs_soa rtype rdata.now }
 {

@@ -15,8 +15,8 @@ use std::fs::File;
 use std::io;
 use std::io::Read;
 use zone_edit::{
-    Edit, InsertError, PlaceError, RecordPlace, TokenError, ZonemdEdit, is_of_signed_zone,
-    is_same_zonemd, push_entry_after, push_zonemd_edits, soa_place,
+    Edit, RecordPlace, SoaError, TokenError, ZonemdEdit, is_of_signed_zone, is_same_zonemd,
+    push_entry_after, push_zonemd_edits, soa_place,
 };
 use zone_reader::NameBuffer;
 use zone_record::{Data, record_of};
@@ -80,15 +80,6 @@ impl From<TokenError> for DigestWriteError {
             TokenError::OutOfOrder => DigestWriteError::Refusal(Refusal::Changed),
             TokenError::TooFew => DigestWriteError::RunError(RunError::Damaged),
             TokenError::OutOfMemory => DigestWriteError::RunError(RunError::OutOfMemory),
-        }
-    }
-}
-
-impl From<InsertError> for DigestWriteError {
-    fn from(error: InsertError) -> DigestWriteError {
-        match error {
-            InsertError::PastEnd => DigestWriteError::Refusal(Refusal::Changed),
-            InsertError::OutOfMemory => DigestWriteError::RunError(RunError::OutOfMemory),
         }
     }
 }
@@ -350,14 +341,14 @@ fn parts_of<'f>(
             Some(soa) => Ok(Parts { soa: *soa, digests }),
             None => Err(DigestWriteError::NoSoa),
         },
-        Err(PlaceError::NoSoa) => Err(DigestWriteError::NoSoa),
-        Err(PlaceError::Included { index }) => {
+        Err(SoaError::Included { index }) => {
             let what = match records.get(index) {
                 Some(one) if is_soa(*one) => "SOA",
                 _ => "ZONEMD",
             };
             Err(DigestWriteError::Included { what })
         }
+        Err(_) => Err(DigestWriteError::NoSoa),
     }
 }
 
