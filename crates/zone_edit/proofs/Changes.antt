@@ -1,5 +1,5 @@
 -- Changes, one after another.
-use Rattle.std.proofs.Common.{◌≡◌, ◌<◌, ◌≤◌, ℕ, ◌+◌, ◌⊎◌, List, [], ◌∷◌, ◌++◌, length, drop, get_or, refl, sym, ap, subst, ◌∙◌, arith, append-nil}
+use Rattle.std.proofs.Common.{◌≡◌, ◌<◌, ◌≤◌, ℕ, ◌+◌, ◌⊎◌, List, [], ◌∷◌, ◌++◌, length, drop, get_or, refl, sym, ap, subst, ◌∙◌, arith, append-nil, drop_of_length-le}
 use Rattle.std.proofs.lemmas.List.{append_assoc}
 use Rattle.dns_lexer.specs.declared.pieces.Span.{Span}
 use Rattle.zone_edit.specs.declared.edit.Edit.{Edit}
@@ -115,3 +115,16 @@ module _ (octets : List ℕ) (records : List ZonemdEdit) (i : ℕ) (r d : Zonemd
 
   pub error_after : (e : TokenError) → IsRecordError octets r.tokens.now e ⊎ IsAnyError octets (drop (i + 1) records) e → IsAnyError octets (drop i records) e
   error_after e h = subst (λ l. IsAnyError octets l e) (sym next) h
+
+-- after the last record
+pub pushed_all : {B : Type 0} (octets : List ℕ) (records : List ZonemdEdit) (i : ℕ) (first last : List (Edit B)) → length records ≤ i
+    → spans_of last ++ change_spans octets (all_changes octets (drop i records)) ≡ spans_of first ++ change_spans octets (all_changes octets records)
+    → texts_of last ++ change_texts octets (all_changes octets (drop i records)) ≡ texts_of first ++ change_texts octets (all_changes octets records)
+    → Continues first last → PushesChanges octets (all_changes octets records) first last
+pushed_all octets records i first last le spans texts continues =
+    let rest = drop_of_length-le records le in
+    record {
+      spans = sym (append-nil (spans_of last)) ∙ ap (λ l. spans_of last ++ change_spans octets (all_changes octets l)) (sym rest) ∙ spans;
+      texts = sym (append-nil (texts_of last)) ∙ ap (λ l. texts_of last ++ change_texts octets (all_changes octets l)) (sym rest) ∙ texts;
+      continues = continues;
+    }

@@ -4,7 +4,7 @@ use Rattle.std.specs.Fmt.{decimal}
 use Rattle.dns_lexer.specs.declared.pieces.Span.{Span}
 use Rattle.zone_edit.specs.declared.serial.SoaEdit.{SoaEdit}
 use Rattle.zone_edit.specs.declared.serial.SoaError.{SoaError}
-use Rattle.zone_edit.specs.declared.serial.SoaError.TheVariants.{Differing, GenericForm, Included, NoSoa, NotDecimal, OutOfMemory}
+use Rattle.zone_edit.specs.declared.serial.SoaError.TheVariants.{Differing, Generated, GenericForm, Included, NoSoa, NotDecimal, OutOfMemory}
 use Rattle.zone_edit.specs.Serials.{IsSerialError, IsSoaError, edit_error, error_or, serial_spans, serial_texts, soa_error}
 use Rattle.zone_edit.proofs.Opening.{rest_of}
 
@@ -34,3 +34,4 @@ module _ (soas : List SoaEdit) (i : ℕ) (s d : SoaEdit) (lt : i < length soas) 
   error_here k (Included j) h before = found k (Included j) h before
   error_here k (NotDecimal j) h before = found k (NotDecimal j) h before
   error_here k (GenericForm j) h before = found k (GenericForm j) h before
+  error_here k (Generated j) h before = found k (Generated j) h before

@@ -3,7 +3,7 @@ use Rattle.std.specs.Prelude.{◌≡◌, Bool, true, false, List, [], ◌∷◌,
 use Rattle.dns_lexer.specs.declared.pieces.Span.{Span}
 use Rattle.zone_edit.specs.declared.place.RecordPlace.{RecordPlace}
 use Rattle.zone_edit.specs.declared.serial.SerialSpelling.TheVariants.{Decimal, Escaped, Generic}
-use Rattle.zone_edit.specs.declared.serial.SoaError.TheVariants.{Included, NoSoa}
+use Rattle.zone_edit.specs.declared.serial.SoaError.TheVariants.{Generated, Included, NoSoa}
 use Rattle.zone_edit.specs.Changes.{change, change_spans, change_texts, hex_changes, number_changes}
 use Rattle.zone_edit.specs.Lines.{line_after}
 use Rattle.zone_edit.specs.Marks.{is_generic}
@@ -50,14 +50,20 @@ inserted : map (λ before. line_after before (codes "b")) (codes "a\n" ∷ codes
     ≡ codes "b\n" ∷ codes "b\r\n" ∷ codes "\nb\n" ∷ codes "\r\nb\r\n" ∷ []
 inserted = refl
 
--- ---- the records of an apex: an SOA, a ZONEMD, and one of each in an included file
-abbrev place_of_record : Bool → Bool → RecordPlace
-place_of_record b c = record { is_soa = b; is_included = c }
+-- ---- the records of an apex: an SOA, a ZONEMD, each in an included file, and by $GENERATE
+abbrev own_record : Bool → RecordPlace
+own_record b = record { is_soa = b; is_included = false; is_generated = false }
+
+abbrev included_record : Bool → RecordPlace
+included_record b = record { is_soa = b; is_included = true; is_generated = false }
+
+abbrev generated_record : Bool → RecordPlace
+generated_record b = record { is_soa = b; is_included = false; is_generated = true }
 
 soa_places : map soa_place
-    ((place_of_record true false ∷ []) ∷ (place_of_record false false ∷ place_of_record true false ∷ []) ∷ (place_of_record false false ∷ []) ∷ []
-    ∷ (place_of_record true false ∷ place_of_record false true ∷ []) ∷ (place_of_record true true ∷ place_of_record false true ∷ []) ∷ [])
-    ≡ Ok 0 ∷ Ok 1 ∷ Err NoSoa ∷ Err NoSoa ∷ Err (Included 1) ∷ Err (Included 0) ∷ []
+    ((own_record true ∷ []) ∷ (own_record false ∷ own_record true ∷ own_record true ∷ []) ∷ (own_record false ∷ []) ∷ []
+    ∷ (own_record true ∷ included_record false ∷ []) ∷ (generated_record true ∷ included_record false ∷ []) ∷ [])
+    ≡ Ok 0 ∷ Ok 1 ∷ Err NoSoa ∷ Err NoSoa ∷ Err (Included 1) ∷ Err (Generated 0) ∷ []
 soa_places = refl
 
 -- ---- an RRSIG of SOA, one of NS, and an NS; types of signed zones

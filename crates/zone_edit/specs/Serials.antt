@@ -6,11 +6,11 @@ use Rattle.dns_symbol.specs.Symbol.{is_digit}
 use Rattle.dns_lexer.specs.Pieces.{between}
 use Rattle.dns_lexer.specs.declared.pieces.Span.{Span}
 use Rattle.zone_edit.specs.declared.serial.SerialSpelling.{SerialSpelling}
-use Rattle.zone_edit.specs.declared.serial.SerialSpelling.TheVariants.{Decimal, Escaped, Generic}
+use Rattle.zone_edit.specs.declared.serial.SerialSpelling.TheVariants.{Decimal, Escaped, Generated as GeneratedSerial, Generic}
 use Rattle.zone_edit.specs.declared.serial.SerialToken.{SerialToken}
 use Rattle.zone_edit.specs.declared.serial.SoaEdit.{SoaEdit}
 use Rattle.zone_edit.specs.declared.serial.SoaError.{SoaError}
-use Rattle.zone_edit.specs.declared.serial.SoaError.TheVariants.{Differing, GenericForm, Included, NoSoa, NotDecimal, OutOfMemory}
+use Rattle.zone_edit.specs.declared.serial.SoaError.TheVariants.{Differing, Generated, GenericForm, Included, NoSoa, NotDecimal, OutOfMemory}
 use Rattle.zone_edit.specs.Changes.{are_same}
 use Rattle.zone_edit.specs.Marks.{is_generic_mark}
 
@@ -52,6 +52,7 @@ abbrev pub spelling_error : ℕ → SerialSpelling → Option SoaError
 spelling_error i Decimal = None
 spelling_error i Escaped = Some (NotDecimal i)
 spelling_error i Generic = Some (GenericForm i)
+spelling_error i GeneratedSerial = Some (Generated i)
 
 abbrev pub soa_error : ℕ → SoaEdit → Option SoaError
 soa_error i s = if s.is_included then Some (Included i) else spelling_error i s.serial.spelling

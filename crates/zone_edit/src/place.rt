@@ -1,6 +1,6 @@
 //! The records of a zone's apex that are edited, and the files that have them.
 ghost use Rattle.std.specs.Prelude.{◌≡◌};
-ghost use Rattle.zone_edit.specs.Places.{first_included, first_soa, soa_place};
+ghost use Rattle.zone_edit.specs.Places.{first_place_error, first_soa, place_error, soa_place};
 
 use crate::serial::SoaError;
 
@@ -11,16 +11,31 @@ pub struct RecordPlace {
     pub is_soa: bool,
     /// Whether its file is included by another.
     pub is_included: bool,
+    /// Whether a `$GENERATE` directive makes it.
+    pub is_generated: bool,
 }
 
-/// Returns the index of the first record in an included file.
-fn first_included(records: &[RecordPlace]) -> Option<usize>
-    ensures { result ≡ first_included 0 records.now }
+/// Returns why a record with an index can't be edited in the file.
+fn place_error(index: usize, one: &RecordPlace) -> Option<SoaError>
+    ensures { result ≡ place_error index one.now }
+{
+    if one.is_included {
+        Some(SoaError::Included { index })
+    } else if one.is_generated {
+        Some(SoaError::Generated { index })
+    } else {
+        None
+    }
+}
+
+/// Returns why the first of the records that can't be edited can't be.
+fn first_place_error(records: &[RecordPlace]) -> Option<SoaError>
+    ensures { result ≡ first_place_error 0 records.now }
 {
     let mut index = 0;
     for one in records {
-        if one.is_included {
-            return Some(index);
+        if let Some(error) = place_error(index, one) {
+            return Some(error);
         }
         index += 1;
     }
@@ -42,15 +57,15 @@ fn first_soa(records: &[RecordPlace]) -> Option<usize>
 }
 
 /// Returns the index of the first SOA of the records of an apex, which are in the order of the zone.
-/// All of them must be in the file itself.
+/// All of them must be records of the file itself.
 ///
-/// Fails with `Included` if a record is in an included file, with the index of the first such record,
-/// and else with `NoSoa` if there is no SOA. There is no other error.
+/// The first record that isn't is the error: `Included` if it is in an included file, `Generated` if a
+/// `$GENERATE` makes it. Else it fails with `NoSoa` if there is no SOA. There is no other error.
 pub fn soa_place(records: &[RecordPlace]) -> Result<usize, SoaError>
     ensures { result ≡ soa_place records.now }
 {
-    if let Some(index) = first_included(records) {
-        return Err(SoaError::Included { index });
+    if let Some(error) = first_place_error(records) {
+        return Err(error);
     }
     match first_soa(records) {
         Some(index) => Ok(index),

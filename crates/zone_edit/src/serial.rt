@@ -20,12 +20,14 @@ pub enum SerialSpelling {
     Escaped,
     /// In RDATA in the generic form (RFC 3597 section 5).
     Generic,
+    /// By a `$GENERATE` directive.
+    Generated,
 }
 
 /// The token of the serial of an SOA.
 #[derive(Clone, Copy)]
 pub struct SerialToken {
-    /// Span of the token; in the generic form that of the mark.
+    /// Span of the token; in the generic form that of the mark. Of a generated record it has no meaning.
     pub span: Span,
     pub spelling: SerialSpelling,
 }
@@ -53,6 +55,8 @@ pub enum SoaError {
     NotDecimal { index: usize },
     /// The SOA of this index is in the generic form.
     GenericForm { index: usize },
+    /// A `$GENERATE` makes the SOA of this index, or a ZONEMD ([`crate::soa_place`]).
+    Generated { index: usize },
     /// An allocation failed.
     OutOfMemory,
 }
@@ -170,6 +174,7 @@ fn push_soa<B: Allocator + Copy>(
         }
         SerialSpelling::Escaped => Err(SoaError::NotDecimal { index }),
         SerialSpelling::Generic => Err(SoaError::GenericForm { index }),
+        SerialSpelling::Generated => Err(SoaError::Generated { index }),
     }
 }
 
@@ -201,8 +206,8 @@ fn push_soas<B: Allocator + Copy>(
 /// each SOA this token changes, and no other.
 ///
 /// The first SOA that can't be edited is the error: `Included` if it is in an included file,
-/// `NotDecimal` if its serial has quotes or escapes, `GenericForm` if it is in the generic form. Fails
-/// with `OutOfMemory` if an allocation fails. After an error `edits` is unchanged.
+/// `NotDecimal` if its serial has quotes or escapes, `GenericForm` if it is in the generic form,
+/// `Generated` if a `$GENERATE` makes it. Fails with `OutOfMemory` if an allocation fails. After an error `edits` is unchanged.
 pub fn push_serial_edits<B: Allocator + Copy>(
     alloc: B,
     soas: &[SoaEdit<'_>],

@@ -43,6 +43,8 @@ enum DigestWriteError {
     NoSingleSoa,
     /// The SOA or a digest is in an included file.
     Included { what: &'static str },
+    /// The SOA or a digest is from a `$GENERATE`.
+    Generated { what: &'static str },
     /// The file is written, but it is not known whether its name has reached the disk.
     Unsettled(Refusal),
     RunError(RunError),
@@ -312,7 +314,15 @@ fn is_soa(one: &Placed) -> bool {
     one.record.data.rtype() == RecordType::SOA
 }
 
-/// Returns the SOA of a zone and its digests, unless one is in an included file.
+/// Returns the type of the record of an index.
+fn type_at(records: &[&Placed], index: usize) -> &'static str {
+    match records.get(index) {
+        Some(one) if is_soa(*one) => "SOA",
+        _ => "ZONEMD",
+    }
+}
+
+/// Returns the SOA of a zone and its digests, unless one is in an included file or generated.
 fn parts_of<'f>(
     alloc: Global,
     found: &'f [Placed],
@@ -328,6 +338,7 @@ fn parts_of<'f>(
         let place = RecordPlace {
             is_soa: is_soa(one),
             is_included: one.is_included,
+            is_generated: false,
         };
         places.push(place).map_err(AllocError::from)?;
         records.push(one).map_err(AllocError::from)?;
@@ -341,13 +352,12 @@ fn parts_of<'f>(
             Some(soa) => Ok(Parts { soa: *soa, digests }),
             None => Err(DigestWriteError::NoSoa),
         },
-        Err(SoaError::Included { index }) => {
-            let what = match records.get(index) {
-                Some(one) if is_soa(*one) => "SOA",
-                _ => "ZONEMD",
-            };
-            Err(DigestWriteError::Included { what })
-        }
+        Err(SoaError::Included { index }) => Err(DigestWriteError::Included {
+            what: type_at(records, index),
+        }),
+        Err(SoaError::Generated { index }) => Err(DigestWriteError::Generated {
+            what: type_at(records, index),
+        }),
         Err(_) => Err(DigestWriteError::NoSoa),
     }
 }
@@ -455,6 +465,9 @@ fn refuse(rt: &HostRuntime, file: &str, why: DigestWriteError) -> io::Result<u8>
         }
         DigestWriteError::Included { what } => {
             eprintln!(rt; "zonetext: {name}: its {what} stands in an included file")?;
+        }
+        DigestWriteError::Generated { what } => {
+            eprintln!(rt; "zonetext: {name}: its {what} is from $GENERATE")?;
         }
         DigestWriteError::RunError(stop) => {
             exit_status(rt, file, stop);

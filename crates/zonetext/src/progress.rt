@@ -4,9 +4,7 @@ use std::fs::metadata;
 use std::io;
 use std::io::{IsTerminal, Write};
 use std::time::Instant;
-
-/// Number of seconds before which nothing is shown.
-const PATIENCE: u64 = 3;
+use zonetext_lib::progress::{ProgressShare, is_due, progress_share};
 
 /// The progress of a file that takes long.
 #[derive(Drop)]
@@ -60,7 +58,7 @@ impl<'a> Progress<'a> {
             return Ok(());
         };
         let seconds = start.elapsed(self.rt)?.as_secs();
-        if seconds < PATIENCE || seconds == self.said {
+        if !is_due(seconds, self.said) {
             return Ok(());
         }
         self.said = seconds;
@@ -72,26 +70,19 @@ impl<'a> Progress<'a> {
     /// time that is left. With included files more may be read.
     fn show(&self, seconds: u64) -> io::Result<()> {
         let file = Shown(self.file);
-        let rest = match self.total {
-            Some(total) if self.octets > 0 => total.checked_sub(self.octets),
-            _ => None,
-        };
-        match (self.total, rest) {
-            (Some(total), Some(rest)) => {
-                let megabytes = total / 1_000_000;
-                let share = self
-                    .octets
-                    .saturating_mul(100)
-                    .checked_div(total)
-                    .unwrap_or(100);
-                let left = seconds
-                    .saturating_mul(rest)
-                    .checked_div(self.octets)
-                    .unwrap_or(0);
-                eprint!(self.rt; "\r{file}: {share} % of {megabytes} MB, {left} s left\u{1b}[K")
-            }
-            _ => {
-                let megabytes = self.octets / 1_000_000;
+        let total = self.total.unwrap_or(0);
+        let (octets, megabytes) = (self.octets, total / 1_000_000);
+        match progress_share(octets, total, seconds) {
+            Some(
+                ProgressShare {
+                    percent,
+                    seconds_left,
+                },
+            ) => eprint!(self.rt;
+                "\r{file}: {percent} % of {megabytes} MB, {seconds_left} s left\u{1b}[K"
+            ),
+            None => {
+                let megabytes = octets / 1_000_000;
                 eprint!(self.rt; "\r{file}: {megabytes} MB read\u{1b}[K")
             }
         }

@@ -263,7 +263,8 @@ pub fn report_soa(
         SoaError::Differing { index }
         | SoaError::Included { index }
         | SoaError::NotDecimal { index }
-        | SoaError::GenericForm { index } => index,
+        | SoaError::GenericForm { index }
+        | SoaError::Generated { index } => index,
         SoaError::NoSoa => return eprintln!(rt; "zonetext: {name}: no SOA"),
         SoaError::OutOfMemory => return eprintln!(rt; "zonetext: {name}: not enough memory"),
     };
@@ -283,6 +284,9 @@ pub fn report_soa(
             let token = Shown(soa.text.as_str());
             eprintln!(rt; "{name}:{line}:{column}: error: serial is not in plain digits '{token}'")
         }
+        SoaError::Generated { .. } => eprintln!(rt;
+            "{name}:{line}:{column}: error: SOA is from $GENERATE: write it as a record"
+        ),
         _ => eprintln!(rt;
             "{name}:{line}:{column}: error: SOA in the format for unknown types '\\#'"
         ),
