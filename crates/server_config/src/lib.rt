@@ -6,6 +6,7 @@
 pub mod clause;
 pub mod error;
 mod keyword;
+pub mod left_out;
 mod lexeme;
 pub mod nsd;
 pub mod path_pattern;
@@ -22,6 +23,7 @@ pub mod zone_path;
 
 pub use clause::{Clause, ClauseEnd, next_clause};
 pub use error::{ConfigError, ConfigErrorKind};
+pub use left_out::LeftOutCounts;
 pub use nsd::{NsdEvent, NsdSection, NsdStep, is_nsd_config, next_nsd_step, nsd_zone_outcome};
 pub use path_pattern::{fits_path_pattern, is_path_pattern};
 pub use settings::{

@@ -350,7 +350,7 @@ impl<'r> NamedReader<'r> {
         match zone_outcome(&zone.settings, &outer.settings) {
             ZoneOutcome::Checked => sources.zones.push(self.source(zone, &outer)?)?,
             ZoneOutcome::Omitted(reason) => {
-                sources.left_out.add(reason);
+                sources.left_out = sources.left_out.counted(reason);
                 if reason == LeftOut::Template {
                     let note = zone_text(alloc, zone, "not checked: zone with a template")?;
                     sources.notes.push(note)?;

@@ -5,7 +5,7 @@ use crate::shown::Shown;
 use crate::stop::EXIT_IO;
 use crate::subjects::quoted;
 use rdata_values::Class;
-use server_config::{ConfigErrorKind, LeftOut, TextSpan};
+use server_config::{ConfigErrorKind, LeftOutCounts, TextSpan};
 use std::alloc::{AllocError, AllocFailed, Global};
 use std::io::{ErrorKind, Read};
 use std::path::Path;
@@ -26,41 +26,6 @@ pub struct ZoneSource {
     pub max_ttl: Option<u32>,
     /// Whether a server rejects the zone if the name of a host is not a host name.
     pub needs_host_names: bool,
-}
-
-/// The numbers of zones that are left out, by their reasons.
-#[derive(Clone, Copy)]
-pub struct LeftOutCounts {
-    pub other_type: usize,
-    pub in_view: usize,
-    pub database: usize,
-    pub format: usize,
-    pub template: usize,
-}
-
-impl LeftOutCounts {
-    /// Returns the counts before the first zone.
-    pub fn new() -> LeftOutCounts {
-        LeftOutCounts {
-            other_type: 0,
-            in_view: 0,
-            database: 0,
-            format: 0,
-            template: 0,
-        }
-    }
-
-    /// Counts a zone that is left out.
-    pub fn add(&mut self, reason: LeftOut) {
-        let count = match reason {
-            LeftOut::OtherType => &mut self.other_type,
-            LeftOut::InView => &mut self.in_view,
-            LeftOut::Database => &mut self.database,
-            LeftOut::Format => &mut self.format,
-            LeftOut::Template => &mut self.template,
-        };
-        *count = count.saturating_add(1);
-    }
 }
 
 /// The zones that were found.

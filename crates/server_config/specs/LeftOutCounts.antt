@@ -1,0 +1,20 @@
+-- Numbers of zones that are left out.
+use Rattle.std.specs.Prelude.{ℕ, ◌+◌, ◌-◌, ◌^◌, min}
+use Rattle.server_config.specs.declared.left_out.LeftOutCounts.{LeftOutCounts}
+use Rattle.server_config.specs.declared.settings.LeftOut.{LeftOut}
+use Rattle.server_config.specs.declared.settings.LeftOut.TheVariants.{Database, Format, InView, OtherType, Template}
+
+abbrev pub no_counts : LeftOutCounts
+no_counts = record { other_type = 0; in_view = 0; database = 0; format = 0; template = 0 }
+
+-- one more, in 64 bits
+abbrev pub one_more : ℕ → ℕ
+one_more n = min (n + 1) (2 ^ 64 - 1)
+
+-- a zone is left out for a reason: its number is one more, and the others are the same
+abbrev pub with_left_out : LeftOutCounts → LeftOut → LeftOutCounts
+with_left_out c OtherType = record c { other_type = one_more c.other_type }
+with_left_out c InView = record c { in_view = one_more c.in_view }
+with_left_out c Database = record c { database = one_more c.database }
+with_left_out c Format = record c { format = one_more c.format }
+with_left_out c Template = record c { template = one_more c.template }
