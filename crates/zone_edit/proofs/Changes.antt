@@ -29,11 +29,14 @@ pub pushes_none : {B : Type 0} (octets : List ℕ) (edits : List (Edit B)) → P
 pushes_none octets edits = record { spans = sym (append-nil (spans_of edits)); texts = sym (append-nil (texts_of edits)); continues = continues_same edits }
 
 -- one
-pub pushes_one : {B : Type 0} (octets : List ℕ) (tokens : List Span) (text : List ℕ) (old new : List (Edit B)) → spans_of new ≡ spans_of old ++ stretches octets tokens
-    → texts_of new ≡ texts_of old ++ first_only text (stretches octets tokens) → Continues old new → PushesChanges octets (change tokens text ∷ []) old new
-pushes_one octets tokens text old new spans texts continues = record {
+pub pushes_one : {B : Type 0} (octets : List ℕ) (tokens : List Span) (text made : List ℕ) (old new : List (Edit B)) → made ≡ text
+    → spans_of new ≡ spans_of old ++ stretches octets tokens → texts_of new ≡ texts_of old ++ first_only made (stretches octets tokens) → Continues old new
+    → PushesChanges octets (change tokens text ∷ []) old new
+pushes_one octets tokens text made old new is spans texts continues = record {
   spans = spans ∙ ap (λ l. spans_of old ++ l) (sym (append-nil (stretches octets tokens)));
-  texts = texts ∙ ap (λ l. texts_of old ++ l) (sym (append-nil (first_only text (stretches octets tokens))));
+  texts =
+      texts ∙ ap (λ t. texts_of old ++ first_only t (stretches octets tokens)) is
+      ∙ ap (λ l. texts_of old ++ l) (sym (append-nil (first_only text (stretches octets tokens))));
   continues = continues;
 }
 

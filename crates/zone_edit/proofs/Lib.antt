@@ -4,6 +4,7 @@ pub mod Gaps
 pub mod Opening
 pub mod Outside
 pub mod Pushing
+pub mod Records
 pub mod Replaced
 pub mod Soas
 pub mod TokenSpans

@@ -52,7 +52,8 @@ fn push_number<B: Allocator + Copy>(
     ensures unchanged { OnErr result (edits.new.items ≡ edits.old.items) }
 {
     let text = decimal_text(alloc, number)?;
-    push_token_edits(alloc, octets, &[token], text, edits)
+    push_token_edits(alloc, octets, &[token], text, edits)?;
+    Ok(())
 }
 
 /// Pushes the edits that replace tokens by octets in hexadecimal digits, or nothing after an error.
@@ -70,12 +71,13 @@ pub(crate) fn push_hex<B: Allocator + Copy>(
     ensures unchanged { OnErr result (edits.new.items ≡ edits.old.items) }
 {
     let text = hex_text(alloc, value)?;
-    push_token_edits(alloc, octets, tokens, text, edits)
+    push_token_edits(alloc, octets, tokens, text, edits)?;
+    Ok(())
 }
 
 /// Pushes the edit of a token that is a number, if the number changes. After an error nothing is
 /// pushed.
-#[tactic(auto, using(crate::proofs::Changes::pushes_none))]
+#[tactic(auto, using(crate::proofs::Records::number_same, crate::proofs::Records::number_other))]
 pub(crate) fn push_number_change<B: Allocator + Copy>(
     alloc: B,
     octets: &[u8],
@@ -92,12 +94,13 @@ pub(crate) fn push_number_change<B: Allocator + Copy>(
     if old == new {
         return Ok(());
     }
-    push_number(alloc, octets, token, new, edits)
+    push_number(alloc, octets, token, new, edits)?;
+    Ok(())
 }
 
 /// Pushes the edits of tokens that are hexadecimal digits, if the octets change. After an error
 /// nothing is pushed.
-#[tactic(auto, using(crate::proofs::Changes::pushes_none))]
+#[tactic(auto, using(crate::proofs::Records::hex_same, crate::proofs::Records::hex_other))]
 pub(crate) fn push_hex_change<B: Allocator + Copy>(
     alloc: B,
     octets: &[u8],
@@ -114,5 +117,6 @@ pub(crate) fn push_hex_change<B: Allocator + Copy>(
     if are_same(old, new) {
         return Ok(());
     }
-    push_hex(alloc, octets, tokens, new, edits)
+    push_hex(alloc, octets, tokens, new, edits)?;
+    Ok(())
 }

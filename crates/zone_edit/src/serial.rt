@@ -208,6 +208,7 @@ fn push_soas<B: Allocator + Copy>(
 /// The first SOA that can't be edited is the error: `Included` if it is in an included file,
 /// `NotDecimal` if its serial has quotes or escapes, `GenericForm` if it is in the generic form,
 /// `Generated` if a `$GENERATE` makes it. Fails with `OutOfMemory` if an allocation fails. After an error `edits` is unchanged.
+#[tactic(auto, using(crate::proofs::Records::dropped))]
 pub fn push_serial_edits<B: Allocator + Copy>(
     alloc: B,
     soas: &[SoaEdit<'_>],

@@ -43,6 +43,7 @@ fn zonemd_octets<B: Allocator>(alloc: B, zonemd: &Zonemd<'_>) -> Result<Vec<u8, 
 
 /// Pushes the edits of RDATA in the generic form: the digits are replaced, after the mark and the
 /// length. After an error nothing is pushed.
+#[tactic(auto, using(crate::proofs::Records::generic_pushed, crate::proofs::Records::generic_error))]
 fn push_generic<B: Allocator + Copy>(
     alloc: B,
     octets: &[u8],
@@ -58,7 +59,8 @@ fn push_generic<B: Allocator + Copy>(
     match tokens {
         [_, _, digits @ ..] => {
             let data = zonemd_octets(alloc, new)?;
-            push_hex(alloc, octets, digits, data.as_slice(), edits)
+            push_hex(alloc, octets, digits, data.as_slice(), edits)?;
+            Ok(())
         }
         _ => Err(TokenError::TooFew),
     }
@@ -66,6 +68,7 @@ fn push_generic<B: Allocator + Copy>(
 
 /// Pushes the edits of the fields of RDATA that change: of the serial and of the digest. The first
 /// of them may be pushed before an error.
+#[tactic(auto, using(crate::proofs::Records::fields_pushed, crate::proofs::Records::serial_error, crate::proofs::Records::digest_error, crate::proofs::Pushing::continues_same))]
 fn push_fields<B: Allocator + Copy>(
     alloc: B,
     octets: &[u8],
@@ -82,13 +85,15 @@ fn push_fields<B: Allocator + Copy>(
     match tokens {
         [serial, _, _, digest @ ..] => {
             push_number_change(alloc, octets, *serial, old.serial, new.serial, edits)?;
-            push_hex_change(alloc, octets, digest, old.digest, new.digest, edits)
+            push_hex_change(alloc, octets, digest, old.digest, new.digest, edits)?;
+            Ok(())
         }
         _ => Err(TokenError::TooFew),
     }
 }
 
 /// Pushes the edits of a record. The first of them may be pushed before an error.
+#[tactic(auto, using(crate::proofs::Records::record_same, crate::proofs::Records::record_generic, crate::proofs::Records::record_fields, crate::proofs::Pushing::continues_same))]
 fn push_record<B: Allocator + Copy>(
     alloc: B,
     octets: &[u8],
@@ -104,13 +109,16 @@ fn push_record<B: Allocator + Copy>(
         return Ok(());
     }
     if is_generic(octets, one.tokens) {
-        push_generic(alloc, octets, one.tokens, &one.after, edits)
+        push_generic(alloc, octets, one.tokens, &one.after, edits)?;
+        Ok(())
     } else {
-        push_fields(alloc, octets, one.tokens, &one.before, &one.after, edits)
+        push_fields(alloc, octets, one.tokens, &one.before, &one.after, edits)?;
+        Ok(())
     }
 }
 
 /// Pushes the edits of records. The first of them may be pushed before an error.
+#[tactic(auto, using(crate::proofs::Changes::pushed_all))]
 fn push_records<B: Allocator + Copy>(
     alloc: B,
     octets: &[u8],
@@ -140,6 +148,7 @@ fn push_records<B: Allocator + Copy>(
 /// Fails with `TooFew` if a record that changes has fewer tokens than fields, with `OutOfOrder` if a
 /// token of it begins before the one before it ends, or ends after the file, and with `OutOfMemory`
 /// if an allocation fails. After an error `edits` is unchanged.
+#[tactic(auto, using(crate::proofs::Records::dropped))]
 pub fn push_zonemd_edits<B: Allocator + Copy>(
     alloc: B,
     octets: &[u8],
