@@ -3,7 +3,7 @@ use Rattle.std.proofs.Common.{◌≡◌, ◌<◌, ◌≤◌, ℕ, ◌+◌, ◌�
 use Rattle.std.proofs.lemmas.List.{append_assoc}
 use Rattle.dns_lexer.specs.declared.pieces.Span.{Span}
 use Rattle.zone_edit.specs.declared.edit.Edit.{Edit}
-use Rattle.zone_edit.specs.Changes.{Change, PushesChanges, change, change_spans, change_texts}
+use Rattle.zone_edit.specs.Changes.{Change, HaveTokensInOrder, PushesChanges, change, change_spans, change_texts}
 use Rattle.zone_edit.specs.declared.tokens.TokenError.{TokenError}
 use Rattle.zone_edit.specs.declared.tokens.TokenError.TheVariants.{OutOfMemory, OutOfOrder, TooFew}
 use Rattle.zone_edit.specs.declared.zonemd.ZonemdEdit.{ZonemdEdit}
@@ -24,20 +24,25 @@ texts_joined octets (c ∷ first) second =
     ap (λ l. first_only c.text (stretches octets c.tokens) ++ l) (texts_joined octets first second)
     ∙ sym (append_assoc (first_only c.text (stretches octets c.tokens)) (change_texts octets first) (change_texts octets second))
 
+ordered_joined : (count : ℕ) (first second : List Change) → HaveTokensInOrder count first → HaveTokensInOrder count second → HaveTokensInOrder count (first ++ second)
+ordered_joined count [] second p q = q
+ordered_joined count (c ∷ first) second p q = (p.0, ordered_joined count first second p.1 q)
+
 -- no changes
 pub pushes_none : {B : Type 0} (octets : List ℕ) (edits : List (Edit B)) → PushesChanges octets [] edits edits
-pushes_none octets edits = record { spans = sym (append-nil (spans_of edits)); texts = sym (append-nil (texts_of edits)); continues = continues_same edits }
+pushes_none octets edits = record { spans = sym (append-nil (spans_of edits)); texts = sym (append-nil (texts_of edits)); continues = continues_same edits; ordered = tt }
 
 -- one
 pub pushes_one : {B : Type 0} (octets : List ℕ) (tokens : List Span) (text made : List ℕ) (old new : List (Edit B)) → made ≡ text
     → spans_of new ≡ spans_of old ++ stretches octets tokens → texts_of new ≡ texts_of old ++ first_only made (stretches octets tokens) → Continues old new
-    → PushesChanges octets (change tokens text ∷ []) old new
-pushes_one octets tokens text made old new is spans texts continues = record {
+    → AreAfterTokens (length octets) 0 tokens → PushesChanges octets (change tokens text ∷ []) old new
+pushes_one octets tokens text made old new is spans texts continues ordered = record {
   spans = spans ∙ ap (λ l. spans_of old ++ l) (sym (append-nil (stretches octets tokens)));
   texts =
       texts ∙ ap (λ t. texts_of old ++ first_only t (stretches octets tokens)) is
       ∙ ap (λ l. texts_of old ++ l) (sym (append-nil (first_only text (stretches octets tokens))));
   continues = continues;
+  ordered = (ordered, tt);
 }
 
 -- the changes that follow others
@@ -51,6 +56,7 @@ pushes_both octets first second old middle new p q = record {
       q.texts ∙ ap (λ l. l ++ change_texts octets second) p.texts ∙ append_assoc (texts_of old) (change_texts octets first) (change_texts octets second)
       ∙ ap (λ l. texts_of old ++ l) (sym (texts_joined octets first second));
   continues = continues_both old middle new p.continues q.continues;
+  ordered = ordered_joined (length octets) first second p.ordered q.ordered;
 }
 
 -- tokens in order after an offset are so after a lesser one
@@ -116,6 +122,12 @@ module _ (octets : List ℕ) (records : List ZonemdEdit) (i : ℕ) (r d : Zonemd
       ∙ ap (λ l. texts_of old ++ l) (sym (texts_joined octets own more))
       ∙ ap (λ l. texts_of old ++ change_texts octets (all_changes octets l)) (sym next) ∙ before
 
+  pub ordered_after : {B : Type 0} (old new : List (Edit B)) → PushesChanges octets (zonemd_changes octets r) old new
+      → HaveTokensInOrder (length octets) (all_changes octets (drop (i + 1) records)) → HaveTokensInOrder (length octets) (all_changes octets (drop i records))
+  ordered_after old new p h =
+      subst (λ l. HaveTokensInOrder (length octets) (all_changes octets l)) (sym next)
+      (ordered_joined (length octets) (zonemd_changes octets r) (all_changes octets (drop (i + 1) records)) p.ordered h)
+
   pub error_after : (e : TokenError) → IsRecordError octets r.tokens.now e ⊎ IsAnyError octets (drop (i + 1) records) e → IsAnyError octets (drop i records) e
   error_after e h = subst (λ l. IsAnyError octets l e) (sym next) h
 
@@ -123,11 +135,13 @@ module _ (octets : List ℕ) (records : List ZonemdEdit) (i : ℕ) (r d : Zonemd
 pub pushed_all : {B : Type 0} (octets : List ℕ) (records : List ZonemdEdit) (i : ℕ) (first last : List (Edit B)) → length records ≤ i
     → spans_of last ++ change_spans octets (all_changes octets (drop i records)) ≡ spans_of first ++ change_spans octets (all_changes octets records)
     → texts_of last ++ change_texts octets (all_changes octets (drop i records)) ≡ texts_of first ++ change_texts octets (all_changes octets records)
-    → Continues first last → PushesChanges octets (all_changes octets records) first last
-pushed_all octets records i first last le spans texts continues =
+    → Continues first last → (HaveTokensInOrder (length octets) (all_changes octets (drop i records)) → HaveTokensInOrder (length octets) (all_changes octets records))
+    → PushesChanges octets (all_changes octets records) first last
+pushed_all octets records i first last le spans texts continues found =
     let rest = drop_of_length-le records le in
     record {
       spans = sym (append-nil (spans_of last)) ∙ ap (λ l. spans_of last ++ change_spans octets (all_changes octets l)) (sym rest) ∙ spans;
       texts = sym (append-nil (texts_of last)) ∙ ap (λ l. texts_of last ++ change_texts octets (all_changes octets l)) (sym rest) ∙ texts;
       continues = continues;
+      ordered = found (subst (λ l. HaveTokensInOrder (length octets) (all_changes octets l)) (sym rest) tt);
     }

@@ -1,5 +1,5 @@
 -- Lists of tokens, each replaced by one token.
-use Rattle.std.specs.Prelude.{⊤, ◌≡◌, ◌≤◌, ℕ, Bool, true, ◌==◌, if◌then◌else◌, nat_eq, List, [], ◌∷◌, ◌++◌}
+use Rattle.std.specs.Prelude.{⊤, ◌≡◌, ◌≤◌, ℕ, Bool, true, ◌==◌, if◌then◌else◌, nat_eq, List, [], ◌∷◌, ◌++◌, length}
 use Rattle.std.specs.Cmp.Lexicographic.{pointwise}
 use Rattle.std.specs.Fmt.{decimal}
 use Rattle.dns_codec.specs.Base.{base16, encoded}
@@ -30,11 +30,17 @@ abbrev pub changed_tokens : List Change → List Span
 changed_tokens [] = []
 changed_tokens (c ∷ changes) = c.tokens ++ changed_tokens changes
 
+-- the tokens of each change are in order
+abbrev pub HaveTokensInOrder : ℕ → List Change → Type 0
+HaveTokensInOrder count [] = ⊤
+HaveTokensInOrder count (c ∷ changes) = AreAfterTokens count 0 c.tokens × HaveTokensInOrder count changes
+
 -- the edits of changes are pushed after the old ones, and no others
 pub record PushesChanges {B : Type 0} (octets : List ℕ) (changes : List Change) (old new : List (Edit B)) : Type 0 where
   pub spans : spans_of new ≡ spans_of old ++ change_spans octets changes
   pub texts : texts_of new ≡ texts_of old ++ change_texts octets changes
   pub continues : Continues old new
+  pub ordered : HaveTokensInOrder (length octets) changes
 
 -- the same octets
 abbrev pub are_same : List ℕ → List ℕ → Bool
@@ -63,8 +69,3 @@ AreTokenSpans octets [] [] = ⊤
 AreTokenSpans octets (t ∷ tokens) [] = ⊥
 AreTokenSpans octets [] (s ∷ spans) = ⊥
 AreTokenSpans octets (t ∷ tokens) (s ∷ spans) = IsTokenSpan octets t s × AreTokenSpans octets tokens spans
-
--- the tokens of each change are in order
-abbrev pub HaveTokensInOrder : ℕ → List Change → Type 0
-HaveTokensInOrder count [] = ⊤
-HaveTokensInOrder count (c ∷ changes) = AreAfterTokens count 0 c.tokens × HaveTokensInOrder count changes

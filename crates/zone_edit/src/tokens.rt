@@ -1,6 +1,6 @@
 //! Replaces tokens by one token.
 ghost use Rattle.std.specs.Prelude.{◌≡◌, ◌∷◌, [], ◌++◌, ◌≤◌, ◌↔◌, ◌||◌, IfErr, IsTrue, OnErr, OnOk, false, length, map, not};
-ghost use Rattle.zone_edit.specs.Tokens.{Continues, IsAfterToken, IsTokenError, comment_continues, first_only, is_space, kept_len, no_text, PushesEdit, span_between, spans_of, stretches, removed_spans, texts_of};
+ghost use Rattle.zone_edit.specs.Tokens.{AreAfterTokens, Continues, IsAfterToken, IsTokenError, comment_continues, first_only, is_space, kept_len, no_text, PushesEdit, span_between, spans_of, stretches, removed_spans, texts_of};
 
 use crate::edit::Edit;
 use dns_lexer::pieces::Span;
@@ -103,6 +103,7 @@ fn append_taken_out<A: Allocator>(
     requires { after ≤ length octets.now }
     ensures made { OnOk result (out.new.items
         ≡ out.old.items ++ removed_spans octets.now after tokens.now) }
+    ensures ordered { OnOk result (AreAfterTokens (length octets.now) after tokens.now) }
     ensures err { IfErr result (IsTokenError (length octets.now) after tokens.now) }
 {
     let mut at = after;
@@ -125,6 +126,7 @@ fn append_stretches<A: Allocator>(
     out: &mut Vec<Span, A>,
 ) -> Result<(), TokenError>
     ensures made { OnOk result (out.new.items ≡ out.old.items ++ stretches octets.now tokens.now) }
+    ensures ordered { OnOk result (AreAfterTokens (length octets.now) 0 tokens.now) }
     ensures err { IfErr result (IsTokenError (length octets.now) 0 tokens.now) }
 {
     let Some((first, others)) = tokens.split_first() else {
@@ -187,6 +189,7 @@ pub fn push_token_edits<B: Allocator + Copy>(
     ensures texts { OnOk result (texts_of edits.new.items
         ≡ texts_of edits.old.items ++ first_only text.items (stretches octets.now tokens.now)) }
     ensures continues { OnOk result (Continues edits.old.items edits.new.items) }
+    ensures ordered { OnOk result (AreAfterTokens (length octets.now) 0 tokens.now) }
     ensures err { IfErr result (IsTokenError (length octets.now) 0 tokens.now) }
     ensures unchanged { OnErr result (edits.new.items ≡ edits.old.items) }
 {

@@ -1,5 +1,5 @@
 use Rattle.std.proofs.Common.{inr}
-use Rattle.zone_edit.proofs.Changes.{error_after, spans_after, texts_after}
+use Rattle.zone_edit.proofs.Changes.{error_after, ordered_after, spans_after, texts_after}
 use Rattle.zone_edit.proofs.Pushing.{continues_both}
 use Rattle.zone_edit.proofs.zonemd.push_records.Goals as goal
 
@@ -17,5 +17,6 @@ loop-one-preserved g c =
       spans = spans_after octets records i r r c.loop-one-test.true c.one-item.is first old new p c.loop-one.invariant.spans;
       texts = texts_after octets records i r r c.loop-one-test.true c.one-item.is first old new p c.loop-one.invariant.texts;
       continues = continues_both first old new c.loop-one.invariant.continues p.continues;
+      ordered = λ h. c.loop-one.invariant.ordered (ordered_after octets records i r r c.loop-one-test.true c.one-item.is old new p h);
       error = λ e h. c.loop-one.invariant.error e (error_after octets records i r r c.loop-one-test.true c.one-item.is e (inr h));
     }
