@@ -224,9 +224,11 @@ pub fn push_serial_edits<B: Allocator + Copy>(
     ensures unchanged { OnErr result (edits.new.items ≡ edits.old.items) }
 {
     let before = edits.len();
-    let answer = push_soas(alloc, soas, serial, edits);
-    if answer.is_err() {
-        edits.truncate(before);
+    match push_soas(alloc, soas, serial, edits) {
+        Ok(()) => Ok(()),
+        Err(error) => {
+            edits.truncate(before);
+            Err(error)
+        }
     }
-    answer
 }

@@ -161,9 +161,11 @@ pub fn push_zonemd_edits<B: Allocator + Copy>(
     ensures unchanged { OnErr result (edits.new.items ≡ edits.old.items) }
 {
     let before = edits.len();
-    let answer = push_records(alloc, octets, records, edits);
-    if answer.is_err() {
-        edits.truncate(before);
+    match push_records(alloc, octets, records, edits) {
+        Ok(()) => Ok(()),
+        Err(error) => {
+            edits.truncate(before);
+            Err(error)
+        }
     }
-    answer
 }
