@@ -29,21 +29,28 @@ chosen_second : {B : Type 0} (octets : List ℕ) (b : Bool) (first second : List
     → PushesChanges octets (if b then first else second) old new
 chosen_second octets b first second old new is p = subst (λ t. PushesChanges octets (if t then first else second) old new) (sym is) p
 
-module _ {B : Type 0} (octets : List ℕ) (edits new_edits : List (Edit B)) where
-  -- a number
+-- nothing changes
+module _ {B : Type 0} (octets : List ℕ) (edits : List (Edit B)) where
   pub number_same : (token : Span) (old new : ℕ) → old ≡ new → PushesChanges octets (number_changes token old new) edits edits
   number_same token old new is = chosen_first octets (old == new) [] (change (token ∷ []) (decimal new) ∷ []) edits edits (eq-eqb old new is) (pushes_none octets edits)
 
+  pub hex_same : (tokens : List Span) (old new : List ℕ) (b : Bool) → b ≡ are_same old new → b ≡ true → PushesChanges octets (hex_changes tokens old new) edits edits
+  hex_same tokens old new b is t =
+      chosen_first octets (are_same old new) [] (change tokens (encoded base16 new) ∷ []) edits edits (sym is ∙ t) (pushes_none octets edits)
+
+  pub record_same : (z : ZonemdEdit) (b : Bool) → b ≡ is_same_zonemd z.before z.after → b ≡ true → PushesChanges octets (zonemd_changes octets z) edits edits
+  record_same z b is t =
+      chosen_first octets (is_same_zonemd z.before z.after) []
+      (if is_generic octets z.tokens.now then generic_changes z.tokens.now z.after else field_changes z.tokens.now z.before z.after) edits edits (sym is ∙ t) (pushes_none octets edits)
+
+module _ {B : Type 0} (octets : List ℕ) (edits new_edits : List (Edit B)) where
+  -- a number changes
   pub number_other : (token : Span) (old new : ℕ) → (old ≡ new → ⊥) → PushesChanges octets (change (token ∷ []) (decimal new) ∷ []) edits new_edits
       → PushesChanges octets (number_changes token old new) edits new_edits
   number_other token old new other p =
       chosen_second octets (old == new) [] (change (token ∷ []) (decimal new) ∷ []) edits new_edits (not_true (old == new) (λ e. other (eqb-true old new e))) p
 
-  -- hexadecimal digits, by what a comparison returned
-  pub hex_same : (tokens : List Span) (old new : List ℕ) (b : Bool) → b ≡ are_same old new → b ≡ true → PushesChanges octets (hex_changes tokens old new) edits edits
-  hex_same tokens old new b is t =
-      chosen_first octets (are_same old new) [] (change tokens (encoded base16 new) ∷ []) edits edits (sym is ∙ t) (pushes_none octets edits)
-
+  -- hexadecimal digits change, by what a comparison returned
   pub hex_other : (tokens : List Span) (old new : List ℕ) (b : Bool) → b ≡ are_same old new → b ≡ false → PushesChanges octets (change tokens (encoded base16 new) ∷ []) edits new_edits
       → PushesChanges octets (hex_changes tokens old new) edits new_edits
   hex_other tokens old new b is f p = chosen_second octets (are_same old new) [] (change tokens (encoded base16 new) ∷ []) edits new_edits (sym is ∙ f) p
@@ -64,10 +71,6 @@ module _ {B : Type 0} (octets : List ℕ) (edits new_edits : List (Edit B)) wher
       (pushes_both octets (number_changes serial old.serial new.serial) (hex_changes digest old.digest.now new.digest.now) edits middle new_edits p q)
 
   -- a record, by what two tests returned
-  pub record_same : (z : ZonemdEdit) (b : Bool) → b ≡ is_same_zonemd z.before z.after → b ≡ true → PushesChanges octets (zonemd_changes octets z) edits edits
-  record_same z b is t =
-      chosen_first octets (is_same_zonemd z.before z.after) []
-      (if is_generic octets z.tokens.now then generic_changes z.tokens.now z.after else field_changes z.tokens.now z.before z.after) edits edits (sym is ∙ t) (pushes_none octets edits)
 
   record_other : (z : ZonemdEdit) (b : Bool) → b ≡ is_same_zonemd z.before z.after → b ≡ false
       → PushesChanges octets (if is_generic octets z.tokens.now then generic_changes z.tokens.now z.after else field_changes z.tokens.now z.before z.after) edits new_edits
