@@ -12,9 +12,9 @@ abbrev pub one_more : ℕ → ℕ
 one_more n = min (n + 1) (2 ^ 64 - 1)
 
 -- a zone is left out for a reason: its number is one more, and the others are the same
-abbrev pub with_left_out : LeftOutCounts → LeftOut → LeftOutCounts
-with_left_out c OtherType = record c { other_type = one_more c.other_type }
-with_left_out c InView = record c { in_view = one_more c.in_view }
-with_left_out c Database = record c { database = one_more c.database }
-with_left_out c Format = record c { format = one_more c.format }
-with_left_out c Template = record c { template = one_more c.template }
+abbrev pub omission_counted : LeftOutCounts → LeftOut → LeftOutCounts
+omission_counted c OtherType = record c { other_type = one_more c.other_type }
+omission_counted c InView = record c { in_view = one_more c.in_view }
+omission_counted c Database = record c { database = one_more c.database }
+omission_counted c Format = record c { format = one_more c.format }
+omission_counted c Template = record c { template = one_more c.template }

@@ -1,6 +1,6 @@
 //! Numbers of zones that are left out.
 ghost use Rattle.std.specs.Prelude.{◌≡◌};
-ghost use Rattle.server_config.specs.LeftOutCounts.{no_counts, with_left_out};
+ghost use Rattle.server_config.specs.LeftOutCounts.{no_counts, omission_counted};
 
 use crate::settings::LeftOut;
 
@@ -30,7 +30,7 @@ impl LeftOutCounts {
 
     /// Returns the counts with one more zone that is left out. From 2^64 - 1 on they stay.
     pub fn counted(self, reason: LeftOut) -> LeftOutCounts
-        ensures { result ≡ with_left_out self reason }
+        ensures { result ≡ omission_counted self reason }
     {
         match reason {
             LeftOut::OtherType => LeftOutCounts {
