@@ -132,8 +132,11 @@ def why(kind, text, part, reason, place, origin=EXAMPLE):
     # (what an entry lacks is refused where its last token ends)
     if reason == b"unexpected end of entry":
         place = end_of_tokens(text)
+    # (a missing parameter is an error of all of the RDATA)
+    if not reason.startswith(b"mandatory names "):
+        reason = part.encode() + b": " + reason
     # The reason is encoded already.
-    return ("data.why", kind, field_of(text), field_of(origin), f"!{kind} {part}: {reason.decode()}|{place}")
+    return ("data.why", kind, field_of(text), field_of(origin), f"!{kind}: {reason.decode()}|{place}")
 
 
 def printed(kind, text, wanted):

@@ -1,4 +1,3 @@
-pub mod Digests
 pub mod Mistakes
 pub mod Rows
 pub mod Similar

@@ -6,11 +6,9 @@
 //!   conflict marker, a quotation mark.
 //! - [`similar`] finds names that differ little from another, and [`ascii`] the ASCII form of a
 //!   name.
-//! - [`digests`] names digest types.
 #![tactic(auto)]
 
 pub mod ascii;
-pub mod digests;
 pub mod mistakes;
 pub mod similar;
 pub mod word;

@@ -1,9 +1,11 @@
 //! The owner and the type of the record that a finding is about, as they are shown.
 use crate::reporter::Said;
 use crate::zone_files::Entry;
+use arrayvec::ArrayVec;
 use dns_lexer::entry_tokens::EntryToken;
 use dns_octets::AsOctets;
 use dns_wire::{DisplayWithDot, Name};
+use error_texts::buffer::MOST;
 use finding_texts::word::push_word;
 use rdata_values::RecordType;
 use std::alloc::{AllocError, Global};
@@ -25,6 +27,11 @@ pub struct Text {
     pub message: String,
     pub help: String,
     pub note: String,
+}
+
+/// Returns the text of an error as a string. All of them are ASCII.
+pub fn text_of(text: &ArrayVec<u8, MOST>) -> &str {
+    str::from_utf8(text.as_slice()).unwrap_or("")
 }
 
 /// Returns a token in single quotes, as messages show it.
