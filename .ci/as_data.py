@@ -468,7 +468,7 @@ def composed(row):
 # Converts the rows of each call.
 FORMS = {
     "field.plain": field_read, "field.quoted": field_read, "field.print": field_print, "field.width": field_width,
-    "fields.take": fields_take, "fields.each": fields_each, "loc.octets": location, "loc.print": location,
+    "fields.parse": fields_take, "fields.each": fields_each, "loc.octets": location, "loc.print": location,
     "name.spell": name_spell, "charstr.compose": composed,
     **{f"apl.{it}": prefixes for it in ("item", "print", "width")},
     **{f"bitmap.{it}": bitmap for it in ("compose", "parse")},

@@ -4,7 +4,7 @@ ghost use Rattle.rdata_values.specs.declared.error.ErrorKind.TheVariants.{ShortB
 ghost use Rattle.dns_text_c.specs.Capacity.{ErrorLacksRoom};
 ghost use Rattle.dns_text_c.specs.Reasons.{ReportsError, ReportsReason, refusal_of_data, refusal_of_entry, refusal_of_head, syntax_of};
 
-use crate::outcome::{Fault, Outcome, Refusal, give_cut, number_of, refuse};
+use crate::outcome::{Fault, Outcome, Refusal, number_of, refuse, write_prefix};
 use crate::tokens::refusal_of_wrong;
 use dns_lexer::pieces::Wrong;
 use error_texts::errors::error_text;
@@ -87,7 +87,7 @@ fn report_reason(error: &RecordError, octets: &mut [u8], outcome: &mut Outcome) 
 {
     let reason = error_text(error);
     *outcome = Outcome {
-        length: give_cut(reason.as_slice(), octets),
+        length: write_prefix(reason.as_slice(), octets),
         place: error.offset,
     };
     number_of(refusal_of_entry(error.rtype, error.kind))

@@ -3,7 +3,7 @@ ghost use Rattle.std.specs.Prelude.{◌≡◌};
 ghost use Rattle.dns_text_c.specs.Reports.{CopiesWhole};
 ghost use Rattle.dns_text_c.specs.Status.{status_text};
 
-use crate::outcome::{Outcome, give};
+use crate::outcome::{Outcome, copy_whole};
 use dns_lexer::pieces::Wrong;
 use error_texts::kinds::{kind_text, syntax_kind_text};
 use rdata_values::ErrorKind;
@@ -58,5 +58,5 @@ pub fn status_text(status: u32) -> &'static str
 pub extern "C" fn dnstext_status_text(status: u32, text: &mut [u8], outcome: &mut Outcome) -> u32
     ensures { CopiesWhole (status_text status) text.old result text.new outcome.new }
 {
-    give(status_text(status).as_bytes(), text, outcome)
+    copy_whole(status_text(status).as_bytes(), text, outcome)
 }

@@ -232,7 +232,7 @@ pub fn is_gateway_key(octets: &[u8]) -> bool
 }
 
 /// Returns the length in octets of the gateway, which comes after its type and an algorithm.
-pub fn gateway_front(octets: &[u8]) -> usize
+pub fn key_gateway_width(octets: &[u8]) -> usize
     requires { (gateway_key_form None).is_wire octets.now }
     ensures size { result ≡ gateway_size (slice_index octets.now 0) (drop 2 octets.now) }
     ensures wire { (gateway_form None (slice_index octets.now 0)).is_wire

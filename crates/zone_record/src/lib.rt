@@ -11,7 +11,7 @@ pub mod data;
 pub mod embedded_names;
 pub mod error;
 pub mod fields;
-mod fronts;
+mod first_field;
 pub mod key_names;
 pub mod keys;
 pub mod laws;

@@ -16,7 +16,7 @@ ghost use Rattle.rdata.specs.Wire.{BeginsWithFields};
 
 use dns_codec::{base16, base64};
 use dns_zone::zonefile_fmt::{self, FormatWriter, Formatter};
-use rdata::gateways::{NAME, gateway_front};
+use rdata::gateways::{NAME, key_gateway_width};
 use rdata::{FieldText, Rest, Shape, has_no_text};
 use rdata_fields::{Field, field_width};
 use rdata_svcb::{ParamText, Params};
@@ -25,7 +25,7 @@ use rdata_tokens::{DigitsKind, NameText, QuotedOctets};
 use rdata_values::{BitmapTypes, PortableType};
 
 /// Returns the length in octets of the field that octets begin with.
-fn front_width(field: Field, octets: &[u8]) -> usize
+fn first_width(field: Field, octets: &[u8]) -> usize
     requires { (rest : List ℕ) × BeginsWithFields (field ∷ []) octets.now rest }
     ensures size { result ≡ field_size field octets.now }
     ensures wire { (field_form None field).is_wire (take result octets.now) }
@@ -160,7 +160,7 @@ fn write_gateway_key<F: FormatWriter>(octets: &[u8], p: &mut F) -> zonefile_fmt:
     ensures fails { FailsInTokens F.blocks F.step_gives F.step_fails p.old
         ((gateway_key_form None).printed octets.now) result }
 {
-    let width = gateway_front(octets);
+    let width = key_gateway_width(octets);
     let number = octets[0];
     let rest = &octets[2..];
     p.write_token(number)?;
@@ -218,7 +218,7 @@ fn write_parts<F: FormatWriter>(shape: &Shape, octets: &[u8], p: &mut F) -> zone
 {
     let mut rest = octets;
     for field in shape.fields {
-        let width = front_width(*field, rest);
+        let width = first_width(*field, rest);
         p.write_token(FieldText {
             field: *field,
             octets: &rest[..width],

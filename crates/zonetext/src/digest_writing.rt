@@ -37,7 +37,7 @@ pub struct DigestWriteOptions {
 #[derive(Drop)]
 enum DigestWriteError {
     /// Entries are rejected, or a file can't be read, with this status, and that was reported.
-    Told(u8),
+    Reported(u8),
     NoSoa,
     NoSingleSoa,
     /// The SOA or a digest is in an included file.
@@ -196,7 +196,7 @@ impl<'p> Plan<'p> {
     }
 
     /// Reports what happens to a digest.
-    fn tell(&mut self, zonemd: &Zonemd<'_>, what: &str) -> Result<(), AllocError> {
+    fn report(&mut self, zonemd: &Zonemd<'_>, what: &str) -> Result<(), AllocError> {
         let (serial, scheme, hash) = (zonemd.serial, zonemd.scheme, zonemd.hash);
         writeln!(&mut self.lines, "ZONEMD {serial} {scheme} {hash}: {what}")
     }
@@ -247,7 +247,7 @@ impl<'p> Plan<'p> {
         };
         let right = right_of(self.alloc, apex, set, algorithm)?;
         if right.as_slice() == one.record.data.as_slice() {
-            self.tell(&old, "matches")?;
+            self.report(&old, "matches")?;
             return Ok(());
         }
         self.write(one.tokens.as_slice(), &old, right.as_slice())
@@ -268,7 +268,7 @@ impl<'p> Plan<'p> {
         };
         let why = unknown_text(old);
         let text = format!(in self.alloc; "{why}, left as it is{serial}")?;
-        self.tell(old, text.as_str())?;
+        self.report(old, text.as_str())?;
         Ok(())
     }
 
@@ -286,7 +286,7 @@ impl<'p> Plan<'p> {
             return Err(DigestWriteError::RunError(RunError::Damaged));
         };
         self.change(tokens, old, &new, right)?;
-        self.tell(&new, "written")?;
+        self.report(&new, "written")?;
         Ok(())
     }
 
@@ -328,7 +328,7 @@ impl<'p> Plan<'p> {
             .push(Edit { start, end, text })
             .map_err(AllocError::from)?;
         self.is_added = true;
-        self.tell(&new, "added")?;
+        self.report(&new, "added")?;
         Ok(())
     }
 }
@@ -425,7 +425,7 @@ fn write(
     let original = Original::find(rt, alloc, file, work.ignores_journal)?;
     let (gathered, found) = match find(rt, file, reading) {
         Ok(read) => read,
-        Err(status) => return Err(DigestWriteError::Told(status)),
+        Err(status) => return Err(DigestWriteError::Reported(status)),
     };
     let Some(seen) = &gathered.seen else {
         return Err(DigestWriteError::NoSoa);
@@ -478,7 +478,7 @@ fn refuse(rt: &HostRuntime, file: &str, why: DigestWriteError) -> io::Result<u8>
     let name = Shown(file);
     let mut status = EXIT_IO;
     match why {
-        DigestWriteError::Told(found) => status = found,
+        DigestWriteError::Reported(found) => status = found,
         DigestWriteError::NoSoa => eprintln!(rt; "zonetext: {name}: no SOA")?,
         DigestWriteError::NoSingleSoa => {
             eprintln!(rt; "zonetext: {name}: no single SOA at the zone's name")?;

@@ -4,7 +4,7 @@ use crate::gathered::Lowerer;
 use crate::locations::position_at;
 use crate::shown::Shown;
 use crate::stop::{RunError, exit_status};
-use crate::visit::{Outcome, Reading, TakeEntry, give_entries};
+use crate::visit::{EntryVisitor, Outcome, Reading, visit_entries};
 use crate::zone_files::Entry;
 use dns_lexer::pieces::Span;
 use dns_lexer::position::Position;
@@ -60,7 +60,7 @@ pub struct ZoneSerial {
 #[derive(Drop)]
 pub enum SerialError {
     /// Entries are rejected, or a file can't be read, with this status, and that was reported.
-    Told(u8),
+    Reported(u8),
     NoSoa,
     /// Two SOAs differ. The locations are those of the first and of another.
     Differing {
@@ -197,8 +197,8 @@ fn placed_soa(
     })
 }
 
-impl TakeEntry for SoaFinder {
-    fn take_entry(&mut self, entry: &Entry<'_>) -> Result<(), RunError> {
+impl EntryVisitor for SoaFinder {
+    fn process_entry(&mut self, entry: &Entry<'_>) -> Result<(), RunError> {
         let Some(given) = entry.record()? else {
             return Ok(());
         };
@@ -261,10 +261,10 @@ pub fn find_serial(
     let Outcome {
         status,
         seen,
-        taker,
-    } = give_entries(rt, &[file], reading, finder);
+        visitor,
+    } = visit_entries(rt, &[file], reading, finder);
     if status > 0 {
-        return Err(SerialError::Told(status));
+        return Err(SerialError::Reported(status));
     }
     let Some(seen) = seen else {
         return Err(SerialError::NoSoa);
@@ -274,7 +274,7 @@ pub fn find_serial(
         has_digest,
         has_signature,
         ..
-    } = taker;
+    } = visitor;
     check_equal(alloc, soas.as_slice())?;
     Ok(ZoneSerial {
         zone: seen.zone,

@@ -173,7 +173,7 @@ fn report_set(
 pub fn report(rt: &HostRuntime, file: &str, why: SerialError) -> io::Result<u8> {
     let name = Shown(file);
     match why {
-        SerialError::Told(status) => return Ok(status),
+        SerialError::Reported(status) => return Ok(status),
         SerialError::NoSoa => eprintln!(rt; "zonetext: {name}: no SOA")?,
         SerialError::Differing { first, other } => {
             eprintln!(rt; "{other}: error: SOA differs from that at {first}")?;

@@ -1,5 +1,5 @@
 //! The owner and the type of the record that a finding is about, as they are shown.
-use crate::reporter::Said;
+use crate::reporter::FindingText;
 use crate::zone_files::Entry;
 use arrayvec::ArrayVec;
 use dns_lexer::entry_tokens::EntryToken;
@@ -164,8 +164,8 @@ impl Text {
     }
 
     /// Returns the texts, without a record.
-    pub fn said(&self) -> Said<'_> {
-        Said {
+    pub fn finding_text(&self) -> FindingText<'_> {
+        FindingText {
             owner: "",
             rtype: "",
             message: self.message.as_str(),
@@ -258,8 +258,8 @@ impl Subject {
     }
 
     /// Returns a message about the record.
-    pub fn said<'s>(&'s self, message: &'s str, help: &'s str) -> Said<'s> {
-        Said {
+    pub fn finding_text<'s>(&'s self, message: &'s str, help: &'s str) -> FindingText<'s> {
+        FindingText {
             owner: self.owner.as_str(),
             rtype: self.rtype.as_str(),
             message,

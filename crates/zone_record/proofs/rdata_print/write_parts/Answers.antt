@@ -4,13 +4,13 @@ use Rattle.zone_record.proofs.PrintedFields.{front_field, rest_left, field_print
 use Rattle.zone_record.proofs.PrintedTokens.{on_err_of}
 use Rattle.zone_record.proofs.rdata_print.write_parts.Goals as goal
 
-pub front_width-width-requires : goal.front_width-width-requires
-front_width-width-requires g c =
+pub first_width-width-requires : goal.first_width-width-requires
+first_width-width-requires g c =
     let begins = c.loop-field.invariant.begins in
     front_field c.args.shape.now.fields.now c.loop-field.field-index _ c.loop-field.rest.now begins.0 (omega arith) begins.1
 
 pub slice_bounds-write_token-end : goal.slice_bounds-write_token-end
-slice_bounds-write_token-end g c = sym (length-take-le c.front_width-width.result c.loop-field.rest.now c.front_width-width.ensures.fits)
+slice_bounds-write_token-end g c = sym (length-take-le c.first_width-width.result c.loop-field.rest.now c.first_width-width.ensures.fits)
 
 pub write_rest-requires : goal.write_rest-requires
 write_rest-requires g c =
@@ -21,15 +21,15 @@ pub loop-field-preserved : goal.loop-field-preserved
 loop-field-preserved g c =
     let begins = c.loop-field.invariant.begins in
     let next =
-    field_printed _ _ _ _ c.args.shape.now.fields.now c.loop-field.field-index c.args.shape.now.rest _ c.loop-field.rest.now begins.0 c.front_width-width.result _ _ _ (omega arith)
-    c.front_width-width.ensures.size refl begins.1 c.loop-field.invariant.printed c.in_ok-write_token.ensures.blocks c.in_ok-write_token.ensures.gives in
+    field_printed _ _ _ _ c.args.shape.now.fields.now c.loop-field.field-index c.args.shape.now.rest _ c.loop-field.rest.now begins.0 c.first_width-width.result _ _ _ (omega arith)
+    c.first_width-width.ensures.size refl begins.1 c.loop-field.invariant.printed c.in_ok-write_token.ensures.blocks c.in_ok-write_token.ensures.gives in
     record { printed = next.0; begins = (begins.0, next.1, begins.2) }
 
 pub returns-in_err-write_token-clause-fails : goal.returns-in_err-write_token-clause-fails
 returns-in_err-write_token-clause-fails g c =
     on_err_of c.from_residual.result
-    (field_failed _ _ _ _ c.args.shape.now.fields.now c.loop-field.field-index c.args.shape.now.rest _ _ c.loop-field.rest.now c.front_width-width.result _ (omega arith)
-    c.front_width-width.ensures.size c.loop-field.invariant.printed c.in_err-write_token.ensures.fails)
+    (field_failed _ _ _ _ c.args.shape.now.fields.now c.loop-field.field-index c.args.shape.now.rest _ _ c.loop-field.rest.now c.first_width-width.result _ (omega arith)
+    c.first_width-width.ensures.size c.loop-field.invariant.printed c.in_err-write_token.ensures.fails)
 
 pub returns-clause-gives : goal.returns-clause-gives
 returns-clause-gives g c =

@@ -5,7 +5,7 @@ use Rattle.dns_wire.proofs.Wires.{is_nil}
 use Rattle.rdata.specs.PrefixLists.{IsPrefixItem, prefix_form, prefixes_form}
 use Rattle.rdata.specs.TokenForms.{AreParts, printed_each}
 use Rattle.rdata.proofs.PlacesBack.{next_item, no_more_items}
-use Rattle.rdata.proofs.PrefixListLaws.{behind_item, is_some, items_begin, no_items}
+use Rattle.rdata.proofs.PrefixListLaws.{after_item, is_some, items_begin, no_items}
 use Rattle.zone_record.proofs.PrintedTokens.{HasPrinted, none_printed, more_printed, all_printed, next_failed, on_err_of}
 use Rattle.zone_record.proofs.rdata_print.write_prefixes.Goals as goal
 
@@ -33,7 +33,7 @@ loop-rest-preserved g c =
     let left = sym (rest_of c.in-Some.width rest) in (
       next.fewer,
       subst (λ (r : List ℕ). length r ≤ next.fewer) left next.enough,
-      subst (AreParts IsPrefixItem) left (behind_item rest c.in-Some.ensures.0 c.in-Some.width c.in-Some.ensures.1 (is_some rest some) i.2),
+      subst (AreParts IsPrefixItem) left (after_item rest c.in-Some.ensures.0 c.in-Some.width c.in-Some.ensures.1 (is_some rest some) i.2),
       subst (λ (r : List ℕ). HasPrinted blocks gives c.args.p.now (prefixes_form.printed c.args.octets.now) (printed_each prefix_form next.fewer r) c.write_token.new.self) left
           (more_printed _ _ _ _ _ _ _ _ _ i.3 next.is c.in_ok-write_token.ensures.blocks c.in_ok-write_token.ensures.gives),
     )
