@@ -1,18 +1,18 @@
 -- The texts of statuses.
 use Rattle.std.specs.Prelude.{ℕ, ◌==◌, if◌then◌else◌, List, codes, None}
 use Rattle.dns_lexer.specs.declared.pieces.Wrong.TheVariants.{Closing, OpenParenthesis, OpenQuote, LoneReturn, BadEscape}
-use Rattle.error_texts.specs.Errors.{kind_text, syntax_kind_text}
+use Rattle.error_texts.specs.Errors.{kind_text, syntax_error_text}
 use Rattle.rdata_values.specs.declared.error.ErrorKind.TheVariants.{ExpectedTtl, UnknownType, UnknownClass, NotSupported, NoOrigin, NoOwner, RefusedOwner, NoTtl}
 
 -- the text of a status, by its number; of errors that have a kind or are of the syntax, the text of these
 abbrev pub status_text : ℕ → List ℕ
 status_text n =
     if n == 0 then codes "well" else (if n == 1 then codes "nothing is left" else (if n == 2 then codes "no room" else (
-    if n == 3 then syntax_kind_text BadEscape else (if n == 4 then codes "unexpected end of data" else (
+    if n == 3 then syntax_error_text BadEscape else (if n == 4 then codes "unexpected end of data" else (
     if n == 5 then codes "illegal UTF-8 sequence" else (if n == 6 then codes "octet outside printable ASCII" else (
     if n == 7 then codes "too many octets" else (if n == 8 then codes "not of the encoding" else (
-    if n == 9 then syntax_kind_text Closing else (if n == 10 then syntax_kind_text OpenParenthesis else (
-    if n == 11 then syntax_kind_text (OpenQuote 0) else (if n == 12 then syntax_kind_text LoneReturn else (
+    if n == 9 then syntax_error_text Closing else (if n == 10 then syntax_error_text OpenParenthesis else (
+    if n == 11 then syntax_error_text (OpenQuote 0) else (if n == 12 then syntax_error_text LoneReturn else (
     if n == 13 then codes "cursor past the end" else (if n == 14 then codes "label without octets" else (
     if n == 15 then codes "more than 63 octets in a label" else (if n == 16 then codes "binary label" else (
     if n == 17 then codes "unknown type of label" else (if n == 18 then codes "pointer in place of a label" else (

@@ -5,7 +5,7 @@ ghost use Rattle.dns_text_c.specs.Status.{status_text};
 
 use crate::outcome::{Outcome, copy_whole};
 use dns_lexer::pieces::Wrong;
-use error_texts::kinds::{kind_text, syntax_kind_text};
+use error_texts::kinds::{kind_text, syntax_error_text};
 use rdata_values::ErrorKind;
 
 /// Returns the text of a status, in a few words.
@@ -16,16 +16,16 @@ pub fn status_text(status: u32) -> &'static str
         0 => "well",
         1 => "nothing is left",
         2 => "no room",
-        3 => syntax_kind_text(Wrong::BadEscape),
+        3 => syntax_error_text(Wrong::BadEscape),
         4 => "unexpected end of data",
         5 => "illegal UTF-8 sequence",
         6 => "octet outside printable ASCII",
         7 => "too many octets",
         8 => "not of the encoding",
-        9 => syntax_kind_text(Wrong::Closing),
-        10 => syntax_kind_text(Wrong::OpenParenthesis),
-        11 => syntax_kind_text(Wrong::OpenQuote(0)),
-        12 => syntax_kind_text(Wrong::LoneReturn),
+        9 => syntax_error_text(Wrong::Closing),
+        10 => syntax_error_text(Wrong::OpenParenthesis),
+        11 => syntax_error_text(Wrong::OpenQuote(0)),
+        12 => syntax_error_text(Wrong::LoneReturn),
         13 => "cursor past the end",
         14 => "label without octets",
         15 => "more than 63 octets in a label",

@@ -12,12 +12,12 @@ use Rattle.rdata_values.specs.declared.error.ErrorKind.TheVariants.{MissingParam
 use Rattle.rdata_values.specs.declared.types.RecordType.{RecordType}
 
 -- an escape has the same text as in RDATA
-abbrev pub syntax_kind_text : Wrong → List ℕ
-syntax_kind_text WrongEscape = codes "illegal escape sequence"
-syntax_kind_text wrong = syntax_text wrong
+abbrev pub syntax_error_text : Wrong → List ℕ
+syntax_error_text WrongEscape = codes "illegal escape sequence"
+syntax_error_text wrong = syntax_text wrong
 
 abbrev pub common_kind_text : ErrorKind → List ℕ
-common_kind_text (Syntax wrong) = syntax_kind_text wrong
+common_kind_text (Syntax wrong) = syntax_error_text wrong
 common_kind_text kind = error_kind_text kind
 
 -- entries are parsed with a capacity of 65,535 octets, which only longer RDATA and the name of a file to include exceed (RFC 1035 sections 3.2.1 and 5.1)

@@ -1,5 +1,5 @@
 //! The texts of errors that name a number of octets, or an escape.
-ghost use Rattle.std.specs.Prelude.{◌≡◌, ◌++◌, codes, option_copied, take};
+ghost use Rattle.std.specs.Prelude.{◌≡◌, ◌++◌, codes, decimal, option_copied, take};
 ghost use Rattle.error_texts.specs.Buffer.{AppendsCut};
 ghost use Rattle.error_texts.specs.Contents.{digest_text, high_escape_text, in_parentheses, length_text, long_string_text};
 ghost use Rattle.error_texts.specs.Digests.{digest_name};

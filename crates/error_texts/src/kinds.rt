@@ -1,13 +1,13 @@
 //! What is wrong, for each kind of error.
 ghost use Rattle.std.specs.Prelude.{◌≡◌};
-ghost use Rattle.error_texts.specs.Errors.{common_kind_text, data_kind_text, entry_kind_text, kind_text, syntax_kind_text};
+ghost use Rattle.error_texts.specs.Errors.{common_kind_text, data_kind_text, entry_kind_text, kind_text, syntax_error_text};
 
 use dns_lexer::pieces::Wrong;
 use rdata_values::{ErrorKind, RecordType};
 
 /// Returns the text of a syntax error. An escape has the same text as in RDATA.
-pub fn syntax_kind_text(wrong: Wrong) -> &'static str
-    ensures { result.now ≡ syntax_kind_text wrong }
+pub fn syntax_error_text(wrong: Wrong) -> &'static str
+    ensures { result.now ≡ syntax_error_text wrong }
 {
     match wrong {
         Wrong::BadEscape => "illegal escape sequence",
@@ -20,7 +20,7 @@ fn common_kind_text(kind: ErrorKind) -> &'static str
     ensures { result.now ≡ common_kind_text kind }
 {
     match kind {
-        ErrorKind::Syntax(wrong) => syntax_kind_text(wrong),
+        ErrorKind::Syntax(wrong) => syntax_error_text(wrong),
         _ => kind.as_str(),
     }
 }

@@ -4,7 +4,7 @@ use crate::pair::compare_files;
 use crate::progress::Progress;
 use crate::shown::Shown;
 use crate::stop::EXIT_IO;
-use error_texts::kinds::syntax_kind_text;
+use error_texts::kinds::syntax_error_text;
 use std::io;
 use std::io::Write;
 use zonetext_lib::blocks::{Checker, ChunkError};
@@ -15,7 +15,7 @@ use zonetext_lib::writer::Output;
 
 /// Reports where a file is not a zone file, and returns the exit status.
 pub fn report(rt: &HostRuntime, file: &str, found: Found) -> io::Result<u8> {
-    let why = syntax_kind_text(found.fault.wrong);
+    let why = syntax_error_text(found.fault.wrong);
     let file = Shown(file);
     let (line, column) = (found.position.line, found.position.column);
     match found.opened {

@@ -8,7 +8,7 @@ use crate::zone_files::Entry;
 use dns_lexer::entry_tokens::EntryToken;
 use dns_lexer::pieces::{Fault, Wrong};
 use error_texts::contents::high_escape_text;
-use error_texts::kinds::syntax_kind_text;
+use error_texts::kinds::syntax_error_text;
 use finding_texts::ascii::ascii_name;
 use finding_texts::mistakes::{high_escape, quotation_mark};
 use rdata::type_row;
@@ -79,7 +79,7 @@ pub fn fault_text<'e>(
 
 /// Returns the text of a syntax error by its kind.
 fn plain_fault(alloc: Global, fault: Fault) -> Result<Text, AllocError> {
-    Text::worded(alloc, syntax_kind_text(fault.wrong), None)
+    Text::worded(alloc, syntax_error_text(fault.wrong), None)
 }
 
 /// Returns whether a finding about octets is about its file, and not about a record.
