@@ -132,8 +132,11 @@ def why(kind, text, part, reason, place, origin=EXAMPLE):
     # (what an entry lacks is refused where its last token ends)
     if reason == b"unexpected end of entry":
         place = end_of_tokens(text)
+    # (a missing parameter is an error of all of the RDATA)
+    if not reason.startswith(b"mandatory names "):
+        reason = part.encode() + b": " + reason
     # The reason is encoded already.
-    return ("data.why", kind, field_of(text), field_of(origin), f"!{kind} {part}: {reason.decode()}|{place}")
+    return ("data.why", kind, field_of(text), field_of(origin), f"!{kind}: {reason.decode()}|{place}")
 
 
 def printed(kind, text, wanted):
@@ -465,7 +468,7 @@ def composed(row):
 # Converts the rows of each call.
 FORMS = {
     "field.plain": field_read, "field.quoted": field_read, "field.print": field_print, "field.width": field_width,
-    "fields.take": fields_take, "fields.each": fields_each, "loc.octets": location, "loc.print": location,
+    "fields.parse": fields_take, "fields.each": fields_each, "loc.octets": location, "loc.print": location,
     "name.spell": name_spell, "charstr.compose": composed,
     **{f"apl.{it}": prefixes for it in ("item", "print", "width")},
     **{f"bitmap.{it}": bitmap for it in ("compose", "parse")},

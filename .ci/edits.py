@@ -7,8 +7,9 @@ of the check. So a crate needs one check of these functions and not one for each
 below must have been built before, by `rt ci` in a clean clone or by `rt check`.
 
 An edit has a line `refused: FUNCTION`, which names the function that it changes, and lines `file:`,
-`old:` and `new:` as for `rt must-fail`. First it is checked that each old text occurs once in its file;
-with --applies that is all.
+`old:` and `new:` as for `rt must-fail`. First it is checked that each old text occurs once in its file,
+and that its crate or one below it has each name of the new text: an edit that names what is gone doesn't
+compile, and shows nothing. With --applies that is all, also of the edits of must-fail/.
 
 With --since COMMIT only the crates that differ from a commit are tried, and a quarter of the others: the
 number of commits selects the quarter, so that every edit is tried within four merges. COMMIT can be
@@ -28,6 +29,14 @@ from dataclasses import dataclass
 ROOT = os.path.dirname(os.path.dirname(os.path.realpath(__file__)))
 # The message about a proof file that cites what an edit removed.
 STALE = re.compile(r"has no field|is not in scope|has no `|was not admitted")
+# Names of std and of the kit's crates that only edits use.
+OF_STD = set(
+    "MAX STD3 is_none is_some_and len_utf8 min saturating_add saturating_sub trim_end_matches truncate".split()
+)
+LITERAL = re.compile(r"\"(?:[^\"\\]|\\.)*\"|'(?:[^'\\]|\\[^u]|\\u\{\w+\})'|//.*")
+NAME = re.compile(r"(?<![\w'])[^\W\d]\w*")
+# What an edit declares: a variable, a function, a parameter of a closure.
+DECLARED = re.compile(r"\b(?:let|mut|for|fn|const|ref)\s+(\w+)|\|\s*(\w+)")
 
 
 @dataclass
@@ -79,11 +88,38 @@ def read_crates():
     return crates
 
 
-def edits_of(crate):
+def edits_of(crate, folder="edits"):
     """Returns the names of a crate's edits."""
-    folder = f"{ROOT}/crates/{crate}/edits"
+    folder = f"{ROOT}/crates/{crate}/{folder}"
     found = sorted(os.listdir(folder)) if os.path.isdir(folder) else []
     return [it.removesuffix(".edit") for it in found if it.endswith(".edit")]
+
+
+WORDS = {}
+
+
+def names_of(crate):
+    """Returns the names in the code and the definitions of a crate."""
+    if crate not in WORDS:
+        WORDS[crate] = set()
+        for kind in ("src", "specs"):
+            for folder, _, files in os.walk(f"{ROOT}/crates/{crate}/{kind}"):
+                for file in files:
+                    with open(f"{folder}/{file}", encoding="utf-8") as text:
+                        WORDS[crate].update(NAME.findall(text.read()))
+    return WORDS[crate]
+
+
+def names_within(crate, crates):
+    """Returns the names of a crate and of those below it."""
+    found, waiting, seen = set(OF_STD), [crate], set()
+    while waiting:
+        name = waiting.pop()
+        if name in crates and name not in seen:
+            seen.add(name)
+            found |= names_of(name)
+            waiting += crates[name][0]
+    return found
 
 
 def git(*words):
@@ -126,6 +162,7 @@ class Crate:
         if self.name not in crates or not found:
             stop(f"there is no crate or edit {wanted}")
         self.edits = [read_edit(f"{self.folder}/edits/{it}.edit") for it in found]
+        self.names = names_within(self.name, crates)
 
     def lacking(self):
         """Returns the first library below the crate that isn't built, or None."""
@@ -170,9 +207,17 @@ class Crate:
             )
         return ran.stdout
 
-    def fault(self, edit):
+    def unknown(self, edit):
+        """Returns a name of an edit's new texts that neither the crate nor one below it has, or None."""
+        texts = [LITERAL.sub(" ", new) for _, _, new in edit.changes]
+        declared = {name for text in texts for found in DECLARED.findall(text) for name in found}
+        names = [name for text in texts for name in NAME.findall(text)]
+        known = self.names | declared
+        return next((it for it in names if it not in known and it[0] != "_"), None)
+
+    def fault(self, edit, is_must_fail=False):
         """Returns why the edit can't be made, or None: each old text must occur once in the file as it is then."""
-        if not edit.function or not edit.changes:
+        if not (edit.function or is_must_fail) or not edit.changes:
             return "it has no line `refused:`, or changes nothing"
         texts = {}
         for file, old, new in edit.changes:
@@ -187,7 +232,8 @@ class Crate:
             if old == new:
                 return "it changes nothing"
             texts[file] = texts[file].replace(old, new)
-        return None
+        name = self.unknown(edit)
+        return f"its new text names {name}, which neither the crate nor one below it has" if name else None
 
     def told(self, edit, said):
         """Returns whether the function is rejected, and for which goals; or why it doesn't count as rejected."""
@@ -237,6 +283,10 @@ class Crate:
 def do_apply(crates):
     """Returns whether every edit can be made, and reports each that can't."""
     faults = [(it.name, edit, it.fault(edit)) for it in crates for edit in it.edits]
+    for it in crates:
+        for name in edits_of(it.name, "must-fail"):
+            edit = read_edit(f"{it.folder}/must-fail/{name}.edit")
+            faults.append((it.name, edit, it.fault(edit, is_must_fail=True)))
     for name, edit, why in faults:
         if why:
             print(f"{name}/{edit.name}: NOT TRIED: {why}")

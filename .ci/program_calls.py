@@ -120,22 +120,18 @@ NAMED = [
     (rb"digest of [0-9]+ octets; type .*", rb"wrong number of octets"),
     (rb"escape \\[0-9]{3} is above \\255", rb"illegal escape sequence|bad escape"),
 ]
-# Reasons whose message is about another token than the one at the error's offset, and names no field.
-ELSEWHERE = rb"mandatory names [^ ]+, which is missing"
+# A message about another token than the one at the error's offset.
+ELSEWHERE = rb"mandatory names (a key that is missing|[^ ]+, which is missing)"
 
 
 def says(message, reason):
-    """Whether a message, without owner, type and token, is a reason, which may have type and field before it."""
+    """Whether a message, without owner, type and token, is a reason, which may have the type before it."""
     for named, reasons in NAMED:
         if re.fullmatch(rb"(.*: )?" + named, message):
             return re.fullmatch(rb"(.*: )?(" + reasons + rb")", reason) is not None
     bare = re.sub(rb" '[^']*('[^']*)*'(\.\.)?$", b"", message)
-    kind, colon, why = reason.partition(b": ")
-    if re.fullmatch(ELSEWHERE, why):
-        return bare.endswith(b": " + why)
-    field = kind.partition(b" ")[2]
-    short = (field + b": " if field else b"") + why if colon else reason
-    return any(bare == it or bare.endswith(b": " + it) for it in (reason, short))
+    without_type = reason.partition(b": ")[2] or reason
+    return any(bare == it or bare.endswith(b": " + it) for it in (reason, without_type))
 
 
 def is_named(message):

@@ -2,37 +2,56 @@
 """Renames crates, modules and words over the whole repository, by the tables of .ci/renames.
 
 usage: .ci/rename.py [--dry-run] [--top FOLDER]
+       .ci/rename.py --left [--top FOLDER]
 
-Works on the files that git tracks at the top of a clean clone, and stages the result. The tables:
+Works on the files that git tracks at the top of a clean clone: code and contracts, specs/, proofs/ with
+their folders, edits/ and must-fail/, rows, scripts, C, Rust and pages. Lays out the crates by `rt fmt`, and
+stages the result. It can be applied to any tree that still has the old names. The tables:
 
 crates.tsv   the old and the new name of a crate. Crates with the same new name are joined, the first of
              them first. The heading is that of its README in the README of the joined crate.
-layers.tsv   the order of crates.txt, and the comment before the first crate of a layer
-splits.tsv   the modules of a crate that go to a crate of their own before all else
+layers.tsv   a crate that is in crates.txt after another one, if it isn't where it was
 modules.tsv  the modules of src/, specs/ and proofs/ with a new name
-words.tsv    names in code: `spec` is a name that specs/ exports, which is renamed where it is defined or
-             imported (a scope of a crate and a module is for a name that `data` or `record` has there);
-             `word` is any other identifier, renamed in the crates that are listed (`*`: all; crate/module:
-             one file of src/, and where the name is cited with its module); `C` is a word of the C
-             library, renamed in c/, rust/, bench/ and pages
+files.tsv    the old and the new path of other files; a dash removes the file
+words.tsv    names in code, each with the crates in which it is renamed (`*`: all; `crate/module`: one file
+             of src/ with its folder of proofs/, and where a name is cited with its module):
+             `spec` is a name that specs/ exports, which is renamed where it is defined or imported (a scope
+             of a crate and a module is for a name that `data` or `record` has there);
+             `word` is any other identifier;
+             `fn` is a function or a method that has the name of something else too: it is renamed where it
+             is defined, called, imported or cited by a proof;
+             `call` is such a function with arguments, where std has one without, as `take()`;
+             `row` is a call of the rows, renamed in all files as a whole word;
+             `C` is a word of the C library, renamed in c/, rust/, bench/ and pages
+In modules.tsv and words.tsv, `later` after the new name says that a tree may lack the old one.
 texts.tsv    other texts: a file (by its new path), the old text, which it has once after all else, and the
              new one; `\\n` is a line end
 *.md         pages that replace those of the repository
 
-A new name that a file has already as another word is reported, and so is a row that changes nothing.
+Reported are: a new name that a file has already as another word, a row that changes nothing, a name that a
+file imports and that nothing exports any more, a crate that crates.txt has twice or not at all, and a
+renamed function that is still called. --left lists the names in src/ that are built from the words of
+.ci/words.py, with their crates, and their number; it changes nothing.
 """
 import argparse
 import collections
 import pathlib
 import re
+import shutil
 import subprocess
 import sys
 
+sys.dont_write_bytecode = True
+from imports import unresolved
+
 HERE = pathlib.Path(__file__).resolve().parent / "renames"
 IDENTIFIER = r"[^\W\d][\w']*"
+# What follows a call in the goals of a proof.
+GOAL_PARTS = "ensures|requires|result|new|old|args|inside|view_is|is|field-\\d+-is"
 GHOST = re.compile(r"\bRattle\.(\w+)\.(specs|proofs)((?:\.[\w'-]+)+)")
 # An import from a module: its path, and either the names in braces or an alias.
 IMPORT = re.compile(r"\bRattle\.(\w+)\.specs\.([\w.]+?)(?:\.\{([^}]*)\}|\s+as\s+(\w+))")
+LEMMAS = re.compile(r"\bRattle\.(\w+)\.proofs\.[\w.+'-]+?\.\{([^}]*)\}")
 USE = re.compile(r"^([ \t]*)((?:pub(?:\([\w ]+\))? |ghost )*)use ([^;]+);", re.MULTILINE)
 
 
@@ -61,8 +80,9 @@ class Wave:
         self.used = set()
         self.crates = collections.OrderedDict((old, new) for old, new, *_ in table("crates.tsv"))
         self.headings = {row[0]: row[2] for row in table("crates.tsv") if len(row) > 2}
-        self.modules = {(crate, kind, old): new for crate, kind, old, new in table("modules.tsv")}
-        self.files = split_crates(files)
+        self.modules = {tuple(row[:3]): row[3] for row in table("modules.tsv")}
+        self.later = {row[2] for row in table("modules.tsv") if row[4:] == ["later"]}
+        self.files = files
         self.known = self.find_modules()
         self.parts = collections.defaultdict(list)
         for old in [*self.crates, *sorted(self.known)]:
@@ -71,12 +91,22 @@ class Wave:
         self.specs = collections.defaultdict(dict)  # (crate, module) -> old -> new
         self.words = collections.defaultdict(dict)  # crate -> old -> new
         self.in_files = collections.defaultdict(dict)  # (crate, module) -> old -> new
+        self.calls = collections.defaultdict(dict)  # crate, or (crate, module) -> old -> (new, kind)
+        self.rows = {}
         self.words_of_c = {}
+        self.moved = {old: new for old, new, *_ in table("files.tsv")}
         self.listed = []
         homes = spec_homes(self.files)
-        for scope, kind, old, new, *_ in table("words.tsv"):
+        for scope, kind, old, new, *more in table("words.tsv"):
+            if more == ["later"]:
+                self.later.add(old)
             if kind == "C":
                 self.words_of_c[old] = new
+            elif kind == "row":
+                self.rows[old] = new
+            elif kind in ("fn", "call"):
+                for crate in self.scope(scope):
+                    self.calls[crate][old] = (new, kind)
             elif kind == "spec" and "/" in scope:
                 self.specs[tuple(scope.split("/"))][old] = new
             elif kind == "spec":
@@ -86,11 +116,9 @@ class Wave:
                 if not home:
                     self.notes.append(f"words.tsv: no file of specs/ exports {old}")
             else:
-                for crate in self.known if scope == "*" else scope.split(","):
-                    if "/" in crate:
-                        self.in_files[tuple(crate.split("/", 1))][old] = new
-                    else:
-                        self.words[crate][old] = new
+                for crate in self.scope(scope):
+                    (self.in_files if isinstance(crate, tuple) else self.words)[crate][old] = new
+        self.listed_words = {scope: dict(words) for scope, words in [*self.words.items(), *self.in_files.items()]}
         self.add_impls()
         # Names that can be renamed in prose: those with one meaning.
         self.prose = {}
@@ -101,6 +129,24 @@ class Wave:
 
     def crate(self, old):
         return self.crates.get(old, old)
+
+    def scope(self, scope):
+        """Returns the crates and the (crate, module) of a scope."""
+        found = []
+        for it in self.known if scope == "*" else scope.split(","):
+            found.append(tuple(it.split("/", 1)) if "/" in it else it)
+            if isinstance(found[-1], str) and it not in self.known:
+                self.notes.append(f"words.tsv: there is no crate {it}")
+        return found
+
+    def calls_of(self, crate, module):
+        """Returns the functions with a new name in a module: by their old names, the new one and the kind."""
+        return {**self.calls.get(crate, {}), **self.calls.get((crate, module), {})}
+
+    def words_in(self, crate, module):
+        """Returns the new names of words and functions in a module, as the paths of proofs have them."""
+        calls = {old: new for old, (new, _) in self.calls_of(crate, module).items()}
+        return {**calls, **self.words.get(crate, {}), **self.in_files.get((crate, module), {})}
 
     def find_modules(self):
         """Returns the modules of src/ of each crate."""
@@ -146,13 +192,21 @@ class Wave:
             lead += self.module(crate, "src", "/".join(parts[:length])).split("/")
         elif (crate, "src", "lib") in self.modules:
             lead += self.modules[crate, "src", "lib"].split("/")
-        words = self.words.get(crate, {})
-        # (a folder `+name` is of a function that a macro writes)
-        new = lambda it: "+" + words.get(it[1:], it[1:]) if it[:1] == "+" else words.get(it, it)
+        words = self.words_in(crate, "/".join(parts[:length]))
+        # (a folder `+name` is of a recursive function)
+        kept = ("Goals", "Given", "Statement", "Code")
+
+        def new(it):
+            if it in kept and kind == "proofs":
+                return it
+            return "+" + words.get(it[1:], it[1:]) if it[:1] == "+" else words.get(it, it)
+
         return [*lead, *(new(it) for it in parts[length:])]
 
     def path(self, path):
         """Returns the new path of a file."""
+        if path in self.moved:
+            return self.moved[path]
         parts = path.split("/")
         if parts[0] != "crates" or len(parts) < 3 or parts[1] not in self.known:
             return path
@@ -174,8 +228,12 @@ class Wave:
         """Returns the new names of a file: of identifiers anywhere, and of the names of specs/ in scope."""
         crate = path.split("/")[1] if path.startswith("crates/") else ""
         anywhere = dict(self.words.get(crate, {}))
+        self.called = dict(self.calls.get(crate, {}))
+        for scope, words in self.calls.items():
+            if isinstance(scope, tuple) and is_file_of(path, *scope):
+                self.called.update(words)
         for (owner, module), words in self.in_files.items():
-            if path == f"crates/{owner}/src/{module}.rt" or path.startswith(f"crates/{owner}/proofs/{module}/"):
+            if is_file_of(path, owner, module):
                 anywhere.update(words)
             elif owner == crate and path.endswith(".rt"):
                 last = module.rsplit("/", 1)[-1]
@@ -185,6 +243,9 @@ class Wave:
         here = re.fullmatch(r"crates/(\w+)/specs/(.+)\.antt", path)
         if here:
             scoped.update(self.specs.get((here[1], here[2]), {}))
+        for it in LEMMAS.finditer(text):
+            words = self.words.get(it[1], {}) if it[1] != crate else {}
+            scoped.update({name: words[name] for name in re.findall(r"[\w'-]+", it[2]) if name in words})
         for it in IMPORT.finditer(text):
             words = self.specs.get((it[1], it[2]), {})
             if it[4]:
@@ -211,6 +272,29 @@ class Wave:
                 )
         if anywhere:
             text = re.sub(rf"(?<![\w'])({one_of(anywhere)})(?![\w'])", lambda it: anywhere[it[1]], text)
+        return text
+
+    def rename_calls(self, text, is_rt):
+        """Returns code with new names of functions that share their old name with something else."""
+        for old, (new, kind) in self.called.items():
+            name = re.escape(old)
+            if is_rt:
+                # its definition, calls, its path; and imports, below
+                text = re.sub(rf"\bfn {name}\b(?!')", f"fn {new}", text)
+                call = rf"(?<!\.iter\(\)\.)(?<![\w'])(?<!fn ){name}(?=\((?!\)))"
+                text = re.sub(call if kind == "call" else rf"(?<![\w']){name}(?=\()", new, text)
+                text = re.sub(rf"(?<=::){name}(?![\w'])", new, text)
+                part = rf"(?<![\w':]){name}(?![\w':])"
+                text = USE.sub(lambda it: it[0] if "ghost" in it[2] else re.sub(part, new, it[0]), text)
+                continue
+            text = re.sub(rf"(?<=\.){name}(?=(?:-[\w'-]+)?\.(?:{GOAL_PARTS})\b)", new, text)
+
+            def label(it):
+                if it[1] in ("drop", "append", "map", "length", "get_or") or it[0] in self.lemmas:
+                    return it[0]
+                return "-".join(new if part == old else part for part in it[0].split("-"))
+
+            text = re.sub(r"(?<![\w'-])([\w']+)(?:-[\w']+)+(?![\w'-])", label, text)
         return text
 
     def ghost_path(self, it):
@@ -297,11 +381,17 @@ class Wave:
 
     def rename_crates(self, text):
         """Returns text with the new paths of files and new names of crates."""
+        for old, new in self.moved.items():
+            if new != "-":
+                old, new = old.removeprefix("crates/"), new.removeprefix("crates/")
+                text = re.sub(rf"(?<![\w.-]){re.escape(old)}(?![\w-])", new, text)
         names = one_of(self.known)
         text = re.sub(
-            rf"(?<![\w.])(crates/)?({names})/((?:src|specs|proofs|edits)/[\w/.-]*\w)", self.file_path, text
+            rf"(?<![\w.])(crates/)?({names})/((?:src|specs|proofs|edits|must-fail)/[\w/.+-]*\w)", self.file_path, text
         )
         changed = {old: new for old, new in self.crates.items() if old != new and old in self.known}
+        if not changed:
+            return text
         return re.sub(rf"(?<![\w'])({one_of(changed)})(?![\w'])", lambda it: changed[it[1]], text)
 
     def file_path(self, it):
@@ -322,6 +412,7 @@ class Wave:
             )
         names = self.map_of(path, text)
         self.listed = self.listed_modules(text, crate) if is_rt else []
+        self.lemmas = set() if is_rt else imported_lemmas(text)
         self.check_new(path, text, names)
         mark = "//" if is_rt else "--"
         lines, code = [], []
@@ -343,13 +434,13 @@ class Wave:
         return "\n".join(lines)
 
     def rename_in_order(self, text, names, crate, path, is_rt):
-        text = self.rename_imports_first(text, names)
+        text = self.rename_imports_first(text, names, is_rt)
         if is_rt and crate:
             text = self.rename_uses(text, crate)
             text = self.rename_mods(text, path)
         return text
 
-    def rename_imports_first(self, text, names):
+    def rename_imports_first(self, text, names, is_rt):
         """Renames identifiers outside of paths, and the paths by their own rule."""
         # Paths are set aside, so that a word doesn't change a module of the same name.
         kept = []
@@ -364,7 +455,7 @@ class Wave:
 
         text = IMPORT.sub(lambda it: self.import_braces(it), text)
         text = GHOST.sub(aside, text)
-        text = self.rename_strings_aside(text, names)
+        text = self.rename_strings_aside(text, names, is_rt)
         return re.sub(r"\x00(\d+)\x01", back, text)
 
     def import_braces(self, it):
@@ -378,16 +469,17 @@ class Wave:
             names.append((words.get(plain, plain) if as_ else plain) + as_ + alias)
         return it[0].replace("{" + it[3] + "}", "{" + ", ".join(names) + "}")
 
-    def rename_strings_aside(self, text, names):
-        """Renames identifiers outside of strings."""
+    def rename_strings_aside(self, text, names, is_rt):
+        """Renames identifiers outside of strings, and those that a format string names in braces."""
         kept = []
 
         def aside(it):
-            kept.append(it[0])
+            kept.append(re.sub(r"\{(\w+)(?=[:}])", lambda name: "{" + names[0].get(name[1], name[1]), it[0]))
             return f"\x02{len(kept) - 1}\x03"
 
         text = re.sub(r'"(?:[^"\\\n]|\\.)*"', aside, text)
         text = self.rename_code(text, names)
+        text = self.rename_calls(text, is_rt)
         return re.sub(r"\x02(\d+)\x03", lambda it: kept[int(it[1])], text)
 
     def check_new(self, path, text, names):
@@ -395,6 +487,8 @@ class Wave:
         anywhere, scoped, _ = names
         mine = {**anywhere, **scoped}
         body = "\n".join(it for it in text.split("\n") if not it.lstrip().startswith(("--", "//")))
+        # (a module can have the name of a variable or a field)
+        body = re.sub(r"\b(?:crate|self)(?:::\w+)+|\bmod \w+;", " ", GHOST.sub(" ", body))
         words = set(re.findall(r"[^\W\d][\w']*", body))
         for old, new in mine.items():
             if old in words and new in words and new not in mine and old != new:
@@ -426,6 +520,7 @@ class Wave:
             elif word in ("old", "new") and colon and file in self.files:
                 names = self.map_of(file, self.files[file])
                 self.listed = self.listed_modules(self.files[file], crate)
+                self.lemmas = set()
                 part = self.rename_in_order(rest, names, crate, file, file.endswith(".rt"))
                 lines.append(f"{word}:{part}")
             else:
@@ -458,13 +553,17 @@ class Wave:
         return self.rename_crates(text)
 
     def any_file(self, path, text):
+        if path.startswith(".ci/renames/"):
+            return text
+        for old, new in self.rows.items():
+            text = re.sub(rf"(?<![\w.]){re.escape(old)}(?![\w.])", new, text)
         if path.startswith("crates/") and path.endswith((".rt", ".antt")):
             return self.code(path, text)
         if path.endswith(".edit"):
             return self.edit(path, text)
         if path.endswith(".md"):
             return self.page(path, text)
-        if path.startswith(".ci/renames/") or path.endswith(("/stdin", "/stdout")):
+        if path.endswith(("/stdin", "/stdout")) or path in self.moved:
             return text
         if path.endswith(".rt.in"):
             self.listed = []
@@ -500,6 +599,8 @@ class Wave:
         roots = collections.defaultdict(list)
         for path, text in self.files.items():
             new = self.path(path)
+            if new == "-":
+                continue
             if isinstance(text, bytes):
                 found[new], came[new] = text, path
                 continue
@@ -538,9 +639,47 @@ class Wave:
         for page in sorted(HERE.glob("*.md")):
             found[f"docs/{page.name}"] = page.read_text(encoding="utf-8")
         for key in self.modules:
-            if key not in self.used and key[0] in self.known:
+            if key not in self.used and key[0] in self.known and key[2] not in self.later:
                 self.notes.append("modules.tsv: nothing is " + " ".join(key))
+        self.check_words()
+        self.check_result(found)
         return found, came
+
+    def check_words(self):
+        """Notes the rows of words.tsv whose old name no file of their crates has."""
+        texts = collections.defaultdict(str)
+        for path, text in self.files.items():
+            if path.startswith("crates/") and isinstance(text, str):
+                texts[path.split("/")[1]] += text
+        for words in (self.listed_words, self.calls):
+            for scope, names in words.items():
+                crate = scope if isinstance(scope, str) else scope[0]
+                for old in names:
+                    if old not in self.later and not re.search(whole(old), texts[crate]):
+                        self.notes.append(f"words.tsv: {crate} has no {old}")
+        for path in self.moved:
+            if path not in self.files:
+                self.notes.append(f"files.tsv: there is no {path}")
+
+    def check_result(self, found):
+        """Notes what the result cites and doesn't have."""
+        known = set(unresolved(self.files))
+        self.notes += [it for it in unresolved(found) if it not in known]
+        for scope, names in self.calls.items():
+            crate = scope if isinstance(scope, str) else scope[0]
+            for path, text in found.items():
+                if not re.fullmatch(rf"crates/{self.crate(crate)}/src/.*\.rt", path):
+                    continue
+                if isinstance(scope, tuple) and path != self.path(f"crates/{crate}/src/{scope[1]}.rt"):
+                    continue
+                for old, (new, kind) in names.items():
+                    call = rf"\.{re.escape(old)}\((?!\))|(?<![\w.']){re.escape(old)}\("
+                    if re.search(rf"\bfn {re.escape(old)}\b", text) or kind == "fn" and re.search(call, text):
+                        self.notes.append(f"{path}: still has {old}, elsewhere {new}")
+        folders = {path.split("/")[1] for path in found if re.match(r"crates/\w+/src/", path)}
+        listed = [line.split()[0].rstrip(":") for line in found.get("crates.txt", "").split("\n") if ":" in line and line[0] != "#"]
+        for name in folders ^ set(listed):
+            self.notes.append(f"crates.txt: {name}")
 
     def join(self, new, parts):
         """Returns a file that several crates have, as one."""
@@ -566,7 +705,7 @@ class Wave:
         return "\n".join(lines)
 
     def crates_txt(self, text):
-        """Returns the list of crates in the order of layers.tsv."""
+        """Returns the list of crates."""
         deps, kinds = collections.defaultdict(list), {}
         for line in text.split("\n"):
             if line.startswith("#") or ":" not in line:
@@ -576,19 +715,39 @@ class Wave:
             new = self.crate(name)
             kinds[new] = kind
             deps[new] += below.split()
-        if "rdata_svcb" in self.known:
-            deps[self.crate("rdata_svcb")] += ["rdata_values", "rdata_values", "dns_octets"]
-        lines, layers = [], table("layers.tsv")
-        others = [it for it in deps if it not in dict(layers)]
-        for name, layer in [*layers, *((it, "" if number else "others") for number, it in enumerate(others))]:
-            if name not in deps:
-                continue
-            if layer:
-                lines.append(f"# {layer}")
+        # A joined crate stays where the crate of its name was, or is after the one that layers.tsv says.
+        lines, after = [], dict(table("layers.tsv"))
+
+        def line_of(name):
             below = [self.crate(it) for it in deps[name]]
             below = [it for it in dict.fromkeys(below) if it != name]
-            lines.append(" ".join([f"{name} {' '.join(kinds[name])}".strip() + ":", *below]))
+            return " ".join([f"{name} {' '.join(kinds[name])}".strip() + ":", *below])
+
+        olds = {line.partition(":")[0].split()[0] for line in text.split("\n") if ":" in line and line[0] != "#"}
+        for line in text.rstrip("\n").split("\n"):
+            if line.startswith("#") or ":" not in line:
+                lines.append(line)
+                continue
+            old = line.partition(":")[0].split()[0]
+            new = self.crate(old)
+            if new not in after and (old == new or new not in olds):
+                lines.append(line_of(new))
+            lines += [line_of(it) for it, place in after.items() if place == new and it in deps]
         return "\n".join(lines) + "\n"
+
+
+def is_file_of(path, crate, module):
+    """Returns whether a file is that of a module, or one of its proofs."""
+    return path == f"crates/{crate}/src/{module}.rt" or path.startswith(f"crates/{crate}/proofs/{module}/")
+
+
+def imported_lemmas(text):
+    """Returns the names that a file imports, which are no goals."""
+    return {
+        name.strip().split(" as ")[-1]
+        for it in re.finditer(r"^use [\w.+'-]+\.\{([^}]*)\}", text, re.MULTILINE)
+        for name in it[1].split(",")
+    }
 
 
 def is_root(path):
@@ -621,8 +780,10 @@ def join_libs(new, texts, notes):
         part = [line for line in text.split("\n") if line.startswith("//!")]
         doc += (["//!"] if doc else []) + part
         body = "\n".join(line for line in text.split("\n") if not line.startswith(("//!", "#![")))
-        for it in re.findall(r"(?:^(?:pub(?:\([\w ]+\))? )?(?:mod|use)\b[^;]*;|^[^\n]+)", body, re.MULTILINE):
-            (mods if re.match(r"(?:pub(?:\([\w ]+\))? )?mod ", it) else uses if "use " in it.split("\n")[0] else rest).append(it)
+        item = r"(?:^(?:#\[[^\n]*\]\n)*(?:pub(?:\([\w ]+\))? )?(?:mod|use)\b[^;]*;|^[^\n]+)"
+        for it in re.findall(item, body, re.MULTILINE):
+            is_mod = re.match(r"(?:#\[[^\n]*\]\n)*(?:pub(?:\([\w ]+\))? )?mod ", it)
+            (mods if is_mod else uses if "use " in it.split("\n")[0] else rest).append(it)
     if rest:
         notes.append(f"{new}: a joined lib.rt has items: {rest[0]}")
     mods = sorted(dict.fromkeys(mods), key=lambda it: it.split("mod ")[1])
@@ -669,176 +830,6 @@ def use_order(name):
     return (kind, name)
 
 
-# Splitting a crate.
-
-MIXED = ("laws", "Rows")
-
-
-def split_crates(files):
-    """Returns the files after the modules of splits.tsv have gone to crates of their own."""
-    going = collections.defaultdict(dict)
-    for crate, kind, module, to in table("splits.tsv"):
-        going[crate][kind, module] = to
-    for crate, moved in going.items():
-        if f"crates/{crate}/src/lib.rt" in files:
-            files = split_crate(files, crate, moved)
-    return files
-
-
-def split_crate(files, crate, moved):
-    (to,) = set(moved.values())
-    top, found, names = f"crates/{crate}/", {}, {}
-    # The names that lib.rt has of a module that moves.
-    lib = files[f"{top}src/lib.rt"]
-    for it in re.finditer(r"^pub use (\w+)::(?:\{([^}]*)\}|(\w+));", lib, re.MULTILINE):
-        for name in (it[2] or it[3]).split(","):
-            if ("src", it[1]) in moved and name.strip():
-                names[name.strip()] = to
-
-    def ghost(it):
-        parts = it[3][1:].split(".")
-        if it[1] != crate:
-            return it[0]
-        kind, module = it[2], parts[0]
-        if kind == "specs" and module == "declared" or kind == "proofs" and module[0].islower():
-            kind, module = "src", parts[1] if module == "declared" else module
-        goes = (kind, module) in moved
-        if kind == "src" and module == "laws" and len(parts) > 1:
-            goes = ("law", parts[1]) in moved
-        return it[0].replace(f"Rattle.{crate}.", f"Rattle.{to}.", 1) if goes else it[0]
-
-    def use(it):
-        if "ghost" in it[2]:
-            return it[0]
-        path = it[3].strip()
-        lead = re.fullmatch(rf"({crate})::(.*)", path, re.DOTALL)
-        if not lead:
-            return it[0]
-        rest = lead[2]
-        if rest.startswith("{"):
-            listed = [name.strip() for name in rest.strip("{}").split(",") if name.strip()]
-            gone = [name for name in listed if name.split("::")[0] in names or ("src", name.split("::")[0]) in moved]
-            kept = [name for name in listed if name not in gone]
-            lines = []
-            for owner, part in ((lead[1], kept), (to, gone)):
-                if part:
-                    text = part[0] if len(part) == 1 else "{" + ", ".join(part) + "}"
-                    lines.append(f"{it[1]}{it[2]}use {owner}::{text};")
-            return "\n".join(lines)
-        first = rest.split("::")[0]
-        goes = first in names or ("src", first) in moved
-        return f"{it[1]}{it[2]}use {to}::{rest};" if goes else it[0]
-
-    def use_inside(owner):
-        # `crate::` of a file that moved, or of one that stayed, by the module that it names.
-        def one(it):
-            module = it[1]
-            if ("src", module) in moved:
-                return "crate::" + module if owner == to else f"{to}::{module}"
-            return f"{crate}::{module}" if owner == to else it[0]
-
-        return one
-
-    for path, text in files.items():
-        if not isinstance(text, str) or not path.startswith("crates/"):
-            found[path] = text
-            continue
-        text = GHOST.sub(ghost, text) if path.endswith((".rt", ".antt")) else text
-        if not path.startswith(top):
-            found[path] = USE.sub(use, text) if path.endswith(".rt") else text
-            continue
-        rest = path.removeprefix(top)
-        kind, _, tail = rest.partition("/")
-        module = tail.split("/")[0].split(".")[0]
-        goes = (kind, module) in moved or kind == "proofs" and ("src", module) in moved
-        if kind == "proofs" and module == "laws":
-            goes = ("law", tail.split("/")[1]) in moved
-        if rest in ("src/laws.rt", "specs/Rows.antt"):
-            mine, theirs = split_file(rest, text, moved, to)
-            found[path], found[f"crates/{to}/{rest}"] = mine, theirs
-        elif rest == "src/lib.rt":
-            found[path], found[f"crates/{to}/{rest}"] = split_lib(text, moved)
-        elif tail == "Lib.antt":
-            lines = text.split("\n")
-            is_gone = lambda line: (kind, line.split()[-1]) in moved if line.strip() else False
-            shared = "pub mod Rows" in lines
-            found[path] = "\n".join(line for line in lines if not is_gone(line))
-            gone = [line for line in lines if is_gone(line)] + (["pub mod Rows"] if shared and kind == "specs" else [])
-            found[f"crates/{to}/{rest}"] = "\n".join(gone) + "\n"
-        elif kind == "edits":
-            file = re.search(r"^file: src/(\w+)\.rt", text, re.MULTILINE)
-            goes = file and ("src", file[1]) in moved
-            found[f"crates/{to}/{rest}" if goes else path] = text
-        else:
-            new = f"crates/{to}/{rest}" if goes else path
-            if path.endswith(".rt"):
-                text = re.sub(r"\bcrate::(\w+)", use_inside(to if goes else crate), text)
-            found[new] = text
-    return found
-
-
-def split_lib(text, moved):
-    """Returns the two lib.rt of a split crate; the comment stays in the first."""
-    first, second = [], ["#![tactic(auto)]"]
-    for line in text.split("\n"):
-        found = re.match(r"(?:pub )?mod (\w+);|pub use (\w+)::", line)
-        name = (found[1] or found[2]) if found else ""
-        if ("src", name) in moved:
-            second.append(line)
-        elif name == "laws":
-            first.append(line)
-            second.append(line)
-        else:
-            first.append(line)
-    return "\n".join(first), "\n".join(second) + "\n"
-
-
-def split_file(rest, text, moved, to):
-    """Returns the two parts of a file whose items belong to both crates, by the names that each cites."""
-    blocks = text.split("\n\n")
-    head = blocks[0]
-    imported = {}
-    for line in head.split("\n"):
-        found = re.search(r"Rattle\.(\w+)\.specs\.(\w+)\.\{([^}]*)\}", line)
-        if found:
-            for name in found[3].split(","):
-                imported[name.strip()] = found[1] == to
-    mine, theirs = [], []
-    for block in blocks[1:]:
-        code = "\n".join(it for it in block.split("\n") if not it.lstrip().startswith(("--", "//")))
-        law = re.search(r"^pub fn (\w+)", code, re.MULTILINE)
-        cited = [goes for name, goes in imported.items() if re.search(whole(name), code)]
-        goes = ("law", law[1]) in moved if law else any(cited) if cited else bool(theirs)
-        (theirs if goes else mine).append(block)
-    return tuple("\n\n".join([prune(head, part), *part]).rstrip("\n") + "\n" for part in (mine, theirs))
-
-
-def prune(head, blocks):
-    """Returns the imports of a file without the names that its items don't cite."""
-    body = "\n".join(blocks)
-    lines = []
-    for line in head.split("\n"):
-        found = re.match(r"((?:ghost )?use [\w.]+\.)\{([^}]*)\}(;?)$", line)
-        alias = re.match(r"use [\w.]+ as (\w+)$", line)
-        if found:
-            names = [it.strip() for it in found[2].split(",")]
-            kept = [it for it in names if is_cited(it, body)]
-            if not kept:
-                continue
-            line = f"{found[1]}{{{', '.join(kept)}}}{found[3]}"
-        elif alias and f"{alias[1]}." not in body:
-            continue
-        lines.append(line)
-    return "\n".join(lines)
-
-
-def is_cited(name, body):
-    parts = [it for it in re.split("◌", name.split(" as ")[-1]) if it]
-    if "◌" in name:
-        return all(it in body for it in parts)
-    return name in ("[]",) and "[]" in body or re.search(whole(name), body) is not None
-
-
 # The tree.
 
 def read_tree(top):
@@ -880,7 +871,40 @@ def write_tree(top, before, found, came):
     for folder in sorted((top / "crates").glob("**/"), key=lambda it: -len(str(it))):
         if folder.is_dir() and not any(folder.iterdir()):
             folder.rmdir()
+    lay_out(top, {path for path, text in found.items() if before.get(path) != text})
     subprocess.run(["git", "-C", str(top), "add", "-A"], check=True)
+
+
+def lay_out(top, changed):
+    """Runs `rt fmt` in each crate with a changed file, if the kit is there."""
+    crates = sorted({path.split("/")[1] for path in changed if path.startswith("crates/")})
+    if shutil.which("rt") is None:
+        print("no rt: run rt fmt in", " ".join(crates))
+        return
+    for crate in crates:
+        ran = subprocess.run(["rt", "fmt"], cwd=top / "crates" / crate, capture_output=True, text=True)
+        if ran.returncode != 0:
+            print(f"rt fmt: {crate}: {ran.stdout}{ran.stderr}".strip())
+
+
+def list_left(files):
+    """Prints the names that src/ declares and that are built from words with no meaning in DNS."""
+    sys.path.insert(0, str(pathlib.Path(__file__).resolve().parent))
+    from words import FORMS, declared, parts
+
+    found = collections.defaultdict(set)
+    for path, text in sorted(files.items()):
+        here = re.fullmatch(r"crates/(\w+)/src/(.+)\.rt", path)
+        if not here or not isinstance(text, str):
+            continue
+        for kind, name in declared(text):
+            if set(parts(name)) & set(FORMS):
+                found[here[1], name].add(kind)
+    for (crate, name), kinds in found.items():
+        print(crate, name, ", ".join(sorted(kinds)), sep="\t")
+    fields = sum(kinds == {"field"} for kinds in found.values())
+    print(f"{len(found)} names, {fields} of them of fields alone")
+    return 0
 
 
 def main():
@@ -888,10 +912,13 @@ def main():
         description=__doc__, formatter_class=argparse.RawDescriptionHelpFormatter
     )
     words.add_argument("--dry-run", action="store_true", help="print the notes alone")
+    words.add_argument("--left", action="store_true", help="list the names in src/ with such words")
     words.add_argument("--top", default=str(HERE.parent.parent), help="the top of the clone")
     given = words.parse_args()
     top = pathlib.Path(given.top).resolve()
     before = read_tree(top)
+    if given.left:
+        return list_left(before)
     wave = Wave(before)
     found, came = wave.run()
     for note in wave.notes:

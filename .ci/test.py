@@ -278,9 +278,9 @@ def rows_of(names):
     checks = []
     for name in names:
         file, _, line = name.rpartition(":")
-        found = re.fullmatch(r"(?:\./)?(crates/(test_rows|test_records|test_wire)/stdin)", file)
+        found = re.fullmatch(r"(?:\./)?(crates/(test_rows|test_records)/(?:stdin|wire))", file)
         if not found or not line.isdigit():
-            stop(f"{name}: a row is crates/test_rows/stdin:LINE, or so of test_records or test_wire")
+            stop(f"{name}: a row is crates/test_rows/stdin:LINE, or so of test_records, or crates/test_records/wire:LINE")
         program = found[2]
         checks.append(Check(f'{name} both {program} .ci/run_rows.py "${program}" {found[1]} --line {line}'))
     return checks

@@ -1,13 +1,13 @@
 #!/usr/bin/env python3
-"""Lists exported names of specs/ that are built from words with no meaning in DNS.
+"""Lists names that are built from words with no meaning in DNS.
 
 usage: .ci/words.py [--count]
 
 These are the forms of stand, tell, take, give, go, say, behind, left and front: GLOSSARY has a verb for each
 act (parse, print, return, report, append, skip, store, compare), and positions are before, after and at the
-end. A name that needs one is listed in .ci/words with its reason. Ends with status 1 if another name has
-one, if .ci/words lists a name that no file exports, or if it lists more than MOST. --count prints the
-number of such names alone.
+end. Looks at the names that specs/ exports, and at the items and variants of src/. A name that needs such a
+word is listed in .ci/words with its reason. Ends with status 1 if another name has one, if .ci/words lists a
+name that no file has, or if it lists more than MOST. --count prints the number of such names alone.
 """
 import re
 import sys
@@ -25,6 +25,19 @@ def parts(name):
     return [it.lower() for it in re.findall(r"[A-Z]+(?![a-z])|[A-Z]?[a-z]+|\d+", name)]
 
 
+def declared(text):
+    """Yields what a file of src/ declares, by kind and name: items, variants and fields."""
+    code = "\n".join(it for it in text.split("\n") if not it.lstrip().startswith("//"))
+    for it in re.finditer(r"\b(fn|struct|enum|trait|mod|const|static|type) (\w+)", code):
+        yield it[1], it[2]
+    for it in re.finditer(r"\benum \w+[^{;]*\{(.*?)\n\s*\}", code, re.DOTALL):
+        for name in re.findall(r"^\s*([A-Z]\w*)\b", it[1], re.MULTILINE):
+            yield "variant", name
+    for it in re.finditer(r"\bstruct \w+[^{;()]*\{(.*?)\n\s*\}", code, re.DOTALL):
+        for name in re.findall(r"^\s*(?:pub(?:\([\w ]+\))? )?(\w+):", it[1], re.MULTILINE):
+            yield "field", name
+
+
 def reasons():
     """Returns the reason of each listed name."""
     lines = LISTED.read_text(encoding="utf-8").splitlines() if LISTED.exists() else []
@@ -33,11 +46,13 @@ def reasons():
 
 def main():
     found = {}
-    for path in sorted(names.TOP.glob("*/specs/**/*.antt")):
+    for path in sorted([*names.TOP.glob("*/specs/**/*.antt"), *names.TOP.glob("*/src/**/*.rt")]):
         place = path.relative_to(names.TOP)
-        if place.parts[0] in names.SAME_AGAIN:
-            continue
-        for name in names.exported(path):
+        if path.suffix == ".rt":
+            here = [name for kind, name in declared(path.read_text(encoding="utf-8")) if kind != "field"]
+        else:
+            here = [] if place.parts[0] in names.SAME_AGAIN else names.exported(path)
+        for name in here:
             if set(parts(name)) & set(FORMS):
                 found[name] = str(place)
     if sys.argv[1:] == ["--count"]:
@@ -45,7 +60,7 @@ def main():
         return 0
     listed = reasons()
     wrong = [f"crates/{place}: {name}" for name, place in sorted(found.items()) if name not in listed]
-    wrong += [f".ci/words: no file of specs/ exports {name}" for name in listed if name not in found]
+    wrong += [f".ci/words: no file has {name}" for name in listed if name not in found]
     wrong += [f".ci/words: {name} has no reason" for name, why in listed.items() if not why.strip()]
     if len(listed) > MOST:
         wrong.append(f".ci/words: {len(listed)} names, and {MOST} may be listed")

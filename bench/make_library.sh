@@ -24,6 +24,6 @@ done
 : > $bench/proofs/Lib.antt
 cp ../HANDLES $space/
 cp ../crates.txt $space/
-echo "dns_bench_c staticlib: dns_text custom_examples custom_record zone_reader rdata dns_zone rdata_fields rdata_values dns_wire dns_lexer dns_charstr dns_symbol" >> $space/crates.txt
+echo "dns_bench_c staticlib: dns_text test_api custom_record zone_record zone_reader rdata dns_zone rdata_fields rdata_values dns_wire dns_lexer dns_charstr dns_symbol" >> $space/crates.txt
 (cd $bench && rt lib "$@")
 (cd $space/crates/dnstext && rt run "$@" -- print simple t:a)

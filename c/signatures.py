@@ -68,13 +68,25 @@ def fields_of_source():
     return found
 
 
+def error_texts():
+    """Returns the texts of kinds of errors and of syntax errors, by how the source names them."""
+    found = {}
+    for path in ('rdata_values/src/error.rt', 'error_texts/src/kinds.rt'):
+        text = read('../crates/' + path)
+        found.update(re.findall(r'^ +((?:ErrorKind|Wrong)::\w+)(?:\(_\))? => "(.*)",', text, re.M))
+    return found
+
+
 def statuses_of_source():
     """Returns the number of each status, by its name in C, and its text."""
     numbers, texts = {'DNSTEXT_OK': 0, 'DNSTEXT_END': 1, 'DNSTEXT_INCLUDE': 26}, {}
+    of_errors = error_texts()
     for text in source():
         for name, number in re.findall(r'Refusal::(\w+) => (\d+),', text):
             numbers['DNSTEXT' + re.sub(r'([A-Z])', r'_\1', name).upper()] = int(number)
         texts.update({int(n): said for n, said in re.findall(r'^ +(\d+) => "(.*)",', text, re.M)})
+        call = r'^ +(\d+) => \w+\((?:None, )?((?:ErrorKind|Wrong)::\w+)(?:\(0\))?\),'
+        texts.update({int(n): of_errors.get(kind) for n, kind in re.findall(call, text, re.M)})
     return {name: (number, texts.get(number)) for name, number in numbers.items()}
 
 

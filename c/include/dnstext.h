@@ -330,9 +330,11 @@ uint32_t dnstext_zone_origin(struct dnstext_zone *zone, const uint8_t *name, siz
  *
  * The error of an entry has its place, and so does a syntax error; the record is then unchanged.
  * Parsing continues at the next entry, or after the line of a syntax error. For the error of an entry
- * the octets are its text, such as "MX preference: decimal number overflow": at most 255 characters,
- * truncated to the buffer, and the length is the number written. The owner and the TTL of a rejected
- * record apply to the entries that follow, if they are valid.
+ * the octets are its text, such as "MX: preference: decimal number overflow": the type and the field of
+ * RDATA, and what is wrong, as zonetext(1) reports it. They are at most 255 characters, truncated to
+ * the buffer, and the length is the number written. For a syntax error the length is 0, and the text is
+ * that of the status. The owner and the TTL of a rejected record apply to the entries that follow, if
+ * they are valid.
  *
  * With DNSTEXT_NO_ROOM the zone and the record are unchanged: call again with a larger buffer. They are
  * also unchanged with DNSTEXT_BAD_CURSOR. */

@@ -607,6 +607,13 @@ static void texts(void) {
         EXPECT(strlen(message) == length && memcmp(message, memory, length) == 0);
     }
     EXPECT(outcome.length == 14 && memcmp(memory, "unknown status", 14) == 0);
+    /* as `zonetext check` reports these */
+    EXPECT(strcmp(dnstext_status_message(DNSTEXT_CLOSING), "closing parenthesis, and none is open") == 0);
+    EXPECT(strcmp(dnstext_status_message(DNSTEXT_OPEN_PARENTHESIS), "parenthesis is not closed") == 0);
+    EXPECT(strcmp(dnstext_status_message(DNSTEXT_OPEN_QUOTE), "quoted text is not closed") == 0);
+    EXPECT(strcmp(dnstext_status_message(DNSTEXT_LONE_RETURN), "CR without LF") == 0);
+    EXPECT(strcmp(dnstext_status_message(DNSTEXT_BAD_ESCAPE), "illegal escape sequence") == 0);
+    EXPECT(strcmp(dnstext_status_message(DNSTEXT_NOT_SUPPORTED), "not supported: expand it first") == 0);
     memset(memory, '-', sizeof memory);
     EXPECT(dnstext_status_text(DNSTEXT_NO_ROOM, memory, 8, &outcome) == DNSTEXT_OK);
     EXPECT(tells(outcome, 7, 0) && memcmp(memory, "no room-", 8) == 0);

@@ -56,7 +56,7 @@ static void record_data(void) {
     REFUSES_DATA("abcdef", DNSTEXT_BAD_DATA, 0, "TYPE731: give its data as \\#");
     data_code = 15;
     GIVES(print_data, "\0\12\4mail\0", "10 mail.");
-    REFUSES_DATA("65536 mail", DNSTEXT_BAD_DATA, 0, "MX preference: decimal number overflow");
+    REFUSES_DATA("65536 mail", DNSTEXT_BAD_DATA, 0, "MX: preference: decimal number overflow");
     REFUSES_DATA("10 mail 5", DNSTEXT_BAD_DATA, 8, "MX: unexpected token behind the data");
     REFUSES_DATA("10 mail\n5", DNSTEXT_BAD_DATA, 8, "MX: unexpected token behind the data");
     REFUSES_DATA("10 (mail", DNSTEXT_OPEN_PARENTHESIS, 8, "");
@@ -67,7 +67,7 @@ static void record_data(void) {
     data_origin = NULL;
     data_origin_len = 0;
     GIVES(read_data, "10 mail.", "\0\12\4mail\0");
-    REFUSES_DATA("10 mail", DNSTEXT_NO_ORIGIN, 3, "MX exchange: relative name, and no origin");
+    REFUSES_DATA("10 mail", DNSTEXT_NO_ORIGIN, 3, "MX: exchange: relative name, and no origin");
     data_origin = (const uint8_t *)"\1a";
     data_origin_len = 2;
     REFUSES_DATA("10 mail.", DNSTEXT_RELATIVE_NAME, 0, "");

@@ -178,7 +178,7 @@ static size_t strings(size_t left, char *text, char *wire) {
 /* RDATA of the greatest length that 16 bits allow (RFC 1035 section 3.2.1), and of one octet more: as a
  * record, and both ways alone. */
 static void long_data(void) {
-    static const char reason[] = "TXT text: RDATA exceeds 65535 octets";
+    static const char reason[] = "TXT: RDATA exceeds 65535 octets";
     static const size_t lengths[] = {255, 1023, 1024, 1025, 1281, 4096, LONGEST - 1, LONGEST};
     static char spelled[LONGEST + 1024], wire[LONGEST + 1];
     static uint8_t printed[LONGEST + 1024];
@@ -217,6 +217,19 @@ static void files(void) {
     ENDS(text);
 }
 
+/* The name of a file with its origin has at most as many octets as RDATA. */
+static void long_files(void) {
+    static const char reason[] = "file name exceeds 65535 octets";
+    static char spelled[LONGEST + 64] = "$INCLUDE ";
+    memset(spelled + 9, 'f', LONGEST + 1);
+    begin();
+    EXPECT(next(spelled, 9 + LONGEST, LONGEST) == DNSTEXT_INCLUDE && outcome.length == LONGEST);
+    begin();
+    EXPECT(next(spelled, 9 + LONGEST + 1, LONGEST) == DNSTEXT_BAD_HEAD && outcome.place == 9);
+    EXPECT(outcome.length == sizeof reason - 1 && memcmp(octets, reason, outcome.length) == 0);
+    ends(spelled, 9 + LONGEST + 1, __LINE__);
+}
+
 /* A TTL of 2^31 or more is 0, also for the records after it (RFC 2181 section 8). */
 static void long_ttls(void) {
     static const char text[] = "$TTL 2147483648\n"
@@ -247,7 +260,7 @@ static void refusals(void) {
     static const char text[] = "a 1 MX 65536 m\n"
                                "b 1 A 192.0.2.1\n";
     begin();
-    REFUSES(text, DNSTEXT_BAD_DATA, 7, "MX preference: decimal number overflow");
+    REFUSES(text, DNSTEXT_BAD_DATA, 7, "MX: preference: decimal number overflow");
     GIVES(text, "\300\0\2\1");
     ENDS(text);
     begin();
@@ -266,7 +279,7 @@ static void refusals(void) {
     begin();
     REFUSES("a 1 \"A\" 192.0.2.1", DNSTEXT_BAD_HEAD, 4, "expected word without quotes");
     begin();
-    REFUSES("a 1 MX 10 \"m\"", DNSTEXT_BAD_DATA, 10, "MX exchange: expected word without quotes");
+    REFUSES("a 1 MX 10 \"m\"", DNSTEXT_BAD_DATA, 10, "MX: exchange: expected word without quotes");
     begin();
     REFUSES("$GENERATE 1-2 a A 192.0.2.$", DNSTEXT_NOT_SUPPORTED, 0, "not supported: expand it first");
     begin();
@@ -276,7 +289,7 @@ static void refusals(void) {
     REFUSES("a 1 A 192.0.2.1", DNSTEXT_NO_ORIGIN, 0, "relative name, and no origin");
     begin();
     zone.origin.length = 0;
-    REFUSES("a. 1 NS b", DNSTEXT_NO_ORIGIN, 8, "NS name server: relative name, and no origin");
+    REFUSES("a. 1 NS b", DNSTEXT_NO_ORIGIN, 8, "NS: name server: relative name, and no origin");
     begin();
     REFUSES("a 1 A 192.0.2.1 (", DNSTEXT_OPEN_PARENTHESIS, 17, "");
     begin();
@@ -479,6 +492,7 @@ int main(int count, char **words) {
     records();
     long_data();
     files();
+    long_files();
     long_ttls();
     refusals();
     origins();

@@ -1,6 +1,5 @@
 mod Begun
 mod CutOff
-mod CutTexts
 mod Decimals
 mod InCalls
 mod KeptNames

@@ -5,6 +5,7 @@ use Rattle.dns_wire.specs.declared.error.NameError.{NameError}
 use Rattle.zone_reader.specs.declared.known.NameState.{NameState}
 use Rattle.zone_reader.specs.declared.known.NameState.TheVariants.{Unset, Name, Refused}
 use Rattle.zone_reader.specs.declared.state.State.{State}
+use Rattle.zone_reader.specs.Included.{OriginAppended}
 use Rattle.dns_text_c.specs.Reasons.{refusal_of_name}
 use Rattle.dns_text_c.specs.Reports.{ReportsFault, at_start}
 use Rattle.dns_text_c.specs.declared.kept.KeptName.{KeptName}
@@ -63,6 +64,10 @@ IsOriginOf octets (Some labels) = MakesName octets (Ok labels)
 abbrev pub optional_origin : Option (List (List ℕ)) → NameState
 optional_origin None = Unset
 optional_origin (Some labels) = Name labels
+
+-- the origin of a file to include, by the octets after an entry
+abbrev pub IsIncludedOrigin : Bool → List ℕ → NameState → Type 0
+IsIncludedOrigin has_origin octets state = (origin : Option (List (List ℕ))) → OriginAppended origin has_origin octets → state ≡ optional_origin origin
 
 -- the octets are the zone's origin from here on; or they are not a name, which is reported, and nothing was written
 abbrev pub SetsOrigin : List ℕ → Zone → Zone → ℕ → Outcome → Type 0

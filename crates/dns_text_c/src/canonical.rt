@@ -2,7 +2,7 @@
 ghost use Rattle.std.specs.Prelude.{◌≤◌, length};
 ghost use Rattle.dns_text_c.specs.DataText.{ReportsCanonical, ReportsForm};
 
-use crate::outcome::{Outcome, give, refuse};
+use crate::outcome::{Outcome, copy_whole, refuse};
 use crate::printing::fault_of_wire;
 use arrayvec::ArrayVec;
 use rdata_values::RecordType;
@@ -15,13 +15,13 @@ const MOST: usize = 65535;
 const FEW: usize = 1024;
 
 /// Writes the canonical form of short data.
-fn give_short_form(content: &Data<&[u8]>, form: &mut [u8], outcome: &mut Outcome) -> u32
+fn report_short_form(content: &Data<&[u8]>, form: &mut [u8], outcome: &mut Outcome) -> u32
     requires { length content.now.octets ≤ FEW }
     ensures { ReportsForm content.now form.old result form.new outcome.new }
 {
     let mut made: ArrayVec<u8, FEW> = ArrayVec::new();
     match content.append_canonical(&mut made) {
-        Ok(()) => give(made.as_slice(), form, outcome),
+        Ok(()) => copy_whole(made.as_slice(), form, outcome),
         Err(_) => unreachable!(),
     }
 }
@@ -31,25 +31,25 @@ fn give_short_form(content: &Data<&[u8]>, form: &mut [u8], outcome: &mut Outcome
 /// It is a function of its own, since the compiler fills its 64 KB with zeros at each call.
 #[cold]
 #[inline(never)]
-fn give_long_form(content: &Data<&[u8]>, form: &mut [u8], outcome: &mut Outcome) -> u32
+fn report_long_form(content: &Data<&[u8]>, form: &mut [u8], outcome: &mut Outcome) -> u32
     requires { length content.now.octets ≤ MOST }
     ensures { ReportsForm content.now form.old result form.new outcome.new }
 {
     let mut all: ArrayVec<u8, MOST> = ArrayVec::new();
     match content.append_canonical(&mut all) {
-        Ok(()) => give(all.as_slice(), form, outcome),
+        Ok(()) => copy_whole(all.as_slice(), form, outcome),
         Err(_) => unreachable!(),
     }
 }
 
 /// Writes the canonical form of data.
-fn give_form(content: &Data<&[u8]>, form: &mut [u8], outcome: &mut Outcome) -> u32
+fn report_form(content: &Data<&[u8]>, form: &mut [u8], outcome: &mut Outcome) -> u32
     ensures { ReportsForm content.now form.old result form.new outcome.new }
 {
     if content.as_slice().len() > FEW {
-        return give_long_form(content, form, outcome);
+        return report_long_form(content, form, outcome);
     }
-    give_short_form(content, form, outcome)
+    report_short_form(content, form, outcome)
 }
 
 /// Writes data of a type in canonical form (RFC 4034 section 6.2, RFC 6840 section 5.1): the names
@@ -69,7 +69,7 @@ pub extern "C" fn dnstext_data_canonical(
     ensures { ReportsCanonical code octets.now form.old result form.new outcome.new }
 {
     match Data::from_octets(RecordType(code), octets) {
-        Ok(content) => give_form(&content, form, outcome),
+        Ok(content) => report_form(&content, form, outcome),
         Err(error) => refuse(fault_of_wire(error), outcome),
     }
 }

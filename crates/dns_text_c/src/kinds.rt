@@ -7,7 +7,7 @@ ghost use Rattle.dns_text_c.specs.Kinds.{ReportsCode};
 ghost use Rattle.dns_text_c.specs.Reports.{ReportsFault, CopiesWhole, at_start};
 ghost use Rattle.dns_text_c.specs.declared.outcome.Refusal.TheVariants.{BadTtl, UnknownType, UnknownClass};
 
-use crate::outcome::{Fault, Outcome, Refusal, accept, give, refuse};
+use crate::outcome::{Fault, Outcome, Refusal, accept, copy_whole, refuse};
 use arrayvec::ArrayVec;
 use rdata_values::{Class, RecordType, ttl_from_text};
 
@@ -107,8 +107,8 @@ pub extern "C" fn dnstext_type_print(code: u16, text: &mut [u8], outcome: &mut O
     ensures { CopiesWhole (type_text code) text.old result text.new outcome.new }
 {
     match RecordType(code).name() {
-        Some(name) => give(name.as_bytes(), text, outcome),
-        None => give(numbered("TYPE", code).as_slice(), text, outcome),
+        Some(name) => copy_whole(name.as_bytes(), text, outcome),
+        None => copy_whole(numbered("TYPE", code).as_slice(), text, outcome),
     }
 }
 
@@ -118,7 +118,7 @@ pub extern "C" fn dnstext_class_print(code: u16, text: &mut [u8], outcome: &mut 
     ensures { CopiesWhole (class_text code) text.old result text.new outcome.new }
 {
     match Class(code).name() {
-        Some(name) => give(name.as_bytes(), text, outcome),
-        None => give(numbered("CLASS", code).as_slice(), text, outcome),
+        Some(name) => copy_whole(name.as_bytes(), text, outcome),
+        None => copy_whole(numbered("CLASS", code).as_slice(), text, outcome),
     }
 }

@@ -12,7 +12,7 @@ ghost use Rattle.dns_text_c.specs.Names.{FinishesName, AppendsNameSymbol, NameAn
 ghost use Rattle.dns_text_c.specs.Reports.{CopiesWhole};
 ghost use Rattle.dns_wire.specs.Limits.{max_name, max_relative};
 
-use crate::outcome::{Fault, Outcome, Refusal, give, refuse};
+use crate::outcome::{Fault, Outcome, Refusal, copy_whole, refuse};
 use crate::strings::symbol_at;
 use crate::tokens::bit;
 use arrayvec::ArrayVec;
@@ -116,14 +116,14 @@ pub extern "C" fn dnstext_name_read(
     match read_name(text) {
         Ok(read) => {
             *is_absolute = bit(read.is_absolute());
-            give(read.as_slice(), name, outcome)
+            copy_whole(read.as_slice(), name, outcome)
         }
         Err(fault) => refuse(fault, outcome),
     }
 }
 
 /// Writes the text of labels. `dot` says whether a dot comes before a root at their end.
-fn give_text(
+fn report_text(
     labels: NameIter<'_>,
     form: Form,
     dot: bool,
@@ -135,7 +135,7 @@ fn give_text(
 {
     let mut made = [0; TEXT];
     let shown = labels_in(labels, form, dot, &mut made);
-    give(shown.as_bytes(), text, outcome)
+    copy_whole(shown.as_bytes(), text, outcome)
 }
 
 /// Returns the status of octets that are not a name.
@@ -156,7 +156,7 @@ fn print_octets(octets: &[u8], form: Form, dot: bool, text: &mut [u8], outcome: 
     ensures { PrintsNameOf (labels_text form dot) octets.now text.old result text.new outcome.new }
 {
     match UncertainName::from_octets(octets) {
-        Ok(name) => give_text(name.iter_labels(), form, dot, text, outcome),
+        Ok(name) => report_text(name.iter_labels(), form, dot, text, outcome),
         Err(error) => {
             let refusal = refusal_of_octets(error);
             refuse(Fault { refusal, place: 0 }, outcome)
@@ -169,7 +169,7 @@ fn print_name(octets: &[u8], form: Form, dot: bool, text: &mut [u8], outcome: &m
     ensures { PrintsName (labels_text form dot) octets.now text.old result text.new outcome.new }
 {
     if octets.is_empty() {
-        return give(b"", text, outcome);
+        return copy_whole(b"", text, outcome);
     }
     print_octets(octets, form, dot, text, outcome)
 }

@@ -163,7 +163,7 @@ pub(crate) fn accept(outcome: &mut Outcome) -> u32
 }
 
 /// Copies octets to the start of a buffer, if they fit, and reports that.
-pub(crate) fn give(octets: &[u8], buffer: &mut [u8], outcome: &mut Outcome) -> u32
+pub(crate) fn copy_whole(octets: &[u8], buffer: &mut [u8], outcome: &mut Outcome) -> u32
     ensures { CopiesWhole octets.now buffer.old result buffer.new outcome.new }
 {
     let length = octets.len();
@@ -176,7 +176,7 @@ pub(crate) fn give(octets: &[u8], buffer: &mut [u8], outcome: &mut Outcome) -> u
 }
 
 /// Copies octets to the start of a buffer, cut to its length, and returns the number copied.
-pub(crate) fn give_cut(octets: &[u8], buffer: &mut [u8]) -> usize
+pub(crate) fn write_prefix(octets: &[u8], buffer: &mut [u8]) -> usize
     ensures { WritesPrefix octets.now buffer.old buffer.new result }
 {
     let count = octets.len().min(buffer.len());

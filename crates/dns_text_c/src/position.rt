@@ -48,7 +48,7 @@ pub extern "C" fn dnstext_position(
 
 /// Returns the column after a column and the octets that follow it, by the position after these
 /// alone.
-fn column_behind(column: usize, passed: Passed) -> usize
+fn column_after(column: usize, passed: Passed) -> usize
     requires { 1 ≤ passed.column }
     ensures same { passed.line ≡ 1 → result ≡ counted (column + (passed.column - 1)) }
     ensures next { passed.line ≢ 1 → result ≡ passed.column }
@@ -70,7 +70,7 @@ fn moved_on(text: &[u8], from: Position, offset: usize) -> Position
     Position {
         offset,
         line: from.line.saturating_add(passed.line - 1),
-        column: column_behind(from.column, passed),
+        column: column_after(from.column, passed),
     }
 }
 

@@ -105,7 +105,7 @@ fn refuse_text(outcome: &mut Outcome) -> u32
 }
 
 /// Writes the text of data.
-fn give_text(content: &Data<&[u8]>, text: &mut [u8], outcome: &mut Outcome) -> u32
+fn report_text(content: &Data<&[u8]>, text: &mut [u8], outcome: &mut Outcome) -> u32
     ensures { ReportsText (data_text content.now) text.old result text.new outcome.new }
 {
     let Ok(length) = count_text(content) else {
@@ -153,7 +153,7 @@ pub extern "C" fn dnstext_data_print(
     ensures { PrintsData code octets.now text.old result text.new outcome.new }
 {
     match Data::from_octets(RecordType(code), octets) {
-        Ok(content) => give_text(&content, text, outcome),
+        Ok(content) => report_text(&content, text, outcome),
         Err(error) => refuse(fault_of_wire(error), outcome),
     }
 }

@@ -4,7 +4,7 @@ ghost use Rattle.zone_reader.specs.Source.{entry_end};
 ghost use Rattle.dns_text_c.specs.DataText.{EndsText, ReadsRemaining, ReadsOpen, AnswersText, ReportsRead, ReportsReadData, WritesData, trailing_token};
 
 use crate::kept::{name_of, refusal_of_name};
-use crate::outcome::{Fault, Outcome, give, refuse};
+use crate::outcome::{Fault, Outcome, copy_whole, refuse};
 use crate::reasons::{read_lacks, report_error};
 use arrayvec::ArrayVec;
 use rdata::read_type;
@@ -146,7 +146,7 @@ fn read_in_room<const N: usize>(
 {
     let mut content: ArrayVec<u8, N> = ArrayVec::new();
     match read_text(rtype, text, origin, &mut content) {
-        Ok(()) => Ok(give(content.as_slice(), octets, outcome)),
+        Ok(()) => Ok(copy_whole(content.as_slice(), octets, outcome)),
         Err(rejected) => Err(rejected),
     }
 }
@@ -170,7 +170,7 @@ fn read_long(
 
 /// Parses data of a type, with an origin for relative names. A buffer for the longest data is used
 /// only if that for most records may not suffice.
-fn read_behind(
+fn read_with_origin(
     rtype: RecordType,
     text: &[u8],
     origin: Option<&NameBuffer>,
@@ -210,10 +210,10 @@ pub extern "C" fn dnstext_data_read(
 {
     let rtype = RecordType(code);
     if origin.is_empty() {
-        return read_behind(rtype, text, None, octets, outcome);
+        return read_with_origin(rtype, text, None, octets, outcome);
     }
     match name_of(origin) {
-        Ok(name) => read_behind(rtype, text, Some(&name), octets, outcome),
+        Ok(name) => read_with_origin(rtype, text, Some(&name), octets, outcome),
         Err(error) => {
             let refusal = refusal_of_name(error);
             refuse(Fault { refusal, place: 0 }, outcome)

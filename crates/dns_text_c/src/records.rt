@@ -1,10 +1,9 @@
 //! Reads the records of a zone file, one by one and without allocating memory (RFC 1035 section
 //! 5.1).
-ghost use Rattle.std.specs.Prelude.{◌≡◌, ◌≢◌, ℕ, IfSome, List, Ok, Option, Some, false};
-ghost use Rattle.zone_reader.specs.Included.{OriginAppended};
+ghost use Rattle.std.specs.Prelude.{◌≡◌, ◌≢◌, IfSome, Ok, Some, false};
 ghost use Rattle.zone_reader.specs.declared.entry.ParsedEntry.TheVariants.{Nothing, Directive};
 ghost use Rattle.dns_text_c.specs.Capacity.{as_reader};
-ghost use Rattle.dns_text_c.specs.Kept.{KeepsName, optional_origin};
+ghost use Rattle.dns_text_c.specs.Kept.{IsIncludedOrigin, KeepsName};
 ghost use Rattle.dns_text_c.specs.Reports.{ReportsFault, at_start};
 ghost use Rattle.dns_text_c.specs.declared.outcome.Refusal.TheVariants.{BadCursor};
 ghost use Rattle.dns_text_c.specs.declared.records.Record.{Record};
@@ -144,7 +143,7 @@ fn report_rejected(
 
 /// Returns the origin of a file to include, by its octets, if the entry has one.
 fn included_origin(has_origin: bool, octets: &[u8]) -> NameState
-    ensures { (origin : Option (List (List ℕ))) → OriginAppended origin has_origin octets.now → result ≡ optional_origin origin }
+    ensures { IsIncludedOrigin has_origin octets.now result }
 {
     if !has_origin {
         return NameState::Unset;

@@ -1,9 +1,12 @@
-//! The texts of statuses.
+//! The texts of statuses. Those of errors that `zonetext check` reports too have its texts.
 ghost use Rattle.std.specs.Prelude.{◌≡◌};
 ghost use Rattle.dns_text_c.specs.Reports.{CopiesWhole};
 ghost use Rattle.dns_text_c.specs.Status.{status_text};
 
-use crate::outcome::{Outcome, give};
+use crate::outcome::{Outcome, copy_whole};
+use dns_lexer::pieces::Wrong;
+use error_texts::kinds::{kind_text, syntax_error_text};
+use rdata_values::ErrorKind;
 
 /// Returns the text of a status, in a few words.
 pub fn status_text(status: u32) -> &'static str
@@ -13,16 +16,16 @@ pub fn status_text(status: u32) -> &'static str
         0 => "well",
         1 => "nothing is left",
         2 => "no room",
-        3 => "illegal escape sequence",
+        3 => syntax_error_text(Wrong::BadEscape),
         4 => "unexpected end of data",
         5 => "illegal UTF-8 sequence",
         6 => "octet outside printable ASCII",
         7 => "too many octets",
         8 => "not of the encoding",
-        9 => "closing parenthesis, and none is open",
-        10 => "parenthesis that is not closed",
-        11 => "quoted text that is not closed",
-        12 => "CR without LF",
+        9 => syntax_error_text(Wrong::Closing),
+        10 => syntax_error_text(Wrong::OpenParenthesis),
+        11 => syntax_error_text(Wrong::OpenQuote(0)),
+        12 => syntax_error_text(Wrong::LoneReturn),
         13 => "cursor past the end",
         14 => "label without octets",
         15 => "more than 63 octets in a label",
@@ -33,18 +36,18 @@ pub fn status_text(status: u32) -> &'static str
         20 => "no decimal digit",
         21 => "number too great",
         22 => "place past the end",
-        23 => "expected time to live",
-        24 => "unknown record type",
-        25 => "unknown class",
+        23 => kind_text(None, ErrorKind::ExpectedTtl),
+        24 => kind_text(None, ErrorKind::UnknownType),
+        25 => kind_text(None, ErrorKind::UnknownClass),
         26 => "a file to include",
         27 => "directive, or words in front of data, refused",
-        28 => "directive not supported",
+        28 => kind_text(None, ErrorKind::NotSupported),
         29 => "name refused",
-        30 => "relative name, and no origin",
-        31 => "no owner",
-        32 => "the owner before is refused",
+        30 => kind_text(None, ErrorKind::NoOrigin),
+        31 => kind_text(None, ErrorKind::NoOwner),
+        32 => kind_text(None, ErrorKind::RefusedOwner),
         33 => "data refused",
-        34 => "no time to live",
+        34 => kind_text(None, ErrorKind::NoTtl),
         35 => "name without the root at its end",
         _ => "unknown status",
     }
@@ -55,5 +58,5 @@ pub fn status_text(status: u32) -> &'static str
 pub extern "C" fn dnstext_status_text(status: u32, text: &mut [u8], outcome: &mut Outcome) -> u32
     ensures { CopiesWhole (status_text status) text.old result text.new outcome.new }
 {
-    give(status_text(status).as_bytes(), text, outcome)
+    copy_whole(status_text(status).as_bytes(), text, outcome)
 }

@@ -8,7 +8,7 @@ ghost use Rattle.dns_charstr.specs.Printed.{quoted_text};
 ghost use Rattle.dns_text_c.specs.Strings.{PassesSome, PrintsString, ReadsOctetString, ReadsString, RefusesOctet, RefusesSymbol, ReportsOctetString, ReportsString, escape_of, plain_text, refusal_of, refusal_of_escape, string_octets, string_text, unquoted_text};
 ghost use Rattle.dns_charstr.specs.Limits.{max_string};
 
-use crate::outcome::{Fault, Outcome, Refusal, give, refuse};
+use crate::outcome::{Fault, Outcome, Refusal, copy_whole, refuse};
 use arrayvec::ArrayVec;
 use dns_charstr::octet_text::octet_at;
 use dns_symbol::symbol::{Symbol, SymbolCharsError, SymbolOctetsError};
@@ -102,7 +102,7 @@ fn print_string(form: Form, octets: &[u8], text: &mut [u8], outcome: &mut Outcom
         return refuse(fault, outcome);
     }
     let made = text_in(form, octets);
-    give(made.as_slice(), text, outcome)
+    copy_whole(made.as_slice(), text, outcome)
 }
 
 /// Prints a character string with no character special but the backslash.
@@ -198,7 +198,7 @@ pub extern "C" fn dnstext_charstr_read(text: &[u8], octets: &mut [u8], outcome: 
     ensures { ReportsString text.now octets.old result octets.new outcome.new }
 {
     match read_string(text) {
-        Ok(read) => give(read.as_slice(), octets, outcome),
+        Ok(read) => copy_whole(read.as_slice(), octets, outcome),
         Err(fault) => refuse(fault, outcome),
     }
 }
@@ -261,7 +261,7 @@ pub extern "C" fn dnstext_charstr_read_octets(
     ensures { ReportsOctetString text.now octets.old result octets.new outcome.new }
 {
     match read_octets(text) {
-        Ok(read) => give(read.as_slice(), octets, outcome),
+        Ok(read) => copy_whole(read.as_slice(), octets, outcome),
         Err(fault) => refuse(fault, outcome),
     }
 }

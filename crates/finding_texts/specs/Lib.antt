@@ -1,5 +1,5 @@
-pub mod Digests
 pub mod Mistakes
 pub mod Rows
+pub mod Scopes
 pub mod Similar
 pub mod Word

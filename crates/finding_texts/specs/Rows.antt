@@ -1,9 +1,7 @@
--- Worked examples: quoted tokens, mistakes, names that differ little, digests.
+-- Worked examples: quoted tokens, mistakes, names that differ little.
 use Rattle.std.specs.Prelude.{◌≡◌, true, false, [], ◌∷◌, codes, Some, None, refl}
 use Rattle.std.specs.Str.{chars}
 use Rattle.strsim.specs.Edits.{cost_at, osa_from, osa_row}
-use Rattle.rdata_values.specs.Rtype as Rtype
-use Rattle.finding_texts.specs.Digests.{digest_name, digest_place}
 use Rattle.finding_texts.specs.Mistakes.{count_spelled, foreign_mark, high_escape, quotation_mark, spelled_after}
 use Rattle.finding_texts.specs.Similar.{edits_between, is_similar}
 use Rattle.finding_texts.specs.Word.{word_octet}
@@ -34,15 +32,6 @@ high_kept = refl
 
 high_escaped : word_octet false 195 ≡ codes "\\195"
 high_escaped = refl
-
-delegation : digest_name Rtype.ds 2 ≡ Some (codes "SHA-256")
-delegation = refl
-
-fingerprint : digest_name Rtype.sshfp 3 ≡ None
-fingerprint = refl
-
-fingerprint_field : digest_place Rtype.sshfp ≡ Some 1
-fingerprint_field = refl
 
 dns_escape : high_escape (codes "a\\300") ≡ Some 1
 unfolding spelled_after

@@ -10,15 +10,15 @@ use Rattle.rdata_fields.proofs.FormLaws.{fields_are_forms}
 use Rattle.rdata.specs.Wire.{BeginsWithFields}
 
 module _ (Is : List ℕ → Type 0) (fronts : AreSelfDelimiting Is) where
-  pub front_width : (octets form more : List ℕ) (width : ℕ) → FindsWidth Is octets (Some width) → octets ≡ form ++ more → Is form → width ≡ length form
-  front_width octets form more width found is one =
+  pub first_width : (octets form more : List ℕ) (width : ℕ) → FindsWidth Is octets (Some width) → octets ≡ form ++ more → Is form → width ≡ length form
+  first_width octets form more width found is one =
       let same : Some width ≡ Some (length form) = fronts.width form more (Some width) one (subst (λ o. FindsWidth Is o (Some width)) is found) in
       cc same
 
   -- one rest follows the form that octets begin with
   pub behind_front : (octets form more : List ℕ) (width : ℕ) → FindsWidth Is octets (Some width) → octets ≡ form ++ more → Is form → drop width octets ≡ more
   behind_front octets form more width found is one =
-      ap (λ n. drop n octets) (front_width octets form more width found is one) ∙ ap (drop (length form)) is ∙ drop-append_seam form more
+      ap (λ n. drop n octets) (first_width octets form more width found is one) ∙ ap (drop (length form)) is ∙ drop-append_seam form more
 
   pub front_found : (octets form more : List ℕ) → octets ≡ form ++ more → Is form → FindsWidth Is octets (Some (length form))
   front_found octets form more is one =

@@ -14,7 +14,6 @@ pub mod PlacesWire
 pub mod PlainWords
 pub mod PrefixListLaws
 pub mod PrintedBack
-pub mod PrintedFields
 pub mod PrintedQuotes
 pub mod PrintedStrings
 pub mod PrintedWords
@@ -27,7 +26,6 @@ pub mod Strings
 pub mod TextLaws
 pub mod Textless
 pub mod TokenRests
-pub mod Tokens
 pub mod TypeLaws
 pub mod WireStrings
 pub mod WireTypes

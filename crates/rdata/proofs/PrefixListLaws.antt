@@ -43,9 +43,9 @@ module _ (left : List ℕ) (p : Prefix) (width : ℕ) (found : IsItemOf left p w
       let long : length item ≡ width = ap length is ∙ length-take-le width left found.1 in
       (is, sym (drop-append_seam item rest) ∙ ap (drop (length item)) (sym split) ∙ ap (λ n. drop n left) long)
 
-  pub behind_item : left ≢ [] → AreParts IsPrefixItem left → AreParts IsPrefixItem (drop width left)
-  behind_item some ([], each, whole) = absurd (some whole)
-  behind_item some (item ∷ items, each, whole) = (items, each.1, sym (one_item item (concat items) each.0 whole).1)
+  pub after_item : left ≢ [] → AreParts IsPrefixItem left → AreParts IsPrefixItem (drop width left)
+  after_item some ([], each, whole) = absurd (some whole)
+  after_item some (item ∷ items, each, whole) = (items, each.1, sym (one_item item (concat items) each.0 whole).1)
 
   before_items : AreParts IsPrefixItem (drop width left) → AreParts IsPrefixItem left
   before_items (items, each, whole) = (take width left ∷ items, ((p, found.0, found.2), each), sym (take-append-drop width left) ∙ ap (λ o. take width left ++ o) whole)
@@ -56,7 +56,7 @@ SameItems octets left = (AreParts IsPrefixItem octets → AreParts IsPrefixItem 
 
 pub items_on : (octets left new : List ℕ) (p : Prefix) (width : ℕ) → SameItems octets left → left ≢ [] → IsItemOf left p width → new ≡ take (length left - width) (drop width left) → SameItems octets new
 items_on octets left new p width h some found cut = let is : new ≡ drop width left = cut ∙ rest_of width left in (
-  λ all. subst (AreParts IsPrefixItem) (sym is) (behind_item left p width found some (h.0 all)),
+  λ all. subst (AreParts IsPrefixItem) (sym is) (after_item left p width found some (h.0 all)),
   λ rest. h.1 (before_items left p width found (subst (AreParts IsPrefixItem) is rest)),
 )
 

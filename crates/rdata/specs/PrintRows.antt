@@ -5,8 +5,7 @@ use Rattle.rdata_values.specs.Types.{type_rows}
 use Rattle.rdata_values.specs.Bitmap.{set_places, block_types}
 use Rattle.rdata_tokens.specs.PrintedNames.{labels_in_octets}
 use Rattle.rdata_fields.specs.declared.field.Field.TheVariants.{Number16, String, PsdnAddress, Name}
-use Rattle.dns_zone.specs.Layout.{Step}
-use Rattle.rdata.specs.Printing.{FailsInSteps, printed_parts, token_bytes}
+use Rattle.rdata.specs.Printing.{printed_parts, token_bytes}
 use Rattle.rdata.specs.declared.rest.Rest.TheVariants.{Nothing, Strings, Hex, SomeTypes, Types}
 
 -- a preference and a host, as in MX
@@ -42,7 +41,3 @@ numbered_types = refl
 -- an X25 address
 address : printed_parts (PsdnAddress ∷ []) Nothing (4 ∷ codes "1234") ≡ record { is_quoted = true; text = codes "1234" } ∷ []
 address = refl
-
--- a writer that fails at no step does all steps
-never_fails : {F : Type 0} (blocks : F → ℕ) (gives : F → Step → F → Type 0) (fails : F → Step → Type 0) (w : F) (xs : List Step) → ((v : F) (x : Step) → fails v x → ⊥) → FailsInSteps blocks gives fails w xs → ⊥
-never_fails blocks gives fails w xs none h = none h.stands h.next h.failed

@@ -1,8 +1,6 @@
 -- RDATA as the tokens that it prints as.
-use Rattle.std.specs.Prelude.{ℕ, None, Result, OnOk, OnErr, ◌≡◌, ◌+◌, if◌then◌else◌, List, [], ◌∷◌, ◌++◌, map, length, take, drop, slice_index}
+use Rattle.std.specs.Prelude.{ℕ, None, ◌+◌, if◌then◌else◌, List, [], ◌∷◌, ◌++◌, length, take, drop, slice_index}
 use Rattle.dns_symbol.specs.Characters.{double_quote}
-use Rattle.dns_zone.specs.Layout.{Step, token}
-use Rattle.dns_zone.specs.Writers.{WritesSteps}
 use Rattle.rdata_fields.specs.Fields.{field_form}
 use Rattle.rdata_fields.specs.declared.field.Field.{Field}
 use Rattle.rdata_fields.specs.declared.field.Field.TheVariants.{Number8, Number16, Number32, Interval, Ipv4, Ipv6, RecordType, SigType, Algorithm, CertificateType, Eui48, Eui64, Time, Locator, String, PsdnAddress, Tag, Salt, Hash, Name}
@@ -64,27 +62,3 @@ printed_data shape octets = printed_with shape.fields.now shape.rest octets
 -- a token in presentation format: the value of a quoted string is between double quotes
 abbrev pub token_bytes : PrintedToken → List ℕ
 token_bytes t = if t.is_quoted then double_quote ∷ (t.text ++ double_quote ∷ []) else t.text
-
-abbrev pub token_step : PrintedToken → Step
-token_step t = token (token_bytes t)
-
-abbrev pub token_steps : List PrintedToken → List Step
-token_steps tokens = map token_step tokens
-
--- a writer did the first steps of a list, and failed at the next
-pub record FailsInSteps {F : Type 0} (blocks : F → ℕ) (step_gives : F → Step → F → Type 0) (step_fails : F → Step → Type 0) (w : F) (xs : List Step) : Type 0 where
-  pub taken : List Step
-  pub next : Step
-  pub left : List Step
-  pub steps_are : xs ≡ taken ++ next ∷ left
-  pub stands : F
-  pub steps : WritesSteps blocks step_gives w taken stands
-  pub failed : step_fails stands next
-
--- a writer printed these tokens one by one
-abbrev pub PrintsTokens : {F R E : Type 0} → (F → ℕ) → (F → Step → F → Type 0) → F → List PrintedToken → Result R E → F → Type 0
-PrintsTokens blocks step_gives old tokens result new = OnOk result (WritesSteps blocks step_gives old (token_steps tokens) new)
-
--- or it failed at one of them, after it printed those before
-abbrev pub FailsInTokens : {F R E : Type 0} → (F → ℕ) → (F → Step → F → Type 0) → (F → Step → Type 0) → F → List PrintedToken → Result R E → Type 0
-FailsInTokens blocks step_gives step_fails old tokens result = OnErr result (FailsInSteps blocks step_gives step_fails old (token_steps tokens))

@@ -1,10 +1,10 @@
 //! Parses a gateway and a public key (IPSECKEY, RFC 4025 section 2.1), after the precedence.
-ghost use Rattle.std.specs.Prelude.{◌≡◌, ◌<◌, ◌^◌, ◌↔◌, IsTrue, None};
+ghost use Rattle.std.specs.Prelude.{◌≡◌, ◌≤◌, ◌<◌, ◌+◌, ◌^◌, ◌↔◌, IsTrue, None, length, take, drop, slice_index};
 ghost use Rattle.std.specs.Option.{option_copied};
 ghost use Rattle.rdata_fields.specs.TokenParsers.{Parses};
 ghost use Rattle.rdata_tokens.specs.Forms.{FindsWidth};
 ghost use Rattle.dns_lexer.specs.EntryTokens.{token_seen};
-ghost use Rattle.rdata.specs.GatewayKeys.{ReadsGatewayType, ParsesGatewayType, ParsesAlgorithm, ParsesGatewayAddress, ParsesGatewayParts, IsAddressOf, gateway_form, gateway_key_form, key_form};
+ghost use Rattle.rdata.specs.GatewayKeys.{ReadsGatewayType, ParsesGatewayType, ParsesAlgorithm, ParsesGatewayAddress, ParsesGatewayParts, IsAddressOf, gateway_form, gateway_key_form, gateway_size, key_form};
 ghost use Rattle.rdata.specs.Rests.{ParsesTail};
 ghost use Rattle.rdata.specs.TokenForms.{ParsesOneField, ParsesByForm};
 
@@ -20,7 +20,7 @@ use rdata_values::ErrorKind;
 use rdata_values::numbers::u8_from_text;
 
 /// The greatest type of a gateway, that of a name.
-pub(crate) const NAME: u8 = 3;
+pub const NAME: u8 = 3;
 
 /// Parses the next token as a field.
 fn parse_one<S: TokenSource, Octets: AsOctets, B: OctetsBuilder>(
@@ -219,7 +219,7 @@ fn may_have(algorithm: u8, count: usize) -> bool
 }
 
 /// Returns whether octets are the type of a gateway, an algorithm, the gateway and a key.
-pub(crate) fn is_gateway_key(octets: &[u8]) -> bool
+pub fn is_gateway_key(octets: &[u8]) -> bool
     ensures { IsTrue result ↔ (gateway_key_form None).is_wire octets.now }
 {
     if octets.len() < 2 {
@@ -228,5 +228,19 @@ pub(crate) fn is_gateway_key(octets: &[u8]) -> bool
     match gateway_width(octets[0], &octets[2..]) {
         Some(width) => may_have(octets[1], octets.len() - 2 - width),
         None => false,
+    }
+}
+
+/// Returns the length in octets of the gateway, which comes after its type and an algorithm.
+pub fn key_gateway_width(octets: &[u8]) -> usize
+    requires { (gateway_key_form None).is_wire octets.now }
+    ensures size { result ≡ gateway_size (slice_index octets.now 0) (drop 2 octets.now) }
+    ensures wire { (gateway_form None (slice_index octets.now 0)).is_wire
+        (take result (drop 2 octets.now)) }
+    ensures fits { 2 + result ≤ length octets.now }
+{
+    match gateway_width(octets[0], &octets[2..]) {
+        Some(width) => width,
+        None => unreachable!(),
     }
 }

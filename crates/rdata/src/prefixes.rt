@@ -82,7 +82,7 @@ fn item_size(octets: &[u8]) -> usize
 }
 
 /// Returns the octets after the first item.
-fn behind_item(octets: &[u8]) -> &[u8]
+fn after_item(octets: &[u8]) -> &[u8]
     requires head { 4 ≤ length octets.now }
     requires whole { item_size octets.now ≤ length octets.now }
     ensures rest { result.now ≡ drop (item_size octets.now) octets.now }
@@ -143,7 +143,7 @@ pub(crate) fn has_other_family(octets: &[u8]) -> bool
         if is_other_family(left) {
             return true;
         }
-        left = behind_item(left);
+        left = after_item(left);
     }
     false
 }

@@ -2,7 +2,8 @@
 ghost use Rattle.std.specs.Prelude.{◌≡◌, ◌↔◌, IsTrue, None, MatchOption, List, ℕ};
 ghost use Rattle.rdata_values.specs.Bitmap.{has, types_of, IsBitmap};
 ghost use Rattle.rdata.specs.Data.{IsDataOf};
-ghost use Rattle.rdata.specs.RestKinds.{rest_form, AreCharacterStrings, IsRestOf, IsTextless};
+ghost use Rattle.rdata.specs.Printing.{after_fields};
+ghost use Rattle.rdata.specs.RestKinds.{has_no_text, rest_form, AreCharacterStrings, IsRestOf, IsTextless};
 ghost use Rattle.rdata.specs.TypeLists.{types_form};
 ghost use Rattle.rdata.specs.Wire.{BeginsWithFields};
 
@@ -110,5 +111,29 @@ pub fn check_data(shape: &Shape, octets: &[u8]) -> bool
     match split_fields(shape.fields, octets) {
         Some(rest) => is_any_rest(shape.rest, rest) && has_length(shape.length, octets),
         None => false,
+    }
+}
+
+/// Returns the octets after the fields that octets begin with.
+fn after_fields<'a>(fields: &[Field], octets: &'a [u8]) -> &'a [u8]
+    requires { (back : List ℕ) × BeginsWithFields fields.now octets.now back }
+    ensures { result.now ≡ after_fields fields.now octets.now }
+{
+    match split_fields(fields, octets) {
+        Some(back) => back,
+        None => unreachable!(),
+    }
+}
+
+/// Returns whether RDATA of a shape has only the generic form.
+pub fn has_no_text(shape: &Shape, octets: &[u8]) -> bool
+    requires { IsDataOf shape.now octets.now }
+    ensures { result
+        ≡ has_no_text shape.now.rest (after_fields shape.now.fields.now octets.now) }
+{
+    match shape.rest {
+        Rest::Location => is_other_version(after_fields(shape.fields, octets)),
+        Rest::Prefixes => has_other_family(after_fields(shape.fields, octets)),
+        _ => false,
     }
 }

@@ -4,18 +4,18 @@
 mod addresses;
 pub mod field;
 pub mod laws;
+pub mod parsing;
 pub mod record_error;
 pub mod record_ref;
 pub mod source;
-pub mod taking;
 mod texts;
 pub mod word;
 pub mod words;
 
 pub use field::{Field, append_field, field_width, write_field};
+pub use parsing::{parse_each, parse_field, parse_fields};
 pub use record_error::{FieldName, RecordError};
 pub use record_ref::RecordRef;
 pub use source::{TokenList, TokenSource};
-pub use taking::{parse_each, parse_field, parse_fields};
 pub use word::{Word, append_word};
 pub use words::Interval;

@@ -11,7 +11,7 @@ use Rattle.rdata_svcb.specs.ParamRefusals.{RefusesSpelled, FirstTokenReason, Wor
 use Rattle.rdata_svcb.specs.ParamTokens.{SplitsWord, IsOpenWord, IsSeparateWord, IsGluedText, SpellsParam, SpellsFirstParam}
 use Rattle.rdata_values.specs.declared.error.ErrorKind.{ErrorKind}
 use Rattle.rdata_svcb.specs.declared.keys.ValueKind.{ValueKind}
-use Rattle.rdata_svcb.specs.declared.taking.ParamWord.{ParamWord}
+use Rattle.rdata_svcb.specs.declared.parsing.ParamWord.{ParamWord}
 
 -- a word does not end in its first equals sign
 abbrev pub IsClosedWord : List ℕ → Type 0

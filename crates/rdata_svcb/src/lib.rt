@@ -7,16 +7,16 @@ pub mod keys;
 pub mod laws;
 pub mod list_laws;
 pub mod params;
+pub mod parsing;
 pub mod shown;
 mod strings;
-pub mod taking;
 mod template;
 pub mod texts;
 pub mod value_checks;
 mod values;
 
 pub use params::{Param, Params, settle_last};
+pub use parsing::parse_params;
 pub use shown::{KeyText, ParamText};
-pub use taking::parse_params;
 pub use texts::{append_list, append_list_text};
 pub use value_checks::{check_params, wrong_value};

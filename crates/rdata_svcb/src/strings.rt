@@ -35,7 +35,7 @@ pub(crate) fn is_escaped(octet: u8) -> bool
 }
 
 /// Returns the octet of an item after the backslash that the text begins with.
-fn behind_backslash(text: &[u8]) -> Result<ItemOctet<'_>, ErrorKind>
+fn octet_after_backslash(text: &[u8]) -> Result<ItemOctet<'_>, ErrorKind>
     ensures ok { IfOk result (SpellsSpecial text.now) }
     ensures err { IfErr result (λ e. StringsReason e × EachList text.now BeginsUnspecial) }
 {
@@ -65,7 +65,7 @@ fn first_of_item(text: &[u8]) -> Result<Option<ItemOctet<'_>>, ErrorKind>
         return Ok(None);
     }
     if first.octet == b'\\' {
-        let escaped = behind_backslash(first.rest)?;
+        let escaped = octet_after_backslash(first.rest)?;
         return Ok(Some(escaped));
     }
     Ok(Some(ItemOctet {

@@ -39,7 +39,7 @@ fn at_octets4(octets: &[u8; 4]) -> Gateway
 }
 
 /// Returns the IPv4 address that octets begin with.
-fn front4(octets: &[u8]) -> Option<Gateway>
+fn first_ipv4(octets: &[u8]) -> Option<Gateway>
     ensures { FindsGateway 1 octets.now result }
 {
     if octets.len() < 4 {
@@ -59,7 +59,7 @@ fn at_octets16(octets: &[u8; 16]) -> Gateway
 }
 
 /// Returns the IPv6 address that octets begin with.
-fn front16(octets: &[u8]) -> Option<Gateway>
+fn first_ipv6(octets: &[u8]) -> Option<Gateway>
     ensures { FindsGateway 2 octets.now result }
 {
     if octets.len() < 16 {
@@ -95,8 +95,8 @@ impl Gateway {
     {
         match number {
             0 => Some(Gateway::Nothing),
-            1 => front4(octets),
-            2 => front16(octets),
+            1 => first_ipv4(octets),
+            2 => first_ipv6(octets),
             _ => None,
         }
     }

@@ -72,7 +72,7 @@ fn hash_error(text: &[u8]) -> ErrorKind
 }
 
 /// Returns the octets of a hash after its length.
-fn behind_length(length: u8, hash: &[u8; 255]) -> [u8; 256]
+fn with_length(length: u8, hash: &[u8; 255]) -> [u8; 256]
     ensures { result ≡ length ∷ hash.now }
 {
     let mut wire = [length; 256];
@@ -98,7 +98,7 @@ pub fn append_base32hex<B: OctetsBuilder>(text: &[u8], target: &mut B) -> Result
         Some(count) if count > 0 => count,
         _ => return Err(hash_error(text)),
     };
-    let wire = behind_length(count as u8, &hash);
+    let wire = with_length(count as u8, &hash);
     if target.append_slice(&wire[..count + 1]).is_err() {
         return Err(ErrorKind::ShortBuf);
     }

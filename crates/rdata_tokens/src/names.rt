@@ -9,7 +9,7 @@ ghost use Rattle.dns_symbol.specs.declared.symbol.Symbol.{Symbol};
 ghost use Rattle.rdata_tokens.specs.NameSpelling.{SpellsName, OpensLabel, EndsLabel, RefusesFirstLabel, HasBadLabel, RefusesName, GainsLabels, LacksRoomForLabels};
 ghost use Rattle.rdata_values.specs.declared.error.ErrorKind.TheVariants.{ShortBuf};
 
-use crate::spelled::{append_behind, first_spelled};
+use crate::spelled::{append_counted, first_spelled};
 use dns_lexer::runs::{OctetClass, run_end};
 use dns_octets::{AsOctets, OctetsBuilder};
 use dns_wire::{MAX_LABEL, MAX_NAME, MAX_RELATIVE, Name};
@@ -17,7 +17,7 @@ use rdata_values::ErrorKind;
 
 /// The label that a text begins with: its own text, its length in octets, and the text after it.
 #[derive(Clone, Copy)]
-struct FrontLabel<'a> {
+struct SplitLabel<'a> {
     text: &'a [u8],
     count: usize,
     rest: &'a [u8],
@@ -43,7 +43,7 @@ fn ends_label(text: &[u8]) -> bool
 }
 
 /// Returns the label that a text begins with, if it has no escapes and fits in `room` octets.
-fn plain_label(text: &[u8], room: usize) -> Option<FrontLabel<'_>>
+fn plain_label(text: &[u8], room: usize) -> Option<SplitLabel<'_>>
     ensures { IfSome result (λ l. (part : List Symbol) × OpensLabel text.now room part l.rest.now × EndsLabel l.rest.now
         × (l.text.now ≡ flat_map spell part) × (l.count ≡ length part) × (0 < l.count)) }
 {
@@ -55,7 +55,7 @@ fn plain_label(text: &[u8], room: usize) -> Option<FrontLabel<'_>>
     if !ends_label(rest) {
         return None;
     }
-    Some(FrontLabel {
+    Some(SplitLabel {
         text: &text[..count],
         count,
         rest,
@@ -63,7 +63,7 @@ fn plain_label(text: &[u8], room: usize) -> Option<FrontLabel<'_>>
 }
 
 /// Returns the label that a text begins with, in a name in which `room` more octets fit.
-fn front_label(text: &[u8], room: usize) -> Result<FrontLabel<'_>, ErrorKind>
+fn split_label(text: &[u8], room: usize) -> Result<SplitLabel<'_>, ErrorKind>
     ensures { MatchResult result
         (λ l. (part : List Symbol) × OpensLabel text.now room part l.rest.now × EndsLabel l.rest.now
         × (l.text.now ≡ flat_map spell part) × (l.count ≡ length part) × (0 < l.count))
@@ -76,7 +76,7 @@ fn front_label(text: &[u8], room: usize) -> Result<FrontLabel<'_>, ErrorKind>
 }
 
 /// Returns the label that a text begins with, decoded octet by octet.
-fn spelled_label(text: &[u8], room: usize) -> Result<FrontLabel<'_>, ErrorKind>
+fn spelled_label(text: &[u8], room: usize) -> Result<SplitLabel<'_>, ErrorKind>
     ensures { MatchResult result
         (λ l. (part : List Symbol) × OpensLabel text.now room part l.rest.now × EndsLabel l.rest.now
         × (l.text.now ≡ flat_map spell part) × (l.count ≡ length part) × (0 < l.count))
@@ -98,7 +98,7 @@ fn spelled_label(text: &[u8], room: usize) -> Result<FrontLabel<'_>, ErrorKind>
     if count == 0 {
         return Err(ErrorKind::EmptyLabel);
     }
-    Ok(FrontLabel {
+    Ok(SplitLabel {
         text: &text[..text.len() - rest.len()],
         count,
         rest,
@@ -199,8 +199,8 @@ fn append_each<B: OctetsBuilder>(text: &[u8], target: &mut B) -> Result<Labels, 
     let mut rest = text;
     let mut count = 0;
     'labels: loop {
-        let label = front_label(rest, MAX_RELATIVE - count)?;
-        append_behind(label.count, label.text, target)?;
+        let label = split_label(rest, MAX_RELATIVE - count)?;
+        append_counted(label.count, label.text, target)?;
         count += 1 + label.count;
         if label.rest.is_empty() {
             return Ok(Labels {

@@ -81,7 +81,7 @@ impl DigitsReader {
     }
 
     /// Reads one digit. On an error, nothing is changed.
-    fn take_digit<B: OctetsBuilder>(&mut self, digit: u8, target: &mut B) -> Result<(), ErrorKind>
+    fn read_digit<B: OctetsBuilder>(&mut self, digit: u8, target: &mut B) -> Result<(), ErrorKind>
         ensures ok { OnOk result (AppendsPiece self.old (digit ∷ []) self.new
             (B.octets target.old) (B.octets target.new)) }
         ensures err { IfErr result
@@ -116,7 +116,7 @@ impl DigitsReader {
     }
 
     /// Reads digits one by one.
-    fn take_digits<B: OctetsBuilder>(
+    fn read_digits<B: OctetsBuilder>(
         &mut self,
         digits: &[u8],
         target: &mut B,
@@ -127,7 +127,7 @@ impl DigitsReader {
         ensures extends { OnErr result (Extends (B.octets target.old) (B.octets target.new)) }
     {
         for digit in digits {
-            self.take_digit(*digit, target)?;
+            self.read_digit(*digit, target)?;
         }
         Ok(())
     }
@@ -143,7 +143,7 @@ impl DigitsReader {
 
     /// Reads whole groups at the start of digits if no group is begun. Returns the number of digits
     /// read.
-    fn take_blocks<B: OctetsBuilder>(
+    fn read_whole_groups<B: OctetsBuilder>(
         &self,
         digits: &[u8],
         target: &mut B,
@@ -193,10 +193,10 @@ impl DigitsReader {
         ensures extends { OnErr result (Extends (B.octets target.old) (B.octets target.new)) }
     {
         let (front, rest) = piece.split_at(self.wanted().min(piece.len()));
-        self.take_digits(front, target)?;
-        let count = self.take_blocks(rest, target)?;
+        self.read_digits(front, target)?;
+        let count = self.read_whole_groups(rest, target)?;
         let last = &rest[count..];
-        self.take_digits(last, target)
+        self.read_digits(last, target)
     }
 
     /// Reads a piece, and appends the octets of each group that is whole then.

@@ -91,7 +91,7 @@ pub fn append_spelled<B: OctetsBuilder>(text: &[u8], target: &mut B) -> Result<(
 }
 
 /// Appends an octet with a count, and the octets that a text spells.
-pub(crate) fn append_behind<B: OctetsBuilder>(
+pub(crate) fn append_counted<B: OctetsBuilder>(
     count: usize,
     text: &[u8],
     target: &mut B,

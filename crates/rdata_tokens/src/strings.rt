@@ -3,7 +3,7 @@ ghost use Rattle.std.specs.Prelude.{IfErr, OnOk, OnErr};
 ghost use Rattle.dns_octets.specs.Appending.{Extends, Gains};
 ghost use Rattle.rdata_tokens.specs.Forms.{IsWireString, SpellsString, RefusesString, FindsWidth};
 
-use crate::spelled::{append_behind, count_spelled};
+use crate::spelled::{append_counted, count_spelled};
 use dns_octets::OctetsBuilder;
 use rdata_values::ErrorKind;
 
@@ -24,7 +24,7 @@ pub fn append_string<B: OctetsBuilder>(text: &[u8], target: &mut B) -> Result<()
     if count > MOST {
         return Err(ErrorKind::LongString);
     }
-    append_behind(count, text, target)?;
+    append_counted(count, text, target)?;
     Ok(())
 }
 

@@ -1,6 +1,6 @@
 pub mod Clauses
 pub mod Keywords
-pub mod LeftOutCounts
+pub mod OmittedCounts
 pub mod Lexemes
 pub mod NameRows
 pub mod Nsd

@@ -6,9 +6,9 @@
 pub mod clause;
 pub mod error;
 mod keyword;
-pub mod left_out;
 mod lexeme;
 pub mod nsd;
+pub mod omitted;
 pub mod path_pattern;
 mod scan;
 pub mod settings;
@@ -23,11 +23,11 @@ pub mod zone_path;
 
 pub use clause::{Clause, ClauseEnd, next_clause};
 pub use error::{ConfigError, ConfigErrorKind};
-pub use left_out::LeftOutCounts;
 pub use nsd::{NsdEvent, NsdSection, NsdStep, is_nsd_config, next_nsd_step, nsd_zone_outcome};
+pub use omitted::OmittedCounts;
 pub use path_pattern::{fits_path_pattern, is_path_pattern};
 pub use settings::{
-    FileFormat, LeftOut, Settings, Severity, ZoneOutcome, ZoneSettings, ZoneType, zone_outcome,
+    FileFormat, OmitReason, Settings, Severity, ZoneOutcome, ZoneSettings, ZoneType, zone_outcome,
 };
 pub use state::{BlockName, ConfigBlock, ConfigEvent, ConfigState, ConfigStep, LastClause};
 pub use step::next_step;

@@ -23,6 +23,7 @@ mod set;
 mod spelling;
 mod store;
 mod tape;
+mod wire;
 mod zone;
 
 use test_support::{Answer, Calls, Failure, Inputs};
@@ -68,6 +69,7 @@ fn call(name: &str, inputs: &Inputs, answer: &mut Answer) {
         "set" => set::call(name, inputs, answer),
         "store" => store::call(name, inputs, answer),
         "tape" => tape::call(name, inputs, answer),
+        "wire" => wire::call(name, inputs, answer),
         "zone" => zone::call(name, inputs, answer),
         _ => answer.fail(Failure::NoCall),
     }

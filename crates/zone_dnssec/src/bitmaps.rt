@@ -16,7 +16,7 @@ use zone_rules::names::view;
 use zone_rules::sorted::{has_type, owned_by};
 
 /// Returns the octets after the first `count`, or an empty slice if there are fewer.
-pub(crate) fn behind(octets: &[u8], count: usize) -> &[u8]
+pub(crate) fn octets_after(octets: &[u8], count: usize) -> &[u8]
     ensures { result.now ≡ drop count octets.now }
 {
     if count < octets.len() {
@@ -32,7 +32,7 @@ fn types_octets<Octets: AsOctets>(data: &Data<Octets>) -> &[u8]
 {
     let octets = data.as_slice();
     match data.part(0) {
-        Some(next) => behind(octets, next.len()),
+        Some(next) => octets_after(octets, next.len()),
         None => &[],
     }
 }

@@ -10,7 +10,7 @@ ghost use Rattle.zone_dnssec.specs.DenialRecords.{begins_with_hash, denial_ttl, 
 ghost use Rattle.zone_dnssec.specs.Parameters.{field_octets};
 ghost use Rattle.zone_rules.specs.Zones.{type_of};
 
-use crate::bitmaps::behind;
+use crate::bitmaps::octets_after;
 use crate::nsec3::{field, is_chain, iterations};
 use crate::sets::is_of_parent;
 use crate::times::number;
@@ -55,7 +55,7 @@ fn is_digit(octet: u8) -> bool
 }
 
 /// Returns the first octets, or all if there are fewer.
-fn front(octets: &[u8], count: usize) -> &[u8]
+fn first_octets(octets: &[u8], count: usize) -> &[u8]
     ensures { result.now ≡ take count octets.now }
 {
     if count < octets.len() {
@@ -77,7 +77,9 @@ fn is_hash_name(octets: &[u8]) -> bool
     ensures { result ≡ begins_with_hash octets.now }
 {
     match octets {
-        [count, rest @ ..] => { usize::from(*count) == DIGITS && are_digits(front(rest, DIGITS)) }
+        [count, rest @ ..] => {
+            usize::from(*count) == DIGITS && are_digits(first_octets(rest, DIGITS))
+        }
         _ => false,
     }
 }

@@ -132,7 +132,7 @@ fn is_in_opt_out<'a, Owner: AsOctets, Octets: AsOctets>(
 }
 
 /// Returns whether a name is a delegation without DS that a chain omits.
-fn is_left_out<'a, Owner: AsOctets, Octets: AsOctets>(
+fn is_omitted<'a, Owner: AsOctets, Octets: AsOctets>(
     hashes: &mut Hashes<'a>,
     zone: &SignedZone<'_, 'a, Owner, Octets>,
     chain: &'a Record<Owner, Octets>,
@@ -240,7 +240,7 @@ fn is_in_chain<'a, Owner: AsOctets, Octets: AsOctets>(
 {
     has_authority(zone.origin, zone.records, name)
         && !has_type(zone.records, name, RecordType::NSEC3)
-        && !is_left_out(hashes, zone, chain, name)
+        && !is_omitted(hashes, zone, chain, name)
 }
 
 /// Returns whether names are hashed for a chain: it has at most 150 iterations.

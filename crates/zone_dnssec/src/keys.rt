@@ -5,7 +5,7 @@ ghost use Rattle.std.specs.List.{list_any};
 ghost use Rattle.zone_dnssec.specs.SignedSets.{covers};
 ghost use Rattle.zone_dnssec.specs.ZoneKeys.{fits_key, has_fitting_signature, is_by_revoked_key, is_named, key_in, key_tag, keys_of, lacks_known_key, long_modulus, misses_key, modulus, modulus_tag, sum_tag, weighed, weighed_sum, zone_keys};
 
-use crate::bitmaps::behind;
+use crate::bitmaps::octets_after;
 use crate::nsec3::{field, short_number};
 use crate::sets::{is_first_of_set, is_signature_of, is_signed, needs_signature};
 use crate::signatures::first;
@@ -75,7 +75,9 @@ fn long_modulus(octets: &[u8]) -> &[u8]
     ensures { result.now ≡ long_modulus octets.now }
 {
     match octets {
-        [high, low, rest @ ..] => { behind(rest, usize::from(u16::from_be_bytes([*high, *low]))) }
+        [high, low, rest @ ..] => {
+            octets_after(rest, usize::from(u16::from_be_bytes([*high, *low])))
+        }
         _ => &[],
     }
 }
@@ -89,7 +91,7 @@ fn modulus(key: &[u8]) -> &[u8]
             if *count == 0 {
                 long_modulus(rest)
             } else {
-                behind(rest, usize::from(*count))
+                octets_after(rest, usize::from(*count))
             }
         }
         _ => &[],

@@ -10,7 +10,7 @@ ghost use Rattle.zone_dnssec.specs.NsecChain.{comes_after};
 ghost use Rattle.zone_dnssec.specs.Parameters.{field_octets, names_chain};
 ghost use Rattle.zone_dnssec.specs.ZoneViews.{zone_of};
 
-use crate::bitmaps::behind;
+use crate::bitmaps::octets_after;
 use crate::hashes::Hashes;
 use crate::nsec3_hash::hashed_name;
 use crate::zone::SignedZone;
@@ -61,16 +61,16 @@ pub(crate) fn short_number(octets: &[u8]) -> u16
 pub fn next_hash<Owner: AsOctets, Octets: AsOctets>(record: &Record<Owner, Octets>) -> &[u8]
     ensures { result.now ≡ next_hash_of «record».now }
 {
-    behind(field(record, NEXT_HASH), 1)
+    octets_after(field(record, NEXT_HASH), 1)
 }
 
 /// Returns the bitmap of an NSEC3.
 pub fn bitmap<Owner: AsOctets, Octets: AsOctets>(record: &Record<Owner, Octets>) -> &[u8]
     ensures { result.now ≡ hashed_bitmap «record».now }
 {
-    let rest = behind(record.data.as_slice(), 4);
-    let rest = behind(rest, field(record, SALT).len());
-    behind(rest, field(record, NEXT_HASH).len())
+    let rest = octets_after(record.data.as_slice(), 4);
+    let rest = octets_after(rest, field(record, SALT).len());
+    octets_after(rest, field(record, NEXT_HASH).len())
 }
 
 /// Returns whether an NSEC3 has the flag Opt-Out (RFC 5155 section 3.1.2.1).
@@ -129,7 +129,7 @@ pub fn owner_for<'a, Owner: AsOctets, Octets: AsOctets>(
 ) -> Option<Name<ArrayVec<u8, 255>>>
     ensures { result ≡ matching_owner origin.now chain.now name.now }
 {
-    let salt = behind(field(chain, SALT), 1);
+    let salt = octets_after(field(chain, SALT), 1);
     let hash = hashes.hash(name, salt, iterations(chain));
     hashed_name(origin, &hash)
 }
@@ -191,7 +191,7 @@ fn last_link<'a, Owner: AsOctets, Octets: AsOctets>(
 }
 
 /// Returns the first NSEC3 of a chain after a name.
-fn link_behind<'a, Owner: AsOctets, Octets: AsOctets>(
+fn first_link_after<'a, Owner: AsOctets, Octets: AsOctets>(
     records: &SortedRecords<'a, Owner, Octets>,
     chain: &Record<Owner, Octets>,
     name: &Name<&[u8]>,
@@ -206,7 +206,7 @@ fn link_behind<'a, Owner: AsOctets, Octets: AsOctets>(
 }
 
 /// Returns the last NSEC3 of a chain before a name.
-fn link_in_front<'a, Owner: AsOctets, Octets: AsOctets>(
+fn last_link_before<'a, Owner: AsOctets, Octets: AsOctets>(
     records: &SortedRecords<'a, Owner, Octets>,
     chain: &Record<Owner, Octets>,
     name: &Name<&[u8]>,
@@ -228,7 +228,7 @@ pub fn next_in_chain<'a, Owner: AsOctets, Octets: AsOctets>(
 ) -> Option<&'a Record<Owner, Octets>>
     ensures { option_copied result ≡ link_after records.now chain.now name.now }
 {
-    match link_behind(records, chain, name) {
+    match first_link_after(records, chain, name) {
         Some(link) => Some(link),
         None => first_link(records, chain),
     }
@@ -243,7 +243,7 @@ pub fn covering_link<'a, Owner: AsOctets, Octets: AsOctets>(
 ) -> Option<&'a Record<Owner, Octets>>
     ensures { option_copied result ≡ link_before records.now chain.now name.now }
 {
-    match link_in_front(records, chain, name) {
+    match last_link_before(records, chain, name) {
         Some(link) => Some(link),
         None => last_link(records, chain),
     }

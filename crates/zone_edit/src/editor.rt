@@ -89,7 +89,7 @@ fn append_texts<A: Allocator, B: Allocator>(
 /// Appends what is still to be appended at the end of a text. The first octets may be appended
 /// without memory.
 #[tactic(auto, using(crate::proofs::Applying::left_made))]
-fn append_left<A: Allocator, B: Allocator>(
+fn append_rest<A: Allocator, B: Allocator>(
     edits: &[Edit<B>],
     reached: EditProgress,
     out: &mut Vec<u8, A>,
@@ -181,7 +181,7 @@ impl<'e, B: Allocator> Editor<'e, B> {
     {
         check_ends(self.edits, self.reached.at)?;
         let before = out.len();
-        match append_left(self.edits, self.reached, out) {
+        match append_rest(self.edits, self.reached, out) {
             Ok(()) => Ok(()),
             Err(_) => {
                 out.truncate(before);

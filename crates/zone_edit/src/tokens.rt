@@ -94,7 +94,7 @@ fn push_span<A: Allocator>(
 
 /// Appends the spans that are removed with tokens that follow an offset, at which another token
 /// ends: each with the octets before it that aren't kept ([`kept_len`]).
-fn append_taken_out<A: Allocator>(
+fn append_removed<A: Allocator>(
     octets: &[u8],
     after: usize,
     tokens: &[Span],
@@ -136,7 +136,7 @@ fn append_stretches<A: Allocator>(
         return Err(TokenError::OutOfOrder);
     }
     push_span(out, first.start, first.end)?;
-    append_taken_out(octets, first.end, others, out)
+    append_removed(octets, first.end, others, out)
 }
 
 /// Pushes edits that delete spans. The first of them may be pushed without memory.

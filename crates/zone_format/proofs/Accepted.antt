@@ -11,7 +11,7 @@ use Rattle.zone_format.specs.Form.{blank_below, led_turn, start}
 use Rattle.zone_format.specs.Marks.{Mark, Token, Note, Open, Close, Feed, Lead}
 use Rattle.zone_format.specs.Refusal.{begins_marked, begins_order_mark, has_form, has_no_nul, mark_has_no_nul}
 use Rattle.zone_format.specs.Writing.{accepts_from, is_edge, is_start}
-use Rattle.zone_format.proofs.Formed.{after_within, first_stand, led_start, stand}
+use Rattle.zone_format.proofs.Formed.{after_within, first_stand, led_start, line_state}
 
 -- a line was written, or is being written
 abbrev pub is_settled : Above → Bool → Bool
@@ -48,7 +48,7 @@ plain_token : (p e m r : Bool) → e ≡ false → ((p && not (e && m)) && r) �
 plain_token true e m r h = ap (λ x. not (x && m) && r) h
 plain_token false e m r h = refl
 
-pub settled : (ms : List Mark) (a : Above) (d noted note : ℕ) (t : Turn) (e : ℕ) → is_settled a (is_start t) ≡ true → accepts_from (stand a d noted note t e) ms ≡ list_all mark_has_no_nul ms
+pub settled : (ms : List Mark) (a : Above) (d noted note : ℕ) (t : Turn) (e : ℕ) → is_settled a (is_start t) ≡ true → accepts_from (line_state a d noted note t e) ms ≡ list_all mark_has_no_nul ms
 settled [] a d noted note t e h = refl
 settled (Token g x ∷ ms) a d noted note t e h =
     plain_token (has_no_nul x) (is_edge a t) (begins_order_mark x) _ (no_edge a t h)
@@ -82,7 +82,7 @@ edge_is : (b : Bool) → is_edge Nothing (turn_of b) ≡ not b
 edge_is true = refl
 edge_is false = refl
 
-pub accepted : (ms : List Mark) (b : Bool) (noted : ℕ) → accepts_from (stand Nothing 0 noted 0 (turn_of b) 0) ms ≡ (list_all mark_has_no_nul ms && not (begins_marked b ms))
+pub accepted : (ms : List Mark) (b : Bool) (noted : ℕ) → accepts_from (line_state Nothing 0 noted 0 (turn_of b) 0) ms ≡ (list_all mark_has_no_nul ms && not (begins_marked b ms))
 accepted [] b noted = refl
 accepted (Token g x ∷ ms) b noted =
     ap (λ r. (has_no_nul x && not (is_edge Nothing (turn_of b) && begins_order_mark x)) && r)

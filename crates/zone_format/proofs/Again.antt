@@ -13,7 +13,7 @@ use Rattle.zone_format.specs.Marks.{Mark, Token, Note, Open, Close, Feed, Lead, 
 use Rattle.zone_format.specs.Refusal.{begins_marked, has_form, mark_has_no_nul}
 use Rattle.zone_format.specs.Squeezed.{squeezed}
 use Rattle.zone_format.specs.Writing.{is_start, note_before, parenthesis_before, token_before, written_from}
-use Rattle.zone_format.proofs.Formed.{after_within, first_stand, stand, written_is_form}
+use Rattle.zone_format.proofs.Formed.{after_within, first_stand, line_state, written_is_form}
 use Rattle.zone_format.proofs.Planned.{begin_stand, begin_start, begin_turn, led_begin, plan_of, planned}
 use Rattle.zone_format.proofs.Reading.{rewritten}
 use Rattle.zone_format.proofs.Respelling.{end_if, lead_in, next, sq}
@@ -37,10 +37,10 @@ feed_unless b = if b then [] else 10 ∷ []
 -- a line end at the beginning of a line
 fed_begin : (a : Above) (d n : ℕ) (l : Bool) (ms : List Mark) → written_from (begin_stand a d n l) (Feed ∷ ms) ≡ written_from (begin_stand (blank_below a) d 0 false) ms
 fed_begin a d n l ms =
-    subst (λ b. feed_unless b ++ written_from (stand (if b then blank_below a else Line) d 0 0 (start d) 0) ms ≡ written_from (begin_stand (blank_below a) d 0 false) ms) (sym (begin_start (d == 0) l)) refl
+    subst (λ b. feed_unless b ++ written_from (line_state (if b then blank_below a else Line) d 0 0 (start d) 0) ms ≡ written_from (begin_stand (blank_below a) d 0 false) ms) (sym (begin_start (d == 0) l)) refl
 
 lead_begin : (a : Above) (d n : ℕ) (l : Bool) (ms : List Mark) → written_from (begin_stand a d n false) (lead l ++ ms) ≡ written_from (begin_stand a d n l) ms
-lead_begin a d n true ms = ap (λ (t : Turn). written_from (stand a d n 0 t 0) ms) (led_begin (d == 0) false)
+lead_begin a d n true ms = ap (λ (t : Turn). written_from (line_state a d n 0 t 0) ms) (led_begin (d == 0) false)
 lead_begin a d n false ms = refl
 
 arrive : (a : Above) (d m n : ℕ) (l : Bool) (ms : List Mark) → Suits a m n → written_from (begin_stand (base a) d m false) (lead_in a false l ++ ms) ≡ written_from (begin_stand a d n l) ms
@@ -49,14 +49,14 @@ arrive Line d m n l ms s = ap (λ i. written_from (begin_stand Line d i false) (
 arrive Gap d m n l ms s = fed_begin Line d m false (lead l ++ ms) ∙ lead_begin Gap d 0 l ms ∙ ap (λ i. written_from (begin_stand Gap d i l) ms) (sym s)
 
 abbrev Within : List Mark → Type 0
-Within ms = (b a : Above) (d noted note : ℕ) (t : Turn) (e : ℕ) (l : Bool) → is_start t ≡ false → written_from (stand a d noted note t e) (sq b true l ms) ≡ written_from (stand a d noted note t e) ms
+Within ms = (b a : Above) (d noted note : ℕ) (t : Turn) (e : ℕ) (l : Bool) → is_start t ≡ false → written_from (line_state a d noted note t e) (sq b true l ms) ≡ written_from (line_state a d noted note t e) ms
 
 abbrev Starts : List Mark → Type 0
 Starts ms = (a : Above) (d m n : ℕ) (l : Bool) → Suits a m n → written_from (begin_stand (base a) d m false) (sq a false l ms) ≡ written_from (begin_stand a d n l) ms
 
 feed_within : (ms : List Mark) → Starts ms → Within (Feed ∷ ms)
 feed_within ms f b a d noted note t e l h =
-    subst (λ c. feed_unless c ++ written_from (stand (if c then blank_below a else Line) d note 0 (start d) 0) (sq Line false false ms) ≡ feed_unless c ++ written_from (stand (if c then blank_below a else Line) d note 0 (start d) 0) ms) (sym h)
+    subst (λ c. feed_unless c ++ written_from (line_state (if c then blank_below a else Line) d note 0 (start d) 0) (sq Line false false ms) ≡ feed_unless c ++ written_from (line_state (if c then blank_below a else Line) d note 0 (start d) 0) ms) (sym h)
     (ap (λ r. 10 ∷ r) (f Line d note note false refl))
 
 feed_start : (ms : List Mark) → Starts ms → Starts (Feed ∷ ms)
@@ -65,7 +65,7 @@ feed_start ms f Line d m n l s = f Gap d m 0 false refl ∙ sym (fed_begin Line 
 feed_start ms f Gap d m n l s = f Gap d m 0 false refl ∙ sym (fed_begin Gap d n l ms)
 
 lead_start : (ms : List Mark) → Starts ms → Starts (Lead ∷ ms)
-lead_start ms f a d m n l s = f a d m n true s ∙ ap (λ (t : Turn). written_from (stand a d n 0 t 0) ms) (sym (led_begin (d == 0) l))
+lead_start ms f a d m n l s = f a d m n true s ∙ ap (λ (t : Turn). written_from (line_state a d n 0 t 0) ms) (sym (led_begin (d == 0) l))
 
 last_start : Starts []
 last_start a d m n l s = ap feed_unless (begin_start (d == 0) false) ∙ sym (ap feed_unless (begin_start (d == 0) l))
@@ -85,29 +85,29 @@ same_turn (Typed m) h = refl
 same_turn Rest h = refl
 
 lead_within : (ms : List Mark) → Within ms → Within (Lead ∷ ms)
-lead_within ms f b a d noted note t e l h = f b a d noted note t e true h ∙ ap (λ (u : Turn). written_from (stand a d noted note u e) ms) (sym (same_turn t h))
+lead_within ms f b a d noted note t e l h = f b a d noted note t e true h ∙ ap (λ (u : Turn). written_from (line_state a d noted note u e) ms) (sym (same_turn t h))
 
 both : (ms : List Mark) → Within ms × Starts ms
 both [] = (last_within, last_start)
 both (Feed ∷ ms) = (feed_within ms (both ms).1, feed_start ms (both ms).1)
 both (Lead ∷ ms) = (lead_within ms (both ms).0, lead_start ms (both ms).1)
 both (Token g x ∷ ms) = (
-  λ b a d noted note t e l h. ap (λ r. token_before (stand a d noted note t e) g x ++ (x ++ r)) ((both ms).0 b a d noted note (after_token t e g x) ((token_column t e g x - 1) + width_of x) false (after_within t e g x)),
+  λ b a d noted note t e l h. ap (λ r. token_before (line_state a d noted note t e) g x ++ (x ++ r)) ((both ms).0 b a d noted note (after_token t e g x) ((token_column t e g x - 1) + width_of x) false (after_within t e g x)),
   λ a d m n l s. let t = begin_turn (d == 0) l in arrive a d m n l (Token g x ∷ sq a true false ms) s
       ∙ ap (λ r. token_before (begin_stand a d n l) g x ++ (x ++ r)) ((both ms).0 a a d n 0 (after_token t 0 g x) ((token_column t 0 g x - 1) + width_of x) false (after_within t 0 g x)),
 )
 both (Note x ∷ ms) = (
-  λ b a d noted note t e l h. ap (λ r. note_before (stand a d noted note t e) x ++ (x ++ r)) ((both ms).0 b a d noted (note_column noted t e x) Rest ((note_column noted t e x - 1) + width_of x) false refl),
+  λ b a d noted note t e l h. ap (λ r. note_before (line_state a d noted note t e) x ++ (x ++ r)) ((both ms).0 b a d noted (note_column noted t e x) Rest ((note_column noted t e x - 1) + width_of x) false refl),
   λ a d m n l s. let t = begin_turn (d == 0) l in arrive a d m n l (Note x ∷ sq a true false ms) s
       ∙ ap (λ r. note_before (begin_stand a d n l) x ++ (x ++ r)) ((both ms).0 a a d n (note_column n t 0 x) Rest ((note_column n t 0 x - 1) + width_of x) false refl),
 )
 both (Open ∷ ms) = (
-  λ b a d noted note t e l h. ap (λ r. parenthesis_before (stand a d noted note t e) ++ (40 ∷ r)) ((both ms).0 b a (d + 1) noted note Rest (parenthesis_column t e) false refl),
+  λ b a d noted note t e l h. ap (λ r. parenthesis_before (line_state a d noted note t e) ++ (40 ∷ r)) ((both ms).0 b a (d + 1) noted note Rest (parenthesis_column t e) false refl),
   λ a d m n l s. let t = begin_turn (d == 0) l in arrive a d m n l (Open ∷ sq a true false ms) s
       ∙ ap (λ r. parenthesis_before (begin_stand a d n l) ++ (40 ∷ r)) ((both ms).0 a a (d + 1) n 0 Rest (parenthesis_column t 0) false refl),
 )
 both (Close ∷ ms) = (
-  λ b a d noted note t e l h. ap (λ r. parenthesis_before (stand a d noted note t e) ++ (41 ∷ r)) ((both ms).0 b a (d - 1) noted note Rest (parenthesis_column t e) false refl),
+  λ b a d noted note t e l h. ap (λ r. parenthesis_before (line_state a d noted note t e) ++ (41 ∷ r)) ((both ms).0 b a (d - 1) noted note Rest (parenthesis_column t e) false refl),
   λ a d m n l s. let t = begin_turn (d == 0) l in arrive a d m n l (Close ∷ sq a true false ms) s
       ∙ ap (λ r. parenthesis_before (begin_stand a d n l) ++ (41 ∷ r)) ((both ms).0 a a (d - 1) n 0 Rest (parenthesis_column t 0) false refl),
 )

@@ -13,12 +13,12 @@ use Rattle.zone_format.specs.Form.{Before, Placed, blank_below, depth_after, for
 use Rattle.zone_format.specs.Marks.{Mark, Token, Note, Open, Close, Feed, Lead}
 use Rattle.zone_format.specs.Writing.{is_start, written_from}
 
-abbrev pub stand : Above → ℕ → ℕ → ℕ → Turn → ℕ → LineState
-stand a d noted note t e = record { above = a; depth = d; noted = noted; note = note; turn = t; end = e }
+abbrev pub line_state : Above → ℕ → ℕ → ℕ → Turn → ℕ → LineState
+line_state a d noted note t e = record { above = a; depth = d; noted = noted; note = note; turn = t; end = e }
 
 -- at the beginning of a text
 abbrev pub first_stand : LineState
-first_stand = stand Nothing 0 0 0 Edge 0
+first_stand = line_state Nothing 0 0 0 Edge 0
 
 abbrev pub before_line : ℕ → ℕ → Before
 before_line d n = record { depth = d; noted = n }
@@ -93,10 +93,10 @@ abbrev line_of : Bool → Above → ℕ → ℕ → Turn → List Mark → List 
 line_of blank a d noted t l ls = if blank then forms (blank_below a) (before_line (depth_after d l) (noted_in 0 (places noted t 0 l))) ls else gap 10 a ++ rest_of d noted 0 t 0 l ls
 
 abbrev Within : List Mark → Type 0
-Within ms = (a : Above) (d noted note : ℕ) (t : Turn) (e : ℕ) → is_start t ≡ false → written_from (stand a d noted note t e) ms ≡ rest_of d noted note t e (first_line ms) (more_lines ms)
+Within ms = (a : Above) (d noted note : ℕ) (t : Turn) (e : ℕ) → is_start t ≡ false → written_from (line_state a d noted note t e) ms ≡ rest_of d noted note t e (first_line ms) (more_lines ms)
 
 abbrev Starts : List Mark → Type 0
-Starts ms = (a : Above) (d noted : ℕ) (t : Turn) → is_start t ≡ true → written_from (stand a d noted 0 t 0) ms ≡ line_of (is_blank_line (first_line ms)) a d noted t (first_line ms) (more_lines ms)
+Starts ms = (a : Above) (d noted : ℕ) (t : Turn) → is_start t ≡ true → written_from (line_state a d noted 0 t 0) ms ≡ line_of (is_blank_line (first_line ms)) a d noted t (first_line ms) (more_lines ms)
 
 -- something, and the rest of its line
 put : (spaces x w tail more : List ℕ) → more ≡ w ++ tail → spaces ++ (x ++ more) ≡ (spaces ++ (x ++ w)) ++ tail
@@ -113,7 +113,7 @@ abbrev blanks : ℕ → ℕ → List ℕ
 blanks c e = replicate (c - (e + 1)) 32
 
 -- a whole line
-pub from_start : (ms : List Mark) → Starts ms → (a : Above) (d noted : ℕ) → written_from (stand a d noted 0 (start d) 0) ms ≡ forms a (before_line d noted) (lines ms)
+pub from_start : (ms : List Mark) → Starts ms → (a : Above) (d noted : ℕ) → written_from (line_state a d noted 0 (start d) 0) ms ≡ forms a (before_line d noted) (lines ms)
 from_start ms h a d noted = h a d noted (start d) (starts d) ∙ ap (forms a (before_line d noted)) (sym (lines_are ms))
 
 abbrev feed_unless : Bool → List ℕ
@@ -127,12 +127,12 @@ end_start b h = ap feed_unless h
 
 feed_within : (ms : List Mark) → Starts ms → Within (Feed ∷ ms)
 feed_within ms f a d noted note t e h =
-    ap (λ b. feed_unless b ++ written_from (stand (if b then blank_below a else Line) d note 0 (start d) 0) ms) h
+    ap (λ b. feed_unless b ++ written_from (line_state (if b then blank_below a else Line) d note 0 (start d) 0) ms) h
     ∙ ap (λ l. 10 ∷ l) (from_start ms f Line d note)
 
 feed_start : (ms : List Mark) → Starts ms → Starts (Feed ∷ ms)
 feed_start ms f a d noted t h =
-    ap (λ b. feed_unless b ++ written_from (stand (if b then blank_below a else Line) d 0 0 (start d) 0) ms) h
+    ap (λ b. feed_unless b ++ written_from (line_state (if b then blank_below a else Line) d 0 0 (start d) 0) ms) h
     ∙ from_start ms f (blank_below a) d 0
 
 -- a parenthesis ends at its column

@@ -16,16 +16,16 @@ pub accepts_on : (xs ys : List Mark) (s t u : LineState) → Accepts xs s t → 
 accepts_on xs ys s t u g h = λ ms. h ms ∙ g (ys ++ ms) ∙ ap (accepts_from s) (sym (append_assoc xs ys ms))
 
 pub token_goes : (old : List ℕ) (s : LineState) (glued : Bool) (x new : List ℕ) (u : LineState) → PushesToken old s glued x new u → WritesMarks (Token glued x ∷ []) old s new u
-token_goes old s glued x new u p = λ ms. ap (λ v. new ++ written_from v ms) p.stand ∙ written_on old (token_before s glued x) x new (written_from (pushed_token s glued x) ms) p.out
+token_goes old s glued x new u p = λ ms. ap (λ v. new ++ written_from v ms) p.line_state ∙ written_on old (token_before s glued x) x new (written_from (pushed_token s glued x) ms) p.out
 
 pub token_accepts : (old : List ℕ) (s : LineState) (glued : Bool) (x new : List ℕ) (u : LineState) → accepts s x ≡ true → PushesToken old s glued x new u → Accepts (Token glued x ∷ []) s u
-token_accepts old s glued x new u a p = λ ms. ap (λ v. accepts_from v ms) p.stand ∙ ap (λ b. b && accepts_from (pushed_token s glued x) ms) (sym a)
+token_accepts old s glued x new u a p = λ ms. ap (λ v. accepts_from v ms) p.line_state ∙ ap (λ b. b && accepts_from (pushed_token s glued x) ms) (sym a)
 
 pub note_goes : (old : List ℕ) (s : LineState) (x new : List ℕ) (u : LineState) → PushesNote old s x new u → WritesMarks (Note x ∷ []) old s new u
-note_goes old s x new u p = λ ms. ap (λ v. new ++ written_from v ms) p.stand ∙ written_on old (note_before s x) x new (written_from (pushed_note s x) ms) p.out
+note_goes old s x new u p = λ ms. ap (λ v. new ++ written_from v ms) p.line_state ∙ written_on old (note_before s x) x new (written_from (pushed_note s x) ms) p.out
 
 pub note_accepts : (old : List ℕ) (s : LineState) (x new : List ℕ) (u : LineState) → PushesNote old s x new u → Accepts (Note x ∷ []) s u
-note_accepts old s x new u p = λ ms. ap (λ v. accepts_from v ms) p.stand
+note_accepts old s x new u p = λ ms. ap (λ v. accepts_from v ms) p.line_state
 
 pub lead_goes : (b : Bool) (old : List ℕ) (s u : LineState) → u ≡ (if b then led s else s) → WritesMarks (lead b) old s old u
 lead_goes true old s u e = λ ms. ap (λ v. old ++ written_from v ms) e
@@ -49,10 +49,10 @@ pub stands_on : (xs ys : List Mark) (s t u : LineState) → t ≡ state_after s 
 stands_on xs ys s t u g h = h ∙ ap (λ v. state_after v ys) g ∙ sym (stands_append s xs ys)
 
 pub token_stands : (old : List ℕ) (s : LineState) (glued : Bool) (x new : List ℕ) (u : LineState) → PushesToken old s glued x new u → u ≡ state_after s (Token glued x ∷ [])
-token_stands old s glued x new u p = p.stand
+token_stands old s glued x new u p = p.line_state
 
 pub note_stands : (old : List ℕ) (s : LineState) (x new : List ℕ) (u : LineState) → PushesNote old s x new u → u ≡ state_after s (Note x ∷ [])
-note_stands old s x new u p = p.stand
+note_stands old s x new u p = p.line_state
 
 pub lead_stands : (b : Bool) (s u : LineState) → u ≡ (if b then led s else s) → u ≡ state_after s (lead b)
 lead_stands true s u e = e

@@ -35,7 +35,7 @@ gap_turn gap old mid new s t u i h a b =
     subst (λ l. Moves l old s (i + 1) new u) (sym (gap_more gap i h)) (record {
       goes = goes_on xs ys old mid new s t u a.goes b.goes;
       accepts = accepts_on xs ys s t u a.accepts b.accepts;
-      stand = stands_on xs ys s t u a.stand b.stand;
+      line_state = stands_on xs ys s t u a.line_state b.line_state;
       fits = b.fits;
       depth = omega (arith, a.depth, b.depth);
     })
@@ -50,43 +50,43 @@ blank_mark c h =
     ∙ ap (λ x. if x then Feed ∷ [] else []) (ne_eqb c 10 (λ e. no_blank 10 c e refl h))
 
 stays : (octets : List ℕ) (s : LineState) → LineFits octets s → Moves [] octets s 1 octets s
-stays octets s f = record { goes = λ more. refl; accepts = λ more. refl; stand = refl; fits = f; depth = omega arith }
+stays octets s f = record { goes = λ more. refl; accepts = λ more. refl; line_state = refl; fits = f; depth = omega arith }
 
 pub gap_blank : (gap old mid : List ℕ) (s t : LineState) (i : ℕ) → i < length gap → is_blank (get_or gap i 0) ≡ true → Moves (flat_map gap_mark (take i gap)) old s i mid t → Moves (flat_map gap_mark (take (i + 1) gap)) old s (i + 1) mid t
 gap_blank gap old mid s t i h b a =
     gap_turn gap old mid mid s t t i h a (subst (λ ms. Moves ms mid t 1 mid t) (sym (blank_mark (get_or gap i 0) b)) (stays mid t a.fits))
 
 -- the octets between two pieces, followed by something
-pub advanced : (octets : List ℕ) (ms : List Mark) (old mid new : List ℕ) (p : Progress) (s to : ℕ) (tied : Bool) (t u : LineState) → Moves (gap_marks octets p.at s) old p.stand (length (between octets p.at s)) mid t
+pub advanced : (octets : List ℕ) (ms : List Mark) (old mid new : List ℕ) (p : Progress) (s to : ℕ) (tied : Bool) (t u : LineState) → Moves (gap_marks octets p.at s) old p.line_state (length (between octets p.at s)) mid t
     → WritesMarks ms mid t new u → Accepts ms t u → u ≡ state_after t ms → LineFits new u → u.depth ≡ t.depth → Reaches octets p → p.at ≤ s → s ≤ to → to ≤ length octets
-    → Advances octets (gap_marks octets p.at s ++ ms) old p to tied new (record { stand = u; at = to; is_token = tied })
+    → Advances octets (gap_marks octets p.at s ++ ms) old p to tied new (record { line_state = u; at = to; is_token = tied })
 advanced octets ms old mid new p s to tied t u m g a k f d r o some w =
     let gs = gap_marks octets p.at s in
     let short : length (between octets p.at s) ≤ s - p.at = omega (arith, length-take (s - p.at) (drop p.at octets)) in
     record {
-      goes = goes_on gs ms old mid new p.stand t u m.goes g;
-      accepts = accepts_on gs ms p.stand t u m.accepts a;
-      stand = stands_on gs ms p.stand t u m.stand k;
+      goes = goes_on gs ms old mid new p.line_state t u m.goes g;
+      accepts = accepts_on gs ms p.line_state t u m.accepts a;
+      line_state = stands_on gs ms p.line_state t u m.line_state k;
       fits = f;
       reaches = record { within = w; depth = omega (arith, d, m.depth, r.depth, short, o, some) };
       at = refl;
       is_token = refl;
     }
 
-pub writes_token : (octets old mid new x : List ℕ) (glued : Bool) (p : Progress) (span : Span) (t u : LineState) → Moves (gap_marks octets p.at span.start) old p.stand (length (between octets p.at span.start)) mid t
+pub writes_token : (octets old mid new x : List ℕ) (glued : Bool) (p : Progress) (span : Span) (t u : LineState) → Moves (gap_marks octets p.at span.start) old p.line_state (length (between octets p.at span.start)) mid t
     → x ≡ between octets span.start span.end → glued ≡ (p.is_token && (span.start == p.at)) → accepts t x ≡ true → PushesToken mid t glued x new u
-    → Reaches octets p → p.at ≤ span.start → span.start ≤ span.end → span.end ≤ length octets → WritesToken octets p span old new (record { stand = u; at = span.end; is_token = true })
+    → Reaches octets p → p.at ≤ span.start → span.start ≤ span.end → span.end ≤ length octets → WritesToken octets p span old new (record { line_state = u; at = span.end; is_token = true })
 writes_token octets old mid new x glued p span t u m e g a k r o some w =
-    let all = advanced octets (Token glued x ∷ []) old mid new p span.start span.end true t u m (token_goes mid t glued x new u k) (token_accepts mid t glued x new u a k) k.stand k.fits (ap (λ (v : LineState). v.depth) k.stand) r o some w in
-    subst (λ b. Advances octets (gap_marks octets p.at span.start ++ (Token b (between octets span.start span.end) ∷ [])) old p span.end true new (record { stand = u; at = span.end; is_token = true })) g
-    (subst (λ l. Advances octets (gap_marks octets p.at span.start ++ (Token glued l ∷ [])) old p span.end true new (record { stand = u; at = span.end; is_token = true })) e all)
+    let all = advanced octets (Token glued x ∷ []) old mid new p span.start span.end true t u m (token_goes mid t glued x new u k) (token_accepts mid t glued x new u a k) k.line_state k.fits (ap (λ (v : LineState). v.depth) k.line_state) r o some w in
+    subst (λ b. Advances octets (gap_marks octets p.at span.start ++ (Token b (between octets span.start span.end) ∷ [])) old p span.end true new (record { line_state = u; at = span.end; is_token = true })) g
+    (subst (λ l. Advances octets (gap_marks octets p.at span.start ++ (Token glued l ∷ [])) old p span.end true new (record { line_state = u; at = span.end; is_token = true })) e all)
 
-pub writes_note : (octets old mid new x : List ℕ) (p : Progress) (span : Span) (t u : LineState) → Moves (gap_marks octets p.at span.start) old p.stand (length (between octets p.at span.start)) mid t
+pub writes_note : (octets old mid new x : List ℕ) (p : Progress) (span : Span) (t u : LineState) → Moves (gap_marks octets p.at span.start) old p.line_state (length (between octets p.at span.start)) mid t
     → x ≡ shortened (between octets span.start span.end) → PushesNote mid t x new u
-    → Reaches octets p → p.at ≤ span.start → span.start ≤ span.end → span.end ≤ length octets → WritesNote octets p span old new (record { stand = u; at = span.end; is_token = false })
+    → Reaches octets p → p.at ≤ span.start → span.start ≤ span.end → span.end ≤ length octets → WritesNote octets p span old new (record { line_state = u; at = span.end; is_token = false })
 writes_note octets old mid new x p span t u m e k r o some w =
-    let all = advanced octets (Note x ∷ []) old mid new p span.start span.end false t u m (note_goes mid t x new u k) (note_accepts mid t x new u k) k.stand k.fits (ap (λ (v : LineState). v.depth) k.stand) r o some w in
-    subst (λ l. Advances octets (gap_marks octets p.at span.start ++ (Note l ∷ [])) old p span.end false new (record { stand = u; at = span.end; is_token = false })) e all
+    let all = advanced octets (Note x ∷ []) old mid new p span.start span.end false t u m (note_goes mid t x new u k) (note_accepts mid t x new u k) k.line_state k.fits (ap (λ (v : LineState). v.depth) k.line_state) r o some w in
+    subst (λ l. Advances octets (gap_marks octets p.at span.start ++ (Note l ∷ [])) old p span.end false new (record { line_state = u; at = span.end; is_token = false })) e all
 
 same_moved : (t : Turn) → moved_in (led_turn t) ≡ moved_in t
 same_moved Edge = refl
@@ -105,8 +105,8 @@ led_depth : (b : Bool) (t u : LineState) → u ≡ (if b then led t else t) → 
 led_depth true t u e = ap (λ (v : LineState). v.depth) e
 led_depth false t u e = ap (λ (v : LineState). v.depth) e
 
-pub writes_end : (octets old mid : List ℕ) (b : Bool) (p : Progress) (at : ℕ) (t u : LineState) → Moves (gap_marks octets p.at at) old p.stand (length (between octets p.at at)) mid t
-    → b ≡ blank_at octets at → u ≡ (if b then led t else t) → Reaches octets p → p.at ≤ at → at ≤ length octets → WritesEnd octets p at old mid (record { stand = u; at = at; is_token = false })
+pub writes_end : (octets old mid : List ℕ) (b : Bool) (p : Progress) (at : ℕ) (t u : LineState) → Moves (gap_marks octets p.at at) old p.line_state (length (between octets p.at at)) mid t
+    → b ≡ blank_at octets at → u ≡ (if b then led t else t) → Reaches octets p → p.at ≤ at → at ≤ length octets → WritesEnd octets p at old mid (record { line_state = u; at = at; is_token = false })
 writes_end octets old mid b p at t u m e k r o w =
     let all = advanced octets (lead b) old mid mid p at at false t u m (lead_goes b mid t u k) (lead_accepts b t u k) (lead_stands b t u k) (led_fits b mid t u k m.fits) (led_depth b t u k) r o (omega arith) w in
-    subst (λ x. Advances octets (gap_marks octets p.at at ++ lead x) old p at false mid (record { stand = u; at = at; is_token = false })) e all
+    subst (λ x. Advances octets (gap_marks octets p.at at ++ lead x) old p at false mid (record { line_state = u; at = at; is_token = false })) e all

@@ -13,7 +13,7 @@ use Rattle.zone_format.specs.Columns.{after_token, first_column, later_column, n
 use Rattle.zone_format.specs.Form.{blank_below, gap, led_turn, start}
 use Rattle.zone_format.specs.Marks.{Mark, Token, Note, Open, Close, Feed, Lead}
 use Rattle.zone_format.specs.Writing.{fed, is_start, led, pushed_note, pushed_parenthesis, pushed_token, written_from}
-use Rattle.zone_format.proofs.Formed.{after_within, first_stand, led_start, stand}
+use Rattle.zone_format.proofs.Formed.{after_within, first_stand, led_start, line_state}
 use Rattle.zone_format.proofs.Respelling.{count, deep, respelt, some}
 
 abbrev pub blanks_to : ℕ → ℕ → ℕ
@@ -133,10 +133,10 @@ its_gap : (b : Bool) (g : List ℕ) → b ≡ true → (if b then g else []) ≡
 its_gap b g h = ap (λ c. if c then g else []) h
 
 abbrev Within : List Mark → Type 0
-Within ms = (a : Above) (d noted note : ℕ) (t : Turn) (e : ℕ) (l : Bool) → is_start t ≡ false → written_from (stand a d noted note t e) ms ≡ respelt (plan_of (stand a d noted note t e) ms) a true d l ms
+Within ms = (a : Above) (d noted note : ℕ) (t : Turn) (e : ℕ) (l : Bool) → is_start t ≡ false → written_from (line_state a d noted note t e) ms ≡ respelt (plan_of (line_state a d noted note t e) ms) a true d l ms
 
 abbrev pub begin_stand : Above → ℕ → ℕ → Bool → LineState
-begin_stand a d noted l = stand a d noted 0 (begin_turn (d == 0) l) 0
+begin_stand a d noted l = line_state a d noted 0 (begin_turn (d == 0) l) 0
 
 abbrev Starts : List Mark → Type 0
 Starts ms = (a : Above) (d noted : ℕ) (l : Bool) → written_from (begin_stand a d noted l) ms ≡ respelt (plan_of (begin_stand a d noted l) ms) a false d l ms
@@ -146,16 +146,16 @@ feed_unless b = if b then [] else 10 ∷ []
 
 feed_within : (ms : List Mark) → Starts ms → Within (Feed ∷ ms)
 feed_within ms f a d noted note t e l h =
-    subst (λ b. feed_unless b ++ written_from (stand (if b then blank_below a else Line) d note 0 (start d) 0) ms ≡ 10 ∷ respelt (plan_of (stand (if b then blank_below a else Line) d note 0 (start d) 0) ms) Line false d false ms) (sym h)
+    subst (λ b. feed_unless b ++ written_from (line_state (if b then blank_below a else Line) d note 0 (start d) 0) ms ≡ 10 ∷ respelt (plan_of (line_state (if b then blank_below a else Line) d note 0 (start d) 0) ms) Line false d false ms) (sym h)
     (ap (λ r. 10 ∷ r) (f Line d note false))
 
 feed_start : (ms : List Mark) → Starts ms → Starts (Feed ∷ ms)
 feed_start ms f a d noted l =
-    subst (λ b. feed_unless b ++ written_from (stand (if b then blank_below a else Line) d 0 0 (start d) 0) ms ≡ respelt (plan_of (stand (if b then blank_below a else Line) d 0 0 (start d) 0) ms) (blank_below a) false d false ms) (sym (begin_start (d == 0) l))
+    subst (λ b. feed_unless b ++ written_from (line_state (if b then blank_below a else Line) d 0 0 (start d) 0) ms ≡ respelt (plan_of (line_state (if b then blank_below a else Line) d 0 0 (start d) 0) ms) (blank_below a) false d false ms) (sym (begin_start (d == 0) l))
     (f (blank_below a) d 0 false)
 
 lead_start : (ms : List Mark) → Starts ms → Starts (Lead ∷ ms)
-lead_start ms f a d noted l = subst (λ (t : Turn). written_from (stand a d noted 0 t 0) ms ≡ respelt (plan_of (stand a d noted 0 t 0) ms) a false d true ms) (sym (led_begin (d == 0) l)) (f a d noted true)
+lead_start ms f a d noted l = subst (λ (t : Turn). written_from (line_state a d noted 0 t 0) ms ≡ respelt (plan_of (line_state a d noted 0 t 0) ms) a false d true ms) (sym (led_begin (d == 0) l)) (f a d noted true)
 
 both : (ms : List Mark) → Within ms × Starts ms
 both [] = (λ a d noted note t e l h. ap feed_unless h, λ a d noted l. ap feed_unless (begin_start (d == 0) l))

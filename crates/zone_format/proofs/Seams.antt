@@ -74,20 +74,20 @@ module _ (octets : List ℕ) (s : FormatState) (old new : List ℕ) (t : LineSta
   formed_on : (all out : List ℕ) (f : FormedTo all out s) (more : List Mark) → form ((f.marks ++ w.marks) ++ more) ≡ out ++ (written_to (resting s) w.marks ++ written_from t more)
   formed_on all out f more =
       ap form (append_assoc f.marks w.marks more) ∙ f.formed (w.marks ++ more) ∙ ap (λ l. out ++ l) (sym (below s (w.marks ++ more)) ∙ parted w.marks more (resting s)
-      ∙ ap (λ u. written_to (resting s) w.marks ++ written_from u more) (sym w.stand))
+      ∙ ap (λ u. written_to (resting s) w.marks ++ written_from u more) (sym w.line_state))
 
   fit_on : (all out : List ℕ) (f : FormedTo all out s) (more : List Mark) → has_form ((f.marks ++ w.marks) ++ more) ≡ accepts_from t more
   fit_on all out f more =
       ap has_form (append_assoc f.marks w.marks more) ∙ f.fit (w.marks ++ more) ∙ sym (follows s.above s.noted (w.marks ++ more)) ∙ accepts_parted w.marks more (resting s) w.accepted
-      ∙ ap (λ u. accepts_from u more) (sym w.stand)
+      ∙ ap (λ u. accepts_from u more) (sym w.line_state)
 
   -- all that is written of the marks
   to_end : written_to (resting s) w.marks ++ last_line_end t ≡ here
-  to_end = ap (λ u. written_to (resting s) w.marks ++ last_line_end u) w.stand ∙ sym (parted w.marks [] (resting s)) ∙ ap (written_from (resting s)) (append-nil w.marks)
+  to_end = ap (λ u. written_to (resting s) w.marks ++ last_line_end u) w.line_state ∙ sym (parted w.marks [] (resting s)) ∙ ap (written_from (resting s)) (append-nil w.marks)
 
   pub formats_entries : FormatsEntries octets s old new (seam_of t)
   formats_entries e =
-      let rest : t ≡ resting (seam_of t) = w.stand ∙ entries_rest octets w.marks (resting s) e w.read refl ∙ ap (λ u. resting (seam_of u)) (sym w.stand) in
+      let rest : t ≡ resting (seam_of t) = w.line_state ∙ entries_rest octets w.marks (resting s) e w.read refl ∙ ap (λ u. resting (seam_of u)) (sym w.line_state) in
       let none : last_line_end t ≡ [] = ap last_line_end rest in
       let all_is : written_to (resting s) w.marks ≡ here = sym (append-nil (written_to (resting s) w.marks)) ∙ ap (λ l. written_to (resting s) w.marks ++ l) (sym none) ∙ to_end in (
         here,

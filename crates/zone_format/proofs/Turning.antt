@@ -27,28 +27,28 @@ pub record Stays (octets : List ℕ) (all : List (Result Piece Fault)) (old : Li
   pub within : EachWithin (length octets) rest
   pub order : Follows p.at rest
   pub tokens : (s e : ℕ) → HasToken s e rest → HasToken s e all
-  pub fits : LineFits new p.stand
+  pub fits : LineFits new p.line_state
   pub reaches : Reaches octets p
-  pub stand : state_after p.stand (marks octets p.is_token p.at (pieces_in rest)) ≡ state_after from.stand (marks octets from.is_token from.at (pieces_in all))
-  pub out : new ++ written_from p.stand (marks octets p.is_token p.at (pieces_in rest)) ≡ old ++ written_from from.stand (marks octets from.is_token from.at (pieces_in all))
-  pub accepted : accepts_from p.stand (marks octets p.is_token p.at (pieces_in rest)) ≡ accepts_from from.stand (marks octets from.is_token from.at (pieces_in all))
+  pub line_state : state_after p.line_state (marks octets p.is_token p.at (pieces_in rest)) ≡ state_after from.line_state (marks octets from.is_token from.at (pieces_in all))
+  pub out : new ++ written_from p.line_state (marks octets p.is_token p.at (pieces_in rest)) ≡ old ++ written_from from.line_state (marks octets from.is_token from.at (pieces_in all))
+  pub accepted : accepts_from p.line_state (marks octets p.is_token p.at (pieces_in rest)) ≡ accepts_from from.line_state (marks octets from.is_token from.at (pieces_in all))
 
 -- marks were written, and those of the remaining pieces follow them
 written_after : (octets : List ℕ) (ms : List Mark) (old : List ℕ) (p : Progress) (to : ℕ) (tied : Bool) (new : List ℕ) (q : Progress) (ps : List Piece) → Advances octets ms old p to tied new q
-    → new ++ written_from q.stand (marks octets q.is_token q.at ps) ≡ old ++ written_from p.stand (ms ++ marks octets tied to ps)
+    → new ++ written_from q.line_state (marks octets q.is_token q.at ps) ≡ old ++ written_from p.line_state (ms ++ marks octets tied to ps)
 written_after octets ms old p to tied new q ps a =
-    ap (λ b. new ++ written_from q.stand (marks octets b q.at ps)) a.is_token ∙ ap (λ n. new ++ written_from q.stand (marks octets tied n ps)) a.at ∙ a.goes (marks octets tied to ps)
+    ap (λ b. new ++ written_from q.line_state (marks octets b q.at ps)) a.is_token ∙ ap (λ n. new ++ written_from q.line_state (marks octets tied n ps)) a.at ∙ a.goes (marks octets tied to ps)
 
 accepted_after : (octets : List ℕ) (ms : List Mark) (old : List ℕ) (p : Progress) (to : ℕ) (tied : Bool) (new : List ℕ) (q : Progress) (ps : List Piece) → Advances octets ms old p to tied new q
-    → accepts_from q.stand (marks octets q.is_token q.at ps) ≡ accepts_from p.stand (ms ++ marks octets tied to ps)
+    → accepts_from q.line_state (marks octets q.is_token q.at ps) ≡ accepts_from p.line_state (ms ++ marks octets tied to ps)
 accepted_after octets ms old p to tied new q ps a =
-    ap (λ b. accepts_from q.stand (marks octets b q.at ps)) a.is_token ∙ ap (λ n. accepts_from q.stand (marks octets tied n ps)) a.at ∙ a.accepts (marks octets tied to ps)
+    ap (λ b. accepts_from q.line_state (marks octets b q.at ps)) a.is_token ∙ ap (λ n. accepts_from q.line_state (marks octets tied n ps)) a.at ∙ a.accepts (marks octets tied to ps)
 
 stand_after : (octets : List ℕ) (ms : List Mark) (old : List ℕ) (p : Progress) (to : ℕ) (tied : Bool) (new : List ℕ) (q : Progress) (ps : List Piece) → Advances octets ms old p to tied new q
-    → state_after q.stand (marks octets q.is_token q.at ps) ≡ state_after p.stand (ms ++ marks octets tied to ps)
+    → state_after q.line_state (marks octets q.is_token q.at ps) ≡ state_after p.line_state (ms ++ marks octets tied to ps)
 stand_after octets ms old p to tied new q ps a =
-    ap (λ b. state_after q.stand (marks octets b q.at ps)) a.is_token ∙ ap (λ n. state_after q.stand (marks octets tied n ps)) a.at ∙ ap (λ s. state_after s (marks octets tied to ps)) a.stand
-    ∙ sym (stands_append p.stand ms (marks octets tied to ps))
+    ap (λ b. state_after q.line_state (marks octets b q.at ps)) a.is_token ∙ ap (λ n. state_after q.line_state (marks octets tied n ps)) a.at ∙ ap (λ s. state_after s (marks octets tied to ps)) a.line_state
+    ∙ sym (stands_append p.line_state ms (marks octets tied to ps))
 
 stays : (octets : List ℕ) (all : List (Result Piece Fault)) (old : List ℕ) (from : Progress) (x : Piece) (rest : List (Result Piece Fault)) (mid : List ℕ) (p : Progress) (ms : List Mark) (to : ℕ) (tied : Bool) (new : List ℕ) (q : Progress)
     → Stays octets all old from (Ok x ∷ rest) mid p → Advances octets ms mid p to tied new q
@@ -61,9 +61,9 @@ stays octets all old from x rest mid p ms to tied new q h a e f t = record {
   tokens = λ s e k. h.tokens s e (t s e k);
   fits = a.fits;
   reaches = a.reaches;
-  stand = stand_after octets ms mid p to tied new q (pieces_in rest) a ∙ ap (state_after p.stand) e ∙ h.stand;
-  out = written_after octets ms mid p to tied new q (pieces_in rest) a ∙ ap (λ l. mid ++ written_from p.stand l) e ∙ h.out;
-  accepted = accepted_after octets ms mid p to tied new q (pieces_in rest) a ∙ ap (accepts_from p.stand) e ∙ h.accepted;
+  line_state = stand_after octets ms mid p to tied new q (pieces_in rest) a ∙ ap (state_after p.line_state) e ∙ h.line_state;
+  out = written_after octets ms mid p to tied new q (pieces_in rest) a ∙ ap (λ l. mid ++ written_from p.line_state l) e ∙ h.out;
+  accepted = accepted_after octets ms mid p to tied new q (pieces_in rest) a ∙ ap (accepts_from p.line_state) e ∙ h.accepted;
 }
 
 pub stays_word : (octets : List ℕ) (all : List (Result Piece Fault)) (old : List ℕ) (from : Progress) (x : Span) (rest : List (Result Piece Fault)) (mid : List ℕ) (p : Progress) (new : List ℕ) (q : Progress)
@@ -125,12 +125,12 @@ led_fits false octets m = record { moved = omega arith; few = omega arith }
 pub first_fits : (octets : List ℕ) (b c : Bool) (s t : LineState) (m : FormatState) → t ≡ resting m → s ≡ (if b then led t else t) → b ≡ c → LineFits octets s
 first_fits octets b c s t m e f g = subst (LineFits octets) (sym (first_is b c s t (resting m) e f g)) (led_fits c octets m)
 
-led_reaches : (c : Bool) (octets : List ℕ) (m : FormatState) → Reaches octets (record { stand = if c then led (resting m) else resting m; at = 0; is_token = false })
+led_reaches : (c : Bool) (octets : List ℕ) (m : FormatState) → Reaches octets (record { line_state = if c then led (resting m) else resting m; at = 0; is_token = false })
 led_reaches true octets m = record { within = omega arith; depth = omega arith }
 led_reaches false octets m = record { within = omega arith; depth = omega arith }
 
-pub first_reaches : (octets : List ℕ) (b c : Bool) (s t : LineState) (m : FormatState) → t ≡ resting m → s ≡ (if b then led t else t) → b ≡ c → Reaches octets (record { stand = s; at = 0; is_token = false })
-first_reaches octets b c s t m e f g = subst (λ (x : LineState). Reaches octets (record { stand = x; at = 0; is_token = false })) (sym (first_is b c s t (resting m) e f g)) (led_reaches c octets m)
+pub first_reaches : (octets : List ℕ) (b c : Bool) (s t : LineState) (m : FormatState) → t ≡ resting m → s ≡ (if b then led t else t) → b ≡ c → Reaches octets (record { line_state = s; at = 0; is_token = false })
+first_reaches octets b c s t m e f g = subst (λ (x : LineState). Reaches octets (record { line_state = x; at = 0; is_token = false })) (sym (first_is b c s t (resting m) e f g)) (led_reaches c octets m)
 
 -- what continues from there continues after the blank that an entry begins with
 module _ {A : Type 0} (goes : LineState → List Mark → A) (led_on : (s : LineState) (ms : List Mark) → goes (led s) ms ≡ goes s (Lead ∷ ms)) where

@@ -67,4 +67,4 @@ pub record WritesBelow (octets : List ℕ) (s : FormatState) (old new : List ℕ
   pub read : HasMarks octets marks
   pub accepted : accepts_from (resting s) marks ≡ true
   pub out : new ++ last_line_end t ≡ old ++ written_from (resting s) marks
-  pub stand : t ≡ state_after (resting s) marks
+  pub line_state : t ≡ state_after (resting s) marks

@@ -116,37 +116,37 @@ Accepts ms s t = (more : List Mark) → accepts_from t more ≡ accepts_from s (
 pub record Moves (ms : List Mark) (old : List ℕ) (s : LineState) (most : ℕ) (new : List ℕ) (t : LineState) : Type 0 where
   pub goes : WritesMarks ms old s new t
   pub accepts : Accepts ms s t
-  pub stand : t ≡ state_after s ms
+  pub line_state : t ≡ state_after s ms
   pub fits : LineFits new t
   pub depth : t.depth ≤ s.depth + most
 
 -- a token, a comment or a parenthesis was appended, and the state is that after it
 pub record PushesToken (old : List ℕ) (s : LineState) (glued : Bool) (t new : List ℕ) (after : LineState) : Type 0 where
-  pub stand : after ≡ pushed_token s glued t
+  pub line_state : after ≡ pushed_token s glued t
   pub out : new ≡ old ++ (token_before s glued t ++ t)
   pub fits : LineFits new after
 
 pub record PushesNote (old : List ℕ) (s : LineState) (t new : List ℕ) (after : LineState) : Type 0 where
-  pub stand : after ≡ pushed_note s t
+  pub line_state : after ≡ pushed_note s t
   pub out : new ≡ old ++ (note_before s t ++ t)
   pub fits : LineFits new after
 
 pub record PushesParenthesis (old : List ℕ) (s : LineState) (octet depth : ℕ) (new : List ℕ) (after : LineState) : Type 0 where
-  pub stand : after ≡ pushed_parenthesis s depth
+  pub line_state : after ≡ pushed_parenthesis s depth
   pub out : new ≡ old ++ (parenthesis_before s ++ octet ∷ [])
   pub fits : LineFits new after
 
 -- the progress of writing
 pub record Reaches (octets : List ℕ) (p : Progress) : Type 0 where
   pub within : p.at ≤ length octets
-  pub depth : p.stand.depth ≤ p.at
+  pub depth : p.line_state.depth ≤ p.at
 
 -- marks were written, up to an offset
 pub record Advances (octets : List ℕ) (ms : List Mark) (old : List ℕ) (p : Progress) (to : ℕ) (tied : Bool) (new : List ℕ) (q : Progress) : Type 0 where
-  pub goes : WritesMarks ms old p.stand new q.stand
-  pub accepts : Accepts ms p.stand q.stand
-  pub stand : q.stand ≡ state_after p.stand ms
-  pub fits : LineFits new q.stand
+  pub goes : WritesMarks ms old p.line_state new q.line_state
+  pub accepts : Accepts ms p.line_state q.line_state
+  pub line_state : q.line_state ≡ state_after p.line_state ms
+  pub fits : LineFits new q.line_state
   pub reaches : Reaches octets q
   pub at : q.at ≡ to
   pub is_token : q.is_token ≡ tied

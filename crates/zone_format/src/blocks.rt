@@ -26,8 +26,8 @@ pub fn format_entries<A: Allocator>(
     ensures well { IfOk result (FormatsEntries octets.now seam out.old.items out.new.items) }
     ensures bad { IfErr result (IsWithoutForm octets.now) }
 {
-    let stand = write_all(octets, seam, out)?;
-    Ok(stand.seam())
+    let line_state = write_all(octets, seam, out)?;
+    Ok(line_state.seam())
 }
 
 /// Appends the form of the last block, which may end without a line end.
@@ -43,7 +43,7 @@ pub fn format_last<A: Allocator>(
     ensures well { IfOk result (λ _. FormatsLast octets.now seam out.old.items out.new.items) }
     ensures bad { IfErr result (IsWithoutForm octets.now) }
 {
-    let stand = write_all(octets, seam, out)?;
-    push_end(out, stand)?;
+    let line_state = write_all(octets, seam, out)?;
+    push_end(out, line_state)?;
     Ok(())
 }

@@ -88,15 +88,15 @@ impl LineState {
 
 /// Checks that a token which begins at an offset may be written.
 #[inline(always)]
-fn accept(token: &[u8], stand: LineState, start: usize) -> Result<(), Refusal>
+fn accept(token: &[u8], line_state: LineState, start: usize) -> Result<(), Refusal>
     requires { start + length token.now < 2 ^ 64 }
-    ensures well { IfOk result (λ _. accepts stand token.now ≡ true) }
+    ensures well { IfOk result (λ _. accepts line_state token.now ≡ true) }
     ensures bad { IfErr result (IsUnfit token.now start) }
 {
     if let Some(place) = find_nul(token) {
         return Err(Refusal::Nul(start + place));
     }
-    if stand.is_edge() && begins_order_mark(token) {
+    if line_state.is_edge() && begins_order_mark(token) {
         return Err(Refusal::OrderMark(start));
     }
     Ok(())
@@ -106,7 +106,7 @@ fn accept(token: &[u8], stand: LineState, start: usize) -> Result<(), Refusal>
 /// with a token.
 #[derive(Clone, Copy)]
 pub(crate) struct Progress {
-    pub(crate) stand: LineState,
+    pub(crate) line_state: LineState,
     pub(crate) at: usize,
     pub(crate) is_token: bool,
 }
@@ -129,7 +129,7 @@ fn write_token<A: Allocator>(
     span: Span,
     out: &mut Vec<u8, A>,
 ) -> Result<Progress, Refusal>
-    requires fits { LineFits out.old.items progress.stand }
+    requires fits { LineFits out.old.items progress.line_state }
     requires reaches { Reaches octets.now progress }
     requires order { progress.at ≤ span.start }
     requires some { span.start ≤ span.end }
@@ -138,12 +138,12 @@ fn write_token<A: Allocator>(
     ensures well { IfOk result (WritesToken octets.now progress span out.old.items out.new.items) }
     ensures bad { IfErr result (IsUnfit (between octets.now span.start span.end) span.start) }
 {
-    let stand = push_gap(out, progress.stand, &octets[progress.at..span.start])?;
+    let line_state = push_gap(out, progress.line_state, &octets[progress.at..span.start])?;
     let token = span.of_octets(octets);
-    accept(token, stand, span.start)?;
+    accept(token, line_state, span.start)?;
     let is_adjacent = progress.glues(span.start);
     Ok(Progress {
-        stand: push_token(out, stand, is_adjacent, token)?,
+        line_state: push_token(out, line_state, is_adjacent, token)?,
         at: span.end,
         is_token: true,
     })
@@ -156,16 +156,16 @@ fn write_note<A: Allocator>(
     span: Span,
     out: &mut Vec<u8, A>,
 ) -> Result<Progress, AllocError>
-    requires fits { LineFits out.old.items progress.stand }
+    requires fits { LineFits out.old.items progress.line_state }
     requires reaches { Reaches octets.now progress }
     requires order { progress.at ≤ span.start }
     requires some { span.start ≤ span.end }
     requires within { span.end ≤ length octets.now }
     ensures { IfOk result (WritesNote octets.now progress span out.old.items out.new.items) }
 {
-    let stand = push_gap(out, progress.stand, &octets[progress.at..span.start])?;
+    let line_state = push_gap(out, progress.line_state, &octets[progress.at..span.start])?;
     Ok(Progress {
-        stand: push_note(out, stand, shortened(span.of_octets(octets)))?,
+        line_state: push_note(out, line_state, shortened(span.of_octets(octets)))?,
         at: span.end,
         is_token: false,
     })
@@ -179,15 +179,15 @@ fn write_end<A: Allocator>(
     at: usize,
     out: &mut Vec<u8, A>,
 ) -> Result<Progress, AllocError>
-    requires fits { LineFits out.old.items progress.stand }
+    requires fits { LineFits out.old.items progress.line_state }
     requires reaches { Reaches octets.now progress }
     requires order { progress.at ≤ at }
     requires within { at ≤ length octets.now }
     ensures { IfOk result (WritesEnd octets.now progress at out.old.items out.new.items) }
 {
-    let stand = push_gap(out, progress.stand, &octets[progress.at..at])?;
+    let line_state = push_gap(out, progress.line_state, &octets[progress.at..at])?;
     Ok(Progress {
-        stand: stand.led_if(blank_at(octets, at)),
+        line_state: line_state.led_if(blank_at(octets, at)),
         at,
         is_token: false,
     })
@@ -204,7 +204,7 @@ pub(crate) fn write_all<A: Allocator>(
     ensures bad { IfErr result (IsWithoutForm octets.now) }
 {
     let mut progress = Progress {
-        stand: seam.stand().led_if(blank_at(octets, 0)),
+        line_state: seam.line_state().led_if(blank_at(octets, 0)),
         at: 0,
         is_token: false,
     };
@@ -217,7 +217,7 @@ pub(crate) fn write_all<A: Allocator>(
             Err(fault) => return Err(Refusal::Wrong(fault)),
         }
     }
-    Ok(progress.stand)
+    Ok(progress.line_state)
 }
 
 /// Appends the form of a zone file.

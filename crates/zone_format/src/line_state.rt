@@ -52,7 +52,7 @@ impl FormatState {
     }
 
     /// Returns the state at the beginning of the second block.
-    pub(crate) fn stand(self) -> LineState
+    pub(crate) fn line_state(self) -> LineState
         ensures { result ≡ resting self }
     {
         LineState {

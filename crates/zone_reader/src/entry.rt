@@ -391,7 +391,7 @@ fn read_record_data<S: TokenSource, B: OctetsBuilder + AsOctetsMut>(
 }
 
 /// Reads what comes after the type of a record, unless the record is rejected already.
-fn read_behind<S: TokenSource, B: OctetsBuilder + AsOctetsMut>(
+fn read_after_header<S: TokenSource, B: OctetsBuilder + AsOctetsMut>(
     state: &mut State,
     at: usize,
     owner: Result<(), RecordError>,
@@ -428,7 +428,7 @@ fn read_record<S: TokenSource, B: OctetsBuilder + AsOctetsMut>(
     let owner = find_owner(state, begins_blank, source);
     let words = parse_header(source);
     set_ttl(state, own_ttl(&words));
-    read_behind(state, at, owner, words, source, target)
+    read_after_header(state, at, owner, words, source, target)
 }
 
 /// Reads an entry by its tokens, whether it begins with a blank, and the state.

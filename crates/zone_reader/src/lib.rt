@@ -11,7 +11,7 @@
 pub mod arguments;
 pub mod directive;
 pub mod entry;
-pub mod given;
+pub mod entry_record;
 pub mod header;
 pub mod header_laws;
 pub mod known;

@@ -16,6 +16,8 @@ pub mod DataBack
 pub mod FieldSizes
 pub mod MailParts
 pub mod PartWalks
+pub mod PrintedFields
+pub mod PrintedTokens
 pub mod RecordBack
 pub mod SameForms
 pub mod TypeDatas

@@ -5,7 +5,8 @@ use Rattle.dns_zone.specs.Nesting.{IsNested, has_line}
 use Rattle.rdata_values.specs.declared.types.RecordType.{RecordType}
 use Rattle.rdata.specs.ByType.{shape_of_code}
 use Rattle.rdata.specs.Generic.{generic_form}
-use Rattle.rdata.specs.Printing.{printed_with, token_steps}
+use Rattle.rdata.specs.Printing.{printed_with}
+use Rattle.zone_record.specs.RdataPrinting.{token_steps}
 use Rattle.rdata.specs.Rests.{PrintedToken}
 use Rattle.rdata.specs.Types.{TypeShape}
 use Rattle.zone_record.specs.TypeData.{TypeData}

@@ -15,6 +15,8 @@ pub mod CanonicalData
 pub mod DataBack
 pub mod DataTokens
 pub mod Parts
+pub mod RdataPrintRows
+pub mod RdataPrinting
 pub mod RecordLaws
 pub mod Records
 pub mod Rows

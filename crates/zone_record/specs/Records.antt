@@ -9,7 +9,7 @@ use Rattle.dns_zone.specs.Layout.{Step, begin, end}
 use Rattle.dns_zone.specs.Nesting.{IsNested, nested_in_block}
 use Rattle.rdata.specs.ByType.{shape_of_code}
 use Rattle.rdata.specs.GatewayKeys.{plain_word}
-use Rattle.rdata.specs.Printing.{token_steps}
+use Rattle.zone_record.specs.RdataPrinting.{token_steps}
 use Rattle.rdata.specs.Rests.{PrintedToken}
 use Rattle.zone_record.specs.DataTokens.{data_tokens, data_document, data_nests, tokens_have_no_line}
 use Rattle.zone_record.specs.TypeData.{TypeData}

@@ -17,7 +17,7 @@ pub(crate) struct NamePlaces {
 }
 
 /// Greatest number of octets before names: those of SIG.
-const MAX_FRONT: usize = 18;
+const MAX_PREFIX: usize = 18;
 
 /// Octets, and names after them.
 static OCTETS_AND_NAMES: [Field; 20] = [
@@ -62,7 +62,7 @@ fn address_places(prefix: u8) -> NamePlaces
 /// Returns the position of the names in RDATA of a type that has only the generic form.
 fn name_places(rtype: RecordType, octets: &[u8]) -> NamePlaces
     ensures form { result ≡ untexted_form rtype octets.now }
-    ensures few { (result.front ≤ MAX_FRONT) × (result.names ≤ 2) }
+    ensures few { (result.front ≤ MAX_PREFIX) × (result.names ≤ 2) }
     ensures named { 0 < result.front → 0 < result.names }
 {
     let (front, names) = match rtype {
@@ -101,7 +101,7 @@ pub fn untexted_fields(rtype: RecordType, octets: &[u8]) -> &'static [Field]
     if front > octets.len() || names_width(names, &octets[front..]).is_none() {
         return &[];
     }
-    &OCTETS_AND_NAMES[MAX_FRONT - front..MAX_FRONT + names]
+    &OCTETS_AND_NAMES[MAX_PREFIX - front..MAX_PREFIX + names]
 }
 
 /// The span of the names: the octets from `start` to before `end`.

@@ -9,7 +9,7 @@ ghost use Rattle.zone_record.specs.Keys.{key_octets, label_key, order_key, Appen
 ghost use Rattle.zone_record.specs.Names.{octet_order};
 ghost use Rattle.zone_record.specs.Walks.{HasLabels};
 
-use crate::names::front_label;
+use crate::names::split_label;
 use std::alloc::{AllocError, Allocator};
 use std::cmp::Ordering;
 
@@ -52,7 +52,7 @@ fn push_key_labels<A: Allocator>(octets: &[u8], key: &mut Vec<u8, A>) -> Result<
     if octets.is_empty() {
         return Ok(());
     }
-    let first = front_label(octets);
+    let first = split_label(octets);
     push_key_labels(first.rest, key)?;
     push_key_label(first.label, key)
 }

@@ -48,18 +48,18 @@ pub fn append_lowered<B: OctetsBuilder>(octets: &[u8], target: &mut B) -> Result
 
 /// The label that octets begin with, and the octets after it.
 #[derive(Clone, Copy)]
-pub(crate) struct FrontLabel<'a> {
+pub(crate) struct SplitLabel<'a> {
     pub(crate) label: &'a [u8],
     pub(crate) rest: &'a [u8],
 }
 
 /// Returns the label that octets begin with.
-pub(crate) fn front_label(octets: &[u8]) -> FrontLabel<'_>
+pub(crate) fn split_label(octets: &[u8]) -> SplitLabel<'_>
     requires { BeginsWithLabel octets.now }
     ensures { octets.now ≡ wire_label result.label.now ++ result.rest.now }
 {
     let behind = 1 + usize::from(octets[0]);
-    FrontLabel {
+    SplitLabel {
         label: &octets[1..behind],
         rest: &octets[behind..],
     }
@@ -73,20 +73,20 @@ fn count_labels(octets: &[u8]) -> usize
     let mut count = 0;
     let mut rest = octets;
     while !rest.is_empty() {
-        rest = front_label(rest).rest;
+        rest = split_label(rest).rest;
         count += 1;
     }
     count
 }
 
 /// Returns the octets after the first `count` labels.
-fn behind_labels(octets: &[u8], count: usize) -> &[u8]
+fn after_label_count(octets: &[u8], count: usize) -> &[u8]
     requires { HasLabels count octets.now }
     ensures { AreAfterLabels count octets.now result.now }
 {
     let mut rest = octets;
     for _ in 0..count {
-        rest = front_label(rest).rest;
+        rest = split_label(rest).rest;
     }
     rest
 }
@@ -121,8 +121,8 @@ fn compare_level(left: &[u8], right: &[u8], otherwise: Ordering) -> Ordering
         if left_rest == right_rest {
             return order;
         }
-        let first = front_label(left_rest);
-        let second = front_label(right_rest);
+        let first = split_label(left_rest);
+        let second = split_label(right_rest);
         order = compare_label(first.label, second.label).then(order);
         left_rest = first.rest;
         right_rest = second.rest;
@@ -143,8 +143,8 @@ pub fn compare_names(left: &[u8], right: &[u8]) -> Ordering
     let right_count = count_labels(right);
     let shared = left_count.min(right_count);
     compare_level(
-        behind_labels(left, left_count - shared),
-        behind_labels(right, right_count - shared),
+        after_label_count(left, left_count - shared),
+        after_label_count(right, right_count - shared),
         left_count.cmp(&right_count),
     )
 }

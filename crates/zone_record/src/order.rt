@@ -8,7 +8,7 @@ ghost use Rattle.zone_record.specs.CanonicalData.{canonical_data, data_order, lo
 ghost use Rattle.zone_record.specs.TypeData.{IsTypeData};
 
 use crate::data::Data;
-use crate::fronts::{front_width, split_front};
+use crate::first_field::{first_width, split_field};
 use crate::record::{Record, name_octets};
 use crate::{compare_names, compare_octets, compare_untexted, lowers_names};
 use dns_octets::AsOctets;
@@ -37,8 +37,8 @@ fn compare_in_fields(fields: &[Field], left: &[u8], right: &[u8]) -> Ordering
     let mut left_rest = left;
     let mut right_rest = right;
     for field in fields {
-        let left_width = front_width(*field, left_rest);
-        let right_width = front_width(*field, right_rest);
+        let left_width = first_width(*field, left_rest);
+        let right_width = first_width(*field, right_rest);
         let order = compare_field(*field, &left_rest[..left_width], &right_rest[..right_width]);
         if order.is_ne() {
             return order;
@@ -73,8 +73,8 @@ fn compare_parts(fields: &[Field], left: &[u8], right: &[u8]) -> Ordering
     let Some((field, more)) = fields.split_first() else {
         return compare_octets(left, right);
     };
-    let (left_front, left_rest) = split_front(*field, left);
-    let (right_front, right_rest) = split_front(*field, right);
+    let (left_front, left_rest) = split_field(*field, left);
+    let (right_front, right_rest) = split_field(*field, right);
     let order = compare_field(*field, left_front, right_front);
     if order.is_ne() {
         return order;

@@ -5,7 +5,7 @@ ghost use Rattle.zone_record.specs.Keys.{key_octets, label_key, order_key, Appen
 ghost use Rattle.dns_wire.specs.Wire.{wire};
 ghost use Rattle.zone_record.specs.Walks.{HasLabels};
 
-use crate::names::front_label;
+use crate::names::split_label;
 use arrayvec::ArrayVec;
 use dns_octets::AsOctets;
 use dns_wire::Name;
@@ -47,7 +47,7 @@ fn put_key_labels(octets: &[u8], key: &mut ArrayVec<u8, MAX_KEY>)
     if octets.is_empty() {
         return;
     }
-    let first = front_label(octets);
+    let first = split_label(octets);
     put_key_labels(first.rest, key);
     put_key_label(first.label, key);
 }

@@ -4,20 +4,20 @@ ghost use Rattle.zone_record.specs.FieldForms.{StartsWithFields};
 ghost use Rattle.zone_record.specs.Parts.{data_part, field_part};
 
 use crate::data::Data;
-use crate::fronts::front_width;
+use crate::first_field::first_width;
 use dns_octets::AsOctets;
 use rdata::type_row;
 use rdata_fields::Field;
 
 /// Returns the octets of the field at an index among those that octets begin with.
-fn part_in_front<'a>(fields: &[Field], place: usize, octets: &'a [u8]) -> Option<&'a [u8]>
+fn leading_part<'a>(fields: &[Field], place: usize, octets: &'a [u8]) -> Option<&'a [u8]>
     requires { StartsWithFields fields.now octets.now }
     ensures { MatchOption result (field_part fields.now place octets.now ≡ None) (λ part. field_part fields.now place octets.now ≡ Some part.now) }
 {
     let mut rest = octets;
     let mut count = place;
     for field in fields {
-        let width = front_width(*field, rest);
+        let width = first_width(*field, rest);
         if count == 0 {
             return Some(&rest[..width]);
         }
@@ -35,6 +35,6 @@ impl<Octets: AsOctets> Data<Octets> {
         ensures { MatchOption result (data_part self.now place ≡ None) (λ part. data_part self.now place ≡ Some part.now) }
     {
         let row = type_row(self.rtype())?;
-        part_in_front(row.shape().fields, place, self.as_slice())
+        leading_part(row.shape().fields, place, self.as_slice())
     }
 }

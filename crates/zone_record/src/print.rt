@@ -2,9 +2,10 @@
 ghost use Rattle.zone_record.specs.DataTokens.{data_document, data_nests};
 
 use crate::data::Data;
+use crate::rdata_print::{write_data, write_generic};
 use dns_octets::AsOctets;
 use dns_zone::zonefile_fmt::{self, FormatWriter, Formatter, ZonefileFmt};
-use rdata::{type_row, write_data, write_generic};
+use rdata::type_row;
 
 /// The RDATA prints in its own presentation format. If it has none, it prints as `\#`, the number
 /// of octets, and the octets in hexadecimal. This is so for types without a row, for LOC of a

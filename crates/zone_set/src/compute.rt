@@ -15,7 +15,7 @@ use std::alloc::Allocator;
 
 /// Appends the fields before the digest in ZONEMD data: a serial, the scheme SIMPLE, and a hash
 /// algorithm.
-fn push_front<B: Allocator>(
+fn push_fields<B: Allocator>(
     data: &mut Vec<u8, B>,
     serial: u32,
     algorithm: HashAlgorithm,
@@ -65,7 +65,7 @@ fn make_data<Owner: AsOctets, Octets: AsOctets, Apex: AsOctets, A: Allocator, B:
     ensures { IfOk result (λ made. AppendsDigest apex.now records.now (hash_code algorithm) (to_be_bytes w32 serial ++ 1 ∷ hash_code algorithm ∷ []) made.items) }
 {
     let mut data = Vec::new(alloc);
-    push_front(&mut data, serial, algorithm)?;
+    push_fields(&mut data, serial, algorithm)?;
     push_digest(alloc, apex, records, algorithm, &mut data)?;
     Ok(data)
 }

@@ -44,7 +44,7 @@ pub use hashing::{hash_zone, sha384_digest, sha512_digest};
 pub use lines::{push_change, push_generic, push_record};
 pub use merge_heads::{MergeHead, MergeHeads};
 pub use records::{EntryHeader, GroupEntry, append_stored, split_record};
-pub use run_record::{push_run_record, take_run_record};
+pub use run_record::{push_run_record, read_run_record};
 pub use scope::is_hashed;
 pub use selection::Selection;
 pub use serial::{serial_of, serial_rises};

@@ -119,7 +119,7 @@ impl<Owner: AsOctets, Octets: AsOctets, A: Allocator> MergeHeads<Owner, Octets, 
 
     /// Removes and returns the record that comes first in canonical order (RFC 4034 section 6); of
     /// equal records that of the run with the lowest number. Returns `None` if no record is left.
-    pub fn take_first(&mut self) -> Option<MergeHead<Owner, Octets>>
+    pub fn remove_first(&mut self) -> Option<MergeHead<Owner, Octets>>
         ensures taken { IfSome result (λ f. IsPermutation self.old (f ∷ self.new)) }
         ensures first { IfSome result (λ f. All (ComesBefore f) self.new) }
         ensures none { IfNone result (self.old ≡ []) }

@@ -38,7 +38,7 @@ pub fn push_run_record<Owner: AsOctets, Octets: AsOctets, A: Allocator>(
 }
 
 /// Returns the number of 16 bits with which octets begin, and the octets after it.
-fn take_number16(octets: &[u8]) -> Option<(u16, &[u8])>
+fn read_number16(octets: &[u8]) -> Option<(u16, &[u8])>
     ensures { MatchOption result (length octets.now < 2) (λ p. octets.now ≡ to_be_bytes w16 p.0 ++ p.1.now) }
 {
     let (front, rest) = octets.split_first_chunk::<2>()?;
@@ -46,7 +46,7 @@ fn take_number16(octets: &[u8]) -> Option<(u16, &[u8])>
 }
 
 /// Returns the number of 32 bits with which octets begin, and the octets after it.
-fn take_number32(octets: &[u8]) -> Option<(u32, &[u8])>
+fn read_number32(octets: &[u8]) -> Option<(u32, &[u8])>
     ensures { MatchOption result (length octets.now < 4) (λ p. octets.now ≡ to_be_bytes w32 p.0 ++ p.1.now) }
 {
     let (front, rest) = octets.split_first_chunk::<4>()?;
@@ -54,24 +54,24 @@ fn take_number32(octets: &[u8]) -> Option<(u32, &[u8])>
 }
 
 /// Returns the octets that come after their number, and the octets after those.
-fn take_counted(octets: &[u8]) -> Option<(&[u8], &[u8])>
+fn read_counted(octets: &[u8]) -> Option<(&[u8], &[u8])>
     ensures { IfSome result (λ p. octets.now ≡ length_prefixed p.0.now ++ p.1.now) }
 {
-    let (count, rest) = take_number16(octets)?;
+    let (count, rest) = read_number16(octets)?;
     rest.split_at_checked(usize::from(count))
 }
 
 /// Parses the record with which octets of a run begin, and returns it and the octets after it.
 /// Returns `None` if the octets don't begin with a whole record, as in a run that was cut or
 /// damaged. It allocates nothing.
-pub fn take_run_record<'a>(octets: &'a [u8]) -> Option<(Record<&'a [u8], &'a [u8]>, &'a [u8])>
+pub fn read_run_record<'a>(octets: &'a [u8]) -> Option<(Record<&'a [u8], &'a [u8]>, &'a [u8])>
     ensures { IfSome result (λ p. octets.now ≡ run_octets p.0 ++ p.1.now) }
 {
-    let (ttl, rest) = take_number32(octets)?;
-    let (class, rest) = take_number16(rest)?;
-    let (rtype, rest) = take_number16(rest)?;
-    let (owner, rest) = take_counted(rest)?;
-    let (data, rest) = take_counted(rest)?;
+    let (ttl, rest) = read_number32(octets)?;
+    let (class, rest) = read_number16(rest)?;
+    let (rtype, rest) = read_number16(rest)?;
+    let (owner, rest) = read_counted(rest)?;
+    let (data, rest) = read_counted(rest)?;
     let owner = Name::from_octets(owner).ok()?;
     let data = Data::from_octets(RecordType(rtype), data).ok()?;
     let one = Record {

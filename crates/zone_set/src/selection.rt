@@ -57,7 +57,7 @@ impl Selection<'_> {
     }
 
     /// Returns whether records of a type are selected.
-    pub fn takes(&self, rtype: RecordType) -> bool
+    pub fn includes(&self, rtype: RecordType) -> bool
         ensures { result ≡ is_selected self.now rtype }
     {
         is_wanted(self.types, rtype) && self.includes_soa(rtype) && self.includes_signing(rtype)

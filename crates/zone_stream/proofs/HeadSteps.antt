@@ -1,7 +1,7 @@
 -- The document of a head has a line end, and its text begins a part.
 use Rattle.std.proofs.Common.{◌≡◌, ℕ, true, List, [], ◌∷◌, ◌++◌, refl}
 use Rattle.std.specs.Borrow.{Bor}
-use Rattle.rdata.specs.Printing.{token_steps}
+use Rattle.zone_record.specs.RdataPrinting.{token_steps}
 use Rattle.zone_record.specs.Borrowed.{IsRecordOf}
 use Rattle.zone_record.specs.Records.{record_document}
 use Rattle.dns_zone.specs.Layout.{Step, token, begin, end, comment, newline}

@@ -18,7 +18,8 @@ use Rattle.dns_zone.specs.Nesting.{lines_of, nested_lines}
 use Rattle.dns_zone.specs.declared.zonefile_fmt.DisplayKind.{DisplayKind}
 use Rattle.dns_laws.specs.Entries.{document_entries}
 use Rattle.dns_laws.proofs.DocumentLayouts.{laid_splits, printed_laid}
-use Rattle.rdata.specs.Printing.{token_bytes, token_steps}
+use Rattle.rdata.specs.Printing.{token_bytes}
+use Rattle.zone_record.specs.RdataPrinting.{token_steps}
 use Rattle.rdata.specs.Rests.{ArePrinted, PrintedToken}
 use Rattle.zone_record.specs.DataTokens.{data_document, data_tokens}
 use Rattle.zone_record.specs.RecordLaws.{AreRecordValues}

@@ -4,7 +4,7 @@ use Rattle.std.specs.Borrow.{Bor}
 use Rattle.std.specs.List.{AllByRecursion}
 use Rattle.std.specs.Option.{option_to_list}
 use Rattle.rdata.specs.GatewayKeys.{plain_word}
-use Rattle.rdata.specs.Printing.{token_steps}
+use Rattle.zone_record.specs.RdataPrinting.{token_steps}
 use Rattle.rdata.specs.Rests.{PrintedToken}
 use Rattle.rdata_fields.specs.declared.record_ref.RecordRef.{RecordRef}
 use Rattle.zone_reader.specs.declared.known.NameState.{NameState}

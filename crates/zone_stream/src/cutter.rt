@@ -145,7 +145,7 @@ impl<A: Allocator + Copy> Cutter<A> {
     /// text after its entry.
     ///
     /// After an error no further record may be processed.
-    pub fn take(
+    pub fn process_record(
         &mut self,
         state: &State,
         at: usize,

@@ -1,6 +1,6 @@
 //! The text with which a part of a zone file begins.
 ghost use Rattle.std.specs.Prelude.{◌≡◌, ◌↔◌, IsTrue, OnOk};
-ghost use Rattle.rdata.specs.Printing.{token_steps};
+ghost use Rattle.zone_record.specs.RdataPrinting.{token_steps};
 ghost use Rattle.dns_zone.specs.Nesting.{lines_of};
 ghost use Rattle.dns_zone.specs.Writers.{WritesSteps};
 ghost use Rattle.zone_stream.specs.Heads.{HasShortTtls, default_ttl_lines, head_document, head_nests, line_of, origin_lines, repeated_document};

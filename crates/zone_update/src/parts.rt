@@ -108,7 +108,7 @@ fn part_len<Owner: AsOctets, Octets: AsOctets>(
 }
 
 /// Returns the first operations.
-fn front_of<'s, 'a, Owner: AsOctets, Octets: AsOctets>(
+fn first_operations<'s, 'a, Owner: AsOctets, Octets: AsOctets>(
     operations: &'s [Operation<'a, Owner, Octets>],
     count: usize,
 ) -> &'s [Operation<'a, Owner, Octets>]
@@ -157,7 +157,7 @@ pub(crate) fn cut_parts<'s, 'a, Owner: AsOctets, Octets: AsOctets, A: Allocator>
         if count == 0 {
             return Err(UpdateError::TooLarge);
         }
-        push_part(front_of(rest, count), &mut parts)?;
+        push_part(first_operations(rest, count), &mut parts)?;
         rest = rest_after(rest, count);
     }
     Ok(parts)

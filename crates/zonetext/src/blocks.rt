@@ -37,15 +37,15 @@ impl From<ChunkError> for FileError {
 }
 
 /// A consumer of the blocks of a file.
-pub trait Take {
+pub trait BlockVisitor {
     /// Processes a block.
-    fn take(&mut self, block: &[u8]) -> Result<(), FileError>;
+    fn process_block(&mut self, block: &[u8]) -> Result<(), FileError>;
     /// Processes the file's end.
     fn end(&mut self) -> Result<(), FileError>;
 }
 
-impl Take for Checker<Global> {
-    fn take(&mut self, block: &[u8]) -> Result<(), FileError> {
+impl BlockVisitor for Checker<Global> {
+    fn process_block(&mut self, block: &[u8]) -> Result<(), FileError> {
         self.add(block)?;
         Ok(())
     }
@@ -87,8 +87,8 @@ impl<'a> Printer<'a> {
     }
 }
 
-impl<'a> Take for Printer<'a> {
-    fn take(&mut self, block: &[u8]) -> Result<(), FileError> {
+impl<'a> BlockVisitor for Printer<'a> {
+    fn process_block(&mut self, block: &[u8]) -> Result<(), FileError> {
         let answer = self.writer.add(block, &mut self.out);
         self.print(answer)
     }
@@ -111,19 +111,19 @@ pub fn read_block<R: Read>(reader: &mut R, block: &mut [u8]) -> io::Result<usize
 }
 
 /// Passes the octets of a reader to a consumer of blocks.
-fn go_through<R: Read, T: Take>(
+fn visit_blocks<R: Read, T: BlockVisitor>(
     reader: &mut R,
-    taker: &mut T,
+    visitor: &mut T,
     block: &mut [u8],
     progress: &mut Progress,
 ) -> Result<(), FileError> {
     for _ in 0..u64::MAX {
         let count = match read_block(reader, block) {
-            Ok(0) => return taker.end(),
+            Ok(0) => return visitor.end(),
             Ok(count) => count.min(block.len()),
             Err(error) => return Err(FileError::Read(error)),
         };
-        taker.take(&block[..count])?;
+        visitor.process_block(&block[..count])?;
         if let Err(error) = progress.read(count) {
             return Err(FileError::Write(error));
         }
@@ -132,28 +132,31 @@ fn go_through<R: Read, T: Take>(
 }
 
 /// Passes octets to a consumer of blocks.
-pub fn go_through_octets<T: Take>(octets: &[u8], taker: &mut T) -> Result<(), FileError> {
+pub fn visit_blocks_of_octets<T: BlockVisitor>(
+    octets: &[u8],
+    visitor: &mut T,
+) -> Result<(), FileError> {
     for block in octets.chunks(BLOCK) {
-        taker.take(block)?;
+        visitor.process_block(block)?;
     }
-    taker.end()
+    visitor.end()
 }
 
 /// Passes a file's octets, or those of standard input, to a consumer of blocks.
-pub fn go_through_file<T: Take>(
+pub fn visit_blocks_of_file<T: BlockVisitor>(
     rt: &HostRuntime,
     file: &str,
-    taker: &mut T,
+    visitor: &mut T,
     progress: &mut Progress,
 ) -> Result<(), FileError> {
     let Ok(mut block) = vec![in rt.alloc(); 0; BLOCK] else {
         return Err(FileError::ChunkError(ChunkError::OutOfMemory));
     };
     if file == "-" {
-        return go_through(&mut rt.stdin(), taker, block.as_mut_slice(), progress);
+        return visit_blocks(&mut rt.stdin(), visitor, block.as_mut_slice(), progress);
     }
     match File::open(rt, file) {
-        Ok(mut reader) => go_through(&mut reader, taker, block.as_mut_slice(), progress),
+        Ok(mut reader) => visit_blocks(&mut reader, visitor, block.as_mut_slice(), progress),
         Err(error) => Err(FileError::Read(error)),
     }
 }

@@ -2,7 +2,7 @@
 use crate::gathered::{Gathered, NumberedRecord, gather};
 use crate::json_records::push_json_record;
 use crate::lines::Lines;
-use crate::run_files::TakeRecord;
+use crate::run_files::RecordVisitor;
 use crate::sorting::{Sorting, gather_sorting};
 use crate::stop::{RunError, exit_status};
 use crate::visit::Reading;
@@ -146,8 +146,8 @@ struct LineWriter<'l> {
     form: Form,
 }
 
-impl TakeRecord for LineWriter<'_> {
-    fn take_record<Owner: AsOctets, Octets: AsOctets>(
+impl RecordVisitor for LineWriter<'_> {
+    fn process_record<Owner: AsOctets, Octets: AsOctets>(
         &mut self,
         one: &Record<Owner, Octets>,
     ) -> Result<(), RunError> {

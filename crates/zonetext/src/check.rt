@@ -217,7 +217,7 @@ fn paths_of(alloc: Global, folders: &[String]) -> Result<Vec<&str>, AllocError> 
 }
 
 /// Checks a file, and reports the findings.
-fn go_through(
+fn check_entries(
     rt: &HostRuntime,
     file: &str,
     options: &Options,
@@ -295,7 +295,7 @@ fn check_with(
         max_ttl: settings.max_ttl,
         assumes_root: zone.is_none(),
         is_strict: options.is_strict,
-        tells_slips: true,
+        reports_slips: true,
         times: options.times,
         is_standard: file == "-",
         is_text: options.is_text,
@@ -308,7 +308,7 @@ fn check_with(
     let reporter = Reporter::new(rt, policy, options.form, options.most);
     let mut checker = Checker::new(rt, reporter, limits, zone);
     checker.findings.reporter.before.has_finding = totals.has_finding;
-    let checked = go_through(rt, file, options, settings, &mut checker, state);
+    let checked = check_entries(rt, file, options, settings, &mut checker, state);
     let ended = checker.findings.reporter.end_file();
     totals.add(&checker.findings.reporter);
     match checked.and(ended) {

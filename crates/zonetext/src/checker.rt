@@ -3,7 +3,7 @@ use crate::exceptions::{may_except, stated_of};
 use crate::explain::Refusal;
 use crate::findings::Findings;
 use crate::held_zone::{
-    HeldZone, RecordLocation, StandingRecord, is_of_absence, is_of_signed_absence, other_soa,
+    HeldZone, LocatedRecord, RecordLocation, is_of_absence, is_of_signed_absence, other_soa,
 };
 use crate::locations::{
     beginning, begins_blank, data_start, line_spot, long_at, octet_at, position_at, spot_at,
@@ -14,7 +14,7 @@ use crate::long_ttls::{long_ttl, long_ttl_of};
 use crate::octet_texts::{is_name, is_of_file, remark_text};
 use crate::open_file::first_place;
 use crate::refusals::refused_type;
-use crate::reporter::{Reporter, Said};
+use crate::reporter::{FindingText, Reporter};
 use crate::rule_texts::ZoneRecords;
 use crate::scan::{OctetScan, ends_twice, needs_lint, repeats_origin, scan_octets};
 use crate::scopes::{Scope, scope_of};
@@ -59,7 +59,7 @@ pub struct Limits {
     /// Whether findings about several records are reported without a zone too.
     pub is_strict: bool,
     /// Whether valid text that looks like a slip is reported.
-    pub tells_slips: bool,
+    pub reports_slips: bool,
     /// The times for signatures, if the zone must be signed.
     pub times: Option<Times>,
     /// Whether the first file is standard input, which can't be read again.
@@ -94,9 +94,9 @@ pub struct Checker<'a> {
     /// Numbers of the files for which CR LF was reported.
     crlf_files: Vec<usize>,
     /// Whether it was reported that no origin is known.
-    pub has_told_origin: bool,
+    pub has_reported_origin: bool,
     /// Whether it was reported that the last owner was rejected.
-    has_told_owner: bool,
+    has_reported_owner: bool,
     /// Whether a file was skipped because it is UTF-16.
     is_cut: bool,
     /// Whether records are unread: a file is not included, an origin is rejected, or an entry is
@@ -153,8 +153,8 @@ impl<'a> Checker<'a> {
             records: 0,
             seen: None,
             crlf_files: Vec::new(alloc),
-            has_told_origin: false,
-            has_told_owner: false,
+            has_reported_origin: false,
+            has_reported_owner: false,
             is_cut: false,
             has_gap: false,
         }
@@ -165,10 +165,10 @@ impl<'a> Checker<'a> {
         self.has_gap = true;
         let limit = entry.reader.limit();
         let text = format!(in self.alloc; "entry longer than {limit} octets")?;
-        let said = Said::message(text.as_str());
+        let finding_text = FindingText::message(text.as_str());
         self.findings
             .reporter
-            .tell(long_at(entry), Code::MaxEntry, true, said)
+            .report(long_at(entry), Code::MaxEntry, true, finding_text)
     }
 
     /// Returns whether a rejected entry is reported: a relative name without an origin is reported
@@ -176,13 +176,13 @@ impl<'a> Checker<'a> {
     fn is_news(&mut self, code: Code) -> bool {
         match code {
             Code::NoOrigin => {
-                let was_told = self.has_told_origin;
-                self.has_told_origin = true;
+                let was_told = self.has_reported_origin;
+                self.has_reported_origin = true;
                 !was_told
             }
             Code::NoOwner => {
-                let was_told = self.has_told_owner;
-                self.has_told_owner = true;
+                let was_told = self.has_reported_owner;
+                self.has_reported_owner = true;
                 !was_told
             }
             _ => true,
@@ -196,7 +196,7 @@ impl<'a> Checker<'a> {
         let code = code_of_entry(is_directive, error);
         self.has_gap = self.has_gap || code == Code::Directive;
         if code != Code::NoOwner {
-            self.has_told_owner = false;
+            self.has_reported_owner = false;
         }
         if !is_directive {
             let rtype = refused_type(error, tokens.as_slice(), begins_blank(entry));
@@ -205,7 +205,7 @@ impl<'a> Checker<'a> {
         if !self.is_news(code) {
             return Ok(());
         }
-        self.findings.tell_explained(
+        self.findings.report_explained(
             entry,
             Refusal {
                 tokens: tokens.as_slice(),
@@ -226,7 +226,7 @@ impl<'a> Checker<'a> {
         };
         if self.limits.assumes_root && origin.len() < 2 {
             return if self.is_news(Code::NoOrigin) {
-                self.findings.tell_token(entry, token, Code::NoOrigin)
+                self.findings.report_token(entry, token, Code::NoOrigin)
             } else {
                 Ok(())
             };
@@ -236,7 +236,7 @@ impl<'a> Checker<'a> {
         }
         let text = DisplayWithoutDot::new(origin).to_string(self.alloc)?;
         if ends_like(token.text, text.as_bytes()) {
-            return self.findings.tell_token(entry, token, Code::MissingDot);
+            return self.findings.report_token(entry, token, Code::MissingDot);
         }
         Ok(())
     }
@@ -248,7 +248,7 @@ impl<'a> Checker<'a> {
             return false;
         };
         if origin.len() < 2 {
-            return self.limits.assumes_root && !self.has_told_origin;
+            return self.limits.assumes_root && !self.has_reported_origin;
         }
         let origin = origin.as_slice();
         let Ok(owner) = entry.state.owner() else {
@@ -294,10 +294,10 @@ impl<'a> Checker<'a> {
             .get(usize::from(!begins_blank(entry))..)
             .unwrap_or(&[]);
         match words.iter().find(|token| class_word(token).is_some()) {
-            Some(token) => self.findings.tell_token(entry, token, Code::OtherClass),
+            Some(token) => self.findings.report_token(entry, token, Code::OtherClass),
             None => self
                 .findings
-                .tell_word(entry, beginning(entry), Code::OtherClass, None),
+                .report_word(entry, beginning(entry), Code::OtherClass, None),
         }
     }
 
@@ -326,7 +326,7 @@ impl<'a> Checker<'a> {
     fn report_record(&mut self, entry: &Entry<'_>, at: usize, code: Code) -> Result<(), RunError> {
         let tokens = tokens_of(self.alloc, entry)?;
         self.findings
-            .tell_word(entry, spot_at(entry, tokens.as_slice(), at), code, None)
+            .report_word(entry, spot_at(entry, tokens.as_slice(), at), code, None)
     }
 
     /// Reports a token that spells a TTL of 2^31 or more, if there is one.
@@ -336,7 +336,7 @@ impl<'a> Checker<'a> {
         token: Option<EntryToken<'_>>,
     ) -> Result<(), RunError> {
         match token {
-            Some(token) => self.findings.tell_token(entry, &token, Code::Ttl),
+            Some(token) => self.findings.report_token(entry, &token, Code::Ttl),
             None => Ok(()),
         }
     }
@@ -359,7 +359,8 @@ impl<'a> Checker<'a> {
         }
         if let Some(most) = self.limits.max_ttl {
             if ttl.seconds() > most {
-                self.findings.tell_max_ttl(entry, at, ttl.seconds(), most)?;
+                self.findings
+                    .report_max_ttl(entry, at, ttl.seconds(), most)?;
             }
         }
         if let Some(code) = slip_of(rtype, entry.data) {
@@ -395,7 +396,7 @@ impl<'a> Checker<'a> {
             }
             let token = token_of_rule(entry, tokens, *rule, rtype);
             self.findings
-                .tell_lone_rule(entry, tokens, at, *rule, token)?;
+                .report_lone_rule(entry, tokens, at, *rule, token)?;
         }
         Ok(())
     }
@@ -434,7 +435,7 @@ impl<'a> Checker<'a> {
             ) => {
                 *class == self.limits.class
                     && *rtype != RecordType::SOA
-                    && (!self.limits.tells_slips
+                    && (!self.limits.reports_slips
                         || (self.is_usual_ttl(*ttl)
                             && slip_of(*rtype, entry.data).is_none()
                             && breaks_none(entry, scan, *rtype).unwrap_or(false)
@@ -446,7 +447,7 @@ impl<'a> Checker<'a> {
 
     /// Counts a record.
     fn count_record(&mut self) {
-        self.has_told_owner = false;
+        self.has_reported_owner = false;
         self.records = self.records.saturating_add(1);
     }
 
@@ -459,12 +460,12 @@ impl<'a> Checker<'a> {
             return Ok(());
         };
         let position = position_at(entry, at.saturating_sub(entry.offset));
-        let stand = RecordLocation {
+        let location = RecordLocation {
             file: entry.number,
             position,
             target: target_position(entry, position),
         };
-        held.records.add(given, stand)
+        held.records.add(given, location)
     }
 
     /// Stores the RRset of a rejected record, if records are stored and its owner and its type are
@@ -495,7 +496,7 @@ impl<'a> Checker<'a> {
         if has_class && rtype == RecordType::SOA {
             self.see_soa(entry)?;
         }
-        if has_class && !self.limits.tells_slips {
+        if has_class && !self.limits.reports_slips {
             return Ok(());
         }
         if self.may_show_names(entry, scan) {
@@ -521,7 +522,8 @@ impl<'a> Checker<'a> {
     ) -> Result<(), RunError> {
         match tokens.get(place) {
             Some(token) if !ends_in_dot(token.text) => {
-                self.findings.tell_token(entry, token, Code::RelativeOrigin)
+                self.findings
+                    .report_token(entry, token, Code::RelativeOrigin)
             }
             _ => Ok(()),
         }
@@ -585,7 +587,7 @@ impl<'a> Checker<'a> {
         match found {
             Some(exception) if !exception.is_used() && self.looks_for(exception.code, has_zone) => {
                 self.findings
-                    .tell_unused(held.file(exception.number), exception)
+                    .report_unused(held.file(exception.number), exception)
             }
             _ => Ok(()),
         }
@@ -596,7 +598,7 @@ impl<'a> Checker<'a> {
     fn looks_for(&self, code: Code, has_zone: bool) -> bool {
         let is_whole = has_zone && !self.has_gap;
         match scope_of(code) {
-            Scope::Text => self.tells_octets(code),
+            Scope::Text => self.reports_octets(code),
             Scope::Records => !self.limits.is_text,
             Scope::MaxTtl => self.limits.max_ttl.is_some(),
             Scope::Zone => is_whole,
@@ -621,7 +623,7 @@ impl<'a> Checker<'a> {
                 .add(*code, entry.number, position, record)?;
         }
         for slip in &stated.slips {
-            self.findings.tell_slip(entry, *slip)?;
+            self.findings.report_slip(entry, *slip)?;
         }
         Ok(())
     }
@@ -643,7 +645,7 @@ impl<'a> Checker<'a> {
                 .copied();
             if let Some(exception) = found {
                 if !exception.is_used() && self.looks_for(exception.code, false) {
-                    self.findings.tell_unused(entry.file, exception)?;
+                    self.findings.report_unused(entry.file, exception)?;
                 }
             }
         }
@@ -652,7 +654,7 @@ impl<'a> Checker<'a> {
     }
 
     /// Processes an entry, with its exceptions in effect.
-    fn take_entry(&mut self, entry: &Entry<'_>, scan: OctetScan) -> Result<(), RunError> {
+    fn process_entry(&mut self, entry: &Entry<'_>, scan: OctetScan) -> Result<(), RunError> {
         if !self.shows_nothing(entry, scan) {
             return self.check_entry(entry, scan);
         }
@@ -690,13 +692,13 @@ impl<'a> Checker<'a> {
             }
         }
         for finding in &found {
-            if self.tells_rule(finding.rule, is_zone) {
+            if self.reports_rule(finding.rule, is_zone) {
                 let records = ZoneRecords {
                     zone,
                     sorted: &sorted,
                     refused: &refused,
                 };
-                self.findings.tell_rule(held, &records, finding)?;
+                self.findings.report_rule(held, &records, finding)?;
             }
         }
         match self.limits.times {
@@ -707,7 +709,7 @@ impl<'a> Checker<'a> {
 
     /// Returns whether a broken rule is reported. Without a zone only rules of RRsets are. Missing
     /// records are reported only if all records were read.
-    fn tells_rule(&self, rule: Rule, is_zone: bool) -> bool {
+    fn reports_rule(&self, rule: Rule, is_zone: bool) -> bool {
         match rule {
             Rule::Duplicate | Rule::TtlDiffers => true,
             _ => is_zone && !(self.has_gap && is_of_absence(rule)),
@@ -719,7 +721,7 @@ impl<'a> Checker<'a> {
         &mut self,
         held: &HeldZone,
         code: Code,
-        record: Option<&StandingRecord<'_>>,
+        record: Option<&LocatedRecord<'_>>,
         zone: &Name<Origin>,
     ) -> Result<(), RunError> {
         let zone = DisplayWithDot::new(zone);
@@ -767,7 +769,7 @@ impl<'a> Checker<'a> {
 
     /// Returns whether CR LF at line ends of an entry's file is reported: once a file, and not if a
     /// syntax error cuts the entry off.
-    fn tells_crlf(&self, entry: &Entry<'_>) -> bool {
+    fn reports_crlf(&self, entry: &Entry<'_>) -> bool {
         if let Err(BlockRefusal::Text(_)) = entry.read {
             return false;
         }
@@ -776,18 +778,18 @@ impl<'a> Checker<'a> {
 
     /// Returns whether a finding about octets is reported: if only the text is checked, it must be
     /// denied.
-    fn tells_octets(&self, code: Code) -> bool {
+    fn reports_octets(&self, code: Code) -> bool {
         !self.limits.is_text || self.findings.reporter.denies(code)
     }
 
     /// Returns whether a finding in the octets of an entry is reported. If the entry begins with
     /// Ctrl-Z, its other control octets are not. A service parameter's value is adjacent to its key
     /// (RFC 9460 section 2.1), and if only the text is checked, types are not known.
-    fn tells_remark(&self, entry: &Entry<'_>, code: Code, is_end: bool) -> bool {
+    fn reports_remark(&self, entry: &Entry<'_>, code: Code, is_end: bool) -> bool {
         match code {
             Code::ControlOctet if is_end => false,
             Code::AdjacentTokens => !self.limits.is_text && !is_of_parameters(entry),
-            _ => self.tells_octets(code),
+            _ => self.reports_octets(code),
         }
     }
 
@@ -802,13 +804,13 @@ impl<'a> Checker<'a> {
         }
         let block = Block {
             is_last: entry.is_last && entry.octets.first() != Some(&CONTROL_Z),
-            tells_crlf: self.tells_crlf(entry),
+            reports_crlf: self.reports_crlf(entry),
         };
         let mut remarks = Vec::new(self.alloc);
         lint(entry.octets, block, &mut remarks)?;
         let mut is_end = false;
         for remark in &remarks {
-            if !self.tells_remark(entry, remark.code, is_end) {
+            if !self.reports_remark(entry, remark.code, is_end) {
                 continue;
             }
             is_end = is_end || remark.code == Code::ControlZ;
@@ -822,7 +824,7 @@ impl<'a> Checker<'a> {
                 if is_of_file(remark.code) {
                     self.findings
                         .reporter
-                        .show(severity, spot, remark.code, text.said())?;
+                        .show(severity, spot, remark.code, text.finding_text())?;
                 } else {
                     self.findings
                         .show_entry(entry, severity, spot, remark.code, &text)?;
@@ -867,10 +869,10 @@ impl<'a> Visit for Checker<'a> {
             return Ok(());
         }
         self.is_cut = self.is_cut || mark.len() == 2;
-        if !self.tells_octets(Code::ByteOrderMark) {
+        if !self.reports_octets(Code::ByteOrderMark) {
             return Ok(());
         }
-        self.findings.tell(
+        self.findings.report(
             line_spot(file, number, first_place().position, None),
             Code::ByteOrderMark,
         )
@@ -885,21 +887,21 @@ impl<'a> Visit for Checker<'a> {
         !has_exceptions(entry, scan) && self.shows_nothing(entry, scan)
     }
 
-    fn take_quiet(&mut self, entry: &Entry<'_>) -> Result<(), RunError> {
+    fn process_quiet(&mut self, entry: &Entry<'_>) -> Result<(), RunError> {
         if let Ok(ParsedEntry::Record { .. }) = entry.read {
             self.count_record();
         }
         Ok(())
     }
 
-    fn take(&mut self, entry: &Entry<'_>) -> Result<(), RunError> {
+    fn process(&mut self, entry: &Entry<'_>) -> Result<(), RunError> {
         let scan = scan_octets(entry.octets);
         self.findings.reporter.exceptions.begin();
         if !has_exceptions(entry, scan) {
-            return self.take_entry(entry, scan);
+            return self.process_entry(entry, scan);
         }
         self.begin_exceptions(entry)?;
-        self.take_entry(entry, scan)?;
+        self.process_entry(entry, scan)?;
         self.end_exceptions(entry)
     }
 
@@ -915,8 +917,10 @@ impl<'a> Visit for Checker<'a> {
         };
         let word = quoted(self.alloc, word)?;
         let text = unfit.text(self.alloc, word.as_str())?;
-        let said = Said::message(text.as_str());
-        self.findings.reporter.tell(spot, Code::Include, true, said)
+        let finding_text = FindingText::message(text.as_str());
+        self.findings
+            .reporter
+            .report(spot, Code::Include, true, finding_text)
     }
 
     fn keep_ttl(
@@ -925,7 +929,7 @@ impl<'a> Visit for Checker<'a> {
         number: usize,
         place: LocatedOffset,
     ) -> Result<(), RunError> {
-        self.findings.tell(
+        self.findings.report(
             line_spot(file, number, place.position, None),
             Code::IncludeTtl,
         )

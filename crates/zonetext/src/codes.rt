@@ -5,7 +5,7 @@ use crate::options::USAGE;
 use crate::shown::Shown;
 use crate::stop::{RunError, exit_status};
 use clap::{ArgMatches, Command};
-use finding_codes::{example_of, summary_of, text_of};
+use finding_texts::{example_of, summary_of, text_of};
 use std::alloc::{AllocError, Global};
 use std::io;
 use std::io::ErrorKind;
@@ -118,7 +118,7 @@ fn similar(alloc: Global, word: &str) -> Result<Option<Code>, AllocError> {
 }
 
 /// Reports that a word is not a code.
-fn tell_unknown(rt: &HostRuntime, word: &str) -> io::Result<u8> {
+fn report_unknown(rt: &HostRuntime, word: &str) -> io::Result<u8> {
     let similar = similar(rt.alloc(), word);
     let word = Shown(word);
     match similar {
@@ -146,7 +146,7 @@ pub fn run_codes(rt: &HostRuntime) -> io::Result<u8> {
 pub fn run_explain(rt: &HostRuntime, inner: &ArgMatches) -> io::Result<u8> {
     let word = inner.get_str("CODE").unwrap_or("");
     let Some(code) = Code::named(word) else {
-        return tell_unknown(rt, word);
+        return report_unknown(rt, word);
     };
     match explain(rt, code) {
         Ok(()) => Ok(0),

@@ -2,7 +2,7 @@
 use crate::part_files::PartFiles;
 use crate::shown::Shown;
 use crate::stop::{EXIT_IO, RunError, exit_status};
-use crate::visit::{Outcome, Reading, TakeEntry, give_entries};
+use crate::visit::{EntryVisitor, Outcome, Reading, visit_entries};
 use crate::zone_files::Entry;
 use rdata_fields::RecordRef;
 use std::alloc::Global;
@@ -56,10 +56,10 @@ impl<'p> Parter<'p> {
     }
 
     /// Processes the record of an entry.
-    fn take_record(&mut self, entry: &Entry<'_>, given: &RecordRef<'_>) -> Result<(), RunError> {
+    fn process_record(&mut self, entry: &Entry<'_>, given: &RecordRef<'_>) -> Result<(), RunError> {
         match self
             .cutter
-            .take(entry.state, entry.offset, given, &mut self.lines)
+            .process_record(entry.state, entry.offset, given, &mut self.lines)
         {
             Ok(true) => self.begin_part(),
             Ok(false) => self.files.write(entry.octets),
@@ -78,11 +78,11 @@ impl<'p> Parter<'p> {
     }
 }
 
-impl TakeEntry for Parter<'_> {
-    fn take_entry(&mut self, entry: &Entry<'_>) -> Result<(), RunError> {
+impl EntryVisitor for Parter<'_> {
+    fn process_entry(&mut self, entry: &Entry<'_>) -> Result<(), RunError> {
         match entry.record()? {
             _ if self.has_refused => Ok(()),
-            Some(given) => self.take_record(entry, &given),
+            Some(given) => self.process_record(entry, &given),
             None => self.files.write(entry.octets),
         }
     }
@@ -130,12 +130,16 @@ fn finish(rt: &HostRuntime, file: &str, mut files: PartFiles<'_>) -> u8 {
 
 /// Writes the entries of a file to its parts, and returns the status.
 fn cut(rt: &HostRuntime, file: &str, reading: &Reading<'_>, parter: Parter<'_>) -> u8 {
-    let Outcome { status, taker, .. } = give_entries(rt, &[file], reading, parter);
+    let Outcome {
+        status,
+        visitor,
+        ..
+    } = visit_entries(rt, &[file], reading, parter);
     let Parter {
         files,
         has_refused,
         ..
-    } = taker;
+    } = visitor;
     match status.max(u8::from(has_refused)) {
         0 => finish(rt, file, files),
         status => leave(rt, files, status),

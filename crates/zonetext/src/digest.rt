@@ -37,7 +37,7 @@ fn verdict_text(verdict: Verdict) -> &'static str {
 #[derive(Clone, Copy)]
 pub struct DigestOptions {
     /// Whether one digest that matches is enough (RFC 8976 section 4), whatever the others are.
-    pub takes_any: bool,
+    pub accepts_any: bool,
     /// Whether digests with an unknown scheme or hash algorithm are listed too.
     pub is_verbose: bool,
     /// Whether the verdicts are JSON objects.
@@ -56,7 +56,7 @@ struct Outcome {
 impl Outcome {
     /// Returns the status: 0 if a digest matches, and all do or one is enough.
     fn status(self, work: DigestOptions) -> u8 {
-        u8::from(!self.matches || (self.differs && !work.takes_any))
+        u8::from(!self.matches || (self.differs && !work.accepts_any))
     }
 }
 
@@ -70,7 +70,7 @@ pub fn unknown_text(zonemd: &Zonemd<'_>) -> &'static str {
 }
 
 /// Reports the verdict on a ZONEMD as a JSON object.
-fn tell_json(
+fn report_json(
     rt: &HostRuntime,
     file: &str,
     zonemd: &Zonemd<'_>,
@@ -124,7 +124,7 @@ fn report_verdicts(
             unknown_text(&zonemd)
         };
         if work.is_json {
-            tell_json(rt, name, &zonemd, text)?;
+            report_json(rt, name, &zonemd, text)?;
         } else {
             println!(rt; "{file}: ZONEMD {serial} {scheme} {hash}: {text}")?;
         }

@@ -2,7 +2,7 @@
 use crate::gathered::{Gathered, Gatherer};
 use crate::locations::{tokens_of, width};
 use crate::stop::RunError;
-use crate::visit::{Outcome, Reading, TakeEntry, give_entries};
+use crate::visit::{EntryVisitor, Outcome, Reading, visit_entries};
 use crate::zone_files::Entry;
 use dns_lexer::pieces::Span;
 use rdata_fields::{RecordRef, TokenSource};
@@ -84,9 +84,9 @@ struct Finder {
     found: Vec<Placed>,
 }
 
-impl TakeEntry for Finder {
-    fn take_entry(&mut self, entry: &Entry<'_>) -> Result<(), RunError> {
-        self.gatherer.take_entry(entry)?;
+impl EntryVisitor for Finder {
+    fn process_entry(&mut self, entry: &Entry<'_>) -> Result<(), RunError> {
+        self.gatherer.process_entry(entry)?;
         if let Some(given) = entry.record()? {
             if matches!(given.rtype, RecordType::SOA | RecordType::ZONEMD) {
                 self.found.push(placed_of(self.alloc, entry, &given)?)?;
@@ -113,8 +113,8 @@ pub fn find(
     let Outcome {
         status,
         seen,
-        taker,
-    } = give_entries(rt, &[file], reading, finder);
+        visitor,
+    } = visit_entries(rt, &[file], reading, finder);
     if status > 0 {
         return Err(status);
     }
@@ -122,6 +122,6 @@ pub fn find(
         gatherer,
         found,
         ..
-    } = taker;
+    } = visitor;
     Ok((gatherer.gathered(seen), found))
 }

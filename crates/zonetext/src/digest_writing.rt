@@ -38,7 +38,7 @@ pub struct DigestWriteOptions {
 #[derive(Drop)]
 enum DigestWriteError {
     /// Entries are rejected, or a file can't be read, with this status, and that was reported.
-    Told(u8),
+    Reported(u8),
     NoSoa,
     NoSingleSoa,
     /// The SOA or a digest is in an included file.
@@ -197,7 +197,7 @@ impl Plan {
     }
 
     /// Reports what happens to a digest.
-    fn tell(&mut self, zonemd: &Zonemd<'_>, what: &str) -> Result<(), AllocError> {
+    fn report(&mut self, zonemd: &Zonemd<'_>, what: &str) -> Result<(), AllocError> {
         let (serial, scheme, hash) = (zonemd.serial, zonemd.scheme, zonemd.hash);
         writeln!(&mut self.lines, "ZONEMD {serial} {scheme} {hash}: {what}")
     }
@@ -211,7 +211,7 @@ impl Plan {
         };
         let why = unknown_text(old);
         let text = format!(in self.alloc; "{why}, left as it is{note}")?;
-        self.tell(old, text.as_str())
+        self.report(old, text.as_str())
     }
 
     /// Corrects each digest of a zone that is wrong. `rights` has the right data of each, if its scheme
@@ -232,7 +232,7 @@ impl Plan {
             };
             let after = zonemd_of(right)?;
             let is_same = is_same_zonemd(&before, &after);
-            self.tell(&after, if is_same { "matches" } else { "written" })?;
+            self.report(&after, if is_same { "matches" } else { "written" })?;
             let tokens = one.tokens.as_slice();
             records
                 .push(ZonemdEdit {
@@ -257,7 +257,7 @@ impl Plan {
         let line = line.strip_suffix(b"\n").unwrap_or(line.as_slice());
         push_entry_after(self.alloc, octets, soa.end, line, &mut self.edits)?;
         self.is_added = true;
-        self.tell(&zonemd_of(right)?, "added")?;
+        self.report(&zonemd_of(right)?, "added")?;
         Ok(())
     }
 }
@@ -410,7 +410,7 @@ fn write(
     let original = Original::find(rt, alloc, file, work.ignores_journal)?;
     let (gathered, found) = match find(rt, file, reading) {
         Ok(read) => read,
-        Err(status) => return Err(DigestWriteError::Told(status)),
+        Err(status) => return Err(DigestWriteError::Reported(status)),
     };
     let Some(seen) = &gathered.seen else {
         return Err(DigestWriteError::NoSoa);
@@ -458,7 +458,7 @@ fn refuse(rt: &HostRuntime, file: &str, why: DigestWriteError) -> io::Result<u8>
     let name = Shown(file);
     let mut status = EXIT_IO;
     match why {
-        DigestWriteError::Told(found) => status = found,
+        DigestWriteError::Reported(found) => status = found,
         DigestWriteError::NoSoa => eprintln!(rt; "zonetext: {name}: no SOA")?,
         DigestWriteError::NoSingleSoa => {
             eprintln!(rt; "zonetext: {name}: no single SOA at the zone's name")?;

@@ -2,15 +2,17 @@
 use crate::locations::{data_start, spot_at, token_at, token_part};
 use crate::octet_texts::{ESCAPE, escape_text};
 use crate::reporter::FindingLocation;
-use crate::subjects::{Text, quoted};
+use crate::subjects::{Text, quoted, text_of};
 use crate::zone_files::Entry;
 use dns_lexer::entry_tokens::EntryToken;
-use finding_texts::digests::{digest_name, digest_place};
+use error_texts::contents::{digest_text, long_string_text};
+use error_texts::digests::digest_place;
+use error_texts::errors::part_message;
+use error_texts::parts::field_name;
 use finding_texts::mistakes::{
     address_type, comment_mark, count_spelled, high_escape, is_conflict_marker,
 };
 use finding_texts::similar::similar_types;
-use rdata::field_text;
 use rdata_fields::RecordError;
 use rdata_values::{ErrorKind, RecordType, u8_from_text};
 use std::alloc::{AllocError, Global};
@@ -37,15 +39,6 @@ pub struct Refusal<'r, 'e> {
     pub is_blank: bool,
     pub error: &'r RecordError,
     pub code: Code,
-}
-
-/// Returns why an entry is rejected. Its octets don't fit only if they exceed the limit of record
-/// data.
-fn reason_of(kind: ErrorKind) -> &'static str {
-    match kind {
-        ErrorKind::ShortBuf => "RDATA exceeds 65535 octets",
-        _ => kind.as_str(),
-    }
 }
 
 /// Returns the token that begins at an offset of the entry.
@@ -80,10 +73,10 @@ fn data_token<'e>(
 
 /// Returns the name of the part that is rejected: a field of the data, or the owner.
 fn part_of(error: &RecordError, code: Code) -> Option<&'static str> {
-    match (error.rtype, error.field) {
-        (Some(rtype), Some(field)) => field_text(rtype, field),
-        (None, _) if code == Code::Owner => Some("owner"),
-        _ => None,
+    if error.rtype.is_none() && code == Code::Owner {
+        Some("owner")
+    } else {
+        field_name(error)
     }
 }
 
@@ -106,18 +99,14 @@ fn plain_message(
     code: Code,
     token: Option<EntryToken<'_>>,
 ) -> Result<String, AllocError> {
-    let why = reason_of(error.kind);
-    if is_about_others(error.kind) {
-        return String::from_str(alloc, why);
-    }
-    let word = match token {
-        Some(token) => quoted(alloc, token.text)?,
-        None => String::new(alloc),
-    };
-    let blank = if token.is_some() { " " } else { "" };
-    match part_of(error, code) {
-        Some(part) => format!(in alloc; "{part}: {why}{blank}{word}"),
-        None => format!(in alloc; "{why}{blank}{word}"),
+    let message = part_message(part_of(error, code), error);
+    let message = text_of(&message);
+    match token {
+        Some(token) if !is_about_others(error.kind) => {
+            let word = quoted(alloc, token.text)?;
+            format!(in alloc; "{message} {word}")
+        }
+        _ => String::from_str(alloc, message),
     }
 }
 
@@ -240,12 +229,8 @@ fn digest_message(
     let Ok(number) = u8_from_text(token.text) else {
         return Ok(None);
     };
-    let text = match digest_name(rtype, number) {
-        Some(name) => {
-            format!(in alloc; "digest of {found} octets; type {number} ({name}) has {wanted}")?
-        }
-        None => format!(in alloc; "digest of {found} octets; type {number} has {wanted}")?,
-    };
+    let text = digest_text(rtype, number, found, wanted);
+    let text = String::from_str(alloc, text_of(&text))?;
     Ok(Some(text))
 }
 
@@ -366,7 +351,8 @@ fn explain_content<'e>(
     match refusal.error.kind {
         ErrorKind::LongString => {
             let count = count_spelled(token.text);
-            let text = format!(in alloc; "character string of {count} octets (at most 255)")?;
+            let text = long_string_text(count);
+            let text = String::from_str(alloc, text_of(&text))?;
             let help = "split it: \"...\" \"...\"";
             Ok(Some(explanation(alloc, refusal, spot, text, help)?))
         }

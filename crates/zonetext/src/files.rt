@@ -1,10 +1,10 @@
 //! Runs the commands over the text of files.
-use crate::blocks::{FileError, Printer, Take, go_through_file};
+use crate::blocks::{BlockVisitor, FileError, Printer, visit_blocks_of_file};
 use crate::pair::compare_files;
 use crate::progress::Progress;
 use crate::shown::Shown;
 use crate::stop::EXIT_IO;
-use rdata_values::ErrorKind;
+use error_texts::kinds::syntax_error_text;
 use std::io;
 use std::io::Write;
 use zonetext_lib::blocks::{Checker, ChunkError};
@@ -15,7 +15,7 @@ use zonetext_lib::writer::Output;
 
 /// Reports where a file is not a zone file, and returns the exit status.
 pub fn report(rt: &HostRuntime, file: &str, found: Found) -> io::Result<u8> {
-    let why = ErrorKind::Syntax(found.fault.wrong).as_str();
+    let why = syntax_error_text(found.fault.wrong);
     let file = Shown(file);
     let (line, column) = (found.position.line, found.position.column);
     match found.opened {
@@ -51,9 +51,14 @@ fn exit_status(rt: &HostRuntime, file: &str, answer: Result<(), FileError>) -> i
 }
 
 /// Passes a file to a consumer of blocks, and returns the exit status.
-fn run<T: Take>(rt: &HostRuntime, file: &str, is_quiet: bool, taker: &mut T) -> io::Result<u8> {
+fn run<T: BlockVisitor>(
+    rt: &HostRuntime,
+    file: &str,
+    is_quiet: bool,
+    visitor: &mut T,
+) -> io::Result<u8> {
     let mut progress = Progress::new(rt, file, is_quiet)?;
-    let answer = go_through_file(rt, file, taker, &mut progress);
+    let answer = visit_blocks_of_file(rt, file, visitor, &mut progress);
     progress.clear()?;
     exit_status(rt, file, answer)
 }
@@ -63,7 +68,7 @@ fn run<T: Take>(rt: &HostRuntime, file: &str, is_quiet: bool, taker: &mut T) -> 
 pub fn check_text(rt: &HostRuntime, file: &str, name: &str, is_quiet: bool) -> io::Result<u8> {
     let mut checker = Checker::new(rt.alloc());
     let mut progress = Progress::new(rt, name, is_quiet)?;
-    let answer = go_through_file(rt, file, &mut checker, &mut progress);
+    let answer = visit_blocks_of_file(rt, file, &mut checker, &mut progress);
     progress.clear()?;
     exit_status(rt, name, answer)
 }

@@ -2,14 +2,14 @@
 use crate::exceptions::{Exception, Slip};
 use crate::explain::{Refusal, explain};
 use crate::file_lines::FileLines;
-use crate::held_zone::{HeldZone, StandingRecord};
+use crate::held_zone::{HeldZone, LocatedRecord};
 use crate::locations::{
     begins_blank, fault_at, first_tokens, line_spot, part_at, spot_at, token_at, tokens_of,
 };
 use crate::lone_rules::lone_text;
 use crate::octet_texts::fault_text;
 use crate::open_file::first_place;
-use crate::reporter::{FindingLocation, Reporter, Said};
+use crate::reporter::{FindingLocation, FindingText, Reporter};
 use crate::rule_texts::{ZoneRecords, is_at_target, rule_text};
 use crate::stop::RunError;
 use crate::subjects::{Subject, Text};
@@ -31,15 +31,15 @@ const MOST_SEARCHED: usize = 200_000;
 
 /// Returns the number of the file and the position of a finding at a record, or at its target, or at
 /// the first file's start.
-fn place_of(record: Option<&StandingRecord<'_>>, at_target: bool) -> (usize, Position) {
+fn place_of(record: Option<&LocatedRecord<'_>>, at_target: bool) -> (usize, Position) {
     let Some(record) = record else {
         return (0, first_place().position);
     };
-    let stand = record.owner.as_octets().tag;
+    let location = record.owner.as_octets().tag;
     if at_target {
-        (stand.file, stand.target)
+        (location.file, location.target)
     } else {
-        (stand.file, stand.position)
+        (location.file, location.position)
     }
 }
 
@@ -95,9 +95,9 @@ impl<'a> Findings<'a> {
     }
 
     /// Reports a finding that only has a code.
-    pub fn tell(&mut self, spot: FindingLocation<'_>, code: Code) -> Result<(), RunError> {
+    pub fn report(&mut self, spot: FindingLocation<'_>, code: Code) -> Result<(), RunError> {
         self.reporter
-            .tell(spot, code, false, Said::message(code_text(code)))
+            .report(spot, code, false, FindingText::message(code_text(code)))
     }
 
     /// Returns the owner and the type of an entry, as they are shown.
@@ -122,13 +122,20 @@ impl<'a> Findings<'a> {
     ) -> Result<(), RunError> {
         let subject = self.subject_of(entry)?;
         let note = text.note.as_str();
-        let said = subject.said(text.message.as_str(), text.help.as_str());
-        self.reporter
-            .show(severity, spot, code, Said { note, ..said })
+        let finding_text = subject.finding_text(text.message.as_str(), text.help.as_str());
+        self.reporter.show(
+            severity,
+            spot,
+            code,
+            FindingText {
+                note,
+                ..finding_text
+            },
+        )
     }
 
     /// Reports a finding about a token of an entry, or about the entry.
-    pub fn tell_word(
+    pub fn report_word(
         &mut self,
         entry: &Entry<'_>,
         spot: FindingLocation<'_>,
@@ -143,17 +150,17 @@ impl<'a> Findings<'a> {
     }
 
     /// Reports a finding about a token of an entry, at it.
-    pub fn tell_token(
+    pub fn report_token(
         &mut self,
         entry: &Entry<'_>,
         token: &EntryToken<'_>,
         code: Code,
     ) -> Result<(), RunError> {
-        self.tell_word(entry, token_at(entry, token), code, Some(token.text))
+        self.report_word(entry, token_at(entry, token), code, Some(token.text))
     }
 
     /// Reports a rule that a record alone breaks: at a token, or at an offset of the file.
-    pub fn tell_lone_rule(
+    pub fn report_lone_rule(
         &mut self,
         entry: &Entry<'_>,
         tokens: &[EntryToken<'_>],
@@ -185,7 +192,7 @@ impl<'a> Findings<'a> {
     }
 
     /// Reports a rejected entry with what was probably meant.
-    pub fn tell_explained(
+    pub fn report_explained(
         &mut self,
         entry: &Entry<'_>,
         refusal: Refusal<'_, '_>,
@@ -198,12 +205,13 @@ impl<'a> Findings<'a> {
         if found.is_record {
             return self.show_entry(entry, severity, found.spot, found.code, &found.text);
         }
-        let said = found.text.said();
-        self.reporter.show(severity, found.spot, found.code, said)
+        let finding_text = found.text.finding_text();
+        self.reporter
+            .show(severity, found.spot, found.code, finding_text)
     }
 
     /// Reports that the TTL of a record exceeds the limit, at its first token.
-    pub fn tell_max_ttl(
+    pub fn report_max_ttl(
         &mut self,
         entry: &Entry<'_>,
         at: usize,
@@ -221,7 +229,7 @@ impl<'a> Findings<'a> {
     }
 
     /// Reports a part of an entry's comment that is not as exceptions are written.
-    pub fn tell_slip(&mut self, entry: &Entry<'_>, slip: Slip<'_>) -> Result<(), RunError> {
+    pub fn report_slip(&mut self, entry: &Entry<'_>, slip: Slip<'_>) -> Result<(), RunError> {
         let (part, message) = match slip {
             Slip::Word(part) => (part, "exceptions begin with 'allow', and not with"),
             Slip::Code(part) => (part, "unknown code in an exception"),
@@ -235,7 +243,7 @@ impl<'a> Findings<'a> {
     }
 
     /// Reports an exception that excepts no finding. `file` is the path of its file.
-    pub fn tell_unused(&mut self, file: &str, exception: Exception) -> Result<(), RunError> {
+    pub fn report_unused(&mut self, file: &str, exception: Exception) -> Result<(), RunError> {
         let name = exception.code.name();
         let number = exception.number;
         let spot = code_spot(file, exception, None);
@@ -251,7 +259,7 @@ impl<'a> Findings<'a> {
         let spot = code_spot(file, exception, octets);
         let text = Text::worded(self.alloc, "no finding to except", Some(name.as_bytes()))?;
         self.reporter
-            .show(severity, spot, Code::UnusedAllow, text.said())
+            .show(severity, spot, Code::UnusedAllow, text.finding_text())
     }
 
     /// Reports that a rule is broken, by a record or by what is missing in the zone.
@@ -259,14 +267,14 @@ impl<'a> Findings<'a> {
         &mut self,
         held: &HeldZone,
         code: Code,
-        record: Option<&StandingRecord<'_>>,
+        record: Option<&LocatedRecord<'_>>,
     ) -> Result<(), RunError> {
         let text = Text::worded(self.alloc, code_text(code), None)?;
         self.report_at(held, code, record, false, &text)
     }
 
     /// Reports that records break a rule of zones. Its text is made only if it may be shown.
-    pub fn tell_rule<Origin: AsOctets>(
+    pub fn report_rule<Origin: AsOctets>(
         &mut self,
         held: &HeldZone,
         records: &ZoneRecords<'_, '_, Origin>,
@@ -302,7 +310,7 @@ impl<'a> Findings<'a> {
         &mut self,
         held: &HeldZone,
         code: Code,
-        record: Option<&StandingRecord<'_>>,
+        record: Option<&LocatedRecord<'_>>,
         at_target: bool,
     ) -> Option<Severity> {
         let (file, position) = place_of(record, at_target);
@@ -317,7 +325,7 @@ impl<'a> Findings<'a> {
         held: &HeldZone,
         severity: Severity,
         code: Code,
-        record: Option<&StandingRecord<'_>>,
+        record: Option<&LocatedRecord<'_>>,
         at_target: bool,
         text: &Text,
     ) -> Result<(), RunError> {
@@ -337,8 +345,8 @@ impl<'a> Findings<'a> {
         };
         let octets = line.as_ref().map(|line| line.as_slice());
         let spot = line_spot(name, file, position, octets);
-        let said = subject.said(text.message.as_str(), text.help.as_str());
-        self.reporter.show(severity, spot, code, said)
+        let finding_text = subject.finding_text(text.message.as_str(), text.help.as_str());
+        self.reporter.show(severity, spot, code, finding_text)
     }
 
     /// Reports a finding at a record, or at its target, or at the first file's start.
@@ -346,7 +354,7 @@ impl<'a> Findings<'a> {
         &mut self,
         held: &HeldZone,
         code: Code,
-        record: Option<&StandingRecord<'_>>,
+        record: Option<&LocatedRecord<'_>>,
         at_target: bool,
         text: &Text,
     ) -> Result<(), RunError> {
@@ -357,11 +365,13 @@ impl<'a> Findings<'a> {
     }
 
     /// Puts the exceptions of a record in effect, or none.
-    fn select_exceptions(&mut self, record: Option<&StandingRecord<'_>>) {
+    fn select_exceptions(&mut self, record: Option<&LocatedRecord<'_>>) {
         match record {
             Some(record) => {
-                let stand = record.owner.as_octets().tag;
-                self.reporter.exceptions.select(stand.file, stand.position);
+                let location = record.owner.as_octets().tag;
+                self.reporter
+                    .exceptions
+                    .select(location.file, location.position);
             }
             None => self.reporter.exceptions.begin(),
         }

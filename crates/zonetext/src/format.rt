@@ -1,5 +1,5 @@
 //! The command `fmt`: formats zone files.
-use crate::blocks::{FileError, Take, go_through_file, go_through_octets};
+use crate::blocks::{BlockVisitor, FileError, visit_blocks_of_file, visit_blocks_of_octets};
 use crate::files::report;
 use crate::formed::{DiffPrinter, FormOutput, FormatCheck};
 use crate::progress::Progress;
@@ -41,14 +41,14 @@ pub struct FormatOptions {
 const FOUND: u8 = 1;
 
 /// Reports something about a file on standard error, and returns the status.
-fn say(rt: &HostRuntime, file: &str, what: &str) -> io::Result<u8> {
+fn report_refused(rt: &HostRuntime, file: &str, what: &str) -> io::Result<u8> {
     let file = Shown(file);
     eprintln!(rt; "zonetext: {file}: {what}")?;
     Ok(EXIT_IO)
 }
 
 /// Reports the position where a file is rejected, and returns the status.
-fn say_at(rt: &HostRuntime, file: &str, at: Position, why: &str) -> io::Result<u8> {
+fn report_refused_at(rt: &HostRuntime, file: &str, at: Position, why: &str) -> io::Result<u8> {
     let (line, column) = (at.line, at.column);
     let file = Shown(file);
     eprintln!(rt; "{file}:{line}:{column}: {why}")?;
@@ -59,8 +59,8 @@ fn say_at(rt: &HostRuntime, file: &str, at: Position, why: &str) -> io::Result<u
 fn refuse(rt: &HostRuntime, file: &str, why: NoForm) -> io::Result<u8> {
     match why {
         NoForm::Wrong(found) => report(rt, file, found),
-        NoForm::Nul(at) => say_at(rt, file, at, "NUL"),
-        NoForm::OrderMark(at) => say_at(rt, file, at, "byte order mark"),
+        NoForm::Nul(at) => report_refused_at(rt, file, at, "NUL"),
+        NoForm::OrderMark(at) => report_refused_at(rt, file, at, "byte order mark"),
         NoForm::OutOfMemory => Err(io::Error::from(ErrorKind::OutOfMemory)),
         NoForm::TooLong => Err(io::Error::from(ErrorKind::FileTooLarge)),
     }
@@ -106,20 +106,20 @@ impl<'a> Source<'a> {
     }
 
     /// Passes the octets to a consumer of blocks.
-    fn go_through<T: Take>(
+    fn visit_blocks<T: BlockVisitor>(
         &self,
         rt: &HostRuntime,
-        taker: &mut T,
+        visitor: &mut T,
         is_quiet: bool,
     ) -> Result<(), FileError> {
         match self {
-            Source::Held(text) => go_through_octets(text.as_slice(), taker),
+            Source::Held(text) => visit_blocks_of_octets(text.as_slice(), visitor),
             Source::File(file) => {
                 let mut progress = match Progress::new(rt, file, is_quiet) {
                     Ok(progress) => progress,
                     Err(error) => return Err(FileError::Write(error)),
                 };
-                let answer = go_through_file(rt, file, taker, &mut progress);
+                let answer = visit_blocks_of_file(rt, file, visitor, &mut progress);
                 match progress.clear() {
                     Ok(()) => answer,
                     Err(error) => Err(FileError::Write(error)),
@@ -131,7 +131,7 @@ impl<'a> Source<'a> {
     /// Returns whether the text differs from its formatted text.
     fn differs(&self, rt: &HostRuntime, is_quiet: bool) -> Result<bool, FileError> {
         let mut looker = FormatCheck::new(rt.alloc());
-        self.go_through(rt, &mut looker, is_quiet)?;
+        self.visit_blocks(rt, &mut looker, is_quiet)?;
         Ok(looker.differs)
     }
 }
@@ -174,7 +174,7 @@ fn show(rt: &HostRuntime, file: &str, work: FormatOptions) -> io::Result<u8> {
 /// Prints the formatted text.
 fn print(rt: &HostRuntime, file: &str, source: &Source, work: FormatOptions) -> io::Result<u8> {
     let mut former = FormOutput::new(rt.alloc(), rt);
-    match source.go_through(rt, &mut former, work.is_quiet) {
+    match source.visit_blocks(rt, &mut former, work.is_quiet) {
         Ok(()) => Ok(0),
         Err(ended) => exit_status(rt, file, ended),
     }
@@ -192,7 +192,7 @@ fn show_changes(
         return Ok(status);
     }
     let mut shower = DiffPrinter::new(rt);
-    match source.go_through(rt, &mut shower, work.is_quiet) {
+    match source.visit_blocks(rt, &mut shower, work.is_quiet) {
         Ok(()) => Ok(FOUND),
         Err(ended) => Ok(exit_status(rt, file, ended)?.max(FOUND)),
     }
@@ -206,8 +206,8 @@ pub fn leave(rt: &HostRuntime, file: &str, refusal: &Refusal) -> io::Result<u8> 
             eprintln!(rt; "zonetext: {file}: {error}")?;
             Ok(EXIT_IO)
         }
-        Refusal::NoFile => say(rt, file, "not a regular file"),
-        Refusal::Journal => say(
+        Refusal::NoFile => report_refused(rt, file, "not a regular file"),
+        Refusal::Journal => report_refused(
             rt,
             file,
             "a journal lies beside it: a server changes this zone (--force)",
@@ -217,7 +217,7 @@ pub fn leave(rt: &HostRuntime, file: &str, refusal: &Refusal) -> io::Result<u8> 
             eprintln!(rt; "zonetext: {file}: its owner and group can't be kept: {error}")?;
             Ok(EXIT_IO)
         }
-        Refusal::Changed => say(rt, file, "changed while it was read"),
+        Refusal::Changed => report_refused(rt, file, "changed while it was read"),
     }
 }
 
@@ -272,7 +272,7 @@ fn write_beside(
 ) -> Result<(), Refusal> {
     let new = NewText::create(rt, rt.alloc(), change.original, process::id(rt.process()))?;
     let mut former = FormOutput::new(rt.alloc(), new);
-    match Source::File(change.file).go_through(rt, &mut former, work.is_quiet) {
+    match Source::File(change.file).visit_blocks(rt, &mut former, work.is_quiet) {
         Ok(()) => batch.add(rt, former.sink),
         Err(ended) => {
             let _ = former.sink.discard(rt);

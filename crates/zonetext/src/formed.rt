@@ -1,5 +1,5 @@
 //! Formats files block by block.
-use crate::blocks::{BLOCK, FileError, Take};
+use crate::blocks::{BLOCK, BlockVisitor, FileError};
 use std::alloc::Global;
 use std::fs::File;
 use std::io;
@@ -54,8 +54,8 @@ impl FormatCheck {
     }
 }
 
-impl Take for FormatCheck {
-    fn take(&mut self, block: &[u8]) -> Result<(), FileError> {
+impl BlockVisitor for FormatCheck {
+    fn process_block(&mut self, block: &[u8]) -> Result<(), FileError> {
         if !self.differs {
             self.text.extend_from_slice(block).map_err(FileError::from)?;
         }
@@ -122,8 +122,8 @@ impl<S: Sink + Drop> FormOutput<S> {
     }
 }
 
-impl<S: Sink + Drop> Take for FormOutput<S> {
-    fn take(&mut self, block: &[u8]) -> Result<(), FileError> {
+impl<S: Sink + Drop> BlockVisitor for FormOutput<S> {
+    fn process_block(&mut self, block: &[u8]) -> Result<(), FileError> {
         self.formatter
             .add(block, &mut self.form)
             .map_err(FileError::NoForm)?;
@@ -171,8 +171,8 @@ impl<'a> DiffPrinter<'a> {
     }
 }
 
-impl<'a> Take for DiffPrinter<'a> {
-    fn take(&mut self, block: &[u8]) -> Result<(), FileError> {
+impl<'a> BlockVisitor for DiffPrinter<'a> {
+    fn process_block(&mut self, block: &[u8]) -> Result<(), FileError> {
         self.formatter
             .add(block, &mut self.form)
             .map_err(FileError::NoForm)?;

@@ -2,7 +2,7 @@
 use crate::checker::SoaInfo;
 use crate::record_arena::Held;
 use crate::stop::RunError;
-use crate::visit::{Outcome, Reading, TakeEntry, give_entries};
+use crate::visit::{EntryVisitor, Outcome, Reading, visit_entries};
 use crate::zone_files::Entry;
 use rdata_fields::RecordRef;
 use std::alloc::{AllocError, Global};
@@ -166,12 +166,12 @@ impl<'s> Gatherer<'s> {
     }
 }
 
-impl TakeEntry for Gatherer<'_> {
-    fn take_entry(&mut self, entry: &Entry<'_>) -> Result<(), RunError> {
+impl EntryVisitor for Gatherer<'_> {
+    fn process_entry(&mut self, entry: &Entry<'_>) -> Result<(), RunError> {
         let Some(given) = entry.record()? else {
             return Ok(());
         };
-        if !self.selection.takes(given.rtype) {
+        if !self.selection.includes(given.rtype) {
             return Ok(());
         }
         let number = self.held.len();
@@ -197,12 +197,12 @@ pub fn gather_by(
     let Outcome {
         status,
         seen,
-        taker,
-    } = give_entries(rt, files, reading, gatherer);
+        visitor,
+    } = visit_entries(rt, files, reading, gatherer);
     if reading.fails(status) {
         return Err(status);
     }
-    Ok(taker.gathered(seen))
+    Ok(visitor.gathered(seen))
 }
 
 /// Returns the selected records of files, in canonical form, with their places if these are kept. If

@@ -20,7 +20,7 @@ pub struct RecordLocation {
 }
 
 /// A record with its position.
-pub type StandingRecord<'h> = Record<TaggedOctets<'h, RecordLocation>, &'h [u8]>;
+pub type LocatedRecord<'h> = Record<TaggedOctets<'h, RecordLocation>, &'h [u8]>;
 
 /// The records of files, with their positions.
 #[derive(Drop)]
@@ -52,7 +52,7 @@ impl HeldZone {
 }
 
 /// Returns whether a finding is an SOA at another name than the zone's.
-fn is_other_soa(finding: &Finding, records: &[StandingRecord<'_>]) -> bool {
+fn is_other_soa(finding: &Finding, records: &[LocatedRecord<'_>]) -> bool {
     if !matches!(finding.rule, Rule::Outside | Rule::SoaNotApex) {
         return false;
     }
@@ -64,7 +64,7 @@ fn is_other_soa(finding: &Finding, records: &[StandingRecord<'_>]) -> bool {
 
 /// Returns the first finding that is an SOA at another name than the zone's, if no SOA is at the
 /// zone's name: then the records are probably those of another zone.
-pub fn other_soa(found: &[Finding], records: &[StandingRecord<'_>]) -> Option<Finding> {
+pub fn other_soa(found: &[Finding], records: &[LocatedRecord<'_>]) -> Option<Finding> {
     let mut lacks_soa = false;
     let mut other = None;
     for finding in found {

@@ -3,7 +3,7 @@ use crate::gathered::{Gathered, NumberedRecord};
 use crate::lines::Lines;
 use crate::locations::beginning;
 use crate::stop::{RunError, exit_status};
-use crate::visit::{Reading, TakeEntry, give_entries};
+use crate::visit::{EntryVisitor, Reading, visit_entries};
 use crate::zone_files::Entry;
 use clap::Arg;
 use dns_octets::AsOctets;
@@ -140,8 +140,8 @@ struct JsonLines<'a> {
     line: String,
 }
 
-impl TakeEntry for JsonLines<'_> {
-    fn take_entry(&mut self, entry: &Entry<'_>) -> Result<(), RunError> {
+impl EntryVisitor for JsonLines<'_> {
+    fn process_entry(&mut self, entry: &Entry<'_>) -> Result<(), RunError> {
         let Some(given) = entry.record()? else {
             return Ok(());
         };
@@ -167,12 +167,12 @@ impl TakeEntry for JsonLines<'_> {
 /// Writes the records of files as they come, and returns the status.
 #[inline(never)]
 pub fn run(rt: &HostRuntime, files: &[&str], reading: &Reading<'_>) -> u8 {
-    let taker = JsonLines {
+    let visitor = JsonLines {
         lines: Lines::new(rt),
         line: String::new(rt.alloc()),
     };
-    let mut outcome = give_entries(rt, files, reading, taker);
-    match outcome.taker.lines.flush() {
+    let mut outcome = visit_entries(rt, files, reading, visitor);
+    match outcome.visitor.lines.flush() {
         Ok(()) => outcome.status,
         Err(error) => exit_status(rt, "-", RunError::Write(error)),
     }

@@ -1,7 +1,7 @@
 //! The locations of findings in an entry.
 ghost use Rattle.std.specs.Prelude.{◌≤◌, length};
 
-use crate::open_file::behind;
+use crate::open_file::place_after;
 use crate::reporter::FindingLocation;
 use crate::zone_files::Entry;
 use dns_lexer::entry_tokens::{EntryPart, EntryToken, EntryTokens, NextEntryError};
@@ -140,7 +140,7 @@ fn token_from(tokens: &[EntryToken<'_>], at: usize) -> (usize, usize) {
 /// Returns the position of an offset of an entry, which is counted from the entry's beginning.
 pub fn position_at(entry: &Entry<'_>, at: usize) -> Position {
     let count = at.min(entry.held.len());
-    behind(entry.place(), &entry.held[..count]).position
+    place_after(entry.place(), &entry.held[..count]).position
 }
 
 /// Returns the offset where the line of an offset begins.

@@ -1,9 +1,9 @@
 //! Findings in formats for other programs.
 use crate::command::VERSION;
 use clap::ArgMatches;
-use finding_codes::{summary_of, text_of};
 use finding_formats::sarif::{Rule, Tool};
 use finding_formats::{Opening, checkstyle, github, json, sarif};
+use finding_texts::{summary_of, text_of};
 use std::alloc::AllocError;
 use zonetext_report::code::{Code, Severity};
 use zonetext_report::finding::Finding;

@@ -1,9 +1,9 @@
 //! Reads sorted runs again, record by record, and merges them.
-use crate::run_files::{Run, RunFile, TakeRecord};
+use crate::run_files::{RecordVisitor, Run, RunFile};
 use crate::stop::RunError;
 use std::alloc::Global;
 use zone_record::{Record, owned_record};
-use zone_set::{MergeHead, MergeHeads, take_run_record};
+use zone_set::{MergeHead, MergeHeads, read_run_record};
 
 /// An upper bound of the number of octets of a record of a run: an owner has 255 at most, and data
 /// 65,535.
@@ -17,13 +17,13 @@ struct RunReader {
     start: u64,
     end: u64,
     /// Number of its records that were not returned yet.
-    left: u64,
+    remaining: u64,
     /// Number of octets that are read at a time.
     block: usize,
     /// Octets that were read.
     octets: Vec<u8>,
     /// Number of these that belong to records that were returned.
-    given: usize,
+    returned: usize,
 }
 
 /// Returns a copy of a record. Fails with `Damaged` if its octets are not a record.
@@ -41,20 +41,20 @@ impl RunReader {
             alloc,
             start: run.start,
             end: run.end,
-            left: run.count,
+            remaining: run.count,
             block,
             octets: Vec::with_capacity(alloc, block.saturating_mul(2))?,
-            given: 0,
+            returned: 0,
         })
     }
 
     /// Drops the octets of records that were returned.
     fn discard_read(&mut self) {
-        let given = self.given.min(self.octets.len());
-        self.octets.rotate_left(given);
+        let returned = self.returned.min(self.octets.len());
+        self.octets.rotate_left(returned);
         self.octets
-            .truncate(self.octets.len().saturating_sub(given));
-        self.given = 0;
+            .truncate(self.octets.len().saturating_sub(returned));
+        self.returned = 0;
     }
 
     /// Reads the next octets.
@@ -74,11 +74,11 @@ impl RunReader {
 
     /// Returns the next record, if all of it was read.
     fn read_record(&mut self) -> Result<Option<Record<Vec<u8>, Vec<u8>>>, RunError> {
-        let octets = self.octets.get(self.given..).unwrap_or(&[]);
-        let Some((one, rest)) = take_run_record(octets) else {
+        let octets = self.octets.get(self.returned..).unwrap_or(&[]);
+        let Some((one, rest)) = read_run_record(octets) else {
             return Ok(None);
         };
-        self.given = self.octets.len() - rest.len().min(self.octets.len());
+        self.returned = self.octets.len() - rest.len().min(self.octets.len());
         Ok(Some(own(self.alloc, &one)?))
     }
 
@@ -87,8 +87,8 @@ impl RunReader {
         &mut self,
         file: &RunFile<'_>,
     ) -> Result<Option<Record<Vec<u8>, Vec<u8>>>, RunError> {
-        if self.left == 0 {
-            let is_read = self.start == self.end && self.given == self.octets.len();
+        if self.remaining == 0 {
+            let is_read = self.start == self.end && self.returned == self.octets.len();
             return if is_read {
                 Ok(None)
             } else {
@@ -97,10 +97,10 @@ impl RunReader {
         }
         for _ in 0..u64::MAX {
             if let Some(one) = self.read_record()? {
-                self.left = self.left.saturating_sub(1);
+                self.remaining = self.remaining.saturating_sub(1);
                 return Ok(Some(one));
             }
-            let unread = self.octets.len().saturating_sub(self.given);
+            let unread = self.octets.len().saturating_sub(self.returned);
             if self.start >= self.end || unread > LONGEST {
                 return Err(file.damaged());
             }
@@ -114,7 +114,7 @@ impl RunReader {
 #[derive(Drop)]
 struct Merger {
     readers: Vec<RunReader>,
-    fronts: MergeHeads<Vec<u8>, Vec<u8>>,
+    heads: MergeHeads<Vec<u8>, Vec<u8>>,
 }
 
 impl Merger {
@@ -127,7 +127,7 @@ impl Merger {
     ) -> Result<Merger, RunError> {
         let mut merger = Merger {
             readers: Vec::new(alloc),
-            fronts: MergeHeads::new(alloc),
+            heads: MergeHeads::new(alloc),
         };
         for (number, run) in runs.iter().enumerate() {
             merger.readers.push(RunReader::new(alloc, *run, block)?)?;
@@ -142,7 +142,7 @@ impl Merger {
             return Err(file.damaged());
         };
         if let Some(record) = reader.next_record(file)? {
-            self.fronts.push(MergeHead { record, run })?;
+            self.heads.push(MergeHead { record, run })?;
         }
         Ok(())
     }
@@ -152,7 +152,7 @@ impl Merger {
         &mut self,
         file: &RunFile<'_>,
     ) -> Result<Option<Record<Vec<u8>, Vec<u8>>>, RunError> {
-        let Some(MergeHead { record, run }) = self.fronts.take_first() else {
+        let Some(MergeHead { record, run }) = self.heads.remove_first() else {
             return Ok(None);
         };
         self.advance(file, run)?;
@@ -162,12 +162,12 @@ impl Merger {
 
 /// Passes the records of runs in canonical order to a consumer, only the first one of each owner,
 /// class, type and data. Returns the number of duplicates that were omitted.
-pub fn merge<T: TakeRecord>(
+pub fn merge<T: RecordVisitor>(
     alloc: Global,
     file: &RunFile<'_>,
     runs: &[Run],
     block: usize,
-    taker: &mut T,
+    visitor: &mut T,
 ) -> Result<u64, RunError> {
     let mut merger = Merger::new(alloc, file, runs, block)?;
     let mut last: Option<Record<Vec<u8>, Vec<u8>>> = None;
@@ -182,7 +182,7 @@ pub fn merge<T: TakeRecord>(
         {
             duplicates = duplicates.saturating_add(1);
         } else {
-            taker.take_record(&record)?;
+            visitor.process_record(&record)?;
             last = Some(record);
         }
     }

@@ -4,7 +4,7 @@ use crate::options::{name_of, seconds_in};
 use crate::zone_sources::{SourceError, Sources, ZoneSource, config_message, joined};
 use rdata_values::Class;
 use server_config::{
-    BlockName, ConfigBlock, ConfigEvent, ConfigState, ConfigToken, LeftOut, Settings, Severity,
+    BlockName, ConfigBlock, ConfigEvent, ConfigState, ConfigToken, OmitReason, Settings, Severity,
     ZoneOutcome, ZoneSettings, append_named_string, next_step, zone_outcome,
 };
 use std::alloc::{AllocError, Global};
@@ -252,7 +252,7 @@ impl<'r> NamedReader<'r> {
     }
 
     /// Processes what a statement means. `before` is the state before it.
-    fn take(
+    fn process_event(
         &mut self,
         file: &ConfigFile,
         event: ConfigEvent,
@@ -308,7 +308,7 @@ impl<'r> NamedReader<'r> {
                     return Ok(());
                 }
                 ConfigEvent::Include(token) => return self.include(file, token),
-                event => self.take(&file, event, before)?,
+                event => self.process_event(&file, event, before)?,
             }
         }
         Ok(())
@@ -350,8 +350,8 @@ impl<'r> NamedReader<'r> {
         match zone_outcome(&zone.settings, &outer.settings) {
             ZoneOutcome::Checked => sources.zones.push(self.source(zone, &outer)?)?,
             ZoneOutcome::Omitted(reason) => {
-                sources.left_out = sources.left_out.counted(reason);
-                if reason == LeftOut::Template {
+                sources.omitted = sources.omitted.counted(reason);
+                if reason == OmitReason::Template {
                     let note = zone_text(alloc, zone, "not checked: zone with a template")?;
                     sources.notes.push(note)?;
                 }

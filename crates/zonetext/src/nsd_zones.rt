@@ -157,7 +157,12 @@ impl<'r> NsdReader<'r> {
     }
 
     /// Processes what a token means. `end` is the offset after it.
-    fn take(&mut self, file: &ConfigFile, event: NsdEvent, end: usize) -> Result<(), SourceError> {
+    fn process_event(
+        &mut self,
+        file: &ConfigFile,
+        event: NsdEvent,
+        end: usize,
+    ) -> Result<(), SourceError> {
         let alloc = self.rt.alloc();
         match event {
             NsdEvent::Section(section) => self.begin(file, section, end),
@@ -209,7 +214,7 @@ impl<'r> NsdReader<'r> {
             match step.event {
                 NsdEvent::End => return Ok(()),
                 NsdEvent::Include(token) => return self.include(file, token),
-                event => self.take(&file, event, step.next)?,
+                event => self.process_event(&file, event, step.next)?,
             }
         }
         Ok(())
@@ -245,7 +250,7 @@ impl<'r> NsdReader<'r> {
         match nsd_zone_outcome(zone.file.is_some(), zone.requests_transfer) {
             ZoneOutcome::Checked => sources.zones.push(self.source(zone, path)?)?,
             ZoneOutcome::Omitted(reason) => {
-                sources.left_out = sources.left_out.counted(reason);
+                sources.omitted = sources.omitted.counted(reason);
             }
             ZoneOutcome::NoType | ZoneOutcome::NoFile => {
                 return Err(zone_error(self.rt.alloc(), zone, "no zonefile of the zone"));

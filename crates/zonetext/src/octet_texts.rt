@@ -3,15 +3,17 @@ use crate::locations::{
     begins_blank, data_start, fault_at, part_at, position_at, token_part, tokens_of, width,
 };
 use crate::reporter::FindingLocation;
-use crate::subjects::{Text, quoted};
+use crate::subjects::{Text, quoted, text_of};
 use crate::zone_files::Entry;
 use dns_lexer::entry_tokens::EntryToken;
 use dns_lexer::pieces::{Fault, Wrong};
+use error_texts::contents::high_escape_text;
+use error_texts::kinds::syntax_error_text;
 use finding_texts::ascii::ascii_name;
 use finding_texts::mistakes::{high_escape, quotation_mark};
 use rdata::type_row;
 use rdata_fields::Field;
-use rdata_values::{ErrorKind, RecordType};
+use rdata_values::RecordType;
 use std::alloc::{AllocError, Global};
 use zone_check::texts::code_text;
 use zone_reader::ParsedEntry;
@@ -47,9 +49,8 @@ fn high_escape_at(octets: &[u8], at: usize) -> Option<usize> {
 
 /// Returns the text of an escape above 255.
 pub fn escape_text(alloc: Global, escape: &[u8]) -> Result<Text, AllocError> {
-    let escape = str::from_utf8(escape).unwrap_or("\\DDD");
-    let message = format!(in alloc; "escape {escape} is above \\255")?;
-    Ok(Text::new(alloc, message))
+    let message = high_escape_text(escape);
+    Text::worded(alloc, text_of(&message), None)
 }
 
 /// Returns the location and the text of a syntax error.
@@ -78,7 +79,7 @@ pub fn fault_text<'e>(
 
 /// Returns the text of a syntax error by its kind.
 fn plain_fault(alloc: Global, fault: Fault) -> Result<Text, AllocError> {
-    Text::worded(alloc, ErrorKind::Syntax(fault.wrong).as_str(), None)
+    Text::worded(alloc, syntax_error_text(fault.wrong), None)
 }
 
 /// Returns whether a finding about octets is about its file, and not about a record.

@@ -67,7 +67,7 @@ pub fn first_place() -> LocatedOffset {
 
 /// Returns the place after octets that follow a place. If there are more octets than can be
 /// counted, the place is unchanged.
-pub fn behind(from: LocatedOffset, octets: &[u8]) -> LocatedOffset {
+pub fn place_after(from: LocatedOffset, octets: &[u8]) -> LocatedOffset {
     let count = octets.len();
     let line = from.position.line.checked_add(count);
     let column = from.position.column.checked_add(count);
@@ -92,7 +92,7 @@ pub fn place_from(
     }
     let count = offset.saturating_sub(from.at);
     match reader.octets_from(from.at) {
-        Some(held) => behind(from, &held[..count.min(held.len())]),
+        Some(held) => place_after(from, &held[..count.min(held.len())]),
         None => match reader.position(offset) {
             Some(position) => LocatedOffset {
                 at: offset,

@@ -72,7 +72,7 @@ fn with_suffix(alloc: Global, path: &str, suffix: &str) -> Result<String, AllocE
 }
 
 /// Renames a file to its final name, unless that is in use.
-fn give_name(rt: &HostRuntime, beside: &str, path: &str) -> io::Result<()> {
+fn set_name(rt: &HostRuntime, beside: &str, path: &str) -> io::Result<()> {
     check_free(rt, path)?;
     rt.rename(beside, path)
 }
@@ -189,7 +189,7 @@ impl<'p> PartFiles<'p> {
             return Ok(());
         }
         for (path, beside) in self.paths.iter().zip(&self.besides) {
-            if let Err(error) = give_name(self.rt, beside.as_str(), path.as_str()) {
+            if let Err(error) = set_name(self.rt, beside.as_str(), path.as_str()) {
                 return Err(stop_at(self.rt, path.as_str(), error));
             }
             self.named = self.named.saturating_add(1);

@@ -17,7 +17,7 @@ pub struct Progress<'a> {
     /// Number of octets of the file, if that is known.
     total: Option<u64>,
     /// The second at which it was shown last.
-    said: u64,
+    shown_at: u64,
 }
 
 /// Returns the number of octets of a file, if that is known.
@@ -47,7 +47,7 @@ impl<'a> Progress<'a> {
             start,
             octets: 0,
             total,
-            said: 0,
+            shown_at: 0,
         })
     }
 
@@ -58,10 +58,10 @@ impl<'a> Progress<'a> {
             return Ok(());
         };
         let seconds = start.elapsed(self.rt)?.as_secs();
-        if !is_due(seconds, self.said) {
+        if !is_due(seconds, self.shown_at) {
             return Ok(());
         }
-        self.said = seconds;
+        self.shown_at = seconds;
         self.show(seconds)?;
         self.rt.stderr().flush()
     }
@@ -90,7 +90,7 @@ impl<'a> Progress<'a> {
 
     /// Removes what was shown.
     pub fn clear(&self) -> io::Result<()> {
-        if self.said == 0 {
+        if self.shown_at == 0 {
             return Ok(());
         }
         eprint!(self.rt; "\r\u{1b}[K")?;

@@ -288,7 +288,7 @@ fn write_update<'o>(rt: &HostRuntime, inner: &'o ArgMatches) -> Result<u8, Usage
 fn check_digests<'o>(rt: &HostRuntime, inner: &'o ArgMatches) -> Result<u8, Usage<'o>> {
     let file = inner.get_str("FILE").unwrap_or("-");
     let work = digest::DigestOptions {
-        takes_any: inner.get_flag("any"),
+        accepts_any: inner.get_flag("any"),
         is_verbose: inner.get_flag("verbose"),
         is_json: inner.get_flag("json"),
     };

@@ -1,13 +1,13 @@
 //! The command `records`: writes each record of zone files in full.
 use crate::lines::Lines;
 use crate::stop::{RunError, exit_status};
-use crate::visit::{Reading, TakeEntry, give_entries};
+use crate::visit::{EntryVisitor, Reading, visit_entries};
 use crate::zone_files::Entry;
 use zone_record::record_of;
 use zone_set::push_record;
 
-impl TakeEntry for Lines<'_> {
-    fn take_entry(&mut self, entry: &Entry<'_>) -> Result<(), RunError> {
+impl EntryVisitor for Lines<'_> {
+    fn process_entry(&mut self, entry: &Entry<'_>) -> Result<(), RunError> {
         let Some(given) = entry.record()? else {
             return Ok(());
         };
@@ -23,8 +23,8 @@ impl TakeEntry for Lines<'_> {
 /// Writes the records of files as they come, and returns the status.
 #[inline(never)]
 pub fn run(rt: &HostRuntime, files: &[&str], reading: &Reading<'_>) -> u8 {
-    let mut outcome = give_entries(rt, files, reading, Lines::new(rt));
-    match outcome.taker.flush() {
+    let mut outcome = visit_entries(rt, files, reading, Lines::new(rt));
+    match outcome.visitor.flush() {
         Ok(()) => outcome.status,
         Err(error) => exit_status(rt, "-", RunError::Write(error)),
     }

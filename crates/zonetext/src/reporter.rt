@@ -40,7 +40,7 @@ pub struct FindingLocation<'s> {
 
 /// What a finding says. A text that it doesn't have is empty.
 #[derive(Clone, Copy)]
-pub struct Said<'s> {
+pub struct FindingText<'s> {
     /// Owner of the record that it is about, relative to the zone or in full.
     pub owner: &'s str,
     /// Type of that record.
@@ -53,10 +53,10 @@ pub struct Said<'s> {
     pub note: &'s str,
 }
 
-impl<'s> Said<'s> {
+impl<'s> FindingText<'s> {
     /// Returns a message alone.
-    pub fn message(message: &'s str) -> Said<'s> {
-        Said {
+    pub fn message(message: &'s str) -> FindingText<'s> {
+        FindingText {
             owner: "",
             rtype: "",
             message,
@@ -201,7 +201,7 @@ impl<'a> Reporter<'a> {
         let severity = self.policy.severity(code, is_refused)?;
         let has_room = self.tally.count(severity);
         let is_shown = match &self.waiting {
-            Some(waiting) => waiting.takes(spot.number, spot.position),
+            Some(waiting) => waiting.accepts(spot.number, spot.position),
             None => has_room,
         };
         if is_shown { Some(severity) } else { None }
@@ -213,7 +213,7 @@ impl<'a> Reporter<'a> {
         severity: Severity,
         spot: FindingLocation<'_>,
         code: Code,
-        said: Said<'_>,
+        finding_text: FindingText<'_>,
     ) -> Result<(), RunError> {
         let finding = Finding {
             file: spot.file,
@@ -222,11 +222,11 @@ impl<'a> Reporter<'a> {
             position: spot.position,
             end_column: spot.end_column,
             opened: spot.opened,
-            owner: said.owner,
-            rtype: said.rtype,
-            message: said.message,
-            help: said.help,
-            note: said.note,
+            owner: finding_text.owner,
+            rtype: finding_text.rtype,
+            message: finding_text.message,
+            help: finding_text.help,
+            note: finding_text.note,
         };
         if let Some(waiting) = &mut self.waiting {
             waiting.add(spot.number, &finding, spot.line)?;
@@ -237,15 +237,15 @@ impl<'a> Reporter<'a> {
     }
 
     /// Counts and shows a finding.
-    pub fn tell(
+    pub fn report(
         &mut self,
         spot: FindingLocation<'_>,
         code: Code,
         is_refused: bool,
-        said: Said<'_>,
+        finding_text: FindingText<'_>,
     ) -> Result<(), RunError> {
         match self.count(spot, code, is_refused) {
-            Some(severity) => self.show(severity, spot, code, said),
+            Some(severity) => self.show(severity, spot, code, finding_text),
             None => Ok(()),
         }
     }

@@ -1,5 +1,5 @@
 //! Replaces the text of a file by the same text with edits applied.
-use crate::blocks::{FileError, Take, go_through_file, go_through_octets};
+use crate::blocks::{BlockVisitor, FileError, visit_blocks_of_file, visit_blocks_of_octets};
 use crate::format::refusal_of;
 use crate::progress::Progress;
 use std::alloc::Global;
@@ -59,8 +59,8 @@ impl EditOutput<'_> {
     }
 }
 
-impl Take for EditOutput<'_> {
-    fn take(&mut self, block: &[u8]) -> Result<(), FileError> {
+impl BlockVisitor for EditOutput<'_> {
+    fn process_block(&mut self, block: &[u8]) -> Result<(), FileError> {
         if let Err(error) = self.editor.add(block, &mut self.out) {
             return Err(error_of(error));
         }
@@ -76,16 +76,20 @@ impl Take for EditOutput<'_> {
 }
 
 /// Passes a text to a consumer of blocks.
-fn pass<T: Take>(rt: &HostRuntime, old: OldText<'_>, taker: &mut T) -> Result<(), FileError> {
+fn pass<T: BlockVisitor>(
+    rt: &HostRuntime,
+    old: OldText<'_>,
+    visitor: &mut T,
+) -> Result<(), FileError> {
     let file = match old {
-        OldText::Octets(octets) => return go_through_octets(octets, taker),
+        OldText::Octets(octets) => return visit_blocks_of_octets(octets, visitor),
         OldText::File(file) => file,
     };
     let mut progress = match Progress::new(rt, file, true) {
         Ok(progress) => progress,
         Err(error) => return Err(FileError::Write(error)),
     };
-    go_through_file(rt, file, taker, &mut progress)
+    visit_blocks_of_file(rt, file, visitor, &mut progress)
 }
 
 /// Writes a text with edits applied beside a file.

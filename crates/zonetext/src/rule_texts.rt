@@ -1,5 +1,5 @@
 //! The messages of findings about the records of a zone.
-use crate::held_zone::{RecordLocation, StandingRecord};
+use crate::held_zone::{LocatedRecord, RecordLocation};
 use crate::subjects::Text;
 use dns_octets::AsOctets;
 use dns_wire::{DisplayWithDot, Name};
@@ -36,7 +36,7 @@ pub fn is_at_target(rule: Rule) -> bool {
 }
 
 /// Returns the target of a record: the host of NS, MX and SRV, and that of CNAME.
-fn target_of<'r>(record: &'r StandingRecord<'_>) -> Option<Name<&'r [u8]>> {
+fn target_of<'r>(record: &'r LocatedRecord<'_>) -> Option<Name<&'r [u8]>> {
     let place = match record.data.rtype() {
         RecordType::NS | RecordType::CNAME => 0,
         RecordType::MX => 1,
@@ -50,7 +50,7 @@ fn target_of<'r>(record: &'r StandingRecord<'_>) -> Option<Name<&'r [u8]>> {
 }
 
 /// Returns whether a record is an address.
-fn is_address(record: &StandingRecord<'_>) -> bool {
+fn is_address(record: &LocatedRecord<'_>) -> bool {
     matches!(record.data.rtype(), RecordType::A | RecordType::AAAA)
 }
 
@@ -109,7 +109,7 @@ fn relative_text(
 fn missing_target<Origin: AsOctets>(
     alloc: Global,
     records: &ZoneRecords<'_, '_, Origin>,
-    record: &StandingRecord<'_>,
+    record: &LocatedRecord<'_>,
     rule: Rule,
     may_search: bool,
 ) -> Result<Option<Text>, AllocError> {
@@ -145,7 +145,7 @@ fn dname_target<'r, 'h>(
     alloc: Global,
     sorted: &'r SortedRecords<'r, TaggedOctets<'h, RecordLocation>, &'h [u8]>,
     refused: &'r SortedSets<'r>,
-    record: &'r StandingRecord<'h>,
+    record: &'r LocatedRecord<'h>,
 ) -> Result<Option<Text>, AllocError> {
     let Some(name) = dname_over_host(sorted, refused, record) else {
         return Ok(None);
@@ -156,7 +156,7 @@ fn dname_target<'r, 'h>(
 }
 
 /// Returns the message about a target that is a CNAME.
-fn cname_target(alloc: Global, record: &StandingRecord<'_>) -> Result<Option<Text>, AllocError> {
+fn cname_target(alloc: Global, record: &LocatedRecord<'_>) -> Result<Option<Text>, AllocError> {
     let Some(target) = target_of(record) else {
         return Ok(None);
     };
@@ -178,14 +178,14 @@ fn is_before(left: RecordLocation, right: RecordLocation) -> bool {
 /// Returns the position of the first CNAME of a name in the files, if it is before a record.
 fn first_cname<Origin: AsOctets>(
     records: &ZoneRecords<'_, '_, Origin>,
-    record: &StandingRecord<'_>,
+    record: &LocatedRecord<'_>,
 ) -> Option<RecordLocation> {
     let mut first = record.owner.as_octets().tag;
     let own = first;
     for other in owned_by(records.sorted, &view(&record.owner)) {
-        let stand = other.owner.as_octets().tag;
-        if other.data.rtype() == RecordType::CNAME && is_before(stand, first) {
-            first = stand;
+        let location = other.owner.as_octets().tag;
+        if other.data.rtype() == RecordType::CNAME && is_before(location, first) {
+            first = location;
         }
     }
     if is_before(first, own) {
@@ -199,7 +199,7 @@ fn first_cname<Origin: AsOctets>(
 fn second_cname<Origin: AsOctets>(
     alloc: Global,
     records: &ZoneRecords<'_, '_, Origin>,
-    record: &StandingRecord<'_>,
+    record: &LocatedRecord<'_>,
 ) -> Result<Option<Text>, AllocError> {
     let Some(first) = first_cname(records, record) else {
         return Ok(None);
@@ -214,7 +214,7 @@ fn second_cname<Origin: AsOctets>(
 fn own_text<'r, 'h, Origin: AsOctets>(
     alloc: Global,
     records: &ZoneRecords<'r, 'h, Origin>,
-    record: &'r StandingRecord<'h>,
+    record: &'r LocatedRecord<'h>,
     rule: Rule,
     may_search: bool,
 ) -> Result<Option<Text>, AllocError> {

@@ -20,9 +20,9 @@ const FILE_MODE: u32 = 0o600;
 const TRIES: usize = 1000;
 
 /// A consumer of records, one by one.
-pub trait TakeRecord {
+pub trait RecordVisitor {
     /// Processes a record.
-    fn take_record<Owner: AsOctets, Octets: AsOctets>(
+    fn process_record<Owner: AsOctets, Octets: AsOctets>(
         &mut self,
         one: &Record<Owner, Octets>,
     ) -> Result<(), RunError>;
@@ -178,8 +178,8 @@ impl<'r> RunFile<'r> {
     }
 }
 
-impl TakeRecord for RunFile<'_> {
-    fn take_record<Owner: AsOctets, Octets: AsOctets>(
+impl RecordVisitor for RunFile<'_> {
+    fn process_record<Owner: AsOctets, Octets: AsOctets>(
         &mut self,
         one: &Record<Owner, Octets>,
     ) -> Result<(), RunError> {

@@ -4,7 +4,7 @@ use crate::gathered::Lowerer;
 use crate::locations::position_at;
 use crate::shown::Shown;
 use crate::stop::{RunError, exit_status};
-use crate::visit::{Outcome, Reading, TakeEntry, give_entries};
+use crate::visit::{EntryVisitor, Outcome, Reading, visit_entries};
 use crate::zone_files::Entry;
 use dns_lexer::pieces::Span;
 use dns_lexer::position::Position;
@@ -56,7 +56,7 @@ pub struct ZoneSerial {
 #[derive(Drop)]
 pub enum SerialCommandError {
     /// Entries are rejected, or a file can't be read, with this status, and that was reported.
-    Told(u8),
+    Reported(u8),
     NoSoa,
     /// An SOA is rejected.
     Soa {
@@ -151,8 +151,8 @@ fn placed_soa(
     })
 }
 
-impl TakeEntry for SoaFinder {
-    fn take_entry(&mut self, entry: &Entry<'_>) -> Result<(), RunError> {
+impl EntryVisitor for SoaFinder {
+    fn process_entry(&mut self, entry: &Entry<'_>) -> Result<(), RunError> {
         let Some(given) = entry.record()? else {
             return Ok(());
         };
@@ -208,10 +208,10 @@ pub fn find_serial(
     let Outcome {
         status,
         seen,
-        taker,
-    } = give_entries(rt, &[file], reading, finder);
+        visitor,
+    } = visit_entries(rt, &[file], reading, finder);
     if status > 0 {
-        return Err(SerialCommandError::Told(status));
+        return Err(SerialCommandError::Reported(status));
     }
     let Some(seen) = seen else {
         return Err(SerialCommandError::NoSoa);
@@ -221,7 +221,7 @@ pub fn find_serial(
         has_digest,
         has_signature,
         ..
-    } = taker;
+    } = visitor;
     let answer = check_soas(soa_edits(alloc, soas.as_slice())?.as_slice());
     if let Err(error) = answer {
         return Err(SerialCommandError::Soa { soas, error });

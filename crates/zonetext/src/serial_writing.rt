@@ -171,7 +171,7 @@ fn report_set(
 pub fn report(rt: &HostRuntime, file: &str, why: SerialCommandError) -> io::Result<u8> {
     let name = Shown(file);
     match why {
-        SerialCommandError::Told(status) => return Ok(status),
+        SerialCommandError::Reported(status) => return Ok(status),
         SerialCommandError::NoSoa => eprintln!(rt; "zonetext: {name}: no SOA")?,
         SerialCommandError::Soa {
             error: SoaError::OutOfMemory,

@@ -1,5 +1,5 @@
 //! Settings of a folder: the file `.zonetext.toml`.
-use crate::open_file::{behind, first_place};
+use crate::open_file::{first_place, place_after};
 use crate::options::{USAGE, seconds_in};
 use crate::shown::Shown;
 use crate::stop::EXIT_IO;
@@ -86,7 +86,7 @@ fn malformed(alloc: Global, octets: &[u8], error: &toml::de::Error) -> Unusable 
         return Unusable::OutOfMemory;
     };
     let before = octets.get(..span.start).unwrap_or(octets);
-    let position = behind(first_place(), before).position;
+    let position = place_after(first_place(), before).position;
     let (line, column) = (position.line, position.column);
     let message = error.message();
     match format!(in alloc; "line {line}, column {column}: {message}") {

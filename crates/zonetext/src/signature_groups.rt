@@ -1,5 +1,5 @@
 //! Findings about the times of signatures: equal ones are reported together.
-use crate::held_zone::{RecordLocation, StandingRecord};
+use crate::held_zone::{LocatedRecord, RecordLocation};
 use crate::subjects::Text;
 use rdata_values::{Date, RecordType};
 use std::alloc::{AllocError, Global};
@@ -21,7 +21,7 @@ pub struct Group {
     seconds: u32,
     /// Index of the first of the records, in the order of the files.
     pub record: usize,
-    stand: RecordLocation,
+    location: RecordLocation,
     count: usize,
 }
 
@@ -52,7 +52,7 @@ fn long_number(octets: Option<&[u8]>) -> u32 {
 }
 
 /// Returns the finding about one signature, if its rule is about its time.
-fn group_of(finding: &SecurityFinding, records: &[StandingRecord<'_>]) -> Option<Group> {
+fn group_of(finding: &SecurityFinding, records: &[LocatedRecord<'_>]) -> Option<Group> {
     let record = records.get(finding.record)?;
     if !is_of_time(finding.rule) {
         return None;
@@ -67,7 +67,7 @@ fn group_of(finding: &SecurityFinding, records: &[StandingRecord<'_>]) -> Option
         covered: short_number(record.data.part(COVERED)),
         seconds: long_number(record.data.part(time)),
         record: finding.record,
-        stand: record.owner.as_octets().tag,
+        location: record.owner.as_octets().tag,
         count: 1,
     })
 }
@@ -82,7 +82,7 @@ fn number_of(rule: SecurityRule) -> u8 {
 }
 
 /// Returns the order of two findings that puts equal ones together.
-fn compare_said(left: &Group, right: &Group) -> Ordering {
+fn compare_texts(left: &Group, right: &Group) -> Ordering {
     number_of(left.rule)
         .cmp(&number_of(right.rule))
         .then(left.covered.cmp(&right.covered))
@@ -91,10 +91,20 @@ fn compare_said(left: &Group, right: &Group) -> Ordering {
 
 /// Returns the order of two findings: equal ones together, in the order of the files.
 fn compare(left: &Group, right: &Group) -> Ordering {
-    compare_said(left, right)
-        .then(left.stand.file.cmp(&right.stand.file))
-        .then(left.stand.position.line.cmp(&right.stand.position.line))
-        .then(left.stand.position.column.cmp(&right.stand.position.column))
+    compare_texts(left, right)
+        .then(left.location.file.cmp(&right.location.file))
+        .then(
+            left.location
+                .position
+                .line
+                .cmp(&right.location.position.line),
+        )
+        .then(
+            left.location
+                .position
+                .column
+                .cmp(&right.location.position.column),
+        )
 }
 
 /// Returns the findings about times of signatures. If `joins_equal`, equal ones are one with their
@@ -102,7 +112,7 @@ fn compare(left: &Group, right: &Group) -> Ordering {
 pub fn groups_of(
     alloc: Global,
     found: &[SecurityFinding],
-    records: &[StandingRecord<'_>],
+    records: &[LocatedRecord<'_>],
     joins_equal: bool,
 ) -> Result<Vec<Group>, AllocError> {
     let mut single = Vec::new(alloc);
@@ -115,7 +125,7 @@ pub fn groups_of(
     let mut groups: Vec<Group> = Vec::new(alloc);
     for group in &single {
         match groups.last_mut() {
-            Some(last) if joins_equal && compare_said(last, group).is_eq() => {
+            Some(last) if joins_equal && compare_texts(last, group).is_eq() => {
                 last.count = last.count.saturating_add(1);
             }
             _ => groups.push(*group)?,

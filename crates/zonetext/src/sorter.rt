@@ -1,10 +1,10 @@
 //! Sorts records into canonical order, in memory and, if they don't fit, in runs on disk.
 use crate::merging::merge;
-use crate::run_files::{RunFile, TakeRecord};
+use crate::run_files::{RecordVisitor, RunFile};
 use crate::stop::RunError;
 use std::alloc::Global;
 use zone_record::Record;
-use zone_set::{CanonicalSet, ZoneSet, push_run_record, take_run_record};
+use zone_set::{CanonicalSet, ZoneSet, push_run_record, read_run_record};
 
 /// Number of octets that a record needs while it is sorted, besides its own.
 const INDEX: usize = 128;
@@ -49,7 +49,7 @@ fn sorted<'l>(
     let mut set = ZoneSet::with_capacity(alloc, count)?;
     let mut rest = octets;
     for _ in 0..count {
-        let Some((one, behind)) = take_run_record(rest) else {
+        let Some((one, behind)) = read_run_record(rest) else {
             return Ok(None);
         };
         set.push(one)?;
@@ -65,9 +65,9 @@ fn sorted<'l>(
 }
 
 /// Passes records in their order to a consumer.
-fn give<T: TakeRecord>(set: &LentSet<'_>, taker: &mut T) -> Result<(), RunError> {
+fn visit_records<T: RecordVisitor>(set: &LentSet<'_>, visitor: &mut T) -> Result<(), RunError> {
     for one in set.as_slice() {
-        taker.take_record(one)?;
+        visitor.process_record(one)?;
     }
     Ok(())
 }
@@ -112,12 +112,12 @@ impl<'s> Sorter<'s> {
 
     /// Passes the records in memory to a consumer in canonical order, only the first of duplicates,
     /// and drops them.
-    fn give_held<T: TakeRecord>(&mut self, taker: &mut T) -> Result<(), RunError> {
+    fn visit_held<T: RecordVisitor>(&mut self, visitor: &mut T) -> Result<(), RunError> {
         let Some((set, duplicates)) = sorted(self.rt.alloc(), self.octets.as_slice(), self.count)?
         else {
             return Err(RunError::Damaged);
         };
-        give(&set, taker)?;
+        visit_records(&set, visitor)?;
         self.duplicates = self.duplicates.saturating_add(duplicates as u64);
         Ok(())
     }
@@ -128,7 +128,7 @@ impl<'s> Sorter<'s> {
             Some(file) => file,
             None => RunFile::create(self.rt)?,
         };
-        self.give_held(&mut file)?;
+        self.visit_held(&mut file)?;
         file.end_run()?;
         self.file = Some(file);
         self.octets.truncate(0);
@@ -154,9 +154,9 @@ impl<'s> Sorter<'s> {
 
     /// Passes all records to a consumer in canonical order, only the first one of each owner,
     /// class, type and data. Returns the number of duplicates that were omitted.
-    pub fn finish<T: TakeRecord>(mut self, taker: &mut T) -> Result<u64, RunError> {
+    pub fn finish<T: RecordVisitor>(mut self, visitor: &mut T) -> Result<u64, RunError> {
         if self.file.is_none() {
-            self.give_held(taker)?;
+            self.visit_held(visitor)?;
             return Ok(self.duplicates);
         }
         self.write_run()?;
@@ -169,7 +169,7 @@ impl<'s> Sorter<'s> {
                 file = self.merge_some(file)?;
             }
         }
-        let duplicates = merge(self.rt.alloc(), &file, file.runs(), self.block(), taker)?;
+        let duplicates = merge(self.rt.alloc(), &file, file.runs(), self.block(), visitor)?;
         Ok(self.duplicates.saturating_add(duplicates))
     }
 }

@@ -1,9 +1,9 @@
 //! The records of zone files in canonical order, with bounded memory.
 use crate::gathered::Lowerer;
-use crate::run_files::TakeRecord;
+use crate::run_files::RecordVisitor;
 use crate::sorter::Sorter;
 use crate::stop::RunError;
-use crate::visit::{Outcome, Reading, TakeEntry, give_entries};
+use crate::visit::{EntryVisitor, Outcome, Reading, visit_entries};
 use crate::zone_files::Entry;
 use rdata_values::RecordType;
 use zone_record::record_of;
@@ -35,19 +35,19 @@ impl<'s> Sorting<'s> {
 
     /// Passes the records to a consumer in canonical order, the SOAs first, only the first one of
     /// each owner, class, type and data. Returns the number of duplicates that were omitted.
-    pub fn finish<T: TakeRecord>(self, taker: &mut T) -> Result<u64, RunError> {
+    pub fn finish<T: RecordVisitor>(self, visitor: &mut T) -> Result<u64, RunError> {
         let Sorting { soas, others, .. } = self;
-        let duplicates = soas.finish(taker)?;
-        Ok(duplicates.saturating_add(others.finish(taker)?))
+        let duplicates = soas.finish(visitor)?;
+        Ok(duplicates.saturating_add(others.finish(visitor)?))
     }
 }
 
-impl TakeEntry for Sorting<'_> {
-    fn take_entry(&mut self, entry: &Entry<'_>) -> Result<(), RunError> {
+impl EntryVisitor for Sorting<'_> {
+    fn process_entry(&mut self, entry: &Entry<'_>) -> Result<(), RunError> {
         let Some(given) = entry.record()? else {
             return Ok(());
         };
-        if !self.selection.takes(given.rtype) {
+        if !self.selection.includes(given.rtype) {
             return Ok(());
         }
         let lowered = self.lowerer.lower(given)?;
@@ -73,9 +73,13 @@ pub fn gather_sorting<'s>(
     size: usize,
 ) -> Result<Sorting<'s>, u8> {
     let sorting = Sorting::new(rt, selection, size);
-    let Outcome { status, taker, .. } = give_entries(rt, files, reading, sorting);
+    let Outcome {
+        status,
+        visitor,
+        ..
+    } = visit_entries(rt, files, reading, sorting);
     if reading.fails(status) {
         return Err(status);
     }
-    Ok(taker)
+    Ok(visitor)
 }

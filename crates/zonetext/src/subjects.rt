@@ -1,9 +1,11 @@
 //! The owner and the type of the record that a finding is about, as they are shown.
-use crate::reporter::Said;
+use crate::reporter::FindingText;
 use crate::zone_files::Entry;
+use arrayvec::ArrayVec;
 use dns_lexer::entry_tokens::EntryToken;
 use dns_octets::AsOctets;
 use dns_wire::{DisplayWithDot, Name};
+use error_texts::buffer::MOST;
 use finding_texts::word::push_word;
 use rdata_values::RecordType;
 use std::alloc::{AllocError, Global};
@@ -25,6 +27,11 @@ pub struct Text {
     pub message: String,
     pub help: String,
     pub note: String,
+}
+
+/// Returns the text of an error as a string. All of them are ASCII.
+pub fn text_of(text: &ArrayVec<u8, MOST>) -> &str {
+    str::from_utf8(text.as_slice()).unwrap_or("")
 }
 
 /// Returns a token in single quotes, as messages show it.
@@ -157,8 +164,8 @@ impl Text {
     }
 
     /// Returns the texts, without a record.
-    pub fn said(&self) -> Said<'_> {
-        Said {
+    pub fn finding_text(&self) -> FindingText<'_> {
+        FindingText {
             owner: "",
             rtype: "",
             message: self.message.as_str(),
@@ -251,8 +258,8 @@ impl Subject {
     }
 
     /// Returns a message about the record.
-    pub fn said<'s>(&'s self, message: &'s str, help: &'s str) -> Said<'s> {
-        Said {
+    pub fn finding_text<'s>(&'s self, message: &'s str, help: &'s str) -> FindingText<'s> {
+        FindingText {
             owner: self.owner.as_str(),
             rtype: self.rtype.as_str(),
             message,

@@ -175,7 +175,7 @@ fn has_unfit(
 }
 
 /// Reports records that nsupdate rejects because a name must be a host name, and isn't one.
-fn tell_host_names(rt: &HostRuntime, operations: &[NumberedOperation<'_, '_>]) -> io::Result<()> {
+fn report_host_names(rt: &HostRuntime, operations: &[NumberedOperation<'_, '_>]) -> io::Result<()> {
     for operation in operations {
         let Operation::Add(one) = *operation else {
             continue;
@@ -189,7 +189,7 @@ fn tell_host_names(rt: &HostRuntime, operations: &[NumberedOperation<'_, '_>]) -
 }
 
 /// Returns the number of changes of each type that an update leaves out, by the type's number.
-fn left_out(
+fn omitted_changes(
     alloc: Global,
     changes: &[NumberedChange<'_, '_>],
     has_keys: bool,
@@ -210,10 +210,10 @@ fn left_out(
 /// Appends comments about what an update leaves out, and about its messages.
 fn push_comments(
     text: &mut String,
-    left_out: &BTreeMap<u16, usize>,
+    omitted_changes: &BTreeMap<u16, usize>,
     messages: usize,
 ) -> Result<(), AllocError> {
-    for (number, count) in left_out {
+    for (number, count) in omitted_changes {
         let rtype = RecordType(*number);
         writeln!(text, "; {count} changes of {rtype} left out")?;
     }
@@ -451,7 +451,7 @@ fn write_commands(
     messages: &[Vec<NumberedOperation<'_, '_>>],
 ) -> Result<(), RunError> {
     let mut lines = Lines::new(rt);
-    let omitted = left_out(rt.alloc(), changes, frame.work.has_keys)?;
+    let omitted = omitted_changes(rt.alloc(), changes, frame.work.has_keys)?;
     push_comments(&mut lines.text, &omitted, messages.len())?;
     if !messages.is_empty() {
         push_head(
@@ -489,7 +489,7 @@ fn write_changes<'r, 'h>(
     if frame.work.has_soa && !fits_messages(rt, old, new, messages.len())? {
         return Ok(UNFIT);
     }
-    tell_host_names(rt, operations)?;
+    report_host_names(rt, operations)?;
     write_commands(rt, frame, changes, messages.as_slice())?;
     Ok(1)
 }

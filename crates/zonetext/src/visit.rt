@@ -55,9 +55,9 @@ impl Reading<'_> {
 }
 
 /// A consumer of the entries of files, including rejected ones.
-pub trait TakeEntry {
+pub trait EntryVisitor {
     /// Processes an entry.
-    fn take_entry(&mut self, entry: &Entry<'_>) -> Result<(), RunError>;
+    fn process_entry(&mut self, entry: &Entry<'_>) -> Result<(), RunError>;
 }
 
 /// Passes entries to a consumer, and reports rejected ones.
@@ -71,7 +71,7 @@ struct ReportingVisitor<'g, T: Drop> {
     is_one_zone: bool,
     /// Whether one was rejected.
     has_other_soa: bool,
-    taker: T,
+    visitor: T,
 }
 
 impl<T: Drop> ReportingVisitor<'_, T> {
@@ -116,7 +116,7 @@ impl<T: Drop> ReportingVisitor<'_, T> {
     }
 }
 
-impl<T: TakeEntry + Drop> Visit for ReportingVisitor<'_, T> {
+impl<T: EntryVisitor + Drop> Visit for ReportingVisitor<'_, T> {
     fn begin(&mut self, file: &str, number: usize, mark: &[u8]) -> Result<(), RunError> {
         self.checker.begin(file, number, mark)
     }
@@ -125,15 +125,15 @@ impl<T: TakeEntry + Drop> Visit for ReportingVisitor<'_, T> {
         self.checker.is_quiet(entry)
     }
 
-    fn take_quiet(&mut self, entry: &Entry<'_>) -> Result<(), RunError> {
-        self.checker.take_quiet(entry)?;
-        self.taker.take_entry(entry)
+    fn process_quiet(&mut self, entry: &Entry<'_>) -> Result<(), RunError> {
+        self.checker.process_quiet(entry)?;
+        self.visitor.process_entry(entry)
     }
 
-    fn take(&mut self, entry: &Entry<'_>) -> Result<(), RunError> {
-        self.checker.take(entry)?;
+    fn process(&mut self, entry: &Entry<'_>) -> Result<(), RunError> {
+        self.checker.process(entry)?;
         self.check_soa(entry)?;
-        self.taker.take_entry(entry)
+        self.visitor.process_entry(entry)
     }
 
     fn refuse(&mut self, entry: &Entry<'_>, unfit: &IncludeError) -> Result<(), RunError> {
@@ -174,7 +174,7 @@ fn first_state(reading: &Reading<'_>, file: &str) -> State {
 
 /// Passes the entries of files, one file after the other, to a consumer, and returns the status: 1
 /// if an entry is rejected, or 3 if a file can't be read.
-fn give_files<T: TakeEntry + Drop>(
+fn visit_files<T: EntryVisitor + Drop>(
     rt: &HostRuntime,
     files: &[&str],
     reading: &Reading<'_>,
@@ -216,34 +216,38 @@ pub struct Outcome<T: Drop> {
     /// The first SOA.
     pub seen: Option<SoaInfo>,
     /// The consumer of the records.
-    pub taker: T,
+    pub visitor: T,
 }
 
 /// Reports that no origin is known, if relative names were rejected for that, and returns the
 /// result.
-fn finish<T: TakeEntry + Drop>(
+fn finish<T: EntryVisitor + Drop>(
     rt: &HostRuntime,
     giver: ReportingVisitor<'_, T>,
     status: u8,
 ) -> Outcome<T> {
-    let ReportingVisitor { checker, taker, .. } = giver;
-    if checker.has_told_origin {
+    let ReportingVisitor {
+        checker,
+        visitor,
+        ..
+    } = giver;
+    if checker.has_reported_origin {
         let _ = eprintln!(rt; "zonetext: no origin: give --zone");
     }
     Outcome {
         status,
         seen: checker.seen,
-        taker,
+        visitor,
     }
 }
 
 /// Passes the entries of files to a consumer, one file after the other. Rejected entries are
 /// reported.
-pub fn give_entries<T: TakeEntry + Drop>(
+pub fn visit_entries<T: EntryVisitor + Drop>(
     rt: &HostRuntime,
     files: &[&str],
     reading: &Reading<'_>,
-    taker: T,
+    visitor: T,
 ) -> Outcome<T> {
     let allowed = match unsaid_codes(rt.alloc(), reading.is_one_class) {
         Ok(allowed) => allowed,
@@ -251,7 +255,7 @@ pub fn give_entries<T: TakeEntry + Drop>(
             return Outcome {
                 status: exit_status(rt, "-", RunError::OutOfMemory),
                 seen: None,
-                taker,
+                visitor,
             };
         }
     };
@@ -269,7 +273,7 @@ pub fn give_entries<T: TakeEntry + Drop>(
         max_ttl: None,
         assumes_root: false,
         is_strict: false,
-        tells_slips: false,
+        reports_slips: false,
         times: None,
         is_standard: true,
         is_text: false,
@@ -286,8 +290,8 @@ pub fn give_entries<T: TakeEntry + Drop>(
         zone: None,
         is_one_zone: reading.is_one_zone,
         has_other_soa: false,
-        taker,
+        visitor,
     };
-    let status = give_files(rt, files, reading, &mut giver);
+    let status = visit_files(rt, files, reading, &mut giver);
     finish(rt, giver, status)
 }

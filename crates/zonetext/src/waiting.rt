@@ -81,7 +81,7 @@ impl Waiting {
     }
 
     /// Returns whether a finding at a position may be among the first ones.
-    pub fn takes(&self, number: usize, position: Position) -> bool {
+    pub fn accepts(&self, number: usize, position: Position) -> bool {
         match &self.last {
             Some(last) => {
                 compare_places((number, position), (last.number, last.position)).is_lt()

@@ -1,7 +1,7 @@
 //! Reads zone files and the files that they include, entry by entry.
 use crate::blocks::BLOCK;
 use crate::data_buffer::DataBuffer;
-use crate::open_file::{Includer, Input, OpenFile, behind, place_from};
+use crate::open_file::{Includer, Input, OpenFile, place_after, place_from};
 use crate::progress::Progress;
 use crate::stop::RunError;
 use dns_wire::Name;
@@ -78,10 +78,10 @@ pub trait Visit {
     fn is_quiet(&self, entry: &Entry<'_>) -> bool;
 
     /// Processes an entry for which [`Visit::is_quiet`] returned `true`.
-    fn take_quiet(&mut self, entry: &Entry<'_>) -> Result<(), RunError>;
+    fn process_quiet(&mut self, entry: &Entry<'_>) -> Result<(), RunError>;
 
     /// Processes another entry.
-    fn take(&mut self, entry: &Entry<'_>) -> Result<(), RunError>;
+    fn process(&mut self, entry: &Entry<'_>) -> Result<(), RunError>;
 
     /// Reports that the file that an entry names is not included, and why.
     fn refuse(&mut self, entry: &Entry<'_>, unfit: &IncludeError) -> Result<(), RunError>;
@@ -181,7 +181,7 @@ fn open_first(rt: &HostRuntime, file: &str, name: &str, max_entry: usize) -> io:
 /// Why a file is not included.
 #[derive(Drop)]
 pub enum IncludeError {
-    Told(&'static str),
+    Reason(&'static str),
     /// Too many files were included before it.
     Full,
     Io(io::Error),
@@ -212,7 +212,7 @@ impl IncludeError {
     /// Returns the text of the error. `word` is the file, in single quotes.
     pub fn text(&self, alloc: Global, word: &str) -> Result<String, AllocError> {
         match self {
-            IncludeError::Told(why) => format!(in alloc; "not included: {why} {word}"),
+            IncludeError::Reason(why) => format!(in alloc; "not included: {why} {word}"),
             IncludeError::Full => {
                 format!(in alloc; "not included: 10000 files are included already {word}")
             }
@@ -268,7 +268,7 @@ impl<'a> ZoneFiles<'a> {
     }
 
     /// Passes all entries to a visitor.
-    fn go_through<V: Visit>(
+    fn visit_all<V: Visit>(
         &mut self,
         visitor: &mut V,
         progress: &mut Progress,
@@ -305,10 +305,10 @@ impl<'a> ZoneFiles<'a> {
                         },
                     ),
                 ) => {
-                    return self.give_including(file, *count, *has_origin, visitor);
+                    return self.visit_including(file, *count, *has_origin, visitor);
                 }
-                Some(Err(BlockRefusal::LongEntry)) => return self.give_long(file, visitor),
-                Some(read) => self.give(&mut file, read, visitor)?,
+                Some(Err(BlockRefusal::LongEntry)) => return self.visit_long(file, visitor),
+                Some(read) => self.visit_entry(&mut file, read, visitor)?,
                 None if file.is_read => return self.close(file, visitor),
                 None => return self.read(file, progress),
             }
@@ -371,7 +371,7 @@ impl<'a> ZoneFiles<'a> {
             // A file in UTF-16 is not a zone file at all.
             return self.close(file, visitor);
         }
-        file.place = behind(file.place, &head[..count]);
+        file.place = place_after(file.place, &head[..count]);
         file.place.at = 0;
         if file.is_read && file.head.len() == count {
             return self.close(file, visitor);
@@ -419,7 +419,7 @@ impl<'a> ZoneFiles<'a> {
     }
 
     /// Passes an entry that includes no file to a visitor.
-    fn give<V: Visit>(
+    fn visit_entry<V: Visit>(
         &mut self,
         file: &mut OpenFile,
         read: &Result<ParsedEntry, BlockRefusal>,
@@ -427,15 +427,15 @@ impl<'a> ZoneFiles<'a> {
     ) -> Result<(), RunError> {
         let entry = self.entry(file, read);
         if visitor.is_quiet(&entry) {
-            return visitor.take_quiet(&entry);
+            return visitor.process_quiet(&entry);
         }
-        self.give_counted(file, read, visitor)
+        self.visit_counted(file, read, visitor)
     }
 
     /// Passes an entry to a visitor. Lines and columns are counted up to it. Fails with `Damaged`
     /// if its octets are not held.
     #[inline(never)]
-    fn give_counted<V: Visit>(
+    fn visit_counted<V: Visit>(
         &self,
         file: &mut OpenFile,
         read: &Result<ParsedEntry, BlockRefusal>,
@@ -446,19 +446,23 @@ impl<'a> ZoneFiles<'a> {
             return Err(RunError::Damaged);
         }
         file.count_to(offset);
-        visitor.take(&self.entry(file, read))
+        visitor.process(&self.entry(file, read))
     }
 
     /// Passes an entry that is too long to a visitor, and continues after its file, whose rest is
     /// not read.
-    fn give_long<V: Visit>(&mut self, mut file: OpenFile, visitor: &mut V) -> Result<(), RunError> {
-        self.give(&mut file, &Err(BlockRefusal::LongEntry), visitor)?;
+    fn visit_long<V: Visit>(
+        &mut self,
+        mut file: OpenFile,
+        visitor: &mut V,
+    ) -> Result<(), RunError> {
+        self.visit_entry(&mut file, &Err(BlockRefusal::LongEntry), visitor)?;
         self.close(file, visitor)
     }
 
     /// Passes an entry that includes a file to a visitor, and opens that file. `count` of the
     /// octets that were appended name the file, and those after them its origin, if it has one.
-    fn give_including<V: Visit>(
+    fn visit_including<V: Visit>(
         &mut self,
         mut file: OpenFile,
         count: usize,
@@ -474,7 +478,7 @@ impl<'a> ZoneFiles<'a> {
             has_origin,
         });
         let entry = self.entry(&file, &read);
-        visitor.take(&entry)?;
+        visitor.process(&entry)?;
         let is_full = matches!(found, Err(IncludeError::Full));
         if let Err(unfit) = &found {
             if !is_full || !self.is_full {
@@ -504,17 +508,17 @@ impl<'a> ZoneFiles<'a> {
     /// appended.
     fn find_included(&self, file: &OpenFile, count: usize) -> Result<OpenFile, IncludeError> {
         if !self.includes {
-            return Err(IncludeError::Told("a file that includes others is not cut"));
+            return Err(IncludeError::Reason("a file that includes others is not cut"));
         }
         if self.files.len() >= MOST_INCLUDED {
-            return Err(IncludeError::Told("more than 10 files include one another"));
+            return Err(IncludeError::Reason("more than 10 files include one another"));
         }
         if self.count > MOST_FILES {
             return Err(IncludeError::Full);
         }
         let (octets, _) = include_parts(self.data.as_slice(), count);
         let Ok(name) = str::from_utf8(octets) else {
-            return Err(IncludeError::Told("file name is not UTF-8"));
+            return Err(IncludeError::Reason("file name is not UTF-8"));
         };
         let alloc = self.rt.alloc();
         let path = Path::new(name);
@@ -533,13 +537,13 @@ impl<'a> ZoneFiles<'a> {
     fn open_included(&self, file: &OpenFile, name: String) -> Result<OpenFile, IncludeError> {
         let full = full_path(self.rt, name.as_str())?;
         if !self.is_allowed(full.as_str()) {
-            return Err(IncludeError::Told("file outside of the folders that are open to it"));
+            return Err(IncludeError::Reason("file outside of the folders that are open to it"));
         }
         if file.full == full || self.is_open(full.as_str()) {
-            return Err(IncludeError::Told("file that includes itself"));
+            return Err(IncludeError::Reason("file that includes itself"));
         }
         if !metadata(self.rt, name.as_str())?.is_file() {
-            return Err(IncludeError::Told("not a regular file"));
+            return Err(IncludeError::Reason("not a regular file"));
         }
         let input = Input::File(File::open(self.rt, name.as_str())?);
         let alloc = self.rt.alloc();
@@ -652,7 +656,7 @@ pub fn visit_file<'f, V: Visit>(
     let (name, is_quiet) = (begin.name_of(file), begin.is_quiet);
     let mut files = ZoneFiles::open(rt, file, begin)?;
     let mut progress = Progress::new(rt, name, is_quiet)?;
-    let answer = files.go_through(visitor, &mut progress);
+    let answer = files.visit_all(visitor, &mut progress);
     progress.clear()?;
     answer
 }

@@ -1,11 +1,11 @@
 //! The zones that a configuration, a list or a folder names, and their files.
-use crate::open_file::{behind, first_place};
+use crate::open_file::{first_place, place_after};
 use crate::options::USAGE;
 use crate::shown::Shown;
 use crate::stop::EXIT_IO;
 use crate::subjects::quoted;
 use rdata_values::Class;
-use server_config::{ConfigErrorKind, LeftOutCounts, TextSpan};
+use server_config::{ConfigErrorKind, OmittedCounts, TextSpan};
 use std::alloc::{AllocError, AllocFailed, Global};
 use std::io::{ErrorKind, Read};
 use std::path::Path;
@@ -32,7 +32,7 @@ pub struct ZoneSource {
 #[derive(Drop)]
 pub struct Sources {
     pub zones: Vec<ZoneSource>,
-    pub left_out: LeftOutCounts,
+    pub omitted: OmittedCounts,
     /// Messages about what is not checked, each for a line.
     pub notes: Vec<String>,
     /// Files whose name doesn't say their zone.
@@ -44,7 +44,7 @@ impl Sources {
     pub fn new(alloc: Global) -> Sources {
         Sources {
             zones: Vec::new(alloc),
-            left_out: LeftOutCounts::new(),
+            omitted: OmittedCounts::new(),
             notes: Vec::new(alloc),
             unclear: Vec::new(alloc),
         }
@@ -108,7 +108,7 @@ pub fn octets_in(text: &[u8], span: TextSpan) -> &[u8] {
 /// Returns the place of an offset of a file, as `FILE:LINE:COLUMN`.
 pub fn place_text(alloc: Global, file: &str, text: &[u8], at: usize) -> Result<String, AllocError> {
     let before = octets_between(text, 0, at.min(text.len()));
-    let position = behind(first_place(), before).position;
+    let position = place_after(first_place(), before).position;
     let (line, column) = (position.line, position.column);
     format!(in alloc; "{file}:{line}:{column}")
 }

@@ -165,7 +165,7 @@ impl<A: Allocator> Checker<A> {
 
     /// Adds octets, and returns whether enough are stored to parse them: twice the number that was
     /// left the last time. Fails if an allocation fails, or if there would be too many octets.
-    pub(crate) fn take(&mut self, block: &[u8]) -> Result<bool, ChunkError>
+    pub(crate) fn store(&mut self, block: &[u8]) -> Result<bool, ChunkError>
         ensures { StoresChunk self.old self.new block.now result }
     {
         let room = usize::MAX - 2 - self.place.at - self.held.len();
@@ -234,7 +234,7 @@ impl<A: Allocator> Checker<A> {
         ensures added { AddsBlock self.old self.new block.now result }
         ensures in_time { AddsInTime self.old self.new block.now result }
     {
-        if !self.take(block)? {
+        if !self.store(block)? {
             return Ok(());
         }
         match self.settle() {

@@ -102,8 +102,8 @@ impl<A: Allocator + Copy> Comparer<A> {
         ensures other { on_side (opposite side) self.new ≡ on_side (opposite side) self.old }
     {
         match side {
-            Side::First => self.first.take(block),
-            Side::Second => self.second.take(block),
+            Side::First => self.first.store(block),
+            Side::Second => self.second.store(block),
         }
     }
 

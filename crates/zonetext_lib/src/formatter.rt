@@ -146,7 +146,7 @@ impl<A: Allocator> Formatter<A> {
         if block.len() >= MOST - before {
             return Err(NoForm::TooLong);
         }
-        if !self.checker.take(block)? {
+        if !self.checker.store(block)? {
             return Ok(());
         }
         match self.form_settled(out) {

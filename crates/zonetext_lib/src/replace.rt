@@ -153,7 +153,7 @@ pub struct NewText<F: Drop> {
 }
 
 /// Sets the owner, the group and the mode of a new file to those of the original.
-fn take_after<F: OpenFile + AsFd>(file: &F, original: &Original) -> Result<(), Refusal> {
+fn copy_ownership<F: OpenFile + AsFd>(file: &F, original: &Original) -> Result<(), Refusal> {
     let mine = file.metadata()?;
     let (user, group) = (original.user, original.group);
     if mine.uid() != user || mine.gid() != group {
@@ -200,7 +200,7 @@ impl<F: Write + OpenFile + AsFd + Drop> NewText<F> {
         process: u32,
     ) -> Result<NewText<F>, Refusal> {
         let (path, file) = create_beside(files, alloc, original.path(), process)?;
-        match take_after(&file, &original) {
+        match copy_ownership(&file, &original) {
             Ok(()) => Ok(NewText {
                 original,
                 path,
@@ -263,7 +263,7 @@ impl Ready {
     }
 
     /// Fails if the original changed.
-    fn may_go<R: Files>(&self, files: &R) -> Result<(), Refusal> {
+    fn check_original<R: Files>(&self, files: &R) -> Result<(), Refusal> {
         if self.original.is_unchanged(files)? {
             Ok(())
         } else {
@@ -361,7 +361,7 @@ fn discard_from<R: Files>(files: &R, texts: &[Ready], first: usize) -> io::Resul
 /// Fails with the first text whose original changed, or can't be looked at.
 fn find_changed<R: Files>(files: &R, texts: &[Ready]) -> Result<(), Incomplete> {
     for (at, text) in texts.iter().enumerate() {
-        if let Err(why) = text.may_go(files) {
+        if let Err(why) = text.check_original(files) {
             let replaced = 0;
             return Err(Incomplete { replaced, at, why });
         }

@@ -203,7 +203,7 @@ impl<A: Allocator> Writer<A> {
         ensures written { Writes self.old self.new block.now out.old.items out.new.items result }
     {
         let before = self.checker.held().len();
-        if !self.checker.take(block)? {
+        if !self.checker.store(block)? {
             return Ok(());
         }
         match write_settled(self.output, self.checker.held(), out) {

@@ -130,7 +130,7 @@ abbrev pub unended : List ℕ → List Remark
 unended octets = if length octets == 0 || slice_index octets (length octets - 1) == line_feed then [] else remark (length octets) NoFinalNewline ∷ []
 
 abbrev pub crlf_remarks : Block → List ℕ → List Remark
-crlf_remarks block octets = if block.tells_crlf then first_passing is_return 0 octets Crlf else []
+crlf_remarks block octets = if block.reports_crlf then first_passing is_return 0 octets Crlf else []
 
 abbrev pub end_remarks : Block → List ℕ → List Remark
 end_remarks block octets = if block.is_last then unended octets else []

@@ -26,7 +26,7 @@ pub struct Block {
     /// Whether it is the last part.
     pub is_last: bool,
     /// Whether a line end of CR LF is reported: this is done once a file.
-    pub tells_crlf: bool,
+    pub reports_crlf: bool,
 }
 
 /// Returns the number of octets of a byte order mark at the start of a file: 3 of UTF-8, 2 of
@@ -344,7 +344,7 @@ pub fn lint<A: Allocator>(
 {
     lint_beginning(octets, 0, found)?;
     lint_pieces(octets, found)?;
-    if block.tells_crlf {
+    if block.reports_crlf {
         push_at(found, 0, find_return(octets), Code::Crlf)?;
     }
     if block.is_last {

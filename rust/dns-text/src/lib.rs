@@ -24,6 +24,7 @@
 //! | also comments and ends of entries, or without memory | [`pieces`] | none |
 //! | records of a file or a stream | [`read_records`] | a chunk, the longest entry twice, the RDATA |
 //! | entries of a file or a stream | [`read_entries`] | the same, and each entry |
+//! | records of a file and of those that it includes | [`RecordReader::follow_includes`] | the same, for each open file |
 //!
 //! [`tokens`], [`entries`] and [`pieces`] return what comes before the first syntax error, and then the
 //! error. The others continue after its line. An error has an offset (`place`). [`Fault::locate`] and
@@ -49,7 +50,7 @@
 //!     }
 //! }
 //! assert_eq!(addresses, 1);
-//! assert_eq!(wrong, ["3:13: AAAA address: expected IPv6 address"]);
+//! assert_eq!(wrong, ["3:13: AAAA: address: expected IPv6 address"]);
 //! ```
 //!
 //! An entry that begins with a blank has the owner of the one before:
@@ -142,8 +143,11 @@ pub use number::{number, NumberError, NumberErrorKind};
 pub use pieces::{pieces, Piece, PieceKind, Pieces};
 pub use position::{position, Position, Positions};
 pub use records::{
-    records, Record, RecordFault, RecordFaultKind, Records, RelativeOrigin, ZoneItem,
+    records, Record, RecordFault, RecordFaultKind, Records, RelativeOrigin, RelativeOwner, ZoneItem,
 };
 pub use status::Status;
-pub use stream::{read_entries, read_records, EntryReader, OwnedEntry, RecordReader, StreamError};
+pub use stream::{
+    read_entries, read_records, EntryReader, FollowError, FollowErrorKind, FollowedRecords,
+    OwnedEntry, RecordReader, StreamError, TextReader,
+};
 pub use zone::{entries, tokens, Entries, Entry, Fault, FaultKind, Token, Tokens};

@@ -45,7 +45,7 @@ pub fn position(text: &[u8], place: usize) -> Option<Position> {
 ///     let position = positions.find(fault.place).unwrap();
 ///     wrong.push(format!("{position}: {}", fault.message()));
 /// }
-/// assert_eq!(wrong[1], "3:8: A address: expected IPv4 address");
+/// assert_eq!(wrong[1], "3:8: A: address: expected IPv4 address");
 /// # Ok::<(), Box<dyn std::error::Error>>(())
 /// ```
 #[derive(Clone, Debug)]

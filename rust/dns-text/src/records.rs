@@ -2,7 +2,8 @@
 use crate::data::RecordData;
 use crate::library;
 use crate::status::reasons;
-use crate::{position, Class, Name, Position, Positions, RecordType, Ttl};
+use crate::stream::{FollowedRecords, RecordReader, TextReader};
+use crate::{entries, position, Class, Name, Position, Positions, RecordType, Ttl};
 use dns_text_sys::{
     dnstext_kept_name, dnstext_outcome, dnstext_record, dnstext_record_next, dnstext_zone,
     dnstext_zone_origin, DNSTEXT_END, DNSTEXT_INCLUDE, DNSTEXT_NO_ROOM, DNSTEXT_OK,
@@ -36,9 +37,10 @@ impl Record {
 #[non_exhaustive]
 pub enum ZoneItem {
     Record(Record),
-    /// `$INCLUDE`: the name of a file as in the text, and its origin, if there is one. The caller reads
-    /// the file.
+    /// `$INCLUDE`: the offset of the directive, the name of a file as in the text, and its origin, if there
+    /// is one. The caller reads the file, with [`Records::include`]; or [`Records::follow_includes`] does.
     Include {
+        place: usize,
         file: Vec<u8>,
         origin: Option<Name>,
     },
@@ -52,7 +54,15 @@ impl ZoneItem {
                 place: before + record.place,
                 ..record
             }),
-            item => item,
+            ZoneItem::Include {
+                place,
+                file,
+                origin,
+            } => ZoneItem::Include {
+                place: before + place,
+                file,
+                origin,
+            },
         }
     }
 }
@@ -63,7 +73,8 @@ pub struct RecordFault {
     pub kind: RecordFaultKind,
     /// Offset of the rejected token, or of the syntax error.
     pub place: usize,
-    /// Why an entry is rejected, as in `MX preference: decimal number overflow`. Empty for a syntax error.
+    /// Why an entry is rejected, as in `MX: preference: decimal number overflow`: the type and the field of
+    /// RDATA, and what is wrong, as `zonetext check` reports it. Empty for a syntax error.
     pub reason: String,
 }
 
@@ -162,6 +173,18 @@ impl fmt::Display for RelativeOrigin {
 
 impl Error for RelativeOrigin {}
 
+/// The error of a relative name as owner: an owner is absolute.
+#[derive(Clone, Copy, Debug, PartialEq, Eq)]
+pub struct RelativeOwner;
+
+impl fmt::Display for RelativeOwner {
+    fn fmt(&self, f: &mut fmt::Formatter<'_>) -> fmt::Result {
+        f.pad("the owner is a relative name")
+    }
+}
+
+impl Error for RelativeOwner {}
+
 /// Returns the records of a zone file in order. `$ORIGIN` and `$TTL` are applied. After a rejected entry,
 /// reading continues at the next entry; after a syntax error, at the next line.
 ///
@@ -180,7 +203,7 @@ impl Error for RelativeOrigin {}
 /// let Some(Ok(ZoneItem::Record(a))) = found.next() else { panic!() };
 /// assert_eq!(a.data, RecordData::A("192.0.2.1".parse()?));
 /// let fault = found.next().unwrap().unwrap_err();
-/// assert_eq!(fault.reason, "A address: expected IPv4 address");
+/// assert_eq!(fault.reason, "A: address: expected IPv4 address");
 /// assert_eq!(found.locate(fault.place).unwrap().to_string(), "4:8");
 /// assert!(found.next().is_none());
 /// # Ok::<(), Box<dyn std::error::Error>>(())
@@ -203,7 +226,7 @@ pub struct Records<'t> {
     is_done: bool,
 }
 
-impl Records<'_> {
+impl<'t> Records<'t> {
     /// Sets the origin, which is appended to relative names. Fails if it is a relative name.
     pub fn with_origin(mut self, origin: &Name) -> Result<Self, RelativeOrigin> {
         self.state.set_origin(origin)?;
@@ -214,6 +237,93 @@ impl Records<'_> {
     pub fn with_class(mut self, class: Class) -> Self {
         self.state.set_class(class);
         self
+    }
+
+    /// Sets the default TTL, as `$TTL` does (RFC 2308 section 4).
+    pub fn with_default_ttl(mut self, ttl: Ttl) -> Self {
+        self.state.set_default_ttl(ttl);
+        self
+    }
+
+    /// Sets the owner of records that begin with a blank, up to the first record with an owner. Fails if it
+    /// is a relative name.
+    pub fn with_owner(mut self, owner: &Name) -> Result<Self, RelativeOwner> {
+        self.state.set_owner(owner)?;
+        Ok(self)
+    }
+
+    /// Returns the origin that applies to the next entry, if there is one.
+    pub fn origin(&self) -> Option<Name> {
+        self.state.origin()
+    }
+
+    /// Returns the records of an included file. Class, owner and TTLs at its start are those after the
+    /// `$INCLUDE`, and so is the origin, if the directive has none. Fails if the origin is a relative name.
+    ///
+    /// After the file, [`copy_ttls`](Records::copy_ttls) applies its TTLs. Origin and owner are as before it
+    /// (RFC 1035 section 5.1). [`follow_includes`](Records::follow_includes) does all of this.
+    ///
+    /// ```
+    /// use dns_text::{records, ZoneItem};
+    ///
+    /// let zone = b"$INCLUDE hosts lan\nmail A 192.0.2.1\n";
+    /// let hosts = b"$TTL 1h\nnas A 192.0.2.2\n";
+    /// let mut found = records(zone).with_origin(&"example.".parse()?)?;
+    /// let Some(Ok(ZoneItem::Include { file, origin, .. })) = found.next() else { panic!() };
+    /// assert_eq!(file, b"hosts");
+    /// let mut included = found.include(origin.as_ref(), hosts)?;
+    /// let Some(Ok(ZoneItem::Record(nas))) = included.next() else { panic!() };
+    /// assert_eq!(nas.owner.to_string(), "nas.lan.example.");
+    /// assert!(included.next().is_none());
+    /// found.copy_ttls(&included);
+    /// let Some(Ok(ZoneItem::Record(mail))) = found.next() else { panic!() };
+    /// assert_eq!((mail.owner.to_string(), mail.ttl.seconds()), ("mail.example.".to_string(), 3600));
+    /// # Ok::<(), Box<dyn std::error::Error>>(())
+    /// ```
+    pub fn include<'i>(
+        &self,
+        origin: Option<&Name>,
+        text: &'i [u8],
+    ) -> Result<Records<'i>, RelativeOrigin> {
+        Ok(Records {
+            state: self.state.included(origin)?,
+            ..records(text)
+        })
+    }
+
+    /// Applies the default TTL and the last TTL of an included file to the entries after it, as BIND does.
+    pub fn copy_ttls(&mut self, included: &Records<'_>) {
+        self.state.copy_ttls(&included.state);
+    }
+
+    /// Returns the records of this text and of the files that it includes. `read` returns the octets of a
+    /// file, by its name in the text. See [`FollowedRecords`].
+    ///
+    /// ```
+    /// use dns_text::records;
+    ///
+    /// let zone = b"$TTL 1h\n$INCLUDE hosts\nmail A 192.0.2.1\n";
+    /// let found = records(zone).with_origin(&"example.".parse()?)?;
+    /// let mut found = found.follow_includes(|file| match file {
+    ///     b"hosts" => Ok(b"nas A 192.0.2.2\n    A 192.0.2.256\n".as_slice()),
+    ///     _ => Err("no such file"),
+    /// });
+    /// assert_eq!(found.next().unwrap()?.owner.to_string(), "nas.example.");
+    /// let error = found.next().unwrap().unwrap_err();
+    /// assert_eq!(error.to_string(), "hosts:2:7: A: address: expected IPv4 address");
+    /// assert_eq!(found.next().unwrap()?.owner.to_string(), "mail.example.");
+    /// assert!(found.next().is_none());
+    /// # Ok::<(), Box<dyn std::error::Error>>(())
+    /// ```
+    pub fn follow_includes<F, T, E>(mut self, read: F) -> FollowedRecords<TextReader<'t>, F>
+    where
+        F: FnMut(&[u8]) -> Result<T, E>,
+        T: Into<TextReader<'t>>,
+    {
+        let place = self.place();
+        let rest = self.text.get(place..).unwrap_or_default();
+        let position = self.locate(place);
+        RecordReader::resumed(rest.into(), self.state, place, position).follow_includes(read)
     }
 
     /// Returns the offset of the next entry.
@@ -288,6 +398,46 @@ impl ZoneState {
         self.zone.class_code = class.0;
     }
 
+    /// Sets the default TTL.
+    pub(crate) fn set_default_ttl(&mut self, ttl: Ttl) {
+        self.zone.has_default_ttl = true;
+        self.zone.default_ttl = ttl.seconds();
+    }
+
+    /// Sets the last owner. Fails if it is a relative name.
+    pub(crate) fn set_owner(&mut self, owner: &Name) -> Result<(), RelativeOwner> {
+        if !owner.is_absolute() {
+            return Err(RelativeOwner);
+        }
+        self.zone.owner = kept(owner);
+        Ok(())
+    }
+
+    /// Returns the origin, if there is one.
+    pub(crate) fn origin(&self) -> Option<Name> {
+        name_of(&self.zone.origin)
+    }
+
+    /// Returns the state at the start of an included file, which may have an origin of its own. Fails if
+    /// that is a relative name.
+    pub(crate) fn included(&self, origin: Option<&Name>) -> Result<ZoneState, RelativeOrigin> {
+        let mut state = ZoneState::new();
+        state.zone = dnstext_zone { at: 0, ..self.zone };
+        if let Some(origin) = origin {
+            state.set_origin(origin)?;
+        }
+        Ok(state)
+    }
+
+    /// Copies the TTLs of the state at the end of an included file.
+    pub(crate) fn copy_ttls(&mut self, included: &ZoneState) {
+        let zone = &included.zone;
+        self.zone.has_default_ttl = zone.has_default_ttl;
+        self.zone.default_ttl = zone.default_ttl;
+        self.zone.has_last_ttl = zone.has_last_ttl;
+        self.zone.last_ttl = zone.last_ttl;
+    }
+
     /// Returns a copy of the state.
     pub(crate) fn keep(&self) -> dnstext_zone {
         self.zone
@@ -309,6 +459,7 @@ impl ZoneState {
     /// Reads the next item of a text.
     fn next(&mut self, text: &[u8]) -> Option<Result<ZoneItem, RecordFault>> {
         let mut record = dnstext_record::default();
+        let start = self.zone.at;
         let (status, outcome) = self.call(text, &mut record);
         let given = self.octets.get(..outcome.length).unwrap_or_default();
         match (status, name_of(&record.name)) {
@@ -321,6 +472,7 @@ impl ZoneState {
                 data: RecordData::of_read(RecordType(record.type_code), given),
             }))),
             (DNSTEXT_INCLUDE, origin) => Some(Ok(ZoneItem::Include {
+                place: start + last_entry(text.get(start..self.zone.at).unwrap_or_default()),
                 file: given.to_vec(),
                 origin,
             })),
@@ -354,6 +506,21 @@ impl ZoneState {
             self.octets.resize(outcome.length, 0);
         }
     }
+}
+
+/// Returns the offset of the last entry that has tokens.
+fn last_entry(text: &[u8]) -> usize {
+    let found = entries(text).filter_map(|entry| Some(entry.ok()?.tokens.first()?.start));
+    found.last().unwrap_or(0)
+}
+
+/// Returns an absolute name as the library keeps it.
+fn kept(name: &Name) -> dnstext_kept_name {
+    let mut kept = dnstext_kept_name::default();
+    let octets = name.as_octets();
+    kept.octets[..octets.len()].copy_from_slice(octets);
+    kept.length = octets.len();
+    kept
 }
 
 /// Returns the name that the library wrote, if there is one.

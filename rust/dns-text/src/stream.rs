@@ -1,9 +1,11 @@
 //! Zone files from a `BufRead`, chunk by chunk.
 mod entries;
+mod follow;
 mod records;
 mod window;
 
 pub use entries::{read_entries, EntryReader, OwnedEntry};
+pub use follow::{FollowError, FollowErrorKind, FollowedRecords, TextReader};
 pub use records::{read_records, RecordReader};
 
 use crate::{Fault, Position, RecordFault};

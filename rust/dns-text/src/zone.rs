@@ -67,7 +67,7 @@ impl Fault {
     /// let text = b"a A 192.0.2.1\nb TXT (";
     /// let fault = entries(text).find_map(Result::err).unwrap();
     /// let position = fault.locate(text).unwrap();
-    /// assert_eq!(format!("{position}: {}", fault.message()), "2:8: parenthesis that is not closed");
+    /// assert_eq!(format!("{position}: {}", fault.message()), "2:8: parenthesis is not closed");
     /// ```
     pub fn locate(&self, text: &[u8]) -> Option<Position> {
         position(text, self.place)

@@ -302,7 +302,7 @@ fn long_data_are_refused() {
     let fault = RecordData::from_text(RecordType::TXT, &text(255), None).unwrap_err();
     assert_eq!(
         fault.to_string(),
-        "TXT text: RDATA exceeds 65535 octets at 65280"
+        "TXT: RDATA exceeds 65535 octets at 65280"
     );
 }
 

@@ -272,7 +272,7 @@ fn many_lines() {
                 assert_eq!(error.position(), Some(Position { line, column }));
             }
             (2, Err(error)) => {
-                let told = format!("{}:5: quoted text that is not closed", first + 4);
+                let told = format!("{}:5: quoted text is not closed", first + 4);
                 assert_eq!(error.to_string(), told);
             }
             (_, item) => panic!("{item:?}"),

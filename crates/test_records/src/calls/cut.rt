@@ -19,7 +19,7 @@ struct Parts<'a> {
     /// Offset where each begins.
     starts: Vec<usize, &'a Heap>,
     /// Offset in the text where the rest of the last part begins.
-    behind: usize,
+    rest_offset: usize,
 }
 
 /// Adds the parts of a text. The inputs are the number of parts, `soa` if it is repeated, the text,
@@ -37,7 +37,7 @@ pub fn cut(inputs: &Inputs, answer: &mut Answer) {
     let mut parts = Parts {
         octets: Vec::new(heap),
         starts: Vec::new(heap),
-        behind: 0,
+        rest_offset: 0,
     };
     let state = state_of(origin, answer);
     if !fill(&mut parts, cutter, text, state, answer) {
@@ -77,13 +77,13 @@ impl<'a> Parts<'a> {
         if self.starts.is_empty() {
             return true;
         }
-        let rest = text.get(self.behind..to).unwrap_or(&[]);
+        let rest = text.get(self.rest_offset..to).unwrap_or(&[]);
         self.octets.extend_from_slice(rest).is_ok()
     }
 
     /// Begins another part with these lines, and with the text from an offset on.
-    fn begin(&mut self, lines: &str, behind: usize) -> bool {
-        self.behind = behind;
+    fn begin(&mut self, lines: &str, rest_offset: usize) -> bool {
+        self.rest_offset = rest_offset;
         self.starts.push(self.octets.len()).is_ok()
             && self.octets.extend_from_slice(lines.as_bytes()).is_ok()
     }
@@ -132,7 +132,7 @@ fn fill<'a>(
             continue;
         };
         let mut lines = String::new(answer.heap());
-        match cutter.take(&state, reader.began(), &record, &mut lines) {
+        match cutter.process_record(&state, reader.began(), &record, &mut lines) {
             Ok(true) => {
                 if !parts.fill_up(text, reader.began())
                     || !parts.begin(lines.as_str(), reader.place())

@@ -3,11 +3,13 @@ use super::results::{Octets, origin_of};
 use dns_lexer::entry_tokens::{EntryToken, EntryTokens};
 use dns_wire::Name;
 use dns_zone::zonefile_fmt::SimpleWriter;
-use rdata::{Shape, check_data, field_text, read_type, type_row, write_data};
-use rdata_fields::{FieldName, RecordError, TokenList};
+use error_texts::errors::error_text;
+use rdata::{Shape, check_data, read_type, type_row};
+use rdata_fields::{RecordError, TokenList};
 use rdata_values::{ErrorKind, RecordType};
 use std::fmt;
 use test_support::{Answer, Failure, Inputs};
+use zone_record::write_data;
 
 /// The origin of rows without one: `example.`.
 const ORIGIN: &[u8] = b"\x07example\x00";
@@ -86,25 +88,17 @@ pub fn add_rejected(error: RecordError, answer: &mut Answer) {
     }
 }
 
-/// Returns the name of a field of a type's data, if the field is known and has one.
-fn named(rtype: RecordType, field: Option<FieldName>) -> Option<&'static str> {
-    field_text(rtype, field?)
-}
-
-/// The type, the field, and why it is rejected.
+/// The text of an error.
 #[derive(Drop)]
 pub struct Why(pub RecordError);
 
 impl fmt::Display for Why {
     fn fmt<W: fmt::Write>(&self, f: &mut fmt::Formatter<W>) -> fmt::Result {
-        if let Some(rtype) = self.0.rtype {
-            write!(f, "{rtype}")?;
-            if let Some(name) = named(rtype, self.0.field) {
-                write!(f, " {name}")?;
-            }
-            f.write_str(": ")?;
+        let text = error_text(&self.0);
+        match str::from_utf8(text.as_slice()) {
+            Ok(text) => f.write_str(text),
+            Err(_) => Err(fmt::Error),
         }
-        write!(f, "{}", self.0.kind)
     }
 }
 

@@ -22,7 +22,7 @@ pub fn call(name: &str, inputs: &Inputs, answer: &mut Answer) {
 }
 
 /// Parses pieces one by one.
-fn take(kind: DigitsKind, pieces: &[Vec<u8>], target: &mut Octets<'_>) -> Result<(), ErrorKind> {
+fn parse(kind: DigitsKind, pieces: &[Vec<u8>], target: &mut Octets<'_>) -> Result<(), ErrorKind> {
     let mut reader = DigitsReader::new(kind);
     for piece in pieces {
         reader.push(piece.as_slice(), target)?;
@@ -33,7 +33,7 @@ fn take(kind: DigitsKind, pieces: &[Vec<u8>], target: &mut Octets<'_>) -> Result
 /// Adds the octets of pieces. A single piece has the same octets as a token.
 fn pieces(kind: DigitsKind, pieces: &[Vec<u8>], answer: &mut Answer) {
     let mut target: Octets = Vec::new(answer.heap());
-    let made = take(kind, pieces, &mut target);
+    let made = parse(kind, pieces, &mut target);
     add_result(made, target.as_slice(), answer);
     if let [piece] = pieces {
         let mut other = answer.another();

@@ -8,7 +8,7 @@ use test_support::{Answer, Failure, Inputs};
 /// Answers a row: calls what it names.
 pub fn call(name: &str, inputs: &Inputs, answer: &mut Answer) {
     match name {
-        "take" => take(inputs.all(), answer),
+        "parse" => parse_kinds(inputs.all(), answer),
         "each" => each(inputs.all(), answer),
         _ => answer.fail(Failure::NoCall),
     }
@@ -54,7 +54,7 @@ fn add_error(error: RecordError, answer: &mut Answer) {
 }
 
 /// Parses fields of the kinds in the first input. If a field is rejected, its index is added too.
-fn take(inputs: &[Vec<u8>], answer: &mut Answer) {
+fn parse_kinds(inputs: &[Vec<u8>], answer: &mut Answer) {
     let [kinds, text, origin @ ..] = inputs else {
         return answer.fail(Failure::BadInputs);
     };

@@ -25,7 +25,7 @@ fn add_declared(said: Option<usize>, answer: &mut Answer) {
 }
 
 /// Adds the text of a token, or `none`.
-fn tell_token(token: Option<EntryToken<'_>>, answer: &mut Answer) {
+fn add_token(token: Option<EntryToken<'_>>, answer: &mut Answer) {
     match token {
         Some(token) => answer.add(token.text),
         None => answer.add_text("none"),
@@ -57,7 +57,7 @@ fn add_error(error: &RecordError, answer: &mut Answer) {
 fn record(owner: Option<EntryToken<'_>>, source: &mut TokenList<'_>, answer: &mut Answer) {
     match parse_header(source) {
         Ok(words) => {
-            tell_token(owner, answer);
+            add_token(owner, answer);
             add_header(words.ttl, words.class, answer);
             answer.add_text("|");
             answer.add_number(usize::from(words.rtype.0));
@@ -90,7 +90,7 @@ fn origin(name: Option<EntryToken<'_>>, source: &mut TokenList<'_>, answer: &mut
     match parse_end(source) {
         Ok(()) => {
             answer.add_text("origin ");
-            tell_token(name, answer);
+            add_token(name, answer);
         }
         Err(error) => add_error(&error, answer),
     }
@@ -110,7 +110,7 @@ fn include(origin: Option<EntryToken<'_>>, source: &mut TokenList<'_>, answer: &
             answer.add_text("include ");
             answer.add(file.as_slice());
             answer.add_text("|");
-            tell_token(origin, answer);
+            add_token(origin, answer);
         }
         Err(error) => add_error(&error, answer),
     }

@@ -18,7 +18,7 @@ pub fn call(name: &str, inputs: &Inputs, answer: &mut Answer) {
 }
 
 /// Appends the octets of the location that tokens spell.
-fn take<B: OctetsBuilder>(
+fn parse<B: OctetsBuilder>(
     tokens: &[EntryToken<'_>],
     end: usize,
     target: &mut B,
@@ -32,7 +32,7 @@ fn take<B: OctetsBuilder>(
 fn octets(text: &[u8], answer: &mut Answer) {
     let tokens = tokens_of(text, answer);
     let mut target: Octets = Vec::new(answer.heap());
-    match take(tokens.as_slice(), text.len(), &mut target) {
+    match parse(tokens.as_slice(), text.len(), &mut target) {
         Ok(()) => answer.add(target.as_slice()),
         Err(error) => {
             answer.refuse(&error);
@@ -62,7 +62,7 @@ impl fmt::Display for Shown<'_> {
 fn spells(text: &[u8], octets: &[u8], answer: &mut Answer) -> bool {
     let tokens = tokens_of(text, answer);
     let mut target: Vec<u8> = Vec::new(answer.alloc());
-    let made = take(tokens.as_slice(), text.len(), &mut target);
+    let made = parse(tokens.as_slice(), text.len(), &mut target);
     made.is_ok() && target.as_slice() == octets
 }
 

@@ -8,7 +8,7 @@ use std::fmt;
 use test_support::Answer;
 
 /// Appends the octets of the parameters that tokens spell.
-fn take<B: OctetsBuilder + AsOctetsMut>(
+fn parse<B: OctetsBuilder + AsOctetsMut>(
     tokens: &[EntryToken<'_>],
     end: usize,
     target: &mut B,
@@ -26,7 +26,7 @@ pub fn read(text: &[u8], answer: &mut Answer) {
         return answer.refuse(&error);
     }
     let mut target: Octets = Vec::new(answer.heap());
-    match take(tokens.as_slice(), text.len(), &mut target) {
+    match parse(tokens.as_slice(), text.len(), &mut target) {
         Ok(()) => answer.add(target.as_slice()),
         Err(error) => answer.refuse(&error),
     }
@@ -60,7 +60,7 @@ fn spells(text: &[u8], octets: &[u8], answer: &Answer) -> bool {
         return false;
     }
     let mut target: Vec<u8> = Vec::new(answer.alloc());
-    let made = take(tokens.as_slice(), text.len(), &mut target);
+    let made = parse(tokens.as_slice(), text.len(), &mut target);
     made.is_ok() && target.as_slice() == octets
 }
 

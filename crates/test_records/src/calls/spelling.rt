@@ -75,7 +75,7 @@ fn spell_octets(text: &[u8], answer: &mut Answer) {
 }
 
 /// Returns the octets of a character string or a tag after its length.
-fn behind_length<'a>(width: Option<usize>, octets: &'a [u8], answer: &mut Answer) -> &'a [u8] {
+fn after_length<'a>(width: Option<usize>, octets: &'a [u8], answer: &mut Answer) -> &'a [u8] {
     if width != Some(octets.len()) {
         answer.fail(Failure::BadInputs);
     }
@@ -91,11 +91,11 @@ fn print_octets(octets: &[u8], answer: &mut Answer) {
 }
 
 fn print_string(octets: &[u8], answer: &mut Answer) {
-    let string = behind_length(string_width(octets), octets, answer);
+    let string = after_length(string_width(octets), octets, answer);
     answer.add_shown(&QuotedOctets(string));
 }
 
 fn print_tag(octets: &[u8], answer: &mut Answer) {
-    let tag = behind_length(tag_width(octets), octets, answer);
+    let tag = after_length(tag_width(octets), octets, answer);
     answer.add_shown(&TagText(tag));
 }

@@ -1,7 +1,5 @@
 //! Record types of an author, and calls that parse all remaining tokens.
 use super::dnstext::words_of;
-use custom_examples::caa::Caa;
-use custom_examples::mx::Mx;
 use dns_text::document::split;
 use dns_text::record::{
     RecordData, base64_rest, hex_rest, record_reads_back, record_reads_back_in_room, scan_five,
@@ -11,6 +9,8 @@ use dns_text::scan::{EntryScanner, Scanner, ScannerError, StrError, entry_scanne
 use dns_text::wire::Ttl;
 use dns_text::zonefile_fmt::{DisplayKind, ZonefileFmt};
 use std::alloc::{AllocError, Allocator};
+use test_api::caa::Caa;
+use test_api::mx::Mx;
 use test_support::{Answer, Failure, Heap, Inputs};
 
 /// Octets whose allocator may fail one allocation.

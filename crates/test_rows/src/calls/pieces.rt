@@ -8,9 +8,9 @@ use test_support::input::number_of;
 use test_support::{Answer, Failure};
 
 /// A piece or the error.
-type Given = Result<Piece, Fault>;
+type PieceResult = Result<Piece, Fault>;
 
-fn list(alloc: Global, pieces: Pieces) -> Result<Vec<Given>, AllocError> {
+fn list(alloc: Global, pieces: Pieces) -> Result<Vec<PieceResult>, AllocError> {
     let mut given = Vec::new(alloc);
     for piece in pieces {
         given.push(piece)?;
@@ -19,7 +19,7 @@ fn list(alloc: Global, pieces: Pieces) -> Result<Vec<Given>, AllocError> {
 }
 
 /// Returns whether an iterator yields these.
-fn does_yield(pieces: Pieces, wanted: &[Given]) -> bool {
+fn does_yield(pieces: Pieces, wanted: &[PieceResult]) -> bool {
     let mut place: usize = 0;
     let mut are_same = true;
     for piece in pieces {
@@ -30,7 +30,7 @@ fn does_yield(pieces: Pieces, wanted: &[Given]) -> bool {
 }
 
 /// Returns the next piece, or `None` if the position isn't one of these octets.
-fn next(octets: &[u8], standing: &mut CursorState) -> Option<Given> {
+fn next(octets: &[u8], standing: &mut CursorState) -> Option<PieceResult> {
     if standing.at > octets.len() || standing.depth > standing.at {
         return None;
     }
@@ -38,7 +38,7 @@ fn next(octets: &[u8], standing: &mut CursorState) -> Option<Given> {
 }
 
 /// Returns whether the pieces are yielded one by one, then none, and the position stays.
-fn yields_each(octets: &[u8], wanted: &[Given]) -> bool {
+fn yields_each(octets: &[u8], wanted: &[PieceResult]) -> bool {
     let mut standing = CursorState::at_entry(0);
     for piece in wanted {
         if next(octets, &mut standing) != Some(*piece) {
@@ -50,7 +50,7 @@ fn yields_each(octets: &[u8], wanted: &[Given]) -> bool {
 }
 
 /// Returns whether each entry is known to begin with a blank, or not to, before its end.
-fn reports_blanks(octets: &[u8], wanted: &[Given]) -> bool {
+fn reports_blanks(octets: &[u8], wanted: &[PieceResult]) -> bool {
     let mut pieces = Pieces::of_octets(octets);
     for piece in wanted {
         let is_blank = pieces.begins_blank();
@@ -65,7 +65,7 @@ fn reports_blanks(octets: &[u8], wanted: &[Given]) -> bool {
 }
 
 /// Returns whether an iterator that begins there yields the rest, of octets and of a text.
-fn continues(octets: &[u8], at: usize, left: &[Given]) -> bool {
+fn continues(octets: &[u8], at: usize, left: &[PieceResult]) -> bool {
     if at > octets.len() || !does_yield(Pieces::of_octets_starting_at(octets, at), left) {
         return false;
     }
@@ -76,7 +76,7 @@ fn continues(octets: &[u8], at: usize, left: &[Given]) -> bool {
 }
 
 /// Checks that from each end but the last the rest is yielded.
-fn check_ends(octets: &[u8], whole: &[Given], answer: &mut Answer) {
+fn check_ends(octets: &[u8], whole: &[PieceResult], answer: &mut Answer) {
     for (place, piece) in whole.iter().enumerate() {
         let left = whole.get(place.saturating_add(1)..).unwrap_or_default();
         if let Ok(Piece::End(end)) = piece
@@ -89,7 +89,7 @@ fn check_ends(octets: &[u8], whole: &[Given], answer: &mut Answer) {
 
 /// Returns the number of pieces up to the last end that is followed by more, and the offset of that
 /// end.
-fn ended(given: &[Given]) -> (usize, usize) {
+fn ended(given: &[PieceResult]) -> (usize, usize) {
     let mut last = (0, 0);
     for (place, piece) in given.iter().enumerate() {
         let count = place.saturating_add(1);
@@ -104,7 +104,7 @@ fn ended(given: &[Given]) -> (usize, usize) {
 
 /// Returns whether a chunk whose pieces end with an error needs more, or has the error of all
 /// octets.
-fn needs_more_or_ends(block: &[u8], given: &[Given], whole: &[Given]) -> bool {
+fn needs_more_or_ends(block: &[u8], given: &[PieceResult], whole: &[PieceResult]) -> bool {
     match given.last() {
         Some(Err(fault)) => fault.needs_more(block) || whole.last() == given.last(),
         _ => true,
@@ -113,7 +113,12 @@ fn needs_more_or_ends(block: &[u8], given: &[Given], whole: &[Given]) -> bool {
 
 /// Returns whether a chunk at the beginning of the octets yields the entries that have ended, and
 /// the rest of it with the octets after it the others.
-fn yields_in_two(octets: &[u8], block: &[u8], given: &[Given], whole: &[Given]) -> bool {
+fn yields_in_two(
+    octets: &[u8],
+    block: &[u8],
+    given: &[PieceResult],
+    whole: &[PieceResult],
+) -> bool {
     let (count, at) = ended(given);
     whole.get(..count) == given.get(..count)
         && continues(octets, at, whole.get(count..).unwrap_or_default())
@@ -121,7 +126,7 @@ fn yields_in_two(octets: &[u8], block: &[u8], given: &[Given], whole: &[Given]) 
 }
 
 /// Checks the octets in two chunks, cut at each offset.
-fn check_blocks(octets: &[u8], whole: &[Given], answer: &mut Answer) {
+fn check_blocks(octets: &[u8], whole: &[PieceResult], answer: &mut Answer) {
     for cut in 0..=octets.len() {
         let block = &octets[..cut];
         match list(answer.alloc(), Pieces::of_octets(block)) {
@@ -147,7 +152,7 @@ fn is_part(text: &str, span: Span) -> bool {
 }
 
 /// Checks that a text yields the pieces of its octets, and that each denotes a part of it.
-fn check_text(text: &str, whole: &[Given], answer: &mut Answer) {
+fn check_text(text: &str, whole: &[PieceResult], answer: &mut Answer) {
     answer.check(does_yield(Pieces::new(text), whole));
     for piece in whole {
         if let Ok(Piece::Word(span) | Piece::Quote(span) | Piece::Comment(span)) = piece {
@@ -157,7 +162,7 @@ fn check_text(text: &str, whole: &[Given], answer: &mut Answer) {
 }
 
 /// Checks the other ways to find the pieces.
-fn check_ways(octets: &[u8], whole: &[Given], answer: &mut Answer) {
+fn check_ways(octets: &[u8], whole: &[PieceResult], answer: &mut Answer) {
     answer.check(yields_each(octets, whole));
     answer.check(reports_blanks(octets, whole));
     check_ends(octets, whole, answer);
@@ -167,7 +172,7 @@ fn check_ways(octets: &[u8], whole: &[Given], answer: &mut Answer) {
     }
 }
 
-fn add_yielded(piece: Given, answer: &mut Answer) {
+fn add_yielded(piece: PieceResult, answer: &mut Answer) {
     match piece {
         Ok(piece) => add_named_piece(piece, answer),
         Err(fault) => add_fault(fault, answer),

@@ -157,7 +157,7 @@ fn lint_block(octets: &[u8], answer: &mut Answer) {
     let octets = few(octets, answer);
     let block = Block {
         is_last: true,
-        tells_crlf: true,
+        reports_crlf: true,
     };
     let mut found = Vec::new(answer.heap());
     if lint(octets, block, &mut found).is_err() {

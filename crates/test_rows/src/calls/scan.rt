@@ -115,7 +115,11 @@ where
 }
 
 /// Parses octets of one kind or another.
-fn take_octets<S: Scanner<Error = StrError>>(scanner: &mut S, step: &str, answer: &mut Answer)
+fn scan_one_of_octets<S: Scanner<Error = StrError>>(
+    scanner: &mut S,
+    step: &str,
+    answer: &mut Answer,
+)
 where
     S::Octets: Drop,
     S::Name: AsOctets + Drop,
@@ -161,7 +165,7 @@ where
         "u64" => add_value(u64::scan(scanner), answer),
         "u128" => add_value(u128::scan(scanner), answer),
         "ttl" => add_value(scan_seconds(scanner), answer),
-        _ => take_octets(scanner, step, answer),
+        _ => scan_one_of_octets(scanner, step, answer),
     }
 }
 
@@ -203,7 +207,7 @@ where
 }
 
 /// Adds a symbol with a bar, and rejects one that is a dollar sign.
-fn take_symbol(symbol: Symbol, answer: &mut Answer) -> Result<(), StrError> {
+fn add_symbol_or_reject(symbol: Symbol, answer: &mut Answer) -> Result<(), StrError> {
     if symbol == Symbol::Char('$') {
         return Err(StrError::custom("enough"));
     }
@@ -217,7 +221,7 @@ fn hand_over<S: Scanner<Error = StrError>>(scanner: &mut S, answer: &mut Answer)
     requires { S.can_scan scanner.old }
     ensures { S.can_scan scanner.new }
 {
-    let mut op = |symbol: Symbol| -> Result<(), StrError> { take_symbol(symbol, answer) };
+    let mut op = |symbol: Symbol| -> Result<(), StrError> { add_symbol_or_reject(symbol, answer) };
     let ended = scanner.scan_symbols(&mut op);
     add_end(ended, answer);
 }
@@ -229,7 +233,7 @@ fn hand_all_over<S: Scanner<Error = StrError>>(scanner: &mut S, answer: &mut Ans
 {
     let mut op = |symbol: EntrySymbol| -> Result<(), StrError> {
         match symbol {
-            EntrySymbol::Symbol(symbol) => take_symbol(symbol, answer),
+            EntrySymbol::Symbol(symbol) => add_symbol_or_reject(symbol, answer),
             EntrySymbol::EndOfToken => {
                 answer.add_text("/");
                 Ok(())

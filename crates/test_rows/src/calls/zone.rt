@@ -354,7 +354,7 @@ fn layout(kind: DisplayKind, words: &[Vec<u8>], answer: &mut Answer) {
 
 /// Returns whether a sink with a limit of writes accepts all of a value's text; else it has a
 /// prefix of it.
-fn takes(value: &impl fmt::Display, text: &str, writes: usize, answer: &mut Answer) -> bool {
+fn accepts(value: &impl fmt::Display, text: &str, writes: usize, answer: &mut Answer) -> bool {
     let mut sink = Sink::new(answer.alloc(), writes);
     let is_taken = write!(sink, "{value}").is_ok();
     let is_begun = sink.has_refused && text.starts_with(sink.text.as_str());
@@ -380,7 +380,7 @@ fn print_failing(kind: DisplayKind, words: &[Vec<u8>], answer: &mut Answer) {
     };
     let mut is_taken = false;
     for writes in 0..200 {
-        is_taken = takes(&display, text.as_str(), writes, answer);
+        is_taken = accepts(&display, text.as_str(), writes, answer);
         if is_taken {
             answer.hold(5 < writes);
             break;

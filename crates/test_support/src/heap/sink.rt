@@ -6,7 +6,7 @@ use std::fmt;
 #[derive(Drop)]
 pub struct Sink {
     /// Number of writes that it still accepts.
-    pub left: usize,
+    pub remaining: usize,
     /// Whether it has failed one.
     pub has_refused: bool,
     /// The text that was written.
@@ -14,10 +14,10 @@ pub struct Sink {
 }
 
 impl Sink {
-    /// Returns a sink that accepts `left` writes.
-    pub fn new(alloc: Global, left: usize) -> Sink {
+    /// Returns a sink that accepts `remaining` writes.
+    pub fn new(alloc: Global, remaining: usize) -> Sink {
         Sink {
-            left,
+            remaining,
             has_refused: false,
             text: String::new(alloc),
         }
@@ -26,11 +26,11 @@ impl Sink {
 
 impl fmt::Write for Sink {
     fn write_str(&mut self, text: &str) -> fmt::Result {
-        let Some(left) = self.left.checked_sub(1) else {
+        let Some(remaining) = self.remaining.checked_sub(1) else {
             self.has_refused = true;
             return Err(fmt::Error);
         };
-        self.left = left;
+        self.remaining = remaining;
         match self.text.push_str(text) {
             Ok(()) => Ok(()),
             Err(_) => Err(fmt::Error),

@@ -21,7 +21,7 @@ impl RecordData {
     /// let data = RecordData::from_text(RecordType::MX, b"10 mail", Some(&origin))?;
     /// assert_eq!(data.to_text()?, "10 mail.example.");
     /// let fault = RecordData::from_text(RecordType::MX, b"10", None).unwrap_err();
-    /// assert_eq!(fault.to_string(), "MX exchange: unexpected end of entry at 2");
+    /// assert_eq!(fault.to_string(), "MX: exchange: unexpected end of entry at 2");
     /// # Ok::<(), Box<dyn std::error::Error>>(())
     /// ```
     pub fn from_text(

@@ -1,8 +1,8 @@
 //! The records of a zone file from a `BufRead`.
 use super::window::Window;
-use super::StreamError;
-use crate::records::{RelativeOrigin, ZoneItem, ZoneState};
-use crate::{pieces, Class, Name, PieceKind, Position, RecordFault};
+use super::{FollowedRecords, StreamError};
+use crate::records::{RelativeOrigin, RelativeOwner, ZoneItem, ZoneState};
+use crate::{pieces, Class, Name, PieceKind, Position, RecordFault, Ttl};
 use std::io::BufRead;
 use std::iter::FusedIterator;
 
@@ -27,7 +27,7 @@ type Found = Option<Result<ZoneItem, RecordFault>>;
 /// let Some(Ok(ZoneItem::Record(mx))) = found.next() else { panic!() };
 /// assert_eq!((mx.owner.to_string(), mx.ttl.seconds()), ("example.".to_string(), 3600));
 /// let error = found.next().unwrap().unwrap_err();
-/// assert_eq!(error.to_string(), "3:8: A address: expected IPv4 address");
+/// assert_eq!(error.to_string(), "3:8: A: address: expected IPv4 address");
 /// let Some(Ok(ZoneItem::Record(a))) = found.next() else { panic!() };
 /// assert_eq!(a.data, RecordData::A("192.0.2.1".parse()?));
 /// assert_eq!(found.locate(a.place).unwrap().to_string(), "4:3");
@@ -61,6 +61,82 @@ impl<R> RecordReader<R> {
     pub fn with_class(mut self, class: Class) -> Self {
         self.state.set_class(class);
         self
+    }
+
+    /// Sets the default TTL, as `$TTL` does (RFC 2308 section 4).
+    pub fn with_default_ttl(mut self, ttl: Ttl) -> Self {
+        self.state.set_default_ttl(ttl);
+        self
+    }
+
+    /// Sets the owner of records that begin with a blank, up to the first record with an owner. Fails if it
+    /// is a relative name.
+    pub fn with_owner(mut self, owner: &Name) -> Result<Self, RelativeOwner> {
+        self.state.set_owner(owner)?;
+        Ok(self)
+    }
+
+    /// Returns the origin that applies to the next entry, if there is one.
+    pub fn origin(&self) -> Option<Name> {
+        self.state.origin()
+    }
+
+    /// Returns the records of an included file, as [`Records::include`](crate::Records::include) does.
+    pub fn include<S>(
+        &self,
+        origin: Option<&Name>,
+        reader: S,
+    ) -> Result<RecordReader<S>, RelativeOrigin> {
+        Ok(RecordReader {
+            window: Window::new(reader),
+            state: self.state.included(origin)?,
+            is_done: false,
+        })
+    }
+
+    /// Applies the default TTL and the last TTL of an included file to the entries after it, as BIND does.
+    pub fn copy_ttls<S>(&mut self, included: &RecordReader<S>) {
+        self.state.copy_ttls(&included.state);
+    }
+
+    /// Returns the records of this file and of the files that it includes. `open` opens a file, by its name
+    /// in the text. See [`FollowedRecords`].
+    ///
+    /// ```no_run
+    /// use dns_text::read_records;
+    /// use std::{fs::File, io::BufReader, path::Path};
+    ///
+    /// let open = |name: &str| File::open(Path::new("zones").join(name)).map(BufReader::new);
+    /// let found = read_records(open("example.zone")?).with_origin(&"example.".parse()?)?;
+    /// for record in found.follow_includes(|name| open(&String::from_utf8_lossy(name))) {
+    ///     match record {
+    ///         Ok(record) => println!("{}", record.owner),
+    ///         Err(error) => eprintln!("{error}"),
+    ///     }
+    /// }
+    /// # Ok::<(), Box<dyn std::error::Error>>(())
+    /// ```
+    pub fn follow_includes<F, T, E>(self, open: F) -> FollowedRecords<R, F>
+    where
+        F: FnMut(&[u8]) -> Result<T, E>,
+        T: Into<R>,
+    {
+        FollowedRecords::new(self, open)
+    }
+
+    /// Returns a reader that continues at an offset.
+    pub(crate) fn resumed(
+        reader: R,
+        state: ZoneState,
+        place: usize,
+        position: Option<Position>,
+    ) -> RecordReader<R> {
+        let start = Position { line: 1, column: 1 };
+        RecordReader {
+            window: Window::starting_at(reader, place, position.unwrap_or(start)),
+            state,
+            is_done: false,
+        }
     }
 
     /// Returns line and column of an offset in the last item, such as where a record begins.

@@ -30,10 +30,15 @@ pub(super) struct Window<R> {
 
 impl<R> Window<R> {
     pub(super) fn new(reader: R) -> Window<R> {
+        Window::starting_at(reader, 0, Position { line: 1, column: 1 })
+    }
+
+    /// Returns an empty window whose first octet has an offset and a position.
+    pub(super) fn starting_at(reader: R, place: usize, position: Position) -> Window<R> {
         let start = Mark {
             held: 0,
-            place: 0,
-            position: Position { line: 1, column: 1 },
+            place,
+            position,
         };
         Window {
             reader,

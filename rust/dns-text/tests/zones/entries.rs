@@ -59,7 +59,7 @@ fn refusal_of(fault: &RecordFault) -> String {
 fn agrees(wanted: &str, found: &Result<ZoneItem, (RecordFault, Position)>) -> bool {
     match found {
         Err((fault, _)) => refusal_of(fault) == wanted,
-        Ok(ZoneItem::Include { file, origin }) => {
+        Ok(ZoneItem::Include { file, origin, .. }) => {
             let mut octets = [b"include ", file.as_slice()].concat();
             if let Some(origin) = origin {
                 octets.push(b' ');

@@ -19,7 +19,7 @@ returns-then-is_err-clause-err g c =
     let read = c.in-Some.ensures in
     inl (
       refl,
-      hash_lacks g.B.OctetsBuilder.room c.args.text.now c.read_base32hex.new.octets c.behind_length-wire.result (g.B.AsOctets.octets c.args.target.now) c.in-Some.count read.0 read.1 c.behind_length-wire.ensures
+      hash_lacks g.B.OctetsBuilder.room c.args.text.now c.read_base32hex.new.octets c.with_length-wire.result (g.B.AsOctets.octets c.args.target.now) c.in-Some.count read.0 read.1 c.with_length-wire.ensures
           (λ fits. not_ok c.append_slice.result c.if-is_err.ensures.value (c.append_slice.ensures.fits fits)),
     )
 
@@ -30,7 +30,7 @@ returns-clause-ok g c =
     let hash : List ℕ = c.read_base32hex.new.octets in
     let size = c.read_base32hex.auto.octets in
     let short : n < 256 = omega (arith, read.1, size) in
-    let wire = wire_of n c.behind_length-wire.result hash c.behind_length-wire.ensures in (
+    let wire = wire_of n c.with_length-wire.result hash c.with_length-wire.ensures in (
       n ∷ take n hash,
       hash_wire c.args.text.now hash n read.0 c.if-count-gt0.true read.1 short,
       at_no_err c.append_slice.result _ (sym c.if-is_err.ensures.value) c.append_slice.ensures.ok ∙ ap (λ t. g.B.AsOctets.octets c.args.target.now ++ t) wire,

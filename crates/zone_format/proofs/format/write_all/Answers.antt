@@ -23,9 +23,9 @@ loop-piece-init g c =
       within = within;
       order = follow octets c.into_iter-piece-iterator.result (subst (ReadsOctets octets) (sym same) given.reads) within;
       tokens = λ s e k. k;
-      fits = first_fits c.args.out.now.items c.blank_at.result (blank_at octets 0) c.led_if.result c.stand.result c.args.seam c.stand.ensures c.led_if.ensures c.blank_at.ensures;
-      reaches = first_reaches octets c.blank_at.result (blank_at octets 0) c.led_if.result c.stand.result c.args.seam c.stand.ensures c.led_if.ensures c.blank_at.ensures;
-      stand = refl;
+      fits = first_fits c.args.out.now.items c.blank_at.result (blank_at octets 0) c.led_if.result c.line_state.result c.args.seam c.line_state.ensures c.led_if.ensures c.blank_at.ensures;
+      reaches = first_reaches octets c.blank_at.result (blank_at octets 0) c.led_if.result c.line_state.result c.args.seam c.line_state.ensures c.led_if.ensures c.blank_at.ensures;
+      line_state = refl;
       out = refl;
       accepted = refl;
     }
@@ -94,14 +94,14 @@ returns-clause-well g c =
     let z = resting c.args.seam in
     let p = c.loop-piece.progress in
     let last = marks octets p.is_token p.at in
-    let ended : written_from p.stand (last (pieces_in c.loop-piece.piece-iterator)) ≡ _ = ap (λ l. written_from p.stand (last (pieces_in l))) over in
-    let taken : accepts_from p.stand (last (pieces_in c.loop-piece.piece-iterator)) ≡ _ = ap (λ l. accepts_from p.stand (last (pieces_in l))) over in
-    let stood : state_after p.stand (last (pieces_in c.loop-piece.piece-iterator)) ≡ _ = ap (λ l. state_after p.stand (last (pieces_in l))) over in
+    let ended : written_from p.line_state (last (pieces_in c.loop-piece.piece-iterator)) ≡ _ = ap (λ l. written_from p.line_state (last (pieces_in l))) over in
+    let taken : accepts_from p.line_state (last (pieces_in c.loop-piece.piece-iterator)) ≡ _ = ap (λ l. accepts_from p.line_state (last (pieces_in l))) over in
+    let stood : state_after p.line_state (last (pieces_in c.loop-piece.piece-iterator)) ≡ _ = ap (λ l. state_after p.line_state (last (pieces_in l))) over in
     record {
       marks = lead b ++ ms;
       read = (found, whole_of octets c.into_iter-piece-iterator.result (subst (ReadsOctets octets) (sym same) c.of_octets-piece-items.ensures.reads) none, subst (λ l. EachWithin (length octets) l) (all_ok c.into_iter-piece-iterator.result none) (subst (EachWithin (length octets)) (sym same) c.of_octets-piece-items.ensures.within), refl);
-      accepted = sym (first_goes accepts_from (λ s m. refl) c.blank_at.result b c.led_if.result c.stand.result z ms c.stand.ensures c.led_if.ensures c.blank_at.ensures) ∙ sym inv.accepted ∙ taken;
+      accepted = sym (first_goes accepts_from (λ s m. refl) c.blank_at.result b c.led_if.result c.line_state.result z ms c.line_state.ensures c.led_if.ensures c.blank_at.ensures) ∙ sym inv.accepted ∙ taken;
       out = ap (λ l. c.loop-piece.out.items ++ l) (sym ended) ∙ inv.out
-          ∙ ap (λ l. c.args.out.now.items ++ l) (first_goes written_from (λ s m. refl) c.blank_at.result b c.led_if.result c.stand.result z ms c.stand.ensures c.led_if.ensures c.blank_at.ensures);
-      stand = sym stood ∙ inv.stand ∙ first_goes state_after (λ s m. refl) c.blank_at.result b c.led_if.result c.stand.result z ms c.stand.ensures c.led_if.ensures c.blank_at.ensures;
+          ∙ ap (λ l. c.args.out.now.items ++ l) (first_goes written_from (λ s m. refl) c.blank_at.result b c.led_if.result c.line_state.result z ms c.line_state.ensures c.led_if.ensures c.blank_at.ensures);
+      line_state = sym stood ∙ inv.line_state ∙ first_goes state_after (λ s m. refl) c.blank_at.result b c.led_if.result c.line_state.result z ms c.line_state.ensures c.led_if.ensures c.blank_at.ensures;
     }

@@ -10,4 +10,4 @@ push_token-requires-clause-room g c =
 
 pub returns-clause-well : goal.returns-clause-well
 returns-clause-well g c =
-    writes_token c.args.octets.now _ _ _ _ _ c.args.progress c.args.span _ _ c.in_ok-stand.ensures c.of_octets-token.ensures c.glues-is_adjacent.ensures c.in_ok-accept.ensures.well c.in_ok-push_token.ensures c.requires.reaches c.requires.order c.requires.some c.requires.within
+    writes_token c.args.octets.now _ _ _ _ _ c.args.progress c.args.span _ _ c.in_ok-line_state.ensures c.of_octets-token.ensures c.glues-is_adjacent.ensures c.in_ok-accept.ensures.well c.in_ok-push_token.ensures c.requires.reaches c.requires.order c.requires.some c.requires.within

@@ -11,13 +11,13 @@ token_column-column-requires-clause-room g c = omega (arith, c.requires.fits.few
 pub returns : goal.returns
 returns g c =
     let old = c.args.out.now.items in
-    let s = c.args.stand in
+    let s = c.args.line_state in
     let x = c.args.token.now in
     let glued = c.args.is_adjacent in
     let out : c.extend_from_slice.new.self.items ≡ old ++ (token_before s glued x ++ x) =
     c.in_ok-extend_from_slice.ensures.items ∙ ap (λ l. l ++ x) (c.in_ok-push_before.ensures ∙ ap (λ n. old ++ blanks_before s n) c.token_column-column.ensures.column) ∙ append_assoc old (token_before s glued x) x in
     record {
-      stand = c.after_token.ensures;
+      line_state = c.after_token.ensures;
       out = out;
       fits = subst (LineFits c.extend_from_slice.new.self.items) (sym c.after_token.ensures) (token_fits old s glued x c.extend_from_slice.new.self.items (count_by-le-length begins_character x) c.requires.fits out);
     }

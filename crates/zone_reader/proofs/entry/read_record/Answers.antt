@@ -16,10 +16,10 @@ returns-clause-reads g c =
     let words = c.parse_header-words.result in
     let first = c.find_owner-owner.result in
     let same = ap (λ e. e.at) (c.parse_header-words.ensures.end ∙ c.find_owner-owner.ensures.end) in
-    λ some. record_joined c.args.state.now c.find_owner-owner.new.state c.set_ttl.new.state c.read_behind.new.state room c.args.begins_blank c.place-at.result end (left c.args.source.now) rest first words c.own_ttl.result
-    (octets c.args.target.now) (octets c.read_behind.new.target) c.read_behind.result c.place-at.ensures (c.find_owner-owner.ensures.reads some) c.find_owner-owner.ensures.state (c.find_owner-owner.ensures.learns some)
+    λ some. record_joined c.args.state.now c.find_owner-owner.new.state c.set_ttl.new.state c.read_after_header.new.state room c.args.begins_blank c.place-at.result end (left c.args.source.now) rest first words c.own_ttl.result
+    (octets c.args.target.now) (octets c.read_after_header.new.target) c.read_after_header.result c.place-at.ensures (c.find_owner-owner.ensures.reads some) c.find_owner-owner.ensures.state (c.find_owner-owner.ensures.learns some)
     (subst (λ n. ParsesHeader n (tokens_after_owner c.args.begins_blank (left c.args.source.now)) words rest) (ap (λ e. e.at) c.find_owner-owner.ensures.end)
     (subst (λ l. ParsesHeader (ends c.find_owner-owner.new.source).at l words rest) c.find_owner-owner.ensures.left c.parse_header-words.ensures.takes))
     c.own_ttl.ensures c.set_ttl.ensures.state c.set_ttl.ensures.learns
-    (subst (λ n. ReadsWords c.set_ttl.new.state room c.place-at.result n first words rest (octets c.args.target.now) c.read_behind.result (octets c.read_behind.new.target)) same c.read_behind.ensures.reads)
-    c.read_behind.ensures.extends c.read_behind.ensures.owner c.read_behind.ensures.learns
+    (subst (λ n. ReadsWords c.set_ttl.new.state room c.place-at.result n first words rest (octets c.args.target.now) c.read_after_header.result (octets c.read_after_header.new.target)) same c.read_after_header.ensures.reads)
+    c.read_after_header.ensures.extends c.read_after_header.ensures.owner c.read_after_header.ensures.learns

@@ -9,23 +9,23 @@ use Rattle.zone_record.proofs.names.compare_level.Goals as goal
 pub loop-left_rest-init : goal.loop-left_rest-init
 loop-left_rest-init c = level_none c.args.left.now c.args.right.now c.args.otherwise c.requires
 
-pub front_label-first-requires : goal.front_label-first-requires
-front_label-first-requires c =
+pub split_label-first-requires : goal.split_label-first-requires
+split_label-first-requires c =
     level_left _ _ _ c.loop-left_rest.left_rest.now _ _ c.loop-left_rest.invariant (omega (arith, eqb-false (length c.loop-left_rest.left_rest.now) 0 (sym c.loop-left_rest-test.ensures)))
 
-pub front_label-second-requires : goal.front_label-second-requires
-front_label-second-requires c =
+pub split_label-second-requires : goal.split_label-second-requires
+split_label-second-requires c =
     level_right _ _ _ c.loop-left_rest.left_rest.now _ _ c.loop-left_rest.invariant (omega (arith, eqb-false (length c.loop-left_rest.left_rest.now) 0 (sym c.loop-left_rest-test.ensures)))
 
 pub loop-left_rest-smaller : goal.loop-left_rest-smaller
-loop-left_rest-smaller c = omega (arith, ap length c.front_label-first.ensures, length-append c.front_label-first.result.label.now c.front_label-first.result.rest.now)
+loop-left_rest-smaller c = omega (arith, ap length c.split_label-first.ensures, length-append c.split_label-first.result.label.now c.split_label-first.result.rest.now)
 
 pub loop-left_rest-preserved : goal.loop-left_rest-preserved
 loop-left_rest-preserved c =
     let order = c.then-order.ensures ∙ ap (λ o. ordering_then o c.loop-left_rest.order) c.compare_label.ensures in
-    subst (LevelWalk c.args.left.now c.args.right.now c.args.otherwise c.front_label-first.result.rest.now c.front_label-second.result.rest.now) (sym order)
-    (level_more _ _ _ c.loop-left_rest.left_rest.now c.loop-left_rest.right_rest.now c.loop-left_rest.order c.front_label-first.result.label.now c.front_label-first.result.rest.now c.front_label-second.result.label.now c.front_label-second.result.rest.now
-    c.loop-left_rest.invariant c.front_label-first.ensures c.front_label-second.ensures)
+    subst (LevelWalk c.args.left.now c.args.right.now c.args.otherwise c.split_label-first.result.rest.now c.split_label-second.result.rest.now) (sym order)
+    (level_more _ _ _ c.loop-left_rest.left_rest.now c.loop-left_rest.right_rest.now c.loop-left_rest.order c.split_label-first.result.label.now c.split_label-first.result.rest.now c.split_label-second.result.label.now c.split_label-second.result.rest.now
+    c.loop-left_rest.invariant c.split_label-first.ensures c.split_label-second.ensures)
 
 pub returns-then-eq : goal.returns-then-eq
 returns-then-eq c = level_same _ _ _ c.loop-left_rest.left_rest.now c.loop-left_rest.right_rest.now _ c.loop-left_rest.invariant (same_text _ _ (c.if-eq.ensures))

@@ -14,8 +14,8 @@ compare_level-requires c =
     let n = c.count_labels-right_count.ensures b.labels b.whole in (
       drop i a.labels,
       drop j b.labels,
-      c.behind_labels.ensures a.labels a.whole,
-      c.behind_labels-2.ensures b.labels b.whole,
+      c.after_label_count.ensures a.labels a.whole,
+      c.after_label_count-2.ensures b.labels b.whole,
       omega (arith, m, n, c.min-shared.ensures, length-drop i a.labels, length-drop j b.labels),
     )
 
@@ -23,6 +23,6 @@ pub returns : goal.returns
 returns c = λ a b p q.
     let i = c.count_labels-left_count.result - c.min-shared.result in
     let j = c.count_labels-right_count.result - c.min-shared.result in
-    c.compare_level.ensures (drop i a) (drop j b) (c.behind_labels.ensures a p) (c.behind_labels-2.ensures b q)
+    c.compare_level.ensures (drop i a) (drop j b) (c.after_label_count.ensures a p) (c.after_label_count-2.ensures b q)
     ∙ ap (ordering_then (name_order (drop i a) (drop j b))) c.cmp.ensures
     ∙ sym (order_level a b c.count_labels-left_count.result c.count_labels-right_count.result c.min-shared.result (c.count_labels-left_count.ensures a p) (c.count_labels-right_count.ensures b q) c.min-shared.ensures)

@@ -9,20 +9,20 @@ pub returns-then-is_empty : goal.returns-then-is_empty
 returns-then-is_empty t c = λ labels h.
     key_none c.args.key.now.items c.args.octets.now labels h (eqb-true (length c.args.octets.now) 0 (sym c.is_empty.ensures ∙ c.if-is_empty.true))
 
-pub front_label-first-requires : goal.front_label-first-requires
-front_label-first-requires t c =
+pub split_label-first-requires : goal.split_label-first-requires
+split_label-first-requires t c =
     walked_begins _ c.args.octets.now 0 (walked_none c.args.octets.now 0 c.requires.labels) (omega (arith, eqb-false (length c.args.octets.now) 0 (sym c.is_empty.ensures ∙ c.if-is_empty.false)))
 
 pub put_key_labels-requires : goal.put_key_labels-requires
 put_key_labels-requires t c = (
-  omega (arith, c.decreases, ap length c.front_label-first.ensures, length-append c.front_label-first.result.label.now c.front_label-first.result.rest.now),
-  (rest_labels c.args.octets.now _ _ c.requires.labels c.front_label-first.ensures, rest_room c.args.octets.now c.args.key.now.items _ _ c.requires.room c.front_label-first.ensures),
+  omega (arith, c.decreases, ap length c.split_label-first.ensures, length-append c.split_label-first.result.label.now c.split_label-first.result.rest.now),
+  (rest_labels c.args.octets.now _ _ c.requires.labels c.split_label-first.ensures, rest_room c.args.octets.now c.args.key.now.items _ _ c.requires.room c.split_label-first.ensures),
 )
 
 pub put_key_label-requires : goal.put_key_label-requires
-put_key_label-requires t c = label_room c.args.octets.now c.args.key.now.items _ _ _ c.requires.labels c.requires.room c.front_label-first.ensures c.put_key_labels.ensures
+put_key_label-requires t c = label_room c.args.octets.now c.args.key.now.items _ _ _ c.requires.labels c.requires.room c.split_label-first.ensures c.put_key_labels.ensures
 
 pub returns : goal.returns
 returns t c =
-    key_behind c.args.key.now.items c.put_key_labels.new.key.items _ c.front_label-first.result.label.now c.front_label-first.result.rest.now c.args.octets.now
-    c.front_label-first.ensures c.put_key_labels.ensures c.put_key_label.ensures
+    key_behind c.args.key.now.items c.put_key_labels.new.key.items _ c.split_label-first.result.label.now c.split_label-first.result.rest.now c.args.octets.now
+    c.split_label-first.ensures c.put_key_labels.ensures c.put_key_label.ensures

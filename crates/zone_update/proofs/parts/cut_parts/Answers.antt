@@ -15,7 +15,7 @@ parts-preserved g c =
     let ops = c.args.operations.now in
     let found = c.part_len-count.ensures in
     let some : 0 < c.part_len-count.result = omega (arith, c.if-count-eq0.false) in
-    let made = c.in_ok-push_part.ensures ∙ ap (λ p. seen c.parts.parts.items ++ p ∷ []) c.front_of.ensures in
+    let made = c.in_ok-push_part.ensures ∙ ap (λ p. seen c.parts.parts.items ++ p ∷ []) c.first_operations.ensures in
     subst (λ l. CutsSoFar names c.args.limit ops (seen c.push_part.new.out.items) l) (sym c.rest_after-rest.ensures)
     (next names c.args.limit ops (seen c.parts.parts.items) c.parts.rest.now c.parts.invariant c.part_len-count.result some found.within found.fits (found.whole some) found.longest
     (seen c.push_part.new.out.items) made)

@@ -1,0 +1,5 @@
+pub mod Buffer
+pub mod Contents
+pub mod Digests
+pub mod Errors
+pub mod Rows

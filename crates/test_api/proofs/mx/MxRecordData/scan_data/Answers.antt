@@ -1,0 +1,14 @@
+use Rattle.std.proofs.Common.{[]}
+use Rattle.std.proofs.lemmas.Result.{err_from_is_err_and}
+use Rattle.test_api.proofs.mx.MxRecordData.scan_data.Goals as goal
+
+pub returns-clause-back : goal.returns-clause-back
+returns-clause-back g c = λ x tokens is texts stands. c.in_ok-preference.ensures.fields.back (x.preference, x.exchange) [] tokens [] is.0 texts stands
+
+pub returns-in_err-preference-clause-back : goal.returns-in_err-preference-clause-back
+returns-in_err-preference-clause-back g c = λ x tokens is texts stands.
+    let p = err_from_is_err_and c.from_residual.result c.from_residual.ensures.1 in
+    rw (p.1, p.2) (c.in_err-preference.ensures.fields.back (x.preference, x.exchange) [] tokens [] is.0 texts stands)
+
+pub returns-clause-only : goal.returns-clause-only
+returns-clause-only g c = λ tokens stands. c.in_ok-preference.ensures.fields.only tokens stands

@@ -1,5 +1,0 @@
-use Rattle.zone_record.proofs.NameWalks.{Walked}
-use Rattle.zone_record.proofs.names.behind_labels.Given as goal
-
-abbrev pub invariant-loop : goal.invariant-loop
-invariant-loop l = Walked l.octets l.rest l.counter

@@ -1,7 +1,0 @@
-use Rattle.std.proofs.Common.{drop}
-use Rattle.zone_record.proofs.PartWalks.{PartWalk}
-use Rattle.zone_record.proofs.parts.part_in_front.Given as goal
-
--- the part is the one at the index that is left, among the fields that are left
-abbrev pub invariant-loop-field : goal.invariant-loop-field
-invariant-loop-field l = PartWalk l.fields (drop l.field-index l.fields) l.place l.count l.octets l.rest
