@@ -1,5 +1,7 @@
 -- Worked examples of the definitions, each computed.
 use Rattle.std.specs.Prelude.{◌≡◌, Bool, true, false, List, [], ◌∷◌, map, None, Some, Ok, Err, codes, refl}
+use Rattle.std.specs.Fmt.{decimal}
+use Rattle.dns_codec.specs.Base.{base16, encoded}
 use Rattle.dns_lexer.specs.declared.pieces.Span.{Span}
 use Rattle.zone_edit.specs.declared.place.RecordPlace.{RecordPlace}
 use Rattle.zone_edit.specs.declared.serial.SerialSpelling.TheVariants.{Decimal, Escaped, Generic}
@@ -35,11 +37,11 @@ digest_changes : change_spans (codes "( AB CD ;x\nEF )") (hex_changes digest_spa
     ≡ span_between 2 4 ∷ span_between 4 7 ∷ span_between 11 13 ∷ []
 digest_changes = refl
 
-digest_texts : change_texts (codes "( AB CD ;x\nEF )") (hex_changes digest_spans (171 ∷ []) (1 ∷ 239 ∷ [])) ≡ codes "01EF" ∷ [] ∷ [] ∷ []
+digest_texts : change_texts (codes "( AB CD ;x\nEF )") (hex_changes digest_spans (171 ∷ []) (1 ∷ 239 ∷ [])) ≡ encoded base16 (1 ∷ 239 ∷ []) ∷ [] ∷ [] ∷ []
 digest_texts = refl
 
 -- the same digest, and the same and another serial
-no_changes : map (λ new. change_texts (codes "7") (number_changes (span_between 0 1) 7 new)) (7 ∷ 2026112601 ∷ []) ≡ [] ∷ (codes "2026112601" ∷ []) ∷ []
+no_changes : map (λ new. change_texts (codes "7") (number_changes (span_between 0 1) 7 new)) (7 ∷ 2026112601 ∷ []) ≡ [] ∷ (decimal 2026112601 ∷ []) ∷ []
 no_changes = refl
 
 same_digest : change_spans (codes "( AB CD ;x\nEF )") (hex_changes digest_spans (171 ∷ []) (171 ∷ [])) ≡ []
