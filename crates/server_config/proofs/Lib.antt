@@ -1,3 +1,4 @@
 pub mod ClauseSteps
 pub mod PathSteps
+pub mod PatternSteps
 pub mod TokenSteps

@@ -29,7 +29,7 @@ fn add_fitting(
         return Ok(());
     };
     for name in &names {
-        if fits_path_pattern(pattern.as_bytes(), name.as_str().as_bytes()) {
+        if fits_path_pattern(rt.alloc(), pattern.as_bytes(), name.as_str().as_bytes())? {
             paths.push(joined(rt.alloc(), folder, name.as_str())?)?;
         }
     }
