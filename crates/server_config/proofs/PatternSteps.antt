@@ -1,8 +1,8 @@
 -- Items of patterns and ends of names, one after another.
-use Rattle.std.proofs.Common.{ℕ, zero, suc, ◌≡◌, ◌<◌, ◌≤◌, ◌+◌, ◌-◌, Bool, true, false, ◌&&◌, ◌||◌, ◌==◌, ◌⊎◌, inl, inr, List, [], ◌∷◌, ◌++◌, length, drop, get_or, refl, sym, ap, subst, ◌∙◌, arith}
+use Rattle.std.proofs.Common.{ℕ, zero, suc, ◌≡◌, ◌<◌, ◌≤◌, ◌+◌, ◌-◌, Bool, true, false, ◌&&◌, ◌||◌, ◌==◌, ◌⊎◌, inl, inr, List, [], ◌∷◌, ◌++◌, length, drop, get_or, refl, sym, ap, subst, ◌∙◌, arith, append-nil, drop_of_length-le}
 use Rattle.std.specs.Prelude.{nat_le, nat_lt, if◌then◌else◌}
 use Rattle.std.proofs.lemmas.Bool.{eq-eqb, eqb-true, lt-ltb, ltb-true}
-use Rattle.std.proofs.lemmas.List.{append_assoc, drop-drop, drop_more, length-append}
+use Rattle.std.proofs.lemmas.List.{append_assoc, drop-drop, drop_more, get_or-drop, length-append}
 use Rattle.std.proofs.Math.ListN.{get_or-append}
 use Rattle.std.proofs.Math.Seq.{get_or-append_seam}
 use Rattle.server_config.specs.PathPatterns.{begins_range, end_fits, ends_column, is_in_set, item_at, item_end, item_fits, items_fit, items_from, octet_fits, star_fits}
@@ -41,6 +41,17 @@ items_next pattern at end c item lt octet is ends onwards =
     ∙ ap (λ l. item ∷ l) (items_skip (at + 1) (end - (at + 1)) p ∙ ap (λ k. items_from k k (drop (end - (at + 1)) p)) (sym count)
     ∙ ap (items_from end end) (drop-drop (end - (at + 1)) (at + 1) pattern ∙ ap (λ k. drop k pattern) (sym count)))
 
+pub items_pushed : (pattern : List ℕ) (at end c : ℕ) (item : PatternItem) (old new all : List PatternItem) → at < length pattern → c ≡ get_or pattern at 0
+    → item ≡ item_at at c (drop (at + 1) pattern) → end ≡ item_end at item → at < end → new ≡ old ++ item ∷ [] → old ++ items_from at at (drop at pattern) ≡ all
+    → new ++ items_from end end (drop end pattern) ≡ all
+items_pushed pattern at end c item old new all lt octet is ends onwards made before =
+    let rest = items_from end end (drop end pattern) in
+    ap (λ l. l ++ rest) made ∙ append_assoc old (item ∷ []) rest ∙ ap (λ l. old ++ l) (sym (items_next pattern at end c item lt octet is ends onwards)) ∙ before
+
+pub items_whole : (pattern : List ℕ) (at : ℕ) (items all : List PatternItem) → length pattern ≤ at → items ++ items_from at at (drop at pattern) ≡ all → items ≡ all
+items_whole pattern at items all le before =
+    sym (append-nil items) ∙ ap (λ l. items ++ items_from at at l) (sym (drop_of_length-le pattern le)) ∙ before
+
 -- members of a set: a range, or one
 pub set_range : (c a b d : ℕ) (members more : List ℕ) → members ≡ a ∷ b ∷ d ∷ more → b ≡ 45 → is_in_set members c ≡ ((nat_le a c && nat_le c d) || is_in_set more c)
 set_range c a b d members more is dash =
@@ -58,6 +69,30 @@ one_of c a (b ∷ d ∷ more) plain = ap (λ t. if t then (nat_le a c && nat_le 
 
 pub set_one : (c a : ℕ) (members more : List ℕ) → members ≡ a ∷ more → begins_range members ≡ false → is_in_set members c ≡ ((a == c) || is_in_set more c)
 set_one c a members more is plain = ap (λ l. is_in_set l c) is ∙ one_of c a more (ap begins_range (sym is) ∙ plain)
+
+first_of : (members : List ℕ) (at : ℕ) → at < length members → drop at members ≡ get_or members at 0 ∷ drop (at + 1) members
+first_of members at lt = drop_more members at 0 lt
+
+range_of : (c : ℕ) (members : List ℕ) → begins_range members ≡ true
+    → is_in_set members c ≡ ((nat_le (get_or members 0 0) c && nat_le c (get_or members 2 0)) || is_in_set (drop 3 members) c)
+range_of c [] e = cc
+range_of c (a ∷ []) e = cc
+range_of c (a ∷ b ∷ []) e = cc
+range_of c (a ∷ b ∷ d ∷ more) e = ap (λ t. if t then (nat_le a c && nat_le c d) || is_in_set more c else (a == c) || is_in_set (b ∷ d ∷ more) c) e
+
+-- a range at an offset of the members, or one member
+pub set_range_at : (members : List ℕ) (at c : ℕ) → begins_range (drop at members) ≡ true
+    → is_in_set (drop at members) c ≡ ((nat_le (get_or members at 0) c && nat_le c (get_or members (at + 2) 0)) || is_in_set (drop (at + 3) members) c)
+set_range_at members at c e =
+    let here : at + 0 ≡ at = omega arith in
+    range_of c (drop at members) e
+    ∙ ap (λ n. (nat_le n c && nat_le c (get_or (drop at members) 2 0)) || is_in_set (drop 3 (drop at members)) c) (get_or-drop at members 0 0 ∙ ap (λ n. get_or members n 0) here)
+    ∙ ap (λ n. (nat_le (get_or members at 0) c && nat_le c n) || is_in_set (drop 3 (drop at members)) c) (get_or-drop at members 2 0)
+    ∙ ap (λ l. (nat_le (get_or members at 0) c && nat_le c (get_or members (at + 2) 0)) || is_in_set l c) (drop-drop 3 at members)
+
+pub set_one_at : (members : List ℕ) (at c : ℕ) → at < length members → begins_range (drop at members) ≡ false
+    → is_in_set (drop at members) c ≡ ((get_or members at 0 == c) || is_in_set (drop (at + 1) members) c)
+set_one_at members at c lt plain = set_one c (get_or members at 0) (drop at members) (drop (at + 1) members) (first_of members at lt) plain
 
 -- the ends of a name
 column_len : (test : List ℕ → Bool) (name : List ℕ) → length (ends_column test name) ≡ length name + 1
