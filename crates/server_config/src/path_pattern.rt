@@ -137,6 +137,7 @@ fn item_end(at: usize, item: PatternItem) -> usize
 }
 
 /// Returns the items of a pattern.
+#[tactic(auto, using(crate::proofs::PatternSteps::items_whole))]
 fn pattern_items<A: Allocator>(alloc: A, pattern: &[u8]) -> Result<Vec<PatternItem, A>, AllocError>
     ensures { IfOk result (λ items. items.items ≡ pattern_items pattern.now) }
 {
@@ -158,6 +159,7 @@ fn begins_range(members: &[u8], at: usize) -> bool
 }
 
 /// Returns whether an octet is one of the members of a set, or in a range of them.
+#[tactic(auto, using(crate::proofs::PatternSteps::set_range_at, crate::proofs::PatternSteps::set_one_at))]
 fn is_in_set(members: &[u8], octet: u8) -> bool
     ensures { result ≡ is_in_set members.now octet }
 {
@@ -229,6 +231,7 @@ fn end_fits(
 }
 
 /// Returns whether the ends of a name fit no item, the shortest first.
+#[tactic(auto, using(crate::proofs::PatternSteps::column_next))]
 fn first_column<A: Allocator>(alloc: A, name: &[u8]) -> Result<Vec<bool, A>, AllocError>
     ensures { IfOk result (λ column. column.items ≡ ends_column is_end name.now) }
 {
@@ -244,6 +247,7 @@ fn first_column<A: Allocator>(alloc: A, name: &[u8]) -> Result<Vec<bool, A>, All
 
 /// Returns whether the ends of a name fit items, the shortest first, by whether they fit the items
 /// after the first.
+#[tactic(auto, using(crate::proofs::PatternSteps::column_next, crate::proofs::PatternSteps::column_at, crate::proofs::PatternSteps::end_value))]
 fn next_column<A: Allocator>(
     alloc: A,
     pattern: &[u8],
@@ -271,6 +275,7 @@ fn next_column<A: Allocator>(
 
 /// Returns whether octets fit the items of a pattern. It takes time in proportion to the number of
 /// items times that of octets.
+#[tactic(auto, using(crate::proofs::PatternSteps::column_at))]
 fn items_fit<A: Allocator + Copy>(
     alloc: A,
     pattern: &[u8],
