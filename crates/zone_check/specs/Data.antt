@@ -1,5 +1,5 @@
 -- Data of records that looks like a slip.
-use Rattle.std.specs.Prelude.{ℕ, ◌==◌, ◌||◌, ◌&&◌, not, if◌then◌else◌, Bool, false, List, ◌∷◌, length, Option, Some, None}
+use Rattle.std.specs.Prelude.{ℕ, zero, suc, ◌+◌, ◌-◌, ◌*◌, ◌==◌, ◌||◌, ◌&&◌, not, nat_lt, if◌then◌else◌, Bool, true, false, List, [], ◌∷◌, drop, length, Option, Some, None}
 use Rattle.rdata_values.specs.Rtype as Rtype
 use Rattle.rdata_values.specs.declared.types.RecordType.{RecordType}
 
@@ -31,3 +31,35 @@ is_algorithm_zero _ = false
 
 abbrev pub has_key_algorithm_zero : RecordType → List ℕ → Bool
 has_key_algorithm_zero rtype octets = rtype == Rtype.ipseckey && is_algorithm_zero octets
+
+-- how many octets of a label remain after an octet: those that its length counts, if none remained
+abbrev pub remaining_octets : (remaining octet : ℕ) → ℕ
+remaining_octets remaining o = if remaining == 0 then o else remaining - 1
+
+-- the length of the root
+abbrev pub is_root_label : (remaining octet : ℕ) → Bool
+is_root_label remaining o = remaining == 0 && o == 0
+
+-- the octets after the labels of a name, of which the last is the root, where some octets of a label remain
+abbrev pub after_labels : (remaining : ℕ) → List ℕ → List ℕ
+after_labels remaining [] = []
+after_labels remaining (o ∷ octets) = if is_root_label remaining o then octets else after_labels (remaining_octets remaining o) octets
+
+-- `ohttp` (8), with a value
+abbrev pub is_ohttp_with : (high low count : ℕ) → Bool
+is_ohttp_with high low count = (high == 0 && low == 8) && nat_lt 0 count
+
+-- among at most this number of service parameters, `ohttp` has a value: each is a key and a length of two octets each, and a value
+abbrev pub has_ohttp : (most : ℕ) → List ℕ → Bool
+has_ohttp zero octets = false
+has_ohttp (suc most) (high ∷ low ∷ more ∷ less ∷ values) =
+    if is_ohttp_with high low (256 * more + less) then true else has_ohttp most (drop (256 * more + less) values)
+has_ohttp (suc most) _ = false
+
+abbrev pub has_ohttp_in : List ℕ → Bool
+has_ohttp_in (high ∷ low ∷ rest) = has_ohttp (length (after_labels 0 rest)) (after_labels 0 rest)
+has_ohttp_in _ = false
+
+-- for SVCB and HTTPS: a priority of two octets, a target, and service parameters
+abbrev pub has_ohttp_value : RecordType → List ℕ → Bool
+has_ohttp_value rtype octets = (rtype == Rtype.svcb || rtype == Rtype.https) && has_ohttp_in octets
