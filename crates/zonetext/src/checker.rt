@@ -6,35 +6,39 @@ use crate::held_zone::{
     HeldZone, RecordLocation, StandingRecord, is_of_absence, is_of_signed_absence, other_soa,
 };
 use crate::locations::{
-    beginning, begins_blank, data_start, line_spot, long_at, octet_at, position_at, spot_at,
-    target_position, token_at, tokens_of,
+    beginning, begins_blank, line_spot, long_at, part_at, position_at, target_position, token_at,
+    tokens_of,
 };
-use crate::lone_rules::{breaks_none, lone_rules, token_of_rule};
-use crate::long_ttls::{long_ttl, long_ttl_of};
-use crate::octet_texts::{is_name, is_of_file, remark_text};
+use crate::lone_rules::breaks_none;
+use crate::octet_texts::{is_of_file, octet_text};
 use crate::open_file::first_place;
 use crate::refusals::refused_type;
 use crate::reporter::{Reporter, Said};
 use crate::rule_texts::ZoneRecords;
-use crate::scan::{OctetScan, ends_twice, needs_lint, repeats_origin, scan_octets};
+use crate::scan::{ends_twice, needs_lint, repeats_origin};
 use crate::scopes::{Scope, scope_of};
 use crate::signature_groups::{groups_of, is_of_time};
-use crate::slips::{is_of_parameters, slip_of};
+use crate::slips::is_of_parameters;
 use crate::stop::RunError;
 use crate::subjects::{Text, quoted};
 use crate::zone_files::{Entry, IncludeError, Visit};
 use dns_lexer::entry_tokens::EntryToken;
 use dns_octets::AsOctets;
 use dns_wire::{DisplayWithDot, DisplayWithoutDot, Name};
-use rdata_fields::RecordError;
+use rdata_fields::{RecordError, RecordRef};
 use rdata_values::{Class, RecordType};
-use record_rules::RecordRule;
-use std::alloc::Global;
+use std::alloc::{AllocError, Global};
 use zone_check::codes::{code_of_entry, code_of_rule, code_of_security};
-use zone_check::names::{ends_in_dot, ends_like};
+use zone_check::directive_findings::directive_finding;
+use zone_check::finding::EntryFinding;
+use zone_check::name_findings::OriginState;
+use zone_check::octet_findings::{ReportedOctets, find_in_octets};
+use zone_check::record_findings::{RecordContext, find_in_record};
+use zone_check::scan::{OctetScan, scan_octets};
+use zone_check::value_findings::data_code;
 use zone_dnssec::{Times, check_signed};
 use zone_format::place::LocatedOffset;
-use zone_reader::{NameBuffer, ParsedEntry, RecordTtl, class_word, directive_word};
+use zone_reader::{NameBuffer, ParsedEntry, RecordTtl, directive_word};
 use zone_record::Data;
 use zone_rules::names::view;
 use zone_rules::sorted::has_type;
@@ -42,7 +46,7 @@ use zone_rules::{Rule, SortedRecords, SortedSets, check_zone};
 use zone_set::{TaggedOctets, serial_of};
 use zone_stream::BlockRefusal;
 use zonetext_report::code::Code;
-use zonetext_report::lint::{Block, lint};
+use zonetext_report::lint::Block;
 
 /// Ctrl-Z, which ended files of CP/M and DOS.
 const CONTROL_Z: u8 = 0x1A;
@@ -216,31 +220,6 @@ impl<'a> Checker<'a> {
         )
     }
 
-    /// Reports if no origin is known for a relative name, or if it ends like the origin.
-    fn check_name(&mut self, entry: &Entry<'_>, token: &EntryToken<'_>) -> Result<(), RunError> {
-        if token.is_quoted || ends_in_dot(token.text) {
-            return Ok(());
-        }
-        let Some(origin) = entry.state.origin.name() else {
-            return Ok(());
-        };
-        if self.limits.assumes_root && origin.len() < 2 {
-            return if self.is_news(Code::NoOrigin) {
-                self.findings.tell_token(entry, token, Code::NoOrigin)
-            } else {
-                Ok(())
-            };
-        }
-        if origin.len() < 2 || token.text.len().saturating_add(2) < origin.len() {
-            return Ok(());
-        }
-        let text = DisplayWithoutDot::new(origin).to_string(self.alloc)?;
-        if ends_like(token.text, text.as_bytes()) {
-            return self.findings.tell_token(entry, token, Code::MissingDot);
-        }
-        Ok(())
-    }
-
     /// Returns whether the names of a record, as they are spelled, may have findings. A relative
     /// name that ends like the origin has the origin twice, unless it has escapes.
     fn may_show_names(&self, entry: &Entry<'_>, scan: OctetScan) -> bool {
@@ -259,46 +238,58 @@ impl<'a> Checker<'a> {
             || repeats_origin(entry.data, origin)
     }
 
-    /// Reports findings about the names of a record, as they are spelled.
-    fn check_names(
-        &mut self,
-        entry: &Entry<'_>,
-        tokens: &[EntryToken<'_>],
-        rtype: RecordType,
-    ) -> Result<(), RunError> {
-        let is_blank = begins_blank(entry);
-        if !is_blank {
-            if let Some(owner) = tokens.first() {
-                self.check_name(entry, owner)?;
+    /// Returns the text of the origin without its last dot, or none if names need not be looked at
+    /// or the origin is the root.
+    fn origin_text(&self, entry: &Entry<'_>, scan: OctetScan) -> Result<String, AllocError> {
+        match entry.state.origin.name() {
+            Some(origin) if origin.len() >= 2 && self.may_show_names(entry, scan) => {
+                DisplayWithoutDot::new(origin).to_string(self.alloc)
             }
+            _ => Ok(String::new(self.alloc)),
         }
-        let words = tokens.get(data_start(tokens, is_blank)..).unwrap_or(&[]);
-        for (number, token) in words.iter().enumerate() {
-            if token.text == b"\\#".as_slice() {
-                return Ok(());
-            }
-            if is_name(rtype, number) {
-                self.check_name(entry, token)?;
-            }
-        }
-        Ok(())
     }
 
-    /// Reports that the class of a record is not that of the zone.
-    fn report_class(
+    /// Reports findings about a record as it is written.
+    fn check_text(
         &mut self,
         entry: &Entry<'_>,
-        tokens: &[EntryToken<'_>],
+        scan: OctetScan,
+        record: &RecordRef<'_>,
+        ttl: RecordTtl,
     ) -> Result<(), RunError> {
-        let words = tokens
-            .get(usize::from(!begins_blank(entry))..)
-            .unwrap_or(&[]);
-        match words.iter().find(|token| class_word(token).is_some()) {
-            Some(token) => self.findings.tell_token(entry, token, Code::OtherClass),
-            None => self
-                .findings
-                .tell_word(entry, beginning(entry), Code::OtherClass, None),
+        let is_below_root = self.is_below_root(entry);
+        let context = RecordContext {
+            ttl,
+            begins_blank: begins_blank(entry),
+            origin: OriginState {
+                assumes_root: is_below_root && entry.state.origin.name().is_some(),
+                is_reported: self.has_told_origin,
+            },
+            is_below_root,
+            class: self.limits.class,
+            max_ttl: self.limits.max_ttl,
+        };
+        let origin = self.origin_text(entry, scan)?;
+        let tokens = tokens_of(self.alloc, entry)?;
+        let mut found = Vec::new(self.alloc);
+        find_in_record(
+            record,
+            entry.octets,
+            origin.as_bytes(),
+            context,
+            tokens.as_slice(),
+            &mut found,
+        )?;
+        for finding in &found {
+            self.has_told_origin = self.has_told_origin || finding.code == Code::NoOrigin;
         }
+        self.report_found(entry, found.as_slice())
+    }
+
+    /// Reports findings about an entry.
+    fn report_found(&mut self, entry: &Entry<'_>, found: &[EntryFinding]) -> Result<(), RunError> {
+        self.findings
+            .report_found(entry, found, self.limits.max_ttl)
     }
 
     /// Stores the first SOA. Fails with `Damaged` if its octets are not an SOA.
@@ -322,82 +313,12 @@ impl<'a> Checker<'a> {
         Ok(())
     }
 
-    /// Reports a finding about a record as a whole, at its first token.
-    fn report_record(&mut self, entry: &Entry<'_>, at: usize, code: Code) -> Result<(), RunError> {
-        let tokens = tokens_of(self.alloc, entry)?;
-        self.findings
-            .tell_word(entry, spot_at(entry, tokens.as_slice(), at), code, None)
-    }
-
-    /// Reports a token that spells a TTL of 2^31 or more, if there is one.
-    fn report_long_ttl(
-        &mut self,
-        entry: &Entry<'_>,
-        token: Option<EntryToken<'_>>,
-    ) -> Result<(), RunError> {
-        match token {
-            Some(token) => self.findings.tell_token(entry, &token, Code::Ttl),
-            None => Ok(()),
-        }
-    }
-
-    /// Reports findings about the TTL and the data of a record. `at` is the offset of its type.
-    fn check_values(
-        &mut self,
-        entry: &Entry<'_>,
-        at: usize,
-        ttl: RecordTtl,
-        rtype: RecordType,
-    ) -> Result<(), RunError> {
-        if let RecordTtl::Minimum(_) = ttl {
-            self.report_record(entry, at, Code::SoaMinimumTtl)?;
-        }
-        if ttl.seconds() == 0 {
-            let tokens = tokens_of(self.alloc, entry)?;
-            let token = long_ttl_of(tokens.as_slice(), begins_blank(entry), ttl, entry.data);
-            self.report_long_ttl(entry, token)?;
-        }
-        if let Some(most) = self.limits.max_ttl {
-            if ttl.seconds() > most {
-                self.findings.tell_max_ttl(entry, at, ttl.seconds(), most)?;
-            }
-        }
-        if let Some(code) = slip_of(rtype, entry.data) {
-            self.report_record(entry, at, code)?;
-        }
-        Ok(())
-    }
-
     /// Returns whether the root is appended to relative names of an entry because no origin is known.
     fn is_below_root(&self, entry: &Entry<'_>) -> bool {
         match entry.state.origin.name() {
             Some(origin) => self.limits.assumes_root && origin.len() < 2,
             None => true,
         }
-    }
-
-    /// Reports which rules a record alone breaks. `at` is the offset of its type.
-    fn check_lone_rules(
-        &mut self,
-        entry: &Entry<'_>,
-        scan: OctetScan,
-        at: usize,
-        rtype: RecordType,
-    ) -> Result<(), RunError> {
-        if breaks_none(entry, scan, rtype)? {
-            return Ok(());
-        }
-        let tokens = tokens_of(self.alloc, entry)?;
-        let tokens = tokens.as_slice();
-        for rule in &lone_rules(entry, tokens)? {
-            if *rule == RecordRule::SoaMailOneLabel && self.is_below_root(entry) {
-                continue;
-            }
-            let token = token_of_rule(entry, tokens, *rule, rtype);
-            self.findings
-                .tell_lone_rule(entry, tokens, at, *rule, token)?;
-        }
-        Ok(())
     }
 
     /// Returns whether a TTL has no findings.
@@ -436,7 +357,7 @@ impl<'a> Checker<'a> {
                     && *rtype != RecordType::SOA
                     && (!self.limits.tells_slips
                         || (self.is_usual_ttl(*ttl)
-                            && slip_of(*rtype, entry.data).is_none()
+                            && data_code(*rtype, entry.data).is_none()
                             && breaks_none(entry, scan, *rtype).unwrap_or(false)
                             && !self.may_show_names(entry, scan)))
             }
@@ -498,52 +419,26 @@ impl<'a> Checker<'a> {
         if has_class && !self.limits.tells_slips {
             return Ok(());
         }
-        if self.may_show_names(entry, scan) {
-            let tokens = tokens_of(self.alloc, entry)?;
-            self.check_names(entry, tokens.as_slice(), rtype)?;
+        if let Some(record) = entry.record()? {
+            self.check_text(entry, scan, &record, ttl)?;
         }
         if !has_class {
-            self.hold_refused(entry, Some(rtype))?;
-            let tokens = tokens_of(self.alloc, entry)?;
-            return self.report_class(entry, tokens.as_slice());
+            return self.hold_refused(entry, Some(rtype));
         }
-        self.check_values(entry, at, ttl, rtype)?;
-        self.check_lone_rules(entry, scan, at, rtype)?;
         self.hold_record(entry, at)
-    }
-
-    /// Reports if a directive's name is relative. `place` is the index of its token.
-    fn check_origin(
-        &mut self,
-        entry: &Entry<'_>,
-        tokens: &[EntryToken<'_>],
-        place: usize,
-    ) -> Result<(), RunError> {
-        match tokens.get(place) {
-            Some(token) if !ends_in_dot(token.text) => {
-                self.findings.tell_token(entry, token, Code::RelativeOrigin)
-            }
-            _ => Ok(()),
-        }
     }
 
     /// Reports findings about a directive.
     fn check_directive(&mut self, entry: &Entry<'_>) -> Result<(), RunError> {
         let tokens = tokens_of(self.alloc, entry)?;
-        let tokens = tokens.as_slice();
-        match tokens.first() {
-            Some(word) if word.text.eq_ignore_ascii_case(b"$ORIGIN") => {
+        if let Some(word) = tokens.first() {
+            if word.text.eq_ignore_ascii_case(b"$ORIGIN") {
                 self.limits.assumes_root = false;
-                self.check_origin(entry, tokens, 1)
             }
-            Some(word) if word.text.eq_ignore_ascii_case(b"$INCLUDE") => self.check_origin(
-                entry, tokens, 2,
-            ),
-            Some(word) if word.text.eq_ignore_ascii_case(b"$TTL") => self.report_long_ttl(
-                entry,
-                long_ttl(tokens),
-            ),
-            _ => Ok(()),
+        }
+        match directive_finding(tokens.as_slice()) {
+            Some(finding) => self.report_found(entry, &[finding]),
+            None => Ok(()),
         }
     }
 
@@ -780,15 +675,39 @@ impl<'a> Checker<'a> {
         !self.limits.is_text || self.findings.reporter.denies(code)
     }
 
-    /// Returns whether a finding in the octets of an entry is reported. If the entry begins with
-    /// Ctrl-Z, its other control octets are not. A service parameter's value is adjacent to its key
-    /// (RFC 9460 section 2.1), and if only the text is checked, types are not known.
-    fn tells_remark(&self, entry: &Entry<'_>, code: Code, is_end: bool) -> bool {
-        match code {
-            Code::ControlOctet if is_end => false,
-            Code::AdjacentTokens => !self.limits.is_text && !is_of_parameters(entry),
-            _ => self.tells_octets(code),
+    /// Returns which findings about the octets of an entry are reported. A service parameter's value
+    /// is adjacent to its key (RFC 9460 section 2.1), and if only the text is checked, types are not
+    /// known.
+    fn reported_octets(&self, entry: &Entry<'_>) -> ReportedOctets {
+        ReportedOctets {
+            nul: self.tells_octets(Code::Nul),
+            control_z: self.tells_octets(Code::ControlZ),
+            leading_parenthesis: self.tells_octets(Code::LeadingParenthesis),
+            high_octet: self.tells_octets(Code::HighOctet),
+            control_octet: self.tells_octets(Code::ControlOctet),
+            nested_parentheses: self.tells_octets(Code::NestedParentheses),
+            adjacent_tokens: !self.limits.is_text && !is_of_parameters(entry),
+            crlf: self.tells_octets(Code::Crlf),
+            no_final_newline: self.tells_octets(Code::NoFinalNewline),
         }
+    }
+
+    /// Reports a finding about the octets of an entry.
+    fn report_octets(&mut self, entry: &Entry<'_>, finding: &EntryFinding) -> Result<(), RunError> {
+        let code = finding.code;
+        let spot = part_at(entry, finding.start, finding.width);
+        let is_fault = code.is_text_fault();
+        let Some(severity) = self.findings.reporter.count(spot, code, is_fault) else {
+            return Ok(());
+        };
+        let (spot, text) = octet_text(self.alloc, entry, spot, finding)?;
+        if is_of_file(code) {
+            return self
+                .findings
+                .reporter
+                .show(severity, spot, code, text.said());
+        }
+        self.findings.show_entry(entry, severity, spot, code, &text)
     }
 
     /// Reports findings about the octets of an entry. Returns whether it begins with Ctrl-Z.
@@ -797,37 +716,20 @@ impl<'a> Checker<'a> {
         if is_long || !needs_lint(entry.octets, scan) {
             return Ok(false);
         }
-        if entry.octets.len() >= usize::MAX - 1 {
-            return Err(RunError::TooLong);
-        }
         let block = Block {
             is_last: entry.is_last && entry.octets.first() != Some(&CONTROL_Z),
             tells_crlf: self.tells_crlf(entry),
         };
-        let mut remarks = Vec::new(self.alloc);
-        lint(entry.octets, block, &mut remarks)?;
+        let reported = self.reported_octets(entry);
+        let mut found = Vec::new(self.alloc);
+        find_in_octets(self.alloc, entry.octets, block, reported, &mut found)?;
         let mut is_end = false;
-        for remark in &remarks {
-            if !self.tells_remark(entry, remark.code, is_end) {
-                continue;
-            }
-            is_end = is_end || remark.code == Code::ControlZ;
-            if remark.code == Code::Crlf {
+        for finding in &found {
+            is_end = is_end || finding.code == Code::ControlZ;
+            if finding.code == Code::Crlf {
                 self.crlf_files.push(entry.number)?;
             }
-            let is_fault = remark.code.is_text_fault();
-            let spot = octet_at(entry, entry.offset.saturating_add(remark.at));
-            if let Some(severity) = self.findings.reporter.count(spot, remark.code, is_fault) {
-                let (spot, text) = remark_text(self.alloc, entry, spot, remark)?;
-                if is_of_file(remark.code) {
-                    self.findings
-                        .reporter
-                        .show(severity, spot, remark.code, text.said())?;
-                } else {
-                    self.findings
-                        .show_entry(entry, severity, spot, remark.code, &text)?;
-                }
-            }
+            self.report_octets(entry, finding)?;
         }
         Ok(is_end)
     }

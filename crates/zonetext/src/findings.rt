@@ -1,12 +1,10 @@
 //! Reports findings with the owners and the types of the records that they are about.
+use crate::entry_texts::entry_text;
 use crate::exceptions::{Exception, Slip};
 use crate::explain::{Refusal, explain};
 use crate::file_lines::FileLines;
 use crate::held_zone::{HeldZone, StandingRecord};
-use crate::locations::{
-    begins_blank, fault_at, first_tokens, line_spot, part_at, spot_at, token_at, tokens_of,
-};
-use crate::lone_rules::lone_text;
+use crate::locations::{begins_blank, fault_at, first_tokens, line_spot, part_at};
 use crate::octet_texts::fault_text;
 use crate::open_file::first_place;
 use crate::reporter::{FindingLocation, Reporter, Said};
@@ -14,13 +12,13 @@ use crate::rule_texts::{ZoneRecords, is_at_target, rule_text};
 use crate::stop::RunError;
 use crate::subjects::{Subject, Text};
 use crate::zone_files::Entry;
-use dns_lexer::entry_tokens::EntryToken;
 use dns_lexer::pieces::Fault;
 use dns_lexer::position::Position;
 use dns_octets::AsOctets;
-use record_rules::RecordRule;
 use std::alloc::{AllocError, Global};
-use zone_check::codes::{code_of_fault, code_of_record_rule, code_of_rule};
+use zone_check::codes::{code_of_fault, code_of_rule};
+use zone_check::finding::EntryFinding;
+use zone_check::rejection_findings::rejected_finding;
 use zone_check::texts::code_text;
 use zone_reader::NameBuffer;
 use zone_rules::Finding;
@@ -127,50 +125,22 @@ impl<'a> Findings<'a> {
             .show(severity, spot, code, Said { note, ..said })
     }
 
-    /// Reports a finding about a token of an entry, or about the entry.
-    pub fn tell_word(
+    /// Reports findings about an entry. `most` is the greatest TTL that is allowed.
+    pub fn report_found(
         &mut self,
         entry: &Entry<'_>,
-        spot: FindingLocation<'_>,
-        code: Code,
-        word: Option<&[u8]>,
+        found: &[EntryFinding],
+        most: Option<u32>,
     ) -> Result<(), RunError> {
-        let Some(severity) = self.reporter.count(spot, code, false) else {
-            return Ok(());
-        };
-        let text = Text::worded(self.alloc, code_text(code), word)?;
-        self.show_entry(entry, severity, spot, code, &text)
-    }
-
-    /// Reports a finding about a token of an entry, at it.
-    pub fn tell_token(
-        &mut self,
-        entry: &Entry<'_>,
-        token: &EntryToken<'_>,
-        code: Code,
-    ) -> Result<(), RunError> {
-        self.tell_word(entry, token_at(entry, token), code, Some(token.text))
-    }
-
-    /// Reports a rule that a record alone breaks: at a token, or at an offset of the file.
-    pub fn tell_lone_rule(
-        &mut self,
-        entry: &Entry<'_>,
-        tokens: &[EntryToken<'_>],
-        at: usize,
-        rule: RecordRule,
-        token: Option<EntryToken<'_>>,
-    ) -> Result<(), RunError> {
-        let code = code_of_record_rule(rule);
-        let (spot, word) = match token {
-            Some(token) => (token_at(entry, &token), Some(token.text)),
-            None => (spot_at(entry, tokens, at), None),
-        };
-        let Some(severity) = self.reporter.count(spot, code, false) else {
-            return Ok(());
-        };
-        let text = Text::worded(self.alloc, lone_text(rule), word)?;
-        self.show_entry(entry, severity, spot, code, &text)
+        for finding in found {
+            let code = finding.code;
+            let spot = part_at(entry, finding.start, finding.width);
+            if let Some(severity) = self.reporter.count(spot, code, false) {
+                let text = entry_text(self.alloc, entry, finding, most)?;
+                self.show_entry(entry, severity, spot, code, &text)?;
+            }
+        }
+        Ok(())
     }
 
     /// Reports a syntax error of the text.
@@ -190,8 +160,10 @@ impl<'a> Findings<'a> {
         entry: &Entry<'_>,
         refusal: Refusal<'_, '_>,
     ) -> Result<(), RunError> {
-        let spot = spot_at(entry, refusal.tokens, refusal.error.offset);
-        let Some(severity) = self.reporter.count(spot, refusal.code, true) else {
+        let at = refusal.error.offset.saturating_sub(entry.offset);
+        let finding = rejected_finding(refusal.code, at, refusal.tokens);
+        let spot = part_at(entry, finding.start, finding.width);
+        let Some(severity) = self.reporter.count(spot, finding.code, true) else {
             return Ok(());
         };
         let found = explain(self.alloc, entry, refusal)?;
@@ -200,24 +172,6 @@ impl<'a> Findings<'a> {
         }
         let said = found.text.said();
         self.reporter.show(severity, found.spot, found.code, said)
-    }
-
-    /// Reports that the TTL of a record exceeds the limit, at its first token.
-    pub fn tell_max_ttl(
-        &mut self,
-        entry: &Entry<'_>,
-        at: usize,
-        ttl: u32,
-        most: u32,
-    ) -> Result<(), RunError> {
-        let tokens = tokens_of(self.alloc, entry)?;
-        let spot = spot_at(entry, tokens.as_slice(), at);
-        let Some(severity) = self.reporter.count(spot, Code::MaxTtl, false) else {
-            return Ok(());
-        };
-        let message = format!(in self.alloc; "TTL {ttl} exceeds --max-ttl {most}")?;
-        let text = Text::new(self.alloc, message);
-        self.show_entry(entry, severity, spot, Code::MaxTtl, &text)
     }
 
     /// Reports a part of an entry's comment that is not as exceptions are written.

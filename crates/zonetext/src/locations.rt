@@ -10,6 +10,7 @@ use dns_lexer::position::Position;
 use dns_lexer::unclosed::outermost_open_of_octets;
 use rdata_values::RecordType;
 use std::alloc::{AllocError, Global};
+use zone_check::rejection_findings::fault_finding;
 use zone_reader::{ParsedEntry, type_word};
 
 /// Returns the number of tokens of a record before its data: those up to its type.
@@ -197,11 +198,6 @@ pub fn spot_at<'e>(entry: &Entry<'e>, tokens: &[EntryToken<'_>], at: usize) -> F
     spot(entry, at, width)
 }
 
-/// Returns the location of an octet of an entry, at an offset of the file.
-pub fn octet_at<'e>(entry: &Entry<'e>, at: usize) -> FindingLocation<'e> {
-    spot(entry, at.saturating_sub(entry.offset), 1)
-}
-
 /// Returns the location of a token of an entry.
 pub fn token_at<'e>(entry: &Entry<'e>, token: &EntryToken<'_>) -> FindingLocation<'e> {
     spot(entry, token.at, width(token))
@@ -224,19 +220,16 @@ pub fn token_part<'e>(
     spot(entry, token.at.saturating_add(offset), count)
 }
 
-/// Returns the location of a syntax error of an entry: of a parenthesis that is left open, or of the
-/// octet that is wrong, with the position where a quote was opened.
+/// Returns the location of a syntax error of an entry, with the position where a quote was opened.
 pub fn fault_at<'e>(entry: &Entry<'e>, fault: Fault) -> FindingLocation<'e> {
-    match fault.wrong {
-        Wrong::OpenParenthesis => match outermost_open_of_octets(entry.octets) {
-            Some(at) => spot(entry, at, 1),
-            None => octet_at(entry, fault.at),
-        },
-        Wrong::OpenQuote(at) => FindingLocation {
-            opened: Some(position_at(entry, at.saturating_sub(entry.offset))),
-            ..octet_at(entry, fault.at)
-        },
-        _ => octet_at(entry, fault.at),
+    let finding = fault_finding(entry.octets, entry.offset, fault);
+    let opened = match fault.wrong {
+        Wrong::OpenQuote(at) => Some(position_at(entry, at.saturating_sub(entry.offset))),
+        _ => None,
+    };
+    FindingLocation {
+        opened,
+        ..part_at(entry, finding.start, finding.width)
     }
 }
 

@@ -1,12 +1,9 @@
-//! Finds which rules a record alone breaks, and where.
-use crate::locations::{begins_blank, data_start};
-use crate::scan::OctetScan;
+//! The messages of rules that a record alone breaks, and whether it breaks none.
 use crate::stop::RunError;
 use crate::zone_files::Entry;
-use arrayvec::ArrayVec;
-use dns_lexer::entry_tokens::EntryToken;
 use rdata_values::RecordType;
 use record_rules::{RecordRule, Written, broken_rules};
+use zone_check::scan::OctetScan;
 
 /// Returns the message of a broken rule.
 pub fn lone_text(rule: RecordRule) -> &'static str {
@@ -53,83 +50,4 @@ pub fn breaks_none(
         last: &[],
     };
     Ok(broken_rules(&record, Some(written)).is_empty())
-}
-
-/// Returns the tokens of a record's data, or none if it is in the form `\#`.
-fn data_tokens<'t, 'e>(
-    entry: &Entry<'_>,
-    tokens: &'t [EntryToken<'e>],
-) -> Option<&'t [EntryToken<'e>]> {
-    let words = tokens.get(data_start(tokens, begins_blank(entry))..)?;
-    match words.first() {
-        Some(token) if token.text == b"\\#".as_slice() => None,
-        _ => Some(words),
-    }
-}
-
-/// Returns how the data of a record is written, if it is not in the form `\#`.
-fn how_written<'e>(entry: &Entry<'e>, tokens: &[EntryToken<'_>]) -> Option<Written<'e>> {
-    let words = data_tokens(entry, tokens)?;
-    let last = words.last()?;
-    Some(Written {
-        has_quotes: words.iter().any(|token| token.is_quoted),
-        last: entry.octets.get(last.at..).unwrap_or(&[]),
-    })
-}
-
-/// Returns the rules that a record breaks.
-pub fn lone_rules(
-    entry: &Entry<'_>,
-    tokens: &[EntryToken<'_>],
-) -> Result<ArrayVec<RecordRule, 16>, RunError> {
-    match entry.record()? {
-        Some(record) => Ok(broken_rules(&record, how_written(entry, tokens))),
-        None => Ok(ArrayVec::new()),
-    }
-}
-
-/// Returns the number of the field of a type's data that is a host or a target.
-fn target_field(rtype: RecordType) -> usize {
-    match rtype {
-        RecordType::NS | RecordType::CNAME | RecordType::PTR => 0,
-        RecordType::SRV => 3,
-        _ => 1,
-    }
-}
-
-/// Returns the number of the field of a record's data that breaks a rule, if it is one.
-fn field_of(rule: RecordRule, rtype: RecordType, count: usize) -> Option<usize> {
-    match rule {
-        RecordRule::NaptrRegexp => Some(4),
-        RecordRule::NaptrBoth => Some(5),
-        RecordRule::CaaUnknown | RecordRule::CaaCritical | RecordRule::CaaCapitals => Some(1),
-        RecordRule::SoaMailAtSign | RecordRule::SoaMailOneLabel => Some(1),
-        RecordRule::SoaRetry => Some(4),
-        RecordRule::SoaExpire => Some(5),
-        RecordRule::SoaMinimum => Some(6),
-        RecordRule::TargetAddress => Some(target_field(rtype)),
-        RecordRule::TxtWords => Some(0),
-        RecordRule::CommentInData => count.checked_sub(1),
-        RecordRule::SpfType | RecordRule::ReverseName | RecordRule::WildcardInside => None,
-    }
-}
-
-/// Returns the token of an entry that breaks a rule, if it is known: a field of its data, or its
-/// owner.
-pub fn token_of_rule<'e>(
-    entry: &Entry<'_>,
-    tokens: &[EntryToken<'e>],
-    rule: RecordRule,
-    rtype: RecordType,
-) -> Option<EntryToken<'e>> {
-    if matches!(rule, RecordRule::ReverseName | RecordRule::WildcardInside) {
-        return if begins_blank(entry) {
-            None
-        } else {
-            tokens.first().copied()
-        };
-    }
-    let words = data_tokens(entry, tokens)?;
-    let field = field_of(rule, rtype, words.len())?;
-    words.get(field).copied()
 }

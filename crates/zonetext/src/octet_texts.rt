@@ -13,10 +13,10 @@ use rdata::type_row;
 use rdata_fields::Field;
 use rdata_values::{ErrorKind, RecordType};
 use std::alloc::{AllocError, Global};
+use zone_check::finding::EntryFinding;
 use zone_check::texts::code_text;
 use zone_reader::ParsedEntry;
 use zonetext_report::code::Code;
-use zonetext_report::lint::Remark;
 
 /// Number of octets of an escape with three digits.
 pub const ESCAPE: usize = 4;
@@ -171,23 +171,23 @@ fn high_octet_text<'e>(
 }
 
 /// Returns the location and the text of a finding about the octets of an entry.
-pub fn remark_text<'e>(
+pub fn octet_text<'e>(
     alloc: Global,
     entry: &Entry<'e>,
     spot: FindingLocation<'e>,
-    remark: &Remark,
+    finding: &EntryFinding,
 ) -> Result<(FindingLocation<'e>, Text), AllocError> {
     let is_blank = begins_blank(entry);
-    match remark.code {
-        Code::HighOctet => high_octet_text(alloc, entry, spot, remark.at, is_blank),
+    match finding.code {
+        Code::HighOctet => high_octet_text(alloc, entry, spot, finding.start, is_blank),
         Code::ControlOctet | Code::AdjacentTokens => {
             let tokens = tokens_of(alloc, entry)?;
-            let word = match token_of(tokens.as_slice(), remark.at) {
+            let word = match token_of(tokens.as_slice(), finding.start) {
                 Some(token) => Some(token.text),
                 None => None,
             };
-            Ok((spot, Text::worded(alloc, code_text(remark.code), word)?))
+            Ok((spot, Text::worded(alloc, code_text(finding.code), word)?))
         }
-        _ => Ok((spot, Text::worded(alloc, code_text(remark.code), None)?)),
+        _ => Ok((spot, Text::worded(alloc, code_text(finding.code), None)?)),
     }
 }

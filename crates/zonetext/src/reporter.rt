@@ -6,6 +6,7 @@ use crate::waiting::Waiting;
 use dns_lexer::position::Position;
 use std::alloc::AllocError;
 use std::io::Write;
+use zone_check::shown::{Decision, can_be_excepted, decide, severity_of};
 use zonetext_report::code::{Code, Severity};
 use zonetext_report::excerpt::push_excerpt;
 use zonetext_report::finding::{Finding, push_lines};
@@ -194,17 +195,16 @@ impl<'a> Reporter<'a> {
         code: Code,
         is_refused: bool,
     ) -> Option<Severity> {
-        let can_be_excepted = !is_refused && !code.is_text_fault();
-        if can_be_excepted && self.exceptions.excepts(code) {
-            return None;
-        }
-        let severity = self.policy.severity(code, is_refused)?;
-        let has_room = self.tally.count(severity);
-        let is_shown = match &self.waiting {
-            Some(waiting) => waiting.takes(spot.number, spot.position),
-            None => has_room,
+        let is_excepted = can_be_excepted(code, is_refused) && self.exceptions.excepts(code);
+        let severity = severity_of(&self.policy, code, is_refused, is_excepted);
+        let decision = decide(&mut self.tally, severity);
+        let is_shown = match (decision, &self.waiting) {
+            (Decision::Omitted, _) => false,
+            (_, Some(waiting)) => waiting.takes(spot.number, spot.position),
+            (Decision::Shown(_), None) => true,
+            (Decision::Counted(_), None) => false,
         };
-        if is_shown { Some(severity) } else { None }
+        if is_shown { severity } else { None }
     }
 
     /// Shows a finding that was counted.

@@ -1,99 +1,11 @@
-//! Scans the octets of entries and names, 16 at a time.
+//! Searches the octets of entries and names, 16 at a time.
 ghost use Rattle.std.specs.Prelude.{◌≤◌, length};
 
 use std::simd::prelude::*;
+use zone_check::scan::OctetScan;
 
 /// Number of octets of one load.
 const LANES: usize = 16;
-
-/// Properties of the octets of an entry.
-#[derive(Clone, Copy)]
-pub struct OctetScan {
-    /// Whether each octet is plain.
-    pub is_plain: bool,
-    /// Whether one of them is an opening parenthesis.
-    pub has_parenthesis: bool,
-    /// Whether one of them is a double quote.
-    pub has_quote: bool,
-    /// Whether one of them is a backslash.
-    pub has_backslash: bool,
-    /// Whether one of them is a semicolon.
-    pub has_semicolon: bool,
-}
-
-/// Returns whether an octet is plain: printable ASCII, a tab or a line feed.
-fn is_plain(octet: u8) -> bool {
-    matches!(octet, b' '..=b'~' | b'\t' | b'\n')
-}
-
-/// The classes of octets by their low four bits and by their high four bits: an octet has those that
-/// are in both. 7 is of octets that are not plain, 24 of `(`, `"` and the backslash, 32 of `;`.
-const LOW_CLASSES: [u8; 16] = [3, 3, 11, 3, 3, 3, 3, 3, 11, 2, 2, 35, 19, 3, 3, 7];
-
-const HIGH_CLASSES: [u8; 16] = [1, 2, 8, 32, 0, 16, 0, 4, 2, 2, 2, 2, 2, 2, 2, 2];
-
-/// The classes of octets that are not plain.
-const OTHERS: u8 = 7;
-
-/// The classes of `(`, `"` and the backslash.
-const MARKS: u8 = 24;
-
-/// The class of `;`.
-const SEMICOLONS: u8 = 32;
-
-/// Returns the classes of each octet of a load.
-#[inline(always)]
-fn classes(load: u8x16) -> u8x16 {
-    let low = u8x16::from_array(LOW_CLASSES).swizzle_dyn(load & u8x16::splat(15));
-    low & u8x16::from_array(HIGH_CLASSES).swizzle_dyn(load >> u8x16::splat(4))
-}
-
-/// Returns whether one of the octets of a load has one of some classes.
-#[inline(always)]
-fn has_class(found: u8x16, wanted: u8) -> bool {
-    (found & u8x16::splat(wanted))
-        .simd_ne(u8x16::splat(0))
-        .any()
-}
-
-/// Returns which of `(`, `"`, `;` and the backslash octets contain. `is_plain` is known of them.
-#[inline(never)]
-fn scan_marks(octets: &[u8], is_plain: bool) -> OctetScan {
-    OctetScan {
-        is_plain,
-        has_parenthesis: !skip_to(octets, b'(').is_empty(),
-        has_quote: !skip_to(octets, b'"').is_empty(),
-        has_backslash: !skip_to(octets, b'\\').is_empty(),
-        has_semicolon: !skip_to(octets, b';').is_empty(),
-    }
-}
-
-/// Scans octets: once, if they contain none of `(`, `"` and the backslash, as most entries.
-pub fn scan_octets(octets: &[u8]) -> OctetScan {
-    if octets.len() < LANES {
-        let is_plain = octets.iter().all(|octet| is_plain(*octet));
-        return scan_marks(octets, is_plain);
-    }
-    // The last load comes first. It may repeat octets of the load before it.
-    let last = octets.len() - LANES;
-    let mut found = classes(u8x16::from_slice(&octets[last..]));
-    let mut start = 0;
-    while start < last {
-        found = found | classes(u8x16::from_slice(&octets[start..]));
-        start += LANES;
-    }
-    let is_plain = !has_class(found, OTHERS);
-    if has_class(found, MARKS) {
-        return scan_marks(octets, is_plain);
-    }
-    OctetScan {
-        is_plain,
-        has_parenthesis: false,
-        has_quote: false,
-        has_backslash: false,
-        has_semicolon: has_class(found, SEMICOLONS),
-    }
-}
 
 /// Drops the octets before the first one that equals `octet`, or all of them if none does.
 fn skip_to(octets: &[u8], octet: u8) -> &[u8]
