@@ -3,7 +3,7 @@ use crate::exceptions::{may_except, stated_of};
 use crate::explain::Refusal;
 use crate::findings::Findings;
 use crate::held_zone::{
-    HeldZone, RecordLocation, StandingRecord, is_of_absence, is_of_signed_absence, other_soa,
+    HeldZone, RecordLocation, SortedZone, is_of_absence, is_of_signed_absence, other_soa,
 };
 use crate::locations::{
     beginning, begins_blank, data_start, line_spot, long_at, octet_at, position_at, spot_at,
@@ -15,10 +15,11 @@ use crate::octet_texts::{is_name, is_of_file, remark_text};
 use crate::open_file::first_place;
 use crate::refusals::refused_type;
 use crate::reporter::{Reporter, Said};
-use crate::rule_texts::ZoneRecords;
+use crate::rule_texts::CheckedZone;
 use crate::scan::{OctetScan, ends_twice, needs_lint, repeats_origin, scan_octets};
 use crate::scopes::{Scope, scope_of};
 use crate::signature_groups::{groups_of, is_of_time};
+use crate::signed_zone::signed_findings;
 use crate::slips::{is_of_parameters, slip_of};
 use crate::stop::RunError;
 use crate::subjects::{Text, quoted};
@@ -32,14 +33,13 @@ use record_rules::RecordRule;
 use std::alloc::Global;
 use zone_check::codes::{code_of_entry, code_of_rule, code_of_security};
 use zone_check::names::{ends_in_dot, ends_like};
-use zone_dnssec::{Times, check_signed};
+use zone_dnssec::Times;
 use zone_format::place::LocatedOffset;
 use zone_reader::{NameBuffer, ParsedEntry, RecordTtl, class_word, directive_word};
 use zone_record::Data;
 use zone_rules::names::view;
-use zone_rules::sorted::has_type;
-use zone_rules::{Rule, SortedRecords, SortedSets, check_zone};
-use zone_set::{TaggedOctets, serial_of};
+use zone_rules::{Rule, SortedSets, ZoneRecords, check_zone};
+use zone_set::serial_of;
 use zone_stream::BlockRefusal;
 use zonetext_report::code::Code;
 use zonetext_report::lint::{Block, lint};
@@ -140,16 +140,17 @@ impl<'a> Checker<'a> {
             None => None,
         };
         let findings = Findings::new(rt, reporter, named, limits.is_standard, !limits.is_text);
+        let held = match &zone {
+            _ if !holds => None,
+            Some(zone) => Some(HeldZone::new(alloc, zone)),
+            None => Some(HeldZone::new(alloc, &Name::root_ref())),
+        };
         Checker {
             alloc,
             findings,
             limits,
             zone,
-            held: if holds {
-                Some(HeldZone::new(alloc))
-            } else {
-                None
-            },
+            held,
             records: 0,
             seen: None,
             crlf_files: Vec::new(alloc),
@@ -451,7 +452,12 @@ impl<'a> Checker<'a> {
     }
 
     /// Stores a record and the position of its type, if records are held. `at` is the type's offset.
-    fn hold_record(&mut self, entry: &Entry<'_>, at: usize) -> Result<(), RunError> {
+    fn hold_record(
+        &mut self,
+        entry: &Entry<'_>,
+        scan: OctetScan,
+        at: usize,
+    ) -> Result<(), RunError> {
         let Some(held) = &mut self.held else {
             return Ok(());
         };
@@ -462,9 +468,9 @@ impl<'a> Checker<'a> {
         let stand = RecordLocation {
             file: entry.number,
             position,
-            target: target_position(entry, position),
+            target: target_position(entry, scan, position),
         };
-        held.records.add(given, stand)
+        held.add(&given, stand)
     }
 
     /// Stores the RRset of a rejected record, if records are stored and its owner and its type are
@@ -509,7 +515,7 @@ impl<'a> Checker<'a> {
         }
         self.check_values(entry, at, ttl, rtype)?;
         self.check_lone_rules(entry, scan, at, rtype)?;
-        self.hold_record(entry, at)
+        self.hold_record(entry, scan, at)
     }
 
     /// Reports if a directive's name is relative. `place` is the index of its token.
@@ -553,6 +559,7 @@ impl<'a> Checker<'a> {
         let Some(held) = self.held.take() else {
             return Ok(());
         };
+        let held = held.sorted();
         let has_zone = self.zone.is_some() && !self.is_cut;
         self.findings.reporter.exceptions.sort()?;
         if !self.is_cut {
@@ -567,7 +574,7 @@ impl<'a> Checker<'a> {
     }
 
     /// Reports findings about the records that are held.
-    fn check_held(&mut self, held: &HeldZone) -> Result<(), RunError> {
+    fn check_held(&mut self, held: &SortedZone) -> Result<(), RunError> {
         match self.zone.take() {
             Some(zone) => self.check_zone(held, &zone, true),
             None => self.check_zone(held, &Name::root_ref(), false),
@@ -577,7 +584,7 @@ impl<'a> Checker<'a> {
     /// Reports an exception, by its number, if it was not used.
     fn end_exception(
         &mut self,
-        held: &HeldZone,
+        held: &SortedZone,
         number: usize,
         has_zone: bool,
     ) -> Result<(), RunError> {
@@ -659,7 +666,7 @@ impl<'a> Checker<'a> {
         match entry.read {
             Ok(ParsedEntry::Record { at, .. }) => {
                 self.count_record();
-                self.hold_record(entry, *at)
+                self.hold_record(entry, scan, *at)
             }
             _ => Ok(()),
         }
@@ -668,39 +675,33 @@ impl<'a> Checker<'a> {
     /// Reports which rules the records break: those of a zone, or only those of RRsets.
     fn check_zone<Origin: AsOctets>(
         &mut self,
-        held: &HeldZone,
+        held: &SortedZone,
         zone: &Name<Origin>,
         is_zone: bool,
     ) -> Result<(), RunError> {
-        let mut set = held.records.set()?;
-        set.sort()?;
-        let records = set.as_slice();
-        let Some(sorted) = SortedRecords::new(records) else {
-            return Err(RunError::Damaged);
-        };
         let refused = held.refused.sorted()?;
         let Some(refused) = SortedSets::new(refused.as_slice()) else {
             return Err(RunError::Damaged);
         };
-        let found = check_zone(self.alloc, zone, &sorted, &refused)?;
+        let found = check_zone(self.alloc, zone, &held.records, &refused)?;
         if is_zone {
-            if let Some(finding) = other_soa(found.as_slice(), records) {
-                let record = finding.record.and_then(|place| records.get(place));
-                return self.report_other_soa(held, code_of_rule(finding.rule), record, zone);
+            if let Some(finding) = other_soa(found.as_slice(), held) {
+                let code = code_of_rule(finding.rule);
+                return self.report_other_soa(held, code, finding.record, zone);
             }
         }
         for finding in &found {
             if self.tells_rule(finding.rule, is_zone) {
-                let records = ZoneRecords {
+                let checked = CheckedZone {
                     zone,
-                    sorted: &sorted,
+                    held,
                     refused: &refused,
                 };
-                self.findings.tell_rule(held, &records, finding)?;
+                self.findings.tell_rule(&checked, finding)?;
             }
         }
         match self.limits.times {
-            Some(times) if is_zone => self.check_signatures(held, zone, times, &sorted),
+            Some(times) if is_zone => self.check_signatures(held, zone, times),
             _ => Ok(()),
         }
     }
@@ -717,9 +718,9 @@ impl<'a> Checker<'a> {
     /// Reports that the records have an SOA only at a name that is not the zone's.
     fn report_other_soa<Origin: AsOctets>(
         &mut self,
-        held: &HeldZone,
+        held: &SortedZone,
         code: Code,
-        record: Option<&StandingRecord<'_>>,
+        record: Option<usize>,
         zone: &Name<Origin>,
     ) -> Result<(), RunError> {
         let zone = DisplayWithDot::new(zone);
@@ -731,36 +732,33 @@ impl<'a> Checker<'a> {
     /// Reports which rules of DNSSEC the records of a zone break.
     fn check_signatures<Origin: AsOctets>(
         &mut self,
-        held: &HeldZone,
+        held: &SortedZone,
         zone: &Name<Origin>,
         times: Times,
-        records: &SortedRecords<'_, TaggedOctets<'_, RecordLocation>, &[u8]>,
     ) -> Result<(), RunError> {
         // Findings that an unread record might explain are not reported.
         let is_whole = !self.has_gap && held.refused.is_empty();
-        if !has_type(records, &view(zone), RecordType::DNSKEY) {
+        if !held.records.has_type(&view(zone), RecordType::DNSKEY) {
             return if is_whole {
                 self.findings.report_broken(held, Code::NoDnskey, None)
             } else {
                 Ok(())
             };
         }
-        let found = check_signed(self.alloc, zone, times, records)?;
+        let found = signed_findings(self.alloc, held, zone, times)?;
         for finding in &found {
             if (!is_whole && is_of_signed_absence(finding.rule)) || is_of_time(finding.rule) {
                 continue;
             }
-            let record = records.as_slice().get(finding.record);
             self.findings
-                .report_broken(held, code_of_security(finding.rule), record)?;
+                .report_broken(held, code_of_security(finding.rule), Some(finding.record))?;
         }
         let joins = self.findings.reporter.joins_equal();
-        let groups = groups_of(self.alloc, found.as_slice(), records.as_slice(), joins)?;
+        let groups = groups_of(self.alloc, found.as_slice(), held, joins)?;
         for group in &groups {
             let text = group.text(self.alloc)?;
-            let record = records.as_slice().get(group.record);
-            self.findings
-                .report_at(held, code_of_security(group.rule), record, false, &text)?;
+            let (code, record) = (code_of_security(group.rule), Some(group.record));
+            self.findings.report_at(held, code, record, false, &text)?;
         }
         Ok(())
     }

@@ -3,6 +3,7 @@ ghost use Rattle.std.specs.Prelude.{◌≤◌, length};
 
 use crate::open_file::behind;
 use crate::reporter::FindingLocation;
+use crate::scan::OctetScan;
 use crate::zone_files::Entry;
 use dns_lexer::entry_tokens::{EntryPart, EntryToken, EntryTokens, NextEntryError};
 use dns_lexer::pieces::{Fault, Wrong};
@@ -75,15 +76,45 @@ fn offset_after_type(entry: &Entry<'_>, number: usize) -> Option<usize> {
     None
 }
 
+/// Returns whether an octet separates words.
+fn is_blank(octet: u8) -> bool {
+    matches!(octet, b' ' | b'\t' | b'\n')
+}
+
+/// Returns the offset of the last word of an entry, if all of its tokens are words without escapes,
+/// and it has neither parentheses nor comments.
+fn last_word(octets: &[u8], scan: OctetScan) -> Option<usize> {
+    if !scan.is_plain || scan.has_parenthesis || scan.has_quote {
+        return None;
+    }
+    if scan.has_backslash || scan.has_semicolon {
+        return None;
+    }
+    let last = octets.iter().rposition(|octet| !is_blank(*octet))?;
+    match octets[..last].iter().rposition(|octet| is_blank(*octet)) {
+        Some(blank) => Some(blank + 1),
+        None => Some(0),
+    }
+}
+
+/// Returns the offset of the target of a record, which is the last field of its data. `number` is the
+/// index of that field.
+fn target_offset(entry: &Entry<'_>, scan: OctetScan, number: usize) -> Option<usize> {
+    match last_word(entry.octets, scan) {
+        Some(at) => Some(at),
+        None => offset_after_type(entry, number),
+    }
+}
+
 /// Returns the position of the target of a record, or that of its first token if it has none.
-pub fn target_position(entry: &Entry<'_>, first: Position) -> Position {
+pub fn target_position(entry: &Entry<'_>, scan: OctetScan, first: Position) -> Position {
     let Ok(ParsedEntry::Record { rtype, .. }) = entry.read else {
         return first;
     };
     let Some(number) = target_number(*rtype) else {
         return first;
     };
-    match offset_after_type(entry, number) {
+    match target_offset(entry, scan, number) {
         Some(at) => position_at(entry, at),
         None => first,
     }
