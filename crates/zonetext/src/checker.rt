@@ -464,11 +464,12 @@ impl<'a> Checker<'a> {
         let Some(given) = entry.record()? else {
             return Ok(());
         };
-        let position = position_at(entry, at.saturating_sub(entry.offset));
+        let start = at.saturating_sub(entry.offset);
+        let position = position_at(entry, start);
         let stand = RecordLocation {
             file: entry.number,
             position,
-            target: target_position(entry, scan, position),
+            target: target_position(entry, scan, start, position),
         };
         held.add(&given, stand)
     }

@@ -97,27 +97,50 @@ fn last_word(octets: &[u8], scan: OctetScan) -> Option<usize> {
     }
 }
 
-/// Returns the offset of the target of a record, which is the last field of its data. `number` is the
-/// index of that field.
-fn target_offset(entry: &Entry<'_>, scan: OctetScan, number: usize) -> Option<usize> {
+/// Returns the position of an offset in the first line of an entry, whose beginning has a position. The
+/// octets before it are ASCII.
+fn on_first_line(beginning: Position, at: usize) -> Position {
+    Position {
+        line: beginning.line,
+        column: beginning.column.saturating_add(at),
+    }
+}
+
+/// Returns the position of the target of a record, which is the last field of its data. `number` is
+/// the index of that field, and `start` the offset of the record's first token from the beginning of
+/// the entry.
+fn position_of_target(
+    entry: &Entry<'_>,
+    scan: OctetScan,
+    start: usize,
+    first: Position,
+    number: usize,
+) -> Position {
     match last_word(entry.octets, scan) {
-        Some(at) => Some(at),
-        None => offset_after_type(entry, number),
+        Some(at) if start == 0 => on_first_line(first, at),
+        Some(at) => position_at(entry, at),
+        None => match offset_after_type(entry, number) {
+            Some(at) => position_at(entry, at),
+            None => first,
+        },
     }
 }
 
 /// Returns the position of the target of a record, or that of its first token if it has none.
-pub fn target_position(entry: &Entry<'_>, scan: OctetScan, first: Position) -> Position {
+/// `start` is the offset of that token from the beginning of the entry, and `first` its position.
+pub fn target_position(
+    entry: &Entry<'_>,
+    scan: OctetScan,
+    start: usize,
+    first: Position,
+) -> Position {
     let Ok(ParsedEntry::Record { rtype, .. }) = entry.read else {
         return first;
     };
     let Some(number) = target_number(*rtype) else {
         return first;
     };
-    match target_offset(entry, scan, number) {
-        Some(at) => position_at(entry, at),
-        None => first,
-    }
+    position_of_target(entry, scan, start, first, number)
 }
 
 /// Returns the tokens of an entry, or those before its syntax error.
@@ -170,6 +193,9 @@ fn token_from(tokens: &[EntryToken<'_>], at: usize) -> (usize, usize) {
 
 /// Returns the position of an offset of an entry, which is counted from the entry's beginning.
 pub fn position_at(entry: &Entry<'_>, at: usize) -> Position {
+    if at == 0 {
+        return entry.place().position;
+    }
     let count = at.min(entry.held.len());
     behind(entry.place(), &entry.held[..count]).position
 }

@@ -19,6 +19,18 @@ fn compare_row(row: &Row, file: u32, location: u64) -> Ordering {
     row.file.cmp(&file).then(row.location.cmp(&location))
 }
 
+/// Returns whether a name in wire format has a capital letter. The length of a label is below 64, and so
+/// less than any letter.
+fn has_capital(name: &[u8]) -> bool {
+    let mut has_capital = false;
+    for octet in name {
+        if octet.is_ascii_uppercase() {
+            has_capital = true;
+        }
+    }
+    has_capital
+}
+
 /// The owners that have capital letters, in wire format, by the locations of their records.
 #[derive(Drop)]
 pub struct SpelledOwners {
@@ -55,8 +67,7 @@ impl SpelledOwners {
 
     /// Adds the owner of a record, if it has a capital letter.
     pub fn add(&mut self, owner: &[u8], file: u32, location: u64) -> Result<(), RunError> {
-        // The length of a label is below 64, and so less than any letter.
-        if !owner.iter().any(|octet| octet.is_ascii_uppercase()) {
+        if !has_capital(owner) {
             return Ok(());
         }
         let (start, end) = self.stored(owner)?;
