@@ -1,6 +1,6 @@
 //! Positions of records in their files, as numbers.
-ghost use Rattle.std.specs.Prelude.{◌≡◌, ◌<◌, ◌≤◌, ◌+◌, ◌*◌, ◌%◌, ◌++◌, [], ◌∷◌, IfOk, IfSome, OnErr, OnOk, false, true, get_or, length};
-ghost use Rattle.zone_contents.specs.Locations.{far_location, far_number, index_number, located, location, near_code, near_location, unpacked, KeepsLocated, Packs};
+ghost use Rattle.std.specs.Prelude.{◌≡◌, ◌<◌, ◌+◌, ◌*◌, ◌^◌, ◌++◌, [], ◌∷◌, IfOk, IfSome, OnErr, OnOk, true};
+ghost use Rattle.zone_contents.specs.Locations.{far_location, far_number, index_number, located, near_code, near_location, unpacked, KeepsLocated, Packs};
 
 use std::alloc::{AllocError, Allocator, Global};
 use std::marker::Model;
@@ -36,16 +36,19 @@ fn near_location(line: u64, code: u64) -> Location
     requires { code < 256 }
     ensures { result ≡ near_location line code }
 {
-    let (column, target_column) = if code < 128 {
-        (1, code + 1)
-    } else {
-        (code - 126, code - 126)
-    };
+    if code < 128 {
+        return Location {
+            line,
+            column: 1,
+            target_line: line,
+            target_column: code + 1,
+        };
+    }
     Location {
         line,
-        column,
+        column: code - 126,
         target_line: line,
-        target_column,
+        target_column: code - 126,
     }
 }
 
