@@ -2,14 +2,14 @@
 use Rattle.std.specs.Prelude.{◌≡◌, ◌==◌, nat_lt, ℕ, ◌+◌, ◌-◌, ◌*◌, ◌/◌, ◌%◌, ◌^◌, ◌++◌, if◌then◌else◌, false, List, get_or}
 use Rattle.zone_contents.specs.declared.locations.Location.{Location}
 
-abbrev pub location_at : ℕ → ℕ → ℕ → ℕ → Location
-location_at line column target_line target_column =
+abbrev pub location_with : ℕ → ℕ → ℕ → ℕ → Location
+location_with line column target_line target_column =
     record { line = line; column = column; target_line = target_line; target_column = target_column }
 
 -- a record at column 1 with a target on its line, or a record without a target
 abbrev pub near_location : ℕ → ℕ → Location
 near_location line code =
-    if nat_lt code 128 then location_at line 1 line (code + 1) else location_at line (code - 126) line (code - 126)
+    if nat_lt code 128 then location_with line 1 line (code + 1) else location_with line (code - 126) line (code - 126)
 
 abbrev pub near_code : Location → ℕ
 near_code l = if l.column == 1 then l.target_column - 1 else l.column + 126
@@ -17,7 +17,7 @@ near_code l = if l.column == 1 then l.target_column - 1 else l.column + 126
 -- a line, a column, the lines from the record to its target, and the target's column
 abbrev pub far_location : ℕ → Location
 far_location n =
-    location_at (n / 2 ^ 28) (n / 2 ^ 18 % 2 ^ 10) (n / 2 ^ 28 + n / 2 ^ 12 % 2 ^ 6) (n % 2 ^ 12)
+    location_with (n / 2 ^ 28) (n / 2 ^ 18 % 2 ^ 10) (n / 2 ^ 28 + n / 2 ^ 12 % 2 ^ 6) (n % 2 ^ 12)
 
 abbrev pub far_number : Location → ℕ
 far_number l =
@@ -33,7 +33,7 @@ index_number index = index * 256 + 254
 
 -- the location of a number
 abbrev pub located : List Location → ℕ → Location
-located others n = if n % 256 == 254 then get_or others (n / 256) (location_at 0 0 0 0) else unpacked n
+located others n = if n % 256 == 254 then get_or others (n / 256) (location_with 0 0 0 0) else unpacked n
 
 -- a number has a location alone
 abbrev pub Packs : Location → ℕ → Type 0
