@@ -5,6 +5,7 @@ use crate::findings::Findings;
 use crate::held_zone::{
     HeldZone, RecordLocation, StandingRecord, is_of_absence, is_of_signed_absence, other_soa,
 };
+use crate::hidden_zone::report_hidden;
 use crate::locations::{
     beginning, begins_blank, data_start, line_spot, long_at, octet_at, position_at, spot_at,
     target_position, token_at, tokens_of,
@@ -689,15 +690,18 @@ impl<'a> Checker<'a> {
                 return self.report_other_soa(held, code_of_rule(finding.rule), record, zone);
             }
         }
+        let records = ZoneRecords {
+            zone,
+            sorted: &sorted,
+            refused: &refused,
+        };
         for finding in &found {
             if self.tells_rule(finding.rule, is_zone) {
-                let records = ZoneRecords {
-                    zone,
-                    sorted: &sorted,
-                    refused: &refused,
-                };
                 self.findings.tell_rule(held, &records, finding)?;
             }
+        }
+        if is_zone {
+            report_hidden(self.alloc, &mut self.findings, held, &records, self.has_gap)?;
         }
         match self.limits.times {
             Some(times) if is_zone => self.check_signatures(held, zone, times, &sorted),

@@ -50,7 +50,7 @@ fn target_of<'r>(record: &'r StandingRecord<'_>) -> Option<Name<&'r [u8]>> {
 }
 
 /// Returns whether a record is an address.
-fn is_address(record: &StandingRecord<'_>) -> bool {
+pub fn is_address(record: &StandingRecord<'_>) -> bool {
     matches!(record.data.rtype(), RecordType::A | RecordType::AAAA)
 }
 
@@ -167,7 +167,7 @@ fn cname_target(alloc: Global, record: &StandingRecord<'_>) -> Result<Option<Tex
 }
 
 /// Returns whether a position is before another, in the same file or a later one.
-fn is_before(left: RecordLocation, right: RecordLocation) -> bool {
+pub fn is_before(left: RecordLocation, right: RecordLocation) -> bool {
     let (line, column) = (left.position.line, left.position.column);
     let (other_line, other_column) = (right.position.line, right.position.column);
     left.file < right.file
