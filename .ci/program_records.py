@@ -435,6 +435,32 @@ def rules_row(codes, *options):
     return plan
 
 
+def hidden_row(row):
+    """The hidden records by line; all addresses among them are one finding, with their number."""
+    text, origin, *others = row.inputs
+    # `check` takes records of one class alone, and the text has no rejected entry.
+    if others or b" CH " in text:
+        return None
+    zone = origin_words(origin)
+    commands = [zonetext("check", *zone, "--json", "--max", "0", "f"), zonetext("records", *zone, "f")]
+    wanted = [tuple(it.split(b" ")[1:]) for it in items(row.wanted)]
+    addresses = sorted(it for it in wanted if it[1] in (b"A", b"AAAA"))
+
+    def agrees(rans):
+        check, records = rans
+        owners = owners_by_line(text, records.out)
+        if owners is None or check.status not in (0, 1) or records.status:
+            return False
+        found = [(owners[it["line"]], it["message"]) for it in findings(check, {"hidden"})]
+        glueless = [it for it in found if it[0][1] in (b"A", b"AAAA")]
+        others = sorted(it[0] for it in found if it not in glueless)
+        count = re.findall(r"\((\d+) such addresses\)", " ".join(it[1] for it in glueless))
+        return (others == sorted(it for it in wanted if it not in addresses) and len(glueless) == min(1, len(addresses))
+                and all(it[0] in addresses for it in glueless) and count == [str(len(addresses))] * (len(addresses) > 1))
+
+    return Plan({"f": text}, commands, f"hidden {short(b';'.join(b' '.join(it) for it in wanted))}", agrees)
+
+
 def hash_row(row):
     """An NSEC3 with the expected hash matches the name, and one with another hash does not."""
     name, salt, iterations, origin = row.inputs
@@ -643,6 +669,7 @@ CALLS = {
     "zone.pieces": entries_row,
     "zone.blocks": entries_row,
     "zone.rules": rules_row(RULES),
+    "zone.hidden": hidden_row,
     "zone.dnssec": rules_row(SECURITY, "--dnssec"),
     "zone.cut": cut_row,
     "zone.hash": hash_row,

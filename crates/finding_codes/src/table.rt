@@ -70,6 +70,7 @@ pub fn summary_of(code: Code) -> &'static str {
         Code::TwoSpf => "A name has two SPF records",
         Code::WeakDigest => "SHA-1 is the only digest of a key",
         Code::SingleNs => "A zone has only one name server",
+        Code::Hidden => "A delegation hides a record",
         Code::NoDnskey => "The zone must be signed, and has no DNSKEY at its apex",
         Code::Expired => "A signature has expired",
         Code::ExpiresSoon => "A signature expires within the time of --within",
@@ -241,6 +242,8 @@ pub fn text_of(code: Code) -> &'static str {
             "The DS of a key has digest type 1 alone, which must not be used to sign delegations (RFC 8624 section 3.3). Add one of type 2 (SHA-256).",
         Code::SingleNs =>
             "It needs two or more, so that one can fail (RFC 1034 section 4.1, RFC 2182 section 5). A host at or below invalid. or localhost. is not reported: catalog zones have one (RFC 9432).",
+        Code::Hidden =>
+            "A server answers with a referral for names at and below a delegation (RFC 1034 section 4.3.2), so no resolver gets the record. Move it to the file of the delegated zone. At a delegation only NS, DS, NSEC and RRSIG are not hidden. An A or AAAA is glue if its owner is the host of an NS of the zone; all others are one finding, at the first of them.",
         Code::NoDnskey =>
             "--dnssec checks a signed zone. Is the file the unsigned one (RFC 4035 section 2.1)?",
         Code::Expired =>
@@ -392,6 +395,7 @@ pub fn example_of(code: Code) -> &'static str {
         Code::TwoSpf => "a TXT \"v=spf1 mx -all\"\na TXT \"v=spf1 a -all\"",
         Code::WeakDigest => "a NS ns\na DS 1 8 1 0000000000000000000000000000000000000000",
         Code::SingleNs => "$TTL 60\n@ SOA ns h 1 4 2 9 5\n@ NS ns\nns A 192.0.2.1",
+        Code::Hidden => "sub NS ns\nsub NS ns.o.\nwww.sub CNAME x.o.",
         Code::NoDnskey => "a A 192.0.2.2",
         Code::Expired =>
             "a A 192.0.2.2\na RRSIG A 13 2 60 20200101000000 20191201000000 1037 example. AA==",

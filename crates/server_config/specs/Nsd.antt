@@ -13,7 +13,7 @@ use Rattle.server_config.specs.declared.nsd.NsdKeyword.TheVariants.{Begins, Incl
 use Rattle.server_config.specs.declared.nsd.NsdSection.{NsdSection}
 use Rattle.server_config.specs.declared.nsd.NsdSection.TheVariants as sections
 use Rattle.server_config.specs.declared.nsd.NsdStep.{NsdStep}
-use Rattle.server_config.specs.declared.settings.LeftOut.TheVariants.{OtherType}
+use Rattle.server_config.specs.declared.settings.OmitReason.TheVariants.{OtherType}
 use Rattle.server_config.specs.declared.settings.ZoneOutcome.{ZoneOutcome}
 use Rattle.server_config.specs.declared.settings.ZoneOutcome.TheVariants.{Checked, NoFile, Omitted}
 use Rattle.server_config.specs.declared.token.ConfigToken.{ConfigToken}

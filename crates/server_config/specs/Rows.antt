@@ -16,7 +16,7 @@ use Rattle.server_config.specs.declared.nsd.NsdEvent.{NsdEvent}
 use Rattle.server_config.specs.declared.nsd.NsdEvent.TheVariants as events
 use Rattle.server_config.specs.declared.nsd.NsdSection.TheVariants as sections
 use Rattle.server_config.specs.declared.settings.FileFormat.TheVariants.{Map, Raw, Text}
-use Rattle.server_config.specs.declared.settings.LeftOut.TheVariants.{Database, Format, InView, OtherType, Template}
+use Rattle.server_config.specs.declared.settings.OmitReason.TheVariants.{Database, Format, InView, OtherType, Template}
 use Rattle.server_config.specs.declared.settings.Settings.{Settings}
 use Rattle.server_config.specs.declared.settings.ZoneOutcome.TheVariants.{Checked, NoFile, NoType, Omitted}
 use Rattle.server_config.specs.declared.settings.ZoneSettings.{ZoneSettings}

@@ -2,7 +2,7 @@
 use Rattle.std.specs.Prelude.{false, if◌then◌else◌, Option, None, Some}
 use Rattle.server_config.specs.declared.settings.FileFormat.{FileFormat}
 use Rattle.server_config.specs.declared.settings.FileFormat.TheVariants.{Map, Raw, Text}
-use Rattle.server_config.specs.declared.settings.LeftOut.TheVariants.{Database, Format, InView, OtherType, Template}
+use Rattle.server_config.specs.declared.settings.OmitReason.TheVariants.{Database, Format, InView, OtherType, Template}
 use Rattle.server_config.specs.declared.settings.Settings.{Settings}
 use Rattle.server_config.specs.declared.settings.ZoneOutcome.{ZoneOutcome}
 use Rattle.server_config.specs.declared.settings.ZoneOutcome.TheVariants.{Checked, NoFile, NoType, Omitted}

@@ -23,7 +23,7 @@ pub use clause::{Clause, ClauseEnd, next_clause};
 pub use error::{ConfigError, ConfigErrorKind};
 pub use nsd::{NsdEvent, NsdSection, NsdStep, is_nsd_config, next_nsd_step, nsd_zone_outcome};
 pub use settings::{
-    FileFormat, LeftOut, Settings, Severity, ZoneOutcome, ZoneSettings, ZoneType, zone_outcome,
+    FileFormat, OmitReason, Settings, Severity, ZoneOutcome, ZoneSettings, ZoneType, zone_outcome,
 };
 pub use state::{BlockName, ConfigBlock, ConfigEvent, ConfigState, ConfigStep, LastClause};
 pub use step::next_step;

@@ -6,7 +6,7 @@ ghost use Rattle.std.specs.Prelude.{◌≡◌};
 ghost use Rattle.server_config.specs.Nsd.{has_zone_attributes, is_nsd_config, is_read_in, is_server, next_nsd_step, nsd_attribute_keyword, nsd_attribute_step, nsd_keyword_of, nsd_keyword_step, nsd_section_keyword, nsd_step_to, nsd_transfer_step, nsd_value, nsd_value_event, nsd_value_of, nsd_zone_outcome, read_nsd_keyword};
 
 use crate::error::{ConfigError, ConfigErrorKind};
-use crate::settings::{LeftOut, ZoneOutcome};
+use crate::settings::{OmitReason, ZoneOutcome};
 use crate::statement::error_at_token;
 use crate::token::{ConfigToken, TokenKind, next_nsd_token};
 use dns_octets::lowered::same_octets;
@@ -296,7 +296,7 @@ pub fn nsd_zone_outcome(has_file: bool, requests_transfer: bool) -> ZoneOutcome
     ensures { result ≡ nsd_zone_outcome has_file requests_transfer }
 {
     if requests_transfer {
-        return ZoneOutcome::Omitted(LeftOut::OtherType);
+        return ZoneOutcome::Omitted(OmitReason::OtherType);
     }
     if has_file {
         ZoneOutcome::Checked

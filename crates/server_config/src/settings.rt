@@ -73,7 +73,7 @@ pub struct ZoneSettings {
 
 /// Why the file of a zone is not checked.
 #[derive(Clone, Copy, Debug, PartialEq, Eq)]
-pub enum LeftOut {
+pub enum OmitReason {
     /// The zone is one of another view.
     InView,
     /// The zone has a template, which BIND 9.18 doesn't have.
@@ -92,7 +92,7 @@ pub enum ZoneOutcome {
     /// Its file is checked.
     Checked,
     /// Its file is not checked.
-    Omitted(LeftOut),
+    Omitted(OmitReason),
     /// It has no type.
     NoType,
     /// It is a primary zone without a file.
@@ -150,13 +150,13 @@ fn primary_outcome(zone: &ZoneSettings, format: Option<FileFormat>) -> ZoneOutco
     ensures { result ≡ primary_outcome zone.now format }
 {
     if zone.has_database {
-        return ZoneOutcome::Omitted(LeftOut::Database);
+        return ZoneOutcome::Omitted(OmitReason::Database);
     }
     if !zone.has_file {
         return ZoneOutcome::NoFile;
     }
     match format {
-        Some(FileFormat::Raw) | Some(FileFormat::Map) => ZoneOutcome::Omitted(LeftOut::Format),
+        Some(FileFormat::Raw) | Some(FileFormat::Map) => ZoneOutcome::Omitted(OmitReason::Format),
         Some(FileFormat::Text) | None => ZoneOutcome::Checked,
     }
 }
@@ -169,14 +169,14 @@ pub fn zone_outcome(zone: &ZoneSettings, outer: &Settings) -> ZoneOutcome
     ensures { result ≡ zone_outcome zone.now outer.now }
 {
     if zone.is_in_view {
-        return ZoneOutcome::Omitted(LeftOut::InView);
+        return ZoneOutcome::Omitted(OmitReason::InView);
     }
     if zone.has_template {
-        return ZoneOutcome::Omitted(LeftOut::Template);
+        return ZoneOutcome::Omitted(OmitReason::Template);
     }
     match zone.zone_type {
         Some(ZoneType::Primary) => primary_outcome(zone, zone.settings.within(outer).format),
-        Some(_) => ZoneOutcome::Omitted(LeftOut::OtherType),
+        Some(_) => ZoneOutcome::Omitted(OmitReason::OtherType),
         None => ZoneOutcome::NoType,
     }
 }

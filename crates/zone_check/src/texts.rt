@@ -61,6 +61,7 @@ pub fn code_text(code: Code) -> &'static str
         Code::TwoSpf => "name has another SPF record",
         Code::WeakDigest => "SHA-1 is the only digest of this key",
         Code::SingleNs => "zone has only one name server",
+        Code::Hidden => "hidden by a delegation",
         Code::NoDnskey => "no DNSKEY at the zone's name: it is not signed",
         Code::Expired => "signature has expired",
         Code::ExpiresSoon => "signature expires soon",

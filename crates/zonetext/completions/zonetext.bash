@@ -27,7 +27,7 @@ _zonetext() {
             options+=' --max-entry --quiet -w -v'
             ;;
         serial)
-            options='--write --date --unix --increment --set --now --force --zone --zone-from-name --class --include --base'
+            options='--json --write --date --unix --increment --set --now --force --zone --zone-from-name --class --include --base'
             options+=' --max-entry --quiet -w'
             ;;
         cut) options='--output --soa --zone --zone-from-name --class --max-entry --quiet -o' ;;

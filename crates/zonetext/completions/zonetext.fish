@@ -39,7 +39,7 @@ complete -c zonetext -n '__fish_seen_subcommand_from check records canon diff di
 complete -c zonetext -n '__fish_seen_subcommand_from check' -l class -x -d 'Class of the zone'
 complete -c zonetext -n '__fish_seen_subcommand_from check' -l format -x -a 'text json github sarif checkstyle' -d 'Print findings for other programs'
 complete -c zonetext -n '__fish_seen_subcommand_from check' -l json -d 'The same as --format json'
-complete -c zonetext -n '__fish_seen_subcommand_from records canon diff digest' -l json -d 'Print JSON objects, one a line'
+complete -c zonetext -n '__fish_seen_subcommand_from records canon diff digest serial' -l json -d 'Print JSON objects, one a line'
 complete -c zonetext -n '__fish_seen_subcommand_from check' -l excerpt -d 'Print the line of each finding, also without a terminal'
 complete -c zonetext -n '__fish_seen_subcommand_from check' -l max -x -d 'Print at most N findings'
 complete -c zonetext -n '__fish_seen_subcommand_from check' -l color -x -a 'auto always never' -d 'When to print findings in colour'

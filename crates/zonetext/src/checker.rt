@@ -5,6 +5,7 @@ use crate::findings::Findings;
 use crate::held_zone::{
     HeldZone, RecordLocation, SortedZone, is_of_absence, is_of_signed_absence, other_soa,
 };
+use crate::hidden_zone::report_hidden;
 use crate::locations::{
     beginning, begins_blank, data_start, line_spot, long_at, octet_at, position_at, spot_at,
     target_position, token_at, tokens_of,
@@ -691,15 +692,18 @@ impl<'a> Checker<'a> {
                 return self.report_other_soa(held, code, finding.record, zone);
             }
         }
+        let checked = CheckedZone {
+            zone,
+            held,
+            refused: &refused,
+        };
         for finding in &found {
             if self.tells_rule(finding.rule, is_zone) {
-                let checked = CheckedZone {
-                    zone,
-                    held,
-                    refused: &refused,
-                };
                 self.findings.tell_rule(&checked, finding)?;
             }
+        }
+        if is_zone {
+            report_hidden(self.alloc, &mut self.findings, &checked, self.has_gap)?;
         }
         match self.limits.times {
             Some(times) if is_zone => self.check_signatures(held, zone, times),

@@ -297,7 +297,7 @@ impl<'a> Findings<'a> {
 
     /// Counts a finding at a record, or at its target, or at the first file's start. Returns its
     /// severity if it may be shown.
-    fn count_at(
+    pub fn count_at(
         &mut self,
         held: &SortedZone,
         code: Code,
@@ -331,7 +331,7 @@ impl<'a> Findings<'a> {
     }
 
     /// Shows a finding that was counted at a record, or at its target, or at the first file's start.
-    fn show_at(
+    pub fn show_at(
         &mut self,
         held: &SortedZone,
         severity: Severity,
@@ -367,6 +367,12 @@ impl<'a> Findings<'a> {
             Some(severity) => self.show_at(held, severity, code, record, at_target, text),
             None => Ok(()),
         }
+    }
+
+    /// Returns whether an exception of a record excepts findings with a code, and marks it as used.
+    pub fn excepts(&mut self, code: Code, record: RecordLocation) -> bool {
+        self.select_exceptions(Some(record));
+        self.reporter.exceptions.excepts(code)
     }
 
     /// Puts the exceptions of a record in effect, or none.

@@ -1,4 +1,4 @@
-//! Records, and digests of zones, as JSON objects, one a line.
+//! Records, and digests and serials of zones, as JSON objects, one a line.
 use crate::gathered::{Gathered, NumberedRecord};
 use crate::lines::Lines;
 use crate::locations::beginning;
@@ -7,7 +7,9 @@ use crate::visit::{Reading, TakeEntry, give_entries};
 use crate::zone_files::Entry;
 use clap::Arg;
 use dns_octets::AsOctets;
-use finding_formats::record_json::{DigestFields, RecordFields, push_digest, push_fields};
+use finding_formats::record_json::{
+    DigestFields, RecordFields, SerialFields, push_digest, push_fields, push_serial,
+};
 use std::alloc::{AllocError, Global};
 use zone_record::{Record, record_of};
 use zone_set::{Change, TaggedOctets, Zonemd, push_generic, push_record};
@@ -129,6 +131,28 @@ pub fn push_json_digest(
     };
     let mut out = Vec::new(*text.allocator());
     push_digest(&mut out, &fields)?;
+    push_utf8(text, out.as_slice())
+}
+
+/// Appends the serial of a zone, and the new one if it was replaced, as a JSON object.
+pub fn push_json_serial(
+    text: &mut String,
+    file: &str,
+    zone: &str,
+    old: u32,
+    new: Option<u32>,
+) -> Result<(), AllocError> {
+    let fields = SerialFields {
+        file: file.as_bytes(),
+        zone: zone.as_bytes(),
+        old: old as usize,
+        new: match new {
+            Some(new) => Some(new as usize),
+            None => None,
+        },
+    };
+    let mut out = Vec::new(*text.allocator());
+    push_serial(&mut out, &fields)?;
     push_utf8(text, out.as_slice())
 }
 

@@ -24,6 +24,7 @@ mod format;
 mod formed;
 mod gathered;
 mod held_zone;
+mod hidden_zone;
 mod json_records;
 mod lines;
 mod listed_zones;

@@ -10,7 +10,7 @@ use crate::stop::{EXIT_IO, RunError};
 use crate::totals::Totals;
 use crate::zone_folders::{FORMS, FolderOptions, add_folder};
 use crate::zone_names::Zone;
-use crate::zone_sources::{LeftOutCounts, SourceError, Sources, ZoneSource, text_of_file};
+use crate::zone_sources::{OmittedCounts, SourceError, Sources, ZoneSource, text_of_file};
 use clap::ArgMatches;
 use server_config::{is_name_form, is_nsd_config};
 use std::alloc::{AllocError, Global};
@@ -226,7 +226,7 @@ pub fn begin_summary(
 }
 
 /// Appends a number of zones that are left out, and why, unless it is 0.
-fn push_left_out(out: &mut String, number: usize, reason: &str) -> Result<(), AllocError> {
+fn push_omitted(out: &mut String, number: usize, reason: &str) -> Result<(), AllocError> {
     if number == 0 {
         return Ok(());
     }
@@ -236,13 +236,13 @@ fn push_left_out(out: &mut String, number: usize, reason: &str) -> Result<(), Al
 }
 
 /// Returns the numbers of zones that are left out, and why. It is empty if there are none.
-fn left_out_text(alloc: Global, counts: LeftOutCounts) -> Result<String, AllocError> {
+fn omitted_text(alloc: Global, counts: OmittedCounts) -> Result<String, AllocError> {
     let mut out = String::new(alloc);
-    push_left_out(&mut out, counts.other_type, "of another type than primary")?;
-    push_left_out(&mut out, counts.in_view, "of another view")?;
-    push_left_out(&mut out, counts.database, "in a database")?;
-    push_left_out(&mut out, counts.format, "not in text format")?;
-    push_left_out(&mut out, counts.template, "with a template")?;
+    push_omitted(&mut out, counts.other_type, "of another type than primary")?;
+    push_omitted(&mut out, counts.in_view, "of another view")?;
+    push_omitted(&mut out, counts.database, "in a database")?;
+    push_omitted(&mut out, counts.format, "not in text format")?;
+    push_omitted(&mut out, counts.template, "with a template")?;
     Ok(out)
 }
 
@@ -271,10 +271,10 @@ fn report_zones(
     totals: &Totals,
     failed: usize,
 ) -> io::Result<()> {
-    let left_out = left_out_text(rt.alloc(), sources.left_out)?;
-    if !left_out.is_empty() {
-        let left_out = left_out.as_str();
-        eprintln!(rt; "left out: {left_out}")?;
+    let omitted = omitted_text(rt.alloc(), sources.omitted)?;
+    if !omitted.is_empty() {
+        let omitted = omitted.as_str();
+        eprintln!(rt; "left out: {omitted}")?;
     }
     let (zones, warnings) = (sources.zones.len(), totals.warnings());
     let plural = if zones == 1 { "" } else { "s" };

@@ -4,7 +4,7 @@ use crate::options::{name_of, seconds_in};
 use crate::zone_sources::{SourceError, Sources, ZoneSource, config_message, joined};
 use rdata_values::Class;
 use server_config::{
-    BlockName, ConfigBlock, ConfigEvent, ConfigState, ConfigToken, LeftOut, Settings, Severity,
+    BlockName, ConfigBlock, ConfigEvent, ConfigState, ConfigToken, OmitReason, Settings, Severity,
     ZoneOutcome, ZoneSettings, append_named_string, next_step, zone_outcome,
 };
 use std::alloc::{AllocError, Global};
@@ -350,8 +350,8 @@ impl<'r> NamedReader<'r> {
         match zone_outcome(&zone.settings, &outer.settings) {
             ZoneOutcome::Checked => sources.zones.push(self.source(zone, &outer)?)?,
             ZoneOutcome::Omitted(reason) => {
-                sources.left_out.add(reason);
-                if reason == LeftOut::Template {
+                sources.omitted.add(reason);
+                if reason == OmitReason::Template {
                     let note = zone_text(alloc, zone, "not checked: zone with a template")?;
                     sources.notes.push(note)?;
                 }

@@ -244,7 +244,7 @@ impl<'r> NsdReader<'r> {
         };
         match nsd_zone_outcome(zone.file.is_some(), zone.requests_transfer) {
             ZoneOutcome::Checked => sources.zones.push(self.source(zone, path)?)?,
-            ZoneOutcome::Omitted(reason) => sources.left_out.add(reason),
+            ZoneOutcome::Omitted(reason) => sources.omitted.add(reason),
             ZoneOutcome::NoType | ZoneOutcome::NoFile => {
                 return Err(zone_error(self.rt.alloc(), zone, "no zonefile of the zone"));
             }

@@ -49,7 +49,7 @@ fn target_of<'r>(record: &'r HeldRecord<'_>) -> Option<Name<&'r [u8]>> {
 }
 
 /// Returns whether the record at an index is an address.
-fn is_address(held: &SortedZone, place: usize) -> bool {
+pub fn is_address(held: &SortedZone, place: usize) -> bool {
     matches!(held.rtype(place), Some(RecordType::A | RecordType::AAAA))
 }
 
@@ -168,7 +168,7 @@ fn cname_target(alloc: Global, record: &HeldRecord<'_>) -> Result<Option<Text>, 
 }
 
 /// Returns whether a position is before another, in the same file or a later one.
-fn is_before(left: RecordLocation, right: RecordLocation) -> bool {
+pub fn is_before(left: RecordLocation, right: RecordLocation) -> bool {
     let (line, column) = (left.position.line, left.position.column);
     let (other_line, other_column) = (right.position.line, right.position.column);
     left.file < right.file

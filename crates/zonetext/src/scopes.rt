@@ -63,6 +63,7 @@ fn is_of_zone(code: Code) -> bool {
             | Code::TwoSpf
             | Code::WeakDigest
             | Code::SingleNs
+            | Code::Hidden
     )
 }
 

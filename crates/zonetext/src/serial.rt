@@ -1,6 +1,8 @@
 //! The command `serial`: prints the serials of zones.
 use crate::digest_places::data_tokens;
 use crate::gathered::Lowerer;
+use crate::json_records::push_json_serial;
+use crate::lines::Lines;
 use crate::locations::position_at;
 use crate::shown::Shown;
 use crate::stop::{RunError, exit_status};
@@ -304,28 +306,50 @@ pub fn serial_span(alloc: Global, soa: &PlacedSoa) -> Result<Span, SerialError> 
     }
 }
 
+/// Prints the serial of a zone, and the new one if it was replaced, as a JSON object.
+pub fn print_json(
+    rt: &HostRuntime,
+    file: &str,
+    zone: &NameBuffer,
+    old: u32,
+    new: Option<u32>,
+) -> Result<(), RunError> {
+    let zone = DisplayWithDot::new(zone).to_string(rt.alloc())?;
+    let mut lines = Lines::new(rt);
+    push_json_serial(&mut lines.text, file, zone.as_str(), old, new)?;
+    lines.flush()?;
+    Ok(())
+}
+
 /// Prints the serial of the zone in a file.
-fn print(rt: &HostRuntime, file: &str, found: &ZoneSerial) -> io::Result<()> {
-    let (file, zone) = (Shown(file), DisplayWithDot::new(&found.zone));
+fn print(rt: &HostRuntime, file: &str, found: &ZoneSerial, is_json: bool) -> Result<(), RunError> {
     let Some(soa) = found.soas.first() else {
         return Ok(());
     };
     let serial = soa.serial;
-    println!(rt; "{file}: {zone} {serial}")
+    if is_json {
+        return print_json(rt, file, &found.zone, serial, None);
+    }
+    let (file, zone) = (Shown(file), DisplayWithDot::new(&found.zone));
+    println!(rt; "{file}: {zone} {serial}")?;
+    Ok(())
 }
 
 /// Prints the serial of the zone in a file, and returns the status.
 #[inline(never)]
-pub fn run(rt: &HostRuntime, file: &str, reading: &Reading<'_>) -> u8 {
+pub fn run(rt: &HostRuntime, file: &str, reading: &Reading<'_>, is_json: bool) -> u8 {
     let answer = match find_serial(rt, file, reading) {
-        Ok(found) => match print(rt, file, &found) {
+        Ok(found) => match print(rt, file, &found, is_json) {
             Ok(()) => Ok(0),
             Err(error) => Err(error),
         },
-        Err(why) => crate::serial_writing::report(rt, file, why),
+        Err(why) => match crate::serial_writing::report(rt, file, why) {
+            Ok(status) => Ok(status),
+            Err(error) => Err(RunError::Write(error)),
+        },
     };
     match answer {
         Ok(status) => status,
-        Err(error) => exit_status(rt, file, RunError::Write(error)),
+        Err(error) => exit_status(rt, file, error),
     }
 }

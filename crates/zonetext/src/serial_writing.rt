@@ -1,13 +1,14 @@
 //! The command `serial --write`: replaces the serial of a zone in its file.
 use crate::format::leave;
 use crate::rewriting::{OldText, RewriteError, rewrite};
-use crate::serial::{SerialError, ZoneSerial, find_serial, serial_span};
+use crate::serial::{SerialError, ZoneSerial, find_serial, print_json, serial_span};
 use crate::shown::Shown;
 use crate::stop::{RunError, exit_status};
 use crate::visit::Reading;
 use std::alloc::Global;
 use std::io;
 use zone_edit::Edit;
+use zone_reader::NameBuffer;
 use zone_serial::{NextSerial, SerialMode, farthest_serial, next_serial, usual_mode};
 use zonetext_lib::replace::Original;
 
@@ -26,6 +27,8 @@ pub struct SerialOptions {
     pub choice: Choice,
     /// Whether zones with a journal next to them are changed too.
     pub ignores_journal: bool,
+    /// Whether the serials are printed as JSON.
+    pub is_json: bool,
 }
 
 impl From<RewriteError> for SerialError {
@@ -38,8 +41,9 @@ impl From<RewriteError> for SerialError {
 }
 
 /// The change that was made.
-#[derive(Clone, Copy)]
+#[derive(Drop)]
 struct Raised {
+    zone: NameBuffer,
     old: u32,
     new: NextSerial,
     mode: SerialMode,
@@ -106,19 +110,25 @@ fn raise(
     let new = next_of(old, mode)?;
     let edits = edits_of(alloc, &found, new.serial)?;
     rewrite(rt, original, OldText::File(file), edits.as_slice())?;
+    let ZoneSerial {
+        zone,
+        has_digest,
+        has_signature,
+        ..
+    } = found;
     Ok(Raised {
+        zone,
         old,
         new,
         mode,
-        has_digest: found.has_digest,
-        has_signature: found.has_signature,
+        has_digest,
+        has_signature,
     })
 }
 
-/// Reports the new serial, and what it makes stale.
-fn report_raised(rt: &HostRuntime, file: &str, raised: Raised) -> io::Result<()> {
-    let (file, old, new) = (Shown(file), raised.old, raised.new.serial);
-    println!(rt; "{file}: {old} -> {new}")?;
+/// Reports what a new serial makes stale.
+fn report_stale(rt: &HostRuntime, file: &str, raised: &Raised) -> io::Result<()> {
+    let (file, old) = (Shown(file), raised.old);
     if raised.new.is_ahead {
         let what = match raised.mode {
             SerialMode::UnixTime(_) => "time",
@@ -134,6 +144,24 @@ fn report_raised(rt: &HostRuntime, file: &str, raised: Raised) -> io::Result<()>
             "zonetext: {file}: its ZONEMD has the old serial: run zonetext digest --write"
         )?;
     }
+    Ok(())
+}
+
+/// Reports the new serial, and what it makes stale.
+fn report_raised(
+    rt: &HostRuntime,
+    file: &str,
+    raised: &Raised,
+    is_json: bool,
+) -> Result<(), RunError> {
+    let (old, new) = (raised.old, raised.new.serial);
+    if is_json {
+        print_json(rt, file, &raised.zone, old, Some(new))?;
+    } else {
+        let name = Shown(file);
+        println!(rt; "{name}: {old} -> {new}")?;
+    }
+    report_stale(rt, file, raised)?;
     Ok(())
 }
 
@@ -223,14 +251,17 @@ fn refuse(rt: &HostRuntime, file: &str, why: SerialError) -> io::Result<u8> {
 #[inline(never)]
 pub fn run(rt: &HostRuntime, file: &str, reading: &Reading<'_>, work: SerialOptions) -> u8 {
     let answer = match raise(rt, file, reading, work) {
-        Ok(raised) => match report_raised(rt, file, raised) {
+        Ok(raised) => match report_raised(rt, file, &raised, work.is_json) {
             Ok(()) => Ok(0),
             Err(error) => Err(error),
         },
-        Err(why) => refuse(rt, file, why),
+        Err(why) => match refuse(rt, file, why) {
+            Ok(status) => Ok(status),
+            Err(error) => Err(RunError::Write(error)),
+        },
     };
     match answer {
         Ok(status) => status,
-        Err(error) => exit_status(rt, file, RunError::Write(error)),
+        Err(error) => exit_status(rt, file, error),
     }
 }

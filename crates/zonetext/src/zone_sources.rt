@@ -5,7 +5,7 @@ use crate::shown::Shown;
 use crate::stop::EXIT_IO;
 use crate::subjects::quoted;
 use rdata_values::Class;
-use server_config::{ConfigErrorKind, LeftOut, TextSpan};
+use server_config::{ConfigErrorKind, OmitReason, TextSpan};
 use std::alloc::{AllocError, AllocFailed, Global};
 use std::io::{ErrorKind, Read};
 use std::path::Path;
@@ -30,7 +30,7 @@ pub struct ZoneSource {
 
 /// The numbers of zones that are left out, by their reasons.
 #[derive(Clone, Copy)]
-pub struct LeftOutCounts {
+pub struct OmittedCounts {
     pub other_type: usize,
     pub in_view: usize,
     pub database: usize,
@@ -38,10 +38,10 @@ pub struct LeftOutCounts {
     pub template: usize,
 }
 
-impl LeftOutCounts {
+impl OmittedCounts {
     /// Returns the counts before the first zone.
-    pub fn new() -> LeftOutCounts {
-        LeftOutCounts {
+    pub fn new() -> OmittedCounts {
+        OmittedCounts {
             other_type: 0,
             in_view: 0,
             database: 0,
@@ -51,13 +51,13 @@ impl LeftOutCounts {
     }
 
     /// Counts a zone that is left out.
-    pub fn add(&mut self, reason: LeftOut) {
+    pub fn add(&mut self, reason: OmitReason) {
         let count = match reason {
-            LeftOut::OtherType => &mut self.other_type,
-            LeftOut::InView => &mut self.in_view,
-            LeftOut::Database => &mut self.database,
-            LeftOut::Format => &mut self.format,
-            LeftOut::Template => &mut self.template,
+            OmitReason::OtherType => &mut self.other_type,
+            OmitReason::InView => &mut self.in_view,
+            OmitReason::Database => &mut self.database,
+            OmitReason::Format => &mut self.format,
+            OmitReason::Template => &mut self.template,
         };
         *count = count.saturating_add(1);
     }
@@ -67,7 +67,7 @@ impl LeftOutCounts {
 #[derive(Drop)]
 pub struct Sources {
     pub zones: Vec<ZoneSource>,
-    pub left_out: LeftOutCounts,
+    pub omitted: OmittedCounts,
     /// Messages about what is not checked, each for a line.
     pub notes: Vec<String>,
     /// Files whose name doesn't say their zone.
@@ -79,7 +79,7 @@ impl Sources {
     pub fn new(alloc: Global) -> Sources {
         Sources {
             zones: Vec::new(alloc),
-            left_out: LeftOutCounts::new(),
+            omitted: OmittedCounts::new(),
             notes: Vec::new(alloc),
             unclear: Vec::new(alloc),
         }

@@ -155,8 +155,10 @@ pub enum Code {
     TwoSpf,
     /// The only digest of a key in DS is SHA-1.
     WeakDigest,
-    /// The apex or a delegation has only one NS.
+    /// The apex has only one NS.
     SingleNs,
+    /// A record is at or below a delegation, and is not glue.
+    Hidden,
     /// The zone must be signed, and has no DNSKEY at its apex.
     NoDnskey,
     /// An RRSIG has expired.
@@ -251,7 +253,7 @@ fn find_named(codes: &[Code], name: &str) -> Option<Code>
 
 impl Code {
     /// Every code.
-    pub const ALL: [Code; 105] = [
+    pub const ALL: [Code; 106] = [
         Code::OpenQuote,
         Code::OpenParenthesis,
         Code::ClosingParenthesis,
@@ -316,6 +318,7 @@ impl Code {
         Code::TwoSpf,
         Code::WeakDigest,
         Code::SingleNs,
+        Code::Hidden,
         Code::NoDnskey,
         Code::Expired,
         Code::ExpiresSoon,
@@ -428,6 +431,7 @@ impl Code {
             Code::TwoSpf => "two-spf",
             Code::WeakDigest => "weak-digest",
             Code::SingleNs => "single-ns",
+            Code::Hidden => "hidden",
             Code::NoDnskey => "no-dnskey",
             Code::Expired => "expired",
             Code::ExpiresSoon => "expires-soon",
@@ -549,7 +553,8 @@ impl Code {
             | Code::CnameLoop
             | Code::TwoSpf
             | Code::WeakDigest
-            | Code::SingleNs => Severity::Warning,
+            | Code::SingleNs
+            | Code::Hidden => Severity::Warning,
             // (the rules of a signed zone)
             Code::ExpiresSoon
             | Code::RrsigTtl

@@ -3,7 +3,7 @@ use super::blocks::{blocks, limit};
 use super::cut::cut;
 use super::data::Why;
 use super::results::{Octets, origin_of};
-use super::rules::{dnssec, hash, refused, rules};
+use super::rules::{dnssec, hash, hidden, refused, rules};
 use dns_lexer::pieces::Wrong;
 use rdata_fields::RecordError;
 use rdata_values::{Class, ErrorKind};
@@ -31,6 +31,7 @@ pub fn call(name: &str, inputs: &Inputs, answer: &mut Answer) {
         "cut" => cut(inputs, answer),
         "dnssec" => dnssec(inputs.all(), answer),
         "refused" => refused(inputs.all(), answer),
+        "hidden" => hidden(inputs.all(), answer),
         "hash" => hash(inputs.all(), answer),
         _ => answer.fail(Failure::NoCall),
     }
