@@ -216,6 +216,7 @@ module _ {N O : Type 0} (name : List (List ℕ)) where
       → IsPartitionPoint (λ r. is_le (name_order r.owner name) ≡ true) (λ r. is_le (name_order r.owner name) ≡ false) rs past
       → AreOwnedFrom name rs first past
   owned_places rs first past bound h k = record {
+    parts = h;
     bound = bound;
     before = λ i d low lt. same_is (get_or rs i d).owner name ∙ before_not (name_order (get_or rs i d).owner name) (h.0 i d low lt);
     owned = λ i d low lt. same_is (get_or rs i d).owner name ∙ equal_of (name_order (get_or rs i d).owner name) (h.1 i d low (omega (arith, lt, bound))) (k.0 i d (omega arith) lt);
