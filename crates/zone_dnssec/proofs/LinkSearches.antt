@@ -31,7 +31,7 @@ within_all n (j ∷ l) zero q h e = let is : j ≡ q = cc in omega (arith, All-h
 within_all n (j ∷ l) (suc i) q h e = within_all n l i q (All-tail (λ m. m < n) j l h) e
 
 bound_some : (n : ℕ) (o : Option ℕ) → ((q : ℕ) → o ≡ Some q → q < n) → IfSome o (λ q. q < n)
-bound_some n None h = ()
+bound_some n None h = tt
 bound_some n (Some q) h = h q refl
 
 below_is : (past : ℕ) (o : Option ℕ) (q : ℕ) → link_below past o ≡ Some q → o ≡ Some q

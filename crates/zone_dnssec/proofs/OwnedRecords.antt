@@ -11,7 +11,7 @@ use Rattle.zone_record.specs.declared.record.Record.{Record}
 use Rattle.zone_rules.specs.Searches.{AreOwnedFrom}
 use Rattle.zone_rules.specs.Zones.{as_listed}
 use Rattle.zone_rules.proofs.Steps.{flat_map_one}
-use Rattle.zone_dnssec.specs.OwnedRecords.{find_owned, has_owned, is_owned_wanted, is_wanted, is_wanted_in, FindsWithin}
+use Rattle.zone_dnssec.specs.OwnedRecords.{find_owned, has_owned, is_owned_wanted, is_wanted_record, is_wanted_in, FindsWithin}
 use Rattle.zone_dnssec.specs.declared.owned.Wanted.{Wanted}
 use Rattle.zone_dnssec.specs.declared.owned.Wanted.TheVariants.{Soa, Signature, FittingSignature, Ttl, Unlisted, KeyRequest, Chain}
 use Rattle.zone_dnssec.proofs.ChainLinks.{get_some}
@@ -31,7 +31,7 @@ pub some_of_listed : {N O R S : Type 0} {A : Type 0} (f : Record R S → A) (g :
 some_of_listed f g h None x e = cc
 some_of_listed f g h (Some r) x e = let is : x ≡ as_listed r = some_is e in ap Some (ap f is ∙ h r)
 
-listed_wanted : {N O : Type 0} (R S : Type 0) (wanted : Wanted) (r : Record N O) → is_wanted {N = R} {O = S} wanted (as_listed r) ≡ is_wanted wanted r
+listed_wanted : {N O : Type 0} (R S : Type 0) (wanted : Wanted) (r : Record N O) → is_wanted_record {N = R} {O = S} wanted (as_listed r) ≡ is_wanted_record wanted r
 listed_wanted R S Soa r = refl
 listed_wanted R S (Signature rtype) r = refl
 listed_wanted R S (FittingSignature keys rtype) r = refl
@@ -40,8 +40,8 @@ listed_wanted R S (Unlisted bitmap is_cut) r = refl
 listed_wanted R S KeyRequest r = refl
 listed_wanted R S Chain r = refl
 
-pub wanted_in : {N O R S : Type 0} (wanted : Wanted) (o : Option (Record N O)) (x : Record R S) → Some x ≡ option_map as_listed o → is_wanted wanted x ≡ option_map_or (is_wanted wanted) o false
-wanted_in wanted o x e = of_listed (is_wanted wanted) (is_wanted wanted) (listed_wanted _ _ wanted) o x false e
+pub wanted_in : {N O R S : Type 0} (wanted : Wanted) (o : Option (Record N O)) (x : Record R S) → Some x ≡ option_map as_listed o → is_wanted_record wanted x ≡ option_map_or (is_wanted_record wanted) o false
+wanted_in wanted o x e = of_listed (is_wanted_record wanted) (is_wanted_record wanted) (listed_wanted _ _ wanted) o x false e
 
 -- ---- the first item that passes a test
 
@@ -68,16 +68,16 @@ module _ {X : Type 0} (p : X → Bool) where
 
 module _ {N O : Type 0} (wanted : Wanted) (name : List (List ℕ)) (records : List (Record N O)) (first past : ℕ) (owned : AreOwnedFrom name records first past) where
   other_owner : (r : Record N O) → same_name r.owner name ≡ false → is_owned_wanted wanted name r ≡ false
-  other_owner r h = ap (λ b. b && is_wanted wanted r) h
+  other_owner r h = ap (λ b. b && is_wanted_record wanted r) h
 
-  other_kind : (r : Record N O) → is_wanted wanted r ≡ false → is_owned_wanted wanted name r ≡ false
+  other_kind : (r : Record N O) → is_wanted_record wanted r ≡ false → is_owned_wanted wanted name r ≡ false
   other_kind r h = ap (λ b. same_name r.owner name && b) h ∙ by (same_name r.owner name)
     where
       by : (b : Bool) → (b && false) ≡ false
       by true = refl
       by false = refl
 
-  found_first : (place : ℕ) → first ≤ place → place < past → AllWithin (λ r. is_wanted wanted r ≡ false) records first place → option_map_or (is_wanted wanted) (slice_get records place) false ≡ true
+  found_first : (place : ℕ) → first ≤ place → place < past → AllWithin (λ r. is_wanted_record wanted r ≡ false) records first place → option_map_or (is_wanted_record wanted) (slice_get records place) false ≡ true
       → slice_get records place ≡ find_owned wanted name records
   found_first place low lt none h = sym (find_at (is_owned_wanted wanted name) records place before (at (slice_get records place) refl))
     where
@@ -89,13 +89,13 @@ module _ {N O : Type 0} (wanted : Wanted) (name : List (List ℕ)) (records : Li
           by (inr k) = other_kind (get_or records i d) (none i d k less)
 
       at : (o : Option (Record N O)) → slice_get records place ≡ o → option_map_or (is_owned_wanted wanted name) o false ≡ true
-      at None e = absurd (false≢true (sym (ap (λ x. option_map_or (is_wanted wanted) x false) e) ∙ h))
+      at None e = absurd (false≢true (sym (ap (λ x. option_map_or (is_wanted_record wanted) x false) e) ∙ h))
       at (Some r) e =
           let is : get_or records place r ≡ r = get_or_from_slice_get records place r r e in
           let mine : same_name r.owner name ≡ true = ap (λ x. same_name x.owner name) (sym is) ∙ owned.owned place r low lt in
-          ap (λ b. b && is_wanted wanted r) mine ∙ (sym (ap (λ x. option_map_or (is_wanted wanted) x false) e) ∙ h)
+          ap (λ b. b && is_wanted_record wanted r) mine ∙ (sym (ap (λ x. option_map_or (is_wanted_record wanted) x false) e) ∙ h)
 
-  found_none : AllWithin (λ r. is_wanted wanted r ≡ false) records first past → None ≡ find_owned wanted name records
+  found_none : AllWithin (λ r. is_wanted_record wanted r ≡ false) records first past → None ≡ find_owned wanted name records
   found_none none = sym (find_none (is_owned_wanted wanted name) records (λ i d lt. from i d lt (cases_lt i first)))
     where
       later : (i : ℕ) (d : Record N O) → i < length records → first ≤ i → (i < past) ⊎ (past ≤ i) → is_owned_wanted wanted name (get_or records i d) ≡ false
@@ -111,7 +111,7 @@ module _ {N O : Type 0} (wanted : Wanted) (name : List (List ℕ)) (records : Li
   find_is (Some place) h = found_first place h.0 h.1 h.2 h.3
 
   pub find_bound : (o : Option ℕ) → FindsWithin wanted records first past o → IfSome o (λ place. place < length records)
-  find_bound None h = ()
+  find_bound None h = tt
   find_bound (Some place) h = omega (arith, h.1, owned.bound)
 
   some_found : (o : Option ℕ) → FindsWithin wanted records first past o → is_some o ≡ is_some (option_and_then (slice_get records) o)

@@ -5,7 +5,7 @@ use Rattle.std.specs.Option.{option_map, option_map_or}
 use Rattle.zone_record.specs.declared.record.Record.{Record}
 use Rattle.zone_rules.specs.Zones.{as_listed, record_before}
 use Rattle.zone_dnssec.specs.SecurityFindings.{breaks_security, breaks_security_at}
-use Rattle.zone_dnssec.specs.Subjects.{IsSubject}
+use Rattle.zone_dnssec.specs.Subjects.{IsSignedSubject}
 use Rattle.zone_dnssec.specs.ZoneViews.{ZoneView, zone_with}
 use Rattle.zone_dnssec.specs.declared.rule.SecurityRule.{SecurityRule}
 use Rattle.zone_dnssec.specs.declared.rule.SecurityRule.TheVariants.{Expired, ExpiresSoon, NotYetValid, TimesReversed, OtherSigner, OtherLabels, OtherOriginalTtl, OtherSignatureTtl, Unsigned, NoKey, KeyMissing, RevokedKey, SignsNothing, Occluded, NoNsec, OtherNext, OtherTypes, NoNsec3, OtherNextHash, OtherHashedTypes, OtherLinkOwner, TooManyIterations, ManyIterations, SomeIterations, OtherDenialTtl, DeleteBesideKeys}
@@ -56,6 +56,6 @@ security_in rule zone times before found place None e f = cc
 security_in rule zone times before found place (Some r) e f =
     (λ i. breaks_security rule zone times (f i) (some_is e i)) ∙ security_listed _ _ rule zone times (record_before zone.records place) r
 
-pub security_broken : {N O : Type 0} (rule : SecurityRule) (origin : List (List ℕ)) (records : List (Record N O)) (times : Times) (s : Subject) → IsSubject origin records s
+pub security_broken : {N O : Type 0} (rule : SecurityRule) (origin : List (List ℕ)) (records : List (Record N O)) (times : Times) (s : Subject) → IsSignedSubject origin records s
     → breaks_security rule (zone_with origin records) times s.before s.found ≡ breaks_security_at (zone_with origin records) times s.place rule
 security_broken rule origin records times s h = security_in rule (zone_with origin records) times s.before s.found s.place (slice_get records s.place) h.found h.before

@@ -22,7 +22,7 @@ bitmap_octets d = option_map_or (λ next. drop (length next) d.octets) (data_par
 abbrev pub may_be_at_delegation : RecordType → Bool
 may_be_at_delegation rtype = rtype == Rtype.ns || (rtype == Rtype.ds || (rtype == Rtype.rrsig || rtype == Rtype.nsec))
 
--- a type is listed at a name, if a record there has it; a flag tells whether the name is a delegation
+-- a type is listed at a name, which is a delegation or not, if a record there has it
 abbrev pub may_be_listed : Bool → RecordType → Bool
 may_be_listed is_cut rtype = not is_cut || may_be_at_delegation rtype
 

@@ -77,7 +77,7 @@ pub record AreZoneFacts {N O : Type 0} (origin : List (List ℕ)) (records : Lis
   pub chain : facts.has_chain ≡ has_named_chain origin records
 
 -- the record at an index, the one before it, and facts about it
-pub record IsSubject {N O : Type 0} (origin : List (List ℕ)) (records : List (Record N O)) (s : Subject) : Type 0 where
+pub record IsSignedSubject {N O : Type 0} (origin : List (List ℕ)) (records : List (Record N O)) (s : Subject) : Type 0 where
   pub found : Some s.found ≡ option_map as_listed (slice_get records s.place)
   pub before : s.before ≡ option_map as_listed (record_before records s.place)
   pub facts : HasOwnerFacts origin records s

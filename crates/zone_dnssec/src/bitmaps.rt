@@ -53,8 +53,8 @@ fn is_for_delegation(rtype: RecordType) -> bool
     )
 }
 
-/// Returns whether an NSEC at a name lists a type, if a record there has it. A flag tells whether the
-/// name is a delegation.
+/// Returns whether an NSEC at a name, which is a delegation or not, lists a type, if a record there has
+/// it.
 fn is_listable(is_cut: bool, rtype: RecordType) -> bool
     ensures { result ≡ may_be_listed is_cut rtype }
 {

@@ -39,7 +39,8 @@ pub(crate) fn is_without_nsec<Z: ZoneRecords>(
 ) -> bool
     requires chain { has_chain ≡ has_named_chain origin.now (Z.contents records.now) }
     requires facts { HasOwnerFacts origin.now (Z.contents records.now) subject.now }
-    ensures { result ≡ lacks_nsec origin.now (Z.contents records.now) subject.now.before subject.now.found }
+    ensures { result
+        ≡ lacks_nsec origin.now (Z.contents records.now) subject.now.before subject.now.found }
 {
     let record = &subject.found;
     is_first_at_owner(&subject.before, record)

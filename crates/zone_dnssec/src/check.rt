@@ -3,7 +3,7 @@ ghost use Rattle.std.specs.Prelude.{◌≡◌, ◌<◌, ◌++◌, OnOk, IfOk, le
 ghost use Rattle.std.specs.List.{flat_map, range_with_len};
 ghost use Rattle.zone_dnssec.specs.ChainFaults.{faults_of_chains};
 ghost use Rattle.zone_dnssec.specs.SecurityFindings.{insecure_at, insecure_if, insecure_in_zone, insecure_of};
-ghost use Rattle.zone_dnssec.specs.Subjects.{breaks_security_by, is_security_broken, AreZoneFacts, IsKnown, IsSubject};
+ghost use Rattle.zone_dnssec.specs.Subjects.{breaks_security_by, is_security_broken, AreZoneFacts, IsKnown, IsSignedSubject};
 ghost use Rattle.zone_dnssec.specs.ZoneViews.{zone_with};
 
 use crate::bitmaps::has_wrong_types;
@@ -83,8 +83,9 @@ fn breaks_rule<Z: ZoneRecords>(
     subject: &Subject<'_>,
 ) -> bool
     requires facts { AreZoneFacts origin.now (Z.contents records.now) facts }
-    requires subject { IsSubject origin.now (Z.contents records.now) subject.now }
-    ensures { result ≡ breaks_security_by rule origin.now (Z.contents records.now) times subject.now }
+    requires subject { IsSignedSubject origin.now (Z.contents records.now) subject.now }
+    ensures { result
+        ≡ breaks_security_by rule origin.now (Z.contents records.now) times subject.now }
 {
     let record = &subject.found;
     match rule {
@@ -137,8 +138,9 @@ fn is_broken<Z: ZoneRecords>(
     subject: &Subject<'_>,
 ) -> bool
     requires facts { AreZoneFacts origin.now (Z.contents records.now) facts }
-    requires subject { IsSubject origin.now (Z.contents records.now) subject.now }
-    ensures { result ≡ is_security_broken rule origin.now (Z.contents records.now) times subject.now }
+    requires subject { IsSignedSubject origin.now (Z.contents records.now) subject.now }
+    ensures { result
+        ≡ is_security_broken rule origin.now (Z.contents records.now) times subject.now }
 {
     breaks_rule(rule, origin, records, times, facts, subject)
 }
@@ -173,7 +175,7 @@ fn add_each<Z: ZoneRecords, A: Allocator>(
     found: &mut Vec<SecurityFinding, A>,
 ) -> Result<(), AllocError>
     requires facts { AreZoneFacts origin.now (Z.contents records.now) facts }
-    requires subject { IsSubject origin.now (Z.contents records.now) subject.now }
+    requires subject { IsSignedSubject origin.now (Z.contents records.now) subject.now }
     ensures { OnOk result (found.new.items ≡ found.old.items
         ++ flat_map (insecure_of (zone_with origin.now (Z.contents records.now)) times subject.now.place) rules.now) }
 {
@@ -196,7 +198,8 @@ fn add_broken<Z: ZoneRecords, A: Allocator>(
     found: &mut Vec<SecurityFinding, A>,
 ) -> Result<(), AllocError>
     requires facts { AreZoneFacts origin.now (Z.contents records.now) facts }
-    requires faults { faults ≡ faults_of_chains (zone_with origin.now (Z.contents records.now)) place }
+    requires faults { faults
+        ≡ faults_of_chains (zone_with origin.now (Z.contents records.now)) place }
     requires place { place < length (Z.contents records.now) }
     requires known { IsKnown origin.now (Z.contents records.now) last.old }
     ensures known { IsKnown origin.now (Z.contents records.now) last.new }
@@ -239,7 +242,8 @@ pub fn check_signed<Z: ZoneRecords, Origin: AsOctets, A: Allocator + Copy>(
     times: Times,
     records: &Z,
 ) -> Result<Vec<SecurityFinding, A>, AllocError>
-    ensures { IfOk result (λ found. found.items ≡ insecure_in_zone origin.now times (Z.contents records.now)) }
+    ensures { IfOk result (λ found. found.items
+        ≡ insecure_in_zone origin.now times (Z.contents records.now)) }
 {
     let apex = view(origin);
     let mut found = Vec::new(alloc);

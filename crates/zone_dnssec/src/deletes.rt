@@ -33,7 +33,8 @@ pub(crate) fn is_for_key(record: &ZoneRecord<'_>) -> bool
 
 /// Returns whether a CDS or CDNSKEY at the apex does not ask to delete.
 fn has_key_request<Z: ZoneRecords>(origin: &Name<&[u8]>, records: &Z) -> bool
-    ensures { result ≡ list_any (λ s. same_name s.owner origin.now && asks_for_key s) (Z.contents records.now) }
+    ensures { result
+        ≡ list_any (λ s. same_name s.owner origin.now && asks_for_key s) (Z.contents records.now) }
 {
     has_at(records, origin, Wanted::KeyRequest)
 }

@@ -66,8 +66,10 @@ fn first_faults<'c, Z: ZoneRecords, A: Allocator>(
     record: &ZoneRecord<'_>,
 ) -> NameFaults
     requires { AreLinks chain.now (Z.contents records.now) links.now }
-    ensures missing { result.is_missing ≡ fails_beside Missing (zone_with origin.now (Z.contents records.now)) before.now «record».now chain.now }
-    ensures types { result.has_other_types ≡ fails_beside DifferentTypes (zone_with origin.now (Z.contents records.now)) before.now «record».now chain.now }
+    ensures missing { result.is_missing
+        ≡ fails_beside Missing (zone_with origin.now (Z.contents records.now)) before.now «record».now chain.now }
+    ensures types { result.has_other_types
+        ≡ fails_beside DifferentTypes (zone_with origin.now (Z.contents records.now)) before.now «record».now chain.now }
 {
     if !is_first_at_owner(before, record) {
         return NameFaults {
@@ -89,7 +91,8 @@ fn faults_at<'c, Z: ZoneRecords, A: Allocator>(
 ) -> ChainFaults
     requires links { AreLinks chain.now (Z.contents records.now) links.now }
     requires place { place < length (Z.contents records.now) }
-    ensures { result ≡ chain_faults (zone_with origin.now (Z.contents records.now)) chain.now place }
+    ensures { result
+        ≡ chain_faults (zone_with origin.now (Z.contents records.now)) chain.now place }
 {
     let mut owner = OwnerBuffer::new();
     let mut owner_before = OwnerBuffer::new();
@@ -120,7 +123,8 @@ fn with_chain<Z: ZoneRecords, A: Allocator + Copy>(
     others: &[ChainFaults],
 ) -> Result<Vec<ChainFaults, A>, AllocError>
     requires { length others.now ≡ length (Z.contents records.now) }
-    ensures { IfOk result (λ faults. AddsChain (zone_with origin.now (Z.contents records.now)) chain.now
+    ensures { IfOk result (λ faults. AddsChain (zone_with origin.now (Z.contents records.now))
+        chain.now
         others.now (length others.now) faults.items) }
 {
     let links = links_of(alloc, records, chain)?;
@@ -144,8 +148,10 @@ fn with_chain_at<Z: ZoneRecords, A: Allocator + Copy>(
 ) -> Result<Vec<ChainFaults, A>, AllocError>
     requires place { place < length (Z.contents records.now) }
     requires apex { IsAtApex (zone_with origin.now (Z.contents records.now)) place }
-    requires others { AreFaultsBefore (zone_with origin.now (Z.contents records.now)) place others.items }
-    ensures { IfOk result (λ faults. AreFaultsBefore (zone_with origin.now (Z.contents records.now)) (place + 1) faults.items) }
+    requires others { AreFaultsBefore (zone_with origin.now (Z.contents records.now))
+        place others.items }
+    ensures { IfOk result (λ faults. AreFaultsBefore (zone_with origin.now (Z.contents records.now))
+        (place + 1) faults.items) }
 {
     let mut owner = OwnerBuffer::new();
     let one = records.record(place, &mut owner);

@@ -97,7 +97,8 @@ fn names_next<Z: ZoneRecords>(
     record: &ZoneRecord<'_>,
 ) -> bool
     requires { AreLinks chain.now (Z.contents records.now) links.now }
-    ensures { result ≡ points_to_next (zone_with origin.now (Z.contents records.now)) chain.now «record».now }
+    ensures { result
+        ≡ points_to_next (zone_with origin.now (Z.contents records.now)) chain.now «record».now }
 {
     match next_link(records, chain, links, &record.owner) {
         Some(place) => is_hash_at(origin, records, next_hash(record), place),
@@ -114,7 +115,8 @@ pub(crate) fn has_wrong_next_hash<Z: ZoneRecords>(
     record: &ZoneRecord<'_>,
 ) -> bool
     requires { AreLinks chain.now (Z.contents records.now) links.now }
-    ensures { result ≡ is_out_of_order (zone_with origin.now (Z.contents records.now)) «record».now chain.now }
+    ensures { result
+        ≡ is_out_of_order (zone_with origin.now (Z.contents records.now)) «record».now chain.now }
 {
     is_of_chain(chain, record) && !names_next(origin, records, chain, links, record)
 }
@@ -143,7 +145,8 @@ fn link_for<'c, Z: ZoneRecords, A: Allocator>(
 ) -> Option<usize>
     requires { AreLinks chain.now (Z.contents records.now) links.now }
     ensures bound { IfSome result (λ place. place < length (Z.contents records.now)) }
-    ensures value { option_and_then (slice_get (Z.contents records.now)) result ≡ matching_link (zone_with origin.now (Z.contents records.now)) chain.now name.now }
+    ensures value { option_and_then (slice_get (Z.contents records.now)) result
+        ≡ matching_link (zone_with origin.now (Z.contents records.now)) chain.now name.now }
 {
     match owner_for(hashes, origin, chain, name) {
         Some(owner) => link_at(records, chain, links, &view(&owner)),
@@ -176,8 +179,10 @@ fn name_faults<'c, Z: ZoneRecords, A: Allocator>(
     name: &Name<&[u8]>,
 ) -> NameFaults
     requires { AreLinks chain.now (Z.contents records.now) links.now }
-    ensures missing { result.is_missing ≡ fails_name Missing (zone_with origin.now (Z.contents records.now)) chain.now name.now }
-    ensures types { result.has_other_types ≡ fails_name DifferentTypes (zone_with origin.now (Z.contents records.now)) chain.now name.now }
+    ensures missing { result.is_missing
+        ≡ fails_name Missing (zone_with origin.now (Z.contents records.now)) chain.now name.now }
+    ensures types { result.has_other_types
+        ≡ fails_name DifferentTypes (zone_with origin.now (Z.contents records.now)) chain.now name.now }
 {
     match link_for(hashes, origin, records, chain, links, name) {
         Some(place) => NameFaults {
@@ -209,7 +214,8 @@ fn is_covered<Z: ZoneRecords>(
     owner: &Name<&[u8]>,
 ) -> bool
     requires { AreLinks chain.now (Z.contents records.now) links.now }
-    ensures { result ≡ option_map_or opts_out (link_before (Z.contents records.now) chain.now owner.now) false }
+    ensures { result
+        ≡ option_map_or opts_out (link_before (Z.contents records.now) chain.now owner.now) false }
 {
     match covering_link(records, chain, links, owner) {
         Some(place) => has_opt_out_at(records, place),
@@ -228,8 +234,10 @@ fn is_in_opt_out<'c, Z: ZoneRecords, A: Allocator>(
     is_missing: bool,
 ) -> bool
     requires links { AreLinks chain.now (Z.contents records.now) links.now }
-    requires missing { is_missing ≡ lacks_link (zone_with origin.now (Z.contents records.now)) chain.now name.now }
-    ensures { result ≡ is_covered_by_opt_out (zone_with origin.now (Z.contents records.now)) chain.now name.now }
+    requires missing { is_missing
+        ≡ lacks_link (zone_with origin.now (Z.contents records.now)) chain.now name.now }
+    ensures { result
+        ≡ is_covered_by_opt_out (zone_with origin.now (Z.contents records.now)) chain.now name.now }
 {
     if !is_missing {
         return false;
@@ -251,8 +259,10 @@ fn is_left_out<'c, Z: ZoneRecords, A: Allocator>(
     is_missing: bool,
 ) -> bool
     requires links { AreLinks chain.now (Z.contents records.now) links.now }
-    requires missing { is_missing ≡ lacks_link (zone_with origin.now (Z.contents records.now)) chain.now name.now }
-    ensures { result ≡ is_opted_out (zone_with origin.now (Z.contents records.now)) chain.now name.now }
+    requires missing { is_missing
+        ≡ lacks_link (zone_with origin.now (Z.contents records.now)) chain.now name.now }
+    ensures { result
+        ≡ is_opted_out (zone_with origin.now (Z.contents records.now)) chain.now name.now }
 {
     is_cut(origin, records, name)
         && !records.has_type(name, RecordType::DS)
@@ -276,8 +286,10 @@ fn empty_faults<'c, Z: ZoneRecords, A: Allocator>(
     name: &Name<&[u8]>,
 ) -> NameFaults
     requires { AreLinks chain.now (Z.contents records.now) links.now }
-    ensures missing { result.is_missing ≡ fails_empty Missing (zone_with origin.now (Z.contents records.now)) chain.now name.now }
-    ensures types { result.has_other_types ≡ fails_empty DifferentTypes (zone_with origin.now (Z.contents records.now)) chain.now name.now }
+    ensures missing { result.is_missing
+        ≡ fails_empty Missing (zone_with origin.now (Z.contents records.now)) chain.now name.now }
+    ensures types { result.has_other_types
+        ≡ fails_empty DifferentTypes (zone_with origin.now (Z.contents records.now)) chain.now name.now }
 {
     if !is_empty_name(origin, records, name) {
         return no_faults();
@@ -296,8 +308,10 @@ fn faults_above<'c, Z: ZoneRecords, A: Allocator>(
     name: &Name<&[u8]>,
 ) -> NameFaults
     requires { AreLinks chain.now (Z.contents records.now) links.now }
-    ensures missing { result.is_missing ≡ fails_above Missing (zone_with origin.now (Z.contents records.now)) chain.now name.now }
-    ensures types { result.has_other_types ≡ fails_above DifferentTypes (zone_with origin.now (Z.contents records.now)) chain.now name.now }
+    ensures missing { result.is_missing
+        ≡ fails_above Missing (zone_with origin.now (Z.contents records.now)) chain.now name.now }
+    ensures types { result.has_other_types
+        ≡ fails_above DifferentTypes (zone_with origin.now (Z.contents records.now)) chain.now name.now }
 {
     match parent(name) {
         Some(above) => {
@@ -317,7 +331,8 @@ fn is_to_be_hashed<Z: ZoneRecords>(
     chain: &ZoneRecord<'_>,
     name: &Name<&[u8]>,
 ) -> bool
-    ensures { result ≡ is_to_be_hashed (zone_with origin.now (Z.contents records.now)) chain.now name.now }
+    ensures { result
+        ≡ is_to_be_hashed (zone_with origin.now (Z.contents records.now)) chain.now name.now }
 {
     is_short(chain)
         && has_authority(origin, records, name)
@@ -342,8 +357,10 @@ pub(crate) fn owner_faults<'c, Z: ZoneRecords, A: Allocator>(
     name: &Name<&[u8]>,
 ) -> NameFaults
     requires { AreLinks chain.now (Z.contents records.now) links.now }
-    ensures missing { result.is_missing ≡ chain_fails Missing (zone_with origin.now (Z.contents records.now)) name.now chain.now }
-    ensures types { result.has_other_types ≡ chain_fails DifferentTypes (zone_with origin.now (Z.contents records.now)) name.now chain.now }
+    ensures missing { result.is_missing
+        ≡ chain_fails Missing (zone_with origin.now (Z.contents records.now)) name.now chain.now }
+    ensures types { result.has_other_types
+        ≡ chain_fails DifferentTypes (zone_with origin.now (Z.contents records.now)) name.now chain.now }
 {
     if !is_to_be_hashed(origin, records, chain, name) {
         return no_faults();

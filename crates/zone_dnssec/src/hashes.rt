@@ -42,7 +42,8 @@ impl<'c, A: Allocator> Hashes<'c, A> {
 
     /// Returns the hash of a name, if it is the last one with this number of labels.
     fn find(&self, count: usize, name: &[u8], salt: &[u8], iterations: u16) -> Option<[u8; 20]>
-        ensures { IfSome result (λ hash. hash ≡ iterated_hash salt.now (lowered name.now) iterations) }
+        ensures { IfSome result (λ hash. hash
+            ≡ iterated_hash salt.now (lowered name.now) iterations) }
     {
         match self.last.get(count) {
             Some(Some(it)) => {

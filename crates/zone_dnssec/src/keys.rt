@@ -163,7 +163,8 @@ fn add_key_at<Z: ZoneRecords, A: Allocator>(
     keys: &mut Vec<Key, A>,
 ) -> Result<(), AllocError>
     requires { place < length (Z.contents records.now) }
-    ensures { OnOk result (keys.new.items ≡ keys.old.items ++ keys_at (Z.contents records.now) place) }
+    ensures { OnOk result (keys.new.items
+        ≡ keys.old.items ++ keys_at (Z.contents records.now) place) }
 {
     let mut owner = OwnerBuffer::new();
     let one = records.record(place, &mut owner);
@@ -222,7 +223,8 @@ fn has_fitting<Z: ZoneRecords>(
     rtype: RecordType,
 ) -> bool
     requires { HasOwnRange (Z.contents records.now) subject.now }
-    ensures { result ≡ has_fitting_signature keys.now rtype subject.now.found.owner (Z.contents records.now) }
+    ensures { result
+        ≡ has_fitting_signature keys.now rtype subject.now.found.owner (Z.contents records.now) }
 {
     has_at_owner(records, subject, Wanted::FittingSignature(keys, rtype))
 }
@@ -236,7 +238,8 @@ pub(crate) fn is_without_key<Z: ZoneRecords>(
     subject: &Subject<'_>,
 ) -> bool
     requires { HasOwnerFacts origin.now (Z.contents records.now) subject.now }
-    ensures { result ≡ lacks_known_key keys.now origin.now (Z.contents records.now) subject.now.before subject.now.found }
+    ensures { result
+        ≡ lacks_known_key keys.now origin.now (Z.contents records.now) subject.now.before subject.now.found }
 {
     let record = &subject.found;
     let rtype = record.data.rtype();

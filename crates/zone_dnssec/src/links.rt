@@ -62,7 +62,8 @@ fn is_next<Z: ZoneRecords>(
     name: &Name<&[u8]>,
     octets: &[u8],
 ) -> bool
-    ensures { result ≡ same_lowered octets.now (wire (next_name origin.now (Z.contents records.now) name.now)) }
+    ensures { result
+        ≡ same_lowered octets.now (wire (next_name origin.now (Z.contents records.now) name.now)) }
 {
     match next_place(origin, records, name) {
         Some(place) => is_owner_at(records, place, octets),

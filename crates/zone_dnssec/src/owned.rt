@@ -1,6 +1,6 @@
 //! Searches among the records of a name.
 ghost use Rattle.std.specs.Prelude.{◌≡◌, ◌<◌, ◌≤◌, IfSome, length, option_and_then, slice_get};
-ghost use Rattle.zone_dnssec.specs.OwnedRecords.{find_owned, greater_of, has_owned, is_wanted, is_wanted_in, FindsWithin};
+ghost use Rattle.zone_dnssec.specs.OwnedRecords.{find_owned, greater_of, has_owned, is_wanted_record, is_wanted_in, FindsWithin};
 ghost use Rattle.zone_dnssec.specs.Subjects.{HasOwnRange};
 ghost use Rattle.zone_rules.specs.Zones.{has_owner};
 
@@ -27,8 +27,8 @@ pub enum Wanted<'k> {
     FittingSignature(&'k [Key], RecordType),
     /// A record with a type and a TTL.
     Ttl(RecordType, u32),
-    /// A record of which a bitmap must list the type, and doesn't. A flag tells whether the name is a
-    /// delegation.
+    /// A record of which a bitmap must list the type, and doesn't, at a name that is a delegation or
+    /// not.
     Unlisted(&'k [u8], bool),
     /// A CDS or CDNSKEY that does not ask to delete.
     KeyRequest,
@@ -38,7 +38,7 @@ pub enum Wanted<'k> {
 
 /// Returns whether a record is wanted.
 fn is_wanted(wanted: Wanted<'_>, record: &ZoneRecord<'_>) -> bool
-    ensures { result ≡ is_wanted wanted «record».now }
+    ensures { result ≡ is_wanted_record wanted «record».now }
 {
     match wanted {
         Wanted::Soa => record.data.rtype() == RecordType::SOA,

@@ -113,7 +113,8 @@ pub(crate) fn is_signature_of(record: &ZoneRecord<'_>, rtype: RecordType) -> boo
 /// Returns whether an RRSIG covers the type of a subject's record.
 pub(crate) fn is_signed<Z: ZoneRecords>(records: &Z, subject: &Subject<'_>) -> bool
     requires { HasOwnRange (Z.contents records.now) subject.now }
-    ensures { result ≡ has_signature (type_of subject.now.found) subject.now.found.owner (Z.contents records.now) }
+    ensures { result
+        ≡ has_signature (type_of subject.now.found) subject.now.found.owner (Z.contents records.now) }
 {
     has_at_owner(
         records,
@@ -139,7 +140,8 @@ pub(crate) fn is_unsigned<Z: ZoneRecords>(
     subject: &Subject<'_>,
 ) -> bool
     requires { HasOwnerFacts origin.now (Z.contents records.now) subject.now }
-    ensures { result ≡ is_missing_signature origin.now (Z.contents records.now) subject.now.before subject.now.found }
+    ensures { result
+        ≡ is_missing_signature origin.now (Z.contents records.now) subject.now.before subject.now.found }
 {
     let record = &subject.found;
     is_first_of_set(&subject.before, record)

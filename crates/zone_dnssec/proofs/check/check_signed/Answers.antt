@@ -15,11 +15,11 @@ add_broken-requires-clause-faults g c =
     ∙ c.in_ok-faults_of_chains.ensures.each c.loop-place.place here (omega (arith, c.loop-place-test.true, c.len.ensures))
 
 pub loop-place-init : goal.loop-place-init
-loop-place-init g c = (refl, ())
+loop-place-init g c = (refl, tt)
 
 pub loop-place-preserved : goal.loop-place-preserved
 loop-place-preserved g c = (
   zone_more (insecure_at (zone_with c.view-apex.result (g.Z.ZoneRecords.contents c.args.records.now)) c.args.times) c.loop-place.place [] c.loop-place.found.items c.add_broken.new.found.items c.loop-place.invariant.0
-  c.in_ok-add_broken.ensures.found,
+      c.in_ok-add_broken.ensures.found,
   c.in_ok-add_broken.ensures.known,
 )
