@@ -1,14 +1,13 @@
 -- Digits that are written one by one.
-use Rattle.std.proofs.Common.{append-nil, ℕ, zero, suc, ◌-◌, ◌≡◌, ◌<◌, ◌≤◌, ◌+◌, ◌/◌, ◌%◌, Bool, true, false, List, [], ◌∷◌, ◌++◌, length, refl, sym, subst, ap, ◌∙◌, arith, drop}
+use Rattle.std.proofs.Common.{lit<, ℕ, zero, suc, ◌-◌, ◌≡◌, ◌<◌, ◌≤◌, ◌+◌, ◌/◌, ◌%◌, Bool, true, false, List, [], ◌∷◌, ◌++◌, length, refl, sym, ap, ◌∙◌, arith, drop}
 use Rattle.std.specs.Prelude.{◌==◌, cond, replicate}
 use Rattle.std.proofs.lemmas.Bool.{eq-eqb, ne_eqb}
-use Rattle.std.specs.List.{insert}
+use Rattle.std.proofs.Math.ListN.{set}
 use Rattle.std.specs.Fmt.{digit_glyph, digits, digits_onto}
-use Rattle.std.proofs.Math.Seq.{drop-append_seam, take-append_seam}
-use Rattle.std.proofs.lemmas.List.{append_assoc}
-use Rattle.dns_octets.specs.Appending.{Extends}
+use Rattle.std.proofs.lemmas.List.{append_assoc, drop-set, drop_all, length-append, length-replicate}
 use Rattle.dns_symbol.specs.Characters.{dot}
-use Rattle.zone_generate.specs.NumberTexts.{dotted_nibbles, zero_padded}
+use Rattle.zone_generate.specs.NumberTexts.{dotted_nibbles}
+use Rattle.zone_generate.proofs.Appends.{lacks}
 
 -- the digit of a number, and those before it, if there are any
 module _ (base : ℕ) (upper : Bool) (n : ℕ) (acc : List ℕ) where
@@ -20,39 +19,60 @@ module _ (base : ℕ) (upper : Bool) (n : ℕ) (acc : List ℕ) where
   digits_onto_last zero h e = absurd (omega arith)
   digits_onto_last (suc k) h e = digits_onto_suc k true (eq-eqb _ 0 e)
 
+  digits_onto_one : digits_onto 1 base upper n acc ≡ digit_glyph upper (n % base) ∷ acc
+  digits_onto_one = go (n / base == 0) refl
+    where
+      go : (t : Bool) → (n / base == 0) ≡ t → digits_onto 1 base upper n acc ≡ digit_glyph upper (n % base) ∷ acc
+      go true e = digits_onto_suc zero true e
+      go false e = digits_onto_suc zero false e
+
   digits_onto_step : (i : ℕ) → 0 < i → (n / base ≡ 0 → ⊥) → digits_onto i base upper n acc ≡ digits_onto (i - 1) base upper (n / base) (digit_glyph upper (n % base) ∷ acc)
   digits_onto_step zero h e = absurd (omega arith)
   digits_onto_step (suc k) h e = digits_onto_suc k false (ne_eqb _ 0 e) ∙ ap (λ j. digits_onto j base upper (n / base) (digit_glyph upper (n % base) ∷ acc)) {x = k} {y = suc k - 1} (omega arith)
 
-pub inserted : (old more new : List ℕ) (g : ℕ) → new ≡ insert (old ++ more) (length old) g → new ≡ old ++ (g ∷ more)
-inserted old more new g is = is ∙ ap (λ l. l ++ (g ∷ drop (length old) (old ++ more))) (take-append_seam old more) ∙ ap (λ l. old ++ (g ∷ l)) (drop-append_seam old more)
+-- some digits are written at the end of a buffer of 64 octets, and the others are those of the rest
+pub record DigitsDone (base : ℕ) (upper : Bool) (number start rest : ℕ) (buffer : List ℕ) : Type 0 where
+  pub size : length buffer ≡ 64
+  pub some : 0 < start
+  pub within : start ≤ 64
+  pub value : digits_onto start base upper rest (drop start buffer) ≡ digits base upper number
 
--- some digits are written, and the others are those of the rest
-pub record DigitsDone (base : ℕ) (upper : Bool) (number left rest : ℕ) (old items : List ℕ) : Type 0 where
-  pub written : List ℕ
-  pub made : items ≡ old ++ written
-  pub value : digits_onto left base upper rest written ≡ digits base upper number
-
-pub digits_none : (base : ℕ) (upper : Bool) (number : ℕ) (old : List ℕ) → DigitsDone base upper number 64 number old old
+pub digits_none : (base : ℕ) (upper : Bool) (number : ℕ) (buffer : List ℕ) → length buffer ≡ 64 → DigitsDone base upper number 64 number buffer
 unfolding digits
-digits_none base upper number old = record { written = []; made = sym (append-nil old); value = refl }
+digits_none base upper number buffer size =
+    let none : drop 64 buffer ≡ [] = drop_all 64 buffer (omega (arith, size)) in
+    record { size = size; some = lit< tt; within = omega arith; value = ap (digits_onto 64 base upper number) none }
 
-module _ (base : ℕ) (upper : Bool) (number left rest : ℕ) (old items new : List ℕ) (h : DigitsDone base upper number left rest old items) (some : 0 < left) where
-  pub digit_inserted : (rest / base ≡ 0 → ⊥) → new ≡ insert items (length old) (digit_glyph upper (rest % base)) → DigitsDone base upper number (left - 1) (rest / base) old new
-  digit_inserted more is = record {
-    written = digit_glyph upper (rest % base) ∷ h.written;
-    made = inserted old h.written new (digit_glyph upper (rest % base)) (is ∙ ap (λ l. insert l (length old) (digit_glyph upper (rest % base))) h.made);
-    value = sym (digits_onto_step base upper rest h.written left some more) ∙ h.value;
+-- the buffer with one digit more
+digit_set : (g start : ℕ) (buffer new : List ℕ) → 0 < start → start ≤ length buffer → new ≡ set buffer (start - 1) g → drop (start - 1) new ≡ g ∷ drop start buffer
+digit_set g zero buffer new some within is = absurd (omega (arith, some))
+digit_set g (suc k) buffer new some within is =
+    let before : suc k - 1 ≡ k = omega arith in
+    let after : k + 1 ≡ suc k = omega arith in
+    ap (λ n. drop n new) before ∙ ap (drop k) (is ∙ ap (λ n. set buffer n g) before) ∙ drop-set buffer k g (omega (arith, within)) ∙ ap (λ n. g ∷ drop n buffer) after
+
+module _ (base : ℕ) (upper : Bool) (number start rest : ℕ) (buffer new : List ℕ) (h : DigitsDone base upper number start rest buffer) (is : new ≡ set buffer (start - 1) (digit_glyph upper (rest % base))) where
+  written : drop (start - 1) new ≡ digit_glyph upper (rest % base) ∷ drop start buffer
+  written = digit_set (digit_glyph upper (rest % base)) start buffer new h.some (omega (arith, h.within, h.size)) is
+
+  pub digit_written : 1 < start → (rest / base ≡ 0 → ⊥) → length new ≡ length buffer → DigitsDone base upper number (start - 1) (rest / base) new
+  digit_written many more size = record {
+    size = size ∙ h.size;
+    some = omega (arith, many);
+    within = omega (arith, h.within);
+    value = ap (digits_onto (start - 1) base upper (rest / base)) written ∙ sym (digits_onto_step base upper rest (drop start buffer) start h.some more) ∙ h.value;
   }
 
-  pub last_inserted : rest / base ≡ 0 → new ≡ insert items (length old) (digit_glyph upper (rest % base)) → new ≡ old ++ digits base upper number
-  last_inserted last is =
-      inserted old h.written new (digit_glyph upper (rest % base)) (is ∙ ap (λ l. insert l (length old) (digit_glyph upper (rest % base))) h.made)
-      ∙ ap (λ l. old ++ l) (sym (digits_onto_last base upper rest h.written left some last) ∙ h.value)
+  pub last_written : rest / base ≡ 0 → drop (start - 1) new ≡ digits base upper number
+  last_written last = written ∙ sym (digits_onto_last base upper rest (drop start buffer) start h.some last) ∙ h.value
 
-pub digits_ended : (base : ℕ) (upper : Bool) (number left rest : ℕ) (old items : List ℕ) → DigitsDone base upper number left rest old items → left ≤ 0 → items ≡ old ++ digits base upper number
-digits_ended base upper number zero rest old items h le = h.made ∙ ap (λ l. old ++ l) h.value
-digits_ended base upper number (suc left) rest old items h le = absurd (omega (arith, le))
+-- the first octet of the buffer has the digit that is left
+pub first_written : (base : ℕ) (upper : Bool) (number start rest : ℕ) (buffer new : List ℕ) → DigitsDone base upper number start rest buffer → start ≤ 1 → new ≡ set buffer 0 (digit_glyph upper (rest % base))
+    → drop 0 new ≡ digits base upper number
+first_written base upper number zero rest buffer new h one is = absurd (omega (arith, h.some))
+first_written base upper number (suc zero) rest buffer new h one is =
+    digit_set (digit_glyph upper (rest % base)) 1 buffer new h.some (omega (arith, h.within, h.size)) is ∙ sym (digits_onto_one base upper rest (drop 1 buffer)) ∙ h.value
+first_written base upper number (suc (suc k)) rest buffer new h one is = absurd (omega (arith, one))
 
 -- digits that are counted, but not written
 pub record DigitsPassed (number left rest : ℕ) : Type 0 where
@@ -81,21 +101,16 @@ pub all_passed : (number left rest : ℕ) → DigitsPassed number left rest → 
 all_passed number zero rest h le = let len : length (digits 16 false number) ≡ length h.passed = ap length (sym h.value) in omega (arith, len, h.counted)
 all_passed number (suc left) rest h le = absurd (omega (arith, le))
 
--- one zero more
-pub zero_inserted : (written next : ℕ) (ds old items new : List ℕ) → length ds ≤ written → next ≡ written + 1 → items ≡ old ++ (replicate (written - length ds) 48 ++ ds)
-    → new ≡ insert items (length old) 48 → new ≡ old ++ (replicate (next - length ds) 48 ++ ds)
-zero_inserted written next ds old items new le more is made =
-    let count : suc (written - length ds) ≡ next - length ds = omega (arith, le, more) in
-    inserted old (replicate (written - length ds) 48 ++ ds) new 48 (made ∙ ap (λ l. insert l (length old) 48) is) ∙ ap (λ n. old ++ (replicate n 48 ++ ds)) count
+-- zeros before digits
+pub zeros_more : (left : ℕ) (out one all : List ℕ) → 0 < left → one ≡ out ++ (48 ∷ []) → out ++ replicate left 48 ≡ all → one ++ replicate (left - 1) 48 ≡ all
+zeros_more zero out one all some is so = absurd (omega (arith, some))
+zeros_more (suc left) out one all some is so =
+    ap (λ l. l ++ replicate (suc left - 1) 48) is ∙ append_assoc out (48 ∷ []) (replicate (suc left - 1) 48) ∙ ap (λ n. out ++ (48 ∷ replicate n 48)) {x = suc left - 1} {y = left} (omega arith) ∙ so
 
-pub zeros_none : (ds old items : List ℕ) → items ≡ old ++ ds → items ≡ old ++ (replicate (length ds - length ds) 48 ++ ds)
-zeros_none ds old items is = let none : 0 ≡ length ds - length ds = omega arith in is ∙ ap (λ n. old ++ (replicate n 48 ++ ds)) none
-
-pub zeros_ended : (written width : ℕ) (ds old items : List ℕ) → width ≤ written → written - length ds ≤ width - length ds → items ≡ old ++ (replicate (written - length ds) 48 ++ ds)
-    → items ≡ old ++ zero_padded width ds
-zeros_ended written width ds old items le most is =
-    let count : written - length ds ≡ width - length ds = omega (arith, le, most) in
-    is ∙ ap (λ n. old ++ (replicate n 48 ++ ds)) count
+pub zeros_lack : (fits left count : ℕ) (old out : List ℕ) → 0 < left → out ++ replicate left 48 ≡ old ++ replicate count 48 → fits < length out + 1 → fits < length old + count
+zeros_lack fits left count old out some is h =
+    let n = ap length is in
+    omega (arith, some, n, h, length-append out (replicate left 48), length-append old (replicate count 48), length-replicate {A = ℕ} left 48, length-replicate {A = ℕ} count 48)
 
 -- two characters of the nibbles
 pub dotted_more : (upper : Bool) (left rest : ℕ) → 1 < left → dotted_nibbles upper left rest ≡ digit_glyph upper (rest % 16) ∷ dot ∷ dotted_nibbles upper (left - 1) (rest / 16)
@@ -108,20 +123,21 @@ dotted_last upper zero rest lt le = absurd (omega (arith, lt))
 dotted_last upper (suc zero) rest lt le = refl
 dotted_last upper (suc (suc left)) rest lt le = absurd (omega (arith, le))
 
-pub dotted_next : (upper : Bool) (left rest : ℕ) (out one two all : List ℕ) → 1 < left → one ≡ out ++ (digit_glyph upper (rest % 16) ∷ []) → two ≡ one ++ (dot ∷ [])
-    → out ++ dotted_nibbles upper left rest ≡ all → two ++ dotted_nibbles upper (left - 1) (rest / 16) ≡ all
-dotted_next upper left rest out one two all lt first second is =
-    let more = dotted_nibbles upper (left - 1) (rest / 16) in
-    let g = digit_glyph upper (rest % 16) in
-    ap (λ l. l ++ more) second ∙ append_assoc one (dot ∷ []) more ∙ ap (λ l. l ++ (dot ∷ more)) first ∙ append_assoc out (g ∷ []) (dot ∷ more)
-    ∙ ap (λ l. out ++ l) (sym (dotted_more upper left rest lt)) ∙ is
+module _ (upper : Bool) (left rest : ℕ) (out : List ℕ) where
+  pub dotted_next : (new all : List ℕ) → 1 < left → new ≡ out ++ (digit_glyph upper (rest % 16) ∷ dot ∷ []) → out ++ dotted_nibbles upper left rest ≡ all → new ++ dotted_nibbles upper (left - 1) (rest / 16) ≡ all
+  dotted_next new all lt made is =
+      let more = dotted_nibbles upper (left - 1) (rest / 16) in
+      let two = digit_glyph upper (rest % 16) ∷ dot ∷ [] in
+      ap (λ l. l ++ more) made ∙ append_assoc out two more ∙ ap (λ l. out ++ l) (sym (dotted_more upper left rest lt)) ∙ is
 
--- more octets are appended
-pub extends_on : (old middle new more : List ℕ) → Extends old middle → new ≡ middle ++ more → Extends old new
-extends_on old middle new more e is = (e.0 ++ more, is ∙ ap (λ l. l ++ more) e.1 ∙ append_assoc old e.0 more)
+  pub dotted_ended : (new all : List ℕ) → 0 < left → left ≤ 1 → new ≡ out ++ (digit_glyph upper (rest % 16) ∷ []) → out ++ dotted_nibbles upper left rest ≡ all → new ≡ all
+  dotted_ended new all some le made is = made ∙ ap (λ l. out ++ l) (sym (dotted_last upper left rest some le)) ∙ is
 
-pub extends_same : (old middle new : List ℕ) → Extends old middle → new ≡ middle → Extends old new
-extends_same old middle new e is = subst (Extends old) (sym is) e
+  -- and if they don't fit
+  pub dotted_lacks : (fits : ℕ) (old text : List ℕ) → 1 < left → out ++ dotted_nibbles upper left rest ≡ old ++ text → fits < length out + 2 → fits < length old + length text
+  dotted_lacks fits old text lt is h =
+      lacks fits old text out (digit_glyph upper (rest % 16) ∷ dot ∷ []) (dotted_nibbles upper (left - 1) (rest / 16)) (ap (λ l. out ++ l) (sym (dotted_more upper left rest lt)) ∙ is) h
 
-pub extends_none : (old : List ℕ) → Extends old old
-extends_none old = ([], sym (append-nil old))
+  pub dotted_last_lacks : (fits : ℕ) (old text : List ℕ) → 0 < left → left ≤ 1 → out ++ dotted_nibbles upper left rest ≡ old ++ text → fits < length out + 1 → fits < length old + length text
+  dotted_last_lacks fits old text some le is h =
+      lacks fits old text out (digit_glyph upper (rest % 16) ∷ []) [] (ap (λ l. out ++ l) (sym (dotted_last upper left rest some le)) ∙ is) h

@@ -1,13 +1,15 @@
 -- The tokens of a directive.
-use Rattle.std.proofs.Common.{ℕ, zero, suc, ◌-◌, ◌≡◌, ◌≤◌, ◌+◌, List, [], ◌∷◌, length, refl, sym, ap, ◌∙◌, arith, get_or, take, drop}
-use Rattle.std.specs.Prelude.{Result, Ok, Err, OnErr, map}
-use Rattle.std.proofs.lemmas.List.{take_rest}
+use Rattle.std.proofs.Common.{ℕ, zero, suc, ◌-◌, ◌≡◌, ◌<◌, ◌≤◌, ◌+◌, List, [], ◌∷◌, ◌++◌, length, refl, sym, ap, ◌∙◌, arith, get_or, take, drop}
+use Rattle.std.specs.Prelude.{Result, Ok, Err, map}
+use Rattle.std.proofs.lemmas.List.{append_assoc, drop_more, take_rest}
+use Rattle.dns_symbol.specs.Characters.{space}
 use Rattle.dns_lexer.specs.EntryTokens.{TokenSeen, token_seen}
 use Rattle.dns_lexer.specs.declared.entry_tokens.EntryToken.{EntryToken}
 use Rattle.zone_generate.specs.declared.error.GenerateError.{GenerateError}
 use Rattle.zone_generate.specs.declared.part.Part.{Part}
 use Rattle.zone_generate.specs.declared.range.GenerateRange.{GenerateRange}
-use Rattle.zone_generate.specs.Directives.{rdata_parts, generate_after, generate_in, generate_of, generate_with, token_range, word_texts, words_before_type, words_up_to_type}
+use Rattle.zone_generate.specs.Directives.{rdata_parts, generate_after, generate_in, generate_of, generate_with, token_range, word_texts, words_before_type, words_text, words_up_to_type}
+use Rattle.zone_generate.proofs.Appends.{lacks}
 
 seen_dropped : (n : ℕ) (tokens : List EntryToken) → map token_seen (drop n tokens) ≡ drop n (map token_seen tokens)
 seen_dropped zero tokens = refl
@@ -28,9 +30,32 @@ data_left end last tokens count is =
 pub words_left : (tokens : List EntryToken) (count : ℕ) → count ≡ words_before_type (map token_seen tokens) → word_texts (take (count + 1) tokens) ≡ words_up_to_type (map token_seen tokens)
 words_left tokens count is = texts_taken (count + 1) tokens ∙ ap (λ n. map (λ (t : TokenSeen). t.text) (take (n + 1) (map token_seen tokens))) is
 
-pub when_err : {T E : Type 0} (P : Type 0) (r : Result T E) → P → OnErr r P
-when_err P (Ok x) p = tt
-when_err P (Err e) p = p
+-- words that are appended, each after a blank
+word_first : (words : List EntryToken) (i : ℕ) (d : EntryToken) → i < length words → words_text (word_texts (drop i words)) ≡ (space ∷ (get_or words i d).text.now) ++ words_text (word_texts (drop (i + 1) words))
+word_first words i d lt = ap (λ l. words_text (word_texts l)) (drop_more words i d lt)
+
+blank_first : (words : List EntryToken) (i : ℕ) → i < length words → (more : List ℕ) × (words_text (word_texts (drop i words)) ≡ space ∷ more)
+blank_first [] i lt = absurd (omega (arith, lt))
+blank_first (w ∷ words) zero lt = (w.text.now ++ words_text (word_texts words), refl)
+blank_first (w ∷ words) (suc i) lt = blank_first words i (omega (arith, lt))
+
+pub blank_lacks : (words : List EntryToken) (i : ℕ) → i < length words → (fits : ℕ) (old text out : List ℕ) → out ++ words_text (word_texts (drop i words)) ≡ old ++ text → fits < length out + 1 → fits < length old + length text
+blank_lacks words i lt fits old text out is h =
+    let first = blank_first words i lt in
+    lacks fits old text out (space ∷ []) first.0 (ap (λ l. out ++ l) (sym first.1) ∙ is) h
+
+module _ (words : List EntryToken) (i : ℕ) (d : EntryToken) (lt : i < length words) (out : List ℕ) where
+  pub word_next : (one new all : List ℕ) → one ≡ out ++ (space ∷ []) → new ≡ one ++ (get_or words i d).text.now → out ++ words_text (word_texts (drop i words)) ≡ all → new ++ words_text (word_texts (drop (i + 1) words)) ≡ all
+  word_next one new all first second is =
+      let word = (get_or words i d).text.now in
+      let more = words_text (word_texts (drop (i + 1) words)) in
+      ap (λ l. l ++ more) (second ∙ ap (λ l. l ++ word) first ∙ append_assoc out (space ∷ []) word) ∙ append_assoc out (space ∷ word) more ∙ ap (λ l. out ++ l) (sym (word_first words i d lt)) ∙ is
+
+  pub word_lacks : (fits : ℕ) (old text one : List ℕ) → one ≡ out ++ (space ∷ []) → out ++ words_text (word_texts (drop i words)) ≡ old ++ text → fits < length one + length (get_or words i d).text.now → fits < length old + length text
+  word_lacks fits old text one first is h =
+      let word = (get_or words i d).text.now in
+      let more = words_text (word_texts (drop (i + 1) words)) in
+      lacks fits old text one word more (ap (λ l. l ++ (word ++ more)) first ∙ append_assoc out (space ∷ []) (word ++ more) ∙ ap (λ l. out ++ l) (sym (word_first words i d lt)) ∙ is) h
 
 -- a range that is rejected
 pub range_refused : (most end : ℕ) (tokens : List EntryToken) (d : EntryToken) (e : GenerateError) → 2 ≤ length tokens → token_range most (token_seen (get_or tokens 0 d)) ≡ Err e

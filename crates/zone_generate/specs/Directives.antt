@@ -1,5 +1,5 @@
 -- A directive: a range, an owner, a TTL, a class, a type and RDATA; and its entries.
-use Rattle.std.specs.Prelude.{ℕ, suc, ◌+◌, Bool, false, ◌||◌, if◌then◌else◌, List, [], ◌∷◌, ◌++◌, map, take, drop, codes, Result, Ok, Err}
+use Rattle.std.specs.Prelude.{ℕ, ◌+◌, Bool, false, ◌||◌, if◌then◌else◌, List, [], ◌∷◌, ◌++◌, map, take, drop, codes, Result, Ok, Err}
 use Rattle.std.specs.List.{flat_map}
 use Rattle.std.specs.Char.{is_digit}
 use Rattle.dns_octets.specs.Lowered.{same_lowered}
@@ -57,10 +57,14 @@ is_ttl_or_class_word (c ∷ word) = is_digit c 10 || is_class_word (c ∷ word)
 abbrev pub is_ttl_or_class : TokenSeen → Bool
 is_ttl_or_class t = if t.is_quoted then false else is_ttl_or_class_word t.text
 
--- how many words come before the type
+-- how many words come before the type: at most two, a TTL and a class
+abbrev pub words_after_first : List TokenSeen → ℕ
+words_after_first [] = 1
+words_after_first (t ∷ tokens) = if is_ttl_or_class t then 2 else 1
+
 abbrev pub words_before_type : List TokenSeen → ℕ
 words_before_type [] = 0
-words_before_type (t ∷ tokens) = if is_ttl_or_class t then suc (words_before_type tokens) else 0
+words_before_type (t ∷ tokens) = if is_ttl_or_class t then words_after_first tokens else 0
 
 -- after a type that isn't quoted, one token: the RDATA
 abbrev pub rdata_parts : ℕ → ℕ → List TokenSeen → Result (List Part) GenerateError

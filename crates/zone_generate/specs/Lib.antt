@@ -1,7 +1,9 @@
 pub mod Directives
+pub mod ErrorTexts
 pub mod Formats
 pub mod NumberTexts
 pub mod Numerals
 pub mod Parts
 pub mod Ranges
 pub mod Rows
+pub mod Tokens

@@ -2,11 +2,13 @@
 use Rattle.std.specs.Prelude.{◌≡◌, ℕ, true, false, List, [], ◌∷◌, map, None, Some, Result, Ok, Err, codes, refl}
 use Rattle.std.specs.Fmt.{digits}
 use Rattle.dns_lexer.specs.EntryTokens.{TokenSeen, token_at}
-use Rattle.zone_generate.specs.Directives.{Generating, entry_text, generate_of}
+use Rattle.zone_generate.specs.Directives.{Generating, entry_text, generate_of, words_before_type}
 use Rattle.zone_generate.specs.Parts.{side_parts, parts_or_none, side_text}
+use Rattle.zone_generate.specs.Tokens.{directive_end, is_directive_word, parenthesis_from}
+use Rattle.zone_generate.specs.declared.tokens.TextMode.TheVariants.{Plain}
 use Rattle.zone_generate.specs.Ranges.{range_count, number_at, range_of}
 use Rattle.zone_generate.specs.declared.error.GenerateError.{GenerateError}
-use Rattle.zone_generate.specs.declared.error.GenerateErrorKind.TheVariants.{BadBase, BadOffset, BadRange, BadWidth, LargeNumber, LargeOffset, LargeSum, LargeWidth, LineBreak, MissingToken, OpenBrace, OpenEscape, QuotedToken, StartAfterStop, TooManyEntries, TrailingToken, ZeroStep}
+use Rattle.zone_generate.specs.declared.error.GenerateErrorKind.TheVariants.{BadBase, BadOffset, BadRange, BadWidth, LargeNumber, LargeOffset, LargeSum, LargeWidth, LineBreak, MissingToken, OpenBrace, OpenEscape, PlainAfterOffset, QuotedToken, StartAfterStop, TooManyEntries, TrailingToken, ZeroStep}
 use Rattle.zone_generate.specs.declared.part.Part.{Part}
 use Rattle.zone_generate.specs.declared.range.GenerateRange.{GenerateRange}
 use Rattle.zone_generate.specs.declared.side.SideError.{SideError}
@@ -104,3 +106,26 @@ rejected_directives : map (generate_of 1000 99)
     ≡ map (λ e. Err e) (record { at = 23; offset = 0; kind = TrailingToken } ∷ record { at = 14; offset = 0; kind = QuotedToken } ∷ record { at = 99; offset = 0; kind = MissingToken }
     ∷ record { at = 10; offset = 0; kind = StartAfterStop } ∷ record { at = 19; offset = 8; kind = OpenBrace } ∷ [])
 rejected_directives = refl
+
+-- the offset of a format is in effect for dollar signs without braces after it
+after_offsets : map error_of (codes "a${1}$" ∷ codes "${-1}${0}$$${2}-$" ∷ []) ≡ map (λ e. Err e) (record { offset = 5; kind = PlainAfterOffset } ∷ record { offset = 16; kind = PlainAfterOffset } ∷ [])
+after_offsets = refl
+
+without_offsets : word_for 17 (codes "${0}$-${1}${0}$") ≡ codes "1717-181717"
+unfolding digits
+without_offsets = refl
+
+-- parentheses between tokens
+parentheses : map (parenthesis_from Plain 0) (codes "$GENERATE (1" ∷ codes "a \"(\\\"(\" ; (" ∷ codes "a\\( b" ∷ codes "a ;(\n)" ∷ []) ≡ Some 10 ∷ None ∷ None ∷ Some 5 ∷ []
+parentheses = refl
+
+-- the word of a directive, and where its last token ends
+first_words : map is_directive_word ((word 0 (codes "$Generate") ∷ []) ∷ (word 1 (codes "$GENERATE") ∷ []) ∷ (quote 0 (codes "$GENERATE") ∷ []) ∷ [] ∷ []) ≡ true ∷ false ∷ false ∷ false ∷ []
+first_words = refl
+
+last_end : directive_end 0 (word 0 (codes "$GENERATE") ∷ quote 10 (codes "1-2") ∷ []) ≡ 15
+last_end = refl
+
+-- at most two words come before the type
+third_word : words_before_type (word 0 (codes "1") ∷ word 2 (codes "IN") ∷ word 5 (codes "2") ∷ word 7 (codes "A") ∷ []) ≡ 2
+third_word = refl

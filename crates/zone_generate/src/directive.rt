@@ -1,5 +1,5 @@
 //! A directive and its entries.
-ghost use Rattle.std.specs.Prelude.{◌≡◌, ◌++◌, ◌≤◌, Ok, OnErr, OnOk, length, map};
+ghost use Rattle.std.specs.Prelude.{◌≡◌, ◌++◌, ◌+◌, ◌≤◌, ◌<◌, Ok, OnErr, OnOk, length, map};
 ghost use Rattle.dns_octets.specs.Appending.{Extends};
 ghost use Rattle.dns_lexer.specs.EntryTokens.{token_seen};
 ghost use Rattle.zone_generate.specs.Directives.{rdata_parts, entry_text, generate_after, generate_of, is_class_word, is_ttl_or_class, token_owner, token_range, token_side, word_texts, words_before_type, words_text};
@@ -9,7 +9,7 @@ use crate::range::{GenerateRange, read_range};
 use crate::side::Side;
 use dns_lexer::entry_tokens::EntryToken;
 use dns_octets::lowered::same_octets;
-use std::alloc::{AllocError, Allocator};
+use dns_octets::{OctetsBuilder, ShortBuf, Truncate};
 use std::marker::Model;
 
 /// Parses the range of a directive.
@@ -73,19 +73,18 @@ fn is_ttl_or_class(token: &EntryToken<'_>) -> bool
     }
 }
 
-/// Returns how many words come before the type.
+/// Returns how many words come before the type: at most two, a TTL and a class.
 fn words_before_type(tokens: &[EntryToken<'_>]) -> usize
     ensures value { result ≡ words_before_type (map token_seen tokens.now) }
     ensures within { result ≤ length tokens.now }
 {
-    let mut count = 0;
-    while count < tokens.len() {
-        if !is_ttl_or_class(&tokens[count]) {
-            return count;
-        }
-        count += 1;
+    if tokens.is_empty() || !is_ttl_or_class(&tokens[0]) {
+        return 0;
     }
-    count
+    if tokens.len() == 1 || !is_ttl_or_class(&tokens[1]) {
+        return 1;
+    }
+    2
 }
 
 /// Parses the tokens from the type on: the type, and the RDATA.
@@ -108,18 +107,17 @@ fn rdata_parts<'t>(
     token_side(&tokens[1], last)
 }
 
-/// Appends words, each after a blank. Without memory, the first octets may be appended.
-fn append_words<A: Allocator>(
-    words: &[EntryToken<'_>],
-    out: &mut Vec<u8, A>,
-) -> Result<(), AllocError>
-    ensures made { OnOk result (out.new.items
-        ≡ out.old.items ++ words_text (word_texts words.now)) }
-    ensures err { OnErr result (Extends out.old.items out.new.items) }
+/// Appends words, each after a blank. On an error, the first octets may be appended.
+fn append_words<B: OctetsBuilder>(words: &[EntryToken<'_>], out: &mut B) -> Result<(), ShortBuf>
+    ensures made { OnOk result (B.octets out.new
+        ≡ B.octets out.old ++ words_text (word_texts words.now)) }
+    ensures extends { OnErr result (Extends (B.octets out.old) (B.octets out.new)) }
+    ensures fits { OnErr result (B.room.fits
+        < length (B.octets out.old) + length (words_text (word_texts words.now))) }
 {
     for word in words {
-        out.push(b' ')?;
-        out.extend_from_slice(word.text)?;
+        out.append_slice(b" ")?;
+        out.append_slice(word.text)?;
     }
     Ok(())
 }
@@ -214,30 +212,42 @@ impl<'a, 't> Generate<'a, 't> {
         self.range
     }
 
-    /// Appends the text of an entry. The first octets may be appended without memory.
-    fn append_text<A: Allocator>(&self, number: u32, out: &mut Vec<u8, A>) -> Result<(), AllocError>
-        ensures made { OnOk result (out.new.items ≡ out.old.items ++ entry_text number self.now) }
-        ensures err { OnErr result (Extends out.old.items out.new.items) }
+    /// Appends the text of an entry. On an error, the first octets may be appended.
+    fn append_text<B: OctetsBuilder + Truncate>(
+        &self,
+        number: u32,
+        out: &mut B,
+    ) -> Result<(), ShortBuf>
+        ensures made { OnOk result (B.octets out.new
+            ≡ B.octets out.old ++ entry_text number self.now) }
+        ensures extends { OnErr result (Extends (B.octets out.old) (B.octets out.new)) }
+        ensures fits { OnErr result (B.room.fits
+            < length (B.octets out.old) + length (entry_text number self.now)) }
     {
         self.owner.append(number, out)?;
         append_words(self.words, out)?;
-        out.push(b' ')?;
+        out.append_slice(b" ")?;
         self.rdata.append(number, out)?;
-        out.push(b'\n')?;
-        Ok(())
+        out.append_slice(b"\n")
     }
 
     /// Appends the text of the entry for a number, with its line feed: the owner, the words before
-    /// the RDATA as they are spelled, and the RDATA. If an allocation fails, `out` is unchanged.
-    pub fn append_entry<A: Allocator>(
+    /// the RDATA as they are spelled, and the RDATA.
+    ///
+    /// Fails if `out` has no capacity for it, or if an allocation fails; then `out` is unchanged. A
+    /// buffer of a fixed size fails only if the text exceeds its capacity.
+    pub fn append_entry<B: OctetsBuilder + Truncate>(
         &self,
         number: u32,
-        out: &mut Vec<u8, A>,
-    ) -> Result<(), AllocError>
-        ensures made { OnOk result (out.new.items ≡ out.old.items ++ entry_text number self.now) }
-        ensures unchanged { OnErr result (out.new.items ≡ out.old.items) }
+        out: &mut B,
+    ) -> Result<(), ShortBuf>
+        ensures made { OnOk result (B.octets out.new
+            ≡ B.octets out.old ++ entry_text number self.now) }
+        ensures unchanged { OnErr result (B.octets out.new ≡ B.octets out.old) }
+        ensures fits { OnErr result (B.room.fits
+            < length (B.octets out.old) + length (entry_text number self.now)) }
     {
-        let before = out.len();
+        let before = out.as_slice().len();
         match self.append_text(number, out) {
             Ok(()) => Ok(()),
             Err(error) => {

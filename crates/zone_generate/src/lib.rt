@@ -9,6 +9,7 @@ mod numeral;
 pub mod part;
 pub mod range;
 pub mod side;
+pub mod tokens;
 
 pub use directive::Generate;
 pub use error::{GenerateError, GenerateErrorKind};
@@ -16,3 +17,4 @@ pub use format::{NumberBase, NumberFormat, read_format};
 pub use part::Part;
 pub use range::{GenerateRange, read_range};
 pub use side::{Side, SideError};
+pub use tokens::{DIRECTIVE_TOKENS, DirectiveTokens};

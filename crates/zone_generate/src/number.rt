@@ -1,11 +1,11 @@
 //! The text of a number in a format.
-ghost use Rattle.std.specs.Prelude.{◌≡◌, ◌++◌, ◌≤◌, ◌<◌, ◌^◌, OnErr, OnOk, false, length};
+ghost use Rattle.std.specs.Prelude.{◌≡◌, ◌++◌, ◌+◌, ◌≤◌, ◌<◌, ◌^◌, OnErr, OnOk, drop, false, length, replicate};
 ghost use Rattle.std.specs.Fmt.{digit_glyph, digits};
 ghost use Rattle.dns_octets.specs.Appending.{Extends};
 ghost use Rattle.zone_generate.specs.NumberTexts.{bits_of, decimal_text, dotted_nibbles, nibble_count, nibbles, formatted_number, sum_of, sum_text, zero_padded};
 
 use crate::format::{NumberBase, NumberFormat};
-use std::alloc::{AllocError, Allocator};
+use dns_octets::{OctetsBuilder, ShortBuf};
 
 /// The sum of a number and an offset.
 #[derive(Clone, Copy)]
@@ -67,66 +67,75 @@ fn glyph(is_upper: bool, digit: u64) -> u8
     }
 }
 
-/// Appends the digits of a number. The octets that are appended without memory may be any.
-fn append_digits<A: Allocator>(
-    number: u64,
-    base: u64,
-    is_upper: bool,
-    out: &mut Vec<u8, A>,
-) -> Result<(), AllocError>
+/// The greatest number of digits of a number, which has 64 bits.
+const MOST_DIGITS: usize = 64;
+
+/// Writes the digits of a number at the end of a buffer, and returns the offset of the first.
+fn write_digits(number: u64, base: u64, is_upper: bool, buffer: &mut [u8; MOST_DIGITS]) -> usize
     requires { (2 ≤ base) × (base ≤ 16) }
-    ensures made { OnOk result (out.new.items ≡ out.old.items ++ digits base is_upper number) }
-    ensures err { OnErr result (Extends out.old.items out.new.items) }
+    ensures value { drop result buffer.new ≡ digits base is_upper number }
+    ensures within { result < MOST_DIGITS }
 {
-    let start = out.len();
     let mut rest = number;
-    let mut left: usize = 64;
-    while 0 < left {
-        out.insert(start, glyph(is_upper, rest % base))?;
+    let mut start = MOST_DIGITS;
+    while 1 < start {
+        start -= 1;
+        buffer[start] = glyph(is_upper, rest % base);
         rest /= base;
-        left -= 1;
         if rest == 0 {
-            return Ok(());
+            return start;
         }
+    }
+    buffer[0] = glyph(is_upper, rest % base);
+    0
+}
+
+/// Appends zeros.
+fn append_zeros<B: OctetsBuilder>(count: usize, out: &mut B) -> Result<(), ShortBuf>
+    ensures made { OnOk result (B.octets out.new ≡ B.octets out.old ++ replicate count 48) }
+    ensures extends { OnErr result (Extends (B.octets out.old) (B.octets out.new)) }
+    ensures fits { OnErr result (B.room.fits < length (B.octets out.old) + count) }
+{
+    let mut left = count;
+    while 0 < left {
+        out.append_slice(b"0")?;
+        left -= 1;
     }
     Ok(())
 }
 
 /// Appends the digits of a number, and zeros before them up to a width.
-fn append_padded<A: Allocator>(
+fn append_padded<B: OctetsBuilder>(
     number: u64,
     base: u64,
     is_upper: bool,
     width: u32,
-    out: &mut Vec<u8, A>,
-) -> Result<(), AllocError>
+    out: &mut B,
+) -> Result<(), ShortBuf>
     requires { (2 ≤ base) × (base ≤ 16) }
-    ensures made { OnOk result (out.new.items
-        ≡ out.old.items ++ zero_padded width (digits base is_upper number)) }
-    ensures err { OnErr result (Extends out.old.items out.new.items) }
+    ensures made { OnOk result (B.octets out.new
+        ≡ B.octets out.old ++ zero_padded width (digits base is_upper number)) }
+    ensures extends { OnErr result (Extends (B.octets out.old) (B.octets out.new)) }
+    ensures fits { OnErr result (B.room.fits
+        < length (B.octets out.old) + length (zero_padded width (digits base is_upper number))) }
 {
-    let start = out.len();
-    append_digits(number, base, is_upper, out)?;
-    let mut written = out.len() - start;
-    let width = width as usize;
-    while written < width {
-        out.insert(start, b'0')?;
-        written += 1;
-    }
-    Ok(())
+    let mut buffer = [0; MOST_DIGITS];
+    let start = write_digits(number, base, is_upper, &mut buffer);
+    let digits = &buffer[start..];
+    append_zeros((width as usize).saturating_sub(digits.len()), out)?;
+    out.append_slice(digits)
 }
 
 /// Appends a sum in decimal, after a minus sign if it is negative.
-fn append_decimal<A: Allocator>(
-    sum: Sum,
-    width: u32,
-    out: &mut Vec<u8, A>,
-) -> Result<(), AllocError>
-    ensures made { OnOk result (out.new.items ≡ out.old.items ++ decimal_text width sum) }
-    ensures err { OnErr result (Extends out.old.items out.new.items) }
+fn append_decimal<B: OctetsBuilder>(sum: Sum, width: u32, out: &mut B) -> Result<(), ShortBuf>
+    ensures made { OnOk result (B.octets out.new
+        ≡ B.octets out.old ++ decimal_text width sum) }
+    ensures extends { OnErr result (Extends (B.octets out.old) (B.octets out.new)) }
+    ensures fits { OnErr result (B.room.fits
+        < length (B.octets out.old) + length (decimal_text width sum)) }
 {
     if sum.is_negative {
-        out.push(b'-')?;
+        out.append_slice(b"-")?;
         return append_padded(sum.size, 10, false, width.saturating_sub(1), out);
     }
     append_padded(sum.size, 10, false, width, out)
@@ -159,56 +168,62 @@ fn nibble_count(width: u32, number: u64) -> usize
 }
 
 /// Appends `count` hexadecimal digits of a number, least significant first, with dots between.
-fn append_dotted<A: Allocator>(
+fn append_dotted<B: OctetsBuilder>(
     number: u64,
     is_upper: bool,
     count: usize,
-    out: &mut Vec<u8, A>,
-) -> Result<(), AllocError>
+    out: &mut B,
+) -> Result<(), ShortBuf>
     requires { 0 < count }
-    ensures made { OnOk result (out.new.items
-        ≡ out.old.items ++ dotted_nibbles is_upper count number) }
-    ensures err { OnErr result (Extends out.old.items out.new.items) }
+    ensures made { OnOk result (B.octets out.new
+        ≡ B.octets out.old ++ dotted_nibbles is_upper count number) }
+    ensures extends { OnErr result (Extends (B.octets out.old) (B.octets out.new)) }
+    ensures fits { OnErr result (B.room.fits
+        < length (B.octets out.old) + length (dotted_nibbles is_upper count number)) }
 {
     let mut rest = number;
     let mut left = count;
     while 1 < left {
-        out.push(glyph(is_upper, rest % 16))?;
-        out.push(b'.')?;
+        out.append_slice(&[glyph(is_upper, rest % 16), b'.'])?;
         rest /= 16;
         left -= 1;
     }
-    out.push(glyph(is_upper, rest % 16))?;
-    Ok(())
+    out.append_slice(&[glyph(is_upper, rest % 16)])
 }
 
 /// Appends the hexadecimal digits of a number, least significant first, with dots between.
-fn append_nibbles<A: Allocator>(
+fn append_nibbles<B: OctetsBuilder>(
     number: u64,
     is_upper: bool,
     width: u32,
-    out: &mut Vec<u8, A>,
-) -> Result<(), AllocError>
-    ensures made { OnOk result (out.new.items ≡ out.old.items ++ nibbles is_upper width number) }
-    ensures err { OnErr result (Extends out.old.items out.new.items) }
+    out: &mut B,
+) -> Result<(), ShortBuf>
+    ensures made { OnOk result (B.octets out.new
+        ≡ B.octets out.old ++ nibbles is_upper width number) }
+    ensures extends { OnErr result (Extends (B.octets out.old) (B.octets out.new)) }
+    ensures fits { OnErr result (B.room.fits
+        < length (B.octets out.old) + length (nibbles is_upper width number)) }
 {
     let count = nibble_count(width, number);
     append_dotted(number, is_upper, count, out)?;
     if width as usize == 2 * count {
-        out.push(b'.')?;
+        out.append_slice(b".")?;
     }
     Ok(())
 }
 
 /// Appends a sum in a base.
-fn append_sum<A: Allocator>(
+fn append_sum<B: OctetsBuilder>(
     base: NumberBase,
     width: u32,
     sum: Sum,
-    out: &mut Vec<u8, A>,
-) -> Result<(), AllocError>
-    ensures made { OnOk result (out.new.items ≡ out.old.items ++ sum_text base width sum) }
-    ensures err { OnErr result (Extends out.old.items out.new.items) }
+    out: &mut B,
+) -> Result<(), ShortBuf>
+    ensures made { OnOk result (B.octets out.new
+        ≡ B.octets out.old ++ sum_text base width sum) }
+    ensures extends { OnErr result (Extends (B.octets out.old) (B.octets out.new)) }
+    ensures fits { OnErr result (B.room.fits
+        < length (B.octets out.old) + length (sum_text base width sum)) }
 {
     match base {
         NumberBase::Decimal => append_decimal(sum, width, out),
@@ -220,14 +235,17 @@ fn append_sum<A: Allocator>(
     }
 }
 
-/// Appends what a format writes of a number. Without memory, the first octets may be appended.
-pub(crate) fn append_number<A: Allocator>(
+/// Appends what a format writes of a number. On an error, the first octets may be appended.
+pub(crate) fn append_number<B: OctetsBuilder>(
     format: NumberFormat,
     number: u32,
-    out: &mut Vec<u8, A>,
-) -> Result<(), AllocError>
-    ensures made { OnOk result (out.new.items ≡ out.old.items ++ formatted_number format number) }
-    ensures err { OnErr result (Extends out.old.items out.new.items) }
+    out: &mut B,
+) -> Result<(), ShortBuf>
+    ensures made { OnOk result (B.octets out.new
+        ≡ B.octets out.old ++ formatted_number format number) }
+    ensures extends { OnErr result (Extends (B.octets out.old) (B.octets out.new)) }
+    ensures fits { OnErr result (B.room.fits
+        < length (B.octets out.old) + length (formatted_number format number)) }
 {
     append_sum(format.base, format.width, sum_of(number, format), out)
 }

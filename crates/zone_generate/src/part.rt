@@ -1,13 +1,13 @@
 //! The parts of the owner and of the RDATA of a directive.
 ghost use Rattle.std.specs.Prelude.{◌≡◌, ◌++◌, ◌≤◌, ◌<◌, ◌+◌, IfOk, OnErr, OnOk, length};
 ghost use Rattle.dns_octets.specs.Appending.{Extends};
-ghost use Rattle.zone_generate.specs.Parts.{brace_part, dollar_part, escape_part, is_line_break, part_of, written_part, sum_fits};
+ghost use Rattle.zone_generate.specs.Parts.{brace_part, dollar_part, escape_part, is_line_break, offset_after, part_of, plain_part, written_part, sum_fits};
 
 use crate::error::GenerateErrorKind;
 use crate::format::{NumberFormat, read_format};
 use crate::number::append_number;
 use crate::numeral::octet_index;
-use std::alloc::{AllocError, Allocator};
+use dns_octets::{OctetsBuilder, ShortBuf};
 
 /// A part of the owner or of the RDATA.
 #[derive(Clone, Copy, Debug, PartialEq, Eq)]
@@ -18,7 +18,9 @@ pub enum Part {
     Escape(u8),
     /// A dollar sign, from two of them. It is written as an escape.
     Dollar,
-    /// The number.
+    /// The number in decimal, from a dollar sign without braces.
+    Plain,
+    /// The number in a format.
     Number(NumberFormat),
 }
 
@@ -90,9 +92,32 @@ fn brace_part(rest: &[u8], last: u32) -> Result<ReadPart, GenerateErrorKind>
     })
 }
 
+/// Parses a dollar sign without braces, if no offset is in effect.
+fn plain_part(has_offset: bool) -> Result<ReadPart, GenerateErrorKind>
+    ensures { result ≡ plain_part has_offset }
+{
+    if has_offset {
+        return Err(GenerateErrorKind::PlainAfterOffset);
+    }
+    Ok(ReadPart {
+        part: Part::Plain,
+        len: 1,
+    })
+}
+
+/// Returns whether an offset is in effect after a part.
+pub(crate) fn offset_after(has_offset: bool, part: Part) -> bool
+    ensures { result ≡ offset_after has_offset part }
+{
+    match part {
+        Part::Number(format) => format.offset != 0,
+        _ => has_offset,
+    }
+}
+
 /// Parses what comes after a dollar sign.
-fn dollar_part(rest: &[u8], last: u32) -> Result<ReadPart, GenerateErrorKind>
-    ensures value { result ≡ dollar_part last rest.now }
+fn dollar_part(rest: &[u8], last: u32, has_offset: bool) -> Result<ReadPart, GenerateErrorKind>
+    ensures value { result ≡ dollar_part last has_offset rest.now }
     ensures within { IfOk result (λ p. (0 < p.len) × (p.len ≤ length rest.now + 1)) }
 {
     match rest.first() {
@@ -101,20 +126,19 @@ fn dollar_part(rest: &[u8], last: u32) -> Result<ReadPart, GenerateErrorKind>
             len: 2,
         }),
         Some(b'{') => brace_part(&rest[1..], last),
-        _ => Ok(ReadPart {
-            part: Part::Number(NumberFormat::plain()),
-            len: 1,
-        }),
+        _ => plain_part(has_offset),
     }
 }
 
-/// Parses the part with which a text begins.
+/// Parses the part with which a text begins. `has_offset` says whether an offset is in effect: that of
+/// the last format before it, if it is not 0.
 pub(crate) fn read_part(
     text: &[u8],
     is_quoted: bool,
     last: u32,
+    has_offset: bool,
 ) -> Result<ReadPart, GenerateErrorKind>
-    ensures value { result ≡ part_of last is_quoted text.now }
+    ensures value { result ≡ part_of last is_quoted has_offset text.now }
     ensures within { IfOk result (λ p. (0 < p.len) × (p.len ≤ length text.now)) }
 {
     let Some(&octet) = text.first() else {
@@ -124,7 +148,7 @@ pub(crate) fn read_part(
         return escape_part(&text[1..], is_quoted);
     }
     if octet == b'$' {
-        return dollar_part(&text[1..], last);
+        return dollar_part(&text[1..], last, has_offset);
     }
     if is_line_break(octet) {
         return Err(GenerateErrorKind::LineBreak);
@@ -135,28 +159,23 @@ pub(crate) fn read_part(
     })
 }
 
-/// Appends the text of a part for a number. Without memory, the first octets may be appended.
-pub(crate) fn append_part<A: Allocator>(
+/// Appends the text of a part for a number. On an error, the first octets may be appended.
+pub(crate) fn append_part<B: OctetsBuilder>(
     part: Part,
     number: u32,
-    out: &mut Vec<u8, A>,
-) -> Result<(), AllocError>
-    ensures made { OnOk result (out.new.items ≡ out.old.items ++ written_part number part) }
-    ensures err { OnErr result (Extends out.old.items out.new.items) }
+    out: &mut B,
+) -> Result<(), ShortBuf>
+    ensures made { OnOk result (B.octets out.new
+        ≡ B.octets out.old ++ written_part number part) }
+    ensures extends { OnErr result (Extends (B.octets out.old) (B.octets out.new)) }
+    ensures fits { OnErr result (B.room.fits
+        < length (B.octets out.old) + length (written_part number part)) }
 {
     match part {
-        Part::Octet(octet) => {
-            out.push(octet)?;
-            Ok(())
-        }
-        Part::Escape(octet) => {
-            out.extend_from_slice(&[b'\\', octet])?;
-            Ok(())
-        }
-        Part::Dollar => {
-            out.extend_from_slice(b"\\$")?;
-            Ok(())
-        }
+        Part::Octet(octet) => out.append_slice(&[octet]),
+        Part::Escape(octet) => out.append_slice(&[b'\\', octet]),
+        Part::Dollar => out.append_slice(b"\\$"),
+        Part::Plain => append_number(NumberFormat::plain(), number, out),
         Part::Number(format) => append_number(format, number, out),
     }
 }

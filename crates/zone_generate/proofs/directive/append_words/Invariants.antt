@@ -5,6 +5,6 @@ use Rattle.zone_generate.proofs.directive.append_words.Given as goal
 
 abbrev pub invariant-loop-word : goal.invariant-loop-word
 invariant-loop-word g l = record {
-  made : l.out.items ++ words_text (word_texts (drop l.word-index l.words)) ≡ l.initial.out.items ++ words_text (word_texts l.words);
-  extends : Extends l.initial.out.items l.out.items;
+  made : g.B.AsOctets.octets l.out ++ words_text (word_texts (drop l.word-index l.words)) ≡ g.B.AsOctets.octets l.initial.out ++ words_text (word_texts l.words);
+  extends : Extends (g.B.AsOctets.octets l.initial.out) (g.B.AsOctets.octets l.out);
 }

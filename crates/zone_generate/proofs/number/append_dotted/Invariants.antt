@@ -6,8 +6,8 @@ use Rattle.zone_generate.proofs.number.append_dotted.Given as goal
 abbrev pub invariant-loop-left : goal.invariant-loop-left
 invariant-loop-left g l = record {
   some : 0 < l.left;
-  made : l.out.items ++ dotted_nibbles l.is_upper l.left l.rest ≡ l.initial.out.items ++ dotted_nibbles l.is_upper l.count l.number;
-  extends : Extends l.initial.out.items l.out.items;
+  made : g.B.AsOctets.octets l.out ++ dotted_nibbles l.is_upper l.left l.rest ≡ g.B.AsOctets.octets l.initial.out ++ dotted_nibbles l.is_upper l.count l.number;
+  extends : Extends (g.B.AsOctets.octets l.initial.out) (g.B.AsOctets.octets l.out);
 }
 
 abbrev pub decreases-loop-left : goal.decreases-loop-left
