@@ -49,7 +49,7 @@ fn read_generic<S: TokenSource, B: OctetsBuilder>(
     }
 }
 
-/// Parses the remaining tokens as RDATA of a type, as [`read_type`] does. An error doesn't have the
+/// Parses the remaining tokens as RDATA of a type, as [`read_rdata`] does. An error doesn't have the
 /// type.
 fn parse_data<S: TokenSource, Octets: AsOctets, B: OctetsBuilder + AsOctetsMut>(
     rtype: RecordType,
@@ -80,7 +80,7 @@ fn parse_data<S: TokenSource, Octets: AsOctets, B: OctetsBuilder + AsOctetsMut>(
 /// An error has the type, and the field if one is rejected. RDATA in the generic form, and RDATA of
 /// which no token is parsed, have no fields. [`field_text`](crate::field_text) returns the field's
 /// name.
-pub fn read_type<S: TokenSource, Octets: AsOctets, B: OctetsBuilder + AsOctetsMut>(
+pub fn read_rdata<S: TokenSource, Octets: AsOctets, B: OctetsBuilder + AsOctetsMut>(
     rtype: RecordType,
     origin: Option<&Name<Octets>>,
     source: &mut S,
@@ -118,6 +118,6 @@ pub fn data_of_type<
     ensures end { S.end source.new ≡ S.end source.old }
 {
     let mut target = DataBuilder::<B>::new(alloc);
-    read_type(rtype, origin, source, &mut target)?;
+    read_rdata(rtype, origin, source, &mut target)?;
     Ok(target.finish())
 }

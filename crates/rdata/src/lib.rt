@@ -20,7 +20,7 @@ pub mod types;
 pub mod wire;
 
 pub use builder::{DataBuilder, MAX_DATA};
-pub use by_type::{data_of_type, is_data_type, read_type};
+pub use by_type::{data_of_type, is_data_type, read_rdata};
 pub use digits::parse_digits;
 pub use generic::{begins_generic, parse_generic};
 pub use prefixes::parse_prefixes;

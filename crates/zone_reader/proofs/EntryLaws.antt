@@ -13,9 +13,9 @@ use Rattle.zone_reader.specs.HeaderLaws.{HeadsFoundOnce, WordsFoundOnce, Entries
 use Rattle.zone_reader.specs.HeaderWords.{TokenIsTtl, TokenIsClass, TokenIsType}
 use Rattle.zone_reader.specs.Headers.{WhyNoType, ParsesHeader}
 use Rattle.zone_reader.specs.declared.directive.Directive.{Directive}
-use Rattle.zone_reader.specs.declared.directive.Directive.TheVariants.{Origin, Ttl, Include}
+use Rattle.zone_reader.specs.declared.directive.Directive.TheVariants.{Origin, Ttl, Include, Generate}
 use Rattle.zone_reader.specs.declared.header.RecordHeader.{RecordHeader}
-use Rattle.zone_reader.specs.declared.header.HeaderRefusal.{HeaderRefusal}
+use Rattle.zone_reader.specs.declared.header.HeaderError.{HeaderError}
 use Rattle.zone_reader.proofs.Once.{heads_once}
 use Rattle.zone_reader.proofs.WordLemmas.{ttl_once, class_once, type_once, apart}
 
@@ -33,7 +33,7 @@ why_once b (t ∷ ts) e f h k = h.0 ∙ sym k.0
 same_token : {T : Type 0} (t u : T) (ts us : List T) → t ∷ ts ≡ u ∷ us → (t ≡ u) × (ts ≡ us)
 same_token t u ts us h = (cc, cc)
 
-no_type : (end : ℕ) (tokens left rest : List TokenSeen) (w : RecordHeader) (r : HeaderRefusal) → ParsesHeader end tokens (Ok w) left → ParsesHeader end tokens (Err r) rest → ⊥
+no_type : (end : ℕ) (tokens left rest : List TokenSeen) (w : RecordHeader) (r : HeaderError) → ParsesHeader end tokens (Ok w) left → ParsesHeader end tokens (Err r) rest → ⊥
 no_type end tokens left rest w r h k =
     let same = heads_found_once tokens (h.0 ∷ left) rest w.ttl w.class r.ttl r.class h.1 k.0 in
     let why : WhyNoType (is_none r.ttl) (h.0 ∷ left) r.error.kind = subst (λ l. WhyNoType (is_none r.ttl) l r.error.kind) (sym same.2) k.2 in
@@ -110,6 +110,7 @@ directive_says_once Include end [] m n h k = h ∙ sym k
 directive_says_once Include end (file ∷ []) m n h k = h ∙ sym k
 directive_says_once Include end (file ∷ origin ∷ []) m n h k = h ∙ sym k
 directive_says_once Include end (file ∷ origin ∷ t ∷ ts) m n h k = h ∙ sym k
+directive_says_once Generate end tokens m n h k = h ∙ sym k
 
 record_says_once : (owner : Option TokenSeen) (end : ℕ) (tokens : List TokenSeen) (m n : EntryMeaning) → RecordMeans owner end tokens m → RecordMeans owner end tokens n → m ≡ n
 record_says_once owner end tokens m n h k =
@@ -129,11 +130,11 @@ entries_say_once false end (t ∷ ts) m n h k = first_says_once (directive_of t)
 
 -- ---- what is parsed is what the tokens mean
 
-blank_says : (end : ℕ) (tokens left : List TokenSeen) (r : Result RecordHeader HeaderRefusal) → tokens ≢ [] → ParsesHeader end tokens r left → EntryMeans true end tokens (says_record None r left)
+blank_says : (end : ℕ) (tokens left : List TokenSeen) (r : Result RecordHeader HeaderError) → tokens ≢ [] → ParsesHeader end tokens r left → EntryMeans true end tokens (says_record None r left)
 blank_says end [] left r some h = absurd (some refl)
 blank_says end (t ∷ ts) left r some h = (r, left, h, refl)
 
-owner_says : (end : ℕ) (t : TokenSeen) (ts rest left : List TokenSeen) (r : Result RecordHeader HeaderRefusal) → ParsesDirective false end (t ∷ ts) (Ok None) rest → ParsesHeader end ts r left
+owner_says : (end : ℕ) (t : TokenSeen) (ts rest left : List TokenSeen) (r : Result RecordHeader HeaderError) → ParsesDirective false end (t ∷ ts) (Ok None) rest → ParsesHeader end ts r left
     → EntryMeans false end (t ∷ ts) (says_record (Some t) r left)
 owner_says end t ts rest left r none h = subst (λ found. FirstTokenMeans found end t ts (says_record (Some t) r left)) (sym none.1) (r, left, h, refl)
 

@@ -10,7 +10,7 @@ use Rattle.dns_lexer.specs.declared.pieces.Fault.{Fault}
 use Rattle.dns_lexer.specs.declared.pieces.Wrong.{Wrong}
 use Rattle.dns_wire.specs.Limits.{max_name}
 use Rattle.rdata_values.specs.declared.error.ErrorKind.{ErrorKind}
-use Rattle.rdata_values.specs.declared.error.ErrorKind.TheVariants.{ExpectedTtl, NoTtl, NotSupported, Quoted, ShortBuf, Syntax, TrailingArgument, UnknownDirective, UnknownType}
+use Rattle.rdata_values.specs.declared.error.ErrorKind.TheVariants.{ExpectedTtl, NoTtl, Quoted, ShortBuf, Syntax, TrailingArgument, UnknownDirective, UnknownType}
 use Rattle.rdata_fields.specs.RecordErrors.{error_at, error_of_fault}
 use Rattle.rdata_fields.specs.Source.{next_place}
 use Rattle.rdata_fields.specs.Parsing.{RefusesNext}
@@ -19,13 +19,13 @@ use Rattle.rdata_fields.specs.declared.record_error.RecordError.{RecordError}
 use Rattle.rdata.specs.ByType.{ReadsType}
 use Rattle.zone_reader.specs.Arguments.{ParsesDefaultTtl, ExpectsEnd, WhyNoTtl}
 use Rattle.zone_reader.specs.Directives.{directive_in, directive_named, directive_of, directive_of_word}
-use Rattle.zone_reader.specs.EntryMeanings.{DirectiveMeans, EntryMeaning, EntryMeans, FirstTokenMeans, RecordMeans, says_nothing, says_origin, says_default_ttl, says_include, says_record, says_refused}
+use Rattle.zone_reader.specs.EntryMeanings.{DirectiveMeans, EntryMeaning, EntryMeans, FirstTokenMeans, RecordMeans, says_nothing, says_origin, says_default_ttl, says_include, says_generate, says_record, says_refused}
 use Rattle.zone_reader.specs.Headers.{ParsesHeader, WhyNoType}
 use Rattle.zone_reader.specs.declared.directive.Directive.{Directive}
-use Rattle.zone_reader.specs.declared.directive.Directive.TheVariants.{Origin, Ttl, Include as OfInclude}
+use Rattle.zone_reader.specs.declared.directive.Directive.TheVariants.{Origin, Ttl, Include as OfInclude, Generate as OfGenerate}
 use Rattle.zone_reader.specs.declared.header.RecordHeader.{RecordHeader}
-use Rattle.zone_reader.specs.declared.header.HeaderRefusal.{HeaderRefusal}
-use Rattle.zone_reader.specs.EntryReading.{NamesOrRefuses, ReadsDataAfterHeader, ReadsMeaning, ReadsOwner, ReadsWords, ReadsZoneEntry, RefusesOrigin, directive_with, record_with}
+use Rattle.zone_reader.specs.declared.header.HeaderError.{HeaderError}
+use Rattle.zone_reader.specs.EntryReading.{NamesOrRefuses, ReadsDataAfterHeader, ReadsMeaning, ReadsOwner, ReadsAfterHeader, ReadsZoneEntry, RefusesOrigin, directive_with, record_with}
 use Rattle.zone_reader.specs.Faults.{EntriesHaveNoFaults, FaultsAreReported}
 use Rattle.zone_reader.specs.Learning.{WhyNoOwner}
 use Rattle.zone_reader.specs.Past.{known_name}
@@ -34,7 +34,7 @@ use Rattle.zone_reader.specs.Source.{SourceSeen, StartsAfterLine, entry_end, unr
 use Rattle.zone_reader.specs.declared.entry.ParsedEntry.{ParsedEntry}
 use Rattle.zone_reader.specs.declared.known.NameState.{NameState}
 use Rattle.zone_reader.specs.declared.records.RecordReader.{RecordReader}
-use Rattle.zone_reader.specs.declared.known.NameState.TheVariants.{Unset, Name, Refused}
+use Rattle.zone_reader.specs.declared.known.NameState.TheVariants.{Unset, Name, Rejected}
 use Rattle.zone_reader.specs.declared.source.StartOfEntry.{StartOfEntry}
 use Rattle.zone_reader.specs.declared.state.State.{State}
 use Rattle.zone_reader.specs.declared.ttl.RecordTtl.{RecordTtl}
@@ -43,7 +43,7 @@ use Rattle.zone_reader.proofs.DataQuiet.{next_quiet, other_kind, type_refused}
 module _ (w : Wrong) where
   -- ---- directives
 
-  named_kind : (a b c d : Bool) → (if a then Ok Origin else (if b then Ok Ttl else (if c then Ok OfInclude else (if d then Err NotSupported else Err UnknownDirective)))) ≡ Err (Syntax w) → ⊥
+  named_kind : (a b c d : Bool) → (if a then Ok Origin else (if b then Ok Ttl else (if c then Ok OfInclude else (if d then Ok OfGenerate else Err UnknownDirective)))) ≡ Err (Syntax w) → ⊥
   named_kind true b c d h = cc
   named_kind false true c d h = cc
   named_kind false false true d h = cc
@@ -95,7 +95,7 @@ module _ (w : Wrong) where
   type_quiet may_be_ttl [] h = cc
   type_quiet may_be_ttl (t ∷ ts) h = type_kind t.is_quoted _ h.0
 
-  words_refused : (r : HeaderRefusal) (end : ℕ) (tokens left : List TokenSeen) → ParsesHeader end tokens (Err r) left → r.error.kind ≡ Syntax w → ⊥
+  words_refused : (r : HeaderError) (end : ℕ) (tokens left : List TokenSeen) → ParsesHeader end tokens (Err r) left → r.error.kind ≡ Syntax w → ⊥
   words_refused r end tokens left h is = type_quiet (is_none r.ttl) left (subst (WhyNoType (is_none r.ttl) left) is h.2)
 
   -- ---- what the tokens mean
@@ -105,6 +105,7 @@ module _ (w : Wrong) where
   Sound end (says_origin t) = ⊤
   Sound end (says_default_ttl r) = (tokens : List TokenSeen) × (left : List TokenSeen) × ParsesDefaultTtl end tokens r left
   Sound end (says_include file token) = ⊤
+  Sound end says_generate = ⊤
   Sound end (says_record token words left) = (tokens : List TokenSeen) × ParsesHeader end tokens words left
   Sound end (says_refused e) = e.kind ≡ Syntax w → ⊥
 
@@ -117,6 +118,7 @@ module _ (w : Wrong) where
   directive_sound OfInclude end (t ∷ []) m h = subst (Sound end) (sym h) tt
   directive_sound OfInclude end (t ∷ u ∷ []) m h = subst (Sound end) (sym h) tt
   directive_sound OfInclude end (t ∷ u ∷ v ∷ ts) m h = subst (Sound end) (sym h) (λ e. cc)
+  directive_sound OfGenerate end tokens m h = subst (Sound end) (sym h) tt
 
   record_sound : (owner : Option TokenSeen) (end : ℕ) (tokens : List TokenSeen) (m : EntryMeaning) → RecordMeans owner end tokens m → Sound end m
   record_sound owner end tokens m h = subst (Sound end) (sym h.3) (tokens, h.2)
@@ -147,7 +149,7 @@ module _ (w : Wrong) where
   no_owner_quiet : (known : NameState) → WhyNoOwner known (Syntax w) → ⊥
   no_owner_quiet Unset h = cc
   no_owner_quiet (Name labels) h = h
-  no_owner_quiet Refused h = cc
+  no_owner_quiet Rejected h = cc
 
   module _ (before : State) (room : Room) (at end : ℕ) (old new : List ℕ) (e : RecordError) (is : e.kind ≡ Syntax w) where
     owner_refused : (token : Option TokenSeen) (x : RecordError) (known : NameState) → ReadsOwner before at token (Err x) known → x.kind ≡ Syntax w → ⊥
@@ -162,8 +164,8 @@ module _ (w : Wrong) where
     behind_refused words (Err x) tokens left h k = let same : e ≡ x = cc in type_refused w (known_name before.origin) room words.rtype end tokens left old new x h (sym (ap (λ r. r.kind) same) ∙ is)
     behind_refused words (Ok u) tokens left h k = without_ttl words _ k.2.2
 
-    words_read : (token : Option TokenSeen) (known : NameState) (first : Result (Unit {0}) RecordError) (words : Result RecordHeader HeaderRefusal) (taken left : List TokenSeen) → ReadsOwner before at token first known → ParsesHeader end taken words left
-        → ReadsWords before room at end first words left old (Err e) new → ⊥
+    words_read : (token : Option TokenSeen) (known : NameState) (first : Result (Unit {0}) RecordError) (words : Result RecordHeader HeaderError) (taken left : List TokenSeen) → ReadsOwner before at token first known → ParsesHeader end taken words left
+        → ReadsAfterHeader before room at end first words left old (Err e) new → ⊥
     words_read token known (Err x) words taken left o t h = let same : e ≡ x = cc in owner_refused token x known o (sym (ap (λ r. r.kind) same) ∙ is)
     words_read token known (Ok u) (Err r) taken left o t h = let same : e ≡ r.error = cc in words_refused r end taken left t (sym (ap (λ x. x.kind) same) ∙ is)
     words_read token known (Ok u) (Ok words) taken left o t h = behind_refused words h.0 left h.1 h.2 h.3
@@ -175,6 +177,7 @@ module _ (w : Wrong) where
   meaning_refused before room end tokens (says_default_ttl r) old new e owner is s h = default_read r e end s.0 s.1 s.2 h.0 is
   meaning_refused before room end tokens (says_include file token) old new e owner is s (inl h) = origin_refused (known_name before.origin) token e h is
   meaning_refused before room end tokens (says_include file token) old new e owner is s (inr h) = let other = other_kind w e ShortBuf (ap (λ x. x.kind) h.2) is in cc
+  meaning_refused before room end tokens says_generate old new e owner is s h = let none = h.0 in cc
   meaning_refused before room end tokens (says_record token words left) old new e owner is s h = words_read before room (next_place tokens end) end old new e is token owner h.0 words s.0 left h.1 s.1 h.2
   meaning_refused before room end tokens (says_refused x) old new e owner is s h = let same : e ≡ x = cc in s (sym (ap (λ r. r.kind) same) ∙ is)
 

@@ -5,15 +5,15 @@ use Rattle.dns_lexer.specs.declared.pieces.Fault.{Fault}
 use Rattle.dns_lexer.specs.EntryTokens.{EndIs, TokenIs, TokenSeen}
 use Rattle.rdata_fields.specs.declared.record_error.RecordError.{RecordError}
 use Rattle.rdata_values.specs.declared.error.ErrorKind.{ErrorKind}
-use Rattle.zone_reader.specs.EntryMeanings.{DirectiveMeans, EntryMeaning, EntryMeans, FirstTokenMeans, says_nothing, says_origin, says_default_ttl, says_include, says_record, says_refused}
+use Rattle.zone_reader.specs.EntryMeanings.{DirectiveMeans, EntryMeaning, EntryMeans, FirstTokenMeans, says_nothing, says_origin, says_default_ttl, says_include, says_generate, says_record, says_refused}
 use Rattle.zone_reader.specs.declared.directive.Directive.{Directive}
-use Rattle.zone_reader.specs.declared.directive.Directive.TheVariants.{Origin, Ttl, Include as OfInclude}
+use Rattle.zone_reader.specs.declared.directive.Directive.TheVariants.{Origin, Ttl, Include as OfInclude, Generate as OfGenerate}
 use Rattle.zone_reader.specs.declared.header.RecordHeader.{RecordHeader}
 use Rattle.zone_reader.specs.EntryReading.{ReadsMeaning, directive_with, record_with}
 use Rattle.zone_reader.specs.Records.{AreSuccessiveResults, ReadsBegun, given_next, none_given}
 use Rattle.zone_reader.specs.Source.{BeginsEntry, BeginsToken, entry_end, unread_entry_tokens, tokens_first}
 use Rattle.zone_reader.specs.WholeTexts.{RecordsEndRows, RowsJoin, NoCallIsBlank}
-use Rattle.zone_reader.specs.declared.entry.ParsedEntry.TheVariants.{Nothing}
+use Rattle.zone_reader.specs.declared.entry.ParsedEntry.TheVariants.{Empty}
 use Rattle.zone_reader.specs.declared.known.NameState.{NameState}
 use Rattle.zone_reader.specs.declared.source.StartOfEntry.{StartOfEntry}
 use Rattle.zone_reader.specs.declared.state.State.{State}
@@ -42,6 +42,7 @@ directive_silent OfInclude end [] h = cc
 directive_silent OfInclude end (t ∷ []) h = cc
 directive_silent OfInclude end (t ∷ u ∷ []) h = cc
 directive_silent OfInclude end (t ∷ u ∷ v ∷ ts) h = cc
+directive_silent OfGenerate end tokens h = cc
 
 first_silent : (d : Option (Result Directive ErrorKind)) (end : ℕ) (t : TokenSeen) (tokens : List TokenSeen) → FirstTokenMeans d end t tokens says_nothing → ⊥
 first_silent None end t tokens h = let no = h.3 in cc
@@ -54,21 +55,22 @@ silent true end (t ∷ tokens) some h = let no = h.3 in cc
 silent false end (t ∷ tokens) some h = first_silent _ end t tokens h
 
 -- and are read as something
-no_directive : (r : Result ℕ RecordError) → Ok Nothing ≡ directive_with r → ⊥
+no_directive : (r : Result ℕ RecordError) → Ok Empty ≡ directive_with r → ⊥
 no_directive (Ok ttl) h = cc
 no_directive (Err r) h = cc
 
-no_record : (before : State) (at : ℕ) (w : RecordHeader) (ttl : Option RecordTtl) → record_with before at w ttl ≡ Ok Nothing → ⊥
+no_record : (before : State) (at : ℕ) (w : RecordHeader) (ttl : Option RecordTtl) → record_with before at w ttl ≡ Ok Empty → ⊥
 no_record before at w None h = cc
 no_record before at w (Some ttl) h = cc
 
 something_read : (before : State) (room : Room) (blank : Bool) (end : ℕ) (tokens : List TokenSeen) (m : EntryMeaning) (old new : List ℕ) (owner : NameState) → tokens ≢ [] → EntryMeans blank end tokens m
-    → ReadsMeaning before room end tokens m old (Ok Nothing) owner new → ⊥
+    → ReadsMeaning before room end tokens m old (Ok Empty) owner new → ⊥
 something_read before room blank end tokens says_nothing old new owner some says h = silent blank end tokens some says
 something_read before room blank end tokens (says_origin t) old new owner some says h = let no = h.0.0 in cc
 something_read before room blank end tokens (says_default_ttl r) old new owner some says h = no_directive r h.0
 something_read before room blank end tokens (says_include file token) old new owner some says h = let no = h.1 in cc
-something_read before room blank end tokens (says_record token words left) old new owner some says h = not_words before room _ end old new Nothing (no_record before _) h.0 words left h.2
+something_read before room blank end tokens says_generate old new owner some says h = let no = h.0 in cc
+something_read before room blank end tokens (says_record token words left) old new owner some says h = not_words before room _ end old new Empty (no_record before _) h.0 words left h.2
 something_read before room blank end tokens (says_refused r) old new owner some says h = cc
 
 some_first : (parts : Parts) → BeginsToken parts → tokens_first parts ≢ []
@@ -80,9 +82,9 @@ some_first (Err f ∷ parts) h = absurd h
 pub no_call_is_blank : NoCallIsBlank
 no_call_is_blank room before after old new h = go h.start h.begins h.reads
   where
-    go : (start : Result (Option StartOfEntry) Fault) → BeginsEntry before.source start h.begun → ReadsBegun room before.octets.now h.begun start before.state old (Some (Ok Nothing)) after new → ⊥
+    go : (start : Result (Option StartOfEntry) Fault) → BeginsEntry before.source start h.begun → ReadsBegun room before.octets.now h.begun start before.state old (Some (Ok Empty)) after new → ⊥
     go (Ok (Some start)) b r =
-        let is = read_of r.1 r.0 Nothing (sym r.4) in
+        let is = read_of r.1 r.0 Empty (sym r.4) in
         let end : ℕ = (entry_end h.begun).at in
         let tokens : List TokenSeen = unread_entry_tokens h.begun in
         let left = open_left h.begun b.start.0 in

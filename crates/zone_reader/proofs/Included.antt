@@ -4,7 +4,7 @@ use Rattle.std.specs.Prelude.{is_some}
 use Rattle.dns_octets.specs.Room.{Room}
 use Rattle.dns_lexer.specs.declared.pieces.Fault.{Fault}
 use Rattle.dns_lexer.specs.EntryTokens.{TokenSeen}
-use Rattle.zone_reader.specs.EntryMeanings.{EntryMeaning, says_nothing, says_origin, says_default_ttl, says_include, says_record, says_refused}
+use Rattle.zone_reader.specs.EntryMeanings.{EntryMeaning, says_nothing, says_origin, says_default_ttl, says_include, says_generate, says_record, says_refused}
 use Rattle.zone_reader.specs.declared.header.RecordHeader.{RecordHeader}
 use Rattle.rdata_fields.specs.Source.{next_place}
 use Rattle.rdata_fields.specs.declared.record_error.RecordError.{RecordError}
@@ -61,6 +61,7 @@ module _ (old new : List ℕ) (file : ℕ) (has_origin : Bool) where
   meaning_read before room end tokens (says_origin t) owner h = let no = h.0.0 in cc
   meaning_read before room end tokens (says_default_ttl r) owner h = absurd (no_directive r h.0)
   meaning_read before room end tokens (says_include name token) owner h = file_read (known_name before.origin) room (next_place (drop 1 tokens) end) name token h
+  meaning_read before room end tokens says_generate owner h = let no = h.0 in cc
   meaning_read before room end tokens (says_record token words left) owner h = absurd (not_words before room _ end old new (Include file has_origin) (no_record before _) h.0 words left h.2)
   meaning_read before room end tokens (says_refused r) owner h = cc
 

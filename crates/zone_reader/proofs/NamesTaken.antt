@@ -17,7 +17,7 @@ use Rattle.rdata_fields.specs.declared.record_error.RecordError.{RecordError}
 use Rattle.rdata_values.specs.declared.error.ErrorKind.{ErrorKind}
 use Rattle.zone_reader.specs.Past.{NamedBy}
 use Rattle.zone_reader.specs.Learning.{ParsesName}
-use Rattle.zone_reader.specs.declared.known.NameState.TheVariants.{Refused}
+use Rattle.zone_reader.specs.declared.known.NameState.TheVariants.{Rejected}
 
 name_short : (origin : Option (List (List ℕ))) (text form : List ℕ) → SpellsName origin text form → length form ≤ 255
 name_short origin text form h = omega (arith, ap length h.whole, length_wire h.labels, h.is_name.fits)
@@ -52,7 +52,7 @@ name_is_made origin tokens left octets r e h makes is =
     let name = h.2.1 in
     let one : Ok name.labels ≡ Err e = name_same octets (Ok name.labels) r (made octets name.labels name.whole name.is_name name.absolute) makes ∙ is in cc
 
-pub no_name : (origin : Option (List (List ℕ))) (tokens : List TokenSeen) (why : ErrorKind) → RefusesNext origin (exactly 255) OfName tokens [] why → NamedBy origin (slice_get tokens 0) Refused
+pub no_name : (origin : Option (List (List ℕ))) (tokens : List TokenSeen) (why : ErrorKind) → RefusesNext origin (exactly 255) OfName tokens [] why → NamedBy origin (slice_get tokens 0) Rejected
 no_name origin [] why h = tt
 no_name origin (t ∷ tokens) why (inl h) = λ octets spelled. omega (arith, h.1 octets spelled, name_short origin t.text octets spelled.1)
 no_name origin (t ∷ tokens) why (inr h) = h.1

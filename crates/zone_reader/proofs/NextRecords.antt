@@ -7,10 +7,10 @@ use Rattle.dns_lexer.specs.declared.pieces.EndOfEntry.{EndOfEntry}
 use Rattle.dns_lexer.specs.declared.pieces.Fault.{Fault}
 use Rattle.dns_lexer.specs.EntryTokens.{EndIs, TokenIs, TokenSeen}
 use Rattle.rdata_fields.specs.declared.record_error.RecordError.{RecordError}
-use Rattle.zone_reader.specs.EntryMeanings.{EntryMeaning, says_nothing, says_origin, says_default_ttl, says_include, says_record, says_refused}
+use Rattle.zone_reader.specs.EntryMeanings.{EntryMeaning, says_nothing, says_origin, says_default_ttl, says_include, says_generate, says_record, says_refused}
 use Rattle.zone_reader.specs.declared.header.RecordHeader.{RecordHeader}
-use Rattle.zone_reader.specs.declared.header.HeaderRefusal.{HeaderRefusal}
-use Rattle.zone_reader.specs.EntryReading.{ReadsDataAfterHeader, ReadsMeaning, ReadsWords, record_with}
+use Rattle.zone_reader.specs.declared.header.HeaderError.{HeaderError}
+use Rattle.zone_reader.specs.EntryReading.{ReadsDataAfterHeader, ReadsMeaning, ReadsAfterHeader, record_with}
 use Rattle.zone_reader.specs.Records.{AreSuccessiveResults, EntryResult, IsDirectiveResult, ReadsBegun, ReadsNextEntry, ReadsNextRecord, IsAfterEntry, given_next, result_of_entry, none_given}
 use Rattle.zone_reader.specs.Source.{BeginsEntry, SourceSeen, parts_after_unread, parts_after_tokens, entry_end, unread_entry_tokens}
 use Rattle.zone_reader.specs.declared.entry.ParsedEntry.{ParsedEntry}
@@ -33,7 +33,7 @@ module _ (before : State) (room : Room) (at end : ℕ) (old new : List ℕ) (e :
   not_behind w (Err r) h = cc
   not_behind w (Ok u) h = never w _ (sym h.2.2)
 
-  pub not_words : (first : Result (Unit {0}) RecordError) (words : Result RecordHeader HeaderRefusal) (left : List TokenSeen) → ReadsWords before room at end first words left old (Ok e) new → ⊥
+  pub not_words : (first : Result (Unit {0}) RecordError) (words : Result RecordHeader HeaderError) (left : List TokenSeen) → ReadsAfterHeader before room at end first words left old (Ok e) new → ⊥
   not_words (Err x) words left h = let no = h.0 in cc
   not_words (Ok u) (Err x) left h = let no = h.0 in cc
   not_words (Ok u) (Ok w) left h = not_behind w h.0 h.3
@@ -47,6 +47,7 @@ directive_is_read before room end tokens says_nothing old new owner h = h.1
 directive_is_read before room end tokens (says_origin t) old new owner h = h.1
 directive_is_read before room end tokens (says_default_ttl r) old new owner h = h.1
 directive_is_read before room end tokens (says_include file token) old new owner h = let no = h.1 in cc
+directive_is_read before room end tokens says_generate old new owner h = h.1
 directive_is_read before room end tokens (says_record token words left) old new owner h = absurd (not_words before room _ end old new Directive (no_record before _) h.0 words left h.2)
 directive_is_read before room end tokens (says_refused r) old new owner h = cc
 

@@ -13,11 +13,11 @@ use Rattle.zone_reader.specs.Past.{Declared, NewOrigin, NewOwner, NewDefaultTtl,
 use Rattle.zone_reader.specs.Learning.{IsMarkAfter}
 use Rattle.zone_reader.specs.PastLaws.{OwnersAreIndependent, TtlsAreIndependent}
 use Rattle.zone_reader.specs.declared.known.NameState.{NameState}
-use Rattle.zone_reader.specs.declared.known.NameState.TheVariants.{Unset, Name, Refused}
+use Rattle.zone_reader.specs.declared.known.NameState.TheVariants.{Unset, Name, Rejected}
 use Rattle.zone_reader.specs.declared.state.IncludeScope.{IncludeScope}
 use Rattle.zone_reader.specs.declared.state.State.{State}
 use Rattle.zone_reader.specs.declared.ttl.RecordTtl.{RecordTtl}
-use Rattle.zone_reader.specs.declared.ttl.RecordTtl.TheVariants.{Own, Default, Last, Minimum}
+use Rattle.zone_reader.specs.declared.ttl.RecordTtl.TheVariants.{Explicit, Default, Last, Minimum}
 use Rattle.zone_reader.proofs.Pasts.{silent_both, not_both, said_behind, said_then, said_alone, said_once, ttl_once, ttl_on, ttl_kept, default_stays, last_stays}
 
 -- ---- a token names one thing
@@ -28,16 +28,16 @@ names_same origin t a b h k = wire_same a b (field_once origin OfName t (wire a)
 pub named_once : (origin : Option (List (List ℕ))) (token : Option TokenSeen) (a b : NameState) → NamedBy origin token a → NamedBy origin token b → a ≡ b
 named_once origin None Unset b h k = absurd h
 named_once origin None (Name l) b h k = absurd h
-named_once origin None Refused Unset h k = absurd k
-named_once origin None Refused (Name m) h k = absurd k
-named_once origin None Refused Refused h k = refl
+named_once origin None Rejected Unset h k = absurd k
+named_once origin None Rejected (Name m) h k = absurd k
+named_once origin None Rejected Rejected h k = refl
 named_once origin (Some t) Unset b h k = absurd h
 named_once origin (Some t) (Name l) Unset h k = absurd k
 named_once origin (Some t) (Name l) (Name m) h k = ap Name (names_same origin t l m h k)
-named_once origin (Some t) (Name l) Refused h k = absurd (k (wire l) h)
-named_once origin (Some t) Refused Unset h k = absurd k
-named_once origin (Some t) Refused (Name m) h k = absurd (h (wire m) k)
-named_once origin (Some t) Refused Refused h k = refl
+named_once origin (Some t) (Name l) Rejected h k = absurd (k (wire l) h)
+named_once origin (Some t) Rejected Unset h k = absurd k
+named_once origin (Some t) Rejected (Name m) h k = absurd (h (wire m) k)
+named_once origin (Some t) Rejected Rejected h k = refl
 
 -- ---- one state is left
 
@@ -168,9 +168,9 @@ owners_alone = record {
   printed = λ t labels start past owner name plain text h. alone t labels start past owner (plain, subst (λ l. SpellsName None l (wire labels)) (sym text) ((names_spelled None tt).back (wire labels) name)) h;
 }
 
-ttl_alone : (start : State) (past : List Declared) (own : ℕ) (minimum : Option ℕ) (ttl : Option RecordTtl) → IsRecordTtl start past (Some own) minimum ttl → ttl ≡ Some (Own own)
+ttl_alone : (start : State) (past : List Declared) (own : ℕ) (minimum : Option ℕ) (ttl : Option RecordTtl) → IsRecordTtl start past (Some own) minimum ttl → ttl ≡ Some (Explicit own)
 ttl_alone start past own minimum None h = absurd (none-some own (sym h.0))
-ttl_alone start past own minimum (Some (Own ttl)) h = let same : own ≡ ttl = cc in ap (λ n. Some (Own n)) (sym same)
+ttl_alone start past own minimum (Some (Explicit ttl)) h = let same : own ≡ ttl = cc in ap (λ n. Some (Explicit n)) (sym same)
 ttl_alone start past own minimum (Some (Default ttl)) h = absurd (none-some own (sym h.0))
 ttl_alone start past own minimum (Some (Last ttl)) h = absurd (none-some own (sym h.0))
 ttl_alone start past own minimum (Some (Minimum ttl)) h = absurd (none-some own (sym h.0))

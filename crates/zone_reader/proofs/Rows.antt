@@ -8,7 +8,7 @@ use Rattle.dns_wire.proofs.Wires.{IsName-absolute}
 use Rattle.dns_lexer.specs.EntryTokens.{TokenSeen}
 use Rattle.rdata_tokens.specs.NameSpelling.{IsLabelPart, relative, SpellsName}
 use Rattle.zone_reader.specs.Past.{NewOrigin, NewOwner, IsOriginAfter, no_origin_said, origin_said_last, IsOwnerAfter, owner_said_last, nothing_declared}
-use Rattle.zone_reader.specs.declared.known.NameState.TheVariants.{Name, Refused}
+use Rattle.zone_reader.specs.declared.known.NameState.TheVariants.{Name, Rejected}
 use Rattle.zone_reader.specs.declared.state.State.{State}
 
 abbrev word : List ℕ → TokenSeen
@@ -49,14 +49,14 @@ owner_behind_origin_row =
 abbrev quoted : TokenSeen
 quoted = record { text = codes "a."; is_quoted = true; is_adjacent = false; at = 8 }
 
-quoted_origin_row : IsOriginAfter in_example (NewOrigin (Some quoted) ∷ []) Refused
+quoted_origin_row : IsOriginAfter in_example (NewOrigin (Some quoted) ∷ []) Rejected
 quoted_origin_row =
-    origin_said_last (NewOrigin (Some quoted) ∷ []) Refused (Some quoted)
+    origin_said_last (NewOrigin (Some quoted) ∷ []) Rejected (Some quoted)
     (record { before = []; at = NewOrigin (Some quoted); after = []; whole = refl; said = refl; silent = tt }) (Name example) (no_origin_said [] (Name example) tt refl)
     (λ octets h. true≢false h.0)
 
 -- and so is `$ORIGIN` without a name
-no_name_row : IsOriginAfter in_example (NewOrigin None ∷ []) Refused
+no_name_row : IsOriginAfter in_example (NewOrigin None ∷ []) Rejected
 no_name_row =
-    origin_said_last (NewOrigin None ∷ []) Refused None (record { before = []; at = NewOrigin None; after = []; whole = refl; said = refl; silent = tt }) (Name example)
+    origin_said_last (NewOrigin None ∷ []) Rejected None (record { before = []; at = NewOrigin None; after = []; whole = refl; said = refl; silent = tt }) (Name example)
     (no_origin_said [] (Name example) tt refl) tt

@@ -12,7 +12,7 @@ use Rattle.zone_reader.specs.Records.{ReadsBegun, ReadsNextEntry, IsAfterEntry, 
 use Rattle.zone_reader.specs.Source.{BeginsEntry, BeginsToken, SourceSeen, StartsAfterLine, parts_after_unread, parts_after_tokens, entry_end, unread_entry_tokens, last_token_end, tokens_first}
 use Rattle.zone_reader.specs.TextEntries.{TextEntry, end_seen, entry_counts, parts_of_entry, tokens_end}
 use Rattle.zone_reader.specs.declared.entry.ParsedEntry.{ParsedEntry}
-use Rattle.zone_reader.specs.declared.entry.ParsedEntry.TheVariants.{Nothing}
+use Rattle.zone_reader.specs.declared.entry.ParsedEntry.TheVariants.{Empty}
 use Rattle.zone_reader.specs.declared.records.RecordReader.{RecordReader}
 use Rattle.zone_reader.specs.declared.source.StartOfEntry.{StartOfEntry}
 use Rattle.zone_reader.specs.declared.state.State.{State}
@@ -100,9 +100,9 @@ module _ (room : Room) (before after : RecordReader) (old new : List ℕ) (resul
     rest = [];
     parts_are = passed_parts begun (Err fault) h ∙ ap (λ l. ends_of h.ends ++ l) h.start.1;
     counts = refl;
-    read = Ok Nothing;
-    reads = subst (λ s. ReadsZoneEntry room false 0 [] before.state old (Ok Nothing) s new) (sym state)
-        (subst (λ o. ReadsZoneEntry room false 0 [] before.state old (Ok Nothing) before.state o) (sym octets) (nothing_read room false 0 [] before.state old refl));
+    read = Ok Empty;
+    reads = subst (λ s. ReadsZoneEntry room false 0 [] before.state old (Ok Empty) s new) (sym state)
+        (subst (λ o. ReadsZoneEntry room false 0 [] before.state old (Ok Empty) before.state o) (sym octets) (nothing_read room false 0 [] before.state old refl));
     given = cc;
     goes_on = (refl, behind);
   }

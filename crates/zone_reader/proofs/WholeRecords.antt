@@ -23,7 +23,7 @@ use Rattle.rdata.proofs.Joinings.{joined_once}
 use Rattle.zone_reader.specs.EntryMeanings.{says_record}
 use Rattle.zone_reader.specs.declared.header.RecordHeader.{RecordHeader}
 use Rattle.zone_reader.proofs.EntryLaws.{entries_say_once}
-use Rattle.zone_reader.specs.EntryReading.{NamesOrRefuses, ReadsDataAfterHeader, ReadsMeaning, ReadsOwner, ReadsWords, record_with}
+use Rattle.zone_reader.specs.EntryReading.{NamesOrRefuses, ReadsDataAfterHeader, ReadsMeaning, ReadsOwner, ReadsAfterHeader, record_with}
 use Rattle.zone_reader.specs.Past.{known_name}
 use Rattle.zone_reader.specs.ReadingLaws.{WholeRecordsAreIndependent}
 use Rattle.zone_reader.specs.declared.entry.ParsedEntry.{ParsedEntry}
@@ -31,7 +31,7 @@ use Rattle.zone_reader.specs.declared.entry.ParsedEntry.TheVariants.{Record}
 use Rattle.zone_reader.specs.declared.known.NameState.{NameState}
 use Rattle.zone_reader.specs.declared.known.NameState.TheVariants.{Name}
 use Rattle.zone_reader.specs.declared.state.State.{State}
-use Rattle.zone_reader.specs.declared.ttl.RecordTtl.TheVariants.{Own}
+use Rattle.zone_reader.specs.declared.ttl.RecordTtl.TheVariants.{Explicit}
 use Rattle.zone_reader.proofs.FullRecords.{any_minimum, full, the_owner}
 use Rattle.zone_reader.proofs.NamesTaken.{no_name}
 use Rattle.zone_reader.proofs.PastStates.{name_alone}
@@ -107,7 +107,7 @@ module _ (room : Room) (at end : ℕ) (behind : List TokenSeen) (t : TokenSeen) 
     (absolute : SpellsField None OfName t (wire labels)) (known : IsOrigin (known_name before.origin)) (spelled : SpellsTypeData (known_name before.origin) w.rtype behind octets) (fits : length old + length octets ≤ room.fits)
     (result : Result ParsedEntry RecordError) where
   abbrev IsTheRecord : Type 0
-  IsTheRecord = (result ≡ Ok (Record at (Own ttl) class w.rtype)) × (new ≡ old ++ octets)
+  IsTheRecord = (result ≡ Ok (Record at (Explicit ttl) class w.rtype)) × (new ≡ old ++ octets)
 
   owner_taken : (r : RecordError) → NamesOrRefuses (known_name before.origin) t (Err r) → ⊥
   owner_taken r h = no_name (known_name before.origin) (t ∷ []) r.kind h.1 (wire labels) (absolute.0, name_alone (known_name before.origin) t.text (wire labels) absolute.1)
@@ -121,7 +121,7 @@ module _ (room : Room) (at end : ℕ) (behind : List TokenSeen) (t : TokenSeen) 
         gained.2 ∙ ap (λ o. old ++ o) same,
       )
 
-  read_whole : (owner : NameState) (first : Result (Unit {0}) RecordError) → ReadsOwner before at (Some t) first owner → ReadsWords before room at end first (Ok w) behind old result new → IsTheRecord × (owner ≡ Name labels)
+  read_whole : (owner : NameState) (first : Result (Unit {0}) RecordError) → ReadsOwner before at (Some t) first owner → ReadsAfterHeader before room at end first (Ok w) behind old result new → IsTheRecord × (owner ≡ Name labels)
   read_whole owner (Err x) h k = absurd (owner_taken x h.1)
   read_whole owner (Ok u) h k = (data_read k.0 k.1 k.2 k.3, the_owner room at end behind t w ttl class labels before old new own said absolute owner h)
 

@@ -5,12 +5,12 @@ use Rattle.rdata_fields.specs.RecordErrors.{IsErrorAt}
 use Rattle.rdata_fields.specs.Source.{next_place}
 use Rattle.rdata_fields.specs.declared.record_error.RecordError.{RecordError}
 use Rattle.rdata_values.specs.declared.error.ErrorKind.{ErrorKind}
-use Rattle.rdata_values.specs.declared.error.ErrorKind.TheVariants.{NotSupported, UnknownDirective}
+use Rattle.rdata_values.specs.declared.error.ErrorKind.TheVariants.{UnknownDirective}
 use Rattle.dns_octets.specs.Lowered.{lowered}
 use Rattle.rdata_tokens.specs.PrintedNames.{dollar}
 use Rattle.dns_lexer.specs.EntryTokens.{TokenSeen}
 use Rattle.zone_reader.specs.declared.directive.Directive.{Directive}
-use Rattle.zone_reader.specs.declared.directive.Directive.TheVariants.{Origin, Ttl, Include}
+use Rattle.zone_reader.specs.declared.directive.Directive.TheVariants.{Origin, Ttl, Include, Generate}
 
 -- the directive that a word names, by its lowercase letters; or why it is rejected
 abbrev pub directive_named : List ℕ → Result Directive ErrorKind
@@ -18,7 +18,7 @@ directive_named small =
     if bytes_eq small (codes "$origin") then Ok Origin
     else (if bytes_eq small (codes "$ttl") then Ok Ttl
     else (if bytes_eq small (codes "$include") then Ok Include
-    else (if bytes_eq small (codes "$generate") then Err NotSupported else Err UnknownDirective)))
+    else (if bytes_eq small (codes "$generate") then Ok Generate else Err UnknownDirective)))
 
 abbrev pub directive_in : List ℕ → Result Directive ErrorKind
 directive_in word = directive_named (lowered word)

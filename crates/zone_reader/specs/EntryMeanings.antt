@@ -9,9 +9,9 @@ use Rattle.zone_reader.specs.Arguments.{ParsesDefaultTtl}
 use Rattle.zone_reader.specs.Directives.{directive_of}
 use Rattle.zone_reader.specs.Headers.{ParsesHeader}
 use Rattle.zone_reader.specs.declared.directive.Directive.{Directive}
-use Rattle.zone_reader.specs.declared.directive.Directive.TheVariants.{Origin, Ttl, Include}
+use Rattle.zone_reader.specs.declared.directive.Directive.TheVariants.{Origin, Ttl, Include, Generate}
 use Rattle.zone_reader.specs.declared.header.RecordHeader.{RecordHeader}
-use Rattle.zone_reader.specs.declared.header.HeaderRefusal.{HeaderRefusal}
+use Rattle.zone_reader.specs.declared.header.HeaderError.{HeaderError}
 
 pub data EntryMeaning : Type 0 where
   -- nothing: the entry has no tokens
@@ -22,8 +22,10 @@ pub data EntryMeaning : Type 0 where
   says_default_ttl : Result ℕ RecordError → EntryMeaning
   -- a file to include, and the token of its origin, if it has one
   says_include : List ℕ → Option TokenSeen → EntryMeaning
+  -- an entry for each number of a range; the tokens after the word are not read
+  says_generate : EntryMeaning
   -- a record: the token of its owner, unless the entry begins with a blank; its TTL, class and type, or why they are rejected; and the tokens of its data
-  says_record : Option TokenSeen → Result RecordHeader HeaderRefusal → List TokenSeen → EntryMeaning
+  says_record : Option TokenSeen → Result RecordHeader HeaderError → List TokenSeen → EntryMeaning
   -- a directive is rejected
   says_refused : RecordError → EntryMeaning
 
@@ -40,10 +42,11 @@ DirectiveMeans Include end [] m = m ≡ says_refused_at end EndOfEntry
 DirectiveMeans Include end (file ∷ []) m = m ≡ says_include file.text None
 DirectiveMeans Include end (file ∷ origin ∷ []) m = m ≡ says_include file.text (Some origin)
 DirectiveMeans Include end (file ∷ origin ∷ t ∷ ts) m = m ≡ says_refused_at t.at TrailingArgument
+DirectiveMeans Generate end tokens m = m ≡ says_generate
 
 -- the tokens after a record's owner
 abbrev pub RecordMeans : Option TokenSeen → ℕ → List TokenSeen → EntryMeaning → Type 0
-RecordMeans owner end tokens m = (r : Result RecordHeader HeaderRefusal) × (left : List TokenSeen) × ParsesHeader end tokens r left × (m ≡ says_record owner r left)
+RecordMeans owner end tokens m = (r : Result RecordHeader HeaderError) × (left : List TokenSeen) × ParsesHeader end tokens r left × (m ≡ says_record owner r left)
 
 -- the first token names a directive, or is a record's owner
 abbrev pub FirstTokenMeans : Option (Result Directive ErrorKind) → ℕ → TokenSeen → List TokenSeen → EntryMeaning → Type 0

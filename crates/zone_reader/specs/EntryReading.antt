@@ -17,21 +17,21 @@ use Rattle.rdata_values.specs.declared.error.ErrorKind.TheVariants.{ShortBuf, No
 use Rattle.rdata_values.specs.declared.types.RecordType.{RecordType}
 use Rattle.rdata.specs.ByType.{ReadsType}
 use Rattle.zone_reader.specs.Directives.{first_directive}
-use Rattle.zone_reader.specs.EntryMeanings.{EntryMeaning, EntryMeans, says_nothing, says_origin, says_default_ttl, says_include, says_record, says_refused}
+use Rattle.zone_reader.specs.EntryMeanings.{EntryMeaning, EntryMeans, says_nothing, says_origin, says_default_ttl, says_include, says_generate, says_record, says_refused}
 use Rattle.zone_reader.specs.HeaderWords.{ttl_of_seconds}
 use Rattle.zone_reader.specs.declared.directive.Directive.{Directive}
 use Rattle.zone_reader.specs.declared.directive.Directive.TheVariants.{Origin}
 use Rattle.zone_reader.specs.declared.header.RecordHeader.{RecordHeader}
-use Rattle.zone_reader.specs.declared.header.HeaderRefusal.{HeaderRefusal}
+use Rattle.zone_reader.specs.declared.header.HeaderError.{HeaderError}
 use Rattle.zone_reader.specs.Learning.{Updates, WhyNoOwner, chosen_ttl}
 use Rattle.zone_reader.specs.Past.{Declared, NewOrigin, NewOwner, NewDefaultTtl, NewTtl, known_name}
 use Rattle.zone_reader.specs.declared.entry.ParsedEntry.{ParsedEntry}
-use Rattle.zone_reader.specs.declared.entry.ParsedEntry.TheVariants.{Nothing, Directive as IsDirective, Include, Record}
+use Rattle.zone_reader.specs.declared.entry.ParsedEntry.TheVariants.{Empty, Directive as IsDirective, Include, Generate, Record}
 use Rattle.zone_reader.specs.declared.known.NameState.{NameState}
-use Rattle.zone_reader.specs.declared.known.NameState.TheVariants.{Name, Refused}
+use Rattle.zone_reader.specs.declared.known.NameState.TheVariants.{Name, Rejected}
 use Rattle.zone_reader.specs.declared.state.State.{State}
 use Rattle.zone_reader.specs.declared.ttl.RecordTtl.{RecordTtl}
-use Rattle.zone_reader.specs.declared.ttl.RecordTtl.TheVariants.{Own, Default, Last, Minimum}
+use Rattle.zone_reader.specs.declared.ttl.RecordTtl.TheVariants.{Explicit, Default, Last, Minimum}
 
 -- ---- names
 
@@ -81,7 +81,7 @@ abbrev pub ReadsOwner : State → ℕ → Option TokenSeen → Result (Unit {0})
 ReadsOwner before at None (Ok _) known = (known ≡ before.owner) × ((labels : List (List ℕ)) × (known ≡ Name labels))
 ReadsOwner before at None (Err e) known = (known ≡ before.owner) × IsErrorAt at e × WhyNoOwner known e.kind
 ReadsOwner before at (Some t) (Ok _) known = (labels : List (List ℕ)) × (known ≡ Name labels) × NamesOrRefuses (known_name before.origin) t (Ok labels)
-ReadsOwner before at (Some t) (Err r) known = (known ≡ Refused) × NamesOrRefuses (known_name before.origin) t (Err r)
+ReadsOwner before at (Some t) (Err r) known = (known ≡ Rejected) × NamesOrRefuses (known_name before.origin) t (Err r)
 
 -- the number in the last four octets, if there are four
 abbrev pub EndsInNumber : List ℕ → Option ℕ → Type 0
@@ -109,14 +109,14 @@ ReadsRecordData before room at end w tokens old result new =
     (r : Result (Unit {0}) RecordError) × (left : List TokenSeen) × ReadsType (known_name before.origin) room w.rtype end tokens old r left new × ReadsDataAfterHeader before at w old r new result
 
 -- what comes after the owner: the error is the first one of owner, type and data
-abbrev pub ReadsWords : State → Room → ℕ → ℕ → Result (Unit {0}) RecordError → Result RecordHeader HeaderRefusal → List TokenSeen → List ℕ → Result ParsedEntry RecordError → List ℕ → Type 0
-ReadsWords before room at end (Err r) words tokens old result new = (result ≡ Err r) × (new ≡ old)
-ReadsWords before room at end (Ok _) (Err r) tokens old result new = (result ≡ Err r.error) × (new ≡ old)
-ReadsWords before room at end (Ok _) (Ok w) tokens old result new = ReadsRecordData before room at end w tokens old result new
+abbrev pub ReadsAfterHeader : State → Room → ℕ → ℕ → Result (Unit {0}) RecordError → Result RecordHeader HeaderError → List TokenSeen → List ℕ → Result ParsedEntry RecordError → List ℕ → Type 0
+ReadsAfterHeader before room at end (Err r) words tokens old result new = (result ≡ Err r) × (new ≡ old)
+ReadsAfterHeader before room at end (Ok _) (Err r) tokens old result new = (result ≡ Err r.error) × (new ≡ old)
+ReadsAfterHeader before room at end (Ok _) (Ok w) tokens old result new = ReadsRecordData before room at end w tokens old result new
 
-abbrev pub ReadsRecord : State → Room → ℕ → ℕ → Option TokenSeen → Result RecordHeader HeaderRefusal → List TokenSeen → List ℕ → Result ParsedEntry RecordError → NameState → List ℕ → Type 0
+abbrev pub ReadsRecord : State → Room → ℕ → ℕ → Option TokenSeen → Result RecordHeader HeaderError → List TokenSeen → List ℕ → Result ParsedEntry RecordError → NameState → List ℕ → Type 0
 ReadsRecord before room at end owner words tokens old result known new =
-    (first : Result (Unit {0}) RecordError) × ReadsOwner before at owner first known × ReadsWords before room at end first words tokens old result new
+    (first : Result (Unit {0}) RecordError) × ReadsOwner before at owner first known × ReadsAfterHeader before room at end first words tokens old result new
 
 -- ---- what later entries inherit from an entry
 
@@ -125,17 +125,17 @@ owner_of_record None = []
 owner_of_record (Some t) = NewOwner (Some t) ∷ []
 
 -- the TTL of a record's own, also of a rejected record
-abbrev pub ttl_of_words : Result RecordHeader HeaderRefusal → Option ℕ
-ttl_of_words (Ok w) = w.ttl
-ttl_of_words (Err r) = r.ttl
+abbrev pub ttl_of_header : Result RecordHeader HeaderError → Option ℕ
+ttl_of_header (Ok w) = w.ttl
+ttl_of_header (Err r) = r.ttl
 
-abbrev pub own_ttl_of : Option ℕ → List Declared
-own_ttl_of None = []
-own_ttl_of (Some ttl) = NewTtl ttl ∷ []
+abbrev pub explicit_ttl_of : Option ℕ → List Declared
+explicit_ttl_of None = []
+explicit_ttl_of (Some ttl) = NewTtl ttl ∷ []
 
 -- the minimum of an SOA that has no other TTL
 abbrev pub minimum_of_ttl : RecordTtl → List Declared
-minimum_of_ttl (Own ttl) = []
+minimum_of_ttl (Explicit ttl) = []
 minimum_of_ttl (Default ttl) = []
 minimum_of_ttl (Last ttl) = []
 minimum_of_ttl (Minimum ttl) = NewDefaultTtl ttl ∷ []
@@ -144,8 +144,8 @@ abbrev pub minimum_of_record : Result ParsedEntry RecordError → List Declared
 minimum_of_record (Ok (Record at ttl class rtype)) = minimum_of_ttl ttl
 minimum_of_record _ = []
 
-abbrev pub declared_by_record : Option TokenSeen → Result RecordHeader HeaderRefusal → Result ParsedEntry RecordError → List Declared
-declared_by_record owner words result = owner_of_record owner ++ (own_ttl_of (ttl_of_words words) ++ minimum_of_record result)
+abbrev pub declared_by_record : Option TokenSeen → Result RecordHeader HeaderError → Result ParsedEntry RecordError → List Declared
+declared_by_record owner words result = owner_of_record owner ++ (explicit_ttl_of (ttl_of_header words) ++ minimum_of_record result)
 
 -- after a rejected `$ORIGIN` no origin is known
 abbrev pub declared_by_rejected : Option (Result Directive ErrorKind) → List Declared
@@ -162,6 +162,7 @@ declared_by_entry first says_nothing result = []
 declared_by_entry first (says_origin t) result = NewOrigin (Some t) ∷ []
 declared_by_entry first (says_default_ttl r) result = default_ttl_of r
 declared_by_entry first (says_include file token) result = []
+declared_by_entry first says_generate result = []
 declared_by_entry first (says_record owner words left) result = declared_by_record owner words result
 declared_by_entry first (says_refused r) result = declared_by_rejected first
 
@@ -169,10 +170,11 @@ declared_by_entry first (says_refused r) result = declared_by_rejected first
 
 -- what is read of an entry with this meaning; only files and records append octets
 abbrev pub ReadsMeaning : State → Room → ℕ → List TokenSeen → EntryMeaning → List ℕ → Result ParsedEntry RecordError → NameState → List ℕ → Type 0
-ReadsMeaning before room end tokens says_nothing old result owner new = (result ≡ Ok Nothing) × (new ≡ old)
+ReadsMeaning before room end tokens says_nothing old result owner new = (result ≡ Ok Empty) × (new ≡ old)
 ReadsMeaning before room end tokens (says_origin t) old result owner new = ReadsOrigin (known_name before.origin) t result × (new ≡ old)
 ReadsMeaning before room end tokens (says_default_ttl r) old result owner new = (result ≡ directive_with r) × (new ≡ old)
 ReadsMeaning before room end tokens (says_include file token) old result owner new = ReadsInclude (known_name before.origin) room (next_place (drop 1 tokens) end) file token old result new
+ReadsMeaning before room end tokens says_generate old result owner new = (result ≡ Ok (Generate (next_place tokens end))) × (new ≡ old)
 ReadsMeaning before room end tokens (says_record token words left) old result owner new = ReadsRecord before room (next_place tokens end) end token words left old result owner new
 ReadsMeaning before room end tokens (says_refused e) old result owner new = result ≡ Err e
 

@@ -10,14 +10,14 @@ use Rattle.rdata_fields.specs.declared.record_error.RecordError.{RecordError}
 use Rattle.zone_reader.specs.Arguments.{ParsesDefaultTtl}
 use Rattle.zone_reader.specs.Headers.{ParsesHeader}
 use Rattle.zone_reader.specs.declared.directive.Directive.{Directive}
-use Rattle.zone_reader.specs.declared.directive.Directive.TheVariants.{Origin, Ttl, Include as OfInclude}
+use Rattle.zone_reader.specs.declared.directive.Directive.TheVariants.{Origin, Ttl, Include as OfInclude, Generate as OfGenerate}
 use Rattle.zone_reader.specs.declared.header.RecordHeader.{RecordHeader}
-use Rattle.zone_reader.specs.declared.header.HeaderRefusal.{HeaderRefusal}
+use Rattle.zone_reader.specs.declared.header.HeaderError.{HeaderError}
 use Rattle.zone_reader.specs.EntryReading.{IncludesOrigin, ReadsInclude, NamesOrRefuses, ReadsRecord, RefusesOrigin, default_ttl_of, directive_with, origin_octets, declared_by_record}
 use Rattle.zone_reader.specs.Learning.{Updates}
 use Rattle.zone_reader.specs.Past.{NewOrigin, known_name}
 use Rattle.zone_reader.specs.declared.entry.ParsedEntry.{ParsedEntry}
-use Rattle.zone_reader.specs.declared.entry.ParsedEntry.TheVariants.{Directive as IsDirective, Include}
+use Rattle.zone_reader.specs.declared.entry.ParsedEntry.TheVariants.{Directive as IsDirective, Include, Generate}
 use Rattle.zone_reader.specs.declared.state.State.{State}
 
 -- no token is left if one is expected; or one is left if none is expected
@@ -28,9 +28,9 @@ abbrev pub too_many : TokenSeen → RecordError
 too_many t = error_at t.at TrailingArgument
 
 -- the next token is skipped: it spells a name, or is rejected
-abbrev pub PassesName : Option (List (List ℕ)) → ℕ → List TokenSeen → Result (List (List ℕ)) RecordError → List TokenSeen → Type 0
-PassesName origin end [] r left = (left ≡ []) × (r ≡ Err (ends_early end))
-PassesName origin end (t ∷ ts) r left = (left ≡ ts) × NamesOrRefuses origin t r
+abbrev pub ParsesNextName : Option (List (List ℕ)) → ℕ → List TokenSeen → Result (List (List ℕ)) RecordError → List TokenSeen → Type 0
+ParsesNextName origin end [] r left = (left ≡ []) × (r ≡ Err (ends_early end))
+ParsesNextName origin end (t ∷ ts) r left = (left ≡ ts) × NamesOrRefuses origin t r
 
 -- the one token that is left spells a name, or is rejected
 abbrev pub ParsesLastName : Option (List (List ℕ)) → ℕ → List TokenSeen → Result (List (List ℕ)) RecordError → Type 0
@@ -57,9 +57,9 @@ abbrev pub AppendsFile : Room → TokenSeen → List ℕ → Result ℕ RecordEr
 AppendsFile room t old (Ok n) new = (new ≡ old ++ t.text) × (n ≡ length t.text)
 AppendsFile room t old (Err r) new = (new ≡ old) × (r ≡ error_at t.at ShortBuf) × (room.fits < length old + length t.text)
 
-abbrev pub PassesFile : Room → ℕ → List TokenSeen → List ℕ → Result ℕ RecordError → List TokenSeen → List ℕ → Type 0
-PassesFile room end [] old r left new = (left ≡ []) × (r ≡ Err (ends_early end)) × (new ≡ old)
-PassesFile room end (t ∷ ts) old r left new = (left ≡ ts) × AppendsFile room t old r new
+abbrev pub AppendsFileName : Room → ℕ → List TokenSeen → List ℕ → Result ℕ RecordError → List TokenSeen → List ℕ → Type 0
+AppendsFileName room end [] old r left new = (left ≡ []) × (r ≡ Err (ends_early end)) × (new ≡ old)
+AppendsFileName room end (t ∷ ts) old r left new = (left ≡ ts) × AppendsFile room t old r new
 
 -- an origin is included, or is rejected
 abbrev pub ReadsIncluded : Option (List (List ℕ)) → Option TokenSeen → Result (Option (List (List ℕ))) RecordError → Type 0
@@ -87,11 +87,13 @@ ReadsLastInclude origin room end (file ∷ []) old r new = Extends old new × Re
 ReadsLastInclude origin room end (file ∷ t ∷ []) old r new = Extends old new × ReadsInclude origin room file.at file.text (Some t) old r new
 ReadsLastInclude origin room end (file ∷ t ∷ u ∷ ts) old r new = Extends old new × (r ≡ Err (too_many u))
 
-abbrev pub ReadsDirective : Directive → Room → ℕ → List TokenSeen → State → List ℕ → Result ParsedEntry RecordError → State → List ℕ → Type 0
-ReadsDirective Origin room end tokens before old r after new =
+-- the directive, whose word is at an offset
+abbrev pub ReadsDirective : Directive → Room → ℕ → ℕ → List TokenSeen → State → List ℕ → Result ParsedEntry RecordError → State → List ℕ → Type 0
+ReadsDirective Origin room at end tokens before old r after new =
     ReadsLastOrigin (known_name before.origin) end tokens r × Updates (NewOrigin (only_token tokens) ∷ []) before after × (new ≡ old)
-ReadsDirective Ttl room end tokens before old r after new = ReadsDefaultTtl end tokens before r after × (new ≡ old)
-ReadsDirective OfInclude room end tokens before old r after new = ReadsLastInclude (known_name before.origin) room end tokens old r new × (after ≡ before)
+ReadsDirective Ttl room at end tokens before old r after new = ReadsDefaultTtl end tokens before r after × (new ≡ old)
+ReadsDirective OfInclude room at end tokens before old r after new = ReadsLastInclude (known_name before.origin) room end tokens old r new × (after ≡ before)
+ReadsDirective OfGenerate room at end tokens before old r after new = (r ≡ Ok (Generate at)) × (new ≡ old) × (after ≡ before)
 
 -- the token of the owner, and the tokens after it
 abbrev pub owner_token : Bool → List TokenSeen → Option TokenSeen
@@ -108,9 +110,9 @@ own_or_last (Some ttl) last = Some ttl
 
 -- the owner, the TTL, class and type after it, and the data after these
 pub record ReadsRecordTokens (room : Room) (blank : Bool) (end : ℕ) (tokens : List TokenSeen) (before : State) (old : List ℕ) (result : Result ParsedEntry RecordError) (after : State) (new : List ℕ) : Type 0 where
-  pub words : Result RecordHeader HeaderRefusal
+  pub header : Result RecordHeader HeaderError
   pub left : List TokenSeen
-  pub takes : ParsesHeader end (tokens_after_owner blank tokens) words left
-  pub reads : ReadsRecord before room (next_place tokens end) end (owner_token blank tokens) words left old result after.owner new
+  pub takes : ParsesHeader end (tokens_after_owner blank tokens) header left
+  pub reads : ReadsRecord before room (next_place tokens end) end (owner_token blank tokens) header left old result after.owner new
   pub extends : Extends old new
-  pub learns : Updates (declared_by_record (owner_token blank tokens) words result) before after
+  pub learns : Updates (declared_by_record (owner_token blank tokens) header result) before after

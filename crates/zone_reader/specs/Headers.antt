@@ -8,7 +8,7 @@ use Rattle.rdata_values.specs.declared.error.ErrorKind.TheVariants.{EndOfEntry}
 use Rattle.dns_lexer.specs.EntryTokens.{TokenSeen}
 use Rattle.zone_reader.specs.HeaderWords.{TokenIsTtl, TokenIsClass, TokenIsType, type_refusal}
 use Rattle.zone_reader.specs.declared.header.RecordHeader.{RecordHeader}
-use Rattle.zone_reader.specs.declared.header.HeaderRefusal.{HeaderRefusal}
+use Rattle.zone_reader.specs.declared.header.HeaderError.{HeaderError}
 
 -- one token with this value, or no token
 abbrev pub IsOptionalWord : {T : Type 0} → (T → ℕ → Type 0) → List T → Option ℕ → Type 0
@@ -56,6 +56,6 @@ ParsesType may_be_ttl end tokens (Ok rtype) left = (t : TokenSeen) × (tokens �
 ParsesType may_be_ttl end tokens (Err e) left = (left ≡ tokens) × IsErrorAt (next_place tokens end) e × WhyNoType may_be_ttl tokens e.kind
 
 -- a type comes after a TTL and a class; or no type follows, for this reason
-abbrev pub ParsesHeader : ℕ → List TokenSeen → Result RecordHeader HeaderRefusal → List TokenSeen → Type 0
+abbrev pub ParsesHeader : ℕ → List TokenSeen → Result RecordHeader HeaderError → List TokenSeen → Type 0
 ParsesHeader end tokens (Ok w) left = (t : TokenSeen) × ParsesTtlAndClass TokenIsTtl TokenIsClass tokens w.ttl w.class (t ∷ left) × TokenIsType t w.rtype
 ParsesHeader end tokens (Err r) left = ParsesTtlAndClass TokenIsTtl TokenIsClass tokens r.ttl r.class left × IsErrorAt (next_place left end) r.error × WhyNoType (is_none r.ttl) left r.error.kind

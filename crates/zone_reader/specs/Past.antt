@@ -6,10 +6,10 @@ use Rattle.rdata_fields.specs.Parsing.{SpellsField}
 use Rattle.rdata_fields.specs.declared.field.Field.TheVariants.{Name as OfName}
 use Rattle.rdata_values.specs.declared.classes.Class.{Class}
 use Rattle.zone_reader.specs.declared.known.NameState.{NameState}
-use Rattle.zone_reader.specs.declared.known.NameState.TheVariants.{Unset, Name, Refused}
+use Rattle.zone_reader.specs.declared.known.NameState.TheVariants.{Unset, Name, Rejected}
 use Rattle.zone_reader.specs.declared.state.State.{State}
 use Rattle.zone_reader.specs.declared.ttl.RecordTtl.{RecordTtl}
-use Rattle.zone_reader.specs.declared.ttl.RecordTtl.TheVariants.{Own, Default, Last, Minimum}
+use Rattle.zone_reader.specs.declared.ttl.RecordTtl.TheVariants.{Explicit, Default, Last, Minimum}
 
 -- The values of entries that later ones inherit, in order: the token after `$ORIGIN`, or the
 -- owner's token, if there is one that may be a name; a default TTL, by `$TTL` or by an SOA that has
@@ -54,16 +54,16 @@ pub record DeclaredLast {X : Type 0} (says : Declared → Option X) (past : List
 abbrev pub known_name : NameState → Option (List (List ℕ))
 known_name Unset = None
 known_name (Name labels) = Some labels
-known_name Refused = None
+known_name Rejected = None
 
 -- the name that a token spells, with the origin appended to relative names; or rejected, if it doesn't spell one or no token is there
 abbrev pub NamedBy : Option (List (List ℕ)) → Option TokenSeen → NameState → Type 0
 NamedBy origin None Unset = ⊥
 NamedBy origin None (Name labels) = ⊥
-NamedBy origin None Refused = ⊤
+NamedBy origin None Rejected = ⊤
 NamedBy origin (Some t) Unset = ⊥
 NamedBy origin (Some t) (Name labels) = SpellsField origin OfName t (wire labels)
-NamedBy origin (Some t) Refused = (octets : List ℕ) → ¬ SpellsField origin OfName t octets
+NamedBy origin (Some t) Rejected = (octets : List ℕ) → ¬ SpellsField origin OfName t octets
 
 -- the origin after these values: that of the start, if none came; and else the last one, parsed with the origin before it
 pub data IsOriginAfter (start : State) : List Declared → NameState → Type 0 where
@@ -96,7 +96,7 @@ pub record StateAfter (start : State) (past : List Declared) (state : State) : T
 
 -- the TTL of a record: its own; else the default; else that of the last record with one; else, of an SOA, its minimum; else `None`
 abbrev pub IsRecordTtl : State → List Declared → Option ℕ → Option ℕ → Option RecordTtl → Type 0
-IsRecordTtl start past own minimum (Some (Own ttl)) = own ≡ Some ttl
+IsRecordTtl start past own minimum (Some (Explicit ttl)) = own ≡ Some ttl
 IsRecordTtl start past own minimum (Some (Default ttl)) = (own ≡ None) × IsDefaultTtlAfter start past (Some ttl)
 IsRecordTtl start past own minimum (Some (Last ttl)) = (own ≡ None) × IsDefaultTtlAfter start past None × IsLastTtlAfter start past (Some ttl)
 IsRecordTtl start past own minimum (Some (Minimum ttl)) = (own ≡ None) × IsDefaultTtlAfter start past None × IsLastTtlAfter start past None × (minimum ≡ Some ttl)
@@ -115,7 +115,7 @@ abbrev pub nothing_declared : Class → State
 nothing_declared class = record { origin = Unset; owner = Unset; default_ttl = None; last_ttl = None; class = class }
 
 abbrev pub seconds_of : RecordTtl → ℕ
-seconds_of (Own ttl) = ttl
+seconds_of (Explicit ttl) = ttl
 seconds_of (Default ttl) = ttl
 seconds_of (Last ttl) = ttl
 seconds_of (Minimum ttl) = ttl

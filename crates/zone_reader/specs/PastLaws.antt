@@ -12,7 +12,7 @@ use Rattle.zone_reader.specs.declared.known.NameState.{NameState}
 use Rattle.zone_reader.specs.declared.known.NameState.TheVariants.{Name}
 use Rattle.zone_reader.specs.declared.state.State.{State}
 use Rattle.zone_reader.specs.declared.ttl.RecordTtl.{RecordTtl}
-use Rattle.zone_reader.specs.declared.ttl.RecordTtl.TheVariants.{Own}
+use Rattle.zone_reader.specs.declared.ttl.RecordTtl.TheVariants.{Explicit}
 
 -- the same values leave one state
 abbrev pub IsKnownOnce : Type 0
@@ -36,7 +36,7 @@ pub record OwnersAreIndependent : Type 0 where
 
 -- so is the TTL of a record's own
 abbrev pub TtlsAreIndependent : Type 0
-TtlsAreIndependent = (start : State) (past : List Declared) (own : ℕ) (minimum : Option ℕ) (ttl : Option RecordTtl) → IsRecordTtl start past (Some own) minimum ttl → ttl ≡ Some (Own own)
+TtlsAreIndependent = (start : State) (past : List Declared) (own : ℕ) (minimum : Option ℕ) (ttl : Option RecordTtl) → IsRecordTtl start past (Some own) minimum ttl → ttl ≡ Some (Explicit own)
 
 -- the first TTL that a state has is the record's after all values that led to the state
 abbrev pub ChosenTtlsAreReturned : Type 0

@@ -19,14 +19,14 @@ use Rattle.zone_reader.specs.declared.entry.ParsedEntry.{ParsedEntry}
 use Rattle.zone_reader.specs.declared.entry.ParsedEntry.TheVariants.{Record}
 use Rattle.zone_reader.specs.declared.known.NameState.TheVariants.{Name}
 use Rattle.zone_reader.specs.declared.state.State.{State}
-use Rattle.zone_reader.specs.declared.ttl.RecordTtl.TheVariants.{Own}
+use Rattle.zone_reader.specs.declared.ttl.RecordTtl.TheVariants.{Explicit}
 
 -- A record that is read, with an absolute owner, a TTL and a class of its own, has these in every
 -- state.
 abbrev pub FullRecordsAreIndependent : Type 0
 FullRecordsAreIndependent = (room : Room) (end : ℕ) (tokens left : List TokenSeen) (t : TokenSeen) (w : RecordHeader) (ttl : ℕ) (class : Class) (labels : List (List ℕ)) (before after : State) (old new : List ℕ) (e : ParsedEntry)
     → EntryMeans false end tokens (says_record (Some t) (Ok w) left) → w.ttl ≡ Some ttl → w.class ≡ Some class → SpellsField None OfName t (wire labels) → ReadsZoneEntry room false end tokens before old (Ok e) after new
-    → (e ≡ Record (next_place tokens end) (Own ttl) class w.rtype) × (after.owner ≡ Name labels)
+    → (e ≡ Record (next_place tokens end) (Explicit ttl) class w.rtype) × (after.owner ≡ Name labels)
 
 -- The tokens of a record with all its parts: an absolute owner, a TTL, a class, a type, and data of that type whatever the origin is.
 pub record IsWholeRecord (end : ℕ) (tokens : List TokenSeen) (labels : List (List ℕ)) (ttl : ℕ) (class : Class) (rtype : RecordType) (octets : List ℕ) : Type 0 where
@@ -40,4 +40,4 @@ pub record IsWholeRecord (end : ℕ) (tokens : List TokenSeen) (labels : List (L
 abbrev pub WholeRecordsAreIndependent : Type 0
 WholeRecordsAreIndependent = (room : Room) (end : ℕ) (tokens : List TokenSeen) (labels : List (List ℕ)) (ttl : ℕ) (class : Class) (rtype : RecordType) (octets : List ℕ) → IsWholeRecord end tokens labels ttl class rtype octets
     → (before after : State) (old new : List ℕ) (result : Result ParsedEntry RecordError) → IsOrigin (known_name before.origin) → length old + length octets ≤ room.fits → ReadsZoneEntry room false end tokens before old result after new
-    → (result ≡ Ok (Record (next_place tokens end) (Own ttl) class rtype)) × (after.owner ≡ Name labels) × (new ≡ old ++ octets)
+    → (result ≡ Ok (Record (next_place tokens end) (Explicit ttl) class rtype)) × (after.owner ≡ Name labels) × (new ≡ old ++ octets)

@@ -11,7 +11,7 @@ use Rattle.zone_reader.specs.EntryReading.{IsMinimum, ReadsOwner, record_with, d
 use Rattle.zone_reader.specs.Past.{NewOrigin, NewOwner, NewDefaultTtl, NewTtl, nothing_declared}
 use Rattle.zone_reader.specs.declared.entry.ParsedEntry.TheVariants.{Record}
 use Rattle.zone_reader.specs.declared.known.NameState.TheVariants.{Unset}
-use Rattle.zone_reader.specs.declared.ttl.RecordTtl.TheVariants.{Own, Minimum}
+use Rattle.zone_reader.specs.declared.ttl.RecordTtl.TheVariants.{Explicit, Minimum}
 
 abbrev owner : TokenSeen
 owner = record { text = codes "w"; is_quoted = false; is_adjacent = false; at = 0 }
@@ -31,10 +31,10 @@ no_minimum_row : IsMinimum Rtype.a (192 ∷ 0 ∷ 2 ∷ 1 ∷ []) None
 no_minimum_row = inr (λ e. omega (arith, e), refl)
 
 -- the class of a record without one is that where reading began
-class_row : record_with (nothing_declared 1) 8 a_record (Some (Own 60)) ≡ Ok (Record 8 (Own 60) 1 Rtype.a)
+class_row : record_with (nothing_declared 1) 8 a_record (Some (Explicit 60)) ≡ Ok (Record 8 (Explicit 60) 1 Rtype.a)
 class_row = refl
 
-own_class_row : record_with (nothing_declared 1) 8 (record { ttl = None; class = Some 3; rtype = Rtype.txt }) (Some (Own 60)) ≡ Ok (Record 8 (Own 60) 3 Rtype.txt)
+own_class_row : record_with (nothing_declared 1) 8 (record { ttl = None; class = Some 3; rtype = Rtype.txt }) (Some (Explicit 60)) ≡ Ok (Record 8 (Explicit 60) 3 Rtype.txt)
 own_class_row = refl
 
 -- `w A 192.0.2.1` if no TTL is known

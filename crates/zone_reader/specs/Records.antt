@@ -81,3 +81,11 @@ pub record ReadsNextRecord (room : Room) (before : RecordReader) (old : List ℕ
   pub are_directives : AllByRecursion (IsDirectiveResult old) directives
   pub last : ReadsNextEntry room middle old result after new
   pub is_last : result ≢ Some (Ok Directive)
+
+-- a reader that starts at the text with a state returns this for the first entry, and has the state after it
+pub record ReadsTextEntry (room : Room) (text : List ℕ) (before : State) (old : List ℕ) (result : Option (Result ParsedEntry RecordError)) (after : State) (new : List ℕ) : Type 0 where
+  pub reader : RecordReader
+  pub starts : StartsText text before reader
+  pub next : RecordReader
+  pub reads : ReadsNextEntry room reader old result next new
+  pub state_is : next.state ≡ after

@@ -4,7 +4,7 @@ use Rattle.std.proofs.Common.{inl, inr}
 use Rattle.zone_reader.specs.Past.{NewOrigin, NewOwner, NewDefaultTtl, NewTtl, IsOwnerAfter, no_owner_said, IsRecordTtl, nothing_declared, ttls_declared}
 use Rattle.zone_reader.specs.declared.known.NameState.TheVariants.{Unset}
 use Rattle.zone_reader.specs.declared.state.State.{State}
-use Rattle.zone_reader.specs.declared.ttl.RecordTtl.TheVariants.{Own, Default, Last, Minimum}
+use Rattle.zone_reader.specs.declared.ttl.RecordTtl.TheVariants.{Explicit, Default, Last, Minimum}
 
 -- the start of reading with the class IN alone
 abbrev bare : State
@@ -14,7 +14,7 @@ bare = nothing_declared 1
 default_row : IsRecordTtl bare (NewDefaultTtl 50 ∷ []) None None (Some (Default 50))
 default_row = (refl, inr (50, record { before = []; at = NewDefaultTtl 50; after = []; whole = refl; said = refl; silent = tt }, refl))
 
-own_row : IsRecordTtl bare (NewDefaultTtl 50 ∷ []) (Some 77) None (Some (Own 77))
+own_row : IsRecordTtl bare (NewDefaultTtl 50 ∷ []) (Some 77) None (Some (Explicit 77))
 own_row = refl
 
 default_again_row : IsRecordTtl bare (NewDefaultTtl 50 ∷ NewTtl 77 ∷ []) None None (Some (Default 50))

@@ -13,7 +13,7 @@ use Rattle.zone_reader.specs.Past.{StateAfter, Declared}
 use Rattle.zone_reader.specs.Records.{AreSuccessiveResults, EntryResult, ReadsNextEntry, ReadsNextRecord, StartsText, result_of_entry}
 use Rattle.zone_reader.specs.TextEntries.{IsSeenPastFaults, TextEntry, entry_counts, parts_of_entries, spelled_tokens, tokens_end}
 use Rattle.zone_reader.specs.declared.entry.ParsedEntry.{ParsedEntry}
-use Rattle.zone_reader.specs.declared.entry.ParsedEntry.TheVariants.{Nothing}
+use Rattle.zone_reader.specs.declared.entry.ParsedEntry.TheVariants.{Empty}
 use Rattle.zone_reader.specs.declared.records.RecordReader.{RecordReader}
 use Rattle.zone_reader.specs.declared.state.State.{State}
 
@@ -75,9 +75,9 @@ abbrev pub RecordsEndRows : Type 0
 RecordsEndRows = (room : Room) (before after : RecordReader) (old new : List ℕ) (result : Result ParsedEntry RecordError) → ReadsNextRecord room before old (Some result) after new
     → (given : List EntryResult) × AreSuccessiveResults room before (given ++ (record { old = old; result = result; new = new; state = after.state }) ∷ []) after
 
--- no call returns `Nothing`, an entry without tokens
+-- no call returns `Empty`, an entry without tokens
 abbrev pub NoCallIsBlank : Type 0
-NoCallIsBlank = (room : Room) (before after : RecordReader) (old new : List ℕ) → ReadsNextEntry room before old (Some (Ok Nothing)) after new → ⊥
+NoCallIsBlank = (room : Room) (before after : RecordReader) (old new : List ℕ) → ReadsNextEntry room before old (Some (Ok Empty)) after new → ⊥
 
 -- an upper bound of the further calls that return something: one for each octet from there on, and one more, if a part is left
 abbrev pub remaining_calls_at : List (Result PartSeen Fault) → ℕ → ℕ

@@ -64,11 +64,10 @@ pub fn parse_default_ttl<S: TokenSource>(source: &mut S) -> Result<u32, RecordEr
     Ok(ttl)
 }
 
-/// Parses the file of `$INCLUDE`, in quotes or not, and appends its octets as they are written: a
-/// backslash is not an escape here. Returns the number of octets. An origin may come after the
-/// file, and is not taken.
+/// Parses the file name of `$INCLUDE`, in quotes or not, and appends its octets as they are written:
+/// a backslash is not an escape here. Returns their number. An origin that follows is not parsed.
 ///
-/// If the octets don't fit, the target is unchanged and the token is not taken.
+/// If the octets don't fit, the target is unchanged and the token is not skipped.
 pub fn parse_file_name<S: TokenSource, B: OctetsBuilder>(
     source: &mut S,
     target: &mut B,

@@ -16,6 +16,8 @@ pub enum Directive {
     Ttl,
     /// `$INCLUDE file [origin]`: the entries of a file, in place of this one.
     Include,
+    /// `$GENERATE range owner [ttl] [class] type rdata`: an entry for each number of a range.
+    Generate,
 }
 
 /// Returns the directive that a word names, or why it is rejected.
@@ -32,7 +34,7 @@ fn directive_in(word: &[u8]) -> Result<Directive, ErrorKind>
         return Ok(Directive::Include);
     }
     if word.eq_ignore_ascii_case(b"$GENERATE") {
-        return Err(ErrorKind::NotSupported);
+        return Ok(Directive::Generate);
     }
     Err(ErrorKind::UnknownDirective)
 }
@@ -55,8 +57,9 @@ pub fn directive_word(token: &EntryToken<'_>) -> Option<Result<Directive, ErrorK
 /// Parses the directive with which an entry begins. Returns `None` if the entry does not begin with
 /// a dollar sign, or begins with a blank.
 ///
-/// Fails if the word is `$GENERATE`, or begins with a dollar sign and names no directive. The
-/// rejected token is not taken.
+/// Fails if the word begins with a dollar sign and names no directive. The rejected token is not
+/// taken. Each directive of BIND is one of these, so no reader returns
+/// [`ErrorKind::NotSupported`].
 pub fn parse_directive<S: TokenSource>(
     begins_blank: bool,
     source: &mut S,

@@ -3,40 +3,52 @@ ghost use Rattle.std.specs.Prelude.{◌≡◌, ◌≢◌, ◌∷◌, [], None, d
 ghost use Rattle.std.specs.Option.{option_copied};
 ghost use Rattle.dns_octets.specs.Appending.{Extends};
 ghost use Rattle.rdata_fields.specs.Source.{next_place};
-ghost use Rattle.zone_reader.specs.EntryReading.{EndsInNumber, IsMinimum, ReadsZoneEntry, ReadsOwner, ReadsRecord, ReadsRecordData, ReadsWords, minimum_of_record, minimum_of_ttl, own_ttl_of, owner_of_record, record_with, declared_by_record, ttl_of_words};
-ghost use Rattle.zone_reader.specs.EntrySteps.{AppendsOrigin, FinishesInclude, PassesFile, PassesName, ReadsDefaultTtl, ReadsDirective, ReadsLastInclude, ReadsLastOrigin, ReadsRecordTokens, ParsesIncludedOrigin, ParsesLastName, tokens_after_owner, only_token, own_or_last, owner_token};
+ghost use Rattle.zone_reader.specs.EntryReading.{EndsInNumber, IsMinimum, ReadsZoneEntry, ReadsOwner, ReadsRecord, ReadsRecordData, ReadsAfterHeader, minimum_of_record, minimum_of_ttl, explicit_ttl_of, owner_of_record, record_with, declared_by_record, ttl_of_header};
+ghost use Rattle.zone_reader.specs.EntrySteps.{AppendsOrigin, FinishesInclude, AppendsFileName, ParsesNextName, ReadsDefaultTtl, ReadsDirective, ReadsLastInclude, ReadsLastOrigin, ReadsRecordTokens, ParsesIncludedOrigin, ParsesLastName, tokens_after_owner, only_token, own_or_last, owner_token};
 ghost use Rattle.zone_reader.specs.Learning.{Updates, chosen_ttl};
 ghost use Rattle.zone_reader.specs.Past.{NewOrigin, known_name};
 
 use crate::known::{NameBuffer, NameState};
-use crate::state::{State, parse_known, parse_name};
+use crate::state::{State, parse_name, parse_name_into};
 use crate::ttl::RecordTtl;
 use crate::{
-    Directive, HeaderRefusal, RecordHeader, parse_default_ttl, parse_directive, parse_end,
+    Directive, HeaderError, RecordHeader, parse_default_ttl, parse_directive, parse_end,
     parse_file_name, parse_header, ttl_of_seconds,
 };
 use dns_octets::{AsOctetsMut, OctetsBuilder};
-use rdata::read_type;
+use rdata::read_rdata;
 use rdata_fields::{RecordError, TokenSource};
 use rdata_values::{Class, ErrorKind, RecordType};
 
-/// The result of reading an entry.
+/// The result of reading an entry. Offsets count octets from the start of the text that is read: a
+/// zone file, or the text of a generated entry.
 #[derive(Clone, Copy)]
 pub enum ParsedEntry {
     /// The entry has no tokens.
-    Nothing,
+    Empty,
     /// The entry is `$ORIGIN` or `$TTL`, and the state has changed.
     Directive,
-    /// The entry is `$INCLUDE`. The octets that name the file are appended, as they are written:
-    /// there are `file` of them. If `has_origin`, the wire form of the included file's origin is
-    /// appended after them ([`include_parts`]).
+    /// The entry is `$INCLUDE`. The file name is appended to the target of [`read_entry`] as it is
+    /// written, without its quotes and with its escapes. If `has_origin`, the origin of the included
+    /// file is appended after it, in wire format.
+    /// [`include_parts`] splits the two.
     Include {
-        file: usize,
+        /// Length of the file name, in octets.
+        file_name_len: usize,
+        /// Whether the entry has an origin for the included file.
         has_origin: bool,
     },
-    /// The entry is a record: the offset of its first token, its TTL, class and type. Its owner is
-    /// the state's, and the octets of its data are appended.
+    /// The entry is `$GENERATE`. The tokens after that word are not read, and the state and the
+    /// target are unchanged. The caller parses the directive, and reads the entry that it generates
+    /// for each number of its range with [`read_text_entry`](crate::read_text_entry).
+    Generate {
+        /// Offset of the word `$GENERATE`.
+        at: usize,
+    },
+    /// The entry is a record. Its owner is [`State::owner`], and its RDATA is appended to the target
+    /// in wire format.
     Record {
+        /// Offset of the first token of the record.
         at: usize,
         ttl: RecordTtl,
         class: Class,
@@ -44,22 +56,22 @@ pub enum ParsedEntry {
     },
 }
 
-/// Returns the octets that name the file of [`ParsedEntry::Include`], and those of its origin after
-/// them. `appended` is all that was appended.
-pub fn include_parts(appended: &[u8], file: usize) -> (&[u8], &[u8])
-    ensures file { result.0.now ≡ take file appended.now }
-    ensures origin { result.1.now ≡ drop file appended.now }
+/// Splits the octets that were appended for [`ParsedEntry::Include`] into the file name and the
+/// origin after it, which is in wire format.
+pub fn include_parts(appended: &[u8], file_name_len: usize) -> (&[u8], &[u8])
+    ensures file { result.0.now ≡ take file_name_len appended.now }
+    ensures origin { result.1.now ≡ drop file_name_len appended.now }
 {
-    let end = file.min(appended.len());
+    let end = file_name_len.min(appended.len());
     (&appended[..end], &appended[end..])
 }
 
-/// Parses the next token as a name. A rejected token is skipped too.
-fn skip_name<S: TokenSource>(
+/// Parses the next token as a name. The token is consumed on an error too.
+fn parse_next_name<S: TokenSource>(
     origin: Option<&NameBuffer>,
     source: &mut S,
 ) -> Result<NameBuffer, RecordError>
-    ensures passes { PassesName (option_copied origin.entry) (S.end source.old).at (S.left source.old) result (S.left source.new) }
+    ensures passes { ParsesNextName (option_copied origin.entry) (S.end source.old).at (S.left source.old) result (S.left source.new) }
     ensures end { S.end source.new ≡ S.end source.old }
 {
     match parse_name(origin, source) {
@@ -71,8 +83,8 @@ fn skip_name<S: TokenSource>(
     }
 }
 
-/// Parses the one token that is left as a name. Fails first if another token comes after it, and
-/// then if it is not a name.
+/// Parses the next token as a name. It must be the last token of the entry: if another one follows,
+/// that is the error, also if the name is invalid.
 fn parse_last_name<S: TokenSource>(
     origin: Option<&NameBuffer>,
     source: &mut S,
@@ -84,14 +96,14 @@ fn parse_last_name<S: TokenSource>(
     if source.current().is_none() {
         return Err(RecordError::at(at, ErrorKind::EndOfEntry));
     }
-    let name = skip_name(origin, source);
+    let name = parse_next_name(origin, source);
     match parse_end(source) {
         Ok(()) => name,
         Err(error) => Err(error),
     }
 }
 
-/// Reads the operand of `$ORIGIN`. If it is rejected, no origin is known.
+/// Reads the argument of `$ORIGIN`. If it is rejected, no origin is known until the next one.
 fn read_origin<S: TokenSource>(
     state: &mut State,
     source: &mut S,
@@ -106,13 +118,13 @@ fn read_origin<S: TokenSource>(
             Ok(ParsedEntry::Directive)
         }
         Err(error) => {
-            state.origin = NameState::Refused;
+            state.origin = NameState::Rejected;
             Err(error)
         }
     }
 }
 
-/// Reads the operand of `$TTL`.
+/// Reads the argument of `$TTL`.
 fn read_default_ttl<S: TokenSource>(
     state: &mut State,
     source: &mut S,
@@ -122,20 +134,20 @@ fn read_default_ttl<S: TokenSource>(
 {
     match parse_default_ttl(source) {
         Ok(ttl) => {
-            state.declare_default_ttl(ttl);
+            state.set_default_ttl(ttl);
             Ok(ParsedEntry::Directive)
         }
         Err(error) => Err(error),
     }
 }
 
-/// Appends the file of `$INCLUDE`, and returns the number of its octets. Its token is skipped also
-/// if they don't fit.
-fn pass_file<S: TokenSource, B: OctetsBuilder>(
+/// Parses the file name of `$INCLUDE`, appends it to `target`, and returns its length in octets. The
+/// token is consumed on an error too.
+fn append_file_name<S: TokenSource, B: OctetsBuilder>(
     source: &mut S,
     target: &mut B,
 ) -> Result<usize, RecordError>
-    ensures passes { PassesFile B.room (S.end source.old).at (S.left source.old) (B.octets target.old) result (S.left source.new) (B.octets target.new) }
+    ensures passes { AppendsFileName B.room (S.end source.old).at (S.left source.old) (B.octets target.old) result (S.left source.new) (B.octets target.new) }
     ensures end { S.end source.new ≡ S.end source.old }
 {
     match parse_file_name(source, target) {
@@ -147,7 +159,7 @@ fn pass_file<S: TokenSource, B: OctetsBuilder>(
     }
 }
 
-/// Parses the origin after the file of `$INCLUDE`, if a token is left.
+/// Parses the origin after the file name of `$INCLUDE`, if the entry has one.
 fn parse_included_origin<S: TokenSource>(
     origin: Option<&NameBuffer>,
     source: &mut S,
@@ -164,15 +176,16 @@ fn parse_included_origin<S: TokenSource>(
     }
 }
 
-/// Appends the origin of an included file, if the entry has one.
+/// Appends the origin of an included file, if the entry has one, and returns whether it has. `at` is
+/// the offset of an error: that of the file name.
 fn append_origin<B: OctetsBuilder>(
     at: usize,
-    added: &Option<NameBuffer>,
+    name: &Option<NameBuffer>,
     target: &mut B,
 ) -> Result<bool, RecordError>
-    ensures { AppendsOrigin B.room at added.now (B.octets target.old) result (B.octets target.new) }
+    ensures { AppendsOrigin B.room at name.now (B.octets target.old) result (B.octets target.new) }
 {
-    let Some(name) = added else {
+    let Some(name) = name else {
         return Ok(false);
     };
     match target.append_slice(name.as_slice()) {
@@ -181,23 +194,27 @@ fn append_origin<B: OctetsBuilder>(
     }
 }
 
-/// Finishes a file to include, of which all but the origin is appended.
+/// Appends the origin of an `$INCLUDE` after its file name, and returns the entry. `at` is the offset of
+/// an error: that of the file name.
 fn finish_include<B: OctetsBuilder>(
     at: usize,
-    file: usize,
+    file_name_len: usize,
     origin: &Option<NameBuffer>,
     target: &mut B,
 ) -> Result<ParsedEntry, RecordError>
-    ensures { FinishesInclude B.room at file origin.now (B.octets target.old) result (B.octets target.new) }
+    ensures { FinishesInclude B.room at file_name_len origin.now (B.octets target.old) result (B.octets target.new) }
 {
     match append_origin(at, origin, target) {
-        Ok(has_origin) => Ok(ParsedEntry::Include { file, has_origin }),
+        Ok(has_origin) => Ok(ParsedEntry::Include {
+            file_name_len,
+            has_origin,
+        }),
         Err(error) => Err(error),
     }
 }
 
-/// Reads the operands of `$INCLUDE`. Errors are found in this order: a token too many; a rejected
-/// origin; a file and an origin that don't fit.
+/// Reads the arguments of `$INCLUDE`. If there are several errors, the first of these is returned: a
+/// token after the origin; an invalid origin; no room in `target` for the file name or the origin.
 fn read_include<S: TokenSource, B: OctetsBuilder>(
     state: &State,
     source: &mut S,
@@ -207,55 +224,59 @@ fn read_include<S: TokenSource, B: OctetsBuilder>(
     ensures end { S.end source.new ≡ S.end source.old }
 {
     let at = source.place();
-    let file = pass_file(source, target);
+    let file_name_len = append_file_name(source, target);
     match parse_included_origin(state.origin.name(), source) {
-        Ok(origin) => match file {
-            Ok(file) => finish_include(at, file, &origin, target),
+        Ok(origin) => match file_name_len {
+            Ok(file_name_len) => finish_include(at, file_name_len, &origin, target),
             Err(error) => Err(error),
         },
         Err(error) => Err(error),
     }
 }
 
-/// Reads the operands of a directive.
+/// Reads the arguments of a directive, but not those of `$GENERATE`. `at` is the offset of the
+/// directive's first token.
 ///
-/// It is a function of its own, since a record doesn't need its stack space for names.
+/// Not inlined, so that records are read without the stack space of the names here.
 #[inline(never)]
 fn read_directive<S: TokenSource, B: OctetsBuilder>(
     directive: Directive,
+    at: usize,
     state: &mut State,
     source: &mut S,
     target: &mut B,
 ) -> Result<ParsedEntry, RecordError>
-    ensures reads { ReadsDirective directive B.room (S.end source.old).at (S.left source.old) state.old (B.octets target.old) result state.new (B.octets target.new) }
+    ensures reads { ReadsDirective directive B.room at (S.end source.old).at (S.left source.old) state.old (B.octets target.old) result state.new (B.octets target.new) }
     ensures end { S.end source.new ≡ S.end source.old }
 {
     match directive {
         Directive::Origin => read_origin(state, source),
         Directive::Ttl => read_default_ttl(state, source),
         Directive::Include => read_include(state, source, target),
+        Directive::Generate => Ok(ParsedEntry::Generate { at }),
     }
 }
 
-/// Fails if no owner is known for a record without one.
-fn known_owner(state: &State, at: usize) -> Result<(), RecordError>
+/// Checks that a record without an explicit owner has one: the last explicit owner before it, unless
+/// that was rejected.
+fn check_owner(state: &State, at: usize) -> Result<(), RecordError>
     ensures { ReadsOwner state.now at None result state.now.owner }
 {
     match state.owner() {
         Ok(_) => Ok(()),
-        Err(why) => Err(RecordError::at(at, why)),
+        Err(kind) => Err(RecordError::at(at, kind)),
     }
 }
 
-/// Parses the owner of a record. If it is rejected, the state knows it as rejected.
-fn pass_owner<S: TokenSource>(state: &mut State, source: &mut S) -> Result<(), RecordError>
+/// Parses the owner of a record, and stores it in the state. An invalid one is stored as rejected.
+fn parse_owner<S: TokenSource>(state: &mut State, source: &mut S) -> Result<(), RecordError>
     ensures reads { S.left source.old ≢ [] → ReadsOwner state.old (next_place (S.left source.old) (S.end source.old).at) (owner_token false (S.left source.old)) result state.new.owner }
     ensures left { S.left source.new ≡ tokens_after_owner false (S.left source.old) }
     ensures state { state.new ≡ record state.old { owner = state.new.owner } }
     ensures learns { S.left source.old ≢ [] → Updates (owner_of_record (owner_token false (S.left source.old))) state.old state.new }
     ensures end { S.end source.new ≡ S.end source.old }
 {
-    match parse_known(state.origin.name(), source, &mut state.owner) {
+    match parse_name_into(state.origin.name(), source, &mut state.owner) {
         Ok(()) => Ok(()),
         Err(error) => {
             source.advance();
@@ -264,8 +285,9 @@ fn pass_owner<S: TokenSource>(state: &mut State, source: &mut S) -> Result<(), R
     }
 }
 
-/// Finds the owner of a record: its own, or the last one before it.
-fn find_owner<S: TokenSource>(
+/// Parses the owner of a record, and stores it in the state; or, if the entry begins with a blank,
+/// checks that the state has an owner.
+fn update_owner<S: TokenSource>(
     state: &mut State,
     begins_blank: bool,
     source: &mut S,
@@ -277,42 +299,42 @@ fn find_owner<S: TokenSource>(
     ensures end { S.end source.new ≡ S.end source.old }
 {
     if begins_blank {
-        return known_owner(state, source.place());
+        return check_owner(state, source.place());
     }
-    pass_owner(state, source)
+    parse_owner(state, source)
 }
 
-/// Stores the TTL of a record, if it has one of its own.
-fn set_ttl(state: &mut State, own: Option<u32>)
-    ensures state { state.new ≡ record state.old { last_ttl = own_or_last own state.old.last_ttl } }
-    ensures learns { Updates (own_ttl_of own) state.old state.new }
+/// Stores the explicit TTL of a record, if it has one, as the last TTL.
+fn set_last_ttl(state: &mut State, ttl: Option<u32>)
+    ensures state { state.new ≡ record state.old { last_ttl = own_or_last ttl state.old.last_ttl } }
+    ensures learns { Updates (explicit_ttl_of ttl) state.old state.new }
 {
-    match own {
+    match ttl {
         Some(ttl) => state.last_ttl = Some(ttl),
         None => {}
     }
 }
 
-/// Stores the minimum of a record as the default TTL, if its TTL is its own minimum.
-fn declare_minimum(state: &mut State, ttl: RecordTtl)
+/// If the TTL of a record, an SOA, is its MINIMUM field, stores it as the default TTL, as BIND does.
+fn store_minimum(state: &mut State, ttl: RecordTtl)
     ensures owner { state.new.owner ≡ state.old.owner }
     ensures learns { Updates (minimum_of_ttl ttl) state.old state.new }
 {
     match ttl {
         RecordTtl::Minimum(seconds) => state.default_ttl = Some(seconds),
-        RecordTtl::Own(_) => {}
+        RecordTtl::Explicit(_) => {}
         RecordTtl::Default(_) => {}
         RecordTtl::Last(_) => {}
     }
 }
 
-/// Returns the TTL of a record's own, also of one whose type is rejected.
-fn own_ttl(words: &Result<RecordHeader, HeaderRefusal>) -> Option<u32>
-    ensures { result ≡ ttl_of_words words.now }
+/// Returns the explicit TTL of a record, if it has one, also if its class or type is rejected.
+fn explicit_ttl(header: &Result<RecordHeader, HeaderError>) -> Option<u32>
+    ensures { result ≡ ttl_of_header header.now }
 {
-    match words {
-        Ok(words) => words.ttl,
-        Err(refusal) => refusal.ttl,
+    match header {
+        Ok(header) => header.ttl,
+        Err(error) => error.ttl,
     }
 }
 
@@ -328,7 +350,8 @@ fn last_number(octets: &[u8]) -> Option<u32>
     Some(u32::from_be_bytes(last))
 }
 
-/// Returns the minimum of a record as a TTL, if it is an SOA (RFC 1035 section 3.3.13).
+/// Returns the MINIMUM field of an SOA (RFC 1035 section 3.3.13), which is 0 if it has 2^31 seconds or
+/// more (RFC 2181 section 8), or `None` for another type or fewer than four octets.
 fn minimum_of(rtype: RecordType, octets: &[u8]) -> Option<u32>
     ensures { IsMinimum rtype octets.now result }
 {
@@ -341,23 +364,23 @@ fn minimum_of(rtype: RecordType, octets: &[u8]) -> Option<u32>
     }
 }
 
-/// Finishes a record of which all but the TTL is read.
+/// Determines the TTL of a record whose header and RDATA are read, and returns the record.
 fn finish_record(
     state: &mut State,
     at: usize,
-    words: RecordHeader,
+    header: RecordHeader,
     minimum: Option<u32>,
 ) -> Result<ParsedEntry, RecordError>
-    ensures record { result ≡ record_with state.old at words (chosen_ttl words.ttl state.old.default_ttl state.old.last_ttl minimum) }
+    ensures record { result ≡ record_with state.old at header (chosen_ttl header.ttl state.old.default_ttl state.old.last_ttl minimum) }
     ensures owner { state.new.owner ≡ state.old.owner }
     ensures learns { Updates (minimum_of_record result) state.old state.new }
 {
-    let Some(ttl) = state.choose_ttl(words.ttl, minimum) else {
+    let Some(ttl) = state.choose_ttl(header.ttl, minimum) else {
         return Err(RecordError::at(at, ErrorKind::NoTtl));
     };
-    let class = words.class.unwrap_or(state.class);
-    let rtype = words.rtype;
-    declare_minimum(state, ttl);
+    let class = header.class.unwrap_or(state.class);
+    let rtype = header.rtype;
+    store_minimum(state, ttl);
     Ok(ParsedEntry::Record {
         at,
         ttl,
@@ -366,55 +389,56 @@ fn finish_record(
     })
 }
 
-/// Reads the data of a record, and finds its TTL.
+/// Reads the RDATA of a record, and determines its TTL.
 fn read_record_data<S: TokenSource, B: OctetsBuilder + AsOctetsMut>(
     state: &mut State,
     at: usize,
-    words: RecordHeader,
+    header: RecordHeader,
     source: &mut S,
     target: &mut B,
 ) -> Result<ParsedEntry, RecordError>
-    ensures reads { ReadsRecordData state.old B.room at (S.end source.old).at words (S.left source.old) (B.octets target.old) result (B.octets target.new) }
+    ensures reads { ReadsRecordData state.old B.room at (S.end source.old).at header (S.left source.old) (B.octets target.old) result (B.octets target.new) }
     ensures extends { Extends (B.octets target.old) (B.octets target.new) }
     ensures owner { state.new.owner ≡ state.old.owner }
     ensures learns { Updates (minimum_of_record result) state.old state.new }
     ensures end { S.end source.new ≡ S.end source.old }
 {
-    let begun = target.as_slice().len();
-    match read_type(words.rtype, state.origin.name(), source, target) {
+    let old_len = target.as_slice().len();
+    match read_rdata(header.rtype, state.origin.name(), source, target) {
         Ok(()) => {
-            let minimum = minimum_of(words.rtype, &target.as_slice()[begun..]);
-            finish_record(state, at, words, minimum)
+            let minimum = minimum_of(header.rtype, &target.as_slice()[old_len..]);
+            finish_record(state, at, header, minimum)
         }
         Err(error) => Err(error),
     }
 }
 
-/// Reads what comes after the type of a record, unless the record is rejected already.
+/// Reads the RDATA of a record, unless the owner or the header is rejected. The header is TTL, class
+/// and type.
 fn read_after_header<S: TokenSource, B: OctetsBuilder + AsOctetsMut>(
     state: &mut State,
     at: usize,
     owner: Result<(), RecordError>,
-    words: Result<RecordHeader, HeaderRefusal>,
+    header: Result<RecordHeader, HeaderError>,
     source: &mut S,
     target: &mut B,
 ) -> Result<ParsedEntry, RecordError>
-    ensures reads { ReadsWords state.old B.room at (S.end source.old).at owner words (S.left source.old) (B.octets target.old) result (B.octets target.new) }
+    ensures reads { ReadsAfterHeader state.old B.room at (S.end source.old).at owner header (S.left source.old) (B.octets target.old) result (B.octets target.new) }
     ensures extends { Extends (B.octets target.old) (B.octets target.new) }
     ensures owner { state.new.owner ≡ state.old.owner }
     ensures learns { Updates (minimum_of_record result) state.old state.new }
     ensures end { S.end source.new ≡ S.end source.old }
 {
     match owner {
-        Ok(()) => match words {
-            Ok(words) => read_record_data(state, at, words, source, target),
-            Err(refusal) => Err(refusal.error),
+        Ok(()) => match header {
+            Ok(header) => read_record_data(state, at, header, source, target),
+            Err(error) => Err(error.error),
         },
         Err(error) => Err(error),
     }
 }
 
-/// Reads a record. Its TTL is stored also if another part of it is rejected.
+/// Reads a record. An explicit TTL is stored even if another part of the record is rejected.
 fn read_record<S: TokenSource, B: OctetsBuilder + AsOctetsMut>(
     state: &mut State,
     begins_blank: bool,
@@ -425,25 +449,35 @@ fn read_record<S: TokenSource, B: OctetsBuilder + AsOctetsMut>(
     ensures end { S.end source.new ≡ S.end source.old }
 {
     let at = source.place();
-    let owner = find_owner(state, begins_blank, source);
-    let words = parse_header(source);
-    set_ttl(state, own_ttl(&words));
-    read_after_header(state, at, owner, words, source, target)
+    let owner = update_owner(state, begins_blank, source);
+    let header = parse_header(source);
+    set_last_ttl(state, explicit_ttl(&header));
+    read_after_header(state, at, owner, header, source, target)
 }
 
-/// Reads an entry by its tokens, whether it begins with a blank, and the state.
+/// Reads an entry from its tokens, and updates the state that later entries inherit.
 ///
-/// If the entry is not a directive, it is a record. Its owner comes first; then its TTL, class and
-/// type; then its data, whose octets are appended. Its TTL is found last, if it has none of its
-/// own. The error is that of the first rejected part. The class is the record's own or the state's.
+/// If the first token begins with `$`, without quotes, and the entry doesn't begin with a blank
+/// (`begins_blank`), the entry is a directive, or an error if the token names none. Any other entry is
+/// a record: its owner; its header, which is TTL and class in either order, and type; its RDATA. If the
+/// entry begins with a blank, the owner is the last explicit owner before it. The RDATA is appended to
+/// `target` in wire format. Without a class the record has that of the zone, which the state has from
+/// the start. Without an explicit TTL it has the first of these that is known: the default TTL; the
+/// last explicit TTL; the MINIMUM field of this record if it is an SOA, which then is the default TTL
+/// of later records ([`RecordTtl`]).
 ///
-/// An error has the offset of the token. If no token is left, this is where the last one ends:
-/// parentheses, comments and blanks that follow don't count. If no owner or no TTL is known, it is
-/// that of the record's first token. Its kind is never [`ErrorKind::Syntax`].
+/// If a record has several errors, that of the first of its parts is returned. The error that no TTL
+/// is known is returned only if there is no other. Of a directive, a token after the last argument is
+/// the first error. The offset of an error is that of the rejected token, or of the file name if an
+/// origin doesn't fit `target`. If a token is missing, it is the offset where the last token ends,
+/// before closing parentheses, comments and blanks. If no owner or no TTL is known, it is that of the
+/// first token of the record. The kind is never [`ErrorKind::Syntax`]: syntax errors are reported
+/// before, by what divides the text into tokens.
 ///
-/// On an error the state has changed as far as the entry can be read. The owner is that of later
-/// entries, or is rejected for them; the TTL is that of the last record. After a rejected `$ORIGIN`
-/// no origin is known. Tokens may be left, and `target` may have more octets than before.
+/// After an error the state may have changed. An explicit owner is the owner of later records without
+/// one. If it is not a valid name, or relative without an origin, those records are rejected too. An
+/// explicit TTL is the last explicit TTL. After a rejected `$ORIGIN` no origin is known. Some tokens
+/// may be unread, and `target` may have more octets than before.
 pub fn read_entry<S: TokenSource, B: OctetsBuilder + AsOctetsMut>(
     state: &mut State,
     begins_blank: bool,
@@ -454,10 +488,11 @@ pub fn read_entry<S: TokenSource, B: OctetsBuilder + AsOctetsMut>(
     ensures end { S.end source.new ≡ S.end source.old }
 {
     if source.current().is_none() {
-        return Ok(ParsedEntry::Nothing);
+        return Ok(ParsedEntry::Empty);
     }
+    let at = source.place();
     match parse_directive(begins_blank, source) {
-        Ok(Some(directive)) => read_directive(directive, state, source, target),
+        Ok(Some(directive)) => read_directive(directive, at, state, source, target),
         Ok(None) => read_record(state, begins_blank, source, target),
         Err(error) => Err(error),
     }

@@ -9,7 +9,7 @@ use dns_lexer::entry_tokens::EntryToken;
 use rdata_fields::{RecordError, TokenSource};
 use rdata_values::{Class, ErrorKind, RecordType};
 
-/// The TTL, class and type of a record entry.
+/// The header of a record entry after its owner: TTL, class and type.
 #[derive(Clone, Copy, Debug, PartialEq, Eq)]
 pub struct RecordHeader {
     /// TTL in seconds, if the entry has one.
@@ -23,7 +23,7 @@ pub struct RecordHeader {
 /// Why the TTL, class and type of a record entry are rejected, and what came before the rejected
 /// token.
 #[derive(Clone, Copy, Debug, PartialEq, Eq)]
-pub struct HeaderRefusal {
+pub struct HeaderError {
     /// Why the token after the TTL and class is not a type.
     pub error: RecordError,
     /// TTL in seconds, if the entry has one.
@@ -119,7 +119,7 @@ fn parse_type<S: TokenSource>(may_be_ttl: bool, source: &mut S) -> Result<Record
 /// Fails if no type comes next: at the entry's end; at a quoted token; at a word that begins with a
 /// digit, as an expected TTL if none came before it; and at any other word as an unknown type. So a
 /// second TTL is an unknown type. The rejected token is not taken.
-pub fn parse_header<S: TokenSource>(source: &mut S) -> Result<RecordHeader, HeaderRefusal>
+pub fn parse_header<S: TokenSource>(source: &mut S) -> Result<RecordHeader, HeaderError>
     ensures takes { ParsesHeader (S.end source.old).at (S.left source.old)
         result (S.left source.new) }
     ensures end { S.end source.new ≡ S.end source.old }
@@ -129,6 +129,6 @@ pub fn parse_header<S: TokenSource>(source: &mut S) -> Result<RecordHeader, Head
     let class = head.class;
     match parse_type(ttl.is_none(), source) {
         Ok(rtype) => Ok(RecordHeader { ttl, class, rtype }),
-        Err(error) => Err(HeaderRefusal { error, ttl, class }),
+        Err(error) => Err(HeaderError { error, ttl, class }),
     }
 }

@@ -17,7 +17,7 @@ pub enum NameState {
     /// The last name.
     Name(NameBuffer),
     /// The last name is rejected.
-    Refused,
+    Rejected,
 }
 
 impl NameState {
@@ -38,7 +38,7 @@ impl NameState {
         match self {
             NameState::Unset => NameState::Unset,
             NameState::Name(name) => NameState::Name(copy_of(name)),
-            NameState::Refused => NameState::Refused,
+            NameState::Rejected => NameState::Rejected,
         }
     }
 }

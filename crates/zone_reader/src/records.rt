@@ -1,7 +1,7 @@
 //! Reads the entries of a text, each with the state that those before it leave.
 ghost use Rattle.std.specs.Prelude.{◌≡◌, ◌≤◌, ◌↔◌, IsTrue, false, length};
 ghost use Rattle.rdata_fields.specs.RecordErrors.{error_of_fault};
-ghost use Rattle.zone_reader.specs.Records.{ReadsNextEntry, ReadsNextRecord, StartsText};
+ghost use Rattle.zone_reader.specs.Records.{ReadsNextEntry, ReadsNextRecord, ReadsTextEntry, StartsText};
 ghost use Rattle.zone_reader.specs.Source.{StartsAfterLine};
 ghost use Rattle.zone_reader.specs.TextPieces.{StartsAt};
 ghost use Rattle.zone_reader.specs.declared.entry.ParsedEntry.TheVariants.{Directive};
@@ -27,6 +27,25 @@ fn is_directive(given: &Option<Result<ParsedEntry, RecordError>>) -> bool
     ensures { IsTrue result ↔ (given.now ≡ Some (Ok Directive)) }
 {
     matches!(given, Some(Ok(ParsedEntry::Directive)))
+}
+
+/// Reads the first entry of a text that has tokens, by the state: with the result of a
+/// [`RecordReader`] of the text that begins with this state. The state is then the reader's. Returns
+/// `None` if the text has no tokens and no syntax error.
+///
+/// This reads the entry that `$GENERATE` generates for one number.
+pub fn read_text_entry<B: OctetsBuilder + AsOctetsMut>(
+    text: &[u8],
+    state: &mut State,
+    target: &mut B,
+) -> Option<Result<ParsedEntry, RecordError>>
+    ensures { ReadsTextEntry B.room text.now state.old (B.octets target.old) result state.new
+        (B.octets target.new) }
+{
+    let mut reader = RecordReader::new(text, state.copied());
+    let read = reader.next_entry(target);
+    *state = reader.state.copied();
+    read
 }
 
 impl<'t> RecordReader<'t> {

@@ -21,7 +21,7 @@ pub struct State {
     pub owner: NameState,
     /// The default TTL, in seconds.
     pub default_ttl: Option<u32>,
-    /// The TTL of the last record with one of its own, in seconds.
+    /// The TTL of the last record with an explicit TTL, in seconds.
     pub last_ttl: Option<u32>,
     /// The class of a record without one.
     pub class: Class,
@@ -50,9 +50,9 @@ pub(crate) fn parse_name<S: TokenSource>(
     }
 }
 
-/// Parses the next token as a name, and stores it as known. The origin is appended to a relative
-/// name. If the token is rejected, no token is read, and the name is known as rejected.
-pub(crate) fn parse_known<S: TokenSource>(
+/// Parses the next token as a name, and stores it in `known`. The origin is appended to a relative
+/// name. If the token is rejected, it is not consumed, and `known` is a rejected name.
+pub(crate) fn parse_name_into<S: TokenSource>(
     origin: Option<&NameBuffer>,
     source: &mut S,
     known: &mut NameState,
@@ -70,7 +70,7 @@ pub(crate) fn parse_known<S: TokenSource>(
             Err(_) => unreachable!(),
         },
         Err(error) => {
-            *known = NameState::Refused;
+            *known = NameState::Rejected;
             Err(error)
         }
     }
@@ -123,24 +123,24 @@ impl State {
         match &self.owner {
             NameState::Name(name) => Ok(name),
             NameState::Unset => Err(ErrorKind::NoOwner),
-            NameState::Refused => Err(ErrorKind::RefusedOwner),
+            NameState::Rejected => Err(ErrorKind::RefusedOwner),
         }
     }
 
     /// Sets the default TTL from here on, in seconds, as `$TTL` does.
-    pub fn declare_default_ttl(&mut self, ttl: u32)
+    pub fn set_default_ttl(&mut self, ttl: u32)
         ensures { Updates (NewDefaultTtl ttl ∷ []) self.old self.new }
     {
         self.default_ttl = Some(ttl);
     }
 
-    /// Returns the TTL of a record with this one of its own, and with this minimum if it is an SOA,
-    /// or `None` if no TTL is known.
+    /// Returns the TTL of a record with this explicit TTL, and with this MINIMUM field if it is an
+    /// SOA, or `None` if no TTL is known.
     pub(crate) fn choose_ttl(&self, own: Option<u32>, minimum: Option<u32>) -> Option<RecordTtl>
         ensures { result ≡ chosen_ttl own self.now.default_ttl self.now.last_ttl minimum }
     {
         if let Some(ttl) = own {
-            return Some(RecordTtl::Own(ttl));
+            return Some(RecordTtl::Explicit(ttl));
         }
         if let Some(ttl) = self.default_ttl {
             return Some(RecordTtl::Default(ttl));

@@ -41,7 +41,7 @@ pub fn rows_of_calls_join()
     ensures records { RecordsEndRows }
 {}
 
-/// States that no call returns [`ParsedEntry::Nothing`](crate::ParsedEntry::Nothing). It does nothing
+/// States that no call returns [`ParsedEntry::Empty`](crate::ParsedEntry::Empty). It does nothing
 /// else.
 pub fn no_call_is_blank()
     ensures { NoCallIsBlank }

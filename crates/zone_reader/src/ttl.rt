@@ -6,13 +6,13 @@ ghost use Rattle.zone_reader.specs.Past.{seconds_of};
 /// entry is 0 here (RFC 2181 section 8).
 #[derive(Clone, Copy)]
 pub enum RecordTtl {
-    /// The record's own.
-    Own(u32),
+    /// The explicit TTL: the one that the entry has.
+    Explicit(u32),
     /// The default, by `$TTL` (RFC 2308 section 4).
     Default(u32),
-    /// That of the last record with one of its own (RFC 1035 section 5.1).
+    /// That of the last record with an explicit TTL (RFC 1035 section 5.1).
     Last(u32),
-    /// The minimum of this record, an SOA, and the default from here on.
+    /// The MINIMUM field of this record, an SOA, which is also the default from here on.
     Minimum(u32),
 }
 
@@ -22,7 +22,7 @@ impl RecordTtl {
         ensures { result ≡ seconds_of self }
     {
         match self {
-            RecordTtl::Own(ttl)
+            RecordTtl::Explicit(ttl)
             | RecordTtl::Default(ttl)
             | RecordTtl::Last(ttl)
             | RecordTtl::Minimum(ttl) => ttl,

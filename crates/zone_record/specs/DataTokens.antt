@@ -11,12 +11,12 @@ use Rattle.rdata.specs.Rests.{PrintedToken}
 use Rattle.rdata.specs.Types.{TypeShape}
 use Rattle.zone_record.specs.TypeData.{TypeData}
 
--- the tokens of a shape, and without one those of the generic form
+-- the tokens of RDATA of a shape, and without a shape those of the generic format (RFC 3597 section 5)
 abbrev pub tokens_of_shape : Option TypeShape → List ℕ → List PrintedToken
 tokens_of_shape None octets = generic_form.printed octets
 tokens_of_shape (Some s) octets = printed_with s.fields s.rest octets
 
--- RDATA of a type in its text form, and in the generic form if it has none, or if the type has none
+-- the tokens of RDATA in the presentation format of its type, or in the generic format if it has none
 abbrev pub data_tokens : RecordType → List ℕ → List PrintedToken
 data_tokens rtype octets = tokens_of_shape (shape_of_code rtype) octets
 

@@ -7,9 +7,13 @@ use dns_octets::AsOctets;
 use dns_zone::zonefile_fmt::{self, FormatWriter, Formatter, ZonefileFmt};
 use rdata::type_row;
 
-/// The RDATA prints in its own presentation format. If it has none, it prints as `\#`, the number
-/// of octets, and the octets in hexadecimal. This is so for types without a row, for LOC of a
-/// version other than 0, and for APL with a family other than 1 and 2.
+/// RDATA prints in the presentation format of its type. The table of types ([`rdata::types::TYPES`])
+/// has a row for each type that has one: the shape of the RDATA, which is its fields and its tail.
+///
+/// Other RDATA prints in the generic format (RFC 3597 section 5): `\#`, the number of octets, and
+/// the octets in hexadecimal. It is that of a type without a row, a LOC record with a version other
+/// than 0 (RFC 1876 section 2), and an APL record with an address family other than IPv4 and IPv6
+/// (RFC 3123 section 4).
 impl<Octets: AsOctets> ZonefileFmt for Data<Octets> {
     ghost document = { data_document };
 

@@ -82,8 +82,8 @@ fn write_types<F: FormatWriter>(octets: &[u8], p: &mut F) -> zonefile_fmt::Resul
     Ok(())
 }
 
-/// Prints octets in the generic form (RFC 3597 section 5): the mark, the number of octets, and the
-/// octets in hexadecimal as one word, or no word if there are none. Fails only if the writer does.
+/// Prints RDATA in the generic format (RFC 3597 section 5): `\#`, the number of octets, and the octets
+/// in hexadecimal as one word, or no word if there are none. Fails only if the writer does.
 pub fn write_generic<F: FormatWriter>(octets: &[u8], p: &mut F) -> zonefile_fmt::Result
     ensures gives { PrintsTokens F.blocks F.step_gives p.old
         (generic_form.printed octets.now) result p.new }
@@ -207,8 +207,8 @@ fn write_rest<F: FormatWriter>(rest: Rest, octets: &[u8], p: &mut F) -> zonefile
     }
 }
 
-/// Prints RDATA of a shape in its own form: a token for each of its fields, and then the tokens of
-/// the tail.
+/// Prints RDATA of a shape in the presentation format of its type: a token for each of the fields,
+/// and then the tokens of the tail.
 fn write_parts<F: FormatWriter>(shape: &Shape, octets: &[u8], p: &mut F) -> zonefile_fmt::Result
     requires { IsTextData shape.now octets.now }
     ensures gives { PrintsTokens F.blocks F.step_gives p.old
@@ -228,11 +228,12 @@ fn write_parts<F: FormatWriter>(shape: &Shape, octets: &[u8], p: &mut F) -> zone
     write_rest(shape.rest, rest, p)
 }
 
-/// Prints RDATA of a shape: in its own form, or in the generic form if it has no other.
+/// Prints RDATA of a shape, which is its fields and its tail: in the presentation format of its type,
+/// or in the generic format ([`write_generic`]) if it has none.
 ///
-/// Its own form is a token for each field, and then the tokens of the tail. Names print absolute,
-/// character strings and text between double quotes, octets in digits as one word, and types in
-/// ascending order.
+/// The presentation format is a token for each field, and then the tokens of the tail. Names print
+/// absolute, character strings and text between double quotes, octets in digits as one word, and
+/// types in ascending order.
 ///
 /// Fails only if the writer does, at one of these tokens, after the tokens before it were printed.
 pub fn write_data<F: FormatWriter>(shape: &Shape, octets: &[u8], p: &mut F) -> zonefile_fmt::Result

@@ -7,11 +7,11 @@ use Rattle.dns_lexer.specs.EntryTokens.{TokenSeen}
 use Rattle.rdata_fields.specs.Source.{next_place}
 use Rattle.rdata.specs.ByType.{ReadsType}
 use Rattle.zone_reader.specs.Directives.{first_directive}
-use Rattle.zone_reader.specs.EntryMeanings.{EntryMeaning, says_nothing, says_origin, says_default_ttl, says_include, says_record, says_refused}
+use Rattle.zone_reader.specs.EntryMeanings.{EntryMeaning, says_nothing, says_origin, says_default_ttl, says_include, says_generate, says_record, says_refused}
 use Rattle.zone_reader.specs.declared.header.RecordHeader.{RecordHeader}
-use Rattle.zone_reader.specs.declared.header.HeaderRefusal.{HeaderRefusal}
+use Rattle.zone_reader.specs.declared.header.HeaderError.{HeaderError}
 use Rattle.rdata_fields.specs.declared.record_error.RecordError.{RecordError}
-use Rattle.zone_reader.specs.EntryReading.{NamesOrRefuses, ReadsDataAfterHeader, ReadsInclude, ReadsMeaning, ReadsOrigin, ReadsOwner, ReadsRecordData, ReadsWords, record_with, declared_by_entry}
+use Rattle.zone_reader.specs.EntryReading.{NamesOrRefuses, ReadsDataAfterHeader, ReadsInclude, ReadsMeaning, ReadsOrigin, ReadsOwner, ReadsRecordData, ReadsAfterHeader, record_with, declared_by_entry}
 use Rattle.zone_reader.specs.Learning.{chosen_ttl}
 use Rattle.zone_reader.specs.Past.{Declared, default_ttl_declared, ttl_declared, IsOriginAfter, no_origin_said, origin_said_last, IsOwnerAfter, no_owner_said, owner_said_last, IsTtlAfter, StateAfter, known_name}
 use Rattle.zone_reader.specs.declared.entry.ParsedEntry.{ParsedEntry}
@@ -92,7 +92,7 @@ module _ (a b : State) (alike : AreAlike a b) where
     same_data : (w : RecordHeader) (tokens : List TokenSeen) → ReadsRecordData a room at end w tokens old result new → ReadsRecordData b room at end w tokens old result new
     same_data w tokens h = (h.0, h.1, subst (λ o. ReadsType (known_name o) room w.rtype end tokens old h.0 h.1 new) alike.origin h.2, same_behind w h.0 h.3)
 
-    same_words : (first : Result (Unit {0}) RecordError) (words : Result RecordHeader HeaderRefusal) (tokens : List TokenSeen) → ReadsWords a room at end first words tokens old result new → ReadsWords b room at end first words tokens old result new
+    same_words : (first : Result (Unit {0}) RecordError) (words : Result RecordHeader HeaderError) (tokens : List TokenSeen) → ReadsAfterHeader a room at end first words tokens old result new → ReadsAfterHeader b room at end first words tokens old result new
     same_words (Err r) words tokens h = h
     same_words (Ok u) (Err r) tokens h = h
     same_words (Ok u) (Ok w) tokens h = same_data w tokens h
@@ -110,6 +110,7 @@ module _ (a b : State) (alike : AreAlike a b) where
   same_meaning room end tokens (says_default_ttl r) old new result owner h = h
   same_meaning room end tokens (says_include file token) old new result owner h =
       subst (λ o. ReadsInclude (known_name o) room (next_place (drop 1 tokens) end) file token old result new) alike.origin h
+  same_meaning room end tokens says_generate old new result owner h = h
   same_meaning room end tokens (says_record token words left) old new result owner h = (
     h.0,
     same_owner room (next_place tokens end) end old new result token h.0 owner h.1,

@@ -24,10 +24,10 @@ use Rattle.zone_reader.specs.Learning.{Updates}
 use Rattle.zone_reader.specs.Past.{NewOrigin, NewDefaultTtl, known_name, nothing_declared, seconds_of}
 use Rattle.zone_reader.specs.declared.entry.ParsedEntry.{ParsedEntry}
 use Rattle.zone_reader.specs.declared.known.NameState.{NameState}
-use Rattle.zone_reader.specs.declared.known.NameState.TheVariants.{Unset, Name, Refused}
+use Rattle.zone_reader.specs.declared.known.NameState.TheVariants.{Unset, Name, Rejected}
 use Rattle.zone_reader.specs.declared.state.State.{State}
 use Rattle.zone_reader.specs.declared.ttl.RecordTtl.{RecordTtl}
-use Rattle.zone_reader.specs.declared.ttl.RecordTtl.TheVariants.{Own, Default, Last, Minimum}
+use Rattle.zone_reader.specs.declared.ttl.RecordTtl.TheVariants.{Explicit, Default, Last, Minimum}
 use Rattle.zone_reader.proofs.Learned.{default_learned, origin_learned}
 use Rattle.zone_reader.proofs.PastStates.{known_once, name_alone, starts}
 use Rattle.zone_record.specs.Records.{data_of, record_tokens}
@@ -84,11 +84,11 @@ module _ (room : Room) where
   abbrev pub IsNameOf : NameState → Type 0
   IsNameOf origin = (labels : List (List ℕ)) → known_name origin ≡ Some labels → IsWireName (wire labels)
 
-  origins_read : (origin : NameState) (first last : State) → origin ≢ Refused → IsNameOf origin → first.origin ≡ Unset → AreReadInTurn room first (origin_lines origin) last → last ≡ record first { origin = origin }
+  origins_read : (origin : NameState) (first last : State) → origin ≢ Rejected → IsNameOf origin → first.origin ≡ Unset → AreReadInTurn room first (origin_lines origin) last → last ≡ record first { origin = origin }
   origins_read Unset first last some name none h = h ∙ (λ i. record first { origin = none i })
   origins_read (Name labels) first last some name none h =
       let l : ReadsHeadLine room first _ h.0 = h.1 in h.2 ∙ origin_read room l.end first h.0 l.old l.new l.result labels l.tokens (name labels refl) l.printed l.reads
-  origins_read Refused first last some name none h = absurd (some refl)
+  origins_read Rejected first last some name none h = absurd (some refl)
 
   ttls_read : (default : Option ℕ) (first last : State) → unwrap_or default 0 < 2 ^ 31 → first.default_ttl ≡ None → AreReadInTurn room first (default_ttl_lines default) last → last ≡ record first { default_ttl = default }
   ttls_read None first last small none h = h ∙ (λ i. record first { default_ttl = none i })
@@ -109,7 +109,7 @@ module _ (room : Room) where
         let own = data_of r in
         let fits : length l.old + length own.octets ≤ room.fits = omega (arith, l.fits, known.values.typed.short) in
         let is = known.read room l.end l.tokens before after l.old l.new l.result small l.printed origin fits l.reads in
-        let leaves = record_leaves room false l.end l.tokens before after l.old l.new _ (Own r.ttl) r.class own.rtype (subst (λ e. ReadsZoneEntry room false l.end l.tokens before l.old e after l.new) is.0 l.reads) in
+        let leaves = record_leaves room false l.end l.tokens before after l.old l.new _ (Explicit r.ttl) r.class own.rtype (subst (λ e. ReadsZoneEntry room false l.end l.tokens before l.old e after l.new) is.0 l.reads) in
         record { origin = leaves.origin; owner = is.1; default_ttl = leaves.ttls.0; last_ttl = leaves.ttls.1; class = leaves.class }
 
     -- after records, the names and the TTLs are those of the last
@@ -126,7 +126,7 @@ module _ (room : Room) where
 
 -- if no default is known, the last TTL is that of the record
 last_is : (before after : State) (ttl : RecordTtl) → LeavesTtls ttl before after → after.default_ttl ≡ None → after.last_ttl ≡ Some (seconds_of ttl)
-last_is before after (Own n) h none = h.1
+last_is before after (Explicit n) h none = h.1
 last_is before after (Default n) h none = absurd (none-some n (sym none ∙ h))
 last_is before after (Last n) h none = h
 last_is before after (Minimum n) h none = absurd (none-some n (sym none ∙ h))

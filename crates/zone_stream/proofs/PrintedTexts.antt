@@ -22,10 +22,10 @@ use Rattle.zone_reader.specs.Records.{result_of_entry}
 use Rattle.zone_reader.specs.TextEntries.{parts_of_entries, tokens_end}
 use Rattle.zone_reader.specs.WholeTexts.{EntryAsRead, IsReadAfterEarlier, IsReadSoFar, TextsAreReadToTheEnd, all_declared, result_as_read}
 use Rattle.zone_reader.specs.declared.entry.ParsedEntry.{ParsedEntry}
-use Rattle.zone_reader.specs.declared.entry.ParsedEntry.TheVariants.{Nothing, Directive, Include, Record as IsRecord}
+use Rattle.zone_reader.specs.declared.entry.ParsedEntry.TheVariants.{Empty, Directive, Include, Generate, Record as IsRecord}
 use Rattle.zone_reader.specs.declared.state.State.{State}
 use Rattle.zone_reader.specs.declared.ttl.RecordTtl.{RecordTtl}
-use Rattle.zone_reader.specs.declared.ttl.RecordTtl.TheVariants.{Own, Default, Last, Minimum}
+use Rattle.zone_reader.specs.declared.ttl.RecordTtl.TheVariants.{Explicit, Default, Last, Minimum}
 use Rattle.zone_reader.proofs.PastStates.{origin_once}
 use Rattle.zone_reader.proofs.Pasts.{silent_both}
 use Rattle.zone_reader.proofs.SplitTexts.{all_seen}
@@ -36,15 +36,16 @@ use Rattle.zone_stream.proofs.ReadBack.{printed_read, says_whole}
 -- ---- a record doesn't change the origin
 
 quiet_ttl : (t : RecordTtl) → NoneDeclared origin_declared (minimum_of_ttl t)
-quiet_ttl (Own ttl) = tt
+quiet_ttl (Explicit ttl) = tt
 quiet_ttl (Default ttl) = tt
 quiet_ttl (Last ttl) = tt
 quiet_ttl (Minimum ttl) = (refl, tt)
 
 quiet_minimum : (read : Result ParsedEntry RecordError) → NoneDeclared origin_declared (minimum_of_record read)
-quiet_minimum (Ok Nothing) = tt
+quiet_minimum (Ok Empty) = tt
 quiet_minimum (Ok Directive) = tt
 quiet_minimum (Ok (Include file has_origin)) = tt
+quiet_minimum (Ok (Generate at)) = tt
 quiet_minimum (Ok (IsRecord at ttl class rtype)) = quiet_ttl ttl
 quiet_minimum (Err r) = tt
 

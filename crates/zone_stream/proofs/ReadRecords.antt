@@ -7,12 +7,12 @@ use Rattle.zone_reader.specs.Directives.{first_directive}
 use Rattle.rdata_values.specs.declared.classes.Class.{Class}
 use Rattle.rdata_values.specs.declared.error.ErrorKind.{ErrorKind}
 use Rattle.rdata_values.specs.declared.types.RecordType.{RecordType}
-use Rattle.zone_reader.specs.EntryMeanings.{EntryMeaning, says_nothing, says_origin, says_default_ttl, says_include, says_record, says_refused}
+use Rattle.zone_reader.specs.EntryMeanings.{EntryMeaning, says_nothing, says_origin, says_default_ttl, says_include, says_generate, says_record, says_refused}
 use Rattle.zone_reader.specs.declared.directive.Directive.{Directive}
 use Rattle.zone_reader.specs.declared.header.RecordHeader.{RecordHeader}
-use Rattle.zone_reader.specs.declared.header.HeaderRefusal.{HeaderRefusal}
+use Rattle.zone_reader.specs.declared.header.HeaderError.{HeaderError}
 use Rattle.rdata_fields.specs.declared.record_error.RecordError.{RecordError}
-use Rattle.zone_reader.specs.EntryReading.{ReadsDataAfterHeader, ReadsMeaning, ReadsWords, ReadsZoneEntry, minimum_of_ttl, own_ttl_of, owner_of_record, record_with, declared_by_entry}
+use Rattle.zone_reader.specs.EntryReading.{ReadsDataAfterHeader, ReadsMeaning, ReadsAfterHeader, ReadsZoneEntry, minimum_of_ttl, explicit_ttl_of, owner_of_record, record_with, declared_by_entry}
 use Rattle.zone_reader.specs.Learning.{chosen_ttl}
 use Rattle.zone_reader.specs.Past.{Declared, origin_declared, default_ttl_declared, ttl_declared, NoneDeclared, IsOriginAfter, no_origin_said, origin_said_last, StateAfter}
 use Rattle.zone_reader.specs.declared.entry.ParsedEntry.{ParsedEntry}
@@ -20,13 +20,13 @@ use Rattle.zone_reader.specs.declared.entry.ParsedEntry.TheVariants.{Record}
 use Rattle.zone_reader.specs.declared.known.NameState.{NameState}
 use Rattle.zone_reader.specs.declared.state.State.{State}
 use Rattle.zone_reader.specs.declared.ttl.RecordTtl.{RecordTtl}
-use Rattle.zone_reader.specs.declared.ttl.RecordTtl.TheVariants.{Own, Default, Last, Minimum}
+use Rattle.zone_reader.specs.declared.ttl.RecordTtl.TheVariants.{Explicit, Default, Last, Minimum}
 use Rattle.zone_reader.proofs.PastStates.{starts}
 use Rattle.zone_reader.proofs.Pasts.{newer, not_both, silent_both, ttl_after, ttl_is}
 
 -- the TTLs after a record, by where its own comes from
 abbrev pub LeavesTtls : RecordTtl → State → State → Type 0
-LeavesTtls (Own ttl) before after = (after.default_ttl ≡ before.default_ttl) × (after.last_ttl ≡ Some ttl)
+LeavesTtls (Explicit ttl) before after = (after.default_ttl ≡ before.default_ttl) × (after.last_ttl ≡ Some ttl)
 LeavesTtls (Default ttl) before after = after.default_ttl ≡ Some ttl
 LeavesTtls (Last ttl) before after = after.last_ttl ≡ Some ttl
 LeavesTtls (Minimum ttl) before after = after.default_ttl ≡ Some ttl
@@ -39,7 +39,7 @@ pub record RecordLeaves (before : State) (ttl : RecordTtl) (after : State) : Typ
 -- ---- where a TTL comes from
 
 abbrev IsFrom : RecordTtl → Option ℕ → Option ℕ → Option ℕ → Type 0
-IsFrom (Own ttl) own default last = own ≡ Some ttl
+IsFrom (Explicit ttl) own default last = own ≡ Some ttl
 IsFrom (Default ttl) own default last = default ≡ Some ttl
 IsFrom (Last ttl) own default last = (own ≡ None) × (last ≡ Some ttl)
 IsFrom (Minimum ttl) own default last = ⊤
@@ -58,28 +58,28 @@ from_chosen None None None None = tt
 -- ---- what later entries inherit from a record
 
 abbrev said_by : Option TokenSeen → Option ℕ → RecordTtl → List Declared
-said_by token own ttl = owner_of_record token ++ (own_ttl_of own ++ minimum_of_ttl ttl)
+said_by token own ttl = owner_of_record token ++ (explicit_ttl_of own ++ minimum_of_ttl ttl)
 
 quiet_owner : (token : Option TokenSeen) → NoneDeclared origin_declared (owner_of_record token)
 quiet_owner None = tt
 quiet_owner (Some t) = (refl, tt)
 
-quiet_own : (own : Option ℕ) → NoneDeclared origin_declared (own_ttl_of own)
+quiet_own : (own : Option ℕ) → NoneDeclared origin_declared (explicit_ttl_of own)
 quiet_own None = tt
 quiet_own (Some ttl) = (refl, tt)
 
 quiet_minimum : (ttl : RecordTtl) → NoneDeclared origin_declared (minimum_of_ttl ttl)
-quiet_minimum (Own n) = tt
+quiet_minimum (Explicit n) = tt
 quiet_minimum (Default n) = tt
 quiet_minimum (Last n) = tt
 quiet_minimum (Minimum n) = (refl, tt)
 
 quiet : (token : Option TokenSeen) (own : Option ℕ) (ttl : RecordTtl) → NoneDeclared origin_declared (said_by token own ttl)
 quiet token own ttl =
-    silent_both origin_declared (owner_of_record token) (own_ttl_of own ++ minimum_of_ttl ttl) (quiet_owner token) (silent_both origin_declared (own_ttl_of own) (minimum_of_ttl ttl) (quiet_own own) (quiet_minimum ttl))
+    silent_both origin_declared (owner_of_record token) (explicit_ttl_of own ++ minimum_of_ttl ttl) (quiet_owner token) (silent_both origin_declared (explicit_ttl_of own) (minimum_of_ttl ttl) (quiet_own own) (quiet_minimum ttl))
 
 last_stays : (ttl : RecordTtl) (first : Option ℕ) → ttl_after ttl_declared first (minimum_of_ttl ttl) ≡ first
-last_stays (Own n) first = refl
+last_stays (Explicit n) first = refl
 last_stays (Default n) first = refl
 last_stays (Last n) first = refl
 last_stays (Minimum n) first = refl
@@ -105,7 +105,7 @@ module _ (before after : State) (token : Option TokenSeen) (own : Option ℕ) wh
   Defaults ttl = after.default_ttl ≡ ttl_after default_ttl_declared before.default_ttl (minimum_of_ttl ttl)
 
   ttls_left : (ttl : RecordTtl) → Defaults ttl → after.last_ttl ≡ newer own before.last_ttl → IsFrom ttl own before.default_ttl before.last_ttl → LeavesTtls ttl before after
-  ttls_left (Own ttl) d l from = (d, l ∙ ap (λ o. newer o before.last_ttl) from)
+  ttls_left (Explicit ttl) d l from = (d, l ∙ ap (λ o. newer o before.last_ttl) from)
   ttls_left (Default ttl) d l from = d ∙ from
   ttls_left (Last ttl) d l from = l ∙ ap (λ o. newer o before.last_ttl) from.0 ∙ from.1
   ttls_left (Minimum ttl) d l from = d
@@ -136,7 +136,7 @@ module _ (room : Room) (blank : Bool) (end : ℕ) (tokens : List TokenSeen) (bef
       let found = found_ttl place w (chosen_ttl w.ttl before.default_ttl before.last_ttl h.2.0) h.2.2 in
       leaves before after token w.ttl ttl known (subst (λ c. AreFrom c w.ttl before.default_ttl before.last_ttl) found (from_chosen w.ttl before.default_ttl before.last_ttl h.2.0))
 
-  by_words : (place : ℕ) (token : Option TokenSeen) (first : Result (Unit {0}) RecordError) (words : Result RecordHeader HeaderRefusal) (left : List TokenSeen) (d : Option (Result Directive ErrorKind)) → ReadsWords before room place end first words left old read new
+  by_words : (place : ℕ) (token : Option TokenSeen) (first : Result (Unit {0}) RecordError) (words : Result RecordHeader HeaderError) (left : List TokenSeen) (d : Option (Result Directive ErrorKind)) → ReadsAfterHeader before room place end first words left old read new
       → StateAfter before (declared_by_entry d (says_record token words left) read) after → RecordLeaves before ttl after
   by_words place token (Err r) words left d h known = let no = h.0 in cc
   by_words place token (Ok u) (Err r) left d h known = let no = h.0 in cc
@@ -148,6 +148,7 @@ module _ (room : Room) (blank : Bool) (end : ℕ) (tokens : List TokenSeen) (bef
   by_meaning (says_default_ttl (Ok n)) d owner h known = let no = h.0 in cc
   by_meaning (says_default_ttl (Err r)) d owner h known = let no = h.0 in cc
   by_meaning (says_include file token) d owner h known = let no = h.1 in cc
+  by_meaning says_generate d owner h known = let no = h.0 in cc
   by_meaning (says_record token words left) d owner h known = by_words _ token h.0 words left d h.2 known
   by_meaning (says_refused r) d owner h known = cc
 

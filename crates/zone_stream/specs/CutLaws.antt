@@ -10,7 +10,7 @@ use Rattle.zone_reader.specs.Past.{nothing_declared, seconds_of}
 use Rattle.zone_reader.specs.Records.{AreSuccessiveResults, EntryResult}
 use Rattle.zone_reader.specs.declared.entry.ParsedEntry.{ParsedEntry}
 use Rattle.zone_reader.specs.declared.entry.ParsedEntry.TheVariants.{Record as IsRecord}
-use Rattle.zone_reader.specs.declared.known.NameState.TheVariants.{Name, Refused}
+use Rattle.zone_reader.specs.declared.known.NameState.TheVariants.{Name, Rejected}
 use Rattle.zone_reader.specs.declared.records.RecordReader.{RecordReader}
 use Rattle.zone_reader.specs.declared.state.State.{State}
 use Rattle.zone_reader.specs.declared.ttl.RecordTtl.{RecordTtl}
@@ -46,7 +46,7 @@ pub record IsAfterFirstRecord {N O : Type 0} (h : PartHead N O) : Type 0 where
   pub reads : ReadsZoneEntry room blank end tokens before old (Ok (IsRecord at ttl class rtype)) (state_of h) new
   pub owner : (state_of h).owner ≡ Name h.first.owner
   pub ttl_is : h.first.ttl ≡ seconds_of ttl
-  pub origin : before.origin ≢ Refused
+  pub origin : before.origin ≢ Rejected
 
 -- The lines of a head, read from a class alone, leave a state that is alike to the head's state.
 abbrev pub HeadLeadsThere : {N O : Type 0} → PartHead N O → Type 0

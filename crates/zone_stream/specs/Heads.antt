@@ -8,7 +8,7 @@ use Rattle.zone_record.specs.RdataPrinting.{token_steps}
 use Rattle.rdata.specs.Rests.{PrintedToken}
 use Rattle.rdata_fields.specs.declared.record_ref.RecordRef.{RecordRef}
 use Rattle.zone_reader.specs.declared.known.NameState.{NameState}
-use Rattle.zone_reader.specs.declared.known.NameState.TheVariants.{Unset, Name, Refused}
+use Rattle.zone_reader.specs.declared.known.NameState.TheVariants.{Unset, Name, Rejected}
 use Rattle.zone_reader.specs.declared.state.State.{State}
 use Rattle.zone_record.specs.Borrowed.{IsRecordOf}
 use Rattle.zone_record.specs.DataTokens.{tokens_are_nested}
@@ -29,7 +29,7 @@ Line = List PrintedToken
 abbrev pub origin_lines : NameState → List Line
 origin_lines Unset = []
 origin_lines (Name labels) = (plain_word (codes "$ORIGIN") ∷ plain_word (wire_name_text (wire labels)) ∷ []) ∷ []
-origin_lines Refused = []
+origin_lines Rejected = []
 
 abbrev pub default_ttl_lines : Option ℕ → List Line
 default_ttl_lines None = []

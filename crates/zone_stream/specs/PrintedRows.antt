@@ -10,7 +10,7 @@ use Rattle.rdata.specs.Types.{type_shapes}
 use Rattle.zone_record.specs.declared.record.Record.{Record}
 use Rattle.zone_reader.specs.declared.entry.ParsedEntry.TheVariants.{Record as IsRecord}
 use Rattle.zone_reader.specs.declared.known.NameState.TheVariants.{Name, Unset}
-use Rattle.zone_reader.specs.declared.ttl.RecordTtl.TheVariants.{Own}
+use Rattle.zone_reader.specs.declared.ttl.RecordTtl.TheVariants.{Explicit}
 use Rattle.zone_stream.specs.PrintedTexts.{IsRecordReturned, records_text}
 
 abbrev below_example : List ℕ → List (List ℕ)
@@ -37,7 +37,7 @@ no_record_row = refl
 -- the result for it, if it begins at 43 and one octet is in the target before
 given_row : IsRecordReturned mail_record (record {
   old = 7 ∷ [];
-  result = Ok (IsRecord 43 (Own 3600) 1 Rtype.mx);
+  result = Ok (IsRecord 43 (Explicit 3600) 1 Rtype.mx);
   new = 7 ∷ mail;
   state = record { origin = Unset; owner = Name (below_example (codes "a")); default_ttl = None; last_ttl = None; class = 3 };
 })

@@ -14,7 +14,7 @@ use Rattle.zone_reader.specs.declared.entry.ParsedEntry.TheVariants.{Record as I
 use Rattle.zone_reader.specs.declared.known.NameState.TheVariants.{Name}
 use Rattle.zone_reader.specs.declared.records.RecordReader.{RecordReader}
 use Rattle.zone_reader.specs.declared.state.State.{State}
-use Rattle.zone_reader.specs.declared.ttl.RecordTtl.TheVariants.{Own}
+use Rattle.zone_reader.specs.declared.ttl.RecordTtl.TheVariants.{Explicit}
 
 -- the text of records in a layout, with a line end after each
 abbrev pub records_text : {N O : Type 0} → DisplayKind → List (Record N O) → List ℕ
@@ -23,7 +23,7 @@ records_text kind records = printed kind (lines_of record_document records)
 -- the result is this record: its own TTL, its class and its type, its owner, and its data after the octets that were in the target
 pub record IsRecordReturned {N O : Type 0} (r : Record N O) (g : EntryResult) : Type 0 where
   pub at : ℕ
-  pub is : g.result ≡ Ok (IsRecord at (Own r.ttl) r.class (data_of r).rtype)
+  pub is : g.result ≡ Ok (IsRecord at (Explicit r.ttl) r.class (data_of r).rtype)
   pub owner : g.state.owner ≡ Name r.owner
   pub «data» : g.new ≡ g.old ++ (data_of r).octets
 

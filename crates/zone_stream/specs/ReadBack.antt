@@ -14,10 +14,10 @@ use Rattle.zone_reader.specs.declared.entry.ParsedEntry.{ParsedEntry}
 use Rattle.zone_reader.specs.declared.entry.ParsedEntry.TheVariants.{Record as IsRecord}
 use Rattle.zone_reader.specs.declared.known.NameState.TheVariants.{Name}
 use Rattle.zone_reader.specs.declared.state.State.{State}
-use Rattle.zone_reader.specs.declared.ttl.RecordTtl.TheVariants.{Own}
+use Rattle.zone_reader.specs.declared.ttl.RecordTtl.TheVariants.{Explicit}
 
 -- from every state, the tokens of a printed record are read as that record: with its owner, its own TTL, its class, its type and its data
 abbrev pub IsPrintedRecordRead : {N O : Type 0} → Record N O → Type 0
 IsPrintedRecordRead r = (room : Room) (end : ℕ) (tokens : List TokenSeen) (before after : State) (old new : List ℕ) (result : Result ParsedEntry RecordError) → r.ttl < 2 ^ 31 → ArePrinted (record_tokens r) tokens
     → IsOrigin (known_name before.origin) → length old + length (data_of r).octets ≤ room.fits → ReadsZoneEntry room false end tokens before old result after new
-    → (result ≡ Ok (IsRecord (next_place tokens end) (Own r.ttl) r.class (data_of r).rtype)) × (after.owner ≡ Name r.owner) × (new ≡ old ++ (data_of r).octets)
+    → (result ≡ Ok (IsRecord (next_place tokens end) (Explicit r.ttl) r.class (data_of r).rtype)) × (after.owner ≡ Name r.owner) × (new ≡ old ++ (data_of r).octets)

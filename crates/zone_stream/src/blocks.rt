@@ -423,9 +423,10 @@ impl<A: Allocator> BlockReader<A> {
     /// Reads the next entry by the state that those before it leave, once no octets that follow can
     /// change it. Returns `None` if more octets are needed, or if all entries were returned.
     ///
-    /// An entry without tokens, such as a blank line, is [`ParsedEntry::Nothing`]. The octets of a
+    /// An entry without tokens, such as a blank line, is [`ParsedEntry::Empty`]. The octets of a
     /// record's data are appended to `target`, and the owner is the state's. Offsets are those in
-    /// the whole input.
+    /// the whole input. The octets of a `$GENERATE` directive are those from its offset up to
+    /// [`BlockReader::place`].
     ///
     /// After a rejected entry the next call continues at the next one. A syntax error is returned
     /// once, as soon as no octets that follow can change it. The state has changed by the tokens

@@ -25,9 +25,12 @@ returns-in-Ok-Some-clause-reads g c =
     let r = c.read_directive.result in
     let after = c.read_directive.new.state in
     let new = octets c.read_directive.new.target in
+    let end = (g.S.TokenSource.end c.args.source.now).at in
+    let tokens = left c.args.source.now in
+    let reads = subst (λ n. ReadsDirective d room c.place-at.result n behind state old r after new) (ap (λ e. e.at) c.parse_directive.ensures.end) c.read_directive.ensures.reads in
     directive_read room c.args.begins_blank (g.S.TokenSource.end c.args.source.now).at (left c.args.source.now) state old r after new d behind
     (subst (λ o. ParsesDirective c.args.begins_blank (g.S.TokenSource.end c.args.source.now).at (left c.args.source.now) (Ok o) behind) c.in-Ok-Some.field-0-is c.in-Ok-Some.ensures.takes)
-    (subst (λ n. ReadsDirective d room n behind state old r after new) (ap (λ e. e.at) c.parse_directive.ensures.end) c.read_directive.ensures.reads)
+    (subst (λ n. ReadsDirective d room n end behind state old r after new) c.place-at.ensures reads)
 
 pub returns-in-Ok-None-clause-reads : goal.returns-in-Ok-None-clause-reads
 returns-in-Ok-None-clause-reads g c =

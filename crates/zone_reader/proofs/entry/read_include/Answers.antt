@@ -12,11 +12,11 @@ returns-in-Err-clause-reads g c =
     let origin = option_copied c.name.result in
     let end = (ends c.args.source.now).at in
     let tokens = left c.args.source.now in
-    let behind = left c.pass_file-file.new.source in
+    let behind = left c.append_file_name-file_name_len.new.source in
     let old = octets c.args.target.now in
-    let new = octets c.pass_file-file.new.target in
+    let new = octets c.append_file_name-file_name_len.new.target in
     let room = g.B.OctetsBuilder.room in
     let r = c.in-Err.error in
     subst (λ o. ReadsLastInclude o room end tokens old (Err r) new) c.name.ensures
-    (include_refused origin end room old tokens behind c.pass_file-file.result r new c.pass_file-file.ensures.passes
-    (subst (λ n. ParsesIncludedOrigin origin n behind (Err r)) (ap (λ e. e.at) c.pass_file-file.ensures.end) c.in-Err.ensures.takes))
+    (include_refused origin end room old tokens behind c.append_file_name-file_name_len.result r new c.append_file_name-file_name_len.ensures.passes
+    (subst (λ n. ParsesIncludedOrigin origin n behind (Err r)) (ap (λ e. e.at) c.append_file_name-file_name_len.ensures.end) c.in-Err.ensures.takes))

@@ -11,16 +11,16 @@ returns-in-Ok-clause-reads g c =
     let left = g.S.TokenSource.left in
     let octets = g.B.AsOctets.octets in
     let old = octets c.args.target.now in
-    let new = octets c.read_type.new.target in
-    let w = c.args.words in
+    let new = octets c.read_rdata.new.target in
+    let w = c.args.header in
     let room = g.B.OctetsBuilder.room in
     let gains = c.in-Ok.ensures.reads.1 in
-    let begun : ℕ = length c.as_slice-begun.result.now in (
+    let begun : ℕ = length c.as_slice-old_len.result.now in (
       Ok tt,
-      left c.read_type.new.source,
-      subst (λ o. ReadsType o room w.rtype (ends c.args.source.now).at (left c.args.source.now) old (Ok tt) (left c.read_type.new.source) new) c.name.ensures c.in-Ok.ensures.reads,
+      left c.read_rdata.new.source,
+      subst (λ o. ReadsType o room w.rtype (ends c.args.source.now).at (left c.args.source.now) old (Ok tt) (left c.read_rdata.new.source) new) c.name.ensures c.in-Ok.ensures.reads,
       minimum_gained c.args.state.now c.args.state.now.owner room c.args.at (ends c.args.source.now).at old new c.finish_record.result w begun gains.0 c.as_slice.result.now c.minimum_of-minimum.result gains.2
-          (ap length c.as_slice-begun.ensures.value) c.as_slice.ensures.value c.minimum_of-minimum.ensures c.finish_record.ensures.record,
+          (ap length c.as_slice-old_len.ensures.value) c.as_slice.ensures.value c.minimum_of-minimum.ensures c.finish_record.ensures.record,
     )
 
 pub returns-in-Ok-clause-extends : goal.returns-in-Ok-clause-extends
@@ -32,17 +32,17 @@ returns-in-Err-clause-reads g c =
     let left = g.S.TokenSource.left in
     let octets = g.B.AsOctets.octets in
     let old = octets c.args.target.now in
-    let new = octets c.read_type.new.target in (
+    let new = octets c.read_rdata.new.target in (
       Err c.in-Err.error,
-      left c.read_type.new.source,
-      subst (λ o. ReadsType o g.B.OctetsBuilder.room c.args.words.rtype (ends c.args.source.now).at (left c.args.source.now) old (Err c.in-Err.error) (left c.read_type.new.source) new) c.name.ensures c.in-Err.ensures.reads,
+      left c.read_rdata.new.source,
+      subst (λ o. ReadsType o g.B.OctetsBuilder.room c.args.header.rtype (ends c.args.source.now).at (left c.args.source.now) old (Err c.in-Err.error) (left c.read_rdata.new.source) new) c.name.ensures c.in-Err.ensures.reads,
       refl,
     )
 
 pub returns-in-Err-clause-extends : goal.returns-in-Err-clause-extends
 returns-in-Err-clause-extends g c =
-    data_extends (option_copied c.name.result) g.B.OctetsBuilder.room c.args.words.rtype (g.S.TokenSource.end c.args.source.now).at (g.S.TokenSource.left c.args.source.now) (g.S.TokenSource.left c.read_type.new.source)
-    (g.B.AsOctets.octets c.args.target.now) (g.B.AsOctets.octets c.read_type.new.target) (Err c.in-Err.error) c.in-Err.ensures.reads
+    data_extends (option_copied c.name.result) g.B.OctetsBuilder.room c.args.header.rtype (g.S.TokenSource.end c.args.source.now).at (g.S.TokenSource.left c.args.source.now) (g.S.TokenSource.left c.read_rdata.new.source)
+    (g.B.AsOctets.octets c.args.target.now) (g.B.AsOctets.octets c.read_rdata.new.target) (Err c.in-Err.error) c.in-Err.ensures.reads
 
 pub returns-in-Err-clause-learns : goal.returns-in-Err-clause-learns
 returns-in-Err-clause-learns g c = nothing_learned c.args.state.now

@@ -1,11 +1,11 @@
 use Rattle.zone_reader.proofs.Learned.{default_learned, nothing_learned}
-use Rattle.zone_reader.proofs.entry.declare_minimum.Goals as goal
+use Rattle.zone_reader.proofs.entry.store_minimum.Goals as goal
 
 pub returns-in-Minimum-clause-learns : goal.returns-in-Minimum-clause-learns
 returns-in-Minimum-clause-learns c = rw c.in-Minimum.is (default_learned c.args.state.now c.in-Minimum.seconds)
 
-pub returns-in-Own-clause-learns : goal.returns-in-Own-clause-learns
-returns-in-Own-clause-learns c = rw c.in-Own.is (nothing_learned c.args.state.now)
+pub returns-in-Explicit-clause-learns : goal.returns-in-Explicit-clause-learns
+returns-in-Explicit-clause-learns c = rw c.in-Explicit.is (nothing_learned c.args.state.now)
 
 pub returns-in-Default-clause-learns : goal.returns-in-Default-clause-learns
 returns-in-Default-clause-learns c = rw c.in-Default.is (nothing_learned c.args.state.now)

@@ -1,7 +1,7 @@
 use Rattle.std.proofs.Common.{refl}
 use Rattle.std.specs.Option.{option_copied}
 use Rattle.zone_reader.proofs.NamesTaken.{name_refused, name_is_made, taken_as}
-use Rattle.zone_reader.proofs.state.parse_known.Goals as goal
+use Rattle.zone_reader.proofs.state.parse_name_into.Goals as goal
 
 pub unreachable-requires : goal.unreachable-requires
 unreachable-requires g c =
