@@ -114,6 +114,7 @@ module _ (apex : List (List ℕ)) (records : List AddedRecord) where
 
       pub owned_from : AreOwnedFrom name (listing apex records) first past
       owned_from = record {
+        parts = count_is name first (omega (arith, ends.from, ends.bound)) point;
         bound = omega (arith, ends.bound, listed_length);
         before = λ i d low lt. owned_is i d (omega (arith, lt, ends.from, ends.bound)) ∙ less_not (octet_order (record_at records i).key key) (point.0 i none low lt);
         owned = λ i d low lt. owned_is i d (omega (arith, lt, ends.bound)) ∙ ap (λ k. is_eq (octet_order k key)) (ends.same i none low lt) ∙ ap is_eq (tied_itself nat_list_cmp_total key);

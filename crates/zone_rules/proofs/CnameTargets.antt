@@ -1,6 +1,6 @@
 -- Names that have records, and CNAMEs that lead from name to name.
 use Rattle.std.proofs.Common.{ℕ, zero, suc, ◌≡◌, ◌+◌, ◌<◌, ◌≤◌, ◌⊎◌, inl, inr, Bool, true, false, cond, Option, Some, None, List, [], ◌∷◌, length, get_or, refl, sym, ap, ◌∙◌, arith}
-use Rattle.std.specs.Prelude.{◌==◌, ◌&&◌, ◌||◌, nat_lt, slice_get}
+use Rattle.std.specs.Prelude.{◌==◌, ◌&&◌, ◌||◌, not, nat_lt, slice_get}
 use Rattle.std.specs.List.{AllWithin, find, list_any}
 use Rattle.std.specs.Option.{option_map_or}
 use Rattle.std.proofs.lemmas.Bool.{cases_lt, false≢true}
@@ -10,10 +10,12 @@ use Rattle.rdata_values.specs.Rtype as Rtype
 use Rattle.zone_record.specs.declared.record.Record.{Record}
 use Rattle.dns_wire.specs.Order.{same_name}
 use Rattle.dns_wire.specs.Wire.{wire_length}
-use Rattle.zone_rules.specs.Above.{names_above}
-use Rattle.zone_rules.specs.Rules.{alias_at}
+use Rattle.zone_rules.specs.Above.{is_within, names_above}
+use Rattle.zone_rules.specs.Present.{is_delegated_in, is_renamed, yields_records}
+use Rattle.zone_rules.specs.Rules.{alias_at, alias_target, lacks_records, names_nothing}
 use Rattle.zone_rules.specs.Searches.{AreOwnedFrom}
 use Rattle.zone_rules.specs.Zones.{has_owner, type_of}
+use Rattle.zone_rules.specs.declared.refused.RrsetName.{RrsetName}
 use Rattle.zone_rules.proofs.Neighbours.{found_shorter}
 use Rattle.zone_rules.proofs.Subjects.{none_owned, one_more}
 
@@ -71,6 +73,20 @@ closest_none test name h = by (test name) h
     by : (b : Bool) → cond b (Some name) (find test (names_above name)) ≡ None → false ≡ b
     by true e = cc
     by false e = refl
+
+-- ---- targets outside of the zone
+
+off_step : (y r w d : Bool) → w ≡ false → (not y && (not r && (w && not d))) ≡ false
+off_step true r w d h = refl
+off_step false true w d h = refl
+off_step false false w d h = ap (λ b. b && not d) h
+
+-- a name that is not in the zone lacks no records
+pub lacks_none : {N O M P : Type 0} (origin : List (List ℕ)) (records : List (Record N O)) (refused : List RrsetName) (r : Record M P) (name : List (List ℕ))
+    → alias_target r ≡ Some name → is_within name origin ≡ false → false ≡ names_nothing origin records refused r
+lacks_none origin records refused r name is off =
+    sym (ap (λ o. option_map_or (lacks_records origin records refused) o false) is
+    ∙ off_step (yields_records name records refused) (is_renamed name records refused) (is_within name origin) (is_delegated_in origin records refused name) off)
 
 -- ---- the first CNAME at a name
 

@@ -211,11 +211,38 @@ module _ {N O : Type 0} (name : List (List ℕ)) where
       ∙ owned_of rs from count within (omega (arith, few, ap length whole)) h
       (subst (λ l. IsPartitionPoint (λ r. is_le (name_order r.owner name) ≡ true) (λ r. is_le (name_order r.owner name) ≡ false) l count) whole k)
 
+  -- the records up to the name, among those from the first of the name on
+  pub owned_rest : (rs rest : List (Record N O)) (first count : ℕ) → first ≤ length rs → count ≤ length rest → rest ≡ take (length rs - first) (drop first rs)
+      → IsPartitionPoint (λ r. is_lt (name_order r.owner name) ≡ true) (λ r. is_lt (name_order r.owner name) ≡ false) rs first
+      → IsPartitionPoint (λ r. is_le (name_order r.owner name) ≡ true) (λ r. is_le (name_order r.owner name) ≡ false) rest count
+      → AreOwnedFrom name rs first (first + count)
+  owned_rest rs rest first count within few e h k =
+      let whole : rest ≡ drop first rs = e ∙ take_all (length rs - first) (drop first rs) (omega (arith, length-drop first rs)) in
+      let long : length rest + first ≡ length rs = omega (arith, ap length whole, length-drop first rs, within) in
+      let point = subst (λ l. IsPartitionPoint (λ r. is_le (name_order r.owner name) ≡ true) (λ r. is_le (name_order r.owner name) ≡ false) l count) whole k in
+      record {
+        parts = h;
+        bound = omega (arith, few, long);
+        before = λ i d low lt. same_is (get_or rs i d).owner name ∙ before_not (name_order (get_or rs i d).owner name) (h.0 i d low lt);
+        owned = λ i d low lt.
+            same_is (get_or rs i d).owner name
+            ∙ equal_of (name_order (get_or rs i d).owner name) (h.1 i d low (omega (arith, lt, few, long)))
+            (ap (λ r. is_le (name_order r.owner name)) (sym (at i d low)) ∙ point.0 (i - first) d (omega arith) (omega (arith, low, lt)));
+        after = λ i d low lt.
+            same_is (get_or rs i d).owner name
+            ∙ behind_not (name_order (get_or rs i d).owner name)
+            (ap (λ r. is_le (name_order r.owner name)) (sym (at i d (omega (arith, low)))) ∙ point.1 (i - first) d (omega (arith, low)) (omega (arith, low, lt, length-drop first rs)));
+      }
+    where
+      at : (i : ℕ) (d : Record N O) → first ≤ i → get_or (drop first rs) (i - first) d ≡ get_or rs i d
+      at i d low = let e : first + (i - first) ≡ i = omega (arith, low) in get_or-drop first rs (i - first) d ∙ ap (λ j. get_or rs j d) e
+
   pub owned_places : (rs : List (Record N O)) (first past : ℕ) → past ≤ length rs
       → IsPartitionPoint (λ r. is_lt (name_order r.owner name) ≡ true) (λ r. is_lt (name_order r.owner name) ≡ false) rs first
       → IsPartitionPoint (λ r. is_le (name_order r.owner name) ≡ true) (λ r. is_le (name_order r.owner name) ≡ false) rs past
       → AreOwnedFrom name rs first past
   owned_places rs first past bound h k = record {
+    parts = h;
     bound = bound;
     before = λ i d low lt. same_is (get_or rs i d).owner name ∙ before_not (name_order (get_or rs i d).owner name) (h.0 i d low lt);
     owned = λ i d low lt. same_is (get_or rs i d).owner name ∙ equal_of (name_order (get_or rs i d).owner name) (h.1 i d low (omega (arith, lt, bound))) (k.0 i d (omega arith) lt);

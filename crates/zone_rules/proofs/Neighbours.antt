@@ -25,6 +25,7 @@ use Rattle.zone_rules.specs.Above.{is_below, is_within, names_above}
 use Rattle.zone_rules.specs.Present.{closest_dname, is_cut_in, is_listed, is_present, rrset_of_record}
 use Rattle.zone_rules.specs.Rules.{is_zone_cut}
 use Rattle.zone_rules.specs.Searches.{is_above_earlier, longer_name}
+use Rattle.zone_rules.specs.Subjects.{is_parent_below}
 use Rattle.zone_rules.specs.Zones.{has_type_at, type_of}
 use Rattle.zone_rules.specs.declared.refused.RrsetName.{RrsetName}
 use Rattle.zone_rules.proofs.BelowNames.{begins_with_not_before, before_longer, same_is_tied, within_between, within_not_before}
@@ -484,6 +485,24 @@ module _ {N O : Type 0} (records : List (Record N O)) (refused : List RrsetName)
 
   pub dname_none : find (is_at_owner records refused name) (names_above name) ≡ None → closest_dname name records refused ≡ None
   dname_none h = dnames_above records refused name ∙ ap (option_and_then (λ a. cond (is_present Rtype.dname a records refused) (Some a) (closest_dname a records refused))) h
+
+-- ---- a name whose parent is not below the apex
+
+or_off : (b c : Bool) → (b || c) ≡ false → c ≡ false
+or_off true c h = absurd (false≢true (sym h))
+or_off false c h = h
+
+parent_off : (origin name : List (List ℕ)) → is_below name origin ≡ false → is_parent_below origin name ≡ false
+parent_off origin [] h = refl
+parent_off origin (l ∷ []) h = refl
+parent_off origin (l ∷ n ∷ o) h = or_off (same_name (n ∷ o) origin) (is_below (n ∷ o) origin) h
+
+-- none of its ancestors is a delegation
+pub no_cut_above : {N O : Type 0} (records : List (Record N O)) (origin name : List (List ℕ)) → is_parent_below origin name ≡ false → list_any (is_zone_cut origin records) (names_above name) ≡ false
+no_cut_above records origin [] h = refl
+no_cut_above records origin (l ∷ []) h = refl
+no_cut_above records origin (l ∷ n ∷ o) h =
+    λ i. (h i && has_type_at Rtype.ns (n ∷ o) records) || no_cut_above records origin (n ∷ o) (parent_off origin (n ∷ o) h) i
 
 -- the first of two tests decides
 pub first_true : (b c whole r : Bool) → whole ≡ (b || c) → r ≡ b → r ≡ true → r ≡ whole

@@ -55,8 +55,9 @@ abbrev pub PartsUpTo : {N O : Type 0} → List (List ℕ) → List (Record N O) 
 PartsUpTo name records count =
     IsPartitionPoint (λ r. is_le (name_order r.owner name) ≡ true) (λ r. is_le (name_order r.owner name) ≡ false) records count
 
--- the records whose owner is a name are those from one index up to another
+-- the records whose owner is a name are those from one index up to another; the owners of the records before the first index come before the name, and no others do
 pub record AreOwnedFrom {N O : Type 0} (name : List (List ℕ)) (records : List (Record N O)) (first past : ℕ) : Type 0 where
+  pub parts : IsPartitionPoint (λ r. is_lt (name_order r.owner name) ≡ true) (λ r. is_lt (name_order r.owner name) ≡ false) records first
   pub bound : past ≤ length records
   pub before : AllWithin (λ r. same_name r.owner name ≡ false) records 0 first
   pub owned : AllWithin (λ r. same_name r.owner name ≡ true) records first past

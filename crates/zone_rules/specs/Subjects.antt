@@ -4,7 +4,7 @@ use Rattle.std.specs.Option.{option_map, option_map_or}
 use Rattle.rdata_values.specs.Classes.{internet}
 use Rattle.rdata_values.specs.Rtype as Rtype
 use Rattle.zone_record.specs.declared.record.Record.{Record}
-use Rattle.zone_rules.specs.Above.{is_below, is_within}
+use Rattle.zone_rules.specs.Above.{is_below, is_within, parent_of}
 use Rattle.zone_rules.specs.Findings.{breaks_at}
 use Rattle.zone_rules.specs.Present.{is_present}
 use Rattle.zone_rules.specs.Rules.{alias_at, breaks, is_beside_alias, is_digest_beside, is_record_at_apex, is_server_beside, is_spf_beside, lacks_glue, lacks_ns_address, names_alias, names_missing, names_renamed}
@@ -37,6 +37,10 @@ has_aaaa_in name records refused = is_present Rtype.aaaa name records refused
 
 abbrev pub has_cname_in : {N O : Type 0} → List (List ℕ) → List (Record N O) → List RrsetName → Bool
 has_cname_in name records refused = is_present Rtype.cname name records refused
+
+-- the parent of a name is below the apex
+abbrev pub is_parent_below : List (List ℕ) → List (List ℕ) → Bool
+is_parent_below origin name = option_map_or (λ above. is_below above origin) (parent_of name) false
 
 -- the record at an index is a CNAME
 abbrev pub is_alias_in : {N O : Type 0} → List (Record N O) → ℕ → Bool

@@ -8,7 +8,7 @@ ghost use Rattle.zone_rules.specs.Zones.{type_of};
 
 use crate::host_names::name_part;
 use crate::hosts::{is_name_renamed, is_of_zone};
-use crate::names::{is_same, name_of, view};
+use crate::names::{is_name_within, is_same, name_of, view};
 use crate::present::gets_records;
 use crate::refused::SortedSets;
 use crate::zone_records::{OwnerBuffer, ZoneRecord, ZoneRecords};
@@ -59,7 +59,7 @@ fn is_without_records<Z: ZoneRecords>(
         && is_of_zone(origin, records, refused, name)
 }
 
-/// Returns whether the target of a CNAME is missing.
+/// Returns whether the target of a CNAME is missing. One outside of the zone is not looked up.
 pub(crate) fn is_target_missing<Z: ZoneRecords>(
     origin: &Name<&[u8]>,
     records: &Z,
@@ -69,7 +69,9 @@ pub(crate) fn is_target_missing<Z: ZoneRecords>(
     ensures { result ≡ names_nothing origin.now (Z.contents records.now) refused.now «record».now }
 {
     match alias_target(record) {
-        Some(name) => is_without_records(origin, records, refused, &name),
+        Some(name) => {
+            is_name_within(&name, origin) && is_without_records(origin, records, refused, &name)
+        }
         None => false,
     }
 }

@@ -6,7 +6,7 @@ ghost use Rattle.rdata_tokens.specs.NameSpelling.{IsWireName};
 ghost use Rattle.zone_rules.specs.Above.{is_within};
 ghost use Rattle.zone_rules.specs.Present.{has_address_in, is_listed, is_own, is_present, is_renamed};
 ghost use Rattle.zone_rules.specs.Rules.{dname_above_host, is_alias, is_below_own_dname, is_below_zone_cut, is_dname_at_cut, is_missing, is_serverless, is_zone_cut, lacks_address, names_server};
-ghost use Rattle.zone_rules.specs.Subjects.{has_a_in, has_aaaa_in, has_cname_in, is_apex_server, is_server_above, wants_host, AreHostFaults};
+ghost use Rattle.zone_rules.specs.Subjects.{has_a_in, has_aaaa_in, has_cname_in, is_apex_server, is_parent_below, is_server_above, wants_host, AreHostFaults};
 ghost use Rattle.zone_rules.specs.Zones.{but_root, host_field, host_octets, host_of};
 
 use crate::host_names::name_part;
@@ -63,8 +63,10 @@ fn but_root<'a>(name: Name<&'a [u8]>) -> Option<Name<&'a [u8]>>
     }
 }
 
-/// Returns the host in a record's data.
-fn host<Owner: AsOctets, Octets: AsOctets>(record: &Record<Owner, Octets>) -> Option<Name<&[u8]>>
+/// Returns the host in a record's data, of NS, MX and SRV, or `None` if it is the root.
+pub fn host<Owner: AsOctets, Octets: AsOctets>(
+    record: &Record<Owner, Octets>,
+) -> Option<Name<&[u8]>>
     ensures { result ≡ host_of «record».now }
 {
     match host_part(&record.data) {
@@ -122,11 +124,24 @@ pub(crate) fn is_dname_at_delegation<Z: ZoneRecords>(
     record.data.rtype() == RecordType::DNAME && is_cut(origin, records, &record.owner)
 }
 
-/// Returns whether an ancestor of a name is a delegation.
+/// Returns whether the parent of a name is below the apex.
+fn is_parent_below(name: &Name<&[u8]>, origin: &Name<&[u8]>) -> bool
+    ensures { result ≡ is_parent_below origin.now name.now }
+{
+    match parent(name) {
+        Some(above) => is_name_below(&above, origin),
+        None => false,
+    }
+}
+
+/// Returns whether an ancestor of a name is a delegation: one that is below the apex.
 #[tactic(auto, using(crate::proofs::Neighbours::zone_cuts_none, crate::proofs::Neighbours::found_fewer))]
 pub fn is_under_cut<Z: ZoneRecords>(origin: &Name<&[u8]>, records: &Z, name: &Name<&[u8]>) -> bool
     ensures { result ≡ is_below_zone_cut origin.now (Z.contents records.now) name.now }
 {
+    if !is_parent_below(name, origin) {
+        return false;
+    }
     match records.closest_before(name) {
         Some(above) => is_cut(origin, records, &above) || is_under_cut(origin, records, &above),
         None => false,

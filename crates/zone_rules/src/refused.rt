@@ -1,5 +1,6 @@
 //! RRsets with a rejected entry: they are in the zone, and their data is unknown.
-ghost use Rattle.std.specs.Prelude.{◌≡◌, ◌↔◌, IfSome, IsSome, IsTrue, []};
+ghost use Rattle.std.specs.Prelude.{◌≡◌, ◌↔◌, ◌==◌, IfSome, IsSome, IsTrue, []};
+ghost use Rattle.std.specs.List.{list_any};
 ghost use Rattle.zone_rules.specs.Above.{closest_from};
 ghost use Rattle.zone_rules.specs.Present.{AreSetsInOrder, is_listed, is_listed_within, set_order};
 ghost use Rattle.zone_rules.specs.Searches.{closest_above_earlier};
@@ -74,6 +75,13 @@ impl<'a> SortedSets<'a> {
         ensures { result ≡ [] }
     {
         SortedSets { sets: &[] }
+    }
+
+    /// Returns whether an RRset of a type is listed, at any name.
+    pub fn lists_type(&self, rtype: RecordType) -> bool
+        ensures { result ≡ list_any (λ s. s.rtype == rtype) self.now }
+    {
+        self.sets.iter().any(|set| set.rtype == rtype)
     }
 
     /// Returns the closest name, of this one and its ancestors, that has an RRset at it or below

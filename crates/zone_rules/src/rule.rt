@@ -81,8 +81,8 @@ pub enum Rule {
     /// The record is a DS with the digest type SHA-1, and its owner has no DS of another digest type
     /// with the same key tag and algorithm (RFC 8624 section 3.3).
     WeakDigest,
-    /// The record is an NS at the apex or below it, and its owner has no other NS that differs (RFC
-    /// 1034 section 4.1). Its host is not the root, nor at or below `invalid.` or `localhost.`
+    /// The record is an NS at the apex, which has no other NS that differs (RFC 1034 section 4.1).
+    /// Its host is not the root, nor at or below `invalid.` or `localhost.`
     SingleNs,
     /// The record and the one before it are of one RRset, and their TTLs differ (RFC 2181 section
     /// 5.2).

@@ -163,8 +163,8 @@ fn places_of<Owner: AsOctets, Octets: AsOctets>(
 {
     let all = records.as_slice();
     let first = all.partition_point(|record| order_of(&record.owner, name).is_lt());
-    let past = all.partition_point(|record| order_of(&record.owner, name).is_le());
-    (first, past)
+    let count = count_up_to(&all[first..], name);
+    (first, first + count)
 }
 
 /// Returns whether a name has a record of a type.

@@ -57,7 +57,8 @@ pub trait ZoneRecords {
         ensures { Some result ≡ option_map as_listed (slice_get (contents self.now) place) };
 
     /// Returns the index of the first record whose owner is a name, ignoring letter case, and the
-    /// index after the last one. The range between them is empty if there is none.
+    /// index after the last one. The range between them is empty if there is none. The records
+    /// before the first index are those whose owners come before the name.
     fn places(&self, name: &Name<&[u8]>) -> (usize, usize)
         ensures { AreOwnedFrom name.now (contents self.now) result.0 result.1 };
 
