@@ -1,0 +1,4 @@
+mod HiddenRecords
+mod Listed
+mod OwnerMarks
+mod SameOwners

@@ -1,0 +1,69 @@
+-- Records that a zone lends, with their octets in other types, and what they are in its list.
+use Rattle.std.proofs.Common.{ℕ, ◌≡◌, Bool, true, false, Option, Some, None, List, [], ◌∷◌, refl, sym, ap, ◌∙◌}
+use Rattle.std.specs.Prelude.{◌||◌, if◌then◌else◌, option_and_then}
+use Rattle.std.specs.Option.{option_map, option_map_or}
+use Rattle.dns_wire.specs.Labelled.{wire_same}
+use Rattle.dns_wire.specs.Wire.{wire}
+use Rattle.zone_record.specs.declared.record.Record.{Record}
+use Rattle.zone_rules.specs.Above.{parent_of}
+use Rattle.zone_rules.specs.Rules.{is_below_zone_cut, is_zone_cut}
+use Rattle.zone_rules.specs.Zones.{as_listed, type_of}
+use Rattle.zone_delegations.specs.Hidden.{delegation_of, is_delegating, server_of}
+
+same_some : {X : Type 0} (x y : X) → Some x ≡ Some y → x ≡ y
+same_some x y h = cc
+
+module _ {N O R S : Type 0} where
+  pub listed_owner : (o : Option (Record N O)) (r : Record R S) → Some r ≡ option_map as_listed o → Some r.owner ≡ option_map (λ x. x.owner) o
+  listed_owner None r e = cc
+  listed_owner (Some x) r e = ap (λ z. Some z.owner) (same_some r (as_listed x) e)
+
+  pub listed_type : (o : Option (Record N O)) (r : Record R S) → Some r ≡ option_map as_listed o → type_of r ≡ option_map_or type_of o 0
+  listed_type None r e = cc
+  listed_type (Some x) r e = ap type_of (same_some r (as_listed x) e)
+
+  pub listed_delegating : (origin : List (List ℕ)) (o : Option (Record N O)) (r : Record R S) → Some r ≡ option_map as_listed o → is_delegating origin r ≡ option_map_or (is_delegating origin) o false
+  listed_delegating origin None r e = cc
+  listed_delegating origin (Some x) r e = ap (is_delegating origin) (same_some r (as_listed x) e)
+
+  pub listed_delegation : (origin : List (List ℕ)) (o : Option (Record N O)) (r : Record R S) → Some r ≡ option_map as_listed o → delegation_of origin r ≡ option_and_then (delegation_of origin) o
+  listed_delegation origin None r e = cc
+  listed_delegation origin (Some x) r e = ap (delegation_of origin) (same_some r (as_listed x) e)
+
+  pub listed_server : (origin : List (List ℕ)) (o : Option (Record N O)) (r : Record R S) → Some r ≡ option_map as_listed o → server_of origin r ≡ option_and_then (server_of origin) o
+  listed_server origin None r e = cc
+  listed_server origin (Some x) r e = ap (server_of origin) (same_some r (as_listed x) e)
+
+  -- owners with the same octets are equal
+  pub one_owner : (o p : Option (Record N O)) (r s : Record R S) → Some r ≡ option_map as_listed o → Some s ≡ option_map as_listed p → wire r.owner ≡ wire s.owner
+      → option_map (λ x. x.owner) o ≡ option_map (λ x. x.owner) p
+  one_owner o p r s e f w = sym (listed_owner o r e) ∙ ap Some (wire_same r.owner s.owner w) ∙ listed_owner p s f
+
+  -- equal owners have the same octets
+  pub one_wire : (o p : Option (Record N O)) (r s : Record R S) → Some r ≡ option_map as_listed o → Some s ≡ option_map as_listed p
+      → option_map (λ x. x.owner) o ≡ option_map (λ x. x.owner) p → wire r.owner ≡ wire s.owner
+  one_wire o p r s e f h = ap wire (same_some r.owner s.owner (listed_owner o r e ∙ h ∙ sym (listed_owner p s f)))
+
+-- ---- an NS below the apex has its owner as its name
+
+pub delegation_is : {N O : Type 0} (origin : List (List ℕ)) (r : Record N O) (name : List (List ℕ)) → delegation_of origin r ≡ Some name → name ≡ r.owner
+delegation_is origin r name e = by (is_delegating origin r) e
+  where
+    by : (b : Bool) → (if b then Some r.owner else None) ≡ Some name → name ≡ r.owner
+    by true h = sym (same_some r.owner name h)
+    by false h = cc
+
+-- ---- delegations above a name
+
+module _ {N O : Type 0} (records : List (Record N O)) (origin : List (List ℕ)) where
+  pub parent_cuts : (name above : List (List ℕ)) → parent_of name ≡ Some above → is_below_zone_cut origin records name ≡ (is_zone_cut origin records above || is_below_zone_cut origin records above)
+  parent_cuts [] above e = cc
+  parent_cuts (l ∷ []) above e = cc
+  parent_cuts (l ∷ n ∷ o) above e =
+      let is : n ∷ o ≡ above = same_some (n ∷ o) above e in
+      λ i. is_zone_cut origin records (is i) || is_below_zone_cut origin records (is i)
+
+  pub parent_none : (name : List (List ℕ)) → parent_of name ≡ None → is_below_zone_cut origin records name ≡ false
+  parent_none [] e = refl
+  parent_none (l ∷ []) e = refl
+  parent_none (l ∷ n ∷ o) e = cc

@@ -1,0 +1,13 @@
+use Rattle.std.proofs.Common.{subst, arith}
+use Rattle.std.proofs.lemmas.List.{take_all}
+use Rattle.zone_delegations.specs.Hidden.{delegation_of}
+use Rattle.zone_delegations.specs.Owners.{AreMarks}
+use Rattle.zone_delegations.proofs.OwnerMarks.{marks_none}
+use Rattle.zone_delegations.proofs.marks.delegation_marks.Goals as goal
+
+pub loop-place-init : goal.loop-place-init
+loop-place-init g c = marks_none (delegation_of c.args.origin.now) (g.Z.ZoneRecords.contents c.args.records.now) c.len.result _ c.len.ensures c.in_ok-marks.ensures
+
+pub returns : goal.returns
+returns g c =
+    subst (λ some. AreMarks (delegation_of c.args.origin.now) some (g.Z.ZoneRecords.contents c.args.records.now) c.loop-place.marks.items) (take_all c.loop-place.place (g.Z.ZoneRecords.contents c.args.records.now) (omega arith)) c.loop-place.invariant

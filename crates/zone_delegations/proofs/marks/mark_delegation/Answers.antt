@@ -1,0 +1,27 @@
+use Rattle.std.proofs.Common.{false, length, take, sym, ◌∙◌}
+use Rattle.std.proofs.lemmas.List.{get_or_read_under}
+use Rattle.std.specs.Prelude.{slice_get}
+use Rattle.zone_delegations.specs.Hidden.{delegation_of}
+use Rattle.zone_delegations.proofs.Listed.{listed_delegation}
+use Rattle.zone_delegations.proofs.OwnerMarks.{marks_more, marks_same, owner_marks, own_marked}
+use Rattle.zone_delegations.proofs.marks.mark_delegation.Goals as goal
+
+pub returns-in_default : goal.returns-in_default
+returns-in_default g c =
+    marks_same (delegation_of c.args.origin.now) (g.Z.ZoneRecords.contents c.args.records.now) c.args.place c.args.marks.now.items c.requires.place
+    (sym (listed_delegation c.args.origin.now (slice_get (g.Z.ZoneRecords.contents c.args.records.now) c.args.place) c.record-record.result c.record-record.ensures) ∙ sym c.delegation_of.ensures ∙ c.in_default.is) c.requires.marks
+
+pub returns-then-is_marked : goal.returns-then-is_marked
+returns-then-is_marked g c =
+    let named = sym (listed_delegation c.args.origin.now (slice_get (g.Z.ZoneRecords.contents c.args.records.now) c.args.place) c.record-record.result c.record-record.ensures) ∙ sym c.delegation_of.ensures ∙ c.in-Some.is in
+    marks_more (delegation_of c.args.origin.now) (g.Z.ZoneRecords.contents c.args.records.now) c.args.place c.in-Some.name c.args.marks.now.items c.args.marks.now.items c.requires.place named c.requires.marks
+    (own_marked c.args.origin.now (g.Z.ZoneRecords.contents c.args.records.now) c.args.place c.in-Some.name c.args.marks.now.items c.requires.place named
+    (owner_marks (delegation_of c.args.origin.now) (g.Z.ZoneRecords.contents c.args.records.now) (take c.args.place (g.Z.ZoneRecords.contents c.args.records.now)) c.args.marks.now.items c.requires.marks) (sym (get_or_read_under c.args.marks.now.items c.args.place (length (g.Z.ZoneRecords.contents c.args.records.now)) c.index-is_marked.result.now false c.index-is_marked.ensures c.requires.place (sym c.requires.marks.count)) ∙ c.if-is_marked.true))
+
+pub mark_owners-requires : goal.mark_owners-requires
+mark_owners-requires g c = owner_marks (delegation_of c.args.origin.now) (g.Z.ZoneRecords.contents c.args.records.now) (take c.args.place (g.Z.ZoneRecords.contents c.args.records.now)) c.args.marks.now.items c.requires.marks
+
+pub returns : goal.returns
+returns g c =
+    marks_more (delegation_of c.args.origin.now) (g.Z.ZoneRecords.contents c.args.records.now) c.args.place c.in-Some.name c.args.marks.now.items c.mark_owners.new.marks.items c.requires.place
+    (sym (listed_delegation c.args.origin.now (slice_get (g.Z.ZoneRecords.contents c.args.records.now) c.args.place) c.record-record.result c.record-record.ensures) ∙ sym c.delegation_of.ensures ∙ c.in-Some.is) c.requires.marks c.mark_owners.ensures

@@ -1,0 +1,150 @@
+//! Marks of records by their owners: the delegations, and the hosts of name servers.
+ghost use Rattle.std.specs.Prelude.{◌≡◌, ◌+◌, ◌<◌, ◌≤◌, IfOk, false, length, replicate};
+ghost use Rattle.zone_delegations.specs.Hidden.{delegation_of, server_of};
+ghost use Rattle.zone_delegations.specs.Owners.{AreAllCutMarks, AreAllServerMarks, AreCutMarks, AreMarkedBy, AreMarkedFrom, AreOwnerMarks, AreServerMarks};
+
+use crate::cuts::is_delegating;
+use dns_wire::Name;
+use rdata_values::RecordType;
+use std::alloc::{AllocError, Allocator};
+use zone_rules::ZoneRecords;
+use zone_rules::hosts::host;
+use zone_rules::names::{is_name_below, view};
+use zone_rules::zone_records::{OwnerBuffer, ZoneRecord};
+
+/// Returns the owner of an NS below the apex.
+fn delegation_of<'r>(origin: &Name<&[u8]>, record: &'r ZoneRecord<'_>) -> Option<Name<&'r [u8]>>
+    ensures { result ≡ delegation_of origin.now «record».now }
+{
+    if !is_delegating(origin, record) {
+        return None;
+    }
+    Some(view(&record.owner))
+}
+
+/// Returns the host of an NS, if it is below the apex.
+fn server_of<'r>(origin: &Name<&[u8]>, record: &'r ZoneRecord<'_>) -> Option<Name<&'r [u8]>>
+    ensures { result ≡ server_of origin.now «record».now }
+{
+    if record.data.rtype() != RecordType::NS {
+        return None;
+    }
+    let Some(name) = host(record) else {
+        return None;
+    };
+    if !is_name_below(&name, origin) {
+        return None;
+    }
+    Some(name)
+}
+
+/// Returns marks of which none is set.
+fn unmarked<A: Allocator>(alloc: A, count: usize) -> Result<Vec<bool, A>, AllocError>
+    ensures { IfOk result (λ v. v.items ≡ replicate count false) }
+{
+    Ok(vec![in alloc; false; count]?)
+}
+
+/// Sets the marks from one index up to another.
+fn set_marks<A: Allocator>(marks: &mut Vec<bool, A>, first: usize, past: usize)
+    requires order { first ≤ past }
+    requires within { past ≤ length marks.old.items }
+    ensures { AreMarkedFrom marks.old.items marks.new.items first past }
+{
+    for place in first..past {
+        marks[place] = true;
+    }
+}
+
+/// Marks the records that have a name as their owner. If one is marked, all are.
+fn mark_owners<Z: ZoneRecords, A: Allocator>(
+    records: &Z,
+    name: &Name<&[u8]>,
+    marks: &mut Vec<bool, A>,
+)
+    requires { AreOwnerMarks (Z.contents records.now) marks.old.items }
+    ensures { AreMarkedBy name.now (Z.contents records.now) marks.old.items marks.new.items }
+{
+    let (first, past) = records.places(name);
+    if first >= past {
+        return;
+    }
+    let is_marked = marks[first];
+    if is_marked {
+        return;
+    }
+    set_marks(marks, first, past);
+}
+
+/// Marks the records whose owner is that of the record at an index, if this is an NS below the apex.
+/// They are looked up once for each owner.
+fn mark_delegation<Z: ZoneRecords, A: Allocator>(
+    origin: &Name<&[u8]>,
+    records: &Z,
+    place: usize,
+    marks: &mut Vec<bool, A>,
+)
+    requires place { place < length (Z.contents records.now) }
+    requires marks { AreCutMarks origin.now (Z.contents records.now) place marks.old.items }
+    ensures { AreCutMarks origin.now (Z.contents records.now) (place + 1) marks.new.items }
+{
+    let mut owner = OwnerBuffer::new();
+    let record = records.record(place, &mut owner);
+    let Some(name) = delegation_of(origin, &record) else {
+        return;
+    };
+    let is_marked = marks[place];
+    if is_marked {
+        return;
+    }
+    mark_owners(records, &name, marks);
+}
+
+/// Marks the records whose owner is the host of the record at an index, if this is an NS.
+fn mark_server<Z: ZoneRecords, A: Allocator>(
+    origin: &Name<&[u8]>,
+    records: &Z,
+    place: usize,
+    marks: &mut Vec<bool, A>,
+)
+    requires place { place < length (Z.contents records.now) }
+    requires marks { AreServerMarks origin.now (Z.contents records.now) place marks.old.items }
+    ensures { AreServerMarks origin.now (Z.contents records.now) (place + 1) marks.new.items }
+{
+    let mut owner = OwnerBuffer::new();
+    let record = records.record(place, &mut owner);
+    let Some(name) = server_of(origin, &record) else {
+        return;
+    };
+    mark_owners(records, &name, marks);
+}
+
+/// Returns, for each record, whether its owner is a delegation.
+pub(crate) fn delegation_marks<Z: ZoneRecords, A: Allocator>(
+    alloc: A,
+    origin: &Name<&[u8]>,
+    records: &Z,
+) -> Result<Vec<bool, A>, AllocError>
+    ensures { IfOk result (λ v. AreAllCutMarks origin.now (Z.contents records.now) v.items) }
+{
+    let mut marks = unmarked(alloc, records.len())?;
+    for place in 0..records.len() {
+        mark_delegation(origin, records, place, &mut marks);
+    }
+    Ok(marks)
+}
+
+/// Returns, for each record, whether its owner is the host of an NS and below the apex.
+pub(crate) fn server_marks<Z: ZoneRecords, A: Allocator>(
+    alloc: A,
+    origin: &Name<&[u8]>,
+    records: &Z,
+) -> Result<Vec<bool, A>, AllocError>
+    ensures { IfOk result (λ v. AreAllServerMarks origin.now (Z.contents records.now) v.items) }
+{
+    let mut marks = unmarked(alloc, records.len())?;
+    for place in 0..records.len() {
+        mark_server(origin, records, place, &mut marks);
+    }
+    Ok(marks)
+}
