@@ -1,5 +1,12 @@
+mod ChainLinks
 mod ChainSearch
+mod ChainTests
 mod HashLabels
 mod KeyTags
+mod KnownNames
 mod LabelCounts
+mod LinkSearches
+mod NextNames
+mod OwnedRecords
 mod Searches
+mod SecurityRules

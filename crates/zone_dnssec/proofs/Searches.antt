@@ -1,6 +1,6 @@
 -- Searches in parts of a list.
 use Rattle.std.proofs.Common.{ℕ, zero, suc, ◌≡◌, Bool, true, false, cond, Some, None, List, [], ◌∷◌, length, take, drop, refl, sym, ap, ◌∙◌, arith}
-use Rattle.std.specs.Prelude.{◌&&◌, filter, reverse}
+use Rattle.std.specs.Prelude.{◌&&◌, reverse}
 use Rattle.std.specs.List.{AllWithin, find}
 use Rattle.std.specs.Option.{option_or}
 use Rattle.std.proofs.lemmas.List.{reverse-append}
@@ -44,14 +44,3 @@ module _ {X : Type 0} (p q : X → Bool) where
       ∙ ap (λ o. option_or o (cond (q x) (Some x) None)) (find_in_front xs n (λ i d low lt. h (suc i) d (omega arith) (omega arith)) (λ i d low lt. k (suc i) d (omega arith) (omega arith)))
       ∙ ap (λ b. option_or (find (λ y. p y && q y) (reverse xs)) (cond (b && q x) (Some x) None)) (sym (h 0 x (omega arith) (omega arith)))
       ∙ sym (find_last (λ y. p y && q y) x xs)
-
-  -- ---- among the elements that pass a test
-
-  find_step : (x : X) (xs : List X) (b : Bool) → find q (filter p xs) ≡ find (λ y. p y && q y) xs
-      → find q (cond b (x ∷ filter p xs) (filter p xs)) ≡ cond (b && q x) (Some x) (find (λ y. p y && q y) xs)
-  find_step x xs true h = ap (λ o. cond (q x) (Some x) o) h
-  find_step x xs false h = h
-
-  pub find_in_filter : (xs : List X) → find q (filter p xs) ≡ find (λ x. p x && q x) xs
-  find_in_filter [] = refl
-  find_in_filter (x ∷ xs) = find_step x xs (p x) (find_in_filter xs)

@@ -18,5 +18,5 @@ abbrev pub asks_for_key : {N O : Type 0} → Record N O → Bool
 asks_for_key r = (type_of r == Rtype.cds || type_of r == Rtype.cdnskey) && not (is_delete_form r)
 
 -- a delete request at the apex, where another record asks for keys
-abbrev pub deletes_beside_keys : {N O : Type 0} → List (List ℕ) → List (Record N O) → Record N O → Bool
+abbrev pub deletes_beside_keys : {N O M P : Type 0} → List (List ℕ) → List (Record N O) → Record M P → Bool
 deletes_beside_keys origin records r = is_delete_form r && (same_name r.owner origin && list_any (λ s. same_name s.owner origin && asks_for_key s) records)

@@ -1,14 +1,14 @@
 -- The owners of NSEC, NSEC3 and RRSIG records, the TTLs of NSEC and NSEC3, and the iterations of a chain.
 use Rattle.std.specs.Prelude.{ℕ, nat_eq, nat_le, nat_lt, min, ◌==◌, ◌&&◌, ◌||◌, not, Bool, false, Option, List, [], ◌∷◌, take, drop, slice_index}
 use Rattle.std.specs.Cmp.Lexicographic.{pointwise}
-use Rattle.std.specs.List.{find, list_all, list_any}
+use Rattle.std.specs.List.{find, list_all}
 use Rattle.std.specs.Option.{option_map, option_map_or}
 use Rattle.dns_wire.specs.Order.{same_name}
 use Rattle.dns_wire.specs.Wire.{wire}
 use Rattle.rdata_values.specs.Rtype as Rtype
 use Rattle.zone_record.specs.declared.record.Record.{Record}
-use Rattle.zone_rules.specs.Above.{names_above, parent_of}
-use Rattle.zone_rules.specs.Rules.{is_zone_cut}
+use Rattle.zone_rules.specs.Above.{parent_of}
+use Rattle.zone_rules.specs.Rules.{is_below_zone_cut, is_zone_cut}
 use Rattle.zone_rules.specs.Zones.{type_of, set_type}
 use Rattle.zone_dnssec.specs.Nsec3Chain.{iterations_of}
 use Rattle.zone_dnssec.specs.Parameters.{field_octets, names_chain}
@@ -16,9 +16,9 @@ use Rattle.zone_dnssec.specs.SignatureTimes.{number_in}
 use Rattle.zone_dnssec.specs.SignedSets.{belongs_to_parent}
 
 -- an RRSIG or NSEC below a delegation, or an RRSIG at one that covers neither DS nor NSEC (RFC 4035 sections 2.2 and 2.3)
-abbrev pub is_occluded : {N O : Type 0} → List (List ℕ) → List (Record N O) → Record N O → Bool
+abbrev pub is_occluded : {N O M P : Type 0} → List (List ℕ) → List (Record N O) → Record M P → Bool
 is_occluded origin records r =
-    (type_of r == Rtype.rrsig || type_of r == Rtype.nsec) && list_any (is_zone_cut origin records) (names_above r.owner)
+    (type_of r == Rtype.rrsig || type_of r == Rtype.nsec) && is_below_zone_cut origin records r.owner
     || type_of r == Rtype.rrsig && (not (belongs_to_parent (set_type r)) && is_zone_cut origin records r.owner)
 
 -- ---- owners of NSEC3 (RFC 5155 section 3)
@@ -51,9 +51,13 @@ iterates_within above most origin r =
 
 -- ---- TTLs (RFC 9077 section 3)
 
--- the lesser of the SOA's TTL and its minimum, the seventh field
+-- the lesser of an SOA's TTL and its minimum, the seventh field
+abbrev pub soa_ttl : {N O : Type 0} → Record N O → ℕ
+soa_ttl r = min r.ttl (number_in (field_octets 6 r))
+
+-- that of the zone's SOA
 abbrev pub denial_ttl : {N O : Type 0} → List (List ℕ) → List (Record N O) → Option ℕ
-denial_ttl origin records = option_map (λ r. min r.ttl (number_in (field_octets 6 r))) (find (λ r. same_name r.owner origin && type_of r == Rtype.soa) records)
+denial_ttl origin records = option_map soa_ttl (find (λ r. same_name r.owner origin && type_of r == Rtype.soa) records)
 
 -- an NSEC or NSEC3 has a different TTL
 abbrev pub has_other_denial_ttl : {N O : Type 0} → Option ℕ → Record N O → Bool

@@ -1,3 +1,5 @@
+pub mod ChainFaults
+pub mod ChainLinks
 pub mod DeleteForms
 pub mod DenialRecords
 pub mod HashedLinks
@@ -5,6 +7,7 @@ pub mod HashedNames
 pub mod Nsec3Chain
 pub mod NsecChain
 pub mod NsecTypes
+pub mod OwnedRecords
 pub mod Parameters
 pub mod Rows
 pub mod SecurityFindings
@@ -12,5 +15,6 @@ pub mod SecurityNames
 pub mod SignatureFields
 pub mod SignatureTimes
 pub mod SignedSets
+pub mod Subjects
 pub mod ZoneKeys
 pub mod ZoneViews

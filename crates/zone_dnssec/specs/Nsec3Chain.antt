@@ -45,11 +45,11 @@ opts_out r = list_any (λ flags. flags % 2 == 1) (field_octets 1 r)
 
 -- ---- the chain
 
-abbrev pub is_same_field : {N O : Type 0} → ℕ → Record N O → Record N O → Bool
+abbrev pub is_same_field : {N O M P : Type 0} → ℕ → Record N O → Record M P → Bool
 is_same_field place a b = pointwise nat_eq (field_octets place a) (field_octets place b)
 
 -- an NSEC3 is of the chain of an NSEC3PARAM: hash algorithm, iterations and salt are the same
-abbrev pub is_link : {N O : Type 0} → Record N O → Record N O → Bool
+abbrev pub is_link : {N O M P : Type 0} → Record N O → Record M P → Bool
 is_link chain r = type_of r == Rtype.nsec3 && (is_same_field 0 chain r && (is_same_field 2 chain r && is_same_field 3 chain r))
 
 -- some NSEC3PARAM at the apex names a chain that passes the test
@@ -61,14 +61,14 @@ abbrev pub matching_owner : {N O : Type 0} → List (List ℕ) → Record N O �
 matching_owner origin chain name = hashed_owner origin (name_hash (salt_of chain) (iterations_of chain) name)
 
 -- the NSEC3 that matches a name
-abbrev pub matching_link : {N O : Type 0} → ZoneView N O → Record N O → List (List ℕ) → Option (Record N O)
+abbrev pub matching_link : {N O M P : Type 0} → ZoneView N O → Record M P → List (List ℕ) → Option (Record N O)
 matching_link zone chain name = option_and_then (λ owner. find (λ r. same_name r.owner owner && is_link chain r) zone.records) (matching_owner zone.origin chain name)
 
 -- the NSEC3 whose owner comes next, and after the last one the first
-abbrev pub link_after : {N O : Type 0} → List (Record N O) → Record N O → List (List ℕ) → Option (Record N O)
+abbrev pub link_after : {N O M P : Type 0} → List (Record N O) → Record M P → List (List ℕ) → Option (Record N O)
 link_after records chain name = option_or (find (λ r. comes_after r.owner name && is_link chain r) records) (find (is_link chain) records)
 
 -- the NSEC3 whose owner comes before, and before the first one the last
-abbrev pub link_before : {N O : Type 0} → List (Record N O) → Record N O → List (List ℕ) → Option (Record N O)
+abbrev pub link_before : {N O M P : Type 0} → List (Record N O) → Record M P → List (List ℕ) → Option (Record N O)
 link_before records chain name =
     option_or (find (λ r. is_lt (name_order r.owner name) && is_link chain r) (reverse records)) (find (is_link chain) (reverse records))

@@ -20,9 +20,9 @@ abbrev pub are_at_one_name : {N O : Type 0} → Record N O → Record N O → Bo
 are_at_one_name a b = same_name a.owner b.owner
 
 -- the record is the first at an authoritative name without NSEC, in a zone whose NSEC3PARAMs name no chain
-abbrev pub lacks_nsec : {N O : Type 0} → List (List ℕ) → List (Record N O) → ℕ → Record N O → Bool
-lacks_nsec origin records place r =
-    starts are_at_one_name records place r && (not (has_named_chain origin records) && (is_authoritative origin records r.owner && not (has_type_at Rtype.nsec r.owner records)))
+abbrev pub lacks_nsec : {N O M P : Type 0} → List (List ℕ) → List (Record N O) → Option (Record M P) → Record M P → Bool
+lacks_nsec origin records before r =
+    starts are_at_one_name before r && (not (has_named_chain origin records) && (is_authoritative origin records r.owner && not (has_type_at Rtype.nsec r.owner records)))
 
 -- a name comes after another in canonical order (RFC 4034 section 6.1)
 abbrev pub comes_after : List (List ℕ) → List (List ℕ) → Bool
@@ -37,6 +37,6 @@ abbrev pub next_name : {N O : Type 0} → List (List ℕ) → List (Record N O) 
 next_name origin records name = option_map_or (λ r. r.owner) (next_record origin records name) origin
 
 -- the next name of an NSEC at an authoritative name is wrong
-abbrev pub names_other_next : {N O : Type 0} → List (List ℕ) → List (Record N O) → Record N O → Bool
+abbrev pub names_other_next : {N O M P : Type 0} → List (List ℕ) → List (Record N O) → Record M P → Bool
 names_other_next origin records r =
     type_of r == Rtype.nsec && (is_authoritative origin records r.owner && option_map_or (λ octets. not (same_lowered octets (wire (next_name origin records r.owner)))) (data_part (data_of r) 0) false)

@@ -1,6 +1,6 @@
 -- The types that an NSEC lists (RFC 4034 section 4.1.2, RFC 4035 section 2.3).
-use Rattle.std.specs.Prelude.{ℕ, ◌==◌, ◌&&◌, ◌||◌, not, Bool, List, [], length, drop, filter}
-use Rattle.std.specs.List.{list_all}
+use Rattle.std.specs.Prelude.{ℕ, ◌==◌, ◌&&◌, ◌||◌, not, Bool, List, [], length, drop}
+use Rattle.std.specs.List.{list_all, list_any}
 use Rattle.std.specs.Option.{option_map_or}
 use Rattle.rdata_values.specs.Bitmap.{has, types_of}
 use Rattle.dns_wire.specs.Order.{same_name}
@@ -22,23 +22,26 @@ bitmap_octets d = option_map_or (λ next. drop (length next) d.octets) (data_par
 abbrev pub may_be_at_delegation : RecordType → Bool
 may_be_at_delegation rtype = rtype == Rtype.ns || (rtype == Rtype.ds || (rtype == Rtype.rrsig || rtype == Rtype.nsec))
 
--- a type is listed at a name, if a record there has it
-abbrev pub may_be_listed : {N O : Type 0} → List (List ℕ) → List (Record N O) → List (List ℕ) → RecordType → Bool
-may_be_listed origin records name rtype = may_be_at_delegation rtype || not (is_zone_cut origin records name)
+-- a type is listed at a name, which is a delegation or not, if a record there has it
+abbrev pub may_be_listed : Bool → RecordType → Bool
+may_be_listed is_cut rtype = not is_cut || may_be_at_delegation rtype
 
-abbrev pub has_listed_type : {N O : Type 0} → List (List ℕ) → List (Record N O) → List (List ℕ) → RecordType → Bool
-has_listed_type origin records name rtype = has_type_at rtype name records && may_be_listed origin records name rtype
+abbrev pub has_listed_type : {N O : Type 0} → Bool → List (Record N O) → List (List ℕ) → RecordType → Bool
+has_listed_type is_cut records name rtype = may_be_listed is_cut rtype && has_type_at rtype name records
 
--- a bitmap lists the type of a record, or need not list it at the name
-abbrev pub is_in_bitmap : {N O : Type 0} → List (List ℕ) → List (Record N O) → List (List ℕ) → List ℕ → Record N O → Bool
-is_in_bitmap origin records name octets r = not (may_be_listed origin records name (type_of r)) || has (types_of octets) (type_of r)
+-- a bitmap must list the type of a record, and doesn't
+abbrev pub is_unlisted : {N O : Type 0} → Bool → List ℕ → Record N O → Bool
+is_unlisted is_cut octets r = may_be_listed is_cut (type_of r) && not (has (types_of octets) (type_of r))
+
+-- the same of some record at a name
+abbrev pub lacks_some_type : {N O : Type 0} → Bool → List (Record N O) → List (List ℕ) → List ℕ → Bool
+lacks_some_type is_cut records name octets = list_any (λ r. same_name r.owner name && is_unlisted is_cut octets r) records
 
 -- the types that a bitmap lists at a name are exactly those of the records there that it must list
-abbrev pub lists_exactly : {N O : Type 0} → List (List ℕ) → List (Record N O) → List (List ℕ) → List ℕ → Bool
-lists_exactly origin records name octets =
-    list_all (has_listed_type origin records name) (types_of octets) && list_all (is_in_bitmap origin records name octets) (filter (λ r. same_name r.owner name) records)
+abbrev pub lists_exactly : {N O : Type 0} → Bool → List (Record N O) → List (List ℕ) → List ℕ → Bool
+lists_exactly is_cut records name octets = list_all (has_listed_type is_cut records name) (types_of octets) && not (lacks_some_type is_cut records name octets)
 
 -- the types of an NSEC at an authoritative name differ from those at its owner
-abbrev pub lists_other_types : {N O : Type 0} → List (List ℕ) → List (Record N O) → Record N O → Bool
+abbrev pub lists_other_types : {N O M P : Type 0} → List (List ℕ) → List (Record N O) → Record M P → Bool
 lists_other_types origin records r =
-    type_of r == Rtype.nsec && (is_authoritative origin records r.owner && not (lists_exactly origin records r.owner (bitmap_octets (data_of r))))
+    type_of r == Rtype.nsec && (is_authoritative origin records r.owner && not (lists_exactly (is_zone_cut origin records r.owner) records r.owner (bitmap_octets (data_of r))))

@@ -1,13 +1,17 @@
 -- Worked examples of the rules, each computed.
-use Rattle.std.specs.Prelude.{◌≡◌, ℕ, Some, None, true, false, List, [], ◌∷◌, codes, refl}
+use Rattle.std.specs.Prelude.{◌≡◌, ℕ, Some, None, nat_le, true, false, List, [], ◌∷◌, codes, refl}
 use Rattle.rdata_values.specs.Rtype as Rtype
 use Rattle.rdata_values.specs.declared.types.RecordType.{RecordType}
 use Rattle.zone_record.specs.declared.record.Record.{Record}
 use Rattle.rdata.specs.Types.{type_shapes}
 use Rattle.dns_wire.specs.Wire.{wire}
+use Rattle.zone_dnssec.specs.ChainFaults.{either_faults, faults_with}
+use Rattle.zone_dnssec.specs.ChainLinks.{link_below, link_places, places_where}
 use Rattle.zone_dnssec.specs.DeleteForms.{asks_for_key, is_delete_form}
 use Rattle.zone_dnssec.specs.DenialRecords.{begins_with_hash, is_child, is_occluded}
 use Rattle.zone_dnssec.specs.NsecChain.{comes_after, next_name}
+use Rattle.zone_dnssec.specs.Nsec3Chain.{link_after, link_before}
+use Rattle.zone_dnssec.specs.NsecTypes.{is_unlisted, may_be_listed}
 use Rattle.zone_dnssec.specs.Parameters.{has_named_chain}
 use Rattle.zone_dnssec.specs.SignatureFields.{label_count}
 use Rattle.zone_dnssec.specs.SignatureTimes.{has_passed, seconds_between}
@@ -180,3 +184,60 @@ key_delete_row = refl
 
 key_row : asks_for_key (at origin Rtype.cdnskey (1 ∷ 1 ∷ 3 ∷ 8 ∷ 1 ∷ [])) ≡ true
 key_row = refl
+
+-- ---- indexes of items, and of the NSEC3 records of a chain
+
+places_row : places_where (λ n. nat_le 2 n) (1 ∷ 2 ∷ 0 ∷ 3 ∷ []) ≡ 1 ∷ 3 ∷ []
+places_row = refl
+
+index_below_row : link_below 4 (Some 3) ≡ Some 3
+index_below_row = refl
+
+index_not_below_row : link_below 3 (Some 3) ≡ None
+index_not_below_row = refl
+
+-- an NSEC3 without salt and with a next hash of no octets, at a name of one letter
+abbrev hashed : ℕ → Record ℕ ℕ
+hashed letter = at ((letter ∷ []) ∷ origin) Rtype.nsec3 (1 ∷ 0 ∷ 0 ∷ 0 ∷ 0 ∷ 0 ∷ [])
+
+abbrev chained : List (Record ℕ ℕ)
+chained = parameters 1 0 ∷ hashed 98 ∷ at sub Rtype.a [] ∷ hashed 120 ∷ []
+
+links_row : link_places (parameters 1 0) chained ≡ 1 ∷ 3 ∷ []
+unfolding type_shapes
+links_row = refl
+
+next_link_row : link_after chained (parameters 1 0) sub ≡ Some (hashed 120)
+unfolding type_shapes
+next_link_row = refl
+
+first_link_row : link_after chained (parameters 1 0) ((121 ∷ []) ∷ origin) ≡ Some (hashed 98)
+unfolding type_shapes
+first_link_row = refl
+
+covering_link_row : link_before chained (parameters 1 0) sub ≡ Some (hashed 98)
+unfolding type_shapes
+covering_link_row = refl
+
+last_link_row : link_before chained (parameters 1 0) ((97 ∷ []) ∷ origin) ≡ Some (hashed 120)
+unfolding type_shapes
+last_link_row = refl
+
+-- ---- types that a bitmap must list
+
+delegation_type_row : may_be_listed true Rtype.ds ≡ true
+delegation_type_row = refl
+
+glue_type_row : may_be_listed true Rtype.a ≡ false
+glue_type_row = refl
+
+type_row : may_be_listed false Rtype.a ≡ true
+type_row = refl
+
+glue_need_not_be_listed_row : is_unlisted true [] (at sub Rtype.a []) ≡ false
+glue_need_not_be_listed_row = refl
+
+-- ---- faults of one or both of two chains
+
+either_row : either_faults (faults_with true false false) (faults_with false false true) ≡ faults_with true false true
+either_row = refl

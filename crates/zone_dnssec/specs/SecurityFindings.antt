@@ -1,10 +1,10 @@
 -- The findings of a signed zone.
-use Rattle.std.specs.Prelude.{ℕ, if◌then◌else◌, Bool, false, List, [], ◌∷◌, length, slice_get}
+use Rattle.std.specs.Prelude.{ℕ, if◌then◌else◌, Bool, false, Option, List, [], ◌∷◌, length, slice_get}
 use Rattle.std.specs.List.{flat_map, range_with_len}
 use Rattle.std.specs.Option.{option_map_or}
 use Rattle.rdata_values.specs.Rtype as Rtype
 use Rattle.zone_record.specs.declared.record.Record.{Record}
-use Rattle.zone_rules.specs.Zones.{has_type_at}
+use Rattle.zone_rules.specs.Zones.{has_type_at, record_before}
 use Rattle.zone_dnssec.specs.DeleteForms.{deletes_beside_keys}
 use Rattle.zone_dnssec.specs.DenialRecords.{denial_ttl, has_other_denial_ttl, has_other_link_owner, is_occluded, iterates_within}
 use Rattle.zone_dnssec.specs.HashedLinks.{fails_chain, names_other_hash}
@@ -21,34 +21,34 @@ use Rattle.zone_dnssec.specs.declared.rule.SecurityRule.{SecurityRule}
 use Rattle.zone_dnssec.specs.declared.rule.SecurityRule.TheVariants.{Expired, ExpiresSoon, NotYetValid, TimesReversed, OtherSigner, OtherLabels, OtherOriginalTtl, OtherSignatureTtl, Unsigned, NoKey, KeyMissing, RevokedKey, SignsNothing, Occluded, NoNsec, OtherNext, OtherTypes, NoNsec3, OtherNextHash, OtherHashedTypes, OtherLinkOwner, TooManyIterations, ManyIterations, SomeIterations, OtherDenialTtl, DeleteBesideKeys}
 use Rattle.zone_dnssec.specs.declared.times.Times.{Times}
 
--- whether the record at an index breaks a rule
-abbrev pub breaks_security : {N O : Type 0} → SecurityRule → ZoneView N O → Times → ℕ → Record N O → Bool
-breaks_security Expired zone times place r = is_expired times.instant r
-breaks_security ExpiresSoon zone times place r = expires_within times.margin times.instant r
-breaks_security NotYetValid zone times place r = is_early times.instant r
-breaks_security TimesReversed zone times place r = has_reversed_times r
-breaks_security OtherSigner zone times place r = has_other_signer zone.origin r
-breaks_security OtherLabels zone times place r = has_other_labels r
-breaks_security OtherOriginalTtl zone times place r = has_other_original_ttl zone.records r
-breaks_security OtherSignatureTtl zone times place r = has_other_own_ttl zone.records r
-breaks_security Unsigned zone times place r = is_missing_signature zone.origin zone.records place r
-breaks_security NoKey zone times place r = lacks_known_key (zone_keys zone.origin zone.records) zone.origin zone.records place r
-breaks_security KeyMissing zone times place r = misses_key (zone_keys zone.origin zone.records) zone.records r
-breaks_security RevokedKey zone times place r = is_by_revoked_key (zone_keys zone.origin zone.records) r
-breaks_security SignsNothing zone times place r = signs_nothing zone.records r
-breaks_security Occluded zone times place r = is_occluded zone.origin zone.records r
-breaks_security NoNsec zone times place r = lacks_nsec zone.origin zone.records place r
-breaks_security OtherNext zone times place r = names_other_next zone.origin zone.records r
-breaks_security OtherTypes zone times place r = lists_other_types zone.origin zone.records r
-breaks_security NoNsec3 zone times place r = fails_chain Missing zone place r
-breaks_security OtherNextHash zone times place r = names_other_hash zone r
-breaks_security OtherHashedTypes zone times place r = fails_chain DifferentTypes zone place r
-breaks_security OtherLinkOwner zone times place r = has_other_link_owner zone.origin r
-breaks_security TooManyIterations zone times place r = iterates_within 150 65535 zone.origin r
-breaks_security ManyIterations zone times place r = iterates_within 50 150 zone.origin r
-breaks_security SomeIterations zone times place r = iterates_within 0 50 zone.origin r
-breaks_security OtherDenialTtl zone times place r = has_other_denial_ttl (denial_ttl zone.origin zone.records) r
-breaks_security DeleteBesideKeys zone times place r = deletes_beside_keys zone.origin zone.records r
+-- whether a record breaks a rule, beside the one before it
+abbrev pub breaks_security : {N O M P : Type 0} → SecurityRule → ZoneView N O → Times → Option (Record M P) → Record M P → Bool
+breaks_security Expired zone times before r = is_expired times.instant r
+breaks_security ExpiresSoon zone times before r = expires_within times.margin times.instant r
+breaks_security NotYetValid zone times before r = is_early times.instant r
+breaks_security TimesReversed zone times before r = has_reversed_times r
+breaks_security OtherSigner zone times before r = has_other_signer zone.origin r
+breaks_security OtherLabels zone times before r = has_other_labels r
+breaks_security OtherOriginalTtl zone times before r = has_other_original_ttl zone.records r
+breaks_security OtherSignatureTtl zone times before r = has_other_own_ttl zone.records r
+breaks_security Unsigned zone times before r = is_missing_signature zone.origin zone.records before r
+breaks_security NoKey zone times before r = lacks_known_key (zone_keys zone.origin zone.records) zone.origin zone.records before r
+breaks_security KeyMissing zone times before r = misses_key (zone_keys zone.origin zone.records) zone.records r
+breaks_security RevokedKey zone times before r = is_by_revoked_key (zone_keys zone.origin zone.records) r
+breaks_security SignsNothing zone times before r = signs_nothing zone.records r
+breaks_security Occluded zone times before r = is_occluded zone.origin zone.records r
+breaks_security NoNsec zone times before r = lacks_nsec zone.origin zone.records before r
+breaks_security OtherNext zone times before r = names_other_next zone.origin zone.records r
+breaks_security OtherTypes zone times before r = lists_other_types zone.origin zone.records r
+breaks_security NoNsec3 zone times before r = fails_chain Missing zone before r
+breaks_security OtherNextHash zone times before r = names_other_hash zone r
+breaks_security OtherHashedTypes zone times before r = fails_chain DifferentTypes zone before r
+breaks_security OtherLinkOwner zone times before r = has_other_link_owner zone.origin r
+breaks_security TooManyIterations zone times before r = iterates_within 150 65535 zone.origin r
+breaks_security ManyIterations zone times before r = iterates_within 50 150 zone.origin r
+breaks_security SomeIterations zone times before r = iterates_within 0 50 zone.origin r
+breaks_security OtherDenialTtl zone times before r = has_other_denial_ttl (denial_ttl zone.origin zone.records) r
+breaks_security DeleteBesideKeys zone times before r = deletes_beside_keys zone.origin zone.records r
 
 -- a finding of a rule, if the rule is broken
 abbrev pub insecure_if : Bool → SecurityRule → ℕ → List SecurityFinding
@@ -61,7 +61,7 @@ security_rules =
 
 -- the record at an index breaks the rule
 abbrev pub breaks_security_at : {N O : Type 0} → ZoneView N O → Times → ℕ → SecurityRule → Bool
-breaks_security_at zone times place rule = option_map_or (breaks_security rule zone times place) (slice_get zone.records place) false
+breaks_security_at zone times place rule = option_map_or (breaks_security rule zone times (record_before zone.records place)) (slice_get zone.records place) false
 
 -- a finding of a rule, if the record at an index breaks it
 abbrev pub insecure_of : {N O : Type 0} → ZoneView N O → Times → ℕ → SecurityRule → List SecurityFinding

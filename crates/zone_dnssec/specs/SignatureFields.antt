@@ -32,13 +32,13 @@ abbrev pub is_ttl_in_set : {N O : Type 0} → ℕ → RecordType → List (List 
 is_ttl_in_set ttl rtype name records = list_any (λ s. same_name s.owner name && (type_of s == rtype && s.ttl == ttl)) records
 
 -- an RRSIG covers an RRset in which no record has this TTL
-abbrev pub covers_other_ttl : {N O : Type 0} → ℕ → List (Record N O) → Record N O → Bool
+abbrev pub covers_other_ttl : {N O M P : Type 0} → ℕ → List (Record N O) → Record M P → Bool
 covers_other_ttl ttl records r = type_of r == Rtype.rrsig && (has_type_at (set_type r) r.owner records && not (is_ttl_in_set ttl (set_type r) r.owner records))
 
 -- no record has the RRSIG's original TTL, the fourth field (RFC 4034 section 3.1.4)
-abbrev pub has_other_original_ttl : {N O : Type 0} → List (Record N O) → Record N O → Bool
+abbrev pub has_other_original_ttl : {N O M P : Type 0} → List (Record N O) → Record M P → Bool
 has_other_original_ttl records r = covers_other_ttl (number_in (field_octets 3 r)) records r
 
 -- no record has the TTL of the RRSIG itself
-abbrev pub has_other_own_ttl : {N O : Type 0} → List (Record N O) → Record N O → Bool
+abbrev pub has_other_own_ttl : {N O M P : Type 0} → List (Record N O) → Record M P → Bool
 has_other_own_ttl records r = covers_other_ttl r.ttl records r

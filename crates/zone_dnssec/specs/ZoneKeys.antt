@@ -1,5 +1,5 @@
 -- The keys of a zone, and the keys that a signature fits (RFC 4034 sections 2.1 and 3.1, appendix B).
-use Rattle.std.specs.Prelude.{ℕ, ◌+◌, ◌-◌, ◌*◌, ◌/◌, ◌%◌, ◌==◌, ◌&&◌, not, nat_lt, nat_le, if◌then◌else◌, Bool, Option, Some, None, List, [], ◌∷◌, length, drop, filter, slice_index}
+use Rattle.std.specs.Prelude.{ℕ, ◌+◌, ◌-◌, ◌*◌, ◌/◌, ◌%◌, ◌==◌, ◌&&◌, not, nat_lt, nat_le, if◌then◌else◌, Bool, Option, Some, None, List, [], ◌∷◌, length, drop, filter, slice_get, slice_index}
 use Rattle.std.specs.Int.{from_be_bytes, w16}
 use Rattle.std.specs.List.{flat_map, list_any}
 use Rattle.std.specs.Option.{option_map, option_map_or}
@@ -70,6 +70,10 @@ key_in (high ∷ low ∷ protocol ∷ algorithm ∷ key) =
 abbrev pub keys_of : {N O : Type 0} → Record N O → List Key
 keys_of r = if type_of r == Rtype.dnskey then option_map_or (λ key. key ∷ []) (key_in (data_of r).octets) [] else []
 
+-- the key in the record at an index
+abbrev pub keys_at : {N O : Type 0} → List (Record N O) → ℕ → List Key
+keys_at records place = option_map_or keys_of (slice_get records place) []
+
 -- the keys at the apex
 abbrev pub zone_keys : {N O : Type 0} → List (List ℕ) → List (Record N O) → List Key
 zone_keys origin records = flat_map keys_of (filter (λ r. same_name r.owner origin) records)
@@ -88,13 +92,13 @@ abbrev pub has_fitting_signature : {N O : Type 0} → List Key → RecordType �
 has_fitting_signature keys rtype name records = list_any (λ r. same_name r.owner name && (covers rtype r && fits_key keys r)) records
 
 -- the record is the first of an RRset that must be signed and is, but by no known key
-abbrev pub lacks_known_key : {N O : Type 0} → List Key → List (List ℕ) → List (Record N O) → ℕ → Record N O → Bool
-lacks_known_key keys origin records place r =
-    starts is_one_set records place r
-    && (must_be_signed origin records r && (has_signature (type_of r) r.owner records && not (has_fitting_signature keys (type_of r) r.owner records)))
+abbrev pub lacks_known_key : {N O M P : Type 0} → List Key → List (List ℕ) → List (Record N O) → Option (Record M P) → Record M P → Bool
+lacks_known_key keys origin records before r =
+    starts is_one_set before r
+    && (must_be_signed origin records r && (not (has_fitting_signature keys (type_of r) r.owner records) && has_signature (type_of r) r.owner records))
 
 -- an RRSIG fits no key, and another of the same RRset does
-abbrev pub misses_key : {N O : Type 0} → List Key → List (Record N O) → Record N O → Bool
+abbrev pub misses_key : {N O M P : Type 0} → List Key → List (Record N O) → Record M P → Bool
 misses_key keys records r = type_of r == Rtype.rrsig && (not (fits_key keys r) && has_fitting_signature keys (set_type r) r.owner records)
 
 -- an RRSIG that does not cover DNSKEY fits a key, and each key that it fits is revoked (RFC 5011 section 2.1)

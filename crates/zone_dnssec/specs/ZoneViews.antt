@@ -1,7 +1,6 @@
 -- A signed zone.
 use Rattle.std.specs.Prelude.{ℕ, List}
 use Rattle.zone_record.specs.declared.record.Record.{Record}
-use Rattle.zone_dnssec.specs.declared.zone.SignedZone.{SignedZone}
 
 -- the name of its apex, and its records
 pub record ZoneView (N O : Type 0) : Type 0 where
@@ -10,6 +9,3 @@ pub record ZoneView (N O : Type 0) : Type 0 where
 
 abbrev pub zone_with : {N O : Type 0} → List (List ℕ) → List (Record N O) → ZoneView N O
 zone_with origin records = record { origin = origin; records = records }
-
-abbrev pub zone_of : {N O : Type 0} → SignedZone N O → ZoneView N O
-zone_of z = zone_with z.origin.now z.records.now

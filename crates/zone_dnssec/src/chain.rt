@@ -3,56 +3,48 @@ ghost use Rattle.std.specs.Prelude.{◌≡◌};
 ghost use Rattle.zone_dnssec.specs.NsecChain.{are_at_one_name, lacks_nsec};
 ghost use Rattle.zone_dnssec.specs.Parameters.{has_named_chain};
 ghost use Rattle.zone_dnssec.specs.SignedSets.{starts};
+ghost use Rattle.zone_dnssec.specs.Subjects.{HasOwnerFacts};
 
-use crate::nsec3::is_chain;
-use crate::sets::has_authority;
-use dns_octets::AsOctets;
+use crate::owned::{Wanted, has_at};
+use crate::subject::Subject;
 use dns_wire::Name;
 use rdata_values::RecordType;
-use zone_record::Record;
-use zone_rules::SortedRecords;
-use zone_rules::names::view;
-use zone_rules::pairs::{before, have_one_owner};
-use zone_rules::sorted::{has_type, owned_by};
+use zone_rules::ZoneRecords;
+use zone_rules::pairs::have_one_owner;
+use zone_rules::zone_records::ZoneRecord;
 
 /// Returns whether a record is the first at its owner.
-pub(crate) fn is_first_at_owner<Owner: AsOctets, Octets: AsOctets>(
-    records: &SortedRecords<'_, Owner, Octets>,
-    place: usize,
-    record: &Record<Owner, Octets>,
-) -> bool
-    ensures { result ≡ starts are_at_one_name records.now place «record».now }
+pub(crate) fn is_first_at_owner(before: &Option<ZoneRecord<'_>>, record: &ZoneRecord<'_>) -> bool
+    ensures { result ≡ starts are_at_one_name before.now «record».now }
 {
-    match before(records, place) {
+    match before {
         Some(earlier) => !have_one_owner(earlier, record),
         None => true,
     }
 }
 
 /// Returns whether an NSEC3PARAM at the apex names a chain.
-fn has_chain<Owner: AsOctets, Octets: AsOctets>(
-    origin: &Name<&[u8]>,
-    records: &SortedRecords<'_, Owner, Octets>,
-) -> bool
-    ensures { result ≡ has_named_chain origin.now records.now }
+pub(crate) fn has_chain<Z: ZoneRecords>(origin: &Name<&[u8]>, records: &Z) -> bool
+    ensures { result ≡ has_named_chain origin.now (Z.contents records.now) }
 {
-    owned_by(records, origin)
-        .iter()
-        .any(|record| is_chain(record))
+    has_at(records, origin, &Wanted::Chain)
 }
 
 /// Returns whether a record is the first at an owner that needs an NSEC and has none.
-pub fn is_without_nsec<Owner: AsOctets, Octets: AsOctets>(
+pub(crate) fn is_without_nsec<Z: ZoneRecords>(
     origin: &Name<&[u8]>,
-    records: &SortedRecords<'_, Owner, Octets>,
-    place: usize,
-    record: &Record<Owner, Octets>,
+    records: &Z,
+    has_chain: bool,
+    subject: &Subject<'_>,
 ) -> bool
-    ensures { result ≡ lacks_nsec origin.now records.now place «record».now }
+    requires chain { has_chain ≡ has_named_chain origin.now (Z.contents records.now) }
+    requires facts { HasOwnerFacts origin.now (Z.contents records.now) subject.now }
+    ensures { result
+        ≡ lacks_nsec origin.now (Z.contents records.now) subject.now.before subject.now.found }
 {
-    if !is_first_at_owner(records, place, record) || has_chain(origin, records) {
-        return false;
-    }
-    let owner = view(&record.owner);
-    has_authority(origin, records, &owner) && !has_type(records, &owner, RecordType::NSEC)
+    let record = &subject.found;
+    is_first_at_owner(&subject.before, record)
+        && !has_chain
+        && subject.facts.is_authoritative
+        && !records.has_type(&record.owner, RecordType::NSEC)
 }

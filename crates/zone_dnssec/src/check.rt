@@ -1,37 +1,35 @@
 //! Checks a signed zone against the rules of DNSSEC.
-ghost use Rattle.std.specs.Prelude.{◌≡◌, ◌++◌, OnOk, IfOk};
+ghost use Rattle.std.specs.Prelude.{◌≡◌, ◌<◌, ◌++◌, OnOk, IfOk, length};
 ghost use Rattle.std.specs.List.{flat_map, range_with_len};
-ghost use Rattle.zone_dnssec.specs.SecurityFindings.{breaks_security, breaks_security_at, insecure_at, insecure_if, insecure_in_zone, insecure_of};
-ghost use Rattle.zone_dnssec.specs.DenialRecords.{denial_ttl};
-ghost use Rattle.zone_dnssec.specs.ZoneKeys.{zone_keys};
-ghost use Rattle.zone_dnssec.specs.ZoneViews.{zone_of, zone_with};
-ghost use Rattle.zone_rules.specs.Zones.{has_type_at};
+ghost use Rattle.zone_dnssec.specs.ChainFaults.{faults_of_chains};
+ghost use Rattle.zone_dnssec.specs.SecurityFindings.{insecure_at, insecure_if, insecure_in_zone, insecure_of};
+ghost use Rattle.zone_dnssec.specs.Subjects.{breaks_security_by, is_security_broken, AreZoneFacts, IsKnown, IsSignedSubject};
+ghost use Rattle.zone_dnssec.specs.ZoneViews.{zone_with};
 
 use crate::bitmaps::has_wrong_types;
-use crate::chain::is_without_nsec;
+use crate::chain::{has_chain, is_without_nsec};
 use crate::deletes::is_delete_beside_keys;
 use crate::denial::{
     has_iterations, has_wrong_denial_ttl, has_wrong_owner, is_out_of_place, ttl_of_denial,
 };
-use crate::hashed::{LinkFault, MOST_ITERATIONS, has_wrong_next_hash, is_link_wrong};
-use crate::hashes::Hashes;
+use crate::faults::{faults_by_number, faults_of_chains, record_before};
+use crate::hashed::MOST_ITERATIONS;
 use crate::keys::{Key, is_of_revoked_key, is_of_unknown_key, is_without_key, keys_at_apex};
 use crate::links::has_wrong_next;
 use crate::rule::{SecurityFinding, SecurityRule};
-use crate::sets::{is_unsigned, is_without_set};
+use crate::sets::{KnownOwner, covers_some_set, is_unsigned, is_without_set, owner_facts_once};
 use crate::signatures::{
     has_wrong_labels, has_wrong_original_ttl, has_wrong_own_ttl, has_wrong_signer,
 };
+use crate::subject::{ChainFaults, Subject};
 use crate::times::{Times, has_expired, has_reversed_times, is_expiring, is_too_early};
-use crate::zone::SignedZone;
 use dns_octets::AsOctets;
 use dns_wire::Name;
 use rdata_values::RecordType;
 use std::alloc::{AllocError, Allocator};
-use zone_record::Record;
-use zone_rules::SortedRecords;
+use zone_rules::ZoneRecords;
 use zone_rules::names::view;
-use zone_rules::sorted::has_type;
+use zone_rules::zone_records::OwnerBuffer;
 
 /// The rules, in the order in which their findings are reported.
 const SECURITY_RULES: [SecurityRule; 26] = [
@@ -66,90 +64,85 @@ const SECURITY_RULES: [SecurityRule; 26] = [
 /// Greatest number of iterations with which newer validators, too, treat a zone as signed.
 const FEW_ITERATIONS: u16 = 50;
 
-/// Facts about the zone as a whole: the keys at its apex, and the TTL of NSEC and NSEC3.
+/// Facts about the zone as a whole: the keys at its apex, the TTL of NSEC and NSEC3, and whether an
+/// NSEC3PARAM names a chain.
 #[derive(Clone, Copy)]
-struct Facts<'a> {
+pub(crate) struct Facts<'a> {
     keys: &'a [Key],
     denial_ttl: Option<u32>,
+    has_chain: bool,
 }
 
-/// Returns whether the record at an index breaks a rule.
-fn breaks_rule<'a, Owner: AsOctets, Octets: AsOctets>(
+/// Returns whether the record of a subject breaks a rule.
+fn breaks_rule<Z: ZoneRecords>(
     rule: SecurityRule,
-    zone: &SignedZone<'_, 'a, Owner, Octets>,
+    origin: &Name<&[u8]>,
+    records: &Z,
     times: Times,
     facts: Facts<'_>,
-    hashes: &mut Hashes<'a>,
-    place: usize,
-    record: &'a Record<Owner, Octets>,
+    subject: &Subject<'_>,
 ) -> bool
-    requires keys { facts.keys.now ≡ zone_keys zone.now.origin.now zone.now.records.now }
-    requires ttl { facts.denial_ttl ≡ denial_ttl zone.now.origin.now zone.now.records.now }
-    ensures { result ≡ breaks_security rule (zone_of zone.now) times place «record».now }
+    requires facts { AreZoneFacts origin.now (Z.contents records.now) facts }
+    requires subject { IsSignedSubject origin.now (Z.contents records.now) subject.now }
+    ensures { result
+        ≡ breaks_security_by rule origin.now (Z.contents records.now) times subject.now }
 {
+    let record = &subject.found;
     match rule {
         SecurityRule::Expired => has_expired(times.instant, record),
         SecurityRule::ExpiresSoon => is_expiring(times, record),
         SecurityRule::NotYetValid => is_too_early(times.instant, record),
         SecurityRule::TimesReversed => has_reversed_times(record),
-        SecurityRule::OtherSigner => has_wrong_signer(zone.origin, record),
+        SecurityRule::OtherSigner => has_wrong_signer(origin, record),
         SecurityRule::OtherLabels => has_wrong_labels(record),
-        SecurityRule::OtherOriginalTtl => has_wrong_original_ttl(zone.records, record),
-        SecurityRule::OtherSignatureTtl => has_wrong_own_ttl(zone.records, record),
-        SecurityRule::Unsigned => is_unsigned(zone.origin, zone.records, place, record),
-        SecurityRule::NoKey => is_without_key(facts.keys, zone.origin, zone.records, place, record),
-        SecurityRule::KeyMissing => is_of_unknown_key(facts.keys, zone.records, record),
+        SecurityRule::OtherOriginalTtl => has_wrong_original_ttl(records, subject),
+        SecurityRule::OtherSignatureTtl => has_wrong_own_ttl(records, subject),
+        SecurityRule::Unsigned => is_unsigned(origin, records, subject),
+        SecurityRule::NoKey => is_without_key(facts.keys, origin, records, subject),
+        SecurityRule::KeyMissing => is_of_unknown_key(facts.keys, records, subject),
         SecurityRule::RevokedKey => is_of_revoked_key(facts.keys, record),
-        SecurityRule::SignsNothing => is_without_set(zone.records, record),
-        SecurityRule::Occluded => is_out_of_place(zone.origin, zone.records, record),
-        SecurityRule::NoNsec => is_without_nsec(zone.origin, zone.records, place, record),
-        SecurityRule::OtherNext => has_wrong_next(zone.origin, zone.records, record),
-        SecurityRule::OtherTypes => has_wrong_types(zone.origin, zone.records, record),
-        SecurityRule::NoNsec3 => is_link_wrong(LinkFault::Missing, hashes, zone, place, record),
-        SecurityRule::OtherNextHash => has_wrong_next_hash(zone, record),
-        SecurityRule::OtherHashedTypes => is_link_wrong(
-            LinkFault::DifferentTypes,
-            hashes,
-            zone,
-            place,
-            record,
-        ),
-        SecurityRule::OtherLinkOwner => has_wrong_owner(zone.origin, record),
+        SecurityRule::SignsNothing => is_without_set(records, subject),
+        SecurityRule::Occluded => is_out_of_place(subject),
+        SecurityRule::NoNsec => is_without_nsec(origin, records, facts.has_chain, subject),
+        SecurityRule::OtherNext => has_wrong_next(origin, records, subject),
+        SecurityRule::OtherTypes => has_wrong_types(origin, records, subject),
+        SecurityRule::NoNsec3 => subject.faults.is_missing,
+        SecurityRule::OtherNextHash => subject.faults.has_other_next,
+        SecurityRule::OtherHashedTypes => subject.faults.has_other_types,
+        SecurityRule::OtherLinkOwner => has_wrong_owner(origin, record),
         SecurityRule::TooManyIterations => has_iterations(
             MOST_ITERATIONS,
             u16::MAX,
-            zone.origin,
+            origin,
             record,
         ),
         SecurityRule::ManyIterations => has_iterations(
             FEW_ITERATIONS,
             MOST_ITERATIONS,
-            zone.origin,
+            origin,
             record,
         ),
-        SecurityRule::SomeIterations => has_iterations(0, FEW_ITERATIONS, zone.origin, record),
+        SecurityRule::SomeIterations => has_iterations(0, FEW_ITERATIONS, origin, record),
         SecurityRule::OtherDenialTtl => has_wrong_denial_ttl(facts.denial_ttl, record),
-        SecurityRule::DeleteBesideKeys => is_delete_beside_keys(zone.origin, zone.records, record),
+        SecurityRule::DeleteBesideKeys => is_delete_beside_keys(origin, records, record),
     }
 }
 
-/// Returns whether the record at an index breaks a rule. Returns false after the last record.
-fn is_broken_at<'a, Owner: AsOctets, Octets: AsOctets>(
+/// Returns whether the record at the index of a subject breaks a rule.
+fn is_broken<Z: ZoneRecords>(
     rule: SecurityRule,
-    zone: &SignedZone<'_, 'a, Owner, Octets>,
+    origin: &Name<&[u8]>,
+    records: &Z,
     times: Times,
     facts: Facts<'_>,
-    hashes: &mut Hashes<'a>,
-    place: usize,
+    subject: &Subject<'_>,
 ) -> bool
-    requires keys { facts.keys.now ≡ zone_keys zone.now.origin.now zone.now.records.now }
-    requires ttl { facts.denial_ttl ≡ denial_ttl zone.now.origin.now zone.now.records.now }
-    ensures { result ≡ breaks_security_at (zone_of zone.now) times place rule }
+    requires facts { AreZoneFacts origin.now (Z.contents records.now) facts }
+    requires subject { IsSignedSubject origin.now (Z.contents records.now) subject.now }
+    ensures { result
+        ≡ is_security_broken rule origin.now (Z.contents records.now) times subject.now }
 {
-    match zone.records.as_slice().get(place) {
-        Some(record) => breaks_rule(rule, zone, times, facts, hashes, place, record),
-        None => false,
-    }
+    breaks_rule(rule, origin, records, times, facts, subject)
 }
 
 /// Appends a finding, if the rule is broken.
@@ -172,74 +165,104 @@ fn add_if<A: Allocator>(
 
 /// Appends findings of those of some rules that the record at an index breaks.
 #[tactic(auto, using(zone_rules::proofs::Steps::found_more))]
-fn add_each<'a, Owner: AsOctets, Octets: AsOctets, A: Allocator>(
+fn add_each<Z: ZoneRecords, A: Allocator>(
     rules: &[SecurityRule],
-    zone: &SignedZone<'_, 'a, Owner, Octets>,
+    origin: &Name<&[u8]>,
+    records: &Z,
     times: Times,
     facts: Facts<'_>,
-    hashes: &mut Hashes<'a>,
-    place: usize,
+    subject: &Subject<'_>,
     found: &mut Vec<SecurityFinding, A>,
 ) -> Result<(), AllocError>
-    requires keys { facts.keys.now ≡ zone_keys zone.now.origin.now zone.now.records.now }
-    requires ttl { facts.denial_ttl ≡ denial_ttl zone.now.origin.now zone.now.records.now }
+    requires facts { AreZoneFacts origin.now (Z.contents records.now) facts }
+    requires subject { IsSignedSubject origin.now (Z.contents records.now) subject.now }
     ensures { OnOk result (found.new.items ≡ found.old.items
-        ++ flat_map (insecure_of (zone_of zone.now) times place) rules.now) }
+        ++ flat_map (insecure_of (zone_with origin.now (Z.contents records.now)) times subject.now.place) rules.now) }
 {
     for rule in rules {
-        let is_broken = is_broken_at(*rule, zone, times, facts, hashes, place);
-        add_if(is_broken, *rule, place, found)?;
+        let is_broken = is_broken(*rule, origin, records, times, facts, subject);
+        add_if(is_broken, *rule, subject.place, found)?;
     }
     Ok(())
 }
 
 /// Appends findings of all rules that the record at an index breaks.
-fn add_broken<'a, Owner: AsOctets, Octets: AsOctets, A: Allocator>(
-    zone: &SignedZone<'_, 'a, Owner, Octets>,
+fn add_broken<Z: ZoneRecords, A: Allocator>(
+    origin: &Name<&[u8]>,
+    records: &Z,
     times: Times,
     facts: Facts<'_>,
-    hashes: &mut Hashes<'a>,
+    last: &mut Option<KnownOwner>,
+    faults: ChainFaults,
     place: usize,
     found: &mut Vec<SecurityFinding, A>,
 ) -> Result<(), AllocError>
-    requires keys { facts.keys.now ≡ zone_keys zone.now.origin.now zone.now.records.now }
-    requires ttl { facts.denial_ttl ≡ denial_ttl zone.now.origin.now zone.now.records.now }
-    ensures { OnOk result (found.new.items ≡ found.old.items
-        ++ insecure_at (zone_of zone.now) times place) }
+    requires facts { AreZoneFacts origin.now (Z.contents records.now) facts }
+    requires faults { faults
+        ≡ faults_of_chains (zone_with origin.now (Z.contents records.now)) place }
+    requires place { place < length (Z.contents records.now) }
+    requires known { IsKnown origin.now (Z.contents records.now) last.old }
+    ensures known { IsKnown origin.now (Z.contents records.now) last.new }
+    ensures found { OnOk result (found.new.items ≡ found.old.items
+        ++ insecure_at (zone_with origin.now (Z.contents records.now)) times place) }
 {
-    add_each(&SECURITY_RULES, zone, times, facts, hashes, place, found)
+    let mut owner = OwnerBuffer::new();
+    let mut owner_before = OwnerBuffer::new();
+    let one = records.record(place, &mut owner);
+    let facts_of_owner = owner_facts_once(last, origin, records, &one.owner);
+    let covers_set = covers_some_set(records, &one);
+    let subject = Subject {
+        place,
+        before: record_before(records, place, &mut owner_before),
+        found: one,
+        facts: facts_of_owner,
+        covers_set,
+        faults,
+    };
+    add_each(
+        &SECURITY_RULES,
+        origin,
+        records,
+        times,
+        facts,
+        &subject,
+        found,
+    )
 }
 
 /// Returns the findings of the zone with this origin and these records: the rules that each record
 /// breaks, record by record. Without a DNSKEY at its apex the zone counts as unsigned, and nothing
 /// is found. The class of records doesn't matter.
 ///
-/// Fails if memory for the keys or the findings is out.
-pub fn check_signed<Owner: AsOctets, Octets: AsOctets, Origin: AsOctets, A: Allocator + Copy>(
+/// Fails if memory is out: for the keys, for what is known of the chains of NSEC3 at each record, or
+/// for the findings.
+pub fn check_signed<Z: ZoneRecords, Origin: AsOctets, A: Allocator + Copy>(
     alloc: A,
     origin: &Name<Origin>,
     times: Times,
-    records: &SortedRecords<'_, Owner, Octets>,
+    records: &Z,
 ) -> Result<Vec<SecurityFinding, A>, AllocError>
-    ensures { IfOk result (λ found. found.items ≡ insecure_in_zone origin.now times records.now) }
+    ensures { IfOk result (λ found. found.items
+        ≡ insecure_in_zone origin.now times (Z.contents records.now)) }
 {
     let apex = view(origin);
     let mut found = Vec::new(alloc);
-    if !has_type(records, &apex, RecordType::DNSKEY) {
+    if !records.has_type(&apex, RecordType::DNSKEY) {
         return Ok(found);
     }
     let keys = keys_at_apex(alloc, &apex, records)?;
     let facts = Facts {
         keys: keys.as_slice(),
         denial_ttl: ttl_of_denial(&apex, records),
+        has_chain: has_chain(&apex, records),
     };
-    let zone = SignedZone {
-        origin: &apex,
-        records,
-    };
-    let mut hashes = Hashes::new();
-    for place in 0..records.as_slice().len() {
-        add_broken(&zone, times, facts, &mut hashes, place, &mut found)?;
+    let faults = faults_of_chains(alloc, &apex, records)?;
+    let mut last = None;
+    for place in 0..records.len() {
+        let here = faults_by_number(faults.as_slice(), place);
+        add_broken(
+            &apex, records, times, facts, &mut last, here, place, &mut found,
+        )?;
     }
     Ok(found)
 }

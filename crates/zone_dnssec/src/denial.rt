@@ -1,28 +1,25 @@
 //! Checks the owners of NSEC, NSEC3 and RRSIG records, the TTLs of NSEC and NSEC3, and the
 //! iterations of a chain.
-ghost use Rattle.std.specs.Prelude.{◌≡◌, ◌&&◌, ◌==◌, ◌∷◌, [], nat_eq, take};
+ghost use Rattle.std.specs.Prelude.{◌≡◌, ◌<◌, ◌∷◌, [], Some, length, nat_eq, slice_get, take};
 ghost use Rattle.std.specs.Cmp.Lexicographic.{pointwise};
-ghost use Rattle.std.specs.List.{find, list_all};
-ghost use Rattle.std.specs.Option.{option_copied};
-ghost use Rattle.rdata_values.specs.Rtype as Rtype;
-ghost use Rattle.dns_wire.specs.Order.{same_name};
-ghost use Rattle.zone_dnssec.specs.DenialRecords.{begins_with_hash, denial_ttl, has_other_denial_ttl, has_other_link_owner, is_child, is_hash_digit, is_link_owner, is_occluded, iterates_within};
+ghost use Rattle.std.specs.List.{list_all};
+ghost use Rattle.std.specs.Option.{option_map};
+ghost use Rattle.zone_dnssec.specs.DenialRecords.{begins_with_hash, denial_ttl, has_other_denial_ttl, has_other_link_owner, is_child, is_hash_digit, is_link_owner, iterates_within, soa_ttl};
 ghost use Rattle.zone_dnssec.specs.Parameters.{field_octets};
-ghost use Rattle.zone_rules.specs.Zones.{type_of};
+ghost use Rattle.zone_dnssec.specs.Subjects.{is_occluded_by};
 
 use crate::bitmaps::octets_after;
 use crate::nsec3::{field, is_chain, iterations};
+use crate::owned::{Wanted, find_at};
 use crate::sets::is_of_parent;
+use crate::subject::Subject;
 use crate::times::number;
-use dns_octets::AsOctets;
 use dns_wire::Name;
 use rdata_values::RecordType;
-use zone_record::Record;
-use zone_rules::SortedRecords;
-use zone_rules::hosts::{is_cut, is_under_cut};
-use zone_rules::names::{is_same, octets_of, parent, view};
+use zone_rules::ZoneRecords;
+use zone_rules::names::{is_same, octets_of, parent};
 use zone_rules::pairs::set_type_of;
-use zone_rules::sorted::owned_by;
+use zone_rules::zone_records::{OwnerBuffer, ZoneRecord};
 
 /// Index of the minimum among the fields of an SOA (RFC 1035 section 3.3.13).
 const MINIMUM: usize = 6;
@@ -32,19 +29,15 @@ const DIGITS: usize = 32;
 
 /// Returns whether a record is an RRSIG or NSEC below a delegation, or an RRSIG at one that covers
 /// neither DS nor NSEC.
-pub fn is_out_of_place<Owner: AsOctets, Octets: AsOctets>(
-    origin: &Name<&[u8]>,
-    records: &SortedRecords<'_, Owner, Octets>,
-    record: &Record<Owner, Octets>,
-) -> bool
-    ensures { result ≡ is_occluded origin.now records.now «record».now }
+pub(crate) fn is_out_of_place(subject: &Subject<'_>) -> bool
+    ensures { result ≡ is_occluded_by subject.now.facts subject.now.found }
 {
+    let record = &subject.found;
     let rtype = record.data.rtype();
-    let owner = view(&record.owner);
-    (matches!(rtype, RecordType::RRSIG | RecordType::NSEC) && is_under_cut(origin, records, &owner))
+    (matches!(rtype, RecordType::RRSIG | RecordType::NSEC) && subject.facts.is_under_cut)
         || (rtype == RecordType::RRSIG
             && !is_of_parent(set_type_of(record))
-            && is_cut(origin, records, &owner))
+            && subject.facts.is_cut)
 }
 
 /// Returns whether an octet is a digit of base32hex, in any case.
@@ -95,7 +88,7 @@ fn is_child_of(name: &Name<&[u8]>, top: &Name<&[u8]>) -> bool
 }
 
 /// Returns whether the hash algorithm of an NSEC3 is 1, SHA-1.
-fn is_sha1<Owner: AsOctets, Octets: AsOctets>(record: &Record<Owner, Octets>) -> bool
+fn is_sha1(record: &ZoneRecord<'_>) -> bool
     ensures { result ≡ pointwise nat_eq (field_octets 0 «record».now) (1 ∷ []) }
 {
     matches!(field(record, 0), [1])
@@ -103,21 +96,15 @@ fn is_sha1<Owner: AsOctets, Octets: AsOctets>(record: &Record<Owner, Octets>) ->
 
 /// Returns whether an NSEC3 is one label below the apex, and at a hash of 20 octets if hash algorithm
 /// 1 makes its hashes.
-fn has_link_owner<Owner: AsOctets, Octets: AsOctets>(
-    origin: &Name<&[u8]>,
-    record: &Record<Owner, Octets>,
-) -> bool
+fn has_link_owner(origin: &Name<&[u8]>, record: &ZoneRecord<'_>) -> bool
     ensures { result ≡ is_link_owner origin.now «record».now }
 {
-    let owner = view(&record.owner);
-    is_child_of(&owner, origin) && (!is_sha1(record) || is_hash_name(octets_of(&owner)))
+    let owner = &record.owner;
+    is_child_of(owner, origin) && (!is_sha1(record) || is_hash_name(octets_of(owner)))
 }
 
 /// Returns whether a record is an NSEC3 with a wrong owner.
-pub fn has_wrong_owner<Owner: AsOctets, Octets: AsOctets>(
-    origin: &Name<&[u8]>,
-    record: &Record<Owner, Octets>,
-) -> bool
+pub(crate) fn has_wrong_owner(origin: &Name<&[u8]>, record: &ZoneRecord<'_>) -> bool
     ensures { result ≡ has_other_link_owner origin.now «record».now }
 {
     record.data.rtype() == RecordType::NSEC3 && !has_link_owner(origin, record)
@@ -125,56 +112,55 @@ pub fn has_wrong_owner<Owner: AsOctets, Octets: AsOctets>(
 
 /// Returns whether a record is an NSEC3PARAM at the apex that names a chain, with more iterations
 /// than one number and at most another.
-pub fn has_iterations<Owner: AsOctets, Octets: AsOctets>(
+pub(crate) fn has_iterations(
     above: u16,
     most: u16,
     origin: &Name<&[u8]>,
-    record: &Record<Owner, Octets>,
+    record: &ZoneRecord<'_>,
 ) -> bool
     ensures { result ≡ iterates_within above most origin.now «record».now }
 {
+    if !is_chain(record) {
+        return false;
+    }
     let count = iterations(record);
-    is_chain(record) && is_same(&view(&record.owner), origin) && above < count && count <= most
+    is_same(&record.owner, origin) && above < count && count <= most
 }
 
-/// Returns the SOA of the zone.
-fn soa<'a, Owner: AsOctets, Octets: AsOctets>(
-    origin: &Name<&[u8]>,
-    records: &SortedRecords<'a, Owner, Octets>,
-) -> Option<&'a Record<Owner, Octets>>
-    ensures { option_copied result ≡ find (λ r. same_name r.owner origin.now
-        && type_of r == Rtype.soa) records.now }
+/// Returns the lesser of the TTL and the minimum of an SOA.
+fn ttl_of_soa(record: &ZoneRecord<'_>) -> u32
+    ensures { result ≡ soa_ttl «record».now }
 {
-    owned_by(records, origin)
-        .iter()
-        .find(|record| record.data.rtype() == RecordType::SOA)
+    let minimum = number(field(record, MINIMUM));
+    if record.ttl <= minimum {
+        record.ttl
+    } else {
+        minimum
+    }
+}
+
+/// Returns the lesser of the TTL and the minimum of the SOA at an index.
+fn ttl_at<Z: ZoneRecords>(records: &Z, place: usize) -> u32
+    requires { place < length (Z.contents records.now) }
+    ensures { Some result ≡ option_map soa_ttl (slice_get (Z.contents records.now) place) }
+{
+    let mut owner = OwnerBuffer::new();
+    let one = records.record(place, &mut owner);
+    ttl_of_soa(&one)
 }
 
 /// Returns the lesser of the SOA's TTL and its minimum.
-pub fn ttl_of_denial<Owner: AsOctets, Octets: AsOctets>(
-    origin: &Name<&[u8]>,
-    records: &SortedRecords<'_, Owner, Octets>,
-) -> Option<u32>
-    ensures { result ≡ denial_ttl origin.now records.now }
+pub(crate) fn ttl_of_denial<Z: ZoneRecords>(origin: &Name<&[u8]>, records: &Z) -> Option<u32>
+    ensures { result ≡ denial_ttl origin.now (Z.contents records.now) }
 {
-    match soa(origin, records) {
-        Some(record) => {
-            let minimum = number(field(record, MINIMUM));
-            Some(if record.ttl <= minimum {
-                record.ttl
-            } else {
-                minimum
-            })
-        }
+    match find_at(records, origin, &Wanted::Soa) {
+        Some(place) => Some(ttl_at(records, place)),
         None => None,
     }
 }
 
 /// Returns whether a record is an NSEC or NSEC3 with a TTL other than this.
-pub fn has_wrong_denial_ttl<Owner: AsOctets, Octets: AsOctets>(
-    wanted: Option<u32>,
-    record: &Record<Owner, Octets>,
-) -> bool
+pub(crate) fn has_wrong_denial_ttl(wanted: Option<u32>, record: &ZoneRecord<'_>) -> bool
     ensures { result ≡ has_other_denial_ttl wanted «record».now }
 {
     if !matches!(record.data.rtype(), RecordType::NSEC | RecordType::NSEC3) {

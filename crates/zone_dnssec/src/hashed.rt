@@ -1,27 +1,28 @@
-//! Checks that the NSEC3 records of a zone match its names (RFC 5155 section 7.1).
-ghost use Rattle.std.specs.Prelude.{◌≡◌};
-ghost use Rattle.zone_rules.specs.Zones.{has_owner};
-ghost use Rattle.zone_dnssec.specs.HashedLinks.{breaks_named_chain, breaks_some_chain, fails_above, fails_at_or_above, fails_chain, fails_name, is_bounded, is_covered_by_opt_out, is_empty_in_zone, is_hash_of, is_opted_out, is_represented, lacks_link, lists_other_hashed_types, named_chain_fails, names_other_hash, points_to_next, some_chain_fails};
-ghost use Rattle.zone_dnssec.specs.ZoneViews.{zone_of};
+//! Checks that the NSEC3 records of a chain match the names of a zone (RFC 5155 section 7.1).
+ghost use Rattle.std.specs.Prelude.{◌≡◌, ◌<◌, ◌||◌, IfSome, false, length, option_and_then, slice_get};
+ghost use Rattle.std.specs.Option.{option_map_or};
+ghost use Rattle.zone_dnssec.specs.ChainFaults.{is_hash_in, is_to_be_hashed, lists_other_in, opts_out_in};
+ghost use Rattle.zone_dnssec.specs.ChainLinks.{AreLinks};
+ghost use Rattle.zone_dnssec.specs.HashedLinks.{chain_fails, fails_above, fails_empty, fails_name, is_bounded, is_covered_by_opt_out, is_empty_in_zone, is_hash_of, is_opted_out, is_out_of_order, lacks_link, lists_other_hashed_types, points_to_next};
+ghost use Rattle.zone_dnssec.specs.Nsec3Chain.{link_before, matching_link, matching_owner, opts_out};
+ghost use Rattle.zone_dnssec.specs.ZoneViews.{zone_with};
+ghost use Rattle.zone_dnssec.specs.declared.hashed.LinkFault.TheVariants.{DifferentTypes, Missing};
 
 use crate::bitmaps::lists_types;
-use crate::chain::is_first_at_owner;
+use crate::chain_links::{covering_link, link_at, next_link};
 use crate::hashes::Hashes;
-use crate::nsec3::{
-    bitmap, covering_link, has_opt_out, is_chain, is_of_chain, iterations, link_for, next_hash,
-    next_in_chain, owner_for,
-};
+use crate::nsec3::{bitmap, has_opt_out, is_of_chain, iterations, next_hash, salt};
 use crate::nsec3_hash::hashed_name;
+use crate::owned::is_owner;
 use crate::sets::has_authority;
-use crate::zone::SignedZone;
-use dns_octets::AsOctets;
+use arrayvec::ArrayVec;
 use dns_wire::Name;
 use rdata_values::RecordType;
-use zone_record::Record;
-use zone_rules::SortedRecords;
+use std::alloc::Allocator;
+use zone_rules::ZoneRecords;
 use zone_rules::hosts::is_cut;
 use zone_rules::names::{is_name_within, is_same, parent, view};
-use zone_rules::sorted::{has_type, owned_by};
+use zone_rules::zone_records::{OwnerBuffer, ZoneRecord};
 
 /// Greatest number of iterations with which validators treat a zone as signed (RFC 9276 section
 /// 3.2).
@@ -36,269 +37,338 @@ pub enum LinkFault {
     DifferentTypes,
 }
 
+/// Which faults a chain has at a name.
+#[derive(Clone, Copy)]
+pub struct NameFaults {
+    /// Whether no NSEC3 matches the name.
+    pub is_missing: bool,
+    /// Whether the types of the NSEC3 that matches the name differ from those at the name.
+    pub has_other_types: bool,
+}
+
+/// Returns the faults that one or both of two names have.
+fn either(left: NameFaults, right: NameFaults) -> NameFaults
+    ensures missing { result.is_missing ≡ left.is_missing || right.is_missing }
+    ensures types { result.has_other_types ≡ left.has_other_types || right.has_other_types }
+{
+    NameFaults {
+        is_missing: left.is_missing || right.is_missing,
+        has_other_types: left.has_other_types || right.has_other_types,
+    }
+}
+
+/// Returns no faults.
+fn no_faults() -> NameFaults
+    ensures missing { result.is_missing ≡ false }
+    ensures types { result.has_other_types ≡ false }
+{
+    NameFaults {
+        is_missing: false,
+        has_other_types: false,
+    }
+}
+
 /// Returns whether a hash is that of a record's owner.
-fn is_hash_for<Owner: AsOctets, Octets: AsOctets>(
-    origin: &Name<&[u8]>,
-    hash: &[u8],
-    record: &Record<Owner, Octets>,
-) -> bool
+fn is_hash_of(origin: &Name<&[u8]>, hash: &[u8], record: &ZoneRecord<'_>) -> bool
     ensures { result ≡ is_hash_of origin.now hash.now «record».now }
 {
     match hashed_name(origin, hash) {
-        Some(owner) => is_same(&view(&owner), &view(&record.owner)),
+        Some(owner) => is_same(&view(&owner), &record.owner),
         None => false,
     }
+}
+
+/// Returns whether a hash is that of the owner of the record at an index.
+fn is_hash_at<Z: ZoneRecords>(origin: &Name<&[u8]>, records: &Z, hash: &[u8], place: usize) -> bool
+    requires { place < length (Z.contents records.now) }
+    ensures { result ≡ is_hash_in origin.now (Z.contents records.now) hash.now place }
+{
+    let mut buffer = OwnerBuffer::new();
+    let one = records.record(place, &mut buffer);
+    is_hash_of(origin, hash, &one)
 }
 
 /// Returns whether the next hash of an NSEC3 is that of the next one in the chain.
-fn names_next<Owner: AsOctets, Octets: AsOctets>(
-    zone: &SignedZone<'_, '_, Owner, Octets>,
-    chain: &Record<Owner, Octets>,
-    record: &Record<Owner, Octets>,
+fn names_next<Z: ZoneRecords>(
+    origin: &Name<&[u8]>,
+    records: &Z,
+    chain: &ZoneRecord<'_>,
+    links: &[usize],
+    record: &ZoneRecord<'_>,
 ) -> bool
-    ensures { result ≡ points_to_next (zone_of zone.now) chain.now «record».now }
+    requires { AreLinks chain.now (Z.contents records.now) links.now }
+    ensures { result
+        ≡ points_to_next (zone_with origin.now (Z.contents records.now)) chain.now «record».now }
 {
-    match next_in_chain(zone.records, chain, &view(&record.owner)) {
-        Some(next) => is_hash_for(zone.origin, next_hash(record), next),
+    match next_link(records, chain, links, &record.owner) {
+        Some(place) => is_hash_at(origin, records, next_hash(record), place),
         None => false,
     }
 }
 
-/// Returns whether an NSEC3PARAM names a chain that a record belongs to, and the record's next hash
-/// is wrong.
-fn is_out_of_order<Owner: AsOctets, Octets: AsOctets>(
-    zone: &SignedZone<'_, '_, Owner, Octets>,
-    chain: &Record<Owner, Octets>,
-    record: &Record<Owner, Octets>,
-) -> bool
-    ensures { result ≡ breaks_named_chain (zone_of zone.now) «record».now chain.now }
-{
-    is_chain(chain) && is_of_chain(chain, record) && !names_next(zone, chain, record)
-}
-
-/// Returns whether a record belongs to a chain, and its next hash is wrong.
-fn breaks_order<Owner: AsOctets, Octets: AsOctets>(
-    zone: &SignedZone<'_, '_, Owner, Octets>,
-    record: &Record<Owner, Octets>,
-) -> bool
-    ensures { result ≡ breaks_some_chain (zone_of zone.now) «record».now }
-{
-    owned_by(zone.records, zone.origin)
-        .iter()
-        .any(|chain| is_out_of_order(zone, chain, record))
-}
-
 /// Returns whether a record is an NSEC3 of a chain, and its next hash is wrong.
-pub fn has_wrong_next_hash<Owner: AsOctets, Octets: AsOctets>(
-    zone: &SignedZone<'_, '_, Owner, Octets>,
-    record: &Record<Owner, Octets>,
+pub(crate) fn has_wrong_next_hash<Z: ZoneRecords>(
+    origin: &Name<&[u8]>,
+    records: &Z,
+    chain: &ZoneRecord<'_>,
+    links: &[usize],
+    record: &ZoneRecord<'_>,
 ) -> bool
-    ensures { result ≡ names_other_hash (zone_of zone.now) «record».now }
+    requires { AreLinks chain.now (Z.contents records.now) links.now }
+    ensures { result
+        ≡ is_out_of_order (zone_with origin.now (Z.contents records.now)) «record».now chain.now }
 {
-    record.data.rtype() == RecordType::NSEC3 && breaks_order(zone, record)
+    is_of_chain(chain, record) && !names_next(origin, records, chain, links, record)
 }
 
-/// Returns whether no NSEC3 matches a name.
-fn is_without_link<'a, Owner: AsOctets, Octets: AsOctets>(
-    hashes: &mut Hashes<'a>,
-    zone: &SignedZone<'_, 'a, Owner, Octets>,
-    chain: &'a Record<Owner, Octets>,
-    name: &Name<&'a [u8]>,
-) -> bool
-    ensures { result ≡ lacks_link (zone_of zone.now) chain.now name.now }
+/// Returns the owner of the NSEC3 that matches a name.
+fn owner_for<'c, A: Allocator>(
+    hashes: &mut Hashes<'c, A>,
+    origin: &Name<&[u8]>,
+    chain: &'c ZoneRecord<'_>,
+    name: &Name<&[u8]>,
+) -> Option<Name<ArrayVec<u8, 255>>>
+    ensures { result ≡ matching_owner origin.now chain.now name.now }
 {
-    link_for(hashes, zone, chain, name).is_none()
+    let hash = hashes.hash(name, salt(chain), iterations(chain));
+    hashed_name(origin, &hash)
+}
+
+/// Returns the index of the NSEC3 that matches a name.
+fn link_for<'c, Z: ZoneRecords, A: Allocator>(
+    hashes: &mut Hashes<'c, A>,
+    origin: &Name<&[u8]>,
+    records: &Z,
+    chain: &'c ZoneRecord<'_>,
+    links: &[usize],
+    name: &Name<&[u8]>,
+) -> Option<usize>
+    requires { AreLinks chain.now (Z.contents records.now) links.now }
+    ensures bound { IfSome result (λ place. place < length (Z.contents records.now)) }
+    ensures value { option_and_then (slice_get (Z.contents records.now)) result
+        ≡ matching_link (zone_with origin.now (Z.contents records.now)) chain.now name.now }
+{
+    match owner_for(hashes, origin, chain, name) {
+        Some(owner) => link_at(records, chain, links, &view(&owner)),
+        None => None,
+    }
+}
+
+/// Returns whether the types of the NSEC3 at an index differ from those at a name.
+fn has_wrong_types_at<Z: ZoneRecords>(
+    origin: &Name<&[u8]>,
+    records: &Z,
+    place: usize,
+    name: &Name<&[u8]>,
+) -> bool
+    requires { place < length (Z.contents records.now) }
+    ensures { result ≡ lists_other_in origin.now (Z.contents records.now) name.now place }
+{
+    let mut buffer = OwnerBuffer::new();
+    let one = records.record(place, &mut buffer);
+    !lists_types(is_cut(origin, records, name), records, name, bitmap(&one))
+}
+
+/// Returns the faults of a chain at a name.
+fn name_faults<'c, Z: ZoneRecords, A: Allocator>(
+    hashes: &mut Hashes<'c, A>,
+    origin: &Name<&[u8]>,
+    records: &Z,
+    chain: &'c ZoneRecord<'_>,
+    links: &[usize],
+    name: &Name<&[u8]>,
+) -> NameFaults
+    requires { AreLinks chain.now (Z.contents records.now) links.now }
+    ensures missing { result.is_missing
+        ≡ fails_name Missing (zone_with origin.now (Z.contents records.now)) chain.now name.now }
+    ensures types { result.has_other_types
+        ≡ fails_name DifferentTypes (zone_with origin.now (Z.contents records.now)) chain.now name.now }
+{
+    match link_for(hashes, origin, records, chain, links, name) {
+        Some(place) => NameFaults {
+            is_missing: false,
+            has_other_types: has_wrong_types_at(origin, records, place, name),
+        },
+        None => NameFaults {
+            is_missing: true,
+            has_other_types: false,
+        },
+    }
+}
+
+/// Returns whether the NSEC3 at an index has the flag Opt-Out.
+fn has_opt_out_at<Z: ZoneRecords>(records: &Z, place: usize) -> bool
+    requires { place < length (Z.contents records.now) }
+    ensures { result ≡ opts_out_in (Z.contents records.now) place }
+{
+    let mut buffer = OwnerBuffer::new();
+    let one = records.record(place, &mut buffer);
+    has_opt_out(&one)
+}
+
+/// Returns whether the NSEC3 that covers an owner has Opt-Out.
+fn is_covered<Z: ZoneRecords>(
+    records: &Z,
+    chain: &ZoneRecord<'_>,
+    links: &[usize],
+    owner: &Name<&[u8]>,
+) -> bool
+    requires { AreLinks chain.now (Z.contents records.now) links.now }
+    ensures { result
+        ≡ option_map_or opts_out (link_before (Z.contents records.now) chain.now owner.now) false }
+{
+    match covering_link(records, chain, links, owner) {
+        Some(place) => has_opt_out_at(records, place),
+        None => false,
+    }
 }
 
 /// Returns whether no NSEC3 matches a name, and the one that covers it has Opt-Out.
-fn is_in_opt_out<'a, Owner: AsOctets, Octets: AsOctets>(
-    hashes: &mut Hashes<'a>,
-    zone: &SignedZone<'_, 'a, Owner, Octets>,
-    chain: &'a Record<Owner, Octets>,
-    name: &Name<&'a [u8]>,
+fn is_in_opt_out<'c, Z: ZoneRecords, A: Allocator>(
+    hashes: &mut Hashes<'c, A>,
+    origin: &Name<&[u8]>,
+    records: &Z,
+    chain: &'c ZoneRecord<'_>,
+    links: &[usize],
+    name: &Name<&[u8]>,
+    is_missing: bool,
 ) -> bool
-    ensures { result ≡ is_covered_by_opt_out (zone_of zone.now) chain.now name.now }
+    requires links { AreLinks chain.now (Z.contents records.now) links.now }
+    requires missing { is_missing
+        ≡ lacks_link (zone_with origin.now (Z.contents records.now)) chain.now name.now }
+    ensures { result
+        ≡ is_covered_by_opt_out (zone_with origin.now (Z.contents records.now)) chain.now name.now }
 {
-    if !is_without_link(hashes, zone, chain, name) {
+    if !is_missing {
         return false;
     }
-    let Some(owner) = owner_for(hashes, zone.origin, chain, name) else {
-        return false;
-    };
-    match covering_link(zone.records, chain, &view(&owner)) {
-        Some(link) => has_opt_out(link),
+    match owner_for(hashes, origin, chain, name) {
+        Some(owner) => is_covered(records, chain, links, &view(&owner)),
         None => false,
     }
 }
 
 /// Returns whether a name is a delegation without DS that a chain omits.
-fn is_omitted<'a, Owner: AsOctets, Octets: AsOctets>(
-    hashes: &mut Hashes<'a>,
-    zone: &SignedZone<'_, 'a, Owner, Octets>,
-    chain: &'a Record<Owner, Octets>,
-    name: &Name<&'a [u8]>,
-) -> bool
-    ensures { result ≡ is_opted_out (zone_of zone.now) chain.now name.now }
-{
-    is_cut(zone.origin, zone.records, name)
-        && !has_type(zone.records, name, RecordType::DS)
-        && is_in_opt_out(hashes, zone, chain, name)
-}
-
-/// Returns whether the types of the NSEC3 that matches a name differ from those at the name.
-fn has_wrong_hashed_types<'a, Owner: AsOctets, Octets: AsOctets>(
-    hashes: &mut Hashes<'a>,
-    zone: &SignedZone<'_, 'a, Owner, Octets>,
-    chain: &'a Record<Owner, Octets>,
-    name: &Name<&'a [u8]>,
-) -> bool
-    ensures { result ≡ lists_other_hashed_types (zone_of zone.now) chain.now name.now }
-{
-    match link_for(hashes, zone, chain, name) {
-        Some(link) => !lists_types(zone.origin, zone.records, name, bitmap(link)),
-        None => false,
-    }
-}
-
-/// Returns whether a chain has a fault at a name.
-fn has_fault<'a, Owner: AsOctets, Octets: AsOctets>(
-    fault: LinkFault,
-    hashes: &mut Hashes<'a>,
-    zone: &SignedZone<'_, 'a, Owner, Octets>,
-    chain: &'a Record<Owner, Octets>,
-    name: &Name<&'a [u8]>,
-) -> bool
-    ensures { result ≡ fails_name fault (zone_of zone.now) chain.now name.now }
-{
-    match fault {
-        LinkFault::Missing => is_without_link(hashes, zone, chain, name),
-        LinkFault::DifferentTypes => has_wrong_hashed_types(hashes, zone, chain, name),
-    }
-}
-
-/// Returns whether a name is the owner of a record.
-fn is_owner<Owner: AsOctets, Octets: AsOctets>(
-    records: &SortedRecords<'_, Owner, Octets>,
+fn is_omitted<'c, Z: ZoneRecords, A: Allocator>(
+    hashes: &mut Hashes<'c, A>,
+    origin: &Name<&[u8]>,
+    records: &Z,
+    chain: &'c ZoneRecord<'_>,
+    links: &[usize],
     name: &Name<&[u8]>,
+    is_missing: bool,
 ) -> bool
-    ensures { result ≡ has_owner name.now records.now }
+    requires links { AreLinks chain.now (Z.contents records.now) links.now }
+    requires missing { is_missing
+        ≡ lacks_link (zone_with origin.now (Z.contents records.now)) chain.now name.now }
+    ensures { result
+        ≡ is_opted_out (zone_with origin.now (Z.contents records.now)) chain.now name.now }
 {
-    !owned_by(records, name).is_empty()
+    is_cut(origin, records, name)
+        && !records.has_type(name, RecordType::DS)
+        && is_in_opt_out(hashes, origin, records, chain, links, name, is_missing)
 }
 
 /// Returns whether a name is in the zone, and owns no record.
-fn is_empty_name<Owner: AsOctets, Octets: AsOctets>(
-    zone: &SignedZone<'_, '_, Owner, Octets>,
-    name: &Name<&[u8]>,
-) -> bool
-    ensures { result ≡ is_empty_in_zone (zone_of zone.now) name.now }
+fn is_empty_name<Z: ZoneRecords>(origin: &Name<&[u8]>, records: &Z, name: &Name<&[u8]>) -> bool
+    ensures { result ≡ is_empty_in_zone (zone_with origin.now (Z.contents records.now)) name.now }
 {
-    is_name_within(name, zone.origin) && !is_owner(zone.records, name)
+    is_name_within(name, origin) && !is_owner(records, name)
 }
 
-/// Returns whether a chain has a fault at an empty non-terminal above a name.
+/// Returns the faults of a chain at a name, if it is an empty non-terminal.
+fn empty_faults<'c, Z: ZoneRecords, A: Allocator>(
+    hashes: &mut Hashes<'c, A>,
+    origin: &Name<&[u8]>,
+    records: &Z,
+    chain: &'c ZoneRecord<'_>,
+    links: &[usize],
+    name: &Name<&[u8]>,
+) -> NameFaults
+    requires { AreLinks chain.now (Z.contents records.now) links.now }
+    ensures missing { result.is_missing
+        ≡ fails_empty Missing (zone_with origin.now (Z.contents records.now)) chain.now name.now }
+    ensures types { result.has_other_types
+        ≡ fails_empty DifferentTypes (zone_with origin.now (Z.contents records.now)) chain.now name.now }
+{
+    if !is_empty_name(origin, records, name) {
+        return no_faults();
+    }
+    name_faults(hashes, origin, records, chain, links, name)
+}
+
+/// Returns the faults of a chain at the empty non-terminals above a name.
 #[tactic(auto, using(zone_rules::proofs::NameParts::above_none, zone_rules::proofs::NameParts::above_some, zone_rules::proofs::NameParts::above_fewer))]
-fn has_fault_above<'a, Owner: AsOctets, Octets: AsOctets>(
-    fault: LinkFault,
-    hashes: &mut Hashes<'a>,
-    zone: &SignedZone<'_, 'a, Owner, Octets>,
-    chain: &'a Record<Owner, Octets>,
-    name: &Name<&'a [u8]>,
-) -> bool
-    ensures { result ≡ fails_above fault (zone_of zone.now) chain.now name.now }
+fn faults_above<'c, Z: ZoneRecords, A: Allocator>(
+    hashes: &mut Hashes<'c, A>,
+    origin: &Name<&[u8]>,
+    records: &Z,
+    chain: &'c ZoneRecord<'_>,
+    links: &[usize],
+    name: &Name<&[u8]>,
+) -> NameFaults
+    requires { AreLinks chain.now (Z.contents records.now) links.now }
+    ensures missing { result.is_missing
+        ≡ fails_above Missing (zone_with origin.now (Z.contents records.now)) chain.now name.now }
+    ensures types { result.has_other_types
+        ≡ fails_above DifferentTypes (zone_with origin.now (Z.contents records.now)) chain.now name.now }
 {
     match parent(name) {
         Some(above) => {
-            (is_empty_name(zone, &above) && has_fault(fault, hashes, zone, chain, &above))
-                || has_fault_above(fault, hashes, zone, chain, &above)
+            let here = empty_faults(hashes, origin, records, chain, links, &above);
+            let others = faults_above(hashes, origin, records, chain, links, &above);
+            either(here, others)
         }
-        None => false,
+        None => no_faults(),
     }
 }
 
-/// Returns whether a chain has a fault at a name, or at an empty non-terminal above it.
-fn has_fault_from<'a, Owner: AsOctets, Octets: AsOctets>(
-    fault: LinkFault,
-    hashes: &mut Hashes<'a>,
-    zone: &SignedZone<'_, 'a, Owner, Octets>,
-    chain: &'a Record<Owner, Octets>,
-    name: &Name<&'a [u8]>,
+/// Returns whether a chain may have faults at a name: the zone is authoritative for it, it doesn't own
+/// an NSEC3, and the chain has at most 150 iterations.
+fn is_to_be_hashed<Z: ZoneRecords>(
+    origin: &Name<&[u8]>,
+    records: &Z,
+    chain: &ZoneRecord<'_>,
+    name: &Name<&[u8]>,
 ) -> bool
-    ensures { result ≡ fails_at_or_above fault (zone_of zone.now) chain.now name.now }
+    ensures { result
+        ≡ is_to_be_hashed (zone_with origin.now (Z.contents records.now)) chain.now name.now }
 {
-    has_fault(fault, hashes, zone, chain, name) || has_fault_above(fault, hashes, zone, chain, name)
-}
-
-/// Returns whether a name is represented in a chain.
-fn is_in_chain<'a, Owner: AsOctets, Octets: AsOctets>(
-    hashes: &mut Hashes<'a>,
-    zone: &SignedZone<'_, 'a, Owner, Octets>,
-    chain: &'a Record<Owner, Octets>,
-    name: &Name<&'a [u8]>,
-) -> bool
-    ensures { result ≡ is_represented (zone_of zone.now) chain.now name.now }
-{
-    has_authority(zone.origin, zone.records, name)
-        && !has_type(zone.records, name, RecordType::NSEC3)
-        && !is_omitted(hashes, zone, chain, name)
+    is_short(chain)
+        && has_authority(origin, records, name)
+        && !records.has_type(name, RecordType::NSEC3)
 }
 
 /// Returns whether names are hashed for a chain: it has at most 150 iterations.
-fn is_short<Owner: AsOctets, Octets: AsOctets>(chain: &Record<Owner, Octets>) -> bool
+fn is_short(chain: &ZoneRecord<'_>) -> bool
     ensures { result ≡ is_bounded chain.now }
 {
     iterations(chain) <= MOST_ITERATIONS
 }
 
-/// Returns whether an NSEC3PARAM names a chain of at most 150 iterations in which a name is
-/// represented, and which has a fault there.
-fn is_chain_wrong<'a, Owner: AsOctets, Octets: AsOctets>(
-    fault: LinkFault,
-    hashes: &mut Hashes<'a>,
-    zone: &SignedZone<'_, 'a, Owner, Octets>,
-    chain: &'a Record<Owner, Octets>,
-    name: &Name<&'a [u8]>,
-) -> bool
-    ensures { result ≡ named_chain_fails fault (zone_of zone.now) name.now chain.now }
+/// Returns the faults of a chain of at most 150 iterations at a name that is represented in it, and at
+/// the empty non-terminals above it.
+pub(crate) fn owner_faults<'c, Z: ZoneRecords, A: Allocator>(
+    hashes: &mut Hashes<'c, A>,
+    origin: &Name<&[u8]>,
+    records: &Z,
+    chain: &'c ZoneRecord<'_>,
+    links: &[usize],
+    name: &Name<&[u8]>,
+) -> NameFaults
+    requires { AreLinks chain.now (Z.contents records.now) links.now }
+    ensures missing { result.is_missing
+        ≡ chain_fails Missing (zone_with origin.now (Z.contents records.now)) name.now chain.now }
+    ensures types { result.has_other_types
+        ≡ chain_fails DifferentTypes (zone_with origin.now (Z.contents records.now)) name.now chain.now }
 {
-    is_chain(chain)
-        && is_short(chain)
-        && is_in_chain(hashes, zone, chain, name)
-        && has_fault_from(fault, hashes, zone, chain, name)
-}
-
-/// Returns whether a name is represented in a chain of at most 150 iterations that has a fault
-/// there.
-#[tactic(auto, using(crate::proofs::ChainSearch::any_more))]
-fn has_fault_in_chain<'a, Owner: AsOctets, Octets: AsOctets>(
-    fault: LinkFault,
-    hashes: &mut Hashes<'a>,
-    zone: &SignedZone<'_, 'a, Owner, Octets>,
-    name: &Name<&'a [u8]>,
-) -> bool
-    ensures { result ≡ some_chain_fails fault (zone_of zone.now) name.now }
-{
-    let all = owned_by(zone.records, zone.origin);
-    let mut is_wrong = false;
-    for chain in all {
-        if !is_wrong {
-            is_wrong = is_chain_wrong(fault, hashes, zone, chain, name);
-        }
+    if !is_to_be_hashed(origin, records, chain, name) {
+        return no_faults();
     }
-    is_wrong
-}
-
-/// Returns whether a record is the first at a name that is represented in a chain of at most 150
-/// iterations, and that chain has a fault there.
-pub fn is_link_wrong<'a, Owner: AsOctets, Octets: AsOctets>(
-    fault: LinkFault,
-    hashes: &mut Hashes<'a>,
-    zone: &SignedZone<'_, 'a, Owner, Octets>,
-    place: usize,
-    record: &'a Record<Owner, Octets>,
-) -> bool
-    ensures { result ≡ fails_chain fault (zone_of zone.now) place «record».now }
-{
-    is_first_at_owner(zone.records, place, record)
-        && has_fault_in_chain(fault, hashes, zone, &view(&record.owner))
+    let here = name_faults(hashes, origin, records, chain, links, name);
+    if is_omitted(hashes, origin, records, chain, links, name, here.is_missing) {
+        return no_faults();
+    }
+    let others = faults_above(hashes, origin, records, chain, links, name);
+    either(here, others)
 }

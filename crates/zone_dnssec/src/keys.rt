@@ -1,23 +1,24 @@
 //! Finds the keys of a zone, and the keys that a signature fits (RFC 4034 sections 2.1 and 3.1,
 //! appendix B).
-ghost use Rattle.std.specs.Prelude.{◌≡◌, ◌≤◌, ◌*◌, ◌++◌, ◌&&◌, not, length, IfOk, OnOk};
+ghost use Rattle.std.specs.Prelude.{◌≡◌, ◌<◌, ◌≤◌, ◌*◌, ◌++◌, ◌&&◌, not, length, IfOk, OnOk};
 ghost use Rattle.std.specs.List.{list_any};
 ghost use Rattle.zone_dnssec.specs.SignedSets.{covers};
-ghost use Rattle.zone_dnssec.specs.ZoneKeys.{fits_key, has_fitting_signature, is_by_revoked_key, is_named, key_in, key_tag, keys_of, lacks_known_key, long_modulus, misses_key, modulus, modulus_tag, sum_tag, weighed, weighed_sum, zone_keys};
+ghost use Rattle.zone_dnssec.specs.Subjects.{HasOwnerFacts, HasOwnRange};
+ghost use Rattle.zone_dnssec.specs.ZoneKeys.{fits_key, has_fitting_signature, is_by_revoked_key, is_named, key_in, keys_at, key_tag, keys_of, lacks_known_key, long_modulus, misses_key, modulus, modulus_tag, sum_tag, weighed, weighed_sum, zone_keys};
 
 use crate::bitmaps::octets_after;
 use crate::nsec3::{field, short_number};
+use crate::owned::{Wanted, has_at_owner};
 use crate::sets::{is_first_of_set, is_signature_of, is_signed, needs_signature};
 use crate::signatures::first;
+use crate::subject::Subject;
 use dns_octets::AsOctets;
 use dns_wire::Name;
 use rdata_values::RecordType;
 use std::alloc::{AllocError, Allocator};
-use zone_record::Record;
-use zone_rules::SortedRecords;
-use zone_rules::names::view;
+use zone_rules::ZoneRecords;
 use zone_rules::pairs::set_type_of;
-use zone_rules::sorted::owned_by;
+use zone_rules::zone_records::{OwnerBuffer, ZoneRecord};
 
 /// Indexes of fields of an RRSIG (RFC 4034 section 3.1).
 const ALGORITHM: usize = 1;
@@ -145,10 +146,7 @@ fn key_in(octets: &[u8]) -> Option<Key>
 }
 
 /// Appends the key of a record, if it is a DNSKEY that signs zones.
-fn add_key<Owner: AsOctets, Octets: AsOctets, A: Allocator>(
-    record: &Record<Owner, Octets>,
-    keys: &mut Vec<Key, A>,
-) -> Result<(), AllocError>
+fn add_key<A: Allocator>(record: &ZoneRecord<'_>, keys: &mut Vec<Key, A>) -> Result<(), AllocError>
     ensures { OnOk result (keys.new.items ≡ keys.old.items ++ keys_of «record».now) }
 {
     if record.data.rtype() != RecordType::DNSKEY {
@@ -160,27 +158,41 @@ fn add_key<Owner: AsOctets, Octets: AsOctets, A: Allocator>(
     Ok(())
 }
 
+/// Appends the key of the record at an index, if it is a DNSKEY that signs zones.
+fn add_key_at<Z: ZoneRecords, A: Allocator>(
+    records: &Z,
+    place: usize,
+    keys: &mut Vec<Key, A>,
+) -> Result<(), AllocError>
+    requires { place < length (Z.contents records.now) }
+    ensures { OnOk result (keys.new.items
+        ≡ keys.old.items ++ keys_at (Z.contents records.now) place) }
+{
+    let mut owner = OwnerBuffer::new();
+    let one = records.record(place, &mut owner);
+    add_key(&one, keys)
+}
+
 /// Returns the keys of the zone: those of the DNSKEYs at its apex.
 ///
 /// Fails if memory for the keys is out.
-#[tactic(auto, using(zone_rules::proofs::Steps::found_more))]
-pub fn keys_at_apex<Owner: AsOctets, Octets: AsOctets, A: Allocator>(
+pub(crate) fn keys_at_apex<Z: ZoneRecords, A: Allocator>(
     alloc: A,
     origin: &Name<&[u8]>,
-    records: &SortedRecords<'_, Owner, Octets>,
+    records: &Z,
 ) -> Result<Vec<Key, A>, AllocError>
-    ensures { IfOk result (λ keys. keys.items ≡ zone_keys origin.now records.now) }
+    ensures { IfOk result (λ keys. keys.items ≡ zone_keys origin.now (Z.contents records.now)) }
 {
-    let all = owned_by(records, origin);
+    let (first, past) = records.places(origin);
     let mut keys = Vec::new(alloc);
-    for record in all {
-        add_key(record, &mut keys)?;
+    for place in first..past {
+        add_key_at(records, place, &mut keys)?;
     }
     Ok(keys)
 }
 
 /// Returns whether an RRSIG fits a key.
-fn fits<Owner: AsOctets, Octets: AsOctets>(keys: &[Key], record: &Record<Owner, Octets>) -> bool
+fn fits(keys: &[Key], record: &ZoneRecord<'_>) -> bool
     ensures { result ≡ fits_key keys.now «record».now }
 {
     let algorithm = first(field(record, ALGORITHM));
@@ -190,10 +202,7 @@ fn fits<Owner: AsOctets, Octets: AsOctets>(keys: &[Key], record: &Record<Owner, 
 }
 
 /// Returns whether an RRSIG fits a key that is not revoked.
-fn fits_valid<Owner: AsOctets, Octets: AsOctets>(
-    keys: &[Key],
-    record: &Record<Owner, Octets>,
-) -> bool
+fn fits_valid(keys: &[Key], record: &ZoneRecord<'_>) -> bool
     ensures { result ≡ list_any (λ key. is_named «record».now key && not key.is_revoked) keys.now }
 {
     let algorithm = first(field(record, ALGORITHM));
@@ -202,68 +211,64 @@ fn fits_valid<Owner: AsOctets, Octets: AsOctets>(
 }
 
 /// Returns whether a record is an RRSIG that covers a type and fits a key.
-fn is_fitting<Owner: AsOctets, Octets: AsOctets>(
-    keys: &[Key],
-    record: &Record<Owner, Octets>,
-    rtype: RecordType,
-) -> bool
+pub(crate) fn is_fitting(keys: &[Key], record: &ZoneRecord<'_>, rtype: RecordType) -> bool
     ensures { result ≡ covers rtype «record».now && fits_key keys.now «record».now }
 {
     is_signature_of(record, rtype) && fits(keys, record)
 }
 
-/// Returns whether an RRSIG at a name covers a type and fits a key.
-fn has_fitting<Owner: AsOctets, Octets: AsOctets>(
+/// Returns whether an RRSIG at a subject's owner covers a type and fits a key.
+fn has_fitting<Z: ZoneRecords>(
     keys: &[Key],
-    records: &SortedRecords<'_, Owner, Octets>,
-    name: &Name<&[u8]>,
+    records: &Z,
+    subject: &Subject<'_>,
     rtype: RecordType,
 ) -> bool
-    ensures { result ≡ has_fitting_signature keys.now rtype name.now records.now }
+    requires { HasOwnRange (Z.contents records.now) subject.now }
+    ensures { result
+        ≡ has_fitting_signature keys.now rtype subject.now.found.owner (Z.contents records.now) }
 {
-    owned_by(records, name)
-        .iter()
-        .any(|record| is_fitting(keys, record, rtype))
+    has_at_owner(records, subject, &Wanted::FittingSignature(keys, rtype))
 }
 
 /// Returns whether a record is the first of an RRset that must be signed and is, but by no known
 /// key.
-pub fn is_without_key<Owner: AsOctets, Octets: AsOctets>(
+pub(crate) fn is_without_key<Z: ZoneRecords>(
     keys: &[Key],
     origin: &Name<&[u8]>,
-    records: &SortedRecords<'_, Owner, Octets>,
-    place: usize,
-    record: &Record<Owner, Octets>,
+    records: &Z,
+    subject: &Subject<'_>,
 ) -> bool
-    ensures { result ≡ lacks_known_key keys.now origin.now records.now place «record».now }
+    requires { HasOwnerFacts origin.now (Z.contents records.now) subject.now }
+    ensures { result
+        ≡ lacks_known_key keys.now origin.now (Z.contents records.now) subject.now.before subject.now.found }
 {
+    let record = &subject.found;
     let rtype = record.data.rtype();
-    let owner = view(&record.owner);
-    is_first_of_set(records, place, record)
-        && needs_signature(origin, records, record)
-        && is_signed(records, &owner, rtype)
-        && !has_fitting(keys, records, &owner, rtype)
+    is_first_of_set(&subject.before, record)
+        && needs_signature(subject.facts, record)
+        && !has_fitting(keys, records, subject, rtype)
+        && is_signed(records, subject)
 }
 
 /// Returns whether a record is an RRSIG that fits no key, and another of the same RRset does.
-pub fn is_of_unknown_key<Owner: AsOctets, Octets: AsOctets>(
+pub(crate) fn is_of_unknown_key<Z: ZoneRecords>(
     keys: &[Key],
-    records: &SortedRecords<'_, Owner, Octets>,
-    record: &Record<Owner, Octets>,
+    records: &Z,
+    subject: &Subject<'_>,
 ) -> bool
-    ensures { result ≡ misses_key keys.now records.now «record».now }
+    requires { HasOwnRange (Z.contents records.now) subject.now }
+    ensures { result ≡ misses_key keys.now (Z.contents records.now) subject.now.found }
 {
+    let record = &subject.found;
     record.data.rtype() == RecordType::RRSIG
         && !fits(keys, record)
-        && has_fitting(keys, records, &view(&record.owner), set_type_of(record))
+        && has_fitting(keys, records, subject, set_type_of(record))
 }
 
 /// Returns whether a record is an RRSIG that does not cover DNSKEY and fits a key, and each key
 /// that it fits is revoked.
-pub fn is_of_revoked_key<Owner: AsOctets, Octets: AsOctets>(
-    keys: &[Key],
-    record: &Record<Owner, Octets>,
-) -> bool
+pub(crate) fn is_of_revoked_key(keys: &[Key], record: &ZoneRecord<'_>) -> bool
     ensures { result ≡ is_by_revoked_key keys.now «record».now }
 {
     record.data.rtype() == RecordType::RRSIG

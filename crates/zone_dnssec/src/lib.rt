@@ -4,20 +4,23 @@
 
 pub mod bitmaps;
 pub mod chain;
+pub mod chain_links;
 pub mod check;
 pub mod deletes;
 pub mod denial;
+pub mod faults;
 pub mod hashed;
 pub mod hashes;
 pub mod keys;
 pub mod links;
 pub mod nsec3;
 pub mod nsec3_hash;
+pub mod owned;
 pub mod rule;
 pub mod sets;
 pub mod signatures;
+pub mod subject;
 pub mod times;
-pub mod zone;
 
 pub use check::check_signed;
 pub use rule::{SecurityFinding, SecurityRule};

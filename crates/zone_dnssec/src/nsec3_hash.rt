@@ -55,6 +55,16 @@ fn lowered_octets(octets: &[u8]) -> ArrayVec<u8, 255>
     small
 }
 
+/// Returns a copy of the octets of a name.
+pub(crate) fn copied_octets(octets: &[u8]) -> ArrayVec<u8, 255>
+    requires { length octets.now ≤ 255 }
+    ensures { result.items ≡ octets.now }
+{
+    let mut copy = ArrayVec::new();
+    copy.try_extend_from_slice(octets).unwrap();
+    copy
+}
+
 /// Returns the hash of a name. It computes one digest, and one more for each iteration, of which
 /// there are at most 65535.
 pub fn hash_name(name: &Name<&[u8]>, salt: &[u8], iterations: u16) -> [u8; 20]

@@ -2,20 +2,21 @@
 //! 3.1).
 ghost use Rattle.std.specs.Prelude.{◌≡◌, ◌-◌, ◌==◌, ◌&&◌, length, slice_index};
 ghost use Rattle.zone_dnssec.specs.SignatureFields.{covers_other_ttl, has_other_labels, has_other_original_ttl, has_other_own_ttl, has_other_signer, is_ttl_in_set, label_count};
+ghost use Rattle.zone_dnssec.specs.Subjects.{HasCoveredSet, HasOwnRange};
 ghost use Rattle.zone_rules.specs.Above.{is_wildcard};
 ghost use Rattle.zone_rules.specs.Zones.{type_of};
 
 use crate::nsec3::field;
+use crate::owned::{Wanted, has_at_owner};
+use crate::subject::Subject;
 use crate::times::number;
-use dns_octets::AsOctets;
 use dns_octets::lowered::same_octets;
 use dns_wire::Name;
 use rdata_values::RecordType;
-use zone_record::Record;
-use zone_rules::SortedRecords;
-use zone_rules::names::{octets_of, parent, view};
+use zone_rules::ZoneRecords;
+use zone_rules::names::{octets_of, parent};
 use zone_rules::pairs::set_type_of;
-use zone_rules::sorted::{has_type, owned_by};
+use zone_rules::zone_records::ZoneRecord;
 
 /// Indexes of fields of an RRSIG (RFC 4034 section 3.1).
 const LABELS: usize = 2;
@@ -25,10 +26,7 @@ const ORIGINAL_TTL: usize = 3;
 const SIGNER: usize = 7;
 
 /// Returns whether a record is an RRSIG whose signer is not the zone.
-pub fn has_wrong_signer<Owner: AsOctets, Octets: AsOctets>(
-    origin: &Name<&[u8]>,
-    record: &Record<Owner, Octets>,
-) -> bool
+pub(crate) fn has_wrong_signer(origin: &Name<&[u8]>, record: &ZoneRecord<'_>) -> bool
     ensures { result ≡ has_other_signer origin.now «record».now }
 {
     if record.data.rtype() != RecordType::RRSIG {
@@ -83,72 +81,66 @@ pub(crate) fn first(octets: &[u8]) -> u8
 }
 
 /// Returns whether a record is an RRSIG whose number of labels is not that of its owner.
-pub fn has_wrong_labels<Owner: AsOctets, Octets: AsOctets>(record: &Record<Owner, Octets>) -> bool
+pub(crate) fn has_wrong_labels(record: &ZoneRecord<'_>) -> bool
     ensures { result ≡ has_other_labels «record».now }
 {
     if record.data.rtype() != RecordType::RRSIG {
         return false;
     }
-    usize::from(first(field(record, LABELS))) != signed_labels(&view(&record.owner))
+    usize::from(first(field(record, LABELS))) != signed_labels(&record.owner)
 }
 
 /// Returns whether a record has a type and a TTL.
-fn has_type_and_ttl<Owner: AsOctets, Octets: AsOctets>(
-    record: &Record<Owner, Octets>,
-    rtype: RecordType,
-    ttl: u32,
-) -> bool
+pub(crate) fn has_type_and_ttl(record: &ZoneRecord<'_>, rtype: RecordType, ttl: u32) -> bool
     ensures { result ≡ type_of «record».now == rtype && «record».now.ttl == ttl }
 {
     record.data.rtype() == rtype && record.ttl == ttl
 }
 
-/// Returns whether a record of a type at a name has this TTL.
-fn has_ttl_in_set<Owner: AsOctets, Octets: AsOctets>(
+/// Returns whether a record of a type at a subject's owner has this TTL.
+fn has_ttl_in_set<Z: ZoneRecords>(
     ttl: u32,
-    records: &SortedRecords<'_, Owner, Octets>,
-    name: &Name<&[u8]>,
+    records: &Z,
+    subject: &Subject<'_>,
     rtype: RecordType,
 ) -> bool
-    ensures { result ≡ is_ttl_in_set ttl rtype name.now records.now }
+    requires { HasOwnRange (Z.contents records.now) subject.now }
+    ensures { result ≡ is_ttl_in_set ttl rtype subject.now.found.owner (Z.contents records.now) }
 {
-    owned_by(records, name)
-        .iter()
-        .any(|record| has_type_and_ttl(record, rtype, ttl))
+    has_at_owner(records, subject, &Wanted::Ttl(rtype, ttl))
 }
 
 /// Returns whether a record is an RRSIG that covers an RRset in which no record has this TTL.
-fn is_ttl_missing<Owner: AsOctets, Octets: AsOctets>(
-    ttl: u32,
-    records: &SortedRecords<'_, Owner, Octets>,
-    record: &Record<Owner, Octets>,
-) -> bool
-    ensures { result ≡ covers_other_ttl ttl records.now «record».now }
+fn is_ttl_missing<Z: ZoneRecords>(ttl: u32, records: &Z, subject: &Subject<'_>) -> bool
+    requires set { HasCoveredSet (Z.contents records.now) subject.now }
+    requires range { HasOwnRange (Z.contents records.now) subject.now }
+    ensures { result ≡ covers_other_ttl ttl (Z.contents records.now) subject.now.found }
 {
-    let owner = view(&record.owner);
-    let rtype = set_type_of(record);
+    let record = &subject.found;
     record.data.rtype() == RecordType::RRSIG
-        && has_type(records, &owner, rtype)
-        && !has_ttl_in_set(ttl, records, &owner, rtype)
+        && subject.covers_set
+        && !has_ttl_in_set(ttl, records, subject, set_type_of(record))
 }
 
 /// Returns whether a record is an RRSIG, and no record of the RRset that it covers has its original
 /// TTL.
-pub fn has_wrong_original_ttl<Owner: AsOctets, Octets: AsOctets>(
-    records: &SortedRecords<'_, Owner, Octets>,
-    record: &Record<Owner, Octets>,
-) -> bool
-    ensures { result ≡ has_other_original_ttl records.now «record».now }
+pub(crate) fn has_wrong_original_ttl<Z: ZoneRecords>(records: &Z, subject: &Subject<'_>) -> bool
+    requires set { HasCoveredSet (Z.contents records.now) subject.now }
+    requires range { HasOwnRange (Z.contents records.now) subject.now }
+    ensures { result ≡ has_other_original_ttl (Z.contents records.now) subject.now.found }
 {
-    is_ttl_missing(number(field(record, ORIGINAL_TTL)), records, record)
+    is_ttl_missing(
+        number(field(&subject.found, ORIGINAL_TTL)),
+        records,
+        subject,
+    )
 }
 
 /// Returns whether a record is an RRSIG, and no record of the RRset that it covers has its TTL.
-pub fn has_wrong_own_ttl<Owner: AsOctets, Octets: AsOctets>(
-    records: &SortedRecords<'_, Owner, Octets>,
-    record: &Record<Owner, Octets>,
-) -> bool
-    ensures { result ≡ has_other_own_ttl records.now «record».now }
+pub(crate) fn has_wrong_own_ttl<Z: ZoneRecords>(records: &Z, subject: &Subject<'_>) -> bool
+    requires set { HasCoveredSet (Z.contents records.now) subject.now }
+    requires range { HasOwnRange (Z.contents records.now) subject.now }
+    ensures { result ≡ has_other_own_ttl (Z.contents records.now) subject.now.found }
 {
-    is_ttl_missing(record.ttl, records, record)
+    is_ttl_missing(subject.found.ttl, records, subject)
 }

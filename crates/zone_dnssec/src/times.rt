@@ -5,9 +5,8 @@ ghost use Rattle.std.specs.Option.{option_map_or};
 ghost use Rattle.zone_record.specs.Parts.{data_part};
 ghost use Rattle.zone_dnssec.specs.SignatureTimes.{expires_within, has_passed, has_reversed_times, is_early, is_expired, number_in, seconds_between};
 
-use dns_octets::AsOctets;
 use rdata_values::RecordType;
-use zone_record::Record;
+use zone_rules::zone_records::ZoneRecord;
 
 /// Index of the expiration among the fields of an RRSIG (RFC 4034 section 3.1).
 const EXPIRATION: usize = 4;
@@ -51,7 +50,7 @@ pub(crate) fn number(octets: &[u8]) -> u32
 }
 
 /// Returns whether a record is an RRSIG that expires before its inception.
-pub fn has_reversed_times<Owner: AsOctets, Octets: AsOctets>(record: &Record<Owner, Octets>) -> bool
+pub(crate) fn has_reversed_times(record: &ZoneRecord<'_>) -> bool
     ensures { result ≡ has_reversed_times «record».now }
 {
     if record.data.rtype() != RecordType::RRSIG {
@@ -67,10 +66,7 @@ pub fn has_reversed_times<Owner: AsOctets, Octets: AsOctets>(record: &Record<Own
 }
 
 /// Returns whether a record is an RRSIG that has expired at an instant.
-pub fn has_expired<Owner: AsOctets, Octets: AsOctets>(
-    instant: u32,
-    record: &Record<Owner, Octets>,
-) -> bool
+pub(crate) fn has_expired(instant: u32, record: &ZoneRecord<'_>) -> bool
     ensures { result ≡ is_expired instant «record».now }
 {
     if record.data.rtype() != RecordType::RRSIG || has_reversed_times(record) {
@@ -84,10 +80,7 @@ pub fn has_expired<Owner: AsOctets, Octets: AsOctets>(
 
 /// Returns whether a record is an RRSIG that has not expired at an instant, and does within a
 /// margin.
-pub fn is_expiring<Owner: AsOctets, Octets: AsOctets>(
-    times: Times,
-    record: &Record<Owner, Octets>,
-) -> bool
+pub(crate) fn is_expiring(times: Times, record: &ZoneRecord<'_>) -> bool
     ensures { result ≡ expires_within times.margin times.instant «record».now }
 {
     if record.data.rtype() != RecordType::RRSIG || has_reversed_times(record) {
@@ -103,10 +96,7 @@ pub fn is_expiring<Owner: AsOctets, Octets: AsOctets>(
 }
 
 /// Returns whether a record is an RRSIG that is not valid yet at an instant.
-pub fn is_too_early<Owner: AsOctets, Octets: AsOctets>(
-    instant: u32,
-    record: &Record<Owner, Octets>,
-) -> bool
+pub(crate) fn is_too_early(instant: u32, record: &ZoneRecord<'_>) -> bool
     ensures { result ≡ is_early instant «record».now }
 {
     if record.data.rtype() != RecordType::RRSIG || has_reversed_times(record) {

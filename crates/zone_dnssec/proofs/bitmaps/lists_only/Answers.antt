@@ -7,5 +7,5 @@ use Rattle.zone_dnssec.proofs.bitmaps.lists_only.Goals as goal
 
 pub returns : goal.returns
 returns g c =
-    all_from_yields_List (has_listed_type c.args.origin.now c.args.records.now c.args.name.now) _ _ c.all.result c.all.ensures.ran
+    all_from_yields_List (has_listed_type c.args.is_cut (g.Z.ZoneRecords.contents c.args.records.now) c.args.name.now) _ _ c.all.result c.all.ensures.ran
     (YieldsList-from_first (λ x. x) (λ left. left) (types_of c.args.bitmap.now) c.new.ensures) (λ x b q k. search (rules, tests))

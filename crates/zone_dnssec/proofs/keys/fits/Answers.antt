@@ -11,6 +11,6 @@ abbrev is_match : ℕ → ℕ → Key → Bool
 is_match algorithm tag k = k.algorithm == algorithm && k.tag == tag
 
 pub returns : goal.returns
-returns g c =
+returns c =
     let test = is_match (slice_index (field_octets 1 c.args.record.now) 0) (short_number (field_octets 6 c.args.record.now)) in
     any_from_yields_List test _ _ c.any.result c.any.ensures.ran (YieldsList-from_slice c.args.keys.now cc) (λ x b q k. search (rules, tests))
