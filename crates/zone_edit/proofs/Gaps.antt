@@ -3,7 +3,7 @@ use Rattle.std.proofs.Common.{ℕ, zero, suc, ◌≡◌, ◌<◌, ◌+◌, Bool,
 use Rattle.std.proofs.lemmas.List.{append_assoc, drop_more}
 use Rattle.dns_lexer.specs.Pieces.{between}
 use Rattle.dns_lexer.specs.declared.pieces.Span.{Span}
-use Rattle.zone_edit.specs.Tokens.{AreAfterTokens, comment_continues, is_space, kept_len, kept_with, removed_spans}
+use Rattle.zone_edit.specs.Tokens.{AreAfterTokens, IsAfterToken, comment_continues, is_space, kept_len, kept_with, removed_spans}
 
 -- the rest of a list begins with the element that is next
 rest_of : {X : Type 0} (xs : List X) (i : ℕ) (x d : X) → i < length xs → x ≡ get_or xs i d → drop i xs ≡ x ∷ drop (i + 1) xs
@@ -39,3 +39,6 @@ module _ (octets : List ℕ) (tokens : List Span) (i : ℕ) (t d : Span) (at : �
 
   pub after_gives : (count : ℕ) → AreAfterTokens count at (drop i tokens) → AreAfterTokens count at (t ∷ drop (i + 1) tokens)
   after_gives count = subst (AreAfterTokens count at) (rest_of tokens i t d lt is)
+
+  pub after_back : (count : ℕ) → IsAfterToken count at t → AreAfterTokens count t.end (drop (i + 1) tokens) → AreAfterTokens count at (drop i tokens)
+  after_back count own h = subst (AreAfterTokens count at) (sym (rest_of tokens i t d lt is)) (own, h)

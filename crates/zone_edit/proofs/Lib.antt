@@ -1,7 +1,11 @@
 pub mod Applying
+pub mod Changes
 pub mod Gaps
 pub mod Opening
 pub mod Outside
 pub mod Pushing
+pub mod Records
 pub mod Replaced
+pub mod Soas
+pub mod TokenSpans
 pub mod Whole

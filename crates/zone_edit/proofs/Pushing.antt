@@ -1,5 +1,5 @@
 -- Edits that are pushed.
-use Rattle.std.proofs.Common.{ℕ, ◌≡◌, ◌+◌, List, [], ◌∷◌, ◌++◌, refl, sym, ap, ◌∙◌}
+use Rattle.std.proofs.Common.{ℕ, ◌≡◌, ◌+◌, List, [], ◌∷◌, ◌++◌, refl, sym, ap, ◌∙◌, append-nil}
 use Rattle.std.specs.Prelude.{map}
 use Rattle.std.proofs.lemmas.List.{append_assoc, map-append}
 use Rattle.dns_lexer.specs.declared.pieces.Span.{Span}
@@ -22,6 +22,13 @@ module _ {B : Type 0} (s : Span) (text : List ℕ) (old new : List (Edit B)) (p 
   pub continues_next : (first : List (Edit B)) → Continues first old → Continues first new
   continues_next first c = (c.0 ++ p.0 ∷ [], p.1 ∙ ap (λ l. l ++ p.0 ∷ []) c.1 ∙ append_assoc first c.0 (p.0 ∷ []))
 
+-- the old edits, followed by others
+pub continues_same : {B : Type 0} (old : List (Edit B)) → Continues old old
+continues_same old = ([], sym (append-nil old))
+
+pub continues_both : {B : Type 0} (old middle new : List (Edit B)) → Continues old middle → Continues middle new → Continues old new
+continues_both old middle new p q = (p.0 ++ q.0, q.1 ∙ ap (λ l. l ++ q.0) p.1 ∙ append_assoc old p.0 q.0)
+
 -- a text for the first span, and deletions of the others
 module _ {B : Type 0} (s : Span) (others all : List Span) (text : List ℕ) (old middle new : List (Edit B)) (p : PushesEdit s text old middle) (is : all ≡ s ∷ others) where
   pub all_spans : spans_of new ≡ spans_of middle ++ others → spans_of new ≡ spans_of old ++ all
@@ -31,3 +38,6 @@ module _ {B : Type 0} (s : Span) (others all : List Span) (text : List ℕ) (old
   all_texts rest =
       rest ∙ texts_next s text old middle p (map no_text others) (text ∷ map no_text others) (texts_of old ++ text ∷ map no_text others) refl refl
       ∙ ap (λ l. texts_of old ++ first_only text l) (sym is)
+
+  pub all_continue : Continues middle new → Continues old new
+  all_continue more = continues_both old middle new (p.0 ∷ [], p.1) more

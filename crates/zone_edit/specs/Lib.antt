@@ -1,6 +1,14 @@
+pub mod Changes
 pub mod Chunks
 pub mod Edits
+pub mod Insertions
 pub mod Lines
+pub mod Marks
 pub mod Outside
+pub mod Places
 pub mod Replaced
+pub mod Rows
+pub mod Serials
+pub mod Stale
 pub mod Tokens
+pub mod Zonemds

@@ -4,7 +4,7 @@ use Rattle.dns_lexer.specs.Pieces.{between}
 use Rattle.dns_lexer.specs.declared.pieces.Span.{Span}
 use Rattle.zone_edit.specs.declared.edit.Edit.{Edit}
 use Rattle.zone_edit.specs.declared.tokens.TokenError.{TokenError}
-use Rattle.zone_edit.specs.declared.tokens.TokenError.TheVariants.{OutOfMemory, OutOfOrder}
+use Rattle.zone_edit.specs.declared.tokens.TokenError.TheVariants.{OutOfMemory, OutOfOrder, TooFew}
 
 -- a blank, or a part of a line's end
 abbrev pub is_space : ℕ → Bool
@@ -48,6 +48,7 @@ stretches octets (t ∷ tokens) = t ∷ removed_spans octets t.end tokens
 abbrev pub IsTokenError : ℕ → ℕ → List Span → TokenError → Type 0
 IsTokenError count at tokens OutOfMemory = ⊤
 IsTokenError count at tokens OutOfOrder = AreAfterTokens count at tokens → ⊥
+IsTokenError count at tokens TooFew = ⊥
 
 -- a part between two offsets
 abbrev pub span_between : ℕ → ℕ → Span

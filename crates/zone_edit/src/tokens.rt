@@ -1,6 +1,6 @@
 //! Replaces tokens by one token.
 ghost use Rattle.std.specs.Prelude.{◌≡◌, ◌∷◌, [], ◌++◌, ◌≤◌, ◌↔◌, ◌||◌, IfErr, IsTrue, OnErr, OnOk, false, length, map, not};
-ghost use Rattle.zone_edit.specs.Tokens.{Continues, IsAfterToken, IsTokenError, comment_continues, first_only, is_space, kept_len, no_text, PushesEdit, span_between, spans_of, stretches, removed_spans, texts_of};
+ghost use Rattle.zone_edit.specs.Tokens.{AreAfterTokens, Continues, IsAfterToken, IsTokenError, comment_continues, first_only, is_space, kept_len, no_text, PushesEdit, span_between, spans_of, stretches, removed_spans, texts_of};
 
 use crate::edit::Edit;
 use dns_lexer::pieces::Span;
@@ -11,6 +11,8 @@ use std::alloc::{AllocError, Allocator};
 pub enum TokenError {
     /// A token begins before the token before it ends, or ends after the text.
     OutOfOrder,
+    /// A record has fewer tokens than fields.
+    TooFew,
     /// An allocation failed.
     OutOfMemory,
 }
@@ -101,6 +103,7 @@ fn append_removed<A: Allocator>(
     requires { after ≤ length octets.now }
     ensures made { OnOk result (out.new.items
         ≡ out.old.items ++ removed_spans octets.now after tokens.now) }
+    ensures ordered { OnOk result (AreAfterTokens (length octets.now) after tokens.now) }
     ensures err { IfErr result (IsTokenError (length octets.now) after tokens.now) }
 {
     let mut at = after;
@@ -123,6 +126,7 @@ fn append_stretches<A: Allocator>(
     out: &mut Vec<Span, A>,
 ) -> Result<(), TokenError>
     ensures made { OnOk result (out.new.items ≡ out.old.items ++ stretches octets.now tokens.now) }
+    ensures ordered { OnOk result (AreAfterTokens (length octets.now) 0 tokens.now) }
     ensures err { IfErr result (IsTokenError (length octets.now) 0 tokens.now) }
 {
     let Some((first, others)) = tokens.split_first() else {
@@ -135,7 +139,7 @@ fn append_stretches<A: Allocator>(
     append_removed(octets, first.end, others, out)
 }
 
-/// PushesEdit edits that delete spans. The first of them may be pushed without memory.
+/// Pushes edits that delete spans. The first of them may be pushed without memory.
 fn push_deletions<B: Allocator + Copy>(
     alloc: B,
     spans: &[Span],
@@ -144,7 +148,7 @@ fn push_deletions<B: Allocator + Copy>(
     ensures spans { OnOk result (spans_of edits.new.items ≡ spans_of edits.old.items ++ spans.now) }
     ensures texts { OnOk result (texts_of edits.new.items
         ≡ texts_of edits.old.items ++ map no_text spans.now) }
-    ensures err { OnErr result (Continues edits.old.items edits.new.items) }
+    ensures continues { Continues edits.old.items edits.new.items }
 {
     for span in spans {
         push_edit(*span, Vec::new(alloc), edits)?;
@@ -152,8 +156,8 @@ fn push_deletions<B: Allocator + Copy>(
     Ok(())
 }
 
-/// PushesEdit an edit, or nothing without memory.
-fn push_edit<B: Allocator>(
+/// Pushes an edit, or nothing without memory.
+pub(crate) fn push_edit<B: Allocator>(
     span: Span,
     text: Vec<u8, B>,
     edits: &mut Vec<Edit<B>, B>,
@@ -166,13 +170,13 @@ fn push_edit<B: Allocator>(
     Ok(())
 }
 
-/// PushesEdit the edits that replace several tokens by one with this text. The first token is replaced
+/// Pushes the edits that replace several tokens by one with this text. The first token is replaced
 /// by the text. Each other is deleted with the octets before it, except parentheses, and comments
 /// with their line ends ([`kept_len`]). Without tokens nothing is pushed.
 ///
 /// Fails with `OutOfOrder` if a token begins before the one before it ends, or ends after the text,
 /// and with `OutOfMemory` if an allocation fails. After an error `edits` is unchanged.
-#[tactic(auto, using(crate::proofs::Pushing::all_spans, crate::proofs::Pushing::all_texts))]
+#[tactic(auto, using(crate::proofs::Pushing::all_spans, crate::proofs::Pushing::all_texts, crate::proofs::Pushing::all_continue, crate::proofs::Pushing::continues_same))]
 pub fn push_token_edits<B: Allocator + Copy>(
     alloc: B,
     octets: &[u8],
@@ -184,6 +188,8 @@ pub fn push_token_edits<B: Allocator + Copy>(
         ≡ spans_of edits.old.items ++ stretches octets.now tokens.now) }
     ensures texts { OnOk result (texts_of edits.new.items
         ≡ texts_of edits.old.items ++ first_only text.items (stretches octets.now tokens.now)) }
+    ensures continues { OnOk result (Continues edits.old.items edits.new.items) }
+    ensures ordered { OnOk result (AreAfterTokens (length octets.now) 0 tokens.now) }
     ensures err { IfErr result (IsTokenError (length octets.now) 0 tokens.now) }
     ensures unchanged { OnErr result (edits.new.items ≡ edits.old.items) }
 {
