@@ -1,9 +1,11 @@
 pub mod Clauses
 pub mod Keywords
+pub mod OmittedCounts
 pub mod Lexemes
 pub mod NameRows
 pub mod Nsd
 pub mod NsdLexemes
+pub mod PathPatterns
 pub mod Rows
 pub mod Settings
 pub mod Statements

@@ -1,5 +1,5 @@
 -- The zone that the name of a file has, by a form such as `*.zone`.
-use Rattle.std.specs.Prelude.{ℕ, suc, ◌+◌, ◌-◌, Bool, not, ◌&&◌, ◌||◌, ◌==◌, nat_eq, nat_le, nat_lt, if◌then◌else◌, List, [], ◌∷◌, length, take, drop, Option, None, Some, codes}
+use Rattle.std.specs.Prelude.{ℕ, suc, ◌+◌, ◌-◌, Bool, ◌&&◌, ◌||◌, ◌==◌, nat_eq, nat_le, nat_lt, if◌then◌else◌, List, [], ◌∷◌, length, take, drop, Option, None, Some, codes}
 use Rattle.std.specs.List.{starts_with, ends_with, list_all}
 use Rattle.dns_octets.specs.Lowered.{same_lowered}
 use Rattle.server_config.specs.declared.zone_name.TextSpan.{TextSpan}
@@ -32,6 +32,19 @@ fits_form form name =
 -- the octets between are the zone
 abbrev pub zone_in_name : List ℕ → List ℕ → Option TextSpan
 zone_in_name form name = if fits_form form name then Some (record { at = zone_mark form; end = length name - length (after_mark form) }) else None
+
+-- the index after the last slash, or else the one that is given
+abbrev pub base_start : ℕ → ℕ → List ℕ → ℕ
+base_start start at [] = start
+base_start start at (c ∷ path) = base_start (if c == 47 then at + 1 else start) (at + 1) path
+
+-- the length of the ending of a zone file's name
+abbrev pub zone_ending_len : List ℕ → ℕ
+zone_ending_len name = if ends_with nat_eq name (codes ".zone") then 5 else (if ends_with nat_eq name (codes ".db") then 3 else 0)
+
+-- a path has its zone after the last slash, before the ending
+abbrev pub zone_in_path : List ℕ → TextSpan
+zone_in_path path = record { at = base_start 0 0 path; end = length path - zone_ending_len (drop (base_start 0 0 path) path) }
 
 -- names of files that are no zone files: hidden ones, and what editors, servers and signers leave beside them
 abbrev pub is_side_file : List ℕ → Bool

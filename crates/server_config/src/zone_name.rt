@@ -1,7 +1,7 @@
 //! The zone that the name of a file has, by a form such as `*.zone`.
 ghost use Rattle.std.specs.Prelude.{◌≡◌, ◌≤◌, length};
 ghost use Rattle.std.specs.List.{list_all};
-ghost use Rattle.server_config.specs.ZoneNames.{is_digit_or_dot, is_doubtful_zone, is_name_form, is_side_file, is_zone_mark, zone_in_name, zone_mark};
+ghost use Rattle.server_config.specs.ZoneNames.{base_start, is_digit_or_dot, is_doubtful_zone, is_name_form, is_side_file, is_zone_mark, zone_ending_len, zone_in_name, zone_in_path, zone_mark};
 
 use dns_octets::lowered::same_octets;
 
@@ -65,6 +65,47 @@ pub fn zone_in_name(form: &[u8], name: &[u8]) -> Option<TextSpan>
         })
     } else {
         None
+    }
+}
+
+/// Returns the index after the last slash, or 0 if there is none.
+fn base_start(path: &[u8]) -> usize
+    ensures value { result ≡ base_start 0 0 path.now }
+    ensures within { result ≤ length path.now }
+{
+    let mut start = 0;
+    let mut index = 0;
+    for octet in path {
+        index += 1;
+        if *octet == b'/' {
+            start = index;
+        }
+    }
+    start
+}
+
+/// Returns the length of `.zone` or `.db` at the end of a name, or 0 if it has neither.
+fn zone_ending_len(name: &[u8]) -> usize
+    ensures { result ≡ zone_ending_len name.now }
+{
+    if name.ends_with(b".zone") {
+        5
+    } else if name.ends_with(b".db") {
+        3
+    } else {
+        0
+    }
+}
+
+/// Returns the octets of a path that are a zone: those after the last slash, without `.zone` or `.db`
+/// at their end.
+pub fn zone_in_path(path: &[u8]) -> TextSpan
+    ensures { result ≡ zone_in_path path.now }
+{
+    let at = base_start(path);
+    TextSpan {
+        at,
+        end: path.len().saturating_sub(zone_ending_len(&path[at..])),
     }
 }
 
