@@ -3,7 +3,7 @@ use Rattle.std.specs.Prelude.{ℕ, if◌then◌else◌, Bool, List, [], ◌∷�
 use Rattle.std.specs.Borrow.{Bor}
 use Rattle.std.specs.Fmt.{decimal}
 use Rattle.finding_formats.specs.Escape.{escaped}
-use Rattle.finding_formats.specs.Pieces.{parts_text, opening_text, text_if}
+use Rattle.finding_formats.specs.Pieces.{number_if, parts_text, opening_text, text_if}
 use Rattle.finding_formats.specs.declared.escape.Context.TheVariants.{Json}
 use Rattle.finding_formats.specs.declared.finding.Finding.{Finding}
 
@@ -19,6 +19,7 @@ json_line f = parts_text (
     codes "{\"file\":\"" ∷ escaped Json f.file.now
     ∷ codes "\",\"line\":" ∷ decimal f.line ∷ codes ",\"column\":" ∷ decimal f.column ∷ codes ",\"end_column\":" ∷ decimal f.end_column
     ∷ opening_text (codes ",\"opened_line\":") (codes ",\"opened_column\":") f.opened
+    ∷ number_if (codes ",\"generate\":") f.generate
     ∷ codes ",\"severity\":\"" ∷ severity_word f.is_error ∷ codes "\",\"code\":\"" ∷ escaped Json f.code.now
     ∷ string_member (codes "\",\"owner\":\"") f.owner ∷ string_member (codes "\",\"type\":\"") f.rtype
     ∷ codes "\",\"message\":\"" ∷ escaped Json f.message.now ∷ string_member (codes "\",\"help\":\"") f.help

@@ -22,6 +22,8 @@ pub struct Finding<'a> {
     pub end_column: usize,
     /// Position where something that is not closed was opened.
     pub opened: Option<Opening>,
+    /// Number of the entry of a `$GENERATE` directive that it is about.
+    pub generate: Option<usize>,
     /// Whether it is an error. Otherwise it is a warning.
     pub is_error: bool,
     /// Stable name of this kind of finding.

@@ -18,8 +18,8 @@ pub(crate) fn severity_word(is_error: bool) -> &'static [u8]
 /// Appends a finding as a JSON object, and LF.
 ///
 /// Its members are `file`, `line`, `column`, `end_column`, `severity`, `code`, `owner`, `type`,
-/// `message` and `help`, and after `end_column` `opened_line` and `opened_column`. A member that
-/// the finding doesn't have is left out. An octet that is not UTF-8 is `\DDD` in the string that a
+/// `message` and `help`, and after `end_column` `opened_line`, `opened_column` and `generate`. A
+/// member that the finding doesn't have is left out. An octet that is not UTF-8 is `\DDD` in the string that a
 /// reader gets ([`Context`]).
 ///
 /// Fails if an allocation fails. The octets before are then unchanged, and some may be appended.
@@ -40,6 +40,7 @@ pub fn push_finding<A: Allocator>(
         Piece::Plain(b",\"end_column\":"),
         Piece::Number(finding.end_column),
         Piece::Opened(b",\"opened_line\":", b",\"opened_column\":", finding.opened),
+        Piece::NumberIf(b",\"generate\":", finding.generate),
         Piece::Plain(b",\"severity\":\""),
         Piece::Plain(severity_word(finding.is_error)),
         Piece::Plain(b"\",\"code\":\""),

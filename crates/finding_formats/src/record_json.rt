@@ -1,7 +1,7 @@
-//! Formats DNS records, and the digests of zones, as JSON objects, one a line (RFC 8259).
+//! Formats DNS records, and digests and serials of zones, as JSON objects, one a line (RFC 8259).
 ghost use Rattle.std.specs.Prelude.{◌≡◌, ◌++◌, OnErr, OnOk};
 ghost use Rattle.dns_octets.specs.Appending.{Extends};
-ghost use Rattle.finding_formats.specs.RecordJson.{digest_object, record_object};
+ghost use Rattle.finding_formats.specs.RecordJson.{digest_object, record_object, serial_object};
 
 use crate::escape::Context;
 use crate::piece::{Piece, push_pieces};
@@ -98,6 +98,44 @@ pub fn push_digest<A: Allocator>(
         Piece::Plain(b",\"verdict\":\""),
         Piece::Text(fields.verdict),
         Piece::Plain(b"\"}\n"),
+    ];
+    push_pieces(out, Context::Json, &pieces)
+}
+
+/// The serial of a zone, and the one that replaced it.
+#[derive(Clone, Copy)]
+pub struct SerialFields<'a> {
+    /// Name of the zone file.
+    pub file: &'a [u8],
+    /// Name of the zone, in presentation format.
+    pub zone: &'a [u8],
+    /// Serial in the file, or before it was replaced.
+    pub old: usize,
+    /// New serial, if it was replaced.
+    pub new: Option<usize>,
+}
+
+/// Appends a serial as a JSON object, and LF.
+///
+/// Its members are `file`, `zone`, `old` and `new`. A serial that was not replaced has no `new`.
+///
+/// Fails if an allocation fails. The octets before are then unchanged, and some may be appended.
+pub fn push_serial<A: Allocator>(
+    out: &mut Vec<u8, A>,
+    fields: &SerialFields<'_>,
+) -> Result<(), AllocError>
+    ensures ok { OnOk result (out.new.items ≡ out.old.items ++ serial_object fields.now) }
+    ensures err { OnErr result (Extends out.old.items out.new.items) }
+{
+    let pieces = [
+        Piece::Plain(b"{\"file\":\""),
+        Piece::Text(fields.file),
+        Piece::Plain(b"\",\"zone\":\""),
+        Piece::Text(fields.zone),
+        Piece::Plain(b"\",\"old\":"),
+        Piece::Number(fields.old),
+        Piece::NumberIf(b",\"new\":", fields.new),
+        Piece::Plain(b"}\n"),
     ];
     push_pieces(out, Context::Json, &pieces)
 }

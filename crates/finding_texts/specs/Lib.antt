@@ -1,4 +1,5 @@
 pub mod Mistakes
 pub mod Rows
+pub mod Scopes
 pub mod Similar
 pub mod Word

@@ -50,6 +50,7 @@ pub fn summary_of(code: Code) -> &'static str {
         Code::SoaMinimumTtl => "The minimum of the SOA is used as a TTL",
         Code::IncludeTtl => "The $TTL of an included file stays in effect",
         Code::MissingDot => "A relative name ends like the origin",
+        Code::GenerateDot => "A name of $GENERATE ends in a dot of nibbles",
         Code::EmptyUri => "The target of a URI record is empty",
         Code::TlsaLength =>
             "The data of a TLSA or SMIMEA has another length than its matching type",
@@ -70,6 +71,7 @@ pub fn summary_of(code: Code) -> &'static str {
         Code::TwoSpf => "A name has two SPF records",
         Code::WeakDigest => "SHA-1 is the only digest of a key",
         Code::SingleNs => "A zone has only one name server",
+        Code::Hidden => "A delegation hides a record",
         Code::NoDnskey => "The zone must be signed, and has no DNSKEY at its apex",
         Code::Expired => "A signature has expired",
         Code::ExpiresSoon => "A signature expires within the time of --within",
@@ -206,6 +208,8 @@ pub fn text_of(code: Code) -> &'static str {
             "RFC 1035 section 5.1 restores the origin after an included file, and not the TTL. Name servers differ. Write $TTL after the $INCLUDE.",
         Code::MissingDot =>
             "With the origin appended, the name has it twice, as www.example.example. Write a dot at its end (RFC 1035 section 5.1).",
+        Code::GenerateDot =>
+            "Dots count in the width of the bases n and N, so 8 writes 4 digits with a dot after each. The name is absolute: write 7, or a label after the brace.",
         Code::EmptyUri => "The target has at least one octet (RFC 7553 section 4.4).",
         Code::TlsaLength =>
             "SHA-256, matching type 1, has 32 octets, and SHA-512, matching type 2, has 64 (RFC 6698 section 2.1.3, RFC 8162 section 2).",
@@ -241,6 +245,8 @@ pub fn text_of(code: Code) -> &'static str {
             "The DS of a key has digest type 1 alone, which must not be used to sign delegations (RFC 8624 section 3.3). Add one of type 2 (SHA-256).",
         Code::SingleNs =>
             "It needs two or more, so that one can fail (RFC 1034 section 4.1, RFC 2182 section 5). A host at or below invalid. or localhost. is not reported: catalog zones have one (RFC 9432).",
+        Code::Hidden =>
+            "A server answers with a referral for names at and below a delegation (RFC 1034 section 4.3.2), so no resolver gets the record. Move it to the file of the delegated zone. At a delegation only NS, DS, NSEC and RRSIG are not hidden. An A or AAAA is glue if its owner is the host of an NS of the zone; all others are one finding, at the first of them.",
         Code::NoDnskey =>
             "--dnssec checks a signed zone. Is the file the unsigned one (RFC 4035 section 2.1)?",
         Code::Expired =>
@@ -373,6 +379,7 @@ pub fn example_of(code: Code) -> &'static str {
         Code::SoaMinimumTtl => "@ SOA ns h 1 4 2 9 5\n@ NS ns\nns A 192.0.2.1",
         Code::IncludeTtl => "$INCLUDE sub.db",
         Code::MissingDot => "a MX 10 ns.example",
+        Code::GenerateDot => "$GENERATE 1-2 ${0,8,n} PTR ns",
         Code::EmptyUri => "a URI 10 1 \"\"",
         Code::TlsaLength => "_443._tcp.a TLSA 3 1 1 0011",
         Code::IpseckeyAlgorithm => "a IPSECKEY 10 1 0 192.0.2.38",
@@ -392,6 +399,7 @@ pub fn example_of(code: Code) -> &'static str {
         Code::TwoSpf => "a TXT \"v=spf1 mx -all\"\na TXT \"v=spf1 a -all\"",
         Code::WeakDigest => "a NS ns\na DS 1 8 1 0000000000000000000000000000000000000000",
         Code::SingleNs => "$TTL 60\n@ SOA ns h 1 4 2 9 5\n@ NS ns\nns A 192.0.2.1",
+        Code::Hidden => "sub NS ns\nsub NS ns.o.\nwww.sub CNAME x.o.",
         Code::NoDnskey => "a A 192.0.2.2",
         Code::Expired =>
             "a A 192.0.2.2\na RRSIG A 13 2 60 20200101000000 20191201000000 1037 example. AA==",

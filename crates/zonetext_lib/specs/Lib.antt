@@ -7,5 +7,6 @@ pub mod Found
 pub mod Held
 pub mod HeldForm
 pub mod Layout
+pub mod Progress
 pub mod Tokens
 pub mod Writing

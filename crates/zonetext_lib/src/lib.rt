@@ -10,6 +10,7 @@
 //! - [`diff::diff`] compares the entries of two files.
 //! - [`comparer::Comparer`] compares those of two files that arrive in chunks.
 //! - [`unified::Unified`] writes the changes from one text to another, as a unified diff.
+//! - [`progress::progress_share`] says how much of a file was read.
 //! - [`replace::Batch`] replaces the contents of files, of all of them or none.
 //!
 //! Octets needn't be UTF-8: each counts as one character of the grammar, so that a comment in
@@ -24,6 +25,7 @@ pub mod formatter;
 mod glue;
 pub mod laws;
 pub mod layout;
+pub mod progress;
 pub mod replace;
 pub mod tokens;
 pub mod unified;

@@ -3,7 +3,7 @@ use Rattle.std.specs.Prelude.{ℕ, Bool, true, false, List, codes}
 use Rattle.zonetext_report.specs.declared.code.Severity.{Severity}
 use Rattle.zonetext_report.specs.declared.code.Severity.TheVariants.{Error, Warning}
 use Rattle.zonetext_report.specs.declared.code.Code.{Code}
-use Rattle.zonetext_report.specs.declared.code.Code.TheVariants.{OpenQuote, OpenParenthesis, ClosingParenthesis, LoneReturn, BadEscape, Nul, ByteOrderMark, ControlZ, MaxEntry, Directive, Owner, Ttl, Class, RecordType, Data, Include, NoOwner, NoTtl, OtherClass, NoSoa, TwoSoas, NoNs, NsAddress, Cname, Dname, DsApex, WildcardNs, SoaNotApex, NsBesideDname, Nsec3Wildcard, BelowDname, Outside, MaxTtl, NoOrigin, HighOctet, ControlOctet, Crlf, NestedParentheses, LeadingParenthesis, AdjacentTokens, NoFinalNewline, RelativeOrigin, SoaMinimumTtl, IncludeTtl, MissingDot, EmptyUri, TlsaLength, IpseckeyAlgorithm, OhttpValue, Glue, TargetCname, TargetMissing, HostName, Cds, TtlDiffers, Duplicate, NotAtApex, KeyProtocol, KeyAlgorithm, CnameTargetMissing, CnameLoop, TwoSpf, WeakDigest, SingleNs, NoDnskey, Expired, ExpiresSoon, NotYetValid, RrsigTimes, RrsigSigner, RrsigLabels, OriginalTtl, RrsigTtl, Unsigned, NoKey, KeyMissing, RrsigKey, SignsNothing, OccludedDnssec, NoNsec, NsecNext, NsecTypes, DsWithoutNs, NoNsec3, Nsec3Next, Nsec3Types, Nsec3Owner, Nsec3Iterations, Nsec3Iterations50, Nsec3Iterations0, NsecTtl, CdsDelete, SpfType, NaptrRegexp, NaptrBoth, CaaTag, SoaMail, SoaTimers, ReverseName, WildcardInside, TargetAddress, TxtWords, CommentInData, Exception, UnusedAllow}
+use Rattle.zonetext_report.specs.declared.code.Code.TheVariants.{OpenQuote, OpenParenthesis, ClosingParenthesis, LoneReturn, BadEscape, Nul, ByteOrderMark, ControlZ, MaxEntry, Directive, Owner, Ttl, Class, RecordType, Data, Include, NoOwner, NoTtl, OtherClass, NoSoa, TwoSoas, NoNs, NsAddress, Cname, Dname, DsApex, WildcardNs, SoaNotApex, NsBesideDname, Nsec3Wildcard, BelowDname, Outside, MaxTtl, NoOrigin, HighOctet, ControlOctet, Crlf, NestedParentheses, LeadingParenthesis, AdjacentTokens, NoFinalNewline, RelativeOrigin, SoaMinimumTtl, IncludeTtl, MissingDot, GenerateDot, EmptyUri, TlsaLength, IpseckeyAlgorithm, OhttpValue, Glue, TargetCname, TargetMissing, HostName, Cds, TtlDiffers, Duplicate, NotAtApex, KeyProtocol, KeyAlgorithm, CnameTargetMissing, CnameLoop, TwoSpf, WeakDigest, SingleNs, NoDnskey, Expired, ExpiresSoon, NotYetValid, RrsigTimes, RrsigSigner, RrsigLabels, OriginalTtl, RrsigTtl, Unsigned, NoKey, KeyMissing, RrsigKey, SignsNothing, OccludedDnssec, NoNsec, NsecNext, NsecTypes, DsWithoutNs, NoNsec3, Nsec3Next, Nsec3Types, Nsec3Owner, Nsec3Iterations, Nsec3Iterations50, Nsec3Iterations0, NsecTtl, CdsDelete, SpfType, NaptrRegexp, NaptrBoth, CaaTag, SoaMail, SoaTimers, ReverseName, WildcardInside, TargetAddress, TxtWords, CommentInData, Exception, UnusedAllow, Hidden}
 
 abbrev pub severity_name : Severity → List ℕ
 severity_name Error = codes "error"
@@ -56,6 +56,7 @@ code_name RelativeOrigin = codes "relative-origin"
 code_name SoaMinimumTtl = codes "soa-minimum-ttl"
 code_name IncludeTtl = codes "include-ttl"
 code_name MissingDot = codes "missing-dot"
+code_name GenerateDot = codes "generate-dot"
 code_name EmptyUri = codes "empty-uri"
 code_name TlsaLength = codes "tlsa-length"
 code_name IpseckeyAlgorithm = codes "ipseckey-algorithm"
@@ -75,6 +76,7 @@ code_name CnameLoop = codes "cname-loop"
 code_name TwoSpf = codes "two-spf"
 code_name WeakDigest = codes "weak-digest"
 code_name SingleNs = codes "single-ns"
+code_name Hidden = codes "hidden"
 code_name NoDnskey = codes "no-dnskey"
 code_name Expired = codes "expired"
 code_name ExpiresSoon = codes "expires-soon"
@@ -145,6 +147,7 @@ default_severity RelativeOrigin = Warning
 default_severity SoaMinimumTtl = Warning
 default_severity IncludeTtl = Warning
 default_severity MissingDot = Warning
+default_severity GenerateDot = Warning
 default_severity EmptyUri = Warning
 default_severity TlsaLength = Warning
 default_severity IpseckeyAlgorithm = Warning
@@ -176,6 +179,7 @@ default_severity CnameLoop = Warning
 default_severity TwoSpf = Warning
 default_severity WeakDigest = Warning
 default_severity SingleNs = Warning
+default_severity Hidden = Warning
 default_severity ExpiresSoon = Warning
 default_severity RrsigTtl = Warning
 default_severity KeyMissing = Warning

@@ -119,6 +119,8 @@ pub enum Code {
     IncludeTtl,
     /// A name without a final dot ends like the origin.
     MissingDot,
+    /// A name of `$GENERATE` ends in the dot of nibbles of an even width.
+    GenerateDot,
     /// The target of a URI is empty.
     EmptyUri,
     /// The data of a TLSA does not have the length of its matching type.
@@ -155,8 +157,10 @@ pub enum Code {
     TwoSpf,
     /// The only digest of a key in DS is SHA-1.
     WeakDigest,
-    /// The apex or a delegation has only one NS.
+    /// The apex has only one NS.
     SingleNs,
+    /// A record is at or below a delegation, and is not glue.
+    Hidden,
     /// The zone must be signed, and has no DNSKEY at its apex.
     NoDnskey,
     /// An RRSIG has expired.
@@ -251,7 +255,7 @@ fn find_named(codes: &[Code], name: &str) -> Option<Code>
 
 impl Code {
     /// Every code.
-    pub const ALL: [Code; 105] = [
+    pub const ALL: [Code; 107] = [
         Code::OpenQuote,
         Code::OpenParenthesis,
         Code::ClosingParenthesis,
@@ -297,6 +301,7 @@ impl Code {
         Code::SoaMinimumTtl,
         Code::IncludeTtl,
         Code::MissingDot,
+        Code::GenerateDot,
         Code::EmptyUri,
         Code::TlsaLength,
         Code::IpseckeyAlgorithm,
@@ -316,6 +321,7 @@ impl Code {
         Code::TwoSpf,
         Code::WeakDigest,
         Code::SingleNs,
+        Code::Hidden,
         Code::NoDnskey,
         Code::Expired,
         Code::ExpiresSoon,
@@ -409,6 +415,7 @@ impl Code {
             Code::SoaMinimumTtl => "soa-minimum-ttl",
             Code::IncludeTtl => "include-ttl",
             Code::MissingDot => "missing-dot",
+            Code::GenerateDot => "generate-dot",
             Code::EmptyUri => "empty-uri",
             Code::TlsaLength => "tlsa-length",
             Code::IpseckeyAlgorithm => "ipseckey-algorithm",
@@ -428,6 +435,7 @@ impl Code {
             Code::TwoSpf => "two-spf",
             Code::WeakDigest => "weak-digest",
             Code::SingleNs => "single-ns",
+            Code::Hidden => "hidden",
             Code::NoDnskey => "no-dnskey",
             Code::Expired => "expired",
             Code::ExpiresSoon => "expires-soon",
@@ -517,6 +525,7 @@ impl Code {
             | Code::SoaMinimumTtl
             | Code::IncludeTtl
             | Code::MissingDot
+            | Code::GenerateDot
             | Code::EmptyUri
             | Code::TlsaLength
             | Code::IpseckeyAlgorithm
@@ -549,7 +558,8 @@ impl Code {
             | Code::CnameLoop
             | Code::TwoSpf
             | Code::WeakDigest
-            | Code::SingleNs => Severity::Warning,
+            | Code::SingleNs
+            | Code::Hidden => Severity::Warning,
             // (the rules of a signed zone)
             Code::ExpiresSoon
             | Code::RrsigTtl
