@@ -1,1 +1,11 @@
+pub mod DataSteps
 mod DotsAtEnd
+pub mod FindingSteps
+pub mod NameSteps
+pub mod OctetSteps
+pub mod PlaceOrders
+pub mod ScanLanes
+pub mod ShownLaws
+pub mod ShownSteps
+pub mod TokenLists
+pub mod WordSteps

@@ -6,8 +6,10 @@ use Rattle.rdata_values.specs.declared.error.ErrorKind.TheVariants.{Syntax, EndO
 use Rattle.rdata_values.specs.declared.types.RecordType.{RecordType as TypeOfRecord}
 use Rattle.dns_lexer.specs.declared.pieces.Wrong.{Wrong}
 use Rattle.dns_lexer.specs.declared.pieces.Wrong.TheVariants.{Closing, OpenParenthesis as OpenWrong, OpenQuote as QuoteWrong, LoneReturn as ReturnWrong, BadEscape as EscapeWrong}
+use Rattle.record_rules.specs.declared.rule.RecordRule.{RecordRule}
+use Rattle.record_rules.specs.declared.rule.RecordRule.TheVariants.{SpfType as SpfRule, NaptrRegexp as RegexpRule, NaptrBoth as BothRule, CaaUnknown, CaaCritical, CaaCapitals, SoaMailAtSign, SoaMailOneLabel, SoaRetry, SoaExpire, SoaMinimum, ReverseName as ReverseRule, WildcardInside as WildcardRule, TargetAddress as AddressRule, TxtWords as WordsRule, CommentInData as CommentRule}
 use Rattle.zonetext_report.specs.declared.code.Code.{Code}
-use Rattle.zonetext_report.specs.declared.code.Code.TheVariants.{OpenQuote, OpenParenthesis, ClosingParenthesis, LoneReturn, BadEscape, Directive, Owner, Ttl, RecordType, Data, NoOwner, NoTtl, NoOrigin}
+use Rattle.zonetext_report.specs.declared.code.Code.TheVariants.{OpenQuote, OpenParenthesis, ClosingParenthesis, LoneReturn, BadEscape, Directive, Owner, Ttl, RecordType, Data, NoOwner, NoTtl, NoOrigin, SpfType, NaptrRegexp, NaptrBoth, CaaTag, SoaMail, SoaTimers, ReverseName, WildcardInside, TargetAddress, TxtWords, CommentInData}
 
 -- each syntax error has a code of its own
 abbrev pub code_of_fault : Wrong → Code
@@ -46,3 +48,22 @@ code_of_kind _ other = other
 
 abbrev pub code_of_entry : (is_directive : Bool) → RecordError → Code
 code_of_entry is_directive e = code_of_kind e.kind (code_of_part is_directive e)
+
+-- several rules of one tag, mail name or SOA have one code
+abbrev pub code_of_record_rule : RecordRule → Code
+code_of_record_rule SpfRule = SpfType
+code_of_record_rule RegexpRule = NaptrRegexp
+code_of_record_rule BothRule = NaptrBoth
+code_of_record_rule CaaUnknown = CaaTag
+code_of_record_rule CaaCritical = CaaTag
+code_of_record_rule CaaCapitals = CaaTag
+code_of_record_rule SoaMailAtSign = SoaMail
+code_of_record_rule SoaMailOneLabel = SoaMail
+code_of_record_rule SoaRetry = SoaTimers
+code_of_record_rule SoaExpire = SoaTimers
+code_of_record_rule SoaMinimum = SoaTimers
+code_of_record_rule ReverseRule = ReverseName
+code_of_record_rule WildcardRule = WildcardInside
+code_of_record_rule AddressRule = TargetAddress
+code_of_record_rule WordsRule = TxtWords
+code_of_record_rule CommentRule = CommentInData

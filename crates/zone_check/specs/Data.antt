@@ -1,5 +1,5 @@
 -- Data of records that looks like a slip.
-use Rattle.std.specs.Prelude.{ℕ, ◌==◌, ◌||◌, ◌&&◌, not, if◌then◌else◌, Bool, false, List, ◌∷◌, length, Option, Some, None}
+use Rattle.std.specs.Prelude.{ℕ, zero, suc, ◌+◌, ◌*◌, ◌==◌, ◌||◌, ◌&&◌, not, nat_lt, if◌then◌else◌, Bool, true, false, List, [], ◌∷◌, drop, length, Option, Some, None}
 use Rattle.rdata_values.specs.Rtype as Rtype
 use Rattle.rdata_values.specs.declared.types.RecordType.{RecordType}
 
@@ -31,3 +31,28 @@ is_algorithm_zero _ = false
 
 abbrev pub has_key_algorithm_zero : RecordType → List ℕ → Bool
 has_key_algorithm_zero rtype octets = rtype == Rtype.ipseckey && is_algorithm_zero octets
+
+-- the octets after a name of at most this number of labels: each is the number of its octets and those, and the root, of none, is the last (RFC 1035 section 3.1)
+abbrev pub after_labels : (most : ℕ) → List ℕ → List ℕ
+after_labels zero octets = []
+after_labels (suc most) [] = []
+after_labels (suc most) (count ∷ octets) = if count == 0 then octets else after_labels most (drop count octets)
+
+-- `ohttp` (8), with a value
+abbrev pub is_ohttp_with : (high low count : ℕ) → Bool
+is_ohttp_with high low count = (high == 0 && low == 8) && nat_lt 0 count
+
+-- among at most this number of service parameters, `ohttp` has a value: each is a key and a length of two octets each, and a value
+abbrev pub has_ohttp : (most : ℕ) → List ℕ → Bool
+has_ohttp zero octets = false
+has_ohttp (suc most) (high ∷ low ∷ more ∷ less ∷ values) =
+    if is_ohttp_with high low (256 * more + less) then true else has_ohttp most (drop (256 * more + less) values)
+has_ohttp (suc most) _ = false
+
+abbrev pub has_ohttp_in : List ℕ → Bool
+has_ohttp_in (high ∷ low ∷ rest) = has_ohttp (length (after_labels (length rest) rest)) (after_labels (length rest) rest)
+has_ohttp_in _ = false
+
+-- for SVCB and HTTPS: a priority of two octets, a target, and service parameters
+abbrev pub has_ohttp_value : RecordType → List ℕ → Bool
+has_ohttp_value rtype octets = (rtype == Rtype.svcb || rtype == Rtype.https) && has_ohttp_in octets

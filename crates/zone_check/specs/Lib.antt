@@ -1,4 +1,17 @@
 pub mod Codes
 pub mod Data
+pub mod DirectiveFindings
+pub mod EntryWords
+pub mod FindingOrder
+pub mod FindingSpans
+pub mod NameFindings
 pub mod Names
+pub mod OctetFindings
+pub mod RecordFindings
+pub mod RejectionFindings
+pub mod Rows
+pub mod RuleFindings
+pub mod Scan
+pub mod Shown
 pub mod Texts
+pub mod ValueFindings

@@ -1,6 +1,6 @@
 -- Names as they are spelled.
-use Rattle.std.specs.Prelude.{◌≡◌, ◌⊎◌, ◌==◌, ℕ, ◌-◌, ◌≤◌, if◌then◌else◌, Bool, false, List, [], ◌∷◌, length, map, drop, slice_index}
-use Rattle.std.specs.Char.{to_ascii_lowercase}
+use Rattle.std.specs.Prelude.{◌==◌, ℕ, ◌-◌, ◌&&◌, ◌||◌, nat_le, if◌then◌else◌, Bool, false, List, [], ◌∷◌, length, drop, slice_index}
+use Rattle.dns_octets.specs.Lowered.{same_lowered}
 
 -- a backslash escapes the octet after it
 abbrev pub passed_with : ℕ → ℕ
@@ -12,8 +12,10 @@ ends_in_dot [] = false
 ends_in_dot (c ∷ []) = c == 46
 ends_in_dot (c ∷ d ∷ cs) = if c == 92 then ends_in_dot cs else ends_in_dot (d ∷ cs)
 
+-- at the start, or after a dot
+abbrev pub begins_label : List ℕ → (at : ℕ) → Bool
+begins_label text at = at == 0 || slice_index text (at - 1) == 46
+
 -- a text ends in another, ignoring letter case, at its start or after a dot
-pub record EndsLike (text other : List ℕ) : Type 0 where
-  pub within : length other ≤ length text
-  pub end : map to_ascii_lowercase (drop (length text - length other) text) ≡ map to_ascii_lowercase other
-  pub begins : (length text - length other ≡ 0) ⊎ (slice_index text (length text - length other - 1) ≡ 46)
+abbrev pub ends_like : (text other : List ℕ) → Bool
+ends_like text other = nat_le (length other) (length text) && (begins_label text (length text - length other) && same_lowered (drop (length text - length other) text) other)

@@ -2,7 +2,7 @@
 use Rattle.std.specs.Prelude.{ℕ, List, codes}
 use Rattle.zonetext_report.specs.Code.{code_name}
 use Rattle.zonetext_report.specs.declared.code.Code.{Code}
-use Rattle.zonetext_report.specs.declared.code.Code.TheVariants.{Nul, ByteOrderMark, ControlZ, Ttl, OtherClass, NoSoa, TwoSoas, NoNs, NsAddress, Cname, Dname, DsApex, WildcardNs, SoaNotApex, NsBesideDname, Nsec3Wildcard, BelowDname, Outside, MaxTtl, NoOrigin, HighOctet, ControlOctet, Crlf, NestedParentheses, LeadingParenthesis, AdjacentTokens, NoFinalNewline, RelativeOrigin, SoaMinimumTtl, IncludeTtl, MissingDot, EmptyUri, TlsaLength, IpseckeyAlgorithm, OhttpValue, Glue, TargetCname, TargetMissing, HostName, Cds, TtlDiffers, Duplicate, NotAtApex, KeyProtocol, KeyAlgorithm, CnameTargetMissing, CnameLoop, TwoSpf, WeakDigest, SingleNs, NoDnskey, Expired, ExpiresSoon, NotYetValid, RrsigTimes, RrsigSigner, RrsigLabels, OriginalTtl, RrsigTtl, Unsigned, NoKey, KeyMissing, RrsigKey, SignsNothing, OccludedDnssec, NoNsec, NsecNext, NsecTypes, DsWithoutNs, NoNsec3, Nsec3Next, Nsec3Types, Nsec3Owner, Nsec3Iterations, Nsec3Iterations50, Nsec3Iterations0, NsecTtl, CdsDelete}
+use Rattle.zonetext_report.specs.declared.code.Code.TheVariants.{Nul, ByteOrderMark, ControlZ, Ttl, OtherClass, NoSoa, TwoSoas, NoNs, NsAddress, Cname, Dname, DsApex, WildcardNs, SoaNotApex, NsBesideDname, Nsec3Wildcard, BelowDname, Outside, MaxTtl, NoOrigin, HighOctet, ControlOctet, Crlf, NestedParentheses, LeadingParenthesis, AdjacentTokens, NoFinalNewline, RelativeOrigin, SoaMinimumTtl, IncludeTtl, MissingDot, GenerateDot, EmptyUri, TlsaLength, IpseckeyAlgorithm, OhttpValue, Glue, TargetCname, TargetMissing, HostName, Cds, TtlDiffers, Duplicate, NotAtApex, KeyProtocol, KeyAlgorithm, CnameTargetMissing, CnameLoop, TwoSpf, WeakDigest, SingleNs, NoDnskey, Expired, ExpiresSoon, NotYetValid, RrsigTimes, RrsigSigner, RrsigLabels, OriginalTtl, RrsigTtl, Unsigned, NoKey, KeyMissing, RrsigKey, SignsNothing, OccludedDnssec, NoNsec, NsecNext, NsecTypes, DsWithoutNs, NoNsec3, Nsec3Next, Nsec3Types, Nsec3Owner, Nsec3Iterations, Nsec3Iterations50, Nsec3Iterations0, NsecTtl, CdsDelete, Hidden}
 
 -- the messages of findings that only have a code
 abbrev pub finding_text : Code → List ℕ
@@ -37,6 +37,7 @@ finding_text RelativeOrigin = codes "relative name as origin"
 finding_text SoaMinimumTtl = codes "minimum of the SOA is taken as time to live"
 finding_text IncludeTtl = codes "$TTL of the included file stays in force"
 finding_text MissingDot = codes "name ends like the origin: a dot at its end may be missing"
+finding_text GenerateDot = codes "name ends in a dot: nibbles of an even width end in one"
 finding_text EmptyUri = codes "empty target"
 finding_text TlsaLength = codes "wrong number of octets for the matching type"
 finding_text IpseckeyAlgorithm = codes "algorithm 0: BIND 9.18 doesn't load it without a key, Knot 3.2 doesn't with one"
@@ -56,6 +57,7 @@ finding_text CnameLoop = codes "CNAMEs lead back to this name"
 finding_text TwoSpf = codes "name has another SPF record"
 finding_text WeakDigest = codes "SHA-1 is the only digest of this key"
 finding_text SingleNs = codes "zone has only one name server"
+finding_text Hidden = codes "hidden by a delegation"
 finding_text NoDnskey = codes "no DNSKEY at the zone's name: it is not signed"
 finding_text Expired = codes "signature has expired"
 finding_text ExpiresSoon = codes "signature expires soon"

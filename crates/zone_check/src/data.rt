@@ -1,6 +1,6 @@
 //! Finds data of records that looks like a slip.
-ghost use Rattle.std.specs.Prelude.{◌≡◌};
-ghost use Rattle.zone_check.specs.Data.{has_empty_target, has_key_algorithm_zero, has_other_match_length, match_length};
+ghost use Rattle.std.specs.Prelude.{◌≡◌, drop, length};
+ghost use Rattle.zone_check.specs.Data.{after_labels, has_empty_target, has_key_algorithm_zero, has_ohttp, has_ohttp_value, has_other_match_length, is_ohttp_with, match_length};
 
 use rdata_values::RecordType;
 
@@ -50,6 +50,77 @@ pub fn has_key_algorithm_zero(rtype: RecordType, data: &[u8]) -> bool
     }
     match data {
         [_, _, algorithm, ..] => *algorithm == 0,
+        _ => false,
+    }
+}
+
+/// Returns the octets after a number of them, or none if there are fewer.
+fn after_count(octets: &[u8], count: usize) -> &[u8]
+    ensures { result.now ≡ drop count octets.now }
+{
+    match octets.get(count..) {
+        Some(rest) => rest,
+        None => &[],
+    }
+}
+
+/// Returns the octets after the name that octets begin with: labels, each with its length before it,
+/// of which the root, of length 0, is the last (RFC 1035 section 3.1).
+fn after_name(octets: &[u8]) -> &[u8]
+    ensures { result.now ≡ after_labels (length octets.now) octets.now }
+{
+    let mut rest = octets;
+    let mut most = octets.len();
+    while most > 0 {
+        let [count, labels @ ..] = rest else {
+            return &[];
+        };
+        if *count == 0 {
+            return labels;
+        }
+        rest = after_count(labels, usize::from(*count));
+        most -= 1;
+    }
+    &[]
+}
+
+/// Returns whether the octets of a key are those of `ohttp`, and its value has octets.
+fn is_ohttp_with(high: u8, low: u8, count: usize) -> bool
+    ensures { result ≡ is_ohttp_with high low count }
+{
+    high == 0 && low == 8 && count > 0
+}
+
+/// Returns whether service parameters have the key `ohttp` with a value.
+fn has_ohttp(parameters: &[u8]) -> bool
+    ensures { result ≡ has_ohttp (length parameters.now) parameters.now }
+{
+    let mut rest = parameters;
+    let mut most = parameters.len();
+    while most > 0 {
+        let [high, low, more, less, values @ ..] = rest else {
+            return false;
+        };
+        let count = 256 * usize::from(*more) + usize::from(*less);
+        if is_ohttp_with(*high, *low, count) {
+            return true;
+        }
+        rest = after_count(values, count);
+        most -= 1;
+    }
+    false
+}
+
+/// Returns whether the RDATA of SVCB or HTTPS have the key `ohttp` with a value, which it must not
+/// have (RFC 9540 section 4).
+pub fn has_ohttp_value(rtype: RecordType, data: &[u8]) -> bool
+    ensures { result ≡ has_ohttp_value rtype «data».now }
+{
+    if rtype != RecordType::SVCB && rtype != RecordType::HTTPS {
+        return false;
+    }
+    match data {
+        [_, _, rest @ ..] => has_ohttp(after_name(rest)),
         _ => false,
     }
 }

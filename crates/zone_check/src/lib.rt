@@ -4,5 +4,18 @@
 
 pub mod codes;
 pub mod data;
+pub mod directive_findings;
+pub mod entry_words;
+pub mod finding;
+pub mod finding_order;
+pub mod laws;
+pub mod name_findings;
 pub mod names;
+pub mod octet_findings;
+pub mod record_findings;
+pub mod rejection_findings;
+pub mod rule_findings;
+pub mod scan;
+pub mod shown;
 pub mod texts;
+pub mod value_findings;

@@ -1,6 +1,8 @@
 //! Finds names, as they are spelled, that look like a slip.
-ghost use Rattle.std.specs.Prelude.{◌≡◌, ◌↔◌, IsTrue};
-ghost use Rattle.zone_check.specs.Names.{ends_in_dot, passed_with, EndsLike};
+ghost use Rattle.std.specs.Prelude.{◌≡◌, ◌≤◌, length};
+ghost use Rattle.zone_check.specs.Names.{begins_label, ends_in_dot, ends_like, passed_with};
+
+use dns_octets::lowered::same_octets;
 
 /// Returns the number of octets that are skipped with one: a backslash escapes the octet after it.
 fn passed_with(octet: u8) -> usize
@@ -25,15 +27,22 @@ pub fn ends_in_dot(text: &[u8]) -> bool
     false
 }
 
+/// Returns whether a label may begin at an offset: at the start, or after a dot.
+fn begins_label(text: &[u8], at: usize) -> bool
+    requires { at ≤ length text.now }
+    ensures { result ≡ begins_label text.now at }
+{
+    at == 0 || text[at - 1] == b'.'
+}
+
 /// Returns whether a name ends like another, whose text has no dot at its end: it is that name, or
 /// ends in a dot and that name, ignoring letter case. Escapes count as they are spelled.
 pub fn ends_like(text: &[u8], other: &[u8]) -> bool
-    ensures { IsTrue result ↔ EndsLike text.now other.now }
+    ensures { result ≡ ends_like text.now other.now }
 {
     if text.len() < other.len() {
         return false;
     }
-    let count = text.len() - other.len();
-    let begins = count == 0 || text[count - 1] == b'.';
-    begins && text[count..].eq_ignore_ascii_case(other)
+    let at = text.len() - other.len();
+    begins_label(text, at) && same_octets(&text[at..], other)
 }

@@ -40,6 +40,7 @@ pub fn code_text(code: Code) -> &'static str
         Code::SoaMinimumTtl => "minimum of the SOA is taken as time to live",
         Code::IncludeTtl => "$TTL of the included file stays in force",
         Code::MissingDot => "name ends like the origin: a dot at its end may be missing",
+        Code::GenerateDot => "name ends in a dot: nibbles of an even width end in one",
         Code::EmptyUri => "empty target",
         Code::TlsaLength => "wrong number of octets for the matching type",
         Code::IpseckeyAlgorithm => {
@@ -61,6 +62,7 @@ pub fn code_text(code: Code) -> &'static str
         Code::TwoSpf => "name has another SPF record",
         Code::WeakDigest => "SHA-1 is the only digest of this key",
         Code::SingleNs => "zone has only one name server",
+        Code::Hidden => "hidden by a delegation",
         Code::NoDnskey => "no DNSKEY at the zone's name: it is not signed",
         Code::Expired => "signature has expired",
         Code::ExpiresSoon => "signature expires soon",

@@ -1,0 +1,151 @@
+-- Worked examples: findings about entries.
+use Rattle.std.specs.Prelude.{◌≡◌, ℕ, true, false, List, [], ◌∷◌, ◌++◌, codes, Some, None, refl}
+use Rattle.dns_lexer.specs.EntryTokens.{TokenSeen}
+use Rattle.rdata.specs.Types.{type_shapes}
+use Rattle.rdata_values.specs.Rtype as Rtype
+use Rattle.record_rules.specs.declared.rule.RecordRule.TheVariants.{CaaUnknown, CommentInData as CommentRule, NaptrBoth as BothRule, NaptrRegexp as RegexpRule, ReverseName as ReverseRule, SoaMailOneLabel, SoaRetry, TargetAddress as AddressRule, TxtWords as WordsRule, WildcardInside as WildcardRule}
+use Rattle.zone_reader.specs.declared.ttl.RecordTtl.TheVariants.{Explicit, Minimum}
+use Rattle.zonetext_report.specs.Lint.{remark}
+use Rattle.zonetext_report.specs.declared.code.Code.TheVariants.{CaaTag, CommentInData, ControlOctet, ControlZ, Data, MaxTtl, MissingDot, NaptrBoth, NaptrRegexp, NoOrigin, ReverseName, SoaMinimumTtl, SoaTimers, SpfType, TargetAddress, Ttl, TxtWords, WildcardInside}
+use Rattle.zonetext_report.specs.declared.code.Severity.TheVariants.{Error, Warning}
+use Rattle.zone_check.specs.declared.finding.About.TheVariants.{Entry, Octets, Rejection, RuleAtToken, RuleOfRecord, Token}
+use Rattle.zone_check.specs.declared.octet_findings.ReportedOctets.{ReportedOctets}
+use Rattle.zone_check.specs.declared.shown.Decision.TheVariants.{Shown, Counted, Omitted}
+use Rattle.zone_check.specs.Data.{has_ohttp_value}
+use Rattle.zone_check.specs.FindingSpans.{finding_at, finding_of_entry}
+use Rattle.zone_check.specs.NameFindings.{name_findings, record_names}
+use Rattle.zone_check.specs.Names.{ends_in_dot, ends_like}
+use Rattle.zone_check.specs.OctetFindings.{octet_findings}
+use Rattle.zone_check.specs.RejectionFindings.{rejected_finding}
+use Rattle.zone_check.specs.RuleFindings.{rule_finding, rule_findings}
+use Rattle.zone_check.specs.Scan.{scan_of}
+use Rattle.zone_check.specs.Shown.{decisions_after}
+use Rattle.zone_check.specs.ValueFindings.{last_long_ttl, max_ttl_finding, minimum_finding}
+
+abbrev word_at : ℕ → List ℕ → TokenSeen
+word_at at text = record { text = text; is_quoted = false; is_adjacent = false; at = at }
+
+abbrev quoted_at : ℕ → List ℕ → TokenSeen
+quoted_at at text = record { text = text; is_quoted = true; is_adjacent = false; at = at }
+
+-- all findings about octets
+abbrev all_octets : ReportedOctets
+all_octets = record { nul = true; control_z = true; leading_parenthesis = true; high_octet = true; control_octet = true; nested_parentheses = true; adjacent_tokens = true; crlf = true; no_final_newline = true }
+
+plain_entry : scan_of (codes "a IN A 192.0.2.1\n") ≡ record { is_plain = true; has_parenthesis = false; has_quote = false; has_backslash = false; has_semicolon = false }
+plain_entry = refl
+
+quoted_entry : scan_of (codes "a TXT ( \"\\" ++ 252 ∷ codes "\" ) ; b\n") ≡ record { is_plain = false; has_parenthesis = true; has_quote = true; has_backslash = true; has_semicolon = true }
+quoted_entry = refl
+
+-- `a MX 10 b`, at the token `b`
+fourth_token : rejected_finding Data 8 (word_at 0 (codes "a") ∷ word_at 2 (codes "MX") ∷ word_at 5 (codes "10") ∷ word_at 8 (codes "b") ∷ []) ≡ finding_at Data 8 1 Rejection
+fourth_token = refl
+
+-- `a TXT "b"`, after the last token
+after_last : rejected_finding Data 10 (word_at 0 (codes "a") ∷ word_at 2 (codes "TXT") ∷ quoted_at 6 (codes "b") ∷ []) ≡ finding_at Data 9 1 Rejection
+after_last = refl
+
+quotes_are_part : finding_of_entry SpfType Entry (quoted_at 3 (codes "ab") ∷ []) ≡ finding_at SpfType 3 4 Entry
+quotes_are_part = refl
+
+control_z_ends : octet_findings all_octets (remark 0 ControlZ ∷ remark 2 ControlOctet ∷ []) ≡ finding_at ControlZ 0 1 Octets ∷ []
+control_z_ends = refl
+
+control_octets : octet_findings all_octets (remark 1 ControlOctet ∷ remark 4 ControlOctet ∷ []) ≡ finding_at ControlOctet 1 1 Octets ∷ finding_at ControlOctet 4 1 Octets ∷ []
+control_octets = refl
+
+-- `www.example.org` below `example.org.`
+ends_like_origin : ends_like (codes "www.Example.org") (codes "example.org") ≡ true
+ends_like_origin = refl
+
+ends_otherwise : ends_like (codes "myexample.org") (codes "example.org") ≡ false
+ends_otherwise = refl
+
+-- `a\.` is relative, `a\\.` is not
+escaped_dot : ends_in_dot (codes "a\\.") ≡ false
+escaped_dot = refl
+
+escaped_backslash : ends_in_dot (codes "a\\\\.") ≡ true
+escaped_backslash = refl
+
+missing_dot : name_findings (codes "example.org") false false (word_at 0 (codes "www.example.org") ∷ word_at 20 (codes "a.example.org.") ∷ word_at 40 (codes "b") ∷ []) ≡ finding_at MissingDot 0 15 Token ∷ []
+missing_dot = refl
+
+-- `a CNAME b` without an origin: once
+below_root_once : name_findings [] true false (word_at 0 (codes "a") ∷ word_at 8 (codes "b") ∷ []) ≡ finding_at NoOrigin 0 1 Token ∷ []
+below_root_once = refl
+
+below_root_before : name_findings [] true true (word_at 0 (codes "a") ∷ word_at 8 (codes "b") ∷ []) ≡ []
+below_root_before = refl
+
+-- `a MX 10 b`: the second field is a name
+mail_names : record_names Rtype.mx (Some (word_at 0 (codes "a"))) (word_at 5 (codes "10") ∷ word_at 8 (codes "b") ∷ []) ≡ word_at 0 (codes "a") ∷ word_at 8 (codes "b") ∷ []
+unfolding type_shapes
+mail_names = refl
+
+-- ` NS \# 3 0161 00`
+generic_names : record_names Rtype.ns None (word_at 4 (codes "\\#") ∷ word_at 7 (codes "3") ∷ word_at 9 (codes "016100") ∷ []) ≡ []
+unfolding type_shapes
+generic_names = refl
+
+-- an SOA whose minimum is its TTL, and one that is read as 0 for 4294967295 seconds
+minimum : minimum_finding (Minimum 300) (word_at 0 (codes "@") ∷ []) ≡ Some (finding_at SoaMinimumTtl 0 1 Entry)
+minimum = refl
+
+long_minimum : last_long_ttl 0 (1 ∷ 255 ∷ 255 ∷ 255 ∷ 255 ∷ []) (word_at 0 (codes "@") ∷ word_at 30 (codes "4294967295") ∷ []) ≡ Some (finding_at Ttl 30 10 Token)
+long_minimum = refl
+
+above_limit : max_ttl_finding (Explicit 700000) (Some 604800) (word_at 0 (codes "a") ∷ []) ≡ Some (finding_at MaxTtl 0 1 Entry)
+above_limit = refl
+
+-- `1 . ohttp=x`: RFC 9540 has no value
+ohttp_with_value : has_ohttp_value Rtype.https (0 ∷ 1 ∷ 0 ∷ 0 ∷ 8 ∷ 0 ∷ 1 ∷ 120 ∷ []) ≡ true
+ohttp_with_value = refl
+
+-- `1 x. alpn=h2 ohttp`
+ohttp_alone : has_ohttp_value Rtype.svcb (0 ∷ 1 ∷ 1 ∷ 120 ∷ 0 ∷ 0 ∷ 1 ∷ 0 ∷ 3 ∷ 2 ∷ 104 ∷ 50 ∷ 0 ∷ 8 ∷ 0 ∷ 0 ∷ []) ≡ false
+ohttp_alone = refl
+
+-- `@ SOA a b 1 60 90 ..`: retry is the fifth field
+retry : rule_finding SoaRetry Rtype.soa false (word_at 0 (codes "@") ∷ [])
+    (word_at 6 (codes "a") ∷ word_at 8 (codes "b") ∷ word_at 10 (codes "1") ∷ word_at 12 (codes "60") ∷ word_at 15 (codes "90") ∷ []) ≡ finding_at SoaTimers 15 2 (RuleAtToken SoaRetry)
+retry = refl
+
+-- `c NAPTR 1 1 "u" "x" "!a!b" .`: the regexp is the fifth field, with its quotes
+regexp : rule_finding RegexpRule Rtype.naptr false (word_at 0 (codes "c") ∷ [])
+    (word_at 8 (codes "1") ∷ word_at 10 (codes "1") ∷ quoted_at 12 (codes "u") ∷ quoted_at 16 (codes "x") ∷ quoted_at 20 (codes "!a!b") ∷ word_at 27 (codes ".") ∷ [])
+    ≡ finding_at NaptrRegexp 20 6 (RuleAtToken RegexpRule)
+regexp = refl
+
+-- `r CAA 0 isue "ca.example"`, `r MX 10 192.0.2.1`, `r TXT v=spf1 a -all`, `r TXT v=DKIM1; p=abc`
+unknown_tag : rule_finding CaaUnknown Rtype.caa false (word_at 0 (codes "r") ∷ []) (word_at 6 (codes "0") ∷ word_at 8 (codes "isue") ∷ quoted_at 13 (codes "ca.example") ∷ []) ≡ finding_at CaaTag 8 4 (RuleAtToken CaaUnknown)
+unknown_tag = refl
+
+address : rule_finding AddressRule Rtype.mx false (word_at 0 (codes "r") ∷ []) (word_at 5 (codes "10") ∷ word_at 8 (codes "192.0.2.1") ∷ []) ≡ finding_at TargetAddress 8 9 (RuleAtToken AddressRule)
+address = refl
+
+words : rule_finding WordsRule Rtype.txt false (word_at 0 (codes "r") ∷ []) (word_at 6 (codes "v=spf1") ∷ word_at 13 (codes "a") ∷ word_at 15 (codes "-all") ∷ []) ≡ finding_at TxtWords 6 6 (RuleAtToken WordsRule)
+words = refl
+
+comment : rule_finding CommentRule Rtype.txt false (word_at 0 (codes "r") ∷ []) (word_at 6 (codes "v=DKIM1") ∷ []) ≡ finding_at CommentInData 6 7 (RuleAtToken CommentRule)
+comment = refl
+
+-- `b.*.a TXT "c"`: the owner
+wildcard_inside : rule_finding WildcardRule Rtype.txt false (word_at 0 (codes "b.*.a") ∷ word_at 6 (codes "TXT") ∷ quoted_at 10 (codes "c") ∷ []) (quoted_at 10 (codes "c") ∷ []) ≡ finding_at WildcardInside 0 5 (RuleAtToken WildcardRule)
+wildcard_inside = refl
+
+-- `c NAPTR \# 17 ..` has no fields: the record as a whole
+generic_data : rule_finding BothRule Rtype.naptr false (word_at 0 (codes "c") ∷ word_at 2 (codes "NAPTR") ∷ word_at 8 (codes "\\#") ∷ []) (word_at 8 (codes "\\#") ∷ []) ≡ finding_at NaptrBoth 0 1 (RuleOfRecord BothRule)
+generic_data = refl
+
+inherited_owner : rule_finding ReverseRule Rtype.ptr true (word_at 1 (codes "PTR") ∷ word_at 5 (codes "a.") ∷ []) (word_at 5 (codes "a.") ∷ []) ≡ finding_at ReverseName 1 3 (RuleOfRecord ReverseRule)
+inherited_owner = refl
+
+-- the root is assumed as the origin: a mail name of one label is not a slip
+mail_below_root : rule_findings Rtype.soa (record { begins_blank = false; is_below_root = true }) [] [] (SoaMailOneLabel ∷ []) ≡ []
+mail_below_root = refl
+
+-- two are shown, and one that is left out is not counted
+two_shown : decisions_after 2 [] (Some Error ∷ None ∷ Some Warning ∷ Some Error ∷ []) ≡ Shown Error ∷ Omitted ∷ Shown Warning ∷ Counted Error ∷ []
+two_shown = refl

@@ -1,0 +1,102 @@
+-- The rules that a record alone breaks, and where.
+use Rattle.std.specs.Prelude.{ℕ, ◌≡◌, ◌-◌, ◌==◌, ◌||◌, not, if◌then◌else◌, Bool, true, false, List, [], ◌∷◌, ◌++◌, drop, filter, length, map, slice_get, Option, Some, None, MatchOption}
+use Rattle.std.specs.List.{list_any}
+use Rattle.dns_lexer.specs.EntryTokens.{TokenSeen, token_seen}
+use Rattle.dns_lexer.specs.declared.entry_tokens.EntryToken.{EntryToken}
+use Rattle.rdata_fields.specs.declared.record_ref.RecordRef.{RecordRef}
+use Rattle.rdata_values.specs.Rtype as Rtype
+use Rattle.rdata_values.specs.declared.types.RecordType.{RecordType}
+use Rattle.record_rules.specs.FoundAlone.{found_alone}
+use Rattle.record_rules.specs.declared.rule.RecordRule.{RecordRule}
+use Rattle.record_rules.specs.declared.rule.RecordRule.TheVariants.{SpfType, NaptrRegexp, NaptrBoth, CaaUnknown, CaaCritical, CaaCapitals, SoaMailAtSign, SoaMailOneLabel, SoaRetry, SoaExpire, SoaMinimum, ReverseName, WildcardInside, TargetAddress, TxtWords, CommentInData}
+use Rattle.record_rules.specs.declared.written.Written.{Written}
+use Rattle.zone_check.specs.declared.finding.About.TheVariants.{RuleAtToken, RuleOfRecord}
+use Rattle.zone_check.specs.declared.finding.EntryFinding.{EntryFinding}
+use Rattle.zone_check.specs.declared.rule_findings.RuleContext.{RuleContext}
+use Rattle.zone_check.specs.Codes.{code_of_record_rule}
+use Rattle.zone_check.specs.EntryWords.{AreDataTokens}
+use Rattle.zone_check.specs.FindingSpans.{finding_of_entry, finding_of_token}
+use Rattle.zone_check.specs.NameFindings.{is_generic_token, own_owner}
+
+-- a token is a quoted string
+abbrev pub has_quoted : List TokenSeen → Bool
+has_quoted words = list_any (λ t. t.is_quoted) words
+
+-- no tokens, or the form `\#`
+abbrev pub has_no_fields : List TokenSeen → Bool
+has_no_fields [] = true
+has_no_fields (t ∷ words) = is_generic_token t
+
+abbrev pub token_offset : Option TokenSeen → ℕ
+token_offset None = 0
+token_offset (Some t) = t.at
+
+-- the offset of the last token
+abbrev pub last_offset : List TokenSeen → ℕ
+last_offset words = token_offset (slice_get words (length words - 1))
+
+-- RDATA has no fields; or a token is quoted or none is, and the last one begins these octets
+abbrev pub IsWrittenAs : List ℕ → List TokenSeen → Option Written → Type 0
+IsWrittenAs octets words r =
+    MatchOption r (has_no_fields words ≡ true)
+    (λ w. (has_no_fields words ≡ false) × (w.has_quotes ≡ has_quoted words) × (w.last.now ≡ drop (last_offset words) octets))
+
+-- the index of the host or target in RDATA
+abbrev pub target_index : RecordType → ℕ
+target_index rtype = if rtype == Rtype.ns || rtype == Rtype.cname || rtype == Rtype.ptr then 0 else if rtype == Rtype.srv then 3 else 1
+
+-- the index of the field that breaks a rule, if it is one, among a number of tokens
+abbrev pub field_of_rule : RecordRule → RecordType → (count : ℕ) → Option ℕ
+field_of_rule NaptrRegexp rtype count = Some 4
+field_of_rule NaptrBoth rtype count = Some 5
+field_of_rule CaaUnknown rtype count = Some 1
+field_of_rule CaaCritical rtype count = Some 1
+field_of_rule CaaCapitals rtype count = Some 1
+field_of_rule SoaMailAtSign rtype count = Some 1
+field_of_rule SoaMailOneLabel rtype count = Some 1
+field_of_rule SoaRetry rtype count = Some 4
+field_of_rule SoaExpire rtype count = Some 5
+field_of_rule SoaMinimum rtype count = Some 6
+field_of_rule TargetAddress rtype count = Some (target_index rtype)
+field_of_rule TxtWords rtype count = Some 0
+field_of_rule CommentInData rtype count = Some (count - 1)
+field_of_rule SpfType rtype count = None
+field_of_rule ReverseName rtype count = None
+field_of_rule WildcardInside rtype count = None
+
+abbrev pub is_of_owner : RecordRule → Bool
+is_of_owner ReverseName = true
+is_of_owner WildcardInside = true
+is_of_owner _ = false
+
+-- one label is a whole mail name only if an origin is known
+abbrev pub is_omitted_rule : RecordRule → (is_below_root : Bool) → Bool
+is_omitted_rule SoaMailOneLabel is_below_root = is_below_root
+is_omitted_rule _ is_below_root = false
+
+-- the token of a field, if RDATA has fields
+abbrev pub token_with_index : List TokenSeen → ℕ → Option TokenSeen
+token_with_index words index = if has_no_fields words then None else slice_get words index
+
+abbrev pub token_of_field : List TokenSeen → Option ℕ → Option TokenSeen
+token_of_field words None = None
+token_of_field words (Some index) = token_with_index words index
+
+-- at the token that breaks the rule, or at the record as a whole
+abbrev pub finding_at_rule : RecordRule → List TokenSeen → Option TokenSeen → EntryFinding
+finding_at_rule rule tokens None = finding_of_entry (code_of_record_rule rule) (RuleOfRecord rule) tokens
+finding_at_rule rule tokens (Some t) = finding_of_token (code_of_record_rule rule) (RuleAtToken rule) t
+
+-- the owner breaks the rule, or a field of RDATA
+abbrev pub rule_finding : RecordRule → RecordType → (begins_blank : Bool) → (tokens words : List TokenSeen) → EntryFinding
+rule_finding rule rtype begins_blank tokens words = finding_at_rule rule tokens (if is_of_owner rule then own_owner begins_blank tokens else token_of_field words (field_of_rule rule rtype (length words)))
+
+-- a finding for each rule that is not omitted
+abbrev pub rule_findings : RecordType → RuleContext → (tokens words : List TokenSeen) → List RecordRule → List EntryFinding
+rule_findings rtype c tokens words rules = map (λ rule. rule_finding rule rtype c.begins_blank tokens words) (filter (λ rule. not (is_omitted_rule rule c.is_below_root)) rules)
+
+-- the rules that a record breaks, as it is written
+abbrev pub AreRuleFindings : RecordRef → List ℕ → RuleContext → List EntryToken → (before after : List EntryFinding) → Type 0
+AreRuleFindings r octets c tokens before after =
+    (words : List EntryToken) × AreDataTokens c.begins_blank tokens words × (written : Option Written) × IsWrittenAs octets (map token_seen words) written
+    × (after ≡ before ++ rule_findings r.rtype c (map token_seen tokens) (map token_seen words) (found_alone r written))
