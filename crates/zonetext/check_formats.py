@@ -1,5 +1,5 @@
 #!/usr/bin/env python3
-"""Runs `check --format`, and `records`, `canon`, `diff` and `digest` with `--json`, of the built program over zone
+"""Runs `check --format`, and `records`, `canon`, `diff`, `digest` and `serial` with `--json`, of the built program over zone
 files whose names and texts have quotes, angle brackets, ampersands, percent signs, line ends and UTF-8, and parses
 the output: JSON and SARIF by json, Checkstyle by xml.etree, the commands of GitHub by their grammar. All formats must
 have the same findings, and each line must be the one that this script makes of them.
@@ -244,6 +244,21 @@ def check_records(program, folder):
         {"file": "signed", "serial": 2, "scheme": 1, "hash": 2, "verdict": "another serial number than the SOA's"}]))
 
 
+def check_serials(program, folder):
+    """`serial --json`, over names with characters that JSON escapes."""
+    names = ['a"b\\c', "d\ne<&>", "\u00fc"]
+    for serial, name in enumerate(names, 7):
+        with open(os.path.join(folder, name), "wb") as file:
+            file.write(b"x\\034y\\.z.example. 60 SOA ns.o. h.o. %d 4 2 9 5\n" % serial)
+    # (as the text of `serial` has it)
+    zone = 'x"y\\.z.example.'
+    wanted = [{"file": name, "zone": zone, "old": serial} for serial, name in enumerate(names, 7)]
+    status, out, err = run(program, "serial", "--json", *names, cwd=folder)
+    expect("serial --json", (status, objects(out), err), (0, wanted, ""))
+    status, out, err = run(program, "serial", "-w", "--increment", "--json", *names, cwd=folder)
+    expect("serial -w --json", (status, objects(out), err), (0, [{**it, "new": it["old"] + 1} for it in wanted], ""))
+
+
 def main(words):
     program = os.path.abspath(words[0] if words else os.path.join(HERE, "out", "zonetext"))
     if not os.access(program, os.X_OK):
@@ -261,6 +276,7 @@ def main(words):
                 [it for _, _, wanted in ZONES for it in wanted])
         check_options(program, folder)
         check_records(program, folder)
+        check_serials(program, folder)
     print(f"check_formats.py: {count} comparisons, {len(wrong)} differ")
     return 1 if wrong else 0
 

@@ -348,8 +348,19 @@ def several_rows():
     same('several: the second', held('zones/x'), REST)
     same('several: the last', held('zones/y'), ZONE.replace('{}', '2026112602'))
     same('several, one bad', run('serial', '--zone', 'example.', 'zones/x', 'zones/y')[0], 1)
+    same('several, as JSON', run('serial', '--json', '--zone', 'example.', *names),
+         (3, '{"file":"zones/z","zone":"example.","old":8}\n{"file":"zones/y","zone":"example.","old":2026112602}\n',
+          'zonetext: zones/x: no SOA\n' + gone))
+    same('several, replaced, as JSON', run('serial', '-w', '--json', '--zone', 'example.', *DAY, *names),
+         (3, '{"file":"zones/z","zone":"example.","old":8,"new":9}\n'
+          '{"file":"zones/y","zone":"example.","old":2026112602,"new":2026112603}\n',
+          'zonetext: zones/x: no SOA\nzonetext: zones/x: nothing is written\n' + gone + 'zonetext: absent: nothing is written\n'))
+    same('several, as JSON: the first', held('zones/z'), ZONE.replace('{}', '9'))
+    same('past the greatest, as JSON', run('serial', '-w', '--json', '--zone', 'example.', '--set', '4294967295', 'zones/y'),
+         (1, '', 'zonetext: zones/y: --set 4294967295: goes back from serial 2026112603 (RFC 1982)\n'
+          'help: --set 4173596250, and --set 4294967295 once all secondaries have that\nzonetext: zones/y: nothing is written\n'))
     same('a file twice', run('serial', '-w', '--zone', 'example.', '--increment', 'zones/z', 'link'),
-         (0, 'zones/z: 8 -> 9\nlink: 9 -> 10\n', ''))
+         (0, 'zones/z: 9 -> 10\nlink: 10 -> 11\n', ''))
 
 
 def name_rows():
@@ -362,7 +373,7 @@ def name_rows():
         put(f'named/{name}', text)
     os.chdir('named')
     for words in [('check', '-v'), ('records',), ('records', '--json'), ('canon',), ('canon', '--memory', '64K'), ('canon', '--lenient'),
-                  ('digest',), ('serial',)]:
+                  ('digest',), ('serial',), ('serial', '--json')]:
         for name, zone in [('example.zone', 'example.'), ('example.db', 'example.'), ('example', 'example'), ('./example.zone', 'example.'),
                            ('other.example.zone', 'other.example.'), ('old/Example.zone', 'Example.')]:
             wanted = run(*words, '--zone', zone, name)

@@ -9,9 +9,15 @@ usage: crates/zonetext/check_zones.py [--peers] [PROGRAM]
 With --peers it also runs named-checkzone, kzonecheck, nsd-checkzone and ldns-read-zone, if they are installed, and
 compares their results with their columns. The program has 128 KB of stack, unless UNPROVED is set: an unproved program
 needs more.
+
+Then it compares the records that delegations hide, in zones that are chosen at random, with those of the definition
+in `hidden_lines`. Last, `check --zone` of a zone with records for each rule may take at most TIMES the processor time
+of `check` without a zone.
 """
 import json
 import os
+import random
+import re
 import resource
 import shutil
 import subprocess
@@ -24,6 +30,10 @@ FRONT = b"@ 60 SOA ns h 1 4 2 9 5\n@ NS ns\n@ NS ns.o.\nns A 192.0.2.1\n"
 ORIGIN = "example."
 # Octets of stack that the program has.
 STACK = 128 * 1024
+# Number of zones that are chosen at random, and length of the zone that is timed, for a proved program and an unproved one.
+ROUNDS, LENGTH = (40, 200_000) if os.environ.get("UNPROVED") else (200, 10_000_000)
+# Greatest ratio of times.
+TIMES = 10
 # What each peer is run as, over a file; ldns-read-zone takes no origin, so that its file begins with one.
 PEERS = {
     "named-checkzone": ["named-checkzone", "-q", ORIGIN],
@@ -91,6 +101,107 @@ def says(peer, path, octets):
     return "refuses" if run.returncode else "loads"
 
 
+def random_zone(chance):
+    """Lines of a zone with delegations, and owner, type and host of the record of each line."""
+    lines = ["@ 60 SOA ns.o. h.o. 1 4 2 9 5", "@ 60 NS ns.o.", "@ 60 NS ns2.o."]
+    records = [((), "SOA", None), ((), "NS", None), ((), "NS", None)]
+
+    def name():
+        return tuple(chance.choice(["a", "b", "c", "A", "*", "ab"]) for _ in range(chance.choice([0, 1, 1, 2, 2, 3])))
+
+    def lowered(labels):
+        return tuple(label.lower() for label in labels)
+
+    for number in range(chance.randrange(3, 30)):
+        owner, host = name(), None
+        rtype = chance.choice(["NS", "NS", "NS", "A", "A", "AAAA", "TXT", "MX", "DS", "CNAME", "NSEC"])
+        target = ".".join(name()) or "@"
+        if rtype == "NS" and chance.random() < 0.8:
+            host = name()
+        data = {"NS": "ns.o." if host is None else ".".join(host) or "@", "A": f"192.0.2.{number}", "AAAA": f"2001:db8::{number}",
+                "TXT": f"x{number}", "MX": f"10 {target}", "DS": "1 8 2 " + 64 * "0", "CNAME": target, "NSEC": f"{target} A"}
+        lines.append(f"{'.'.join(owner) or '@'} 60 {rtype} {data[rtype]}")
+        records.append((lowered(owner), rtype, None if host is None else lowered(host)))
+    return lines, records
+
+
+def hidden_lines(records):
+    """The lines of the records that delegations hide, and of the addresses among them."""
+    cuts = {owner for owner, rtype, _ in records if rtype == "NS" and owner}
+    hosts = {host for _, rtype, host in records if rtype == "NS" and host}
+    hidden, addresses = [], []
+    for line, (owner, rtype, _) in enumerate(records, 1):
+        is_below = any(owner[count:] in cuts for count in range(1, len(owner)))
+        if not is_below and (owner not in cuts or rtype in ("NS", "DS", "NSEC", "RRSIG")):
+            continue
+        if rtype not in ("A", "AAAA"):
+            hidden.append(line)
+        elif owner not in hosts:
+            addresses.append(line)
+    return hidden, addresses
+
+
+def check_hidden(program, path):
+    """Compares what is found in random zones. Returns how many zones differ."""
+    chance, wrong = random.Random(17), 0
+    for _ in range(ROUNDS):
+        lines, records = random_zone(chance)
+        with open(path, "w", encoding="ascii") as file:
+            file.write("\n".join(lines) + "\n")
+        _, findings = found(program, path, [])
+        got = [(line, message) for line, code, _, message in findings if code == "hidden"]
+        hidden, addresses = hidden_lines(records)
+        counts = re.findall(r"\((\d+) such addresses\)", " ".join(message for _, message in got))
+        if [line for line, _ in got] != sorted(hidden + addresses[:1]) or counts != [str(len(addresses))] * (len(addresses) > 1):
+            wrong += 1
+            print("differs: hidden records of\n  " + "\n  ".join(lines) + f"\n  wanted {hidden} {addresses}\n  found  {got}")
+    return wrong
+
+
+def mixed_zone(length):
+    """A zone of about this length, with records that each rule of several records looks up."""
+    parts, count, number = [FRONT.decode()], 0, 0
+    while count < length:
+        own = f"{number * 7919 % 1000003:07}"
+        parts.append(
+            f"h{own} A 192.0.2.{number % 250} ; rack {number % 97}\nh{own} AAAA 2001:db8::{number % 9999}\n"
+            f'h{own} TXT "host {own}, which is in rack {number % 97}, and has no other use than this one"\n'
+            f"h{own} MX 10 h{own}\nh{own} SSHFP 4 2 {number:064x}\n"
+            f'm{own} TXT "v=spf1 mx include:_spf.o. -all"\n_dmarc.m{own} TXT "v=DMARC1; p=reject; rua=mailto:m{own}@o"\n'
+            f'k._domainkey.m{own} TXT "v=DKIM1; k=rsa; p={number:0200}"\n'
+            f"c{own} CNAME h{own}\nb{own} CNAME www.o.\n_sip._tcp.h{own} SRV 0 0 5060 h{own}\n"
+            f"d{own} NS ns1.d{own}\nd{own} NS ns.o.\nd{own} DS 1 8 2 {number:064x}\nns1.d{own} A 192.0.2.3\n"
+            f"old.d{own} A 192.0.2.4\nd{own} TXT {own}\n")
+        count += len(parts[-1])
+        number += 1
+    return "".join(parts).encode()
+
+
+def processor_time(words):
+    """The least processor time of three runs."""
+    times = []
+    for _ in range(3):
+        before = resource.getrusage(resource.RUSAGE_CHILDREN)
+        subprocess.run(words, stdout=subprocess.DEVNULL, stderr=subprocess.DEVNULL, check=False)
+        after = resource.getrusage(resource.RUSAGE_CHILDREN)
+        times.append(after.ru_utime + after.ru_stime - before.ru_utime - before.ru_stime)
+    return min(times)
+
+
+def check_times(program, path):
+    """Compares the times of a check with and without a zone: a rule that takes quadratic time shows. Returns 1 if they
+    differ too much."""
+    with open(path, "wb") as file:
+        file.write(b"$ORIGIN example.\n" + mixed_zone(LENGTH))
+    alone = processor_time([program, "check", path])
+    whole = processor_time([program, "check", "--zone", ORIGIN, path])
+    print(f"check_zones.py: {LENGTH} octets: {alone:.2f} s, with --zone {whole:.2f} s")
+    if whole <= TIMES * alone:
+        return 0
+    print(f"differs: check --zone takes more than {TIMES} times as long as check")
+    return 1
+
+
 def main(words):
     peers = [peer for peer in PEERS if shutil.which(peer)] if "--peers" in words else []
     words = [word for word in words if word != "--peers"]
@@ -117,6 +228,8 @@ def main(words):
                 if peer in peers and says(peer, path, octets) != column:
                     wrong += 1
                     print(f"differs: {name}: {peer} does not say {column}")
+        wrong += check_hidden(program, path) + check_times(program, path)
+        count += ROUNDS + 1
     for peer in PEERS if "--peers" in sys.argv else []:
         if peer not in peers:
             print(f"check_zones.py: no {peer} is installed")

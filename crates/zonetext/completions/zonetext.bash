@@ -2,35 +2,36 @@
 _zonetext() {
     local word=${COMP_WORDS[COMP_CWORD]} options
     if [ "$COMP_CWORD" -eq 1 ]; then
-        COMPREPLY=($(compgen -W 'check tokens fmt lines records canon diff digest serial cut codes explain help --help --version -h -V' -- "$word"))
+        COMPREPLY=($(compgen -W 'check tokens fmt lines records canon diff digest serial cut expand codes explain help --help --version -h -V' -- "$word"))
         return
     fi
     case ${COMP_WORDS[1]} in
         check)
             options='--text --zone --zone-from-name --include --base --stdin-name --dnssec --within --now --deny --allow --strict'
-            options+=' --conf --zones --name-form --recursive --max-ttl --max-entry --class --format --json --excerpt --max --color --verbose --quiet -v'
+            options+=' --conf --zones --name-form --recursive --max-ttl --max-generate --max-entry --class --format --json --excerpt --max --color --verbose --quiet -v'
             ;;
         canon)
             options='--json --keep-order --lenient --memory --wire --type --only-dnssec --zone --zone-from-name --class --include --base'
-            options+=' --max-entry --no-dnssec --no-soa --quiet'
+            options+=' --max-generate --max-entry --no-dnssec --no-soa --quiet'
             ;;
         diff)
             options='--json --entries --summary --max-changes --need-serial --nsupdate --no-prereq --update-keys'
-            options+=' --zone --zone-from-name --class --include --base --max-entry --no-dnssec --no-soa --quiet'
+            options+=' --zone --zone-from-name --class --include --base --max-generate --max-entry --no-dnssec --no-soa --quiet'
             ;;
         tokens) options='--json --quiet' ;;
         fmt) options='--write --check --diff --force --quiet -w' ;;
         lines) options='--tabbed --quiet' ;;
-        records) options='--json --zone --zone-from-name --class --include --base --max-entry --quiet' ;;
+        records) options='--json --zone --zone-from-name --class --include --base --max-generate --max-entry --quiet' ;;
         digest)
             options='--json --write --hash --force --any --verbose --zone --zone-from-name --class --include --base'
-            options+=' --max-entry --quiet -w -v'
+            options+=' --max-generate --max-entry --quiet -w -v'
             ;;
         serial)
-            options='--write --date --unix --increment --set --now --force --zone --zone-from-name --class --include --base'
-            options+=' --max-entry --quiet -w'
+            options='--json --write --date --unix --increment --set --now --force --zone --zone-from-name --class --include --base'
+            options+=' --max-generate --max-entry --quiet -w'
             ;;
         cut) options='--output --soa --zone --zone-from-name --class --max-entry --quiet -o' ;;
+        expand) options='--max-generate --quiet' ;;
         codes) options='' ;;
         explain)
             if [[ $word != -* ]]; then
@@ -39,7 +40,7 @@ _zonetext() {
             fi
             ;;
         help)
-            COMPREPLY=($(compgen -W 'check tokens fmt lines records canon diff digest serial cut codes explain help' -- "$word"))
+            COMPREPLY=($(compgen -W 'check tokens fmt lines records canon diff digest serial cut expand codes explain help' -- "$word"))
             return
             ;;
         *) return ;;

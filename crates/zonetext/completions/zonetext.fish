@@ -1,5 +1,5 @@
 # Completion of zonetext for fish.
-set -l commands check tokens fmt lines records canon diff digest serial cut codes explain help
+set -l commands check tokens fmt lines records canon diff digest serial cut expand codes explain help
 set -l first "not __fish_seen_subcommand_from $commands"
 complete -c zonetext -n $first -f
 complete -c zonetext -n $first -a check -d 'Report the errors in zone files'
@@ -12,12 +12,13 @@ complete -c zonetext -n $first -a diff -d 'Print the differences between the rec
 complete -c zonetext -n $first -a digest -d 'Check or write the digests of a zone (ZONEMD, RFC 8976)'
 complete -c zonetext -n $first -a serial -d 'Print the serials of zones, or replace them by the next ones'
 complete -c zonetext -n $first -a cut -d 'Split a zone file into parts that can be read separately'
+complete -c zonetext -n $first -a expand -d 'Print a zone file with the entries of its $GENERATE directives'
 complete -c zonetext -n $first -a codes -d 'List the codes of findings, with their severity'
 complete -c zonetext -n $first -a explain -d 'Explain a code, with an example and the RFC'
 complete -c zonetext -n $first -a help -d 'Print the help of a command'
 complete -c zonetext -n $first -s V -l version -d 'Print the version'
 complete -c zonetext -n 'not __fish_seen_subcommand_from help' -s h -l help -d 'Print help'
-complete -c zonetext -n '__fish_seen_subcommand_from check tokens fmt lines records canon diff digest serial cut' -l quiet -d 'Show no progress'
+complete -c zonetext -n '__fish_seen_subcommand_from check tokens fmt lines records canon diff digest serial cut expand' -l quiet -d 'Show no progress'
 complete -c zonetext -n '__fish_seen_subcommand_from check' -l text -d 'Check the syntax alone, not the records'
 complete -c zonetext -n '__fish_seen_subcommand_from check' -l zone -x -d 'Zone origin; also checks the rules of a zone'
 complete -c zonetext -n '__fish_seen_subcommand_from check records canon diff digest serial cut' -l zone-from-name -d 'Like --zone, with the name of the file'
@@ -36,10 +37,11 @@ complete -c zonetext -n '__fish_seen_subcommand_from check' -l allow -x -d 'Omit
 complete -c zonetext -n '__fish_seen_subcommand_from check' -l strict -d 'Report every finding as an error'
 complete -c zonetext -n '__fish_seen_subcommand_from check' -l max-ttl -x -d 'Maximum TTL'
 complete -c zonetext -n '__fish_seen_subcommand_from check records canon diff digest serial cut' -l max-entry -x -d 'Maximum length of an entry in octets'
+complete -c zonetext -n '__fish_seen_subcommand_from check records canon diff digest serial expand' -l max-generate -x -d 'Maximum number of entries of a $GENERATE'
 complete -c zonetext -n '__fish_seen_subcommand_from check' -l class -x -d 'Class of the zone'
 complete -c zonetext -n '__fish_seen_subcommand_from check' -l format -x -a 'text json github sarif checkstyle' -d 'Print findings for other programs'
 complete -c zonetext -n '__fish_seen_subcommand_from check' -l json -d 'The same as --format json'
-complete -c zonetext -n '__fish_seen_subcommand_from records canon diff digest' -l json -d 'Print JSON objects, one a line'
+complete -c zonetext -n '__fish_seen_subcommand_from records canon diff digest serial' -l json -d 'Print JSON objects, one a line'
 complete -c zonetext -n '__fish_seen_subcommand_from check' -l excerpt -d 'Print the line of each finding, also without a terminal'
 complete -c zonetext -n '__fish_seen_subcommand_from check' -l max -x -d 'Print at most N findings'
 complete -c zonetext -n '__fish_seen_subcommand_from check' -l color -x -a 'auto always never' -d 'When to print findings in colour'

@@ -1,19 +1,5 @@
 //! The command `check`: reports what is wrong with zone files.
-use crate::checker::{Checker, Limits};
-use crate::files::check_text;
-use crate::options::{
-    Usage, class_of, max_entry_of, name_of, number_of, report_no_zone, seconds_of,
-};
-use crate::reporter::{Form, Reporter};
-use crate::scopes::is_of_text;
-use crate::settings::{Settings, Unusable, settings_path};
-use crate::shown::Shown;
-use crate::stop::{RunError, exit_status};
-use crate::times::times_of;
-use crate::totals::Totals;
-use crate::zone_files::{Begin, shown_name, visit_file};
-use crate::zone_names::Zone;
-use crate::{machine, many_zones, options};
+use crate::many_zones;
 use clap::ArgMatches;
 use dns_wire::DisplayWithDot;
 use rdata_values::Class;
@@ -22,8 +8,26 @@ use std::io::{IsTerminal, Write};
 use std::{env, io};
 use zone_dnssec::Times;
 use zone_reader::State;
+use zonetext_checker::checker::{Checker, Limits};
+use zonetext_checker::scopes::is_of_text;
+use zonetext_files::files::check_text;
+use zonetext_files::generated::{GenerateMode, GenerateOptions};
+use zonetext_files::shown::Shown;
+use zonetext_files::stop::{RunError, exit_status};
+use zonetext_files::zone_files::{Begin, shown_name, visit_file};
+use zonetext_findings::machine;
+use zonetext_findings::reporter::{Form, Reporter};
+use zonetext_findings::totals::Totals;
 use zonetext_report::code::Code;
 use zonetext_report::policy::Policy;
+use zonetext_zones::options;
+use zonetext_zones::options::{
+    Usage, class_of, max_entry_of, most_generated_of, name_of, number_of, report_no_zone,
+    seconds_of,
+};
+use zonetext_zones::settings::{Settings, Unusable, settings_path};
+use zonetext_zones::times::times_of;
+use zonetext_zones::zone_names::Zone;
 
 /// Number of findings that are shown as lines, unless another number is asked for.
 const MOST: usize = 20;
@@ -40,6 +44,7 @@ pub struct Options<'o> {
     pub max_ttl: Option<u32>,
     /// Greatest number of octets of an entry. With `--text` it is not limited.
     pub max_entry: usize,
+    pub generate: GenerateOptions,
     pub folders: &'o [&'o str],
     pub base: Option<&'o str>,
     pub stdin_name: Option<&'o str>,
@@ -151,6 +156,14 @@ fn options_of<'o>(
         } else {
             max_entry_of(inner)?
         },
+        generate: GenerateOptions {
+            mode: if is_text {
+                GenerateMode::Skip
+            } else {
+                GenerateMode::Read
+            },
+            most: most_generated_of(inner)?,
+        },
         folders: inner.get_strs("include").unwrap_or(&[]),
         base: inner.get_str("base"),
         stdin_name: inner.get_str("stdin-name"),
@@ -228,6 +241,7 @@ fn check_entries(
     let folders = paths_of(rt.alloc(), settings.folders.as_slice())?;
     let begin = Begin {
         includes: !options.is_text,
+        generate: options.generate,
         max_entry: options.max_entry,
         state,
         folders: folders.as_slice(),

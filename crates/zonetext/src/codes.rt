@@ -1,16 +1,16 @@
 //! The commands `codes` and `explain`: list the codes of findings, and explain one.
-use crate::command::required_file;
-use crate::lines::Lines;
-use crate::options::USAGE;
-use crate::shown::Shown;
-use crate::stop::{RunError, exit_status};
 use clap::{ArgMatches, Command};
 use finding_texts::{example_of, summary_of, text_of};
 use std::alloc::{AllocError, Global};
 use std::io;
 use std::io::ErrorKind;
 use strsim::levenshtein;
+use zonetext_files::lines::Lines;
+use zonetext_files::shown::Shown;
+use zonetext_files::stop::{RunError, exit_status};
 use zonetext_report::code::Code;
+use zonetext_zones::arguments::required_file;
+use zonetext_zones::options::USAGE;
 
 /// Greatest number of characters in a line of a paragraph.
 const COLUMNS: usize = 78;

@@ -1,60 +1,24 @@
 //! The command line of the program.
-use crate::format::{FormatOptions, Mode};
-use crate::machine::FORMATS;
-use crate::options::USAGE;
-use crate::zone_names::{name_option, zone_option};
-use crate::{check, codes, cut_args, files, format, record_args, serial_args};
-use clap::{Arg, ArgAction, ArgMatches, Command, Error};
+use crate::expand::{MAX_GENERATE, expand_command, run_expand};
+use crate::{check, codes, cut_args, record_args, serial_args};
+use clap::{Arg, ArgMatches, Command, Error};
 use std::alloc::{AllocError, Global};
 use std::io;
+use zonetext_edit::format;
+use zonetext_edit::format::{FormatOptions, Mode};
+use zonetext_files::files;
+use zonetext_findings::machine::{FORMATS, VERSION};
 use zonetext_lib::layout::Gap;
 use zonetext_lib::tokens::Form;
 use zonetext_lib::writer::Output;
-
-/// The version of the program.
-pub const VERSION: &str = "0.2.0";
-
-/// The help text of `--quiet`.
-pub const QUIET: &str = "don't show progress";
-
-/// Returns a command for any number of files.
-pub fn over_files<'a>(
-    alloc: Global,
-    name: &'a str,
-    about: &'a str,
-) -> Result<Command<'a>, AllocError> {
-    let file = Arg::new(alloc, "FILE")
-        .action(ArgAction::Append)
-        .help("a zone file, or - for standard input");
-    let quiet = flag(alloc, "quiet", QUIET);
-    Command::new(alloc, name).about(about).arg(file)?.arg(quiet)
-}
-
-/// Returns an option without a value.
-pub fn flag<'a>(alloc: Global, name: &'a str, help: &'a str) -> Arg<'a> {
-    Arg::new(alloc, name)
-        .long(name)
-        .action(ArgAction::SetTrue)
-        .help(help)
-}
-
-/// Returns an option with a value that may be repeated.
-pub fn values<'a>(alloc: Global, name: &'a str, value: &'a str, help: &'a str) -> Arg<'a> {
-    Arg::new(alloc, name)
-        .long(name)
-        .action(ArgAction::Append)
-        .value_name(value)
-        .help(help)
-}
+use zonetext_zones::arguments::{BASE, flag, max_entry, over_files, valued, values};
+use zonetext_zones::options::USAGE;
+use zonetext_zones::zone_names::{name_option, zone_option};
 
 /// The help texts of the options of the command that checks files.
 const ZONE: &str = "zone origin; also checks the rules of a zone";
 
 const INCLUDE: &str = "also allow included files in this folder, besides the first file's";
-
-/// The help text of `--base`.
-pub const BASE: &str =
-    "folder for relative names of included files, in place of the including file's";
 
 const STDIN_NAME: &str = "name of standard input, in messages and for files that it includes";
 
@@ -77,7 +41,7 @@ const NOW: &str = "check at this time, not now, as 20260131235959 or seconds sin
 const WHEN: [&str; 3] = ["auto", "always", "never"];
 
 /// The options about records, which conflict with `--text`.
-const OF_RECORDS: [&str; 13] = [
+const OF_RECORDS: [&str; 14] = [
     "zone",
     "zone-from-name",
     "conf",
@@ -90,6 +54,7 @@ const OF_RECORDS: [&str; 13] = [
     "class",
     "max-ttl",
     "max-entry",
+    "max-generate",
     "verbose",
 ];
 
@@ -106,6 +71,7 @@ fn with_findings<'a>(alloc: Global, command: Command<'a>) -> Result<Command<'a>,
         .arg(flag(alloc, "strict", "report every finding as an error"))?
         .arg(valued(alloc, "max-ttl", "TIME", "maximum TTL, as 1d"))?
         .arg(max_entry(alloc))?
+        .arg(valued(alloc, "max-generate", "N", MAX_GENERATE))?
         .arg(valued(alloc, "class", "CLASS", "class of the zone (default IN)"))
 }
 
@@ -216,29 +182,6 @@ fn lines_command<'a>(alloc: Global, name: &'a str) -> Result<Command<'a>, AllocE
     .arg(tabbed)
 }
 
-/// Returns an option with a value.
-pub fn valued<'a>(alloc: Global, name: &'a str, value: &'a str, help: &'a str) -> Arg<'a> {
-    Arg::new(alloc, name)
-        .long(name)
-        .value_name(value)
-        .action(ArgAction::Set)
-        .help(help)
-}
-
-/// Returns the option for entries that are longer than usual.
-pub fn max_entry<'a>(alloc: Global) -> Arg<'a> {
-    let help = "maximum length of an entry in octets, as 2M (default 1M)";
-    valued(alloc, "max-entry", "SIZE", help)
-}
-
-/// Returns a required file argument.
-pub fn required_file<'a>(alloc: Global, name: &'a str, help: &'a str) -> Arg<'a> {
-    Arg::new(alloc, name)
-        .required(true)
-        .action(ArgAction::Set)
-        .help(help)
-}
-
 /// Returns the command line.
 fn command_line<'a>(alloc: Global) -> Result<Command<'a>, AllocError> {
     let mut all = Command::new(alloc, "zonetext")
@@ -287,13 +230,14 @@ enum Subcommand {
     Digest,
     Serial,
     Cut,
+    Expand,
     Codes,
     Explain,
 }
 
 impl Subcommand {
     /// Each command, as the help lists them.
-    const ALL: [Subcommand; 12] = [
+    const ALL: [Subcommand; 13] = [
         Subcommand::Check,
         Subcommand::Tokens,
         Subcommand::Format,
@@ -304,6 +248,7 @@ impl Subcommand {
         Subcommand::Digest,
         Subcommand::Serial,
         Subcommand::Cut,
+        Subcommand::Expand,
         Subcommand::Codes,
         Subcommand::Explain,
     ];
@@ -321,6 +266,7 @@ impl Subcommand {
             Subcommand::Digest => "digest",
             Subcommand::Serial => "serial",
             Subcommand::Cut => "cut",
+            Subcommand::Expand => "expand",
             Subcommand::Codes => "codes",
             Subcommand::Explain => "explain",
         }
@@ -350,6 +296,7 @@ impl Subcommand {
             Subcommand::Serial =>
                 "Example: zonetext serial --write --zone-from-name example.org.zone",
             Subcommand::Cut => "Example: zonetext cut 8 example.org.zone -o part",
+            Subcommand::Expand => "Example: zonetext expand example.org.zone",
             Subcommand::Codes => "Example: zonetext codes",
             Subcommand::Explain => "Example: zonetext explain ns-address",
         }
@@ -373,6 +320,7 @@ impl Subcommand {
             Subcommand::Digest => record_args::digest_command(alloc, self.name()),
             Subcommand::Serial => serial_args::serial_command(alloc, self.name()),
             Subcommand::Cut => cut_args::cut_command(alloc, self.name()),
+            Subcommand::Expand => expand_command(alloc, self.name()),
             Subcommand::Codes => codes::codes_command(alloc, self.name()),
             Subcommand::Explain => codes::explain_command(alloc, self.name()),
         }
@@ -392,6 +340,7 @@ impl Subcommand {
             Subcommand::Digest => record_args::run_digest(rt, inner),
             Subcommand::Serial => serial_args::run_serial(rt, inner, names_of(inner)),
             Subcommand::Cut => cut_args::run_cut(rt, inner),
+            Subcommand::Expand => run_expand(rt, inner),
             Subcommand::Codes => codes::run_codes(rt),
             Subcommand::Explain => codes::run_explain(rt, inner),
         }

@@ -1,12 +1,13 @@
 //! The arguments of the command `cut`.
-use crate::command::{QUIET, flag, max_entry, required_file, valued};
-use crate::cut;
-use crate::options::{Usage, class_of, max_entry_of, status_of};
-use crate::visit::Reading;
-use crate::zone_names::{name_option, zone_of_files, zone_option};
 use clap::{Arg, ArgAction, ArgMatches, Command};
 use std::alloc::{AllocError, Global};
 use std::io;
+use zonetext_files::generated::{GenerateMode, GenerateOptions};
+use zonetext_records::cut;
+use zonetext_records::visit::Reading;
+use zonetext_zones::arguments::{QUIET, flag, max_entry, required_file, valued};
+use zonetext_zones::options::{Usage, class_of, max_entry_of, status_of};
+use zonetext_zones::zone_names::{name_option, zone_of_files, zone_option};
 
 /// Returns the command that cuts a file.
 pub fn cut_command<'a>(alloc: Global, name: &'a str) -> Result<Command<'a>, AllocError> {
@@ -64,6 +65,10 @@ fn cut_by<'o>(rt: &HostRuntime, inner: &'o ArgMatches) -> Result<u8, Usage<'o>> 
         is_one_zone: inner.get_flag("soa"),
         is_quiet: inner.get_flag("quiet"),
         is_lenient: false,
+        generate: GenerateOptions {
+            mode: GenerateMode::Reject,
+            most: 0,
+        },
     };
     let work = cut::CutOptions {
         count: count_of(inner.get_str("N").unwrap_or(""))?,

@@ -1,22 +1,22 @@
 //! The command `check` over many zones: those of folders, of a configuration or of a list.
 use crate::check::{Options, check_argument};
-use crate::listed_zones::add_listed;
-use crate::named_zones::add_named;
-use crate::nsd_zones::add_nsd;
-use crate::options::{USAGE, Usage};
-use crate::reporter::{Form, Reporter};
-use crate::shown::Shown;
-use crate::stop::{EXIT_IO, RunError};
-use crate::totals::Totals;
-use crate::zone_folders::{FORMS, FolderOptions, add_folder};
-use crate::zone_names::Zone;
-use crate::zone_sources::{OmittedCounts, SourceError, Sources, ZoneSource, text_of_file};
 use clap::ArgMatches;
-use server_config::{is_name_form, is_nsd_config};
+use server_config::{OmittedCounts, is_name_form, is_nsd_config};
 use std::alloc::{AllocError, Global};
 use std::fs::metadata;
 use std::io;
+use zonetext_files::shown::Shown;
+use zonetext_files::stop::{EXIT_IO, RunError};
+use zonetext_findings::reporter::{Form, Reporter};
+use zonetext_findings::totals::Totals;
 use zonetext_report::code::Code;
+use zonetext_zones::listed_zones::add_listed;
+use zonetext_zones::named_zones::add_named;
+use zonetext_zones::nsd_zones::add_nsd;
+use zonetext_zones::options::{USAGE, Usage};
+use zonetext_zones::zone_folders::{FORMS, FolderOptions, add_folder};
+use zonetext_zones::zone_names::Zone;
+use zonetext_zones::zone_sources::{SourceError, Sources, ZoneSource, text_of_file};
 
 /// Returns whether a path is that of a folder. `-` is standard input.
 fn is_folder(rt: &HostRuntime, path: &str) -> bool {
@@ -185,6 +185,7 @@ impl<'o> Options<'o> {
             class: source.class.unwrap_or(self.class),
             max_ttl: self.max_ttl.or(source.max_ttl),
             max_entry: self.max_entry,
+            generate: self.generate,
             folders: self.folders,
             base: self.base.or(base),
             stdin_name: self.stdin_name,
@@ -323,7 +324,7 @@ fn check_sources(rt: &HostRuntime, sources: &Sources, options: &Options) -> io::
 pub fn run(rt: &HostRuntime, inner: &ArgMatches, options: &Options) -> io::Result<u8> {
     let forms = match forms_of(inner) {
         Ok(forms) => forms,
-        Err(usage) => return crate::options::status_of(rt, Err(usage)),
+        Err(usage) => return zonetext_zones::options::status_of(rt, Err(usage)),
     };
     if let Zone::Set(zone) = options.zone {
         let zone = Shown(zone);

@@ -1,14 +1,21 @@
 //! The arguments of the commands that read records: `records`, `canon`, `diff` and `digest`.
-use crate::command::{BASE, QUIET, flag, max_entry, over_files, required_file, valued, values};
-use crate::options::{Usage, class_of, max_entry_of, number_of, size_of, status_of};
-use crate::visit::Reading;
-use crate::zone_names::{Zone, name_option, zone_of_files, zone_option};
-use crate::{canon, changes, digest, digest_writing, json_records, records, update};
+use crate::expand::MAX_GENERATE;
 use clap::{ArgMatches, Command};
 use rdata_values::RecordType;
 use std::alloc::{AllocError, Global};
 use std::io;
 use zone_set::{HashAlgorithm, Selection};
+use zonetext_edit::{digest, digest_writing};
+use zonetext_files::generated::{GenerateMode, GenerateOptions};
+use zonetext_records::visit::Reading;
+use zonetext_records::{canon, changes, json_records, records, update};
+use zonetext_zones::arguments::{
+    BASE, QUIET, flag, max_entry, over_files, required_file, valued, values,
+};
+use zonetext_zones::options::{
+    Usage, class_of, max_entry_of, most_generated_of, number_of, size_of, status_of,
+};
+use zonetext_zones::zone_names::{Zone, name_option, zone_of_files, zone_option};
 
 /// The help texts of the options of all of them.
 const ZONE: &str = "origin at the start of each file";
@@ -41,6 +48,7 @@ pub fn with_reading<'a>(alloc: Global, command: Command<'a>) -> Result<Command<'
         .arg(valued(alloc, "class", "CLASS", CLASS))?
         .arg(values(alloc, "include", "DIR", INCLUDE))?
         .arg(valued(alloc, "base", "DIR", BASE))?
+        .arg(valued(alloc, "max-generate", "N", MAX_GENERATE))?
         .arg(max_entry(alloc))
 }
 
@@ -192,6 +200,10 @@ pub fn reading_with<'o>(
         is_one_zone,
         is_quiet: inner.get_flag("quiet"),
         is_lenient: false,
+        generate: GenerateOptions {
+            mode: GenerateMode::Read,
+            most: most_generated_of(inner)?,
+        },
     })
 }
 

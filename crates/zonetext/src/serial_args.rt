@@ -1,15 +1,16 @@
 //! The arguments of the command `serial`.
-use crate::command::{flag, over_files, valued};
-use crate::options::{USAGE, Usage, number_of, report_no_zone, status_of};
 use crate::record_args::{reading_with, with_reading};
-use crate::serial;
-use crate::serial_writing::{self, Choice, SerialOptions};
-use crate::times::instant_of;
-use crate::zone_names::Zone;
 use clap::{Arg, ArgMatches, Command};
 use std::alloc::{AllocError, Global};
 use std::io;
 use zone_serial::SerialMode;
+use zonetext_edit::serial;
+use zonetext_edit::serial_writing::{self, Choice, SerialOptions};
+use zonetext_records::json_records;
+use zonetext_zones::arguments::{flag, over_files, valued};
+use zonetext_zones::options::{USAGE, Usage, number_of, report_no_zone, status_of};
+use zonetext_zones::times::instant_of;
+use zonetext_zones::zone_names::Zone;
 
 /// The help texts of the options.
 const WRITE: &str = "replace the serial in the files by the next one";
@@ -48,7 +49,9 @@ fn with_modes<'a>(alloc: Global, command: Command<'a>) -> Result<Command<'a>, Al
 pub fn serial_command<'a>(alloc: Global, name: &'a str) -> Result<Command<'a>, AllocError> {
     let about = "Print the serials of zones, or replace them by the next ones";
     let write: Arg<'a> = flag(alloc, "write", WRITE).short('w');
-    let command = over_files(alloc, name, about)?.arg(write)?;
+    let command = over_files(alloc, name, about)?
+        .arg(json_records::option(alloc))?
+        .arg(write)?;
     let command = with_modes(alloc, command)?
         .arg(valued(alloc, "now", "TIME", NOW).requires_arg("write")?)?
         .arg(flag(alloc, "force", FORCE).requires_arg("write")?)?;
@@ -91,7 +94,7 @@ fn run_file<'o>(
     }
     match work {
         Some(work) => Ok(serial_writing::run(rt, file, &reading, work)),
-        None => Ok(serial::run(rt, file, &reading)),
+        None => Ok(serial::run(rt, file, &reading, inner.get_flag("json"))),
     }
 }
 
@@ -101,6 +104,7 @@ fn run_files<'o>(rt: &HostRuntime, inner: &'o ArgMatches, files: &[&str]) -> Res
         Some(SerialOptions {
             choice: choice_of(rt, inner)?,
             ignores_journal: inner.get_flag("force"),
+            is_json: inner.get_flag("json"),
         })
     } else {
         None

@@ -1,0 +1,730 @@
+//! Checks the entries of zone files, for the command `check`.
+mod record_checks;
+
+use crate::findings::Findings;
+use crate::held_zone::{
+    HeldZone, LocatedRecord, RecordLocation, Repeats, is_of_absence, is_of_signed_absence,
+    other_soa,
+};
+use crate::hidden_zone::report_hidden;
+use crate::lone_rules::breaks_none;
+use crate::refusals::refused_type;
+use crate::rule_texts::ZoneRecords;
+use crate::scan::needs_lint;
+use crate::scopes::{Scope, scope_of};
+use crate::signature_groups::{groups_of, is_of_time};
+use crate::slips::is_of_parameters;
+use dns_lexer::entry_tokens::EntryToken;
+use dns_octets::AsOctets;
+use dns_wire::{DisplayWithDot, Name};
+use rdata_fields::RecordError;
+use rdata_values::{Class, RecordType};
+use std::alloc::Global;
+use zone_check::codes::{code_of_entry, code_of_rule, code_of_security};
+use zone_check::finding::EntryFinding;
+use zone_check::octet_findings::{ReportedOctets, find_in_octets};
+use zone_check::scan::{OctetScan, scan_octets};
+use zone_check::value_findings::data_code;
+use zone_dnssec::{Times, check_signed};
+use zone_format::place::LocatedOffset;
+use zone_reader::{NameBuffer, ParsedEntry, directive_word};
+use zone_rules::names::view;
+use zone_rules::sorted::has_type;
+use zone_rules::{Rule, SortedRecords, SortedSets, check_zone};
+use zone_set::TaggedOctets;
+use zone_stream::BlockRefusal;
+use zonetext_files::generated::RejectedDirective;
+use zonetext_files::open_file::first_place;
+use zonetext_files::shown::quoted;
+use zonetext_files::stop::RunError;
+use zonetext_files::zone_files::{Entry, IncludeError, Visit};
+use zonetext_findings::exceptions::{may_except, stated_of};
+use zonetext_findings::explain::Refusal;
+use zonetext_findings::generate_findings::refusal_text;
+use zonetext_findings::locations::{
+    beginning, begins_blank, line_spot, long_at, number_of, part_at, position_at, target_position,
+    token_at, tokens_of,
+};
+use zonetext_findings::octet_texts::{is_of_file, octet_text};
+use zonetext_findings::reporter::{FindingText, Reporter};
+use zonetext_findings::subjects::Text;
+use zonetext_report::code::Code;
+use zonetext_report::lint::Block;
+
+/// Ctrl-Z, which ended files of CP/M and DOS.
+const CONTROL_Z: u8 = 0x1A;
+
+/// What is required of records.
+#[derive(Clone, Copy)]
+pub struct Limits {
+    /// Class of the zone.
+    pub class: Class,
+    /// Greatest TTL, in seconds.
+    pub max_ttl: Option<u32>,
+    /// Whether the root is appended to relative names if no origin is known.
+    pub assumes_root: bool,
+    /// Whether findings about several records are reported without a zone too.
+    pub is_strict: bool,
+    /// Whether valid text that looks like a slip is reported.
+    pub reports_slips: bool,
+    /// The times for signatures, if the zone must be signed.
+    pub times: Option<Times>,
+    /// Whether the first file is standard input, which can't be read again.
+    pub is_standard: bool,
+    /// Whether only the text is checked. Findings about its octets are then reported if they are
+    /// denied.
+    pub is_text: bool,
+}
+
+/// The first SOA of a file.
+#[derive(Drop)]
+pub struct SoaInfo {
+    /// Name of the zone.
+    pub zone: NameBuffer,
+    pub serial: u32,
+}
+
+/// Checks entries, and reports the findings.
+#[derive(Drop)]
+pub struct Checker<'a> {
+    alloc: Global,
+    pub findings: Findings<'a>,
+    limits: Limits,
+    /// The zone whose rules are checked.
+    zone: Option<NameBuffer>,
+    /// The records, if they are stored.
+    held: Option<HeldZone>,
+    /// Number of records.
+    pub records: usize,
+    /// The first SOA.
+    pub seen: Option<SoaInfo>,
+    /// Numbers of the files for which CR LF was reported.
+    crlf_files: Vec<usize>,
+    /// Whether it was reported that no origin is known.
+    pub has_reported_origin: bool,
+    /// Whether it was reported that the last owner was rejected.
+    has_reported_owner: bool,
+    /// Whether a file was skipped because it is UTF-16.
+    is_cut: bool,
+    /// Whether records are unread: a file is not included, an origin is rejected, or an entry is
+    /// too long.
+    has_gap: bool,
+}
+
+/// Returns the word of a directive with which an entry begins, if it begins with one.
+fn directive_of<'e>(tokens: &[EntryToken<'e>], begins_blank: bool) -> Option<EntryToken<'e>> {
+    if begins_blank {
+        return None;
+    }
+    let first = tokens.first()?;
+    match directive_word(first) {
+        Some(_) => Some(*first),
+        None => None,
+    }
+}
+
+/// Returns whether the comments of an entry may contain exceptions. Those of a directive apply to its
+/// entries.
+fn has_exceptions(entry: &Entry<'_>, scan: OctetScan) -> bool {
+    entry.generated.is_none() && scan.has_semicolon && may_except(entry.octets)
+}
+
+/// Returns whether findings about the octets of an entry are looked for. Those of a generated entry
+/// are not in the file.
+fn lints(entry: &Entry<'_>, scan: OctetScan) -> bool {
+    entry.generated.is_none() && needs_lint(entry.octets, scan)
+}
+
+impl<'a> Checker<'a> {
+    /// Returns a checker before the first file.
+    pub fn new(
+        rt: &'a HostRuntime,
+        reporter: Reporter<'a>,
+        limits: Limits,
+        zone: Option<NameBuffer>,
+    ) -> Checker<'a> {
+        let alloc = rt.alloc();
+        let holds = !limits.is_text && (limits.is_strict || zone.is_some());
+        let mut reporter = reporter;
+        if holds {
+            reporter.wait();
+        }
+        let named = match &zone {
+            Some(zone) => NameBuffer::from_labels((), zone).ok(),
+            None => None,
+        };
+        let findings = Findings::new(rt, reporter, named, limits.is_standard, !limits.is_text);
+        Checker {
+            alloc,
+            findings,
+            limits,
+            zone,
+            held: if holds {
+                Some(HeldZone::new(alloc))
+            } else {
+                None
+            },
+            records: 0,
+            seen: None,
+            crlf_files: Vec::new(alloc),
+            has_reported_origin: false,
+            has_reported_owner: false,
+            is_cut: false,
+            has_gap: false,
+        }
+    }
+
+    /// Reports an entry that is too long.
+    fn report_long(&mut self, entry: &Entry<'_>) -> Result<(), RunError> {
+        self.has_gap = true;
+        let limit = entry.reader.limit();
+        let text = format!(in self.alloc; "entry longer than {limit} octets")?;
+        let finding_text = FindingText::message(text.as_str());
+        self.findings
+            .reporter
+            .report(long_at(entry), Code::MaxEntry, true, finding_text)
+    }
+
+    /// Returns whether a rejected entry is reported: a relative name without an origin is reported
+    /// once, and so are entries without an owner after a rejected one.
+    fn is_news(&mut self, code: Code) -> bool {
+        match code {
+            Code::NoOrigin => {
+                let was_told = self.has_reported_origin;
+                self.has_reported_origin = true;
+                !was_told
+            }
+            Code::NoOwner => {
+                let was_told = self.has_reported_owner;
+                self.has_reported_owner = true;
+                !was_told
+            }
+            _ => true,
+        }
+    }
+
+    /// Reports why an entry is rejected.
+    fn report_rejection(&mut self, entry: &Entry<'_>, error: &RecordError) -> Result<(), RunError> {
+        let tokens = tokens_of(self.alloc, entry)?;
+        let is_directive = directive_of(tokens.as_slice(), begins_blank(entry)).is_some();
+        let code = code_of_entry(is_directive, error);
+        self.has_gap = self.has_gap || code == Code::Directive;
+        if code != Code::NoOwner {
+            self.has_reported_owner = false;
+        }
+        if !is_directive {
+            let rtype = refused_type(error, tokens.as_slice(), begins_blank(entry));
+            self.hold_refused(entry, rtype)?;
+        }
+        if !self.is_news(code) {
+            return Ok(());
+        }
+        self.findings.report_explained(
+            entry,
+            Refusal {
+                tokens: tokens.as_slice(),
+                is_blank: begins_blank(entry),
+                error,
+                code,
+            },
+        )
+    }
+
+    /// Returns whether an entry is blank, or a record other than an SOA that has no findings.
+    fn shows_nothing(&self, entry: &Entry<'_>, scan: OctetScan) -> bool {
+        if lints(entry, scan) {
+            return false;
+        }
+        if self.limits.is_text {
+            return !matches!(
+                entry.read,
+                Err(BlockRefusal::Text(_) | BlockRefusal::LongEntry)
+            );
+        }
+        match entry.read {
+            Ok(ParsedEntry::Empty) => true,
+            Ok(
+                ParsedEntry::Record {
+                    ttl,
+                    class,
+                    rtype,
+                    ..
+                },
+            ) => {
+                *class == self.limits.class
+                    && *rtype != RecordType::SOA
+                    && (!self.limits.reports_slips
+                        || (self.is_usual_ttl(*ttl)
+                            && data_code(*rtype, entry.data).is_none()
+                            && breaks_none(entry, scan, *rtype).unwrap_or(false)
+                            && !self.may_show_names(entry, scan)))
+            }
+            _ => false,
+        }
+    }
+
+    /// Counts a record.
+    fn count_record(&mut self) {
+        self.has_reported_owner = false;
+        self.records = self.records.saturating_add(1);
+    }
+
+    /// Stores a record and the position of its type, if records are held. `at` is the type's offset.
+    fn hold_record(&mut self, entry: &Entry<'_>, at: usize) -> Result<(), RunError> {
+        let Some(held) = &mut self.held else {
+            return Ok(());
+        };
+        let Some(given) = entry.record()? else {
+            return Ok(());
+        };
+        let position = position_at(entry, at.saturating_sub(entry.offset));
+        let location = RecordLocation {
+            file: entry.number,
+            position,
+            target: target_position(entry, position),
+            generated: number_of(entry),
+        };
+        held.records.add(given, location)
+    }
+
+    /// Stores the RRset of a rejected record, if records are stored and its owner and its type are
+    /// known.
+    fn hold_refused(
+        &mut self,
+        entry: &Entry<'_>,
+        rtype: Option<RecordType>,
+    ) -> Result<(), RunError> {
+        match (&mut self.held, rtype, entry.state.owner()) {
+            (Some(held), Some(rtype), Ok(owner)) => held.refused.add(owner.as_slice(), rtype),
+            _ => Ok(()),
+        }
+    }
+
+    /// Reports findings about several records, once all were read, and the exceptions that were not
+    /// used.
+    pub fn finish(&mut self) -> Result<(), RunError> {
+        let Some(held) = self.held.take() else {
+            return Ok(());
+        };
+        let has_zone = self.zone.is_some() && !self.is_cut;
+        self.findings.reporter.exceptions.sort()?;
+        if !self.is_cut {
+            self.check_held(&held)?;
+        }
+        self.findings.reporter.exceptions.begin();
+        let count = self.findings.reporter.exceptions.all().len();
+        for number in 0..count {
+            self.end_exception(&held, number, has_zone)?;
+        }
+        Ok(())
+    }
+
+    /// Reports findings about the records that are held.
+    fn check_held(&mut self, held: &HeldZone) -> Result<(), RunError> {
+        match self.zone.take() {
+            Some(zone) => self.check_zone(held, &zone, true),
+            None => self.check_zone(held, &Name::root_ref(), false),
+        }
+    }
+
+    /// Reports an exception, by its number, if it was not used.
+    fn end_exception(
+        &mut self,
+        held: &HeldZone,
+        number: usize,
+        has_zone: bool,
+    ) -> Result<(), RunError> {
+        let found = self.findings.reporter.exceptions.all().get(number).copied();
+        match found {
+            Some(exception) if !exception.is_used() && self.looks_for(exception.code, has_zone) => {
+                self.findings
+                    .report_unused(held.file(exception.number), exception)
+            }
+            _ => Ok(()),
+        }
+    }
+
+    /// Returns whether findings with a code were looked for, so that an exception which excepts none
+    /// is not used. `has_zone` says whether the rules of a zone were checked.
+    fn looks_for(&self, code: Code, has_zone: bool) -> bool {
+        let is_whole = has_zone && !self.has_gap;
+        match scope_of(code) {
+            Scope::Text => self.reports_octets(code),
+            Scope::Records => !self.limits.is_text,
+            Scope::MaxTtl => self.limits.max_ttl.is_some(),
+            Scope::Zone => is_whole,
+            Scope::Signed => is_whole && self.limits.times.is_some(),
+        }
+    }
+
+    /// Puts the exceptions of an entry in effect, and reports what is malformed in them.
+    fn begin_exceptions(&mut self, entry: &Entry<'_>) -> Result<(), RunError> {
+        let stated = stated_of(self.alloc, entry.octets)?;
+        let record = match entry.read {
+            Ok(ParsedEntry::Record { at, .. }) => {
+                Some(position_at(entry, at.saturating_sub(entry.offset)))
+            }
+            // (the position of its entries)
+            Ok(ParsedEntry::Generate { .. }) => Some(position_at(entry, 0)),
+            _ => None,
+        };
+        for (code, part) in &stated.codes {
+            let position = position_at(entry, part.at);
+            self.findings
+                .reporter
+                .exceptions
+                .add(*code, entry.number, position, record)?;
+        }
+        for slip in &stated.slips {
+            self.findings.report_slip(entry, *slip)?;
+        }
+        Ok(())
+    }
+
+    /// Reports the exceptions of an entry that were not used, unless records are held, and drops
+    /// them.
+    fn end_exceptions(&mut self, entry: &Entry<'_>) -> Result<(), RunError> {
+        if self.held.is_some() {
+            return Ok(());
+        }
+        let count = self.findings.reporter.exceptions.current().len();
+        for number in 0..count {
+            let found = self
+                .findings
+                .reporter
+                .exceptions
+                .current()
+                .get(number)
+                .copied();
+            if let Some(exception) = found {
+                if !exception.is_used() && self.looks_for(exception.code, false) {
+                    self.findings.report_unused(entry.file, exception)?;
+                }
+            }
+        }
+        self.findings.reporter.exceptions.drop_current();
+        Ok(())
+    }
+
+    /// Processes an entry, with its exceptions in effect.
+    fn process_entry(&mut self, entry: &Entry<'_>, scan: OctetScan) -> Result<(), RunError> {
+        if !self.shows_nothing(entry, scan) {
+            return self.check_entry(entry, scan);
+        }
+        match entry.read {
+            Ok(ParsedEntry::Record { at, .. }) => {
+                self.count_record();
+                self.hold_record(entry, *at)
+            }
+            _ => Ok(()),
+        }
+    }
+
+    /// Reports which rules the records break: those of a zone, or only those of RRsets.
+    fn check_zone<Origin: AsOctets>(
+        &mut self,
+        held: &HeldZone,
+        zone: &Name<Origin>,
+        is_zone: bool,
+    ) -> Result<(), RunError> {
+        let mut set = held.records.set()?;
+        set.sort()?;
+        let records = set.as_slice();
+        let Some(sorted) = SortedRecords::new(records) else {
+            return Err(RunError::Damaged);
+        };
+        let refused = held.refused.sorted()?;
+        let Some(refused) = SortedSets::new(refused.as_slice()) else {
+            return Err(RunError::Damaged);
+        };
+        let found = check_zone(self.alloc, zone, &sorted, &refused)?;
+        if is_zone {
+            if let Some(finding) = other_soa(found.as_slice(), records) {
+                let record = finding.record.and_then(|place| records.get(place));
+                return self.report_other_soa(held, code_of_rule(finding.rule), record, zone);
+            }
+        }
+        let checked = ZoneRecords {
+            zone,
+            sorted: &sorted,
+            refused: &refused,
+        };
+        let mut repeats = Repeats::new(self.alloc);
+        for finding in &found {
+            let record = finding.record.and_then(|place| records.get(place));
+            if repeats.has(finding.rule, record)? {
+                continue;
+            }
+            if self.reports_rule(finding.rule, is_zone) {
+                self.findings.report_rule(held, &checked, finding)?;
+            }
+        }
+        if is_zone {
+            report_hidden(self.alloc, &mut self.findings, held, &checked, self.has_gap)?;
+        }
+        match self.limits.times {
+            Some(times) if is_zone => self.check_signatures(held, zone, times, &sorted),
+            _ => Ok(()),
+        }
+    }
+
+    /// Returns whether a broken rule is reported. Without a zone only rules of RRsets are. Missing
+    /// records are reported only if all records were read.
+    fn reports_rule(&self, rule: Rule, is_zone: bool) -> bool {
+        match rule {
+            Rule::Duplicate | Rule::TtlDiffers => true,
+            _ => is_zone && !(self.has_gap && is_of_absence(rule)),
+        }
+    }
+
+    /// Reports that the records have an SOA only at a name that is not the zone's.
+    fn report_other_soa<Origin: AsOctets>(
+        &mut self,
+        held: &HeldZone,
+        code: Code,
+        record: Option<&LocatedRecord<'_>>,
+        zone: &Name<Origin>,
+    ) -> Result<(), RunError> {
+        let zone = DisplayWithDot::new(zone);
+        let message = format!(in self.alloc; "the SOA is not that of the zone {zone}")?;
+        self.findings
+            .report_at(held, code, record, false, &Text::new(self.alloc, message))
+    }
+
+    /// Reports which rules of DNSSEC the records of a zone break.
+    fn check_signatures<Origin: AsOctets>(
+        &mut self,
+        held: &HeldZone,
+        zone: &Name<Origin>,
+        times: Times,
+        records: &SortedRecords<'_, TaggedOctets<'_, RecordLocation>, &[u8]>,
+    ) -> Result<(), RunError> {
+        // Findings that an unread record might explain are not reported.
+        let is_whole = !self.has_gap && held.refused.is_empty();
+        if !has_type(records, &view(zone), RecordType::DNSKEY) {
+            return if is_whole {
+                self.findings.report_broken(held, Code::NoDnskey, None)
+            } else {
+                Ok(())
+            };
+        }
+        let found = check_signed(self.alloc, zone, times, records)?;
+        for finding in &found {
+            if (!is_whole && is_of_signed_absence(finding.rule)) || is_of_time(finding.rule) {
+                continue;
+            }
+            let record = records.as_slice().get(finding.record);
+            self.findings
+                .report_broken(held, code_of_security(finding.rule), record)?;
+        }
+        let joins = self.findings.reporter.joins_equal();
+        let groups = groups_of(self.alloc, found.as_slice(), records.as_slice(), joins)?;
+        for group in &groups {
+            let text = group.text(self.alloc)?;
+            let record = records.as_slice().get(group.record);
+            self.findings
+                .report_at(held, code_of_security(group.rule), record, false, &text)?;
+        }
+        Ok(())
+    }
+
+    /// Returns whether CR LF at line ends of an entry's file is reported: once a file, and not if a
+    /// syntax error cuts the entry off.
+    fn reports_crlf(&self, entry: &Entry<'_>) -> bool {
+        if let Err(BlockRefusal::Text(_)) = entry.read {
+            return false;
+        }
+        !self.crlf_files.contains(&entry.number)
+    }
+
+    /// Returns whether a finding about octets is reported: if only the text is checked, it must be
+    /// denied.
+    fn reports_octets(&self, code: Code) -> bool {
+        !self.limits.is_text || self.findings.reporter.denies(code)
+    }
+
+    /// Returns which findings about the octets of an entry are reported. A service parameter's value
+    /// is adjacent to its key (RFC 9460 section 2.1), and if only the text is checked, types are not
+    /// known.
+    fn reported_octets(&self, entry: &Entry<'_>) -> ReportedOctets {
+        ReportedOctets {
+            nul: self.reports_octets(Code::Nul),
+            control_z: self.reports_octets(Code::ControlZ),
+            leading_parenthesis: self.reports_octets(Code::LeadingParenthesis),
+            high_octet: self.reports_octets(Code::HighOctet),
+            control_octet: self.reports_octets(Code::ControlOctet),
+            nested_parentheses: self.reports_octets(Code::NestedParentheses),
+            adjacent_tokens: !self.limits.is_text && !is_of_parameters(entry),
+            crlf: self.reports_octets(Code::Crlf),
+            no_final_newline: self.reports_octets(Code::NoFinalNewline),
+        }
+    }
+
+    /// Reports a finding about the octets of an entry.
+    fn report_octets(&mut self, entry: &Entry<'_>, finding: &EntryFinding) -> Result<(), RunError> {
+        let code = finding.code;
+        let spot = part_at(entry, finding.start, finding.width);
+        let is_fault = code.is_text_fault();
+        let Some(severity) = self.findings.reporter.count(spot, code, is_fault) else {
+            return Ok(());
+        };
+        let (spot, text) = octet_text(self.alloc, entry, spot, finding)?;
+        if is_of_file(code) {
+            return self
+                .findings
+                .reporter
+                .show(severity, spot, code, text.finding_text());
+        }
+        self.findings.show_entry(entry, severity, spot, code, &text)
+    }
+
+    /// Reports findings about the octets of an entry. Returns whether it begins with Ctrl-Z.
+    fn lint(&mut self, entry: &Entry<'_>, scan: OctetScan) -> Result<bool, RunError> {
+        let is_long = matches!(entry.read, Err(BlockRefusal::LongEntry));
+        if is_long || !lints(entry, scan) {
+            return Ok(false);
+        }
+        let block = Block {
+            is_last: entry.is_last && entry.octets.first() != Some(&CONTROL_Z),
+            reports_crlf: self.reports_crlf(entry),
+        };
+        let reported = self.reported_octets(entry);
+        let mut found = Vec::new(self.alloc);
+        find_in_octets(self.alloc, entry.octets, block, reported, &mut found)?;
+        let mut is_end = false;
+        for finding in &found {
+            is_end = is_end || finding.code == Code::ControlZ;
+            if finding.code == Code::Crlf {
+                self.crlf_files.push(entry.number)?;
+            }
+            self.report_octets(entry, finding)?;
+        }
+        Ok(is_end)
+    }
+
+    /// Reports findings about an entry.
+    #[inline(never)]
+    fn check_entry(&mut self, entry: &Entry<'_>, scan: OctetScan) -> Result<(), RunError> {
+        let is_end = self.lint(entry, scan)?;
+        match entry.read {
+            _ if is_end => Ok(()),
+            Err(BlockRefusal::Text(fault)) => self.findings.report_fault(entry, *fault),
+            Err(BlockRefusal::LongEntry) => self.report_long(entry),
+            _ if self.limits.is_text => Ok(()),
+            Ok(ParsedEntry::Empty) => Ok(()),
+            Ok(ParsedEntry::Directive) => self.check_directive(entry),
+            Ok(ParsedEntry::Include { .. }) => self.check_directive(entry),
+            Ok(ParsedEntry::Generate { .. }) => self.check_generate(entry),
+            Ok(
+                ParsedEntry::Record {
+                    at,
+                    ttl,
+                    class,
+                    rtype,
+                },
+            ) => self.check_record(entry, scan, *at, *ttl, *class, *rtype),
+            Err(BlockRefusal::Entry(error)) => self.report_rejection(entry, error),
+        }
+    }
+}
+
+impl<'a> Visit for Checker<'a> {
+    fn begin(&mut self, file: &str, number: usize, mark: &[u8]) -> Result<(), RunError> {
+        if let Some(held) = &mut self.held {
+            let name = String::from_str(self.alloc, file)?;
+            held.files.push(name)?;
+        }
+        if mark.is_empty() {
+            return Ok(());
+        }
+        self.is_cut = self.is_cut || mark.len() == 2;
+        if !self.reports_octets(Code::ByteOrderMark) {
+            return Ok(());
+        }
+        self.findings.report(
+            line_spot(file, number, first_place().position, None),
+            Code::ByteOrderMark,
+        )
+    }
+
+    fn is_quiet(&self, entry: &Entry<'_>) -> bool {
+        // A record is stored with its position.
+        if self.held.is_some() {
+            return false;
+        }
+        let scan = scan_octets(entry.octets);
+        !has_exceptions(entry, scan) && self.shows_nothing(entry, scan)
+    }
+
+    fn process_quiet(&mut self, entry: &Entry<'_>) -> Result<(), RunError> {
+        if let Ok(ParsedEntry::Record { .. }) = entry.read {
+            self.count_record();
+        }
+        Ok(())
+    }
+
+    fn process(&mut self, entry: &Entry<'_>) -> Result<(), RunError> {
+        let scan = scan_octets(entry.octets);
+        if entry.generated.is_some() {
+            return self.process_entry(entry, scan);
+        }
+        self.findings.reporter.exceptions.begin();
+        if !has_exceptions(entry, scan) {
+            return self.process_entry(entry, scan);
+        }
+        self.begin_exceptions(entry)?;
+        self.process_entry(entry, scan)?;
+        if let Ok(ParsedEntry::Generate { .. }) = entry.read {
+            // (they stay in effect for its entries)
+            return Ok(());
+        }
+        self.end_exceptions(entry)
+    }
+
+    fn refuse(&mut self, entry: &Entry<'_>, unfit: &IncludeError) -> Result<(), RunError> {
+        if self.limits.is_text {
+            return Ok(());
+        }
+        self.has_gap = true;
+        let tokens = tokens_of(self.alloc, entry)?;
+        let (spot, word) = match tokens.as_slice().get(1) {
+            Some(token) => (token_at(entry, token), token.text),
+            None => (beginning(entry), b"".as_slice()),
+        };
+        let word = quoted(self.alloc, word)?;
+        let text = unfit.text(self.alloc, word.as_str())?;
+        let finding_text = FindingText::message(text.as_str());
+        self.findings
+            .reporter
+            .report(spot, Code::Include, true, finding_text)
+    }
+
+    fn keep_ttl(
+        &mut self,
+        file: &str,
+        number: usize,
+        place: LocatedOffset,
+    ) -> Result<(), RunError> {
+        self.findings.report(
+            line_spot(file, number, place.position, None),
+            Code::IncludeTtl,
+        )
+    }
+
+    fn refuse_generate(
+        &mut self,
+        entry: &Entry<'_>,
+        refusal: RejectedDirective,
+    ) -> Result<(), RunError> {
+        self.has_gap = true;
+        let tokens = tokens_of(self.alloc, entry)?;
+        let (spot, text) = refusal_text(self.alloc, entry, tokens.as_slice(), refusal)?;
+        self.findings.refuse_directive(entry, spot, &text)?;
+        self.end_exceptions(entry)
+    }
+
+    fn end_generate(&mut self, entry: &Entry<'_>, is_whole: bool) -> Result<(), RunError> {
+        self.has_gap = self.has_gap || !is_whole;
+        self.end_exceptions(entry)
+    }
+}

@@ -1,0 +1,187 @@
+//! Findings about a record, and about a directive, by itself.
+use super::{Checker, SoaInfo};
+use crate::scan::{ends_twice, repeats_origin};
+use dns_wire::DisplayWithoutDot;
+use rdata_fields::RecordRef;
+use rdata_values::{Class, RecordType};
+use std::alloc::AllocError;
+use zone_check::directive_findings::directive_finding;
+use zone_check::finding::EntryFinding;
+use zone_check::name_findings::OriginState;
+use zone_check::record_findings::{RecordContext, find_in_record};
+use zone_check::scan::OctetScan;
+use zone_reader::{NameBuffer, RecordTtl};
+use zone_record::Data;
+use zone_set::serial_of;
+use zonetext_files::stop::RunError;
+use zonetext_files::zone_files::Entry;
+use zonetext_findings::generate_findings::dot_in;
+use zonetext_findings::locations::{begins_blank, tokens_of};
+use zonetext_report::code::Code;
+
+impl<'a> Checker<'a> {
+    /// Returns whether the names of a record, as they are spelled, may have findings. A relative
+    /// name that ends like the origin has the origin twice, unless it has escapes.
+    pub(super) fn may_show_names(&self, entry: &Entry<'_>, scan: OctetScan) -> bool {
+        let Some(origin) = entry.state.origin.name() else {
+            return false;
+        };
+        if origin.len() < 2 {
+            return self.limits.assumes_root && !self.has_reported_origin;
+        }
+        let origin = origin.as_slice();
+        let Ok(owner) = entry.state.owner() else {
+            return true;
+        };
+        scan.has_backslash
+            || ends_twice(owner.as_slice(), origin)
+            || repeats_origin(entry.data, origin)
+    }
+
+    /// Returns the text of the origin without its last dot, or none if names need not be looked at
+    /// or the origin is the root.
+    fn origin_text(&self, entry: &Entry<'_>, scan: OctetScan) -> Result<String, AllocError> {
+        match entry.state.origin.name() {
+            Some(origin) if origin.len() >= 2 && self.may_show_names(entry, scan) => {
+                DisplayWithoutDot::new(origin).to_string(self.alloc)
+            }
+            _ => Ok(String::new(self.alloc)),
+        }
+    }
+
+    /// Reports findings about a record as it is written.
+    fn check_text(
+        &mut self,
+        entry: &Entry<'_>,
+        scan: OctetScan,
+        record: &RecordRef<'_>,
+        ttl: RecordTtl,
+    ) -> Result<(), RunError> {
+        let is_below_root = self.is_below_root(entry);
+        let context = RecordContext {
+            ttl,
+            begins_blank: begins_blank(entry),
+            origin: OriginState {
+                assumes_root: is_below_root && entry.state.origin.name().is_some(),
+                is_reported: self.has_reported_origin,
+            },
+            is_below_root,
+            class: self.limits.class,
+            max_ttl: self.limits.max_ttl,
+        };
+        let origin = self.origin_text(entry, scan)?;
+        let tokens = tokens_of(self.alloc, entry)?;
+        let mut found = Vec::new(self.alloc);
+        find_in_record(
+            record,
+            entry.octets,
+            origin.as_bytes(),
+            context,
+            tokens.as_slice(),
+            &mut found,
+        )?;
+        for finding in &found {
+            self.has_reported_origin = self.has_reported_origin || finding.code == Code::NoOrigin;
+        }
+        self.report_found(entry, found.as_slice())
+    }
+
+    /// Reports findings about an entry.
+    fn report_found(&mut self, entry: &Entry<'_>, found: &[EntryFinding]) -> Result<(), RunError> {
+        self.findings
+            .report_found(entry, found, self.limits.max_ttl)
+    }
+
+    /// Stores the first SOA. Fails with `Damaged` if its octets are not an SOA.
+    fn see_soa(&mut self, entry: &Entry<'_>) -> Result<(), RunError> {
+        if self.seen.is_some() {
+            return Ok(());
+        }
+        let (Ok(owner), Ok(data)) = (
+            entry.state.owner(),
+            Data::from_octets(RecordType::SOA, entry.data),
+        ) else {
+            return Err(RunError::Damaged);
+        };
+        let (Ok(zone), Some(serial)) = (NameBuffer::from_labels((), owner), serial_of(&data)) else {
+            return Err(RunError::Damaged);
+        };
+        if self.findings.zone.is_none() {
+            self.findings.zone = NameBuffer::from_labels((), owner).ok();
+        }
+        self.seen = Some(SoaInfo { zone, serial });
+        Ok(())
+    }
+
+    /// Returns whether the root is appended to relative names of an entry because no origin is known.
+    fn is_below_root(&self, entry: &Entry<'_>) -> bool {
+        match entry.state.origin.name() {
+            Some(origin) => self.limits.assumes_root && origin.len() < 2,
+            None => true,
+        }
+    }
+
+    /// Returns whether a TTL has no findings.
+    pub(super) fn is_usual_ttl(&self, ttl: RecordTtl) -> bool {
+        match (ttl, self.limits.max_ttl) {
+            (RecordTtl::Minimum(_), _) => false,
+            // A TTL of 2^31 or more is 0.
+            (RecordTtl::Explicit(0), _) => false,
+            (_, Some(most)) => ttl.seconds() <= most,
+            (_, None) => true,
+        }
+    }
+
+    /// Reports findings about a record.
+    pub(super) fn check_record(
+        &mut self,
+        entry: &Entry<'_>,
+        scan: OctetScan,
+        at: usize,
+        ttl: RecordTtl,
+        class: Class,
+        rtype: RecordType,
+    ) -> Result<(), RunError> {
+        self.count_record();
+        let has_class = class == self.limits.class;
+        if has_class && rtype == RecordType::SOA {
+            self.see_soa(entry)?;
+        }
+        if has_class && !self.limits.reports_slips {
+            return Ok(());
+        }
+        if let Some(record) = entry.record()? {
+            self.check_text(entry, scan, &record, ttl)?;
+        }
+        if !has_class {
+            return self.hold_refused(entry, Some(rtype));
+        }
+        self.hold_record(entry, at)
+    }
+
+    /// Reports a format of `$GENERATE` that ends a name in a dot.
+    pub(super) fn check_generate(&mut self, entry: &Entry<'_>) -> Result<(), RunError> {
+        if !self.limits.reports_slips {
+            return Ok(());
+        }
+        let tokens = tokens_of(self.alloc, entry)?;
+        match dot_in(tokens.as_slice()) {
+            Some(finding) => self.report_found(entry, &[finding]),
+            None => Ok(()),
+        }
+    }
+
+    /// Reports findings about a directive.
+    pub(super) fn check_directive(&mut self, entry: &Entry<'_>) -> Result<(), RunError> {
+        let tokens = tokens_of(self.alloc, entry)?;
+        if let Some(word) = tokens.first() {
+            if word.text.eq_ignore_ascii_case(b"$ORIGIN") {
+                self.limits.assumes_root = false;
+            }
+        }
+        match directive_finding(tokens.as_slice()) {
+            Some(finding) => self.report_found(entry, &[finding]),
+            None => Ok(()),
+        }
+    }
+}

@@ -1,0 +1,369 @@
+//! Reports findings with the owners and the types of the records that they are about.
+use crate::entry_texts::entry_text;
+use crate::held_zone::{HeldZone, LocatedRecord};
+use crate::rule_texts::{ZoneRecords, is_at_target, rule_text};
+use dns_lexer::pieces::Fault;
+use dns_lexer::position::Position;
+use dns_octets::AsOctets;
+use std::alloc::{AllocError, Global};
+use zone_check::codes::{code_of_fault, code_of_rule};
+use zone_check::finding::EntryFinding;
+use zone_check::rejection_findings::rejected_finding;
+use zone_check::texts::code_text;
+use zone_reader::NameBuffer;
+use zone_rules::Finding;
+use zonetext_files::file_lines::FileLines;
+use zonetext_files::open_file::first_place;
+use zonetext_files::stop::RunError;
+use zonetext_files::zone_files::Entry;
+use zonetext_findings::exceptions::{Exception, Slip};
+use zonetext_findings::explain::{Refusal, explain};
+use zonetext_findings::locations::{begins_blank, fault_at, first_tokens, line_spot, part_at};
+use zonetext_findings::octet_texts::fault_text;
+use zonetext_findings::reporter::{FindingLocation, FindingText, Reporter};
+use zonetext_findings::subjects::{Subject, Text};
+use zonetext_report::code::{Code, Severity};
+
+/// Greatest number of records among which names like others are looked for, in all.
+const MOST_SEARCHED: usize = 200_000;
+
+/// Returns the number of the file and the position of a finding at a record, or at its target, or at
+/// the first file's start.
+fn place_of(record: Option<&LocatedRecord<'_>>, at_target: bool) -> (usize, Position) {
+    let Some(record) = record else {
+        return (0, first_place().position);
+    };
+    let location = record.owner.as_octets().tag;
+    if at_target {
+        (location.file, location.target)
+    } else {
+        (location.file, location.position)
+    }
+}
+
+/// Returns the number of a record's entry, if it is generated.
+fn number_of(record: Option<&LocatedRecord<'_>>) -> Option<u32> {
+    match record {
+        Some(record) => record.owner.as_octets().tag.generated,
+        None => None,
+    }
+}
+
+/// Returns the location of the code of an exception.
+fn code_spot<'s>(
+    file: &'s str,
+    exception: Exception,
+    line: Option<&'s [u8]>,
+) -> FindingLocation<'s> {
+    let (number, position) = (exception.number, exception.position);
+    let width = exception.code.name().len();
+    FindingLocation {
+        end_column: position.column.saturating_add(width),
+        ..line_spot(file, number, position, line)
+    }
+}
+
+/// Reports findings with their subjects.
+#[derive(Drop)]
+pub struct Findings<'a> {
+    alloc: Global,
+    pub reporter: Reporter<'a>,
+    lines: FileLines<'a>,
+    /// The zone to which owners are relative in messages: that of the option, or that of the first
+    /// SOA.
+    pub zone: Option<NameBuffer>,
+    /// Whether the first file is standard input, which can't be read again.
+    is_standard: bool,
+    /// Whether findings have owners and types: if only the text is checked, they don't.
+    has_subjects: bool,
+    /// Number of records among which names like others were looked for.
+    searched: usize,
+}
+
+impl<'a> Findings<'a> {
+    /// Returns a value before the first finding.
+    pub fn new(
+        rt: &'a HostRuntime,
+        reporter: Reporter<'a>,
+        zone: Option<NameBuffer>,
+        is_standard: bool,
+        has_subjects: bool,
+    ) -> Findings<'a> {
+        Findings {
+            alloc: rt.alloc(),
+            reporter,
+            lines: FileLines::new(rt),
+            zone,
+            is_standard,
+            has_subjects,
+            searched: 0,
+        }
+    }
+
+    /// Reports a finding that only has a code.
+    pub fn report(&mut self, spot: FindingLocation<'_>, code: Code) -> Result<(), RunError> {
+        self.reporter
+            .report(spot, code, false, FindingText::message(code_text(code)))
+    }
+
+    /// Returns the owner and the type of an entry, as they are shown.
+    fn subject_of(&self, entry: &Entry<'_>) -> Result<Subject, AllocError> {
+        if !self.has_subjects {
+            return Ok(Subject::none(self.alloc));
+        }
+        let tokens = first_tokens(self.alloc, entry)?;
+        let is_blank = begins_blank(entry);
+        let zone = self.zone.as_ref();
+        Subject::of_entry(self.alloc, entry, tokens.as_slice(), is_blank, zone)
+    }
+
+    /// Shows a finding about an entry, with its owner and its type.
+    pub fn show_entry(
+        &mut self,
+        entry: &Entry<'_>,
+        severity: Severity,
+        spot: FindingLocation<'_>,
+        code: Code,
+        text: &Text,
+    ) -> Result<(), RunError> {
+        let subject = self.subject_of(entry)?;
+        let note = text.note.as_str();
+        let finding_text = subject.finding_text(text.message.as_str(), text.help.as_str());
+        self.reporter.show(
+            severity,
+            spot,
+            code,
+            FindingText {
+                note,
+                ..finding_text
+            },
+        )
+    }
+
+    /// Reports findings about an entry. `most` is the greatest TTL that is allowed.
+    pub fn report_found(
+        &mut self,
+        entry: &Entry<'_>,
+        found: &[EntryFinding],
+        most: Option<u32>,
+    ) -> Result<(), RunError> {
+        for finding in found {
+            let code = finding.code;
+            let spot = part_at(entry, finding.start, finding.width);
+            if let Some(severity) = self.reporter.count(spot, code, false) {
+                let text = entry_text(self.alloc, entry, finding, most)?;
+                self.show_entry(entry, severity, spot, code, &text)?;
+            }
+        }
+        Ok(())
+    }
+
+    /// Reports a syntax error of the text.
+    pub fn report_fault(&mut self, entry: &Entry<'_>, fault: Fault) -> Result<(), RunError> {
+        let code = code_of_fault(fault.wrong);
+        let spot = fault_at(entry, fault);
+        let Some(severity) = self.reporter.count(spot, code, true) else {
+            return Ok(());
+        };
+        let (spot, text) = fault_text(self.alloc, entry, fault)?;
+        self.show_entry(entry, severity, spot, code, &text)
+    }
+
+    /// Reports why a directive is rejected.
+    pub fn refuse_directive(
+        &mut self,
+        entry: &Entry<'_>,
+        spot: FindingLocation<'_>,
+        text: &Text,
+    ) -> Result<(), RunError> {
+        match self.reporter.count(spot, Code::Directive, true) {
+            Some(severity) => self.show_entry(entry, severity, spot, Code::Directive, text),
+            None => Ok(()),
+        }
+    }
+
+    /// Reports a rejected entry with what was probably meant.
+    pub fn report_explained(
+        &mut self,
+        entry: &Entry<'_>,
+        refusal: Refusal<'_, '_>,
+    ) -> Result<(), RunError> {
+        let at = refusal.error.offset.saturating_sub(entry.offset);
+        let finding = rejected_finding(refusal.code, at, refusal.tokens);
+        let spot = part_at(entry, finding.start, finding.width);
+        let Some(severity) = self.reporter.count(spot, finding.code, true) else {
+            return Ok(());
+        };
+        let found = explain(self.alloc, entry, refusal)?;
+        if found.is_record {
+            return self.show_entry(entry, severity, found.spot, found.code, &found.text);
+        }
+        let finding_text = found.text.finding_text();
+        self.reporter
+            .show(severity, found.spot, found.code, finding_text)
+    }
+
+    /// Reports a part of an entry's comment that is not as exceptions are written.
+    pub fn report_slip(&mut self, entry: &Entry<'_>, slip: Slip<'_>) -> Result<(), RunError> {
+        let (part, message) = match slip {
+            Slip::Word(part) => (part, "exceptions begin with 'allow', and not with"),
+            Slip::Code(part) => (part, "unknown code in an exception"),
+        };
+        let spot = part_at(entry, part.at, part.octets.len());
+        let Some(severity) = self.reporter.count(spot, Code::Exception, false) else {
+            return Ok(());
+        };
+        let text = Text::worded(self.alloc, message, Some(part.octets))?;
+        self.show_entry(entry, severity, spot, Code::Exception, &text)
+    }
+
+    /// Reports an exception that excepts no finding. `file` is the path of its file.
+    pub fn report_unused(&mut self, file: &str, exception: Exception) -> Result<(), RunError> {
+        let name = exception.code.name();
+        let number = exception.number;
+        let spot = code_spot(file, exception, None);
+        let Some(severity) = self.reporter.count(spot, Code::UnusedAllow, false) else {
+            return Ok(());
+        };
+        let line = if self.reads_line(number) {
+            self.lines.line(number, file, exception.position.line)?
+        } else {
+            None
+        };
+        let octets = line.as_ref().map(|line| line.as_slice());
+        let spot = code_spot(file, exception, octets);
+        let text = Text::worded(self.alloc, "no finding to except", Some(name.as_bytes()))?;
+        self.reporter
+            .show(severity, spot, Code::UnusedAllow, text.finding_text())
+    }
+
+    /// Reports that a rule is broken, by a record or by what is missing in the zone.
+    pub fn report_broken(
+        &mut self,
+        held: &HeldZone,
+        code: Code,
+        record: Option<&LocatedRecord<'_>>,
+    ) -> Result<(), RunError> {
+        let text = Text::worded(self.alloc, code_text(code), None)?;
+        self.report_at(held, code, record, false, &text)
+    }
+
+    /// Reports that records break a rule of zones. Its text is made only if it may be shown.
+    pub fn report_rule<Origin: AsOctets>(
+        &mut self,
+        held: &HeldZone,
+        records: &ZoneRecords<'_, '_, Origin>,
+        finding: &Finding,
+    ) -> Result<(), RunError> {
+        let record = finding
+            .record
+            .and_then(|place| records.sorted.as_slice().get(place));
+        let at_target = is_at_target(finding.rule);
+        let code = code_of_rule(finding.rule);
+        let Some(severity) = self.count_at(held, code, record, at_target) else {
+            return Ok(());
+        };
+        let may_search = at_target && self.may_search(records.sorted.as_slice().len());
+        let text = rule_text(self.alloc, records, finding, may_search)?;
+        self.show_at(held, severity, code, record, at_target, &text)
+    }
+
+    /// Returns whether a name like another is looked for among a number of records.
+    fn may_search(&mut self, count: usize) -> bool {
+        match self.searched.checked_add(count) {
+            Some(sum) if sum <= MOST_SEARCHED => {
+                self.searched = sum;
+                true
+            }
+            _ => false,
+        }
+    }
+
+    /// Counts a finding at a record, or at its target, or at the first file's start. Returns its
+    /// severity if it may be shown.
+    pub fn count_at(
+        &mut self,
+        held: &HeldZone,
+        code: Code,
+        record: Option<&LocatedRecord<'_>>,
+        at_target: bool,
+    ) -> Option<Severity> {
+        let (file, position) = place_of(record, at_target);
+        self.select_exceptions(record);
+        let spot = line_spot(held.file(file), file, position, None);
+        self.reporter.count(spot, code, false)
+    }
+
+    /// Shows a finding that was counted at a record, or at its target, or at the first file's start.
+    pub fn show_at(
+        &mut self,
+        held: &HeldZone,
+        severity: Severity,
+        code: Code,
+        record: Option<&LocatedRecord<'_>>,
+        at_target: bool,
+        text: &Text,
+    ) -> Result<(), RunError> {
+        let (file, position) = place_of(record, at_target);
+        let name = held.file(file);
+        let line = if self.reads_line(file) {
+            self.lines.line(file, name, position.line)?
+        } else {
+            None
+        };
+        let subject = match record {
+            Some(record) => {
+                let rtype = Some(record.data.rtype());
+                Subject::new(self.alloc, &record.owner, rtype, self.zone.as_ref())?
+            }
+            None => Subject::none(self.alloc),
+        };
+        let octets = line.as_ref().map(|line| line.as_slice());
+        let spot = FindingLocation {
+            generated: number_of(record),
+            ..line_spot(name, file, position, octets)
+        };
+        let finding_text = subject.finding_text(text.message.as_str(), text.help.as_str());
+        self.reporter.show(severity, spot, code, finding_text)
+    }
+
+    /// Reports a finding at a record, or at its target, or at the first file's start.
+    pub fn report_at(
+        &mut self,
+        held: &HeldZone,
+        code: Code,
+        record: Option<&LocatedRecord<'_>>,
+        at_target: bool,
+        text: &Text,
+    ) -> Result<(), RunError> {
+        match self.count_at(held, code, record, at_target) {
+            Some(severity) => self.show_at(held, severity, code, record, at_target, text),
+            None => Ok(()),
+        }
+    }
+
+    /// Returns whether an exception of a record excepts findings with a code, and marks it as used.
+    pub fn excepts(&mut self, code: Code, record: &LocatedRecord<'_>) -> bool {
+        self.select_exceptions(Some(record));
+        self.reporter.exceptions.excepts(code)
+    }
+
+    /// Puts the exceptions of a record in effect, or none.
+    fn select_exceptions(&mut self, record: Option<&LocatedRecord<'_>>) {
+        match record {
+            Some(record) => {
+                let location = record.owner.as_octets().tag;
+                self.reporter
+                    .exceptions
+                    .select(location.file, location.position);
+            }
+            None => self.reporter.exceptions.begin(),
+        }
+    }
+
+    /// Returns whether a line of a file, by its number, can be read again for a finding.
+    fn reads_line(&self, file: usize) -> bool {
+        let can_be_read = file > 0 || !self.is_standard;
+        can_be_read && self.reporter.shows_lines()
+    }
+}

@@ -1,0 +1,17 @@
+//! What `check` finds in entries and in the records of a zone. A part of the program `zonetext`.
+#![tactic(auto)]
+
+pub mod checker;
+mod entry_texts;
+mod findings;
+mod held_zone;
+mod hidden_zone;
+mod lone_rules;
+pub mod record_arena;
+mod refusals;
+mod refused_sets;
+mod rule_texts;
+mod scan;
+pub mod scopes;
+mod signature_groups;
+mod slips;

@@ -1,0 +1,249 @@
+//! The messages of findings about the records of a zone.
+use crate::held_zone::{LocatedRecord, RecordLocation};
+use dns_octets::AsOctets;
+use dns_wire::{DisplayWithDot, Name};
+use finding_texts::similar::edits_between;
+use rdata_values::RecordType;
+use std::alloc::{AllocError, Global};
+use zone_check::codes::code_of_rule;
+use zone_check::texts::code_text;
+use zone_rules::hosts::dname_over_host;
+use zone_rules::names::{is_name_below, view};
+use zone_rules::sorted::owned_by;
+use zone_rules::{Finding, Rule, SortedRecords, SortedSets};
+use zone_set::TaggedOctets;
+use zonetext_findings::subjects::Text;
+
+/// The records of a zone, and its RRsets with a rejected entry.
+#[derive(Clone, Copy)]
+pub struct ZoneRecords<'z, 'h, Origin: AsOctets> {
+    pub zone: &'z Name<Origin>,
+    pub sorted: &'z SortedRecords<'z, TaggedOctets<'h, RecordLocation>, &'h [u8]>,
+    pub refused: &'z SortedSets<'z>,
+}
+
+/// Returns whether a rule is about the target of a record.
+pub fn is_at_target(rule: Rule) -> bool {
+    matches!(
+        rule,
+        Rule::NsAddress
+            | Rule::MissingGlue
+            | Rule::HostIsAlias
+            | Rule::HostBelowDname
+            | Rule::HostMissing
+            | Rule::CnameTargetMissing
+    )
+}
+
+/// Returns the target of a record: the host of NS, MX and SRV, and that of CNAME.
+fn target_of<'r>(record: &'r LocatedRecord<'_>) -> Option<Name<&'r [u8]>> {
+    let place = match record.data.rtype() {
+        RecordType::NS | RecordType::CNAME => 0,
+        RecordType::MX => 1,
+        RecordType::SRV => 3,
+        _ => return None,
+    };
+    match Name::from_octets(record.data.part(place)?) {
+        Ok(name) => Some(name),
+        Err(_) => None,
+    }
+}
+
+/// Returns whether a record is an address.
+pub fn is_address(record: &LocatedRecord<'_>) -> bool {
+    matches!(record.data.rtype(), RecordType::A | RecordType::AAAA)
+}
+
+/// A name of the zone with an address, and the number of edits that lead to it.
+#[derive(Drop)]
+struct Near {
+    edits: usize,
+    name: String,
+}
+
+/// Returns the name with an address that is most like another name below the zone, if one is.
+fn nearest<Origin: AsOctets>(
+    alloc: Global,
+    records: &ZoneRecords<'_, '_, Origin>,
+    target: &Name<&[u8]>,
+) -> Result<Option<Near>, AllocError> {
+    let zone = view(records.zone);
+    let mut best: Option<Near> = None;
+    if !is_name_below(target, &zone) {
+        return Ok(best);
+    }
+    let wanted = relative_text(alloc, target, &zone)?;
+    for record in records.sorted.as_slice() {
+        let owner = view(&record.owner);
+        if !is_address(record) || owner.len().abs_diff(target.len()) > 2 {
+            continue;
+        }
+        if !is_name_below(&owner, &zone) {
+            continue;
+        }
+        let text = relative_text(alloc, &owner, &zone)?;
+        if let Some(edits) = edits_between(alloc, wanted.as_str(), text.as_str())? {
+            if best.as_ref().is_none_or(|near| edits < near.edits) {
+                let name = DisplayWithDot::new(&owner).to_string(alloc)?;
+                best = Some(Near { edits, name });
+            }
+        }
+    }
+    Ok(best)
+}
+
+/// Returns the text of a name below a zone, without the labels of the zone and the dot before them.
+fn relative_text(
+    alloc: Global,
+    name: &Name<&[u8]>,
+    zone: &Name<&[u8]>,
+) -> Result<String, AllocError> {
+    let text = DisplayWithDot::new(name).to_string(alloc)?;
+    let zone = DisplayWithDot::new(zone).to_string(alloc)?;
+    let count = text.len().saturating_sub(zone.len().saturating_add(1));
+    String::from_str(alloc, text.as_str().get(..count).unwrap_or(""))
+}
+
+/// Returns the message about a target without an address, or without records. If `may_search` is
+/// set, its help has the name that was probably meant.
+fn missing_target<Origin: AsOctets>(
+    alloc: Global,
+    records: &ZoneRecords<'_, '_, Origin>,
+    record: &LocatedRecord<'_>,
+    rule: Rule,
+    may_search: bool,
+) -> Result<Option<Text>, AllocError> {
+    let Some(target) = target_of(record) else {
+        return Ok(None);
+    };
+    let rtype = record.data.rtype();
+    let name = DisplayWithDot::new(&target);
+    let message = match rule {
+        Rule::HostMissing => format!(in alloc; "{rtype} target {name} has no address in the zone")?,
+        Rule::CnameTargetMissing => {
+            format!(in alloc; "{rtype} target {name} has no records in the zone")?
+        }
+        Rule::NsAddress => format!(in alloc; "name server {name} has no address in the zone")?,
+        _ => format!(in alloc; "name server {name} below the delegation has no address")?,
+    };
+    let text = Text::new(alloc, message);
+    if !may_search {
+        return Ok(Some(text));
+    }
+    match nearest(alloc, records, &target)? {
+        Some(near) => {
+            let name = near.name.as_str();
+            let help = format!(in alloc; "did you mean {name}?")?;
+            Ok(Some(Text { help, ..text }))
+        }
+        None => Ok(Some(text)),
+    }
+}
+
+/// Returns the message about a target below a DNAME.
+fn dname_target<'r, 'h>(
+    alloc: Global,
+    sorted: &'r SortedRecords<'r, TaggedOctets<'h, RecordLocation>, &'h [u8]>,
+    refused: &'r SortedSets<'r>,
+    record: &'r LocatedRecord<'h>,
+) -> Result<Option<Text>, AllocError> {
+    let Some(name) = dname_over_host(sorted, refused, record) else {
+        return Ok(None);
+    };
+    let name = DisplayWithDot::new(&name);
+    let text = format!(in alloc; "target is below the DNAME {name}")?;
+    Ok(Some(Text::new(alloc, text)))
+}
+
+/// Returns the message about a target that is a CNAME.
+fn cname_target(alloc: Global, record: &LocatedRecord<'_>) -> Result<Option<Text>, AllocError> {
+    let Some(target) = target_of(record) else {
+        return Ok(None);
+    };
+    let rtype = record.data.rtype();
+    let name = DisplayWithDot::new(&target);
+    let text = format!(in alloc; "{rtype} target {name} is a CNAME")?;
+    Ok(Some(Text::new(alloc, text)))
+}
+
+/// Returns whether a position is before another, in the same file or a later one.
+pub fn is_before(left: RecordLocation, right: RecordLocation) -> bool {
+    let (line, column) = (left.position.line, left.position.column);
+    let (other_line, other_column) = (right.position.line, right.position.column);
+    left.file < right.file
+        || (left.file == right.file
+            && (line < other_line || (line == other_line && column < other_column)))
+}
+
+/// Returns the position of the first CNAME of a name in the files, if it is before a record.
+fn first_cname<Origin: AsOctets>(
+    records: &ZoneRecords<'_, '_, Origin>,
+    record: &LocatedRecord<'_>,
+) -> Option<RecordLocation> {
+    let mut first = record.owner.as_octets().tag;
+    let own = first;
+    for other in owned_by(records.sorted, &view(&record.owner)) {
+        let location = other.owner.as_octets().tag;
+        if other.data.rtype() == RecordType::CNAME && is_before(location, first) {
+            first = location;
+        }
+    }
+    if is_before(first, own) {
+        Some(first)
+    } else {
+        None
+    }
+}
+
+/// Returns the message about a second CNAME of a name, with the position of the first.
+fn second_cname<Origin: AsOctets>(
+    alloc: Global,
+    records: &ZoneRecords<'_, '_, Origin>,
+    record: &LocatedRecord<'_>,
+) -> Result<Option<Text>, AllocError> {
+    let Some(first) = first_cname(records, record) else {
+        return Ok(None);
+    };
+    let name = DisplayWithDot::new(&record.owner);
+    let (line, column) = (first.position.line, first.position.column);
+    let text = format!(in alloc; "second CNAME of {name}; the first is at {line}:{column}")?;
+    Ok(Some(Text::new(alloc, text)))
+}
+
+/// Returns the message about a record that breaks a rule, if it has more than that of the code.
+fn own_text<'r, 'h, Origin: AsOctets>(
+    alloc: Global,
+    records: &ZoneRecords<'r, 'h, Origin>,
+    record: &'r LocatedRecord<'h>,
+    rule: Rule,
+    may_search: bool,
+) -> Result<Option<Text>, AllocError> {
+    match rule {
+        Rule::HostMissing | Rule::NsAddress | Rule::MissingGlue | Rule::CnameTargetMissing => {
+            missing_target(alloc, records, record, rule, may_search)
+        }
+        Rule::HostIsAlias => cname_target(alloc, record),
+        Rule::HostBelowDname => dname_target(alloc, records.sorted, records.refused, record),
+        Rule::Cname => second_cname(alloc, records, record),
+        _ => Ok(None),
+    }
+}
+
+/// Returns the text of a broken rule. If `may_search` is set, a name like a missing target is looked
+/// for.
+pub fn rule_text<Origin: AsOctets>(
+    alloc: Global,
+    records: &ZoneRecords<'_, '_, Origin>,
+    finding: &Finding,
+    may_search: bool,
+) -> Result<Text, AllocError> {
+    let record = finding
+        .record
+        .and_then(|place| records.sorted.as_slice().get(place));
+    if let Some(record) = record {
+        if let Some(text) = own_text(alloc, records, record, finding.rule, may_search)? {
+            return Ok(text);
+        }
+    }
+    Text::worded(alloc, code_text(code_of_rule(finding.rule)), None)
+}

@@ -1,0 +1,175 @@
+//! Findings about the times of signatures: equal ones are reported together.
+use crate::held_zone::{LocatedRecord, RecordLocation};
+use rdata_values::{Date, RecordType};
+use std::alloc::{AllocError, Global};
+use std::cmp::Ordering;
+use zone_dnssec::{SecurityFinding, SecurityRule};
+use zonetext_findings::subjects::Text;
+
+/// Indexes of the fields of an RRSIG (RFC 4034 section 3.1).
+const COVERED: usize = 0;
+
+const EXPIRATION: usize = 4;
+
+const INCEPTION: usize = 5;
+
+/// A finding about the time of signatures of one type.
+#[derive(Clone, Copy)]
+pub struct Group {
+    pub rule: SecurityRule,
+    covered: u16,
+    seconds: u32,
+    /// Index of the first of the records, in the order of the files.
+    pub record: usize,
+    location: RecordLocation,
+    count: usize,
+}
+
+/// Returns whether a rule is about the time of a signature.
+pub fn is_of_time(rule: SecurityRule) -> bool {
+    matches!(
+        rule,
+        SecurityRule::Expired | SecurityRule::ExpiresSoon | SecurityRule::NotYetValid
+    )
+}
+
+/// Returns the number in two octets.
+fn short_number(octets: Option<&[u8]>) -> u16 {
+    match octets {
+        Some([high, low, ..]) => u16::from_be_bytes([*high, *low]),
+        _ => 0,
+    }
+}
+
+/// Returns the number in four octets.
+fn long_number(octets: Option<&[u8]>) -> u32 {
+    match octets {
+        Some([first, second, third, fourth, ..]) => {
+            u32::from_be_bytes([*first, *second, *third, *fourth])
+        }
+        _ => 0,
+    }
+}
+
+/// Returns the finding about one signature, if its rule is about its time.
+fn group_of(finding: &SecurityFinding, records: &[LocatedRecord<'_>]) -> Option<Group> {
+    let record = records.get(finding.record)?;
+    if !is_of_time(finding.rule) {
+        return None;
+    }
+    let time = if finding.rule == SecurityRule::NotYetValid {
+        INCEPTION
+    } else {
+        EXPIRATION
+    };
+    Some(Group {
+        rule: finding.rule,
+        covered: short_number(record.data.part(COVERED)),
+        seconds: long_number(record.data.part(time)),
+        record: finding.record,
+        location: record.owner.as_octets().tag,
+        count: 1,
+    })
+}
+
+/// Returns the number of a rule in the order of the groups.
+fn number_of(rule: SecurityRule) -> u8 {
+    match rule {
+        SecurityRule::Expired => 0,
+        SecurityRule::ExpiresSoon => 1,
+        _ => 2,
+    }
+}
+
+/// Returns the order of two findings that puts equal ones together.
+fn compare_texts(left: &Group, right: &Group) -> Ordering {
+    number_of(left.rule)
+        .cmp(&number_of(right.rule))
+        .then(left.covered.cmp(&right.covered))
+        .then(left.seconds.cmp(&right.seconds))
+}
+
+/// Returns the order of two findings: equal ones together, in the order of the files.
+fn compare(left: &Group, right: &Group) -> Ordering {
+    compare_texts(left, right)
+        .then(left.location.file.cmp(&right.location.file))
+        .then(
+            left.location
+                .position
+                .line
+                .cmp(&right.location.position.line),
+        )
+        .then(
+            left.location
+                .position
+                .column
+                .cmp(&right.location.position.column),
+        )
+}
+
+/// Returns the findings about times of signatures. If `joins_equal`, equal ones are one with their
+/// number.
+pub fn groups_of(
+    alloc: Global,
+    found: &[SecurityFinding],
+    records: &[LocatedRecord<'_>],
+    joins_equal: bool,
+) -> Result<Vec<Group>, AllocError> {
+    let mut single = Vec::new(alloc);
+    for finding in found {
+        if let Some(group) = group_of(finding, records) {
+            single.push(group)?;
+        }
+    }
+    single.sort_by(|left, right| compare(left, right))?;
+    let mut groups: Vec<Group> = Vec::new(alloc);
+    for group in &single {
+        match groups.last_mut() {
+            Some(last) if joins_equal && compare_texts(last, group).is_eq() => {
+                last.count = last.count.saturating_add(1);
+            }
+            _ => groups.push(*group)?,
+        }
+    }
+    Ok(groups)
+}
+
+/// Returns the part of a text between two offsets.
+fn part(text: &str, start: usize, end: usize) -> &str {
+    text.get(start..end).unwrap_or("")
+}
+
+/// Returns a time as `2026-12-05 00:00:00 UTC`.
+fn time_text(alloc: Global, seconds: u32) -> Result<String, AllocError> {
+    let digits = Date::from_seconds(seconds).to_string(alloc)?;
+    let digits = digits.as_str();
+    let (year, month, day) = (part(digits, 0, 4), part(digits, 4, 6), part(digits, 6, 8));
+    let (hour, minute, second) = (
+        part(digits, 8, 10),
+        part(digits, 10, 12),
+        part(digits, 12, 14),
+    );
+    format!(in alloc; "{year}-{month}-{day} {hour}:{minute}:{second} UTC")
+}
+
+impl Group {
+    /// Returns the text of the finding, with the type that is signed, the time, and the number of
+    /// signatures if there are several.
+    pub fn text(&self, alloc: Global) -> Result<Text, AllocError> {
+        let rtype = RecordType(self.covered);
+        let time = time_text(alloc, self.seconds)?;
+        let time = time.as_str();
+        let what = match self.rule {
+            SecurityRule::Expired => "has expired",
+            SecurityRule::ExpiresSoon => "expires soon",
+            _ => "is not valid yet",
+        };
+        let count = self.count;
+        let message = if count > 1 {
+            format!(in alloc; "signature of {rtype} {what}: {time} ({count} signatures)")?
+        } else {
+            format!(in alloc; "signature of {rtype} {what}: {time}")?
+        };
+        Ok(Text::new(alloc, message))
+    }
+}

@@ -1,0 +1,17 @@
+//! Files block by block and written together; zone files and the files that they include, entry by
+//! entry. A part of the program `zonetext`.
+#![tactic(auto)]
+
+pub mod blocks;
+mod data_buffer;
+pub mod file_lines;
+pub mod files;
+pub mod generated;
+pub mod lines;
+pub mod open_file;
+mod pair;
+pub mod part_files;
+pub mod progress;
+pub mod shown;
+pub mod stop;
+pub mod zone_files;

@@ -1,0 +1,14 @@
+//! Findings as they are printed: location, message, order, exceptions, format. A part of the
+//! program `zonetext`.
+#![tactic(auto)]
+
+pub mod exceptions;
+pub mod explain;
+pub mod generate_findings;
+pub mod locations;
+pub mod machine;
+pub mod octet_texts;
+pub mod reporter;
+pub mod subjects;
+pub mod totals;
+mod waiting;

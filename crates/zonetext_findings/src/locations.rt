@@ -1,0 +1,291 @@
+//! The locations of findings in an entry.
+ghost use Rattle.std.specs.Prelude.{◌≤◌, length};
+
+use crate::reporter::FindingLocation;
+use dns_lexer::entry_tokens::{EntryPart, EntryToken, EntryTokens, NextEntryError};
+use dns_lexer::pieces::{Fault, Wrong};
+use dns_lexer::position::Position;
+use dns_lexer::unclosed::outermost_open_of_octets;
+use rdata_values::RecordType;
+use std::alloc::{AllocError, Global};
+use zone_check::rejection_findings::fault_finding;
+use zone_reader::{ParsedEntry, type_word};
+use zonetext_files::generated::Generated;
+use zonetext_files::open_file::place_after;
+use zonetext_files::zone_files::Entry;
+
+/// The word of the directive of generated entries.
+const DIRECTIVE: &[u8] = b"$GENERATE";
+
+/// Returns the number of tokens of a record before its data: those up to its type.
+pub fn data_start(tokens: &[EntryToken<'_>], is_blank: bool) -> usize {
+    let first = usize::from(!is_blank);
+    let words = tokens.get(first..).unwrap_or(&[]);
+    match words.iter().position(|token| type_word(token).is_some()) {
+        Some(place) => place.saturating_add(first).saturating_add(1),
+        None => tokens.len(),
+    }
+}
+
+/// Returns whether an entry begins with a blank.
+pub fn begins_blank(entry: &Entry<'_>) -> bool {
+    matches!(entry.octets.first(), Some(b' ' | b'\t'))
+}
+
+/// Returns a column of a line, with the line. `number` is that of the file.
+pub fn line_spot<'s>(
+    file: &'s str,
+    number: usize,
+    position: Position,
+    line: Option<&'s [u8]>,
+) -> FindingLocation<'s> {
+    FindingLocation {
+        file,
+        number,
+        position,
+        end_column: position.column.saturating_add(1),
+        opened: None,
+        line,
+        generated: None,
+    }
+}
+
+/// Returns the number of the field of a type's data that is a target: the host of NS, MX and SRV, and
+/// the target of CNAME.
+fn target_number(rtype: RecordType) -> Option<usize> {
+    match rtype {
+        RecordType::NS | RecordType::CNAME => Some(0),
+        RecordType::MX => Some(1),
+        RecordType::SRV => Some(3),
+        _ => None,
+    }
+}
+
+/// Returns the offset, from the beginning of an entry, of the token after the type that has a
+/// number, counted from 0.
+fn offset_after_type(entry: &Entry<'_>, number: usize) -> Option<usize> {
+    let mut tokens = EntryTokens::of_octets(entry.octets);
+    let mut may_be_type = begins_blank(entry);
+    let mut passed: Option<usize> = None;
+    for _ in 0..entry.octets.len() {
+        let Some(Ok(EntryPart::Token { token, .. })) = tokens.next_token() else {
+            return None;
+        };
+        match passed {
+            Some(count) if count == number => return Some(token.at),
+            Some(count) => passed = Some(count.saturating_add(1)),
+            None if may_be_type && type_word(&token).is_some() => passed = Some(0),
+            None => may_be_type = true,
+        }
+    }
+    None
+}
+
+/// Returns the position of the target of a record, or that of its first token if it has none.
+pub fn target_position(entry: &Entry<'_>, first: Position) -> Position {
+    let Ok(ParsedEntry::Record { rtype, .. }) = entry.read else {
+        return first;
+    };
+    let Some(number) = target_number(*rtype) else {
+        return first;
+    };
+    match offset_after_type(entry, number) {
+        Some(at) => position_at(entry, at),
+        None => first,
+    }
+}
+
+/// Returns the tokens of an entry, or those before its syntax error.
+pub fn tokens_of<'e>(alloc: Global, entry: &Entry<'e>) -> Result<Vec<EntryToken<'e>>, AllocError> {
+    let mut tokens = Vec::new(alloc);
+    match EntryTokens::of_octets(entry.octets).next_entry(&mut tokens) {
+        Err(NextEntryError::ShortBuf) => Err(AllocError),
+        _ => Ok(tokens),
+    }
+}
+
+/// Number of the first tokens of an entry among which its owner and its type are: an owner, a TTL, a
+/// class and a type.
+const OF_HEADER: usize = 4;
+
+/// Returns the first tokens of an entry, among which its owner and its type are.
+pub fn first_tokens<'e>(
+    alloc: Global,
+    entry: &Entry<'e>,
+) -> Result<Vec<EntryToken<'e>>, AllocError> {
+    let mut source = EntryTokens::of_octets(entry.octets);
+    let mut tokens = Vec::new(alloc);
+    for _ in 0..OF_HEADER {
+        match source.next_token() {
+            Some(Ok(EntryPart::Token { token, .. })) => tokens.push(token)?,
+            _ => return Ok(tokens),
+        }
+    }
+    Ok(tokens)
+}
+
+/// Returns the number of octets of a token, with its double quotes.
+pub fn width(token: &EntryToken<'_>) -> usize {
+    let quotes = if token.is_quoted { 2 } else { 0 };
+    token.text.len().saturating_add(quotes)
+}
+
+/// Returns the offset and the width of the token that begins at an offset, or the offset after the
+/// last token.
+fn token_from(tokens: &[EntryToken<'_>], at: usize) -> (usize, usize) {
+    let mut behind = 0;
+    for token in tokens {
+        if token.at == at {
+            return (at, width(token));
+        }
+        behind = token.at.saturating_add(width(token));
+    }
+    (behind, 1)
+}
+
+/// Returns the number of a generated entry.
+pub fn number_of(entry: &Entry<'_>) -> Option<u32> {
+    match entry.generated {
+        Some(generated) => Some(generated.number),
+        None => None,
+    }
+}
+
+/// Returns the position of an offset of an entry, which is counted from the entry's beginning. That of
+/// a generated entry is the position of its directive.
+pub fn position_at(entry: &Entry<'_>, at: usize) -> Position {
+    if entry.generated.is_some() {
+        return entry.place().position;
+    }
+    let count = at.min(entry.held.len());
+    place_after(entry.place(), &entry.held[..count]).position
+}
+
+/// Returns the offset where the line of an offset begins.
+fn line_start(octets: &[u8], at: usize) -> usize
+    ensures { result ≤ length octets.now }
+{
+    let front = &octets[..at.min(octets.len())];
+    match front.iter().rposition(|octet| *octet == b'\n') {
+        Some(place) => place + 1,
+        None => 0,
+    }
+}
+
+/// Returns the line of an offset, without its end.
+fn line_at(octets: &[u8], at: usize) -> &[u8] {
+    let rest = &octets[line_start(octets, at)..];
+    let line = match rest.iter().position(|octet| *octet == b'\n') {
+        Some(end) => &rest[..end],
+        None => rest,
+    };
+    line.strip_suffix(b"\r").unwrap_or(line)
+}
+
+/// Returns the location of the directive of a generated entry: its word.
+fn directive_spot<'e>(entry: &Entry<'e>, generated: Generated<'e>) -> FindingLocation<'e> {
+    let position = entry.place().position;
+    FindingLocation {
+        file: entry.file,
+        number: entry.number,
+        position,
+        end_column: position.column.saturating_add(DIRECTIVE.len()),
+        opened: None,
+        line: Some(line_at(generated.held, 0)),
+        generated: Some(generated.number),
+    }
+}
+
+/// Returns the location of `width` octets from an offset of an entry on, which is counted from the
+/// entry's beginning.
+fn spot<'e>(entry: &Entry<'e>, at: usize, width: usize) -> FindingLocation<'e> {
+    if let Some(generated) = entry.generated {
+        return directive_spot(entry, generated);
+    }
+    let position = position_at(entry, at);
+    let end = position_at(entry, at.saturating_add(width));
+    let next = position.column.saturating_add(1);
+    FindingLocation {
+        file: entry.file,
+        number: entry.number,
+        position,
+        end_column: if end.line == position.line {
+            end.column.max(next)
+        } else {
+            next
+        },
+        opened: None,
+        line: Some(line_at(entry.held, at)),
+        generated: None,
+    }
+}
+
+/// Returns the location of an entry's beginning.
+pub fn beginning<'e>(entry: &Entry<'e>) -> FindingLocation<'e> {
+    spot(entry, 0, 1)
+}
+
+/// Returns the location of the token of an entry that begins at an offset of the file. If no token
+/// does, as at the entry's end, it is the location after its last token.
+pub fn spot_at<'e>(entry: &Entry<'e>, tokens: &[EntryToken<'_>], at: usize) -> FindingLocation<'e> {
+    let at = at.saturating_sub(entry.offset);
+    let (at, width) = token_from(tokens, at);
+    spot(entry, at, width)
+}
+
+/// Returns the location of an octet of an entry, at an offset of the file.
+pub fn octet_at<'e>(entry: &Entry<'e>, at: usize) -> FindingLocation<'e> {
+    spot(entry, at.saturating_sub(entry.offset), 1)
+}
+
+/// Returns the location of a token of an entry.
+pub fn token_at<'e>(entry: &Entry<'e>, token: &EntryToken<'_>) -> FindingLocation<'e> {
+    spot(entry, token.at, width(token))
+}
+
+/// Returns the location of `count` octets of an entry, from an offset on that is counted from its
+/// beginning.
+pub fn part_at<'e>(entry: &Entry<'e>, at: usize, count: usize) -> FindingLocation<'e> {
+    spot(entry, at, count)
+}
+
+/// Returns the location of `count` octets of a token of an entry, from an offset of the token on. A
+/// quoted string begins with its double quote.
+pub fn token_part<'e>(
+    entry: &Entry<'e>,
+    token: &EntryToken<'_>,
+    offset: usize,
+    count: usize,
+) -> FindingLocation<'e> {
+    spot(entry, token.at.saturating_add(offset), count)
+}
+
+/// Returns the location of a syntax error of an entry, with the position where a quote was opened.
+pub fn fault_at<'e>(entry: &Entry<'e>, fault: Fault) -> FindingLocation<'e> {
+    if entry.generated.is_some() {
+        return beginning(entry);
+    }
+    let finding = fault_finding(entry.octets, entry.offset, fault);
+    let opened = match fault.wrong {
+        Wrong::OpenQuote(at) => Some(position_at(entry, at.saturating_sub(entry.offset))),
+        _ => None,
+    };
+    FindingLocation {
+        opened,
+        ..part_at(entry, finding.start, finding.width)
+    }
+}
+
+/// Returns the location of the beginning of an entry that is too long, and of the outermost
+/// parenthesis that is open where the entry exceeds the limit.
+pub fn long_at<'e>(entry: &Entry<'e>) -> FindingLocation<'e> {
+    let count = entry.reader.limit().min(entry.octets.len());
+    let opened = match outermost_open_of_octets(&entry.octets[..count]) {
+        Some(at) => Some(position_at(entry, at)),
+        None => None,
+    };
+    FindingLocation {
+        opened,
+        ..beginning(entry)
+    }
+}

@@ -1,0 +1,191 @@
+//! Findings in formats for other programs.
+use clap::ArgMatches;
+use finding_formats::sarif::{Rule, Tool};
+use finding_formats::{Opening, checkstyle, github, json, sarif};
+use finding_texts::{summary_of, text_of};
+use std::alloc::AllocError;
+use zonetext_report::code::{Code, Severity};
+use zonetext_report::finding::Finding;
+
+/// The version of the program.
+pub const VERSION: &str = "0.2.0";
+
+/// A format for other programs.
+#[derive(Clone, Copy, PartialEq, Eq)]
+pub enum Format {
+    /// A JSON object for each finding.
+    Json,
+    /// A workflow command of GitHub Actions for each finding.
+    Github,
+    /// A SARIF 2.1.0 log.
+    Sarif,
+    /// A Checkstyle 4.3 report.
+    Checkstyle,
+}
+
+/// The names of formats, with that for people first.
+pub const FORMATS: [&str; 5] = ["text", "json", "github", "sarif", "checkstyle"];
+
+impl Format {
+    /// Returns the format with a name, if there is one.
+    pub fn named(name: &str) -> Option<Format> {
+        match name {
+            "json" => Some(Format::Json),
+            "github" => Some(Format::Github),
+            "sarif" => Some(Format::Sarif),
+            "checkstyle" => Some(Format::Checkstyle),
+            _ => None,
+        }
+    }
+}
+
+/// Returns the format that the arguments of `check` ask for, unless it is that for people.
+pub fn asked(inner: &ArgMatches) -> Option<Format> {
+    if inner.get_flag("json") {
+        return Some(Format::Json);
+    }
+    Format::named(inner.get_str("format")?)
+}
+
+/// Returns whether a severity is that of an error.
+fn is_error(severity: Severity) -> bool {
+    severity == Severity::Error
+}
+
+/// Returns the octets of a text, unless it is empty.
+fn known(text: &str) -> Option<&[u8]> {
+    if text.is_empty() {
+        None
+    } else {
+        Some(text.as_bytes())
+    }
+}
+
+/// Returns a finding as the formats have it.
+fn formatted<'a>(finding: &'a Finding<'a>, generated: Option<u32>) -> finding_formats::Finding<'a> {
+    let opened = match finding.opened {
+        Some(position) => Some(Opening {
+            line: position.line,
+            column: position.column,
+        }),
+        None => None,
+    };
+    finding_formats::Finding {
+        file: finding.file.as_bytes(),
+        line: finding.position.line,
+        column: finding.position.column,
+        end_column: finding.end_column,
+        opened,
+        generate: match generated {
+            Some(number) => Some(number as usize),
+            None => None,
+        },
+        is_error: is_error(finding.severity),
+        code: finding.code.name().as_bytes(),
+        owner: known(finding.owner),
+        rtype: known(finding.rtype),
+        message: finding.message.as_bytes(),
+        help: known(finding.help),
+    }
+}
+
+/// Appends what comes before the findings of all files.
+pub fn push_start(out: &mut Vec<u8>, format: Format) -> Result<(), AllocError> {
+    match format {
+        Format::Json | Format::Github => Ok(()),
+        Format::Sarif => push_sarif_start(out),
+        Format::Checkstyle => checkstyle::push_start(out),
+    }
+}
+
+/// Appends the start of a SARIF log, with all codes as its rules.
+fn push_sarif_start(out: &mut Vec<u8>) -> Result<(), AllocError> {
+    let tool = Tool {
+        name: b"zonetext",
+        version: VERSION.as_bytes(),
+    };
+    sarif::push_start(out, &tool)?;
+    let mut is_first = true;
+    for code in &Code::ALL {
+        let rule = Rule {
+            code: code.name().as_bytes(),
+            is_error: is_error(code.default_severity()),
+            summary: summary_of(*code).as_bytes(),
+            text: text_of(*code).as_bytes(),
+        };
+        sarif::push_rule(out, is_first, &rule)?;
+        is_first = false;
+    }
+    sarif::push_results_start(out)
+}
+
+/// Appends what comes after the findings of all files.
+pub fn push_end(out: &mut Vec<u8>, format: Format) -> Result<(), AllocError> {
+    match format {
+        Format::Json | Format::Github => Ok(()),
+        Format::Sarif => sarif::push_end(out),
+        Format::Checkstyle => checkstyle::push_end(out),
+    }
+}
+
+/// What the format of the next finding of a file depends on.
+#[derive(Drop)]
+pub struct Before {
+    /// Whether there is a finding before, in this file or one that was checked before.
+    pub has_finding: bool,
+    /// Name of the file of the finding before, while its element of a report is open.
+    file: Option<String>,
+}
+
+impl Before {
+    /// Returns what is known before the findings of a file.
+    pub fn new(has_finding: bool) -> Before {
+        Before {
+            has_finding,
+            file: None,
+        }
+    }
+
+    /// Appends a finding.
+    pub fn push(
+        &mut self,
+        out: &mut Vec<u8>,
+        format: Format,
+        finding: &Finding<'_>,
+        generated: Option<u32>,
+    ) -> Result<(), AllocError> {
+        let formatted = formatted(finding, generated);
+        match format {
+            Format::Json => json::push_finding(out, &formatted)?,
+            Format::Github => github::push_finding(out, &formatted)?,
+            Format::Sarif => sarif::push_finding(out, !self.has_finding, &formatted)?,
+            Format::Checkstyle => self.push_checkstyle(out, finding.file, &formatted)?,
+        }
+        self.has_finding = true;
+        Ok(())
+    }
+
+    /// Appends a finding to a Checkstyle report.
+    fn push_checkstyle(
+        &mut self,
+        out: &mut Vec<u8>,
+        file: &str,
+        finding: &finding_formats::Finding<'_>,
+    ) -> Result<(), AllocError> {
+        match &self.file {
+            Some(before) => checkstyle::push_finding(out, Some(before.as_bytes()), finding)?,
+            None => checkstyle::push_finding(out, None, finding)?,
+        }
+        self.file = Some(String::from_str(*out.allocator(), file)?);
+        Ok(())
+    }
+
+    /// Appends what comes after the findings of a file.
+    pub fn push_file_end(&mut self, out: &mut Vec<u8>) -> Result<(), AllocError> {
+        if self.file.is_none() {
+            return Ok(());
+        }
+        self.file = None;
+        checkstyle::push_file_end(out)
+    }
+}

@@ -1,0 +1,195 @@
+//! The messages of findings about the octets of entries.
+use crate::locations::{
+    begins_blank, data_start, fault_at, part_at, position_at, token_part, tokens_of, width,
+};
+use crate::reporter::FindingLocation;
+use crate::subjects::{Text, text_of};
+use dns_lexer::entry_tokens::EntryToken;
+use dns_lexer::pieces::{Fault, Wrong};
+use error_texts::contents::high_escape_text;
+use error_texts::kinds::syntax_error_text;
+use finding_texts::ascii::ascii_name;
+use finding_texts::mistakes::{high_escape, quotation_mark};
+use rdata::type_row;
+use rdata_fields::Field;
+use rdata_values::RecordType;
+use std::alloc::{AllocError, Global};
+use zone_check::finding::EntryFinding;
+use zone_check::texts::code_text;
+use zone_reader::ParsedEntry;
+use zonetext_files::shown::quoted;
+use zonetext_files::zone_files::Entry;
+use zonetext_report::code::Code;
+
+/// Number of octets of an escape with three digits.
+pub const ESCAPE: usize = 4;
+
+/// Returns the text of a parenthesis that is left open, with a note where the file ends.
+fn open_text(alloc: Global, entry: &Entry<'_>, fault: Fault) -> Result<Text, AllocError> {
+    let end = position_at(entry, fault.at.saturating_sub(entry.offset));
+    let (line, column) = (end.line, end.column);
+    let text = plain_fault(alloc, fault)?;
+    let note = format!(in alloc; "the file ends at {line}:{column}")?;
+    Ok(Text { note, ..text })
+}
+
+/// Returns the offset, from the beginning of an entry, of the escape above 255 that has the octet at
+/// an offset, if there is one.
+fn high_escape_at(octets: &[u8], at: usize) -> Option<usize> {
+    for back in 0..4 {
+        let start = at.checked_sub(back)?;
+        let escape = octets
+            .get(start..start.saturating_add(ESCAPE))
+            .unwrap_or(&[]);
+        if high_escape(escape) == Some(0) {
+            return Some(start);
+        }
+    }
+    None
+}
+
+/// Returns the text of an escape above 255.
+pub fn escape_text(alloc: Global, escape: &[u8]) -> Result<Text, AllocError> {
+    let message = high_escape_text(escape);
+    Text::worded(alloc, text_of(&message), None)
+}
+
+/// Returns the location and the text of a syntax error.
+pub fn fault_text<'e>(
+    alloc: Global,
+    entry: &Entry<'e>,
+    fault: Fault,
+) -> Result<(FindingLocation<'e>, Text), AllocError> {
+    let spot = fault_at(entry, fault);
+    match fault.wrong {
+        Wrong::OpenParenthesis => Ok((spot, open_text(alloc, entry, fault)?)),
+        Wrong::BadEscape => {
+            let at = fault.at.saturating_sub(entry.offset);
+            match high_escape_at(entry.held, at) {
+                Some(start) => {
+                    let escape = entry.held.get(start..start.saturating_add(ESCAPE));
+                    let text = escape_text(alloc, escape.unwrap_or(&[]))?;
+                    Ok((part_at(entry, start, ESCAPE), text))
+                }
+                None => Ok((spot, plain_fault(alloc, fault)?)),
+            }
+        }
+        _ => Ok((spot, plain_fault(alloc, fault)?)),
+    }
+}
+
+/// Returns the text of a syntax error by its kind.
+fn plain_fault(alloc: Global, fault: Fault) -> Result<Text, AllocError> {
+    Text::worded(alloc, syntax_error_text(fault.wrong), None)
+}
+
+/// Returns whether a finding about octets is about its file, and not about a record.
+pub fn is_of_file(code: Code) -> bool {
+    matches!(
+        code,
+        Code::Crlf | Code::NoFinalNewline | Code::ControlZ | Code::ByteOrderMark
+    )
+}
+
+/// Returns the token of an entry that has the octet at an offset.
+fn token_of<'e>(tokens: &[EntryToken<'e>], at: usize) -> Option<EntryToken<'e>> {
+    for token in tokens {
+        if token.at <= at && at < token.at.saturating_add(width(token)) {
+            return Some(*token);
+        }
+    }
+    None
+}
+
+/// Returns whether the token with this index, in data of a type, is a name.
+pub fn is_name(rtype: RecordType, number: usize) -> bool {
+    match type_row(rtype) {
+        Some(row) => matches!(row.1.get(number), Some(Field::Name)),
+        None => false,
+    }
+}
+
+/// Returns whether a token of an entry is a name: the owner of a record, or one in its data.
+fn is_name_token(entry: &Entry<'_>, tokens: &[EntryToken<'_>], at: usize, is_blank: bool) -> bool {
+    let rtype = match entry.read {
+        Ok(ParsedEntry::Record { rtype, .. }) => *rtype,
+        _ => return false,
+    };
+    let start = data_start(tokens, is_blank);
+    for (place, token) in tokens.iter().enumerate() {
+        if token.at == at {
+            let is_owner = place == 0 && !is_blank;
+            return is_owner || (place >= start && is_name(rtype, place - start));
+        }
+    }
+    false
+}
+
+/// Returns the text about a token with an octet outside of ASCII.
+fn not_ascii(
+    alloc: Global,
+    entry: &Entry<'_>,
+    tokens: &[EntryToken<'_>],
+    token: &EntryToken<'_>,
+    is_blank: bool,
+) -> Result<Text, AllocError> {
+    let word = quoted(alloc, token.text)?;
+    let message = format!(in alloc; "{word} is not ASCII")?;
+    let text = Text::new(alloc, message);
+    if token.is_quoted || !is_name_token(entry, tokens, token.at, is_blank) {
+        return Ok(text);
+    }
+    match ascii_name(alloc, token.text)? {
+        Some(help) => Ok(Text { help, ..text }),
+        None => Ok(text),
+    }
+}
+
+/// Returns the location and the text of an octet outside of ASCII.
+fn high_octet_text<'e>(
+    alloc: Global,
+    entry: &Entry<'e>,
+    spot: FindingLocation<'e>,
+    at: usize,
+    is_blank: bool,
+) -> Result<(FindingLocation<'e>, Text), AllocError> {
+    let tokens = tokens_of(alloc, entry)?;
+    let tokens = tokens.as_slice();
+    let Some(token) = token_of(tokens, at) else {
+        return Ok((spot, Text::worded(alloc, code_text(Code::HighOctet), None)?));
+    };
+    let octets = entry.octets.get(at..).unwrap_or(&[]);
+    let count = quotation_mark(octets);
+    if count == 0 {
+        return Ok((spot, not_ascii(alloc, entry, tokens, &token, is_blank)?));
+    }
+    let word = quoted(alloc, octets.get(..count).unwrap_or(&[]))?;
+    let message = format!(in alloc; "{word} is no quotation mark")?;
+    let offset = at.saturating_sub(token.at);
+    Ok((
+        token_part(entry, &token, offset, count),
+        Text::new(alloc, message),
+    ))
+}
+
+/// Returns the location and the text of a finding about the octets of an entry.
+pub fn octet_text<'e>(
+    alloc: Global,
+    entry: &Entry<'e>,
+    spot: FindingLocation<'e>,
+    finding: &EntryFinding,
+) -> Result<(FindingLocation<'e>, Text), AllocError> {
+    let is_blank = begins_blank(entry);
+    match finding.code {
+        Code::HighOctet => high_octet_text(alloc, entry, spot, finding.start, is_blank),
+        Code::ControlOctet | Code::AdjacentTokens => {
+            let tokens = tokens_of(alloc, entry)?;
+            let word = match token_of(tokens.as_slice(), finding.start) {
+                Some(token) => Some(token.text),
+                None => None,
+            };
+            Ok((spot, Text::worded(alloc, code_text(finding.code), word)?))
+        }
+        _ => Ok((spot, Text::worded(alloc, code_text(finding.code), None)?)),
+    }
+}

@@ -1,0 +1,318 @@
+//! Reports findings.
+use crate::exceptions::Exceptions;
+use crate::machine::{Before, Format};
+use crate::waiting::Waiting;
+use dns_lexer::position::Position;
+use std::alloc::{AllocError, Global};
+use std::io::Write;
+use zone_check::shown::{Decision, can_be_excepted, decide, severity_of};
+use zonetext_files::stop::RunError;
+use zonetext_report::code::{Code, Severity};
+use zonetext_report::excerpt::push_excerpt;
+use zonetext_report::finding::{Finding, push_lines};
+use zonetext_report::policy::Policy;
+use zonetext_report::tally::Tally;
+
+/// How findings are shown.
+#[derive(Clone, Copy, PartialEq, Eq)]
+pub enum Form {
+    /// As lines on standard error.
+    Lines {
+        is_coloured: bool,
+        /// With the line of the file below, and a caret.
+        has_excerpt: bool,
+    },
+    /// For other programs, on standard output.
+    Machine(Format),
+}
+
+/// The span of a finding: from a column on to before another.
+#[derive(Clone, Copy)]
+pub struct FindingLocation<'s> {
+    pub file: &'s str,
+    /// Number of files that were opened before it.
+    pub number: usize,
+    pub position: Position,
+    pub end_column: usize,
+    pub opened: Option<Position>,
+    /// The line of the file, without its end, if it is known.
+    pub line: Option<&'s [u8]>,
+    /// Number of the entry, if it is generated.
+    pub generated: Option<u32>,
+}
+
+/// What a finding says. A text that it doesn't have is empty.
+#[derive(Clone, Copy)]
+pub struct FindingText<'s> {
+    /// Owner of the record that it is about, relative to the zone or in full.
+    pub owner: &'s str,
+    /// Type of that record.
+    pub rtype: &'s str,
+    /// Message, in words. The token that it is about comes last, in single quotes.
+    pub message: &'s str,
+    /// What to write instead.
+    pub help: &'s str,
+    /// Another position that explains the finding, in words.
+    pub note: &'s str,
+}
+
+impl<'s> FindingText<'s> {
+    /// Returns a message alone.
+    pub fn message(message: &'s str) -> FindingText<'s> {
+        FindingText {
+            owner: "",
+            rtype: "",
+            message,
+            help: "",
+            note: "",
+        }
+    }
+}
+
+/// Returns the message of a finding about a generated entry, which begins with its number.
+fn generated_message(
+    alloc: Global,
+    generated: Option<u32>,
+    message: &str,
+) -> Result<Option<String>, AllocError> {
+    match generated {
+        Some(number) => Ok(Some(format!(in alloc; "$GENERATE {number}: {message}")?)),
+        None => Ok(None),
+    }
+}
+
+/// Appends lines, each as a comment of a zone file.
+fn push_comments(lines: &[u8], out: &mut Vec<u8>) -> Result<(), AllocError> {
+    let mut begins_line = true;
+    for octet in lines {
+        if begins_line {
+            out.extend_from_slice(b"; ")?;
+        }
+        out.push(*octet)?;
+        begins_line = *octet == b'\n';
+    }
+    Ok(())
+}
+
+/// Reports findings, and counts them.
+#[derive(Drop)]
+pub struct Reporter<'a> {
+    rt: &'a HostRuntime,
+    policy: Policy<'a>,
+    form: Form,
+    pub tally: Tally,
+    /// What the format for other programs depends on.
+    pub before: Before,
+    /// Whether findings are written to standard output, as comments of a zone file.
+    writes_comments: bool,
+    pub exceptions: Exceptions,
+    out: Vec<u8>,
+    /// The findings that are written at the end, in the order of the files, if they are.
+    waiting: Option<Waiting>,
+}
+
+impl<'a> Reporter<'a> {
+    /// Returns a reporter before the first finding, which shows at most `most` findings; 0 means
+    /// all.
+    pub fn new(rt: &'a HostRuntime, policy: Policy<'a>, form: Form, most: usize) -> Reporter<'a> {
+        Reporter {
+            rt,
+            policy,
+            form,
+            tally: Tally::new(most),
+            before: Before::new(false),
+            writes_comments: false,
+            exceptions: Exceptions::new(rt.alloc()),
+            out: Vec::new(rt.alloc()),
+            waiting: None,
+        }
+    }
+
+    /// Lets findings wait until [`Reporter::flush`], which sorts them. Findings of several records
+    /// come after those of entries, and are before them in the file.
+    pub fn wait(&mut self) {
+        let most = self.tally.most;
+        self.waiting = Some(Waiting::new(self.rt.alloc(), most));
+    }
+
+    /// Returns the same reporter, which writes findings to standard output, as comments of a zone
+    /// file.
+    pub fn as_comments(mut self) -> Reporter<'a> {
+        self.writes_comments = true;
+        self
+    }
+
+    /// Writes what was appended.
+    fn write(&mut self) -> Result<(), RunError> {
+        if self.writes_comments {
+            return self.write_comments();
+        }
+        let octets = self.out.as_slice();
+        match self.form {
+            Form::Machine(_) => self.rt.stdout().write_all(octets)?,
+            Form::Lines { .. } => self.rt.stderr().write_all(octets)?,
+        }
+        self.out.truncate(0);
+        Ok(())
+    }
+
+    /// Writes what was appended to standard output, as comments.
+    fn write_comments(&mut self) -> Result<(), RunError> {
+        let mut comments = Vec::new(self.rt.alloc());
+        push_comments(self.out.as_slice(), &mut comments)?;
+        self.rt.stdout().write_all(comments.as_slice())?;
+        self.out.truncate(0);
+        Ok(())
+    }
+
+    /// Writes the findings that wait, in the order of the files, lines and columns.
+    pub fn flush(&mut self) -> Result<(), RunError> {
+        let Some(mut waiting) = self.waiting.take() else {
+            return Ok(());
+        };
+        waiting.sort()?;
+        for number in 0..waiting.len() {
+            if let Some((finding, line)) = waiting.finding(number) {
+                self.push(&finding, line, waiting.generated(number))?;
+                self.write()?;
+            }
+        }
+        Ok(())
+    }
+
+    /// Appends a finding as it is shown, with its line of the file if that is known.
+    fn push(
+        &mut self,
+        finding: &Finding<'_>,
+        line: Option<&[u8]>,
+        generated: Option<u32>,
+    ) -> Result<(), AllocError> {
+        match self.form {
+            Form::Machine(format) => self.before.push(&mut self.out, format, finding, generated),
+            Form::Lines {
+                is_coloured,
+                has_excerpt,
+            } => {
+                push_lines(&mut self.out, is_coloured, finding)?;
+                match line {
+                    Some(line) if has_excerpt => {
+                        let (column, end_column) = (finding.position.column, finding.end_column);
+                        push_excerpt(&mut self.out, is_coloured, line, column, end_column)
+                    }
+                    _ => Ok(()),
+                }
+            }
+        }
+    }
+
+    /// Counts a finding, and returns its severity if it is to be shown. A finding that an exception
+    /// in effect names is omitted. A finding that keeps a record from being read is an error, and is
+    /// not omitted.
+    pub fn count(
+        &mut self,
+        spot: FindingLocation<'_>,
+        code: Code,
+        is_refused: bool,
+    ) -> Option<Severity> {
+        let is_excepted = can_be_excepted(code, is_refused) && self.exceptions.excepts(code);
+        let severity = severity_of(&self.policy, code, is_refused, is_excepted);
+        let decision = decide(&mut self.tally, severity);
+        let is_shown = match (decision, &self.waiting) {
+            (Decision::Omitted, _) => false,
+            (_, Some(waiting)) => waiting.accepts(spot.number, spot.position),
+            (Decision::Shown(_), None) => true,
+            (Decision::Counted(_), None) => false,
+        };
+        if is_shown { severity } else { None }
+    }
+
+    /// Shows a finding that was counted.
+    pub fn show(
+        &mut self,
+        severity: Severity,
+        spot: FindingLocation<'_>,
+        code: Code,
+        finding_text: FindingText<'_>,
+    ) -> Result<(), RunError> {
+        let message = generated_message(self.rt.alloc(), spot.generated, finding_text.message)?;
+        let finding = Finding {
+            file: spot.file,
+            severity,
+            code,
+            position: spot.position,
+            end_column: spot.end_column,
+            opened: spot.opened,
+            owner: finding_text.owner,
+            rtype: finding_text.rtype,
+            message: match &message {
+                Some(text) => text.as_str(),
+                None => finding_text.message,
+            },
+            help: finding_text.help,
+            note: finding_text.note,
+        };
+        if let Some(waiting) = &mut self.waiting {
+            waiting.add(spot.number, &finding, spot.line, spot.generated)?;
+            return Ok(());
+        }
+        self.push(&finding, spot.line, spot.generated)?;
+        self.write()
+    }
+
+    /// Counts and shows a finding.
+    pub fn report(
+        &mut self,
+        spot: FindingLocation<'_>,
+        code: Code,
+        is_refused: bool,
+        finding_text: FindingText<'_>,
+    ) -> Result<(), RunError> {
+        match self.count(spot, code, is_refused) {
+            Some(severity) => self.show(severity, spot, code, finding_text),
+            None => Ok(()),
+        }
+    }
+
+    /// Returns whether lines of files are shown.
+    pub fn shows_lines(&self) -> bool {
+        matches!(
+            self.form,
+            Form::Lines {
+                has_excerpt: true,
+                ..
+            }
+        )
+    }
+
+    /// Returns whether equal findings about signatures are shown as one, with their number: in
+    /// lines, which people read.
+    pub fn joins_equal(&self) -> bool {
+        matches!(self.form, Form::Lines { .. })
+    }
+
+    /// Returns whether a finding is an error because of the options.
+    pub fn denies(&self, code: Code) -> bool {
+        self.policy.is_strict || self.policy.denied.contains(&code)
+    }
+
+    /// Writes what comes after the findings of a file in a format for other programs.
+    pub fn end_file(&mut self) -> Result<(), RunError> {
+        // (what is left of a finding for which memory was short)
+        self.out.clear();
+        self.before.push_file_end(&mut self.out)?;
+        self.write()
+    }
+
+    /// Reports the number of findings, unless it is 0. In a format for other programs it is
+    /// reported only if a finding is not shown.
+    pub fn summarize(&mut self) -> Result<(), RunError> {
+        let is_silent = matches!(self.form, Form::Machine(_)) && self.tally.hidden() == 0;
+        if is_silent || self.writes_comments {
+            return Ok(());
+        }
+        self.tally.push_summary(&mut self.out)?;
+        self.rt.stderr().write_all(self.out.as_slice())?;
+        self.out.truncate(0);
+        Ok(())
+    }
+}

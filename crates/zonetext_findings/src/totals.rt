@@ -1,0 +1,92 @@
+//! What is written before and after the findings of all files.
+use crate::machine::{push_end, push_start};
+use crate::reporter::{Form, Reporter};
+use std::io::Write;
+use zonetext_files::stop::{RunError, exit_status};
+use zonetext_report::tally::Tally;
+
+/// The findings of all files.
+#[derive(Drop)]
+pub struct Totals {
+    form: Form,
+    /// Whether a finding was written.
+    pub has_finding: bool,
+    /// Whether the files are those of many zones, whose number is reported otherwise.
+    pub is_of_zones: bool,
+    /// Number of files.
+    files: usize,
+    tally: Tally,
+}
+
+impl Totals {
+    /// Returns the totals before the first file.
+    pub fn new(form: Form) -> Totals {
+        Totals {
+            form,
+            has_finding: false,
+            is_of_zones: false,
+            files: 0,
+            tally: Tally::new(0),
+        }
+    }
+
+    /// Returns the number of warnings.
+    pub fn warnings(&self) -> usize {
+        self.tally.warnings
+    }
+
+    /// Adds the findings of a file.
+    pub fn add(&mut self, reporter: &Reporter<'_>) {
+        let tally = &reporter.tally;
+        self.has_finding = reporter.before.has_finding;
+        self.files = self.files.saturating_add(1);
+        self.tally.errors = self.tally.errors.saturating_add(tally.errors);
+        self.tally.warnings = self.tally.warnings.saturating_add(tally.warnings);
+    }
+
+    /// Writes what comes before the findings of the first file.
+    fn write_start(&self, rt: &HostRuntime) -> Result<(), RunError> {
+        let Form::Machine(format) = self.form else {
+            return Ok(());
+        };
+        let mut out = Vec::new(rt.alloc());
+        push_start(&mut out, format)?;
+        rt.stdout().write_all(out.as_slice())?;
+        Ok(())
+    }
+
+    /// Writes what comes before the findings of the first file, and returns the status.
+    pub fn start(&self, rt: &HostRuntime) -> u8 {
+        match self.write_start(rt) {
+            Ok(()) => 0,
+            Err(stop) => exit_status(rt, "-", stop),
+        }
+    }
+
+    /// Writes what comes after the findings of the last file, or reports the number of files and
+    /// findings, if there are several files and any findings.
+    fn write_end(&self, rt: &HostRuntime) -> Result<(), RunError> {
+        let mut out = Vec::new(rt.alloc());
+        if let Form::Machine(format) = self.form {
+            push_end(&mut out, format)?;
+            rt.stdout().write_all(out.as_slice())?;
+            return Ok(());
+        }
+        self.tally.push_summary(&mut out)?;
+        if self.files < 2 || out.is_empty() || self.is_of_zones {
+            return Ok(());
+        }
+        let files = self.files;
+        eprint!(rt; "{files} files: ")?;
+        rt.stderr().write_all(out.as_slice())?;
+        Ok(())
+    }
+
+    /// Writes what comes after the findings of the last file, and returns the status.
+    pub fn end(&self, rt: &HostRuntime) -> u8 {
+        match self.write_end(rt) {
+            Ok(()) => 0,
+            Err(stop) => exit_status(rt, "-", stop),
+        }
+    }
+}

@@ -1,0 +1,199 @@
+//! Findings that are written once all are known, in the order of the files.
+use dns_lexer::position::Position;
+use std::alloc::{AllocError, Global};
+use std::cmp::Ordering;
+use zonetext_report::code::{Code, Severity};
+use zonetext_report::finding::Finding;
+
+/// Number of texts of a finding: its file, owner, type, message, help, note, and line of the file.
+const TEXTS: usize = 7;
+
+/// A finding, whose texts are stored elsewhere, one after another.
+#[derive(Clone, Copy)]
+struct Row {
+    /// Number of files that were opened before its file.
+    number: usize,
+    severity: Severity,
+    code: Code,
+    position: Position,
+    end_column: usize,
+    opened: Option<Position>,
+    /// Offset of the first text.
+    start: usize,
+    /// Offsets where the texts end.
+    ends: [usize; TEXTS],
+    /// Whether the line of the file is known.
+    has_line: bool,
+    /// Number of the entry, if it is generated.
+    generated: Option<u32>,
+}
+
+/// Findings, with the numbers of their files.
+#[derive(Drop)]
+pub struct Waiting {
+    alloc: Global,
+    /// Greatest number of findings that are shown, which are the first ones, or 0 for all.
+    most: usize,
+    octets: Vec<u8>,
+    rows: Vec<Row>,
+    /// The last of the findings that are shown, if more were dropped.
+    last: Option<Row>,
+}
+
+/// Returns the order of two positions in files.
+fn compare_places(left: (usize, Position), right: (usize, Position)) -> Ordering {
+    left.0
+        .cmp(&right.0)
+        .then(left.1.line.cmp(&right.1.line))
+        .then(left.1.column.cmp(&right.1.column))
+}
+
+/// Returns the order of two findings: by file, line and column, and otherwise as they were added.
+fn compare(left: &Row, right: &Row) -> Ordering {
+    compare_places((left.number, left.position), (right.number, right.position)).then(
+        left.start.cmp(&right.start),
+    )
+}
+
+/// Returns the octets between two offsets.
+fn between(octets: &[u8], start: usize, end: usize) -> &[u8] {
+    octets.get(start..end).unwrap_or(&[])
+}
+
+/// Returns the text between two offsets.
+fn text_between(octets: &[u8], start: usize, end: usize) -> &str {
+    str::from_utf8(between(octets, start, end)).unwrap_or("")
+}
+
+impl Waiting {
+    /// Returns no findings.
+    pub fn new(alloc: Global, most: usize) -> Waiting {
+        Waiting {
+            alloc,
+            most,
+            octets: Vec::new(alloc),
+            rows: Vec::new(alloc),
+            last: None,
+        }
+    }
+
+    /// Returns the number of findings.
+    pub fn len(&self) -> usize {
+        self.rows.len()
+    }
+
+    /// Returns whether a finding at a position may be among the first ones.
+    pub fn accepts(&self, number: usize, position: Position) -> bool {
+        match &self.last {
+            Some(last) => {
+                compare_places((number, position), (last.number, last.position)).is_lt()
+            }
+            None => true,
+        }
+    }
+
+    /// Appends a text, and returns the offset of its end.
+    fn append(&mut self, octets: &[u8]) -> Result<usize, AllocError> {
+        self.octets.extend_from_slice(octets)?;
+        Ok(self.octets.len())
+    }
+
+    /// Adds a finding, with its line of the file if that is known.
+    pub fn add(
+        &mut self,
+        number: usize,
+        finding: &Finding<'_>,
+        line: Option<&[u8]>,
+        generated: Option<u32>,
+    ) -> Result<(), AllocError> {
+        let start = self.octets.len();
+        let ends = [
+            self.append(finding.file.as_bytes())?,
+            self.append(finding.owner.as_bytes())?,
+            self.append(finding.rtype.as_bytes())?,
+            self.append(finding.message.as_bytes())?,
+            self.append(finding.help.as_bytes())?,
+            self.append(finding.note.as_bytes())?,
+            self.append(line.unwrap_or(&[]))?,
+        ];
+        self.rows.push(Row {
+            number,
+            severity: finding.severity,
+            code: finding.code,
+            position: finding.position,
+            end_column: finding.end_column,
+            opened: finding.opened,
+            start,
+            ends,
+            has_line: line.is_some(),
+            generated,
+        })?;
+        if self.most > 0 && self.rows.len() / 2 >= self.most {
+            self.prune()?;
+        }
+        Ok(())
+    }
+
+    /// Sorts the findings, and drops those that are not shown.
+    pub fn sort(&mut self) -> Result<(), AllocError> {
+        self.rows.sort_by(|left, right| compare(left, right))?;
+        if self.most > 0 {
+            self.rows.truncate(self.most);
+        }
+        Ok(())
+    }
+
+    /// Drops the findings that are not shown, with their texts.
+    fn prune(&mut self) -> Result<(), AllocError> {
+        self.sort()?;
+        let mut octets = Vec::new(self.alloc);
+        let mut rows = Vec::new(self.alloc);
+        for row in &self.rows {
+            let start = octets.len();
+            let [.., end] = row.ends;
+            octets.extend_from_slice(between(self.octets.as_slice(), row.start, end))?;
+            let mut moved = *row;
+            moved.start = start;
+            for place in 0..TEXTS {
+                let offset = row.ends[place].saturating_sub(row.start);
+                moved.ends[place] = start.saturating_add(offset);
+            }
+            rows.push(moved)?;
+        }
+        self.octets = octets;
+        self.rows = rows;
+        self.last = self.rows.last().copied();
+        Ok(())
+    }
+
+    /// Returns the number of the generated entry that the finding with a number is about.
+    pub fn generated(&self, number: usize) -> Option<u32> {
+        self.rows.get(number)?.generated
+    }
+
+    /// Returns the finding with a number, and its line of the file if that is known.
+    pub fn finding(&self, number: usize) -> Option<(Finding<'_>, Option<&[u8]>)> {
+        let row = self.rows.get(number)?;
+        let octets = self.octets.as_slice();
+        let [file, owner, rtype, message, help, note, line] = row.ends;
+        let finding = Finding {
+            file: text_between(octets, row.start, file),
+            severity: row.severity,
+            code: row.code,
+            position: row.position,
+            end_column: row.end_column,
+            opened: row.opened,
+            owner: text_between(octets, file, owner),
+            rtype: text_between(octets, owner, rtype),
+            message: text_between(octets, rtype, message),
+            help: text_between(octets, message, help),
+            note: text_between(octets, help, note),
+        };
+        let line = if row.has_line {
+            Some(between(octets, note, line))
+        } else {
+            None
+        };
+        Some((finding, line))
+    }
+}

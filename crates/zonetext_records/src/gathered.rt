@@ -1,0 +1,220 @@
+//! The records of zone files in canonical form, stored in memory.
+use crate::visit::{EntryVisitor, Outcome, Reading, visit_entries};
+use rdata_fields::RecordRef;
+use std::alloc::{AllocError, Global};
+use zone_record::{Record, append_canonical_data, append_lowered};
+use zone_set::{CanonicalSet, Selection, TaggedOctets};
+use zonetext_checker::checker::SoaInfo;
+use zonetext_checker::record_arena::Held;
+use zonetext_files::stop::RunError;
+use zonetext_files::zone_files::Entry;
+
+/// Records in canonical form (RFC 4034 section 6.2) or as they are spelled, each with the number of
+/// records before it.
+#[derive(Drop)]
+pub struct Gathered {
+    held: Held<usize>,
+    places: Places,
+    /// The first SOA, also if SOAs are omitted.
+    pub seen: Option<SoaInfo>,
+}
+
+/// A record with the number of records before it.
+pub type NumberedRecord<'h> = Record<TaggedOctets<'h, usize>, &'h [u8]>;
+
+/// Records in canonical order, without duplicates.
+pub type NumberedSet<'h> = CanonicalSet<TaggedOctets<'h, usize>, &'h [u8]>;
+
+/// Where the entries of records begin, by the numbers of the records.
+#[derive(Drop)]
+struct Places {
+    /// The paths of the files.
+    files: Vec<String>,
+    /// The number of the file among these, and the line.
+    lines: Vec<(usize, usize)>,
+}
+
+impl Places {
+    /// Returns no places.
+    fn new(alloc: Global) -> Places {
+        Places {
+            files: Vec::new(alloc),
+            lines: Vec::new(alloc),
+        }
+    }
+
+    /// Adds the place of the next record.
+    fn add(&mut self, alloc: Global, entry: &Entry<'_>) -> Result<(), AllocError> {
+        let is_same = match self.files.last() {
+            Some(file) => file.as_str() == entry.file,
+            None => false,
+        };
+        if !is_same {
+            self.files.push(String::from_str(alloc, entry.file)?)?;
+        }
+        let file = self.files.len().saturating_sub(1);
+        self.lines.push((file, entry.place().position.line))?;
+        Ok(())
+    }
+}
+
+impl Gathered {
+    /// Returns the file and the line where the entry of a record begins, by the record's number, if
+    /// places were kept.
+    pub fn place(&self, number: usize) -> Option<(&str, usize)> {
+        let (file, line) = *self.places.lines.get(number)?;
+        let file = self.places.files.get(file)?;
+        Some((file.as_str(), line))
+    }
+
+    /// Returns the number of records.
+    pub fn len(&self) -> usize {
+        self.held.len()
+    }
+
+    /// Returns the records in canonical order, and the number of duplicates that were omitted.
+    pub fn set(&self) -> Result<(NumberedSet<'_>, usize), RunError> {
+        match CanonicalSet::from_set(self.held.set()?) {
+            Ok(made) => Ok(made),
+            Err(_) => Err(RunError::OutOfMemory),
+        }
+    }
+}
+
+/// Converts records to canonical form, one by one.
+#[derive(Drop)]
+pub struct Lowerer {
+    owner: Vec<u8>,
+    data: Vec<u8>,
+}
+
+impl Lowerer {
+    /// Returns a converter before the first record.
+    pub fn new(alloc: Global) -> Lowerer {
+        Lowerer {
+            owner: Vec::new(alloc),
+            data: Vec::new(alloc),
+        }
+    }
+
+    /// Returns the canonical form of a record.
+    pub fn lower<'l>(&'l mut self, record: RecordRef<'_>) -> Result<RecordRef<'l>, RunError> {
+        self.owner.truncate(0);
+        self.data.truncate(0);
+        if append_lowered(record.owner, &mut self.owner).is_err()
+            || append_canonical_data(record.rtype, record.data, &mut self.data).is_err()
+        {
+            return Err(RunError::OutOfMemory);
+        }
+        Ok(RecordRef {
+            owner: self.owner.as_slice(),
+            ttl: record.ttl,
+            class: record.class,
+            rtype: record.rtype,
+            data: self.data.as_slice(),
+        })
+    }
+}
+
+/// Collects the records of files.
+#[derive(Drop)]
+pub struct Gatherer<'s> {
+    selection: Selection<'s>,
+    /// Whether names keep their letter case.
+    keeps_case: bool,
+    /// Whether the places of records are kept.
+    keeps_places: bool,
+    held: Held<usize>,
+    places: Places,
+    alloc: Global,
+    lowerer: Lowerer,
+}
+
+impl<'s> Gatherer<'s> {
+    /// Returns a collection before the first record.
+    pub fn new(alloc: Global, selection: Selection<'s>) -> Gatherer<'s> {
+        Gatherer {
+            selection,
+            keeps_case: false,
+            keeps_places: false,
+            held: Held::new(alloc),
+            places: Places::new(alloc),
+            alloc,
+            lowerer: Lowerer::new(alloc),
+        }
+    }
+
+    /// Returns the same collection, in which names keep their letter case.
+    pub fn keeping_case(mut self) -> Gatherer<'s> {
+        self.keeps_case = true;
+        self
+    }
+
+    /// Returns the same collection, which keeps the places of records if that is wanted.
+    pub fn with_places(mut self, keeps_places: bool) -> Gatherer<'s> {
+        self.keeps_places = keeps_places;
+        self
+    }
+
+    /// Returns the records that were collected, and the first SOA.
+    pub fn gathered(self, seen: Option<SoaInfo>) -> Gathered {
+        Gathered {
+            held: self.held,
+            places: self.places,
+            seen,
+        }
+    }
+}
+
+impl EntryVisitor for Gatherer<'_> {
+    fn process_entry(&mut self, entry: &Entry<'_>) -> Result<(), RunError> {
+        let Some(given) = entry.record()? else {
+            return Ok(());
+        };
+        if !self.selection.includes(given.rtype) {
+            return Ok(());
+        }
+        let number = self.held.len();
+        if self.keeps_places {
+            self.places.add(self.alloc, entry)?;
+        }
+        if self.keeps_case {
+            return self.held.add(given, number);
+        }
+        let lowered = self.lowerer.lower(given)?;
+        self.held.add(lowered, number)
+    }
+}
+
+/// Passes the records of files to a collection, and returns them. If an entry is rejected, that is
+/// reported, and the status is returned in place of them: 1, or 3 if a file can't be read.
+pub fn gather_by(
+    rt: &HostRuntime,
+    files: &[&str],
+    reading: &Reading<'_>,
+    gatherer: Gatherer<'_>,
+) -> Result<Gathered, u8> {
+    let Outcome {
+        status,
+        seen,
+        visitor,
+    } = visit_entries(rt, files, reading, gatherer);
+    if reading.fails(status) {
+        return Err(status);
+    }
+    Ok(visitor.gathered(seen))
+}
+
+/// Returns the selected records of files, in canonical form, with their places if these are kept. If
+/// an entry is rejected, that is reported, and the status is returned in place of them: 1, or 3 if a
+/// file can't be read.
+pub fn gather(
+    rt: &HostRuntime,
+    files: &[&str],
+    reading: &Reading<'_>,
+    selection: Selection<'_>,
+    keeps_places: bool,
+) -> Result<Gathered, u8> {
+    let gatherer = Gatherer::new(rt.alloc(), selection).with_places(keeps_places);
+    gather_by(rt, files, reading, gatherer)
+}
