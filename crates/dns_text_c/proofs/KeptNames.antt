@@ -14,7 +14,7 @@ use Rattle.zone_reader.specs.Included.{OriginAppended, IsIncluded}
 use Rattle.zone_reader.specs.Records.{ReadsBegun, ReadsNextEntry, ReadsNextRecord, IsAfterEntry}
 use Rattle.zone_reader.specs.Source.{IsAtStart, SourceSeen}
 use Rattle.zone_reader.specs.declared.entry.ParsedEntry.{ParsedEntry}
-use Rattle.zone_reader.specs.declared.entry.ParsedEntry.TheVariants.{Nothing, Directive, Include, Record as RecordRead}
+use Rattle.zone_reader.specs.declared.entry.ParsedEntry.TheVariants.{Empty, Directive, Include, Generate, Record as RecordRead}
 use Rattle.zone_reader.specs.declared.known.NameState.TheVariants.{Name, Unset}
 use Rattle.zone_reader.specs.declared.records.RecordReader.{RecordReader}
 use Rattle.zone_reader.specs.declared.source.StartOfEntry.{StartOfEntry}
@@ -50,15 +50,16 @@ pub closed : (room : Room) (before after : RecordReader) (old new : List ℕ) (r
 closed room before after old new result r = closed_begun room r.middle.octets.now r.last.begun r.last.start r.middle.state old result after new r.last.begins.start r.last.reads
 
 -- each call returns something
-pub something : (room : Room) (before after : RecordReader) (old new : List ℕ) (result : Option (Result ParsedEntry RecordError)) → ReadsNextRecord room before old result after new → result ≢ Some (Ok Nothing)
+pub something : (room : Room) (before after : RecordReader) (old new : List ℕ) (result : Option (Result ParsedEntry RecordError)) → ReadsNextRecord room before old result after new → result ≢ Some (Ok Empty)
 something room before after old new result r is = no_call_is_blank room r.middle after old new (subst (λ g. ReadsNextEntry room r.middle old g after new) is r.last)
 
 -- for a file to include the octets are the file's and the origin's
 pub included : (room : Room) (before after : RecordReader) (new : List ℕ) (result : Option (Result ParsedEntry RecordError)) → ReadsNextRecord room before [] result after new → HasIncluded result new
 included room before after new None r = tt
 included room before after new (Some (Err e)) r = tt
-included room before after new (Some (Ok Nothing)) r = tt
+included room before after new (Some (Ok Empty)) r = tt
 included room before after new (Some (Ok Directive)) r = tt
+included room before after new (Some (Ok (Generate at))) r = tt
 included room before after new (Some (Ok (RecordRead at ttl class rtype))) r = tt
 included room before after new (Some (Ok (Include file has_origin))) r =
     let h = files_are_appended room r.middle after [] new file has_origin r.last in

@@ -5,7 +5,7 @@ use Rattle.zone_reader.specs.Line.{ReadsLine}
 use Rattle.zone_reader.specs.Past.{seconds_of}
 use Rattle.zone_reader.specs.Records.{ReadsNextRecord, none_given}
 use Rattle.zone_reader.specs.declared.entry.ParsedEntry.{ParsedEntry}
-use Rattle.zone_reader.specs.declared.entry.ParsedEntry.TheVariants.{Nothing, Directive, Include, Record as RecordRead}
+use Rattle.zone_reader.specs.declared.entry.ParsedEntry.TheVariants.{Empty, Directive, Include, Generate, Record as RecordRead}
 use Rattle.zone_reader.specs.declared.line.LineRead.{LineRead}
 use Rattle.zone_reader.specs.declared.records.RecordReader.{RecordReader}
 use Rattle.zone_reader.specs.declared.state.State.{State}
@@ -18,13 +18,15 @@ module _ (head : RecordNumbers) where
   record_told (RecordRead at ttl class rtype) reader octets call is h =
       let same : head_with at (seconds_of ttl) class rtype ≡ head = cc in subst (λ x. ReportsFound 0 reader octets reader.state.owner x call) (sym same) h
   record_told (Include file has_origin) reader octets call is h = cc
-  record_told Nothing reader octets call is h = cc
+  record_told (Generate at) reader octets call is h = cc
+  record_told Empty reader octets call is h = cc
   record_told Directive reader octets call is h = cc
 
   no_directive : (read : ParsedEntry) → head_in read ≡ Some head → read ≡ Directive → ⊥
   no_directive (RecordRead at ttl class rtype) is e = cc
   no_directive (Include file has_origin) is e = cc
-  no_directive Nothing is e = cc
+  no_directive (Generate at) is e = cc
+  no_directive Empty is e = cc
   no_directive Directive is e = cc
 
   module _ (text : List ℕ) (state after : State) (line : LineRead) (octets : List ℕ) (call : RecordCall) (is : IsHeadOfLine head line) where

@@ -21,9 +21,9 @@ use Rattle.zone_reader.specs.Source.{BeginsEntry, SourceSeen}
 use Rattle.zone_reader.specs.TextEntries.{counts_with, end_seen}
 use Rattle.zone_reader.specs.TextPieces.{StartsAt, seen_later}
 use Rattle.zone_reader.specs.declared.entry.ParsedEntry.{ParsedEntry}
-use Rattle.zone_reader.specs.declared.entry.ParsedEntry.TheVariants.{Nothing, Directive, Include, Record as RecordRead}
+use Rattle.zone_reader.specs.declared.entry.ParsedEntry.TheVariants.{Empty, Directive, Include, Generate, Record as RecordRead}
 use Rattle.zone_reader.specs.declared.known.NameState.{NameState}
-use Rattle.zone_reader.specs.declared.known.NameState.TheVariants.{Unset, Name, Refused}
+use Rattle.zone_reader.specs.declared.known.NameState.TheVariants.{Unset, Name, Rejected}
 use Rattle.zone_reader.specs.declared.records.RecordReader.{RecordReader}
 use Rattle.zone_reader.specs.declared.state.State.{State}
 use Rattle.zone_reader.proofs.SeenParts.{Parts}
@@ -43,7 +43,7 @@ use Rattle.dns_text_c.specs.declared.outcome.Outcome.{Outcome}
 use Rattle.dns_text_c.specs.declared.outcome.Refusal.{Refusal}
 use Rattle.dns_text_c.specs.declared.outcome.Refusal.TheVariants.{NoRoom, BadEscape, ShortInput, BadUtf8, BadSymbol, TooLong, BadEncoding, Closing, OpenParenthesis, OpenQuote, LoneReturn, BadCursor, EmptyLabel, LongLabel, BinaryLabel}
 use Rattle.dns_text_c.specs.declared.outcome.Refusal.TheVariants.{BadLabel, Pointer, TrailingOctets, NoDigit, TooGreat, BadPlace, BadTtl, UnknownType, UnknownClass, BadHead, NotSupported, BadName, NoOrigin, NoOwner, RefusedOwner}
-use Rattle.dns_text_c.specs.declared.outcome.Refusal.TheVariants.{BadData, NoTtl, RelativeName}
+use Rattle.dns_text_c.specs.declared.outcome.Refusal.TheVariants.{BadData, NoTtl, RelativeName, BadGenerate}
 use Rattle.dns_text_c.proofs.LastEnds.{nothing_behind}
 
 abbrev room : Room
@@ -227,20 +227,20 @@ module _ (r : RecordReader) (closed : r.source.is_open ≡ false) where
 name_once : (kept : KeptName) (a b : NameState) → HoldsName kept (Some a) → HoldsName kept (Some b) → a ≡ b
 name_once kept Unset Unset h k = refl
 name_once kept Unset (Name m) h k = absurd (k.1 h.1)
-name_once kept Unset Refused h k = absurd (k h.0)
+name_once kept Unset Rejected h k = absurd (k h.0)
 name_once kept (Name l) Unset h k = absurd (h.1 k.1)
 name_once kept (Name l) (Name m) h k =
     let same : Ok l ≡ Ok m = name_same _ (Ok l) (Ok m) h.2.1 k.2.1 in cc
-name_once kept (Name l) Refused h k = absurd (k h.0)
-name_once kept Refused Unset h k = absurd (h k.0)
-name_once kept Refused (Name m) h k = absurd (h k.0)
-name_once kept Refused Refused h k = refl
+name_once kept (Name l) Rejected h k = absurd (k h.0)
+name_once kept Rejected Unset h k = absurd (h k.0)
+name_once kept Rejected (Name m) h k = absurd (h k.0)
+name_once kept Rejected Rejected h k = refl
 
 no_name : (kept : KeptName) (a : NameState) → HoldsName kept (Some a) → HoldsName kept None → ⊥
 no_name kept Unset h k = k.1 h.1
 no_name kept (Name l) h k =
     ⊎_elim (λ short. omega (arith, short, h.2.0)) (λ bad. let same : Ok l ≡ Err bad.0 = name_same _ (Ok l) (Err bad.0) h.2.1 bad.1 in cc) k.2
-no_name kept Refused h k = h k.0
+no_name kept Rejected h k = h k.0
 
 state_once : (zone : Zone) (a b : State) → HoldsState zone (Some a) → HoldsState zone (Some b) → a ≡ b
 state_once zone a b h k = λ i. record {
@@ -290,6 +290,7 @@ never_one RefusedOwner h = cc
 never_one BadData h = cc
 never_one NoTtl h = cc
 never_one RelativeName h = cc
+never_one BadGenerate h = cc
 
 error_some : (wrong : Option Wrong) (e : RecordError) (old new : List ℕ) (told : ℕ) (outcome : Outcome) → ReportsErrorText wrong e old told new outcome → told ≢ 1
 error_some (Some wrong) e old new told outcome t = λ one. never_one _ (sym one ∙ t.0.0)
@@ -309,14 +310,16 @@ module _ (after : RecordReader) (octets : List ℕ) (call : RecordCall) where
   some_told (Err e) t = error_some (syntax_of e.kind) e _ _ _ _ t.reason
   some_told (Ok (RecordRead at ttl class rtype)) t = found_some 0 _ _ _ (λ e. cc) t
   some_told (Ok (Include file has_origin)) t = found_some 26 _ _ _ (λ e. cc) t.1
-  some_told (Ok Nothing) t = absurd t
+  some_told (Ok (Generate at)) t = found_some 36 _ _ _ (λ e. cc) t
+  some_told (Ok Empty) t = absurd t
   some_told (Ok Directive) t = absurd t
 
   some_keeps : (given : Result ParsedEntry RecordError) → call.status ≢ 2 → ReportsResult (Some given) after octets call → KeepsReader after call.before.zone call.after.zone
   some_keeps (Err e) fits t = t.keeps
   some_keeps (Ok (RecordRead at ttl class rtype)) fits t = found_keeps 0 _ _ _ fits t
   some_keeps (Ok (Include file has_origin)) fits t = found_keeps 26 _ _ _ fits t.1
-  some_keeps (Ok Nothing) fits t = absurd t
+  some_keeps (Ok (Generate at)) fits t = found_keeps 36 _ _ _ fits t
+  some_keeps (Ok Empty) fits t = absurd t
   some_keeps (Ok Directive) fits t = absurd t
 
 -- ---- a call reads what the reader reads

@@ -22,10 +22,10 @@ use Rattle.rdata_fields.specs.declared.record_error.RecordError.{RecordError}
 use Rattle.rdata_values.specs.declared.error.ErrorKind.{ErrorKind}
 use Rattle.rdata_values.specs.declared.error.ErrorKind.TheVariants.{ShortBuf}
 use Rattle.rdata_values.specs.declared.types.RecordType.{RecordType}
-use Rattle.zone_reader.specs.EntryMeanings.{EntryMeaning, says_nothing, says_origin, says_default_ttl, says_include, says_record, says_refused}
+use Rattle.zone_reader.specs.EntryMeanings.{EntryMeaning, says_nothing, says_origin, says_default_ttl, says_include, says_generate, says_record, says_refused}
 use Rattle.zone_reader.specs.declared.header.RecordHeader.{RecordHeader}
-use Rattle.zone_reader.specs.declared.header.HeaderRefusal.{HeaderRefusal}
-use Rattle.zone_reader.specs.EntryReading.{ReadsDataAfterHeader, ReadsInclude, ReadsMeaning, ReadsRecordData, ReadsWords, ReadsZoneEntry}
+use Rattle.zone_reader.specs.declared.header.HeaderError.{HeaderError}
+use Rattle.zone_reader.specs.EntryReading.{ReadsDataAfterHeader, ReadsInclude, ReadsMeaning, ReadsRecordData, ReadsAfterHeader, ReadsZoneEntry}
 use Rattle.zone_reader.specs.Past.{known_name}
 use Rattle.zone_reader.specs.Records.{AreSuccessiveResults, EntryResult, IsDirectiveResult, ReadsBegun, ReadsNextEntry, ReadsNextRecord, IsAfterEntry, given_next, result_of_entry, none_given}
 use Rattle.zone_reader.specs.Source.{SourceSeen, entry_end, unread_entry_tokens}
@@ -143,8 +143,8 @@ module _ (one other : Room) where
   data_so before at end w tokens old new result (Err r) left fits reads behind =
       (Err r, left, type_so (known_name before.origin) w.rtype end tokens old (Err r) left new (λ x is. let same : r ≡ x = cc in λ k. fits r behind (ap (λ (y : RecordError). y.kind) same ∙ k)) reads, behind)
 
-  words_so : (before : State) (at end : ℕ) (first : Result (Unit {0}) RecordError) (words : Result RecordHeader HeaderRefusal) (tokens : List TokenSeen) (old new : List ℕ) (result : Result ParsedEntry RecordError) → Fits result
-      → ReadsWords before one at end first words tokens old result new → ReadsWords before other at end first words tokens old result new
+  words_so : (before : State) (at end : ℕ) (first : Result (Unit {0}) RecordError) (words : Result RecordHeader HeaderError) (tokens : List TokenSeen) (old new : List ℕ) (result : Result ParsedEntry RecordError) → Fits result
+      → ReadsAfterHeader before one at end first words tokens old result new → ReadsAfterHeader before other at end first words tokens old result new
   words_so before at end (Err r) words tokens old new result fits h = h
   words_so before at end (Ok u) (Err r) tokens old new result fits h = h
   words_so before at end (Ok u) (Ok w) tokens old new result fits h = data_so before at end w tokens old new result h.0 h.1 fits h.2 h.3
@@ -161,6 +161,7 @@ module _ (one other : Room) where
   meaning_so before end tokens (says_origin t) old new result owner fits h = h
   meaning_so before end tokens (says_default_ttl r) old new result owner fits h = h
   meaning_so before end tokens (says_include file token) old new result owner fits h = include_so (known_name before.origin) _ file token old new result fits h
+  meaning_so before end tokens says_generate old new result owner fits h = h
   meaning_so before end tokens (says_record token words left) old new result owner fits h = (h.0, h.1, words_so before _ end h.0 words left old new result fits h.2)
   meaning_so before end tokens (says_refused r) old new result owner fits h = h
 

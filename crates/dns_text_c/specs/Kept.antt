@@ -3,7 +3,7 @@ use Rattle.std.specs.Prelude.{◌≡◌, ◌≢◌, ◌⊎◌, ◌<◌, ◌≤�
 use Rattle.dns_wire.specs.FromOctets.{MakesName}
 use Rattle.dns_wire.specs.declared.error.NameError.{NameError}
 use Rattle.zone_reader.specs.declared.known.NameState.{NameState}
-use Rattle.zone_reader.specs.declared.known.NameState.TheVariants.{Unset, Name, Refused}
+use Rattle.zone_reader.specs.declared.known.NameState.TheVariants.{Unset, Name, Rejected}
 use Rattle.zone_reader.specs.declared.state.State.{State}
 use Rattle.zone_reader.specs.Included.{OriginAppended}
 use Rattle.dns_text_c.specs.Reasons.{refusal_of_name}
@@ -21,14 +21,14 @@ known_if false x = None
 abbrev pub MakesOrNot : List ℕ → ℕ → Option NameState → Type 0
 MakesOrNot octets n (Some Unset) = ⊥
 MakesOrNot octets n (Some (Name labels)) = (n ≤ length octets) × MakesName (take n octets) (Ok labels)
-MakesOrNot octets n (Some Refused) = ⊥
+MakesOrNot octets n (Some Rejected) = ⊥
 MakesOrNot octets n None = (length octets < n) ⊎ ((e : NameError) × MakesName (take n octets) (Err e))
 
 -- a stored name: rejected, or none, or the name of the octets; or these are not a name
 abbrev pub HoldsName : KeptName → Option NameState → Type 0
 HoldsName kept (Some Unset) = (kept.is_refused ≡ 0) × (kept.length ≡ 0)
 HoldsName kept (Some (Name labels)) = (kept.is_refused ≡ 0) × (kept.length ≢ 0) × MakesOrNot kept.octets kept.length (Some (Name labels))
-HoldsName kept (Some Refused) = kept.is_refused ≢ 0
+HoldsName kept (Some Rejected) = kept.is_refused ≢ 0
 HoldsName kept None = (kept.is_refused ≡ 0) × (kept.length ≢ 0) × MakesOrNot kept.octets kept.length None
 
 -- a number that counts if its flag is not 0

@@ -3,6 +3,7 @@ pub mod Capacity
 pub mod Codecs
 pub mod DataText
 pub mod Entries
+pub mod Generates
 pub mod Kept
 pub mod Kinds
 pub mod Names
@@ -12,7 +13,7 @@ pub mod Places
 pub mod Reasons
 pub mod RecordCalls
 pub mod Records
+pub mod Reports
 pub mod Rows
 pub mod Status
 pub mod Strings
-pub mod Reports

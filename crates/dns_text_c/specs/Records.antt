@@ -9,8 +9,9 @@ use Rattle.zone_reader.specs.Past.{seconds_of}
 use Rattle.zone_reader.specs.Records.{ReadsNextRecord}
 use Rattle.zone_reader.specs.TextPieces.{StartsAt}
 use Rattle.zone_reader.specs.declared.entry.ParsedEntry.{ParsedEntry}
-use Rattle.zone_reader.specs.declared.entry.ParsedEntry.TheVariants.{Nothing, Directive, Include, Record as RecordRead}
+use Rattle.zone_reader.specs.declared.entry.ParsedEntry.TheVariants.{Empty, Directive, Include, Generate, Record as RecordRead}
 use Rattle.zone_reader.specs.declared.known.NameState.{NameState}
+use Rattle.zone_reader.specs.declared.known.NameState.TheVariants.{Unset}
 use Rattle.zone_reader.specs.declared.line.LineRead.{LineRead}
 use Rattle.zone_reader.specs.declared.records.RecordReader.{RecordReader}
 use Rattle.zone_reader.specs.declared.state.State.{State}
@@ -80,7 +81,8 @@ no_head = head_with 0 0 0 0
 abbrev pub head_in : ParsedEntry → Option RecordNumbers
 head_in (RecordRead at ttl class rtype) = Some (head_with at (seconds_of ttl) class rtype)
 head_in (Include file has_origin) = None
-head_in Nothing = None
+head_in (Generate at) = None
+head_in Empty = None
 head_in Directive = None
 
 -- a line is a record with these numbers
@@ -96,13 +98,14 @@ abbrev pub HasIncluded : Option (Result ParsedEntry RecordError) → List ℕ �
 HasIncluded (Some (Ok (Include file has_origin))) octets = IsIncluded file has_origin octets
 HasIncluded _ octets = ⊤
 
--- the report of the reader's result: a record with its owner; a file to include; an error; or that nothing is left
+-- the report of the reader's result: a record with its owner; a file to include; a `$GENERATE` directive, at its offset; an error; or that nothing is left
 abbrev pub ReportsResult : Option (Result ParsedEntry RecordError) → RecordReader → List ℕ → RecordCall → Type 0
 ReportsResult None reader octets call = ReportsEnd reader call
 ReportsResult (Some (Err e)) reader octets call = ReportsRejected reader e call
 ReportsResult (Some (Ok (RecordRead at ttl class rtype))) reader octets call = ReportsFound 0 reader octets reader.state.owner (head_with at (seconds_of ttl) class rtype) call
 ReportsResult (Some (Ok (Include file has_origin))) reader octets call = (read : IsIncluded file has_origin octets) × ReportsFound 26 reader read.name (optional_origin read.origin) no_head call
-ReportsResult (Some (Ok Nothing)) reader octets call = ⊥
+ReportsResult (Some (Ok (Generate at))) reader octets call = ReportsFound 36 reader [] Unset (head_with at 0 0 0) call
+ReportsResult (Some (Ok Empty)) reader octets call = ⊥
 ReportsResult (Some (Ok Directive)) reader octets call = ⊥
 
 -- a reader at the zone's offset, with the state that the zone holds, returns the next record, and this is reported

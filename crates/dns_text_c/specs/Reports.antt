@@ -6,7 +6,7 @@ use Rattle.dns_text_c.specs.declared.outcome.Refusal.{Refusal}
 use Rattle.dns_text_c.specs.declared.outcome.Refusal.TheVariants.{NoRoom, BadEscape, ShortInput, BadUtf8, BadSymbol, TooLong, BadEncoding, Closing, OpenParenthesis, OpenQuote}
 use Rattle.dns_text_c.specs.declared.outcome.Refusal.TheVariants.{LoneReturn, BadCursor, EmptyLabel, LongLabel, BinaryLabel, BadLabel, Pointer, TrailingOctets, NoDigit, TooGreat}
 use Rattle.dns_text_c.specs.declared.outcome.Refusal.TheVariants.{BadPlace, BadTtl, UnknownType, UnknownClass}
-use Rattle.dns_text_c.specs.declared.outcome.Refusal.TheVariants.{BadHead, NotSupported, BadName, NoOrigin, NoOwner, RefusedOwner, BadData, NoTtl, RelativeName}
+use Rattle.dns_text_c.specs.declared.outcome.Refusal.TheVariants.{BadHead, NotSupported, BadName, NoOrigin, NoOwner, RefusedOwner, BadData, NoTtl, RelativeName, BadGenerate}
 
 -- the status of each error, as in the header
 abbrev pub number_of : Refusal → ℕ
@@ -43,6 +43,7 @@ number_of RefusedOwner = 32
 number_of BadData = 33
 number_of NoTtl = 34
 number_of RelativeName = 35
+number_of BadGenerate = 37
 
 -- the octets fit and are at the start of the buffer, and those after them are unchanged; or they don't fit and nothing was written. The length is their number
 pub record CopiesWhole (octets old : List ℕ) (status : ℕ) (new : List ℕ) (outcome : Outcome) : Type 0 where

@@ -24,4 +24,5 @@ status_text n =
     if n == 29 then codes "name refused" else (if n == 30 then kind_text None NoOrigin else (
     if n == 31 then kind_text None NoOwner else (if n == 32 then kind_text None RefusedOwner else (
     if n == 33 then codes "data refused" else (if n == 34 then kind_text None NoTtl else (
-    if n == 35 then codes "name without the root at its end" else codes "unknown status")))))))))))))))))))))))))))))))))))
+    if n == 35 then codes "name without the root at its end" else (if n == 36 then codes "a $GENERATE directive" else (
+    if n == 37 then codes "$GENERATE refused" else codes "unknown status")))))))))))))))))))))))))))))))))))))

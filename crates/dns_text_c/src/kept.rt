@@ -75,7 +75,7 @@ fn load_name(kept: &KeptName, known: &mut NameState) -> bool
     ensures { HoldsName kept.now (known_if result known.new) }
 {
     if kept.is_refused != 0 {
-        *known = NameState::Refused;
+        *known = NameState::Rejected;
         return true;
     }
     if kept.length == 0 {
@@ -122,7 +122,7 @@ pub(crate) fn keep_name(known: &NameState, kept: &mut KeptName)
     kept.is_refused = 0;
     match known {
         NameState::Unset => {}
-        NameState::Refused => kept.is_refused = 1,
+        NameState::Rejected => kept.is_refused = 1,
         NameState::Name(name) => {
             let octets = name.as_slice();
             kept.length = octets.len();

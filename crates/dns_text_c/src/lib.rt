@@ -8,6 +8,7 @@
 
 pub mod canonical;
 pub mod codecs;
+pub mod generate;
 pub mod kept;
 pub mod kinds;
 pub mod laws;

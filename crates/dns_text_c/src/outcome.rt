@@ -65,7 +65,7 @@ pub enum Refusal {
     UnknownClass,
     /// A directive, or the TTL, class and type of a record, is rejected.
     BadHead,
-    /// A directive that is not supported: `$GENERATE`.
+    /// A directive that is not supported. No call of this version returns it.
     NotSupported,
     /// A token that is not the name of an owner or an origin.
     BadName,
@@ -81,6 +81,8 @@ pub enum Refusal {
     NoTtl,
     /// A name without the root at its end.
     RelativeName,
+    /// A `$GENERATE` directive is rejected.
+    BadGenerate,
 }
 
 /// An error, and its offset in octets.
@@ -98,6 +100,9 @@ pub const END: u32 = 1;
 
 /// The status of a call that finds a file to include.
 pub const INCLUDE: u32 = 26;
+
+/// The status of a call that finds a `$GENERATE` directive.
+pub const GENERATE: u32 = 36;
 
 /// Returns the status of an error.
 pub fn number_of(refusal: Refusal) -> u32
@@ -137,6 +142,7 @@ pub fn number_of(refusal: Refusal) -> u32
         Refusal::BadData => 33,
         Refusal::NoTtl => 34,
         Refusal::RelativeName => 35,
+        Refusal::BadGenerate => 37,
     }
 }
 

@@ -7,7 +7,7 @@ use crate::kept::{name_of, refusal_of_name};
 use crate::outcome::{Fault, Outcome, copy_whole, refuse};
 use crate::reasons::{read_lacks, report_error};
 use arrayvec::ArrayVec;
-use rdata::read_type;
+use rdata::read_rdata;
 use rdata_fields::{RecordError, TokenSource};
 use rdata_values::{ErrorKind, RecordType};
 use zone_reader::{EntrySource, NameBuffer};
@@ -62,7 +62,7 @@ fn read_tokens<const N: usize>(
         (source.new, target.new.items) }
     ensures end { entry_end source.new ≡ entry_end source.old }
 {
-    read_type(rtype, origin, source, target)
+    read_rdata(rtype, origin, source, target)
 }
 
 /// Parses the open entry as data of a type, up to the end of the text.

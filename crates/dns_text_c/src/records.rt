@@ -1,16 +1,16 @@
 //! Reads the records of a zone file, one by one and without allocating memory (RFC 1035 section
 //! 5.1).
 ghost use Rattle.std.specs.Prelude.{◌≡◌, ◌≢◌, IfSome, Ok, Some, false};
-ghost use Rattle.zone_reader.specs.declared.entry.ParsedEntry.TheVariants.{Nothing, Directive};
+ghost use Rattle.zone_reader.specs.declared.entry.ParsedEntry.TheVariants.{Empty, Directive};
 ghost use Rattle.dns_text_c.specs.Capacity.{as_reader};
 ghost use Rattle.dns_text_c.specs.Kept.{IsIncludedOrigin, KeepsName};
 ghost use Rattle.dns_text_c.specs.Reports.{ReportsFault, at_start};
 ghost use Rattle.dns_text_c.specs.declared.outcome.Refusal.TheVariants.{BadCursor};
 ghost use Rattle.dns_text_c.specs.declared.records.Record.{Record};
-ghost use Rattle.dns_text_c.specs.Records.{HasIncluded, IsHeadOfLine, KeepsReader, NextIfRead, NextRecord, ReportsFound, ReportsResult, ReportsLine, ReportsRejected, head_in, head_of, memory};
+ghost use Rattle.dns_text_c.specs.Records.{HasIncluded, IsHeadOfLine, KeepsReader, NextIfRead, NextRecord, ReportsFound, ReportsResult, ReportsLine, ReportsRejected, head_in, head_of, head_with, memory};
 
 use crate::kept::{KeptName, Zone, keep_name, keep_state, load_state, name_of, put_over};
-use crate::outcome::{END, Fault, INCLUDE, OK, Outcome, Refusal, number_of, refuse};
+use crate::outcome::{END, Fault, GENERATE, INCLUDE, OK, Outcome, Refusal, number_of, refuse};
 use crate::reasons::report_error;
 use crate::record_reading::ZoneReader;
 use arrayvec::ArrayVec;
@@ -24,18 +24,19 @@ const MOST: usize = 65535;
 /// Number of octets that suffices for most record data.
 const FEW: usize = 1024;
 
-/// A record of a zone file, whose data is in another buffer; or a file to include.
+/// A record of a zone file, whose data is in another buffer; or a file to include; or a `$GENERATE`
+/// directive.
 #[repr(C)]
 pub struct Record {
-    /// Offset of the record's first token; 0 for a file.
+    /// Offset of the first token of the record or of the directive; 0 for a file.
     pub place: usize,
-    /// TTL, in seconds; 0 for a file.
+    /// TTL, in seconds; 0 for a file or a directive.
     pub ttl: u32,
-    /// Class; 0 for a file.
+    /// Class; 0 for a file or a directive.
     pub class_code: u16,
-    /// Type; 0 for a file.
+    /// Type; 0 for a file or a directive.
     pub type_code: u16,
-    /// The owner; or the origin of the file, if the entry has one.
+    /// The owner; or the origin of the file, if the entry has one; a directive has none.
     pub name: KeptName,
 }
 
@@ -46,6 +47,18 @@ pub(crate) struct RecordNumbers {
     ttl: u32,
     class: Class,
     rtype: RecordType,
+}
+
+/// Returns the numbers of an entry that is not a record: its place, and zeros.
+fn no_record(place: usize) -> RecordNumbers
+    ensures { result ≡ head_with place 0 0 0 }
+{
+    RecordNumbers {
+        place,
+        ttl: 0,
+        class: Class(0),
+        rtype: RecordType(0),
+    }
 }
 
 /// Returns the numbers of a record that was read, or `None` for other entries.
@@ -64,7 +77,10 @@ fn head_in(read: &ParsedEntry) -> Option<RecordNumbers>
             class: *class,
             rtype: *rtype,
         }),
-        ParsedEntry::Include { .. } | ParsedEntry::Nothing | ParsedEntry::Directive => None,
+        ParsedEntry::Include { .. }
+        | ParsedEntry::Generate { .. }
+        | ParsedEntry::Empty
+        | ParsedEntry::Directive => None,
     }
 }
 
@@ -154,8 +170,8 @@ fn included_origin(has_origin: bool, octets: &[u8]) -> NameState
     }
 }
 
-/// Reports what a reader returned: a record with its owner, a file to include, an error, or that
-/// nothing is left.
+/// Reports what a reader returned: a record with its owner, a file to include, a `$GENERATE` directive,
+/// an error, or that nothing is left.
 fn report_result(
     given: Option<Result<ParsedEntry, RecordError>>,
     reader: &ZoneReader,
@@ -166,7 +182,7 @@ fn report_result(
     outcome: &mut Outcome,
 ) -> u32
     requires closed { reader.now.source.is_open ≡ false }
-    requires some { given ≢ Some (Ok Nothing) }
+    requires some { given ≢ Some (Ok Empty) }
     requires last { given ≢ Some (Ok Directive) }
     requires included { HasIncluded given content.now }
     ensures { ReportsResult given (as_reader reader.now) content.now (record {
@@ -177,17 +193,33 @@ fn report_result(
     }) }
 {
     match given {
-        Some(Ok(ParsedEntry::Include { file, has_origin })) => {
-            let head = RecordNumbers {
-                place: 0,
-                ttl: 0,
-                class: Class(0),
-                rtype: RecordType(0),
-            };
-            let (name, origin) = include_parts(content, file);
+        Some(
+            Ok(
+                ParsedEntry::Include {
+                    file_name_len,
+                    has_origin,
+                },
+            ),
+        ) => {
+            let head = no_record(0);
+            let (name, origin) = include_parts(content, file_name_len);
             let known = included_origin(has_origin, origin);
             report_found(
                 INCLUDE, reader, name, &known, head, zone, found, octets, outcome,
+            )
+        }
+        Some(Ok(ParsedEntry::Generate { at })) => {
+            let head = no_record(at);
+            report_found(
+                GENERATE,
+                reader,
+                &[],
+                &NameState::Unset,
+                head,
+                zone,
+                found,
+                octets,
+                outcome,
             )
         }
         Some(Ok(read)) => {
@@ -390,8 +422,9 @@ fn next_of_line(
 /// Reads the next record of a zone file, and advances the zone (RFC 1035 section 5.1, RFC 2308
 /// section 4). `$ORIGIN` and `$TTL` are processed on the way.
 ///
-/// The octets are the record's data; or with [`INCLUDE`] the name of a file; or the text of an
-/// entry's error, at most 255 of them, cut to the buffer's length. Errors are reported with their
+/// The octets are the record's data; or with [`INCLUDE`] the name of a file; or with [`GENERATE`] none,
+/// and the place is that of the directive; or the text of an entry's error, at most 255 of them, cut to
+/// the buffer's length. Errors are reported with their
 /// place, and reading continues at the next entry, or after the line of a syntax error. If data
 /// doesn't fit, nothing is written, and the zone is unchanged. Once nothing is left the status is
 /// [`END`]. A zone past the end of the text, or with a name that is not valid, is rejected.

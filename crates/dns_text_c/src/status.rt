@@ -49,6 +49,8 @@ pub fn status_text(status: u32) -> &'static str
         33 => "data refused",
         34 => kind_text(None, ErrorKind::NoTtl),
         35 => "name without the root at its end",
+        36 => "a $GENERATE directive",
+        37 => "$GENERATE refused",
         _ => "unknown status",
     }
 }
