@@ -79,7 +79,7 @@ def error_texts():
 
 def statuses_of_source():
     """Returns the number of each status, by its name in C, and its text."""
-    numbers, texts = {'DNSTEXT_OK': 0, 'DNSTEXT_END': 1, 'DNSTEXT_INCLUDE': 26}, {}
+    numbers, texts = {'DNSTEXT_OK': 0, 'DNSTEXT_END': 1, 'DNSTEXT_INCLUDE': 26, 'DNSTEXT_GENERATE': 36}, {}
     of_errors = error_texts()
     for text in source():
         for name, number in re.findall(r'Refusal::(\w+) => (\d+),', text):

@@ -47,6 +47,8 @@ static const struct {
     STATUS(DNSTEXT_BAD_DATA, "data refused"),
     STATUS(DNSTEXT_NO_TTL, "no time to live"),
     STATUS(DNSTEXT_RELATIVE_NAME, "name without the root at its end"),
+    STATUS(DNSTEXT_GENERATE, "a $GENERATE directive"),
+    STATUS(DNSTEXT_BAD_GENERATE, "$GENERATE refused"),
 };
 
 enum { KNOWN = sizeof statuses / sizeof *statuses };

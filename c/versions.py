@@ -28,7 +28,7 @@ PLACES = [
     ('c/dnstext.3', r'^\.Os dnstext (.*)$'),
     ('crates/dnstext/dnstext.1', r'^\.Os dnstext (.*)$'),
     ('crates/zonetext/zonetext.1', r'^\.Os zonetext (.*)$'),
-    ('crates/zonetext/src/command.rt', r'VERSION: &str = "(.*)"'),
+    ('crates/zonetext_findings/src/machine.rt', r'VERSION: &str = "(.*)"'),
     ('crates/zonetext/integration/github-actions.yml', rf'zonetext_({FORM})_amd64\.deb'),
     ('rust/dns-text/Cargo.toml', r'^version = "(.*)"$'),
     ('rust/dns-text-sys/Cargo.toml', r'^version = "(.*)"$'),

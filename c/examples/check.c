@@ -1,6 +1,6 @@
 /* Checks zone files: prints each error on standard output, as FILE:LINE:COLUMN: MESSAGE.
  *   check ORIGIN FILE..
- * Included files are named, and not read. */
+ * Included files are named, and not read. An error of an entry of $GENERATE is reported at the directive. */
 #include <dnstext.h>
 #include <stdio.h>
 #include <stdlib.h>
@@ -43,6 +43,34 @@ static void tell(const char *path, const uint8_t *text, size_t length, struct dn
         printf("%s\n", dnstext_status_message(status));
 }
 
+/* Reads the entries of a $GENERATE directive as if they were in its place, up to the first error. Returns
+ * its status, or DNSTEXT_END without an error. */
+static uint32_t read_entries(const uint8_t *directive, size_t length, struct dnstext_zone *zone,
+                             struct dnstext_outcome *outcome) {
+    static uint8_t entry[65535];
+    uint64_t index;
+    for (index = 0;; index++) {
+        struct dnstext_record record;
+        struct dnstext_zone inner = *zone;
+        size_t entry_length;
+        uint32_t of,
+            status = dnstext_generate_entry(directive, length, index, &of, entry, sizeof entry, outcome);
+        if (status == DNSTEXT_BAD_GENERATE)
+            memcpy(octets, entry, outcome->length);
+        if (status != DNSTEXT_OK)
+            return status;
+        inner.at = 0;
+        entry_length = outcome->length;
+        status = dnstext_record_next(entry, entry_length, &inner, &record, octets, sizeof octets, outcome);
+        zone->has_last_ttl = inner.has_last_ttl;
+        zone->last_ttl = inner.last_ttl;
+        zone->has_default_ttl = inner.has_default_ttl;
+        zone->default_ttl = inner.default_ttl;
+        if (status != DNSTEXT_OK)
+            return status;
+    }
+}
+
 /* Returns the number of errors of a file; or -1 if it can't be read. */
 static long check(const char *path, const struct dnstext_zone *start) {
     struct dnstext_zone zone = *start;
@@ -60,6 +88,14 @@ static long check(const char *path, const struct dnstext_zone *start) {
             break;
         if (status == DNSTEXT_INCLUDE) {
             printf("%s: %.*s is not read\n", path, (int)outcome.length, (const char *)octets);
+        } else if (status == DNSTEXT_GENERATE) {
+            size_t place = record.place;
+            status = read_entries(text + place, zone.at - place, &zone, &outcome);
+            if (status != DNSTEXT_END) {
+                outcome.place = place;
+                tell(path, text, length, &position, status, outcome);
+                refusals++;
+            }
         } else if (status != DNSTEXT_OK) {
             tell(path, text, length, &position, status, outcome);
             refusals++;

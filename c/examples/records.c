@@ -1,6 +1,7 @@
 /* Prints the records of one owner and type of a zone file, each as its TTL and its RDATA in base 16, and
  * the line and column of each error on standard error:
- *   records ORIGIN OWNER TYPE < FILE */
+ *   records ORIGIN OWNER TYPE < FILE
+ * Included files and the entries of $GENERATE are not read. */
 #include <dnstext.h>
 #include <stdio.h>
 #include <stdlib.h>
@@ -101,7 +102,7 @@ int main(int argc, char **argv) {
         if (status == DNSTEXT_OK) {
             if (record.type_code == type && same_name(&record.name, &owner))
                 print(&record, outcome.length);
-        } else if (status != DNSTEXT_INCLUDE) {
+        } else if (status != DNSTEXT_INCLUDE && status != DNSTEXT_GENERATE) {
             complain(&position, status, outcome);
             failed = 1;
         }

@@ -64,14 +64,16 @@ enum dnstext_status {
     DNSTEXT_INCLUDE = 26,          /* an $INCLUDE directive, whose file name is returned */
     DNSTEXT_BAD_HEAD = 27,         /* an unknown directive, one with wrong arguments, or a wrong header of a
                                       record */
-    DNSTEXT_NOT_SUPPORTED = 28,    /* $GENERATE, which another tool must expand first */
+    DNSTEXT_NOT_SUPPORTED = 28,    /* a directive that isn't supported: returned by no call of this version */
     DNSTEXT_BAD_NAME = 29,         /* a token that isn't a name, as owner or origin */
     DNSTEXT_NO_ORIGIN = 30,        /* a relative name without an origin, also in RDATA */
     DNSTEXT_NO_OWNER = 31,         /* a record that begins with a blank, without an owner before it */
     DNSTEXT_REFUSED_OWNER = 32,    /* the same, after an owner that was rejected */
     DNSTEXT_BAD_DATA = 33,         /* tokens or octets that aren't RDATA of their type */
     DNSTEXT_NO_TTL = 34,           /* a record without a TTL, and no other is known */
-    DNSTEXT_RELATIVE_NAME = 35     /* octets of a name that doesn't end in the root */
+    DNSTEXT_RELATIVE_NAME = 35,    /* octets of a name that doesn't end in the root */
+    DNSTEXT_GENERATE = 36,         /* a $GENERATE directive, whose entries dnstext_generate_entry writes */
+    DNSTEXT_BAD_GENERATE = 37      /* a $GENERATE directive that is rejected */
 };
 
 struct dnstext_outcome {
@@ -328,6 +330,11 @@ uint32_t dnstext_zone_origin(struct dnstext_zone *zone, const uint8_t *name, siz
  * file: store the zone; in a copy set `at` to 0 and, if there is one, set that origin; read the file
  * with the copy; then copy its TTLs back into the stored zone.
  *
+ * For $GENERATE the status is DNSTEXT_GENERATE, and the length is 0. The record has the place of the
+ * directive, whose octets are those of the text from there up to the zone's `at`, and otherwise a name
+ * of length 0 and zeros. dnstext_generate_entry writes the text of each of its entries; read each as a
+ * file that is included, without an origin of its own.
+ *
  * The error of an entry has its place, and so does a syntax error; the record is then unchanged.
  * Parsing continues at the next entry, or after the line of a syntax error. For the error of an entry
  * the octets are its text, such as "MX: preference: decimal number overflow": the type and the field of
@@ -341,6 +348,20 @@ uint32_t dnstext_zone_origin(struct dnstext_zone *zone, const uint8_t *name, siz
 uint32_t dnstext_record_next(const uint8_t *text, size_t text_len, struct dnstext_zone *zone,
                              struct dnstext_record *record, uint8_t *octets, size_t octets_len,
                              struct dnstext_outcome *outcome);
+
+/* Writes the text of an entry of a $GENERATE directive of BIND, with a line feed at its end, and stores
+ * its number. Entries are counted from 0; after the last one the status is DNSTEXT_END. The octets are
+ * those of the directive in a zone file, from its first token on. `number` must not be NULL; it is
+ * written only with DNSTEXT_OK.
+ *
+ * A directive that is rejected has the status DNSTEXT_BAD_GENERATE and the place of the rejected token
+ * in it; the text is then that of the error, truncated to the buffer. So is one with parentheses, or
+ * with RDATA of several tokens that aren't one quoted string. A range may have 2^31 numbers: the caller
+ * decides how many it reads. DNSTEXT_TOO_LONG reports a text of more than 65,535 octets. A call uses at
+ * most 16 KB of stack, but up to 80 KB for a text of more than 1,024 octets. */
+uint32_t dnstext_generate_entry(const uint8_t *directive, size_t directive_len, uint64_t index,
+                                uint32_t *number, uint8_t *text, size_t text_len,
+                                struct dnstext_outcome *outcome);
 
 /* ---- Lines and columns.
  *

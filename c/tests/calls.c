@@ -596,7 +596,7 @@ static void texts(void) {
     uint8_t memory[64];
     struct dnstext_outcome outcome;
     uint32_t status;
-    for (status = 0; status <= DNSTEXT_RELATIVE_NAME + 1; status++) {
+    for (status = 0; status <= DNSTEXT_BAD_GENERATE + 1; status++) {
         const char *message = dnstext_status_message(status);
         size_t length;
         EXPECT(dnstext_status_text(status, NULL, 0, &outcome) == DNSTEXT_NO_ROOM);
@@ -624,8 +624,8 @@ static void texts(void) {
     EXPECT(tells(outcome, 14, 0));
     EXPECT(strcmp(dnstext_status_name(DNSTEXT_OK), "DNSTEXT_OK") == 0);
     EXPECT(strcmp(dnstext_status_name(DNSTEXT_BAD_ESCAPE), "DNSTEXT_BAD_ESCAPE") == 0);
-    EXPECT(strcmp(dnstext_status_name(DNSTEXT_RELATIVE_NAME), "DNSTEXT_RELATIVE_NAME") == 0);
-    EXPECT(strcmp(dnstext_status_name(DNSTEXT_RELATIVE_NAME + 1), "unknown") == 0);
+    EXPECT(strcmp(dnstext_status_name(DNSTEXT_BAD_GENERATE), "DNSTEXT_BAD_GENERATE") == 0);
+    EXPECT(strcmp(dnstext_status_name(DNSTEXT_BAD_GENERATE + 1), "unknown") == 0);
     EXPECT(strcmp(dnstext_status_name(UINT32_MAX), "unknown") == 0);
     EXPECT(strcmp(dnstext_status_message(UINT32_MAX), "unknown status") == 0);
 }

@@ -9,7 +9,7 @@
 #include <string.h>
 #include <time.h>
 
-enum { GUARD = 16, FILL = 0xA5, MOST = 4096, STATUSES = DNSTEXT_RELATIVE_NAME + 1 };
+enum { GUARD = 16, FILL = 0xA5, MOST = 4096, STATUSES = DNSTEXT_BAD_GENERATE + 1 };
 
 #define CHECK(is_so) \
     do { \
@@ -304,7 +304,7 @@ static void try_records(struct dnstext_zone *zone) {
         status = dnstext_record_next(text, text_len, zone, &record, octets, room, &outcome);
         CHECK(status < STATUSES);
         CHECK(outcome.place <= text_len);
-        if (status == DNSTEXT_OK || status == DNSTEXT_INCLUDE) {
+        if (status == DNSTEXT_OK || status == DNSTEXT_INCLUDE || status == DNSTEXT_GENERATE) {
             CHECK(outcome.length <= room && record.place <= text_len && record.name.length <= 255);
             written = outcome.length;
         } else {
@@ -318,6 +318,26 @@ static void try_records(struct dnstext_zone *zone) {
         room = status == DNSTEXT_NO_ROOM ? outcome.length : number % 7;
         CHECK(calls_left-- > 0);
     } while (status != DNSTEXT_END && status != DNSTEXT_BAD_CURSOR);
+}
+
+/* The text as a directive: its first entries, and one beyond any. */
+static void try_directive(void) {
+    static const uint64_t indexes[] = {0, 1, 2, UINT64_MAX};
+    struct dnstext_outcome outcome;
+    size_t i;
+    for (i = 0; i < sizeof indexes / sizeof *indexes; i++) {
+        size_t room = number % 97, written = 0;
+        uint8_t *octets = guarded(room);
+        uint32_t of = FILL;
+        uint32_t status = dnstext_generate_entry(text, text_len, indexes[i], &of, octets, room, &outcome);
+        CHECK(status < STATUSES && outcome.place <= text_len);
+        CHECK(status == DNSTEXT_OK || of == FILL);
+        if (status == DNSTEXT_OK || status == DNSTEXT_BAD_GENERATE) {
+            CHECK(outcome.length <= room);
+            written = outcome.length;
+        }
+        release(octets, room, written);
+    }
 }
 
 /* States that no call returned, made of the octets of the input. */
@@ -385,6 +405,7 @@ static void try_input(const uint8_t *from, size_t length) {
     try_records(&zone);
     if (text_len != 0)
         try_states();
+    try_directive();
     free(copy);
 }
 

@@ -21,6 +21,7 @@ static const struct row ROWS[] = {
     {0, DNSTEXT_OK, "( a. 60 IN TXT x )\n"},
     {0, DNSTEXT_END, "; a comment\n"},
     {0, DNSTEXT_INCLUDE, "$INCLUDE file example.\n"},
+    {0, DNSTEXT_GENERATE, "$GENERATE 1-2 h$ A 192.0.2.$\n"},
     {0, DNSTEXT_BAD_DATA, "a. 60 IN A 192.0.2\n"},
     {0, DNSTEXT_BAD_DATA, "a. 60 IN SVCB 1 . alpn=h2 alpn=h3\n"},
     {0, DNSTEXT_BAD_DATA, "a. 60 IN NSEC b. A NOSUCH\n"},

@@ -6,6 +6,7 @@
 enum { LONGEST = 65535 };
 
 #define TEXT(text) text, sizeof(text) - 1
+#define TEXT_OCTETS(text) (const uint8_t *)(text), sizeof(text) - 1
 
 static int failures;
 static uint8_t octets[LONGEST + 16];
@@ -230,6 +231,100 @@ static void long_files(void) {
     ends(spelled, 9 + LONGEST + 1, __LINE__);
 }
 
+/* The entry of a number, with a buffer of the exact size; and that it doesn't fit a smaller one. */
+static void generates(const char *text, uint64_t index, uint32_t number, const char *entry, int line) {
+    size_t length = strlen(entry), room;
+    uint32_t of = 7;
+    for (room = length - 1; room <= length; room++) {
+        uint32_t status;
+        memset(octets, '-', sizeof octets);
+        status =
+            dnstext_generate_entry((const uint8_t *)text, strlen(text), index, &of, octets, room, &outcome);
+        expect(status == (room < length ? DNSTEXT_NO_ROOM : DNSTEXT_OK), "status", line);
+        expect(outcome.length == length && outcome.place == 0, "length and place", line);
+        expect(of == (room < length ? 7 : number), "number", line);
+        expect(room < length || memcmp(octets, entry, length) == 0, "text", line);
+        expect(octets[room < length ? 0 : length] == '-', "what follows", line);
+    }
+}
+#define GENERATES(text, index, number, entry) generates(text, index, number, entry, __LINE__)
+
+/* Why a directive is rejected, and the place. */
+static void rejects(const char *text, size_t place, const char *why, int line) {
+    uint32_t of = 7, status;
+    size_t room;
+    for (room = 0; room < 99; room += 9) {
+        size_t given = strlen(why) < room ? strlen(why) : room;
+        memset(octets, '-', sizeof octets);
+        status = dnstext_generate_entry((const uint8_t *)text, strlen(text), 0, &of, octets, room, &outcome);
+        expect(status == DNSTEXT_BAD_GENERATE && of == 7, "status and number", line);
+        expect(outcome.place == place && outcome.length == given, "place and length", line);
+        expect(memcmp(octets, why, given) == 0 && octets[given] == '-', "text", line);
+    }
+}
+#define REJECTS(text, place, why) rejects(text, place, why, __LINE__)
+
+/* $GENERATE: an entry of its own, and the texts of its entries. */
+static void directives(void) {
+    static const char text[] = "w 60 A 192.0.2.1\n$GENERATE 1-2 h$ 77 A 192.0.2.$ ; two\n TXT x\n";
+    static const char wide[] = "$GENERATE 0-0 a TXT \"${0,127}${0,127}\"";
+    static char long_text[LONGEST + 100];
+    struct dnstext_zone inner;
+    uint32_t of;
+    size_t i;
+    begin();
+    GIVES(text, "\300\0\2\1");
+    gives(TEXT(text), DNSTEXT_GENERATE, "", 0, __LINE__);
+    is(17, 0, 0, 0, "", 0, __LINE__);
+    EXPECT(zone.at == 55);
+    inner = zone;
+    inner.at = 0;
+    EXPECT(dnstext_generate_entry((const uint8_t *)text + record.place, zone.at - record.place, 1, &of,
+                                  octets, sizeof octets, &outcome) == DNSTEXT_OK);
+    EXPECT(of == 2 && outcome.length == 18 && memcmp(octets, "h2 77 A 192.0.2.2\n", 18) == 0);
+    EXPECT(dnstext_generate_entry((const uint8_t *)text + record.place, zone.at - record.place, 2, &of,
+                                  octets, sizeof octets, &outcome) == DNSTEXT_END);
+    EXPECT(of == 2 && outcome.length == 0 && outcome.place == 0);
+    {
+        struct dnstext_zone outer = zone;
+        zone = inner;
+        GIVES("h2 77 A 192.0.2.2\n", "\300\0\2\2");
+        IS(0, 77, 1, 1, "\2h2\7example\0");
+        outer.has_last_ttl = zone.has_last_ttl;
+        outer.last_ttl = zone.last_ttl;
+        zone = outer;
+    }
+    /* The owner is that before the directive, and the TTL that of its entries. */
+    GIVES(text, "\1x");
+    IS(56, 77, 1, 16, "\1w\7example\0");
+    ENDS(text);
+    GENERATES("$GENERATE 0-9/3 s$ A 192.0.2.$", 3, 9, "s9 A 192.0.2.9\n");
+    GENERATES("$generate 1-1 m$ MX \"10 m$\"\n", 0, 1, "m1 MX 10 m1\n");
+    GENERATES("$GENERATE 1-1 n${4659,7,N}.rev PTR ${0,3}n", 0, 1, "n4.3.2.1.rev PTR 001n\n");
+    GENERATES("$GENERATE 2147483647-2147483647 $ 1 IN TXT x", 0, 2147483647, "2147483647 1 IN TXT x\n");
+    REJECTS("$GENERATE 3-1 a A 192.0.2.1", 10, "start of the range exceeds its stop");
+    REJECTS("$GENERATE 1-2/0 a A 192.0.2.1", 10, "step of the range is 0");
+    REJECTS("$GENERATE 1-2 a${1,2,z} A 192.0.2.1", 14, "base in braces is not d, o, x, X, n or N");
+    REJECTS("$GENERATE 1-2 a (A 192.0.2.1)", 16, "parenthesis in $GENERATE");
+    REJECTS("$GENERATE 1-2 \"a\" A 192.0.2.1", 14, "expected word without quotes");
+    REJECTS("$GENERATE 1-2 a MX 10 m", 22, "RDATA of several tokens: quote them as one");
+    REJECTS("$GENERATE 1-2 a A", 17, "range, owner, type or RDATA is missing");
+    REJECTS("a A 192.0.2.1", 0, "expected $GENERATE");
+    REJECTS("", 0, "expected $GENERATE");
+    REJECTS("$GENERATE 1-2 a TXT \"b", 22, "quoted text is not closed");
+    /* The longest text of an entry, and one octet more. */
+    for (i = 0; i < 2; i++) {
+        size_t length = (size_t)sprintf(long_text, "$GENERATE 1-1 a TXT ");
+        memset(long_text + length, 'x', LONGEST - 7 + i);
+        length += LONGEST - 7 + i;
+        EXPECT(dnstext_generate_entry((const uint8_t *)long_text, length, 0, &of, octets, sizeof octets,
+                                      &outcome) == (i == 0 ? DNSTEXT_OK : DNSTEXT_TOO_LONG));
+        EXPECT(outcome.length == (i == 0 ? LONGEST : 0) && outcome.place == 0);
+    }
+    EXPECT(dnstext_generate_entry(TEXT_OCTETS(wide), 0, &of, octets, sizeof octets, &outcome) == DNSTEXT_OK);
+    EXPECT(outcome.length == 6 + 254 + 1);
+}
+
 /* A TTL of 2^31 or more is 0, also for the records after it (RFC 2181 section 8). */
 static void long_ttls(void) {
     static const char text[] = "$TTL 2147483648\n"
@@ -280,8 +375,6 @@ static void refusals(void) {
     REFUSES("a 1 \"A\" 192.0.2.1", DNSTEXT_BAD_HEAD, 4, "expected word without quotes");
     begin();
     REFUSES("a 1 MX 10 \"m\"", DNSTEXT_BAD_DATA, 10, "MX: exchange: expected word without quotes");
-    begin();
-    REFUSES("$GENERATE 1-2 a A 192.0.2.$", DNSTEXT_NOT_SUPPORTED, 0, "not supported: expand it first");
     begin();
     REFUSES("$NOSUCH", DNSTEXT_BAD_HEAD, 0, "unknown directive");
     begin();
@@ -426,6 +519,9 @@ static void add_given(uint32_t status) {
         add_barred(record.class_code);
         add_barred(record.type_code);
         add_octets(octets, outcome.length);
+    } else if (status == DNSTEXT_GENERATE) {
+        add_text("generate ");
+        add_number(record.place);
     } else if (status == DNSTEXT_INCLUDE) {
         add_text("include ");
         add_octets(octets, outcome.length);
@@ -493,6 +589,7 @@ int main(int count, char **words) {
     long_data();
     files();
     long_files();
+    directives();
     long_ttls();
     refusals();
     origins();
