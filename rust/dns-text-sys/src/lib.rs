@@ -45,6 +45,8 @@ pub const DNSTEXT_REFUSED_OWNER: u32 = 32;
 pub const DNSTEXT_BAD_DATA: u32 = 33;
 pub const DNSTEXT_NO_TTL: u32 = 34;
 pub const DNSTEXT_RELATIVE_NAME: u32 = 35;
+pub const DNSTEXT_GENERATE: u32 = 36;
+pub const DNSTEXT_BAD_GENERATE: u32 = 37;
 
 /// The result of a call beside its status.
 #[repr(C)]
@@ -122,7 +124,8 @@ pub struct dnstext_zone {
     pub owner: dnstext_kept_name,
 }
 
-/// A record of a zone file, whose RDATA is in another buffer; or the origin of a file to include.
+/// A record of a zone file, whose RDATA is in another buffer; or the origin of a file to include; or the
+/// place of a `$GENERATE` directive.
 #[repr(C)]
 #[derive(Clone, Copy, Debug, Default, PartialEq, Eq)]
 pub struct dnstext_record {
@@ -364,6 +367,15 @@ extern "C" {
         record: *mut dnstext_record,
         octets: *mut u8,
         octets_len: usize,
+        outcome: *mut dnstext_outcome,
+    ) -> u32;
+    pub fn dnstext_generate_entry(
+        directive: *const u8,
+        directive_len: usize,
+        index: u64,
+        number: *mut u32,
+        text: *mut u8,
+        text_len: usize,
         outcome: *mut dnstext_outcome,
     ) -> u32;
     pub fn dnstext_position(

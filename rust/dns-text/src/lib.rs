@@ -118,6 +118,7 @@ mod call;
 mod char_str;
 pub mod codec;
 mod data;
+mod generate;
 mod kinds;
 mod labels;
 mod library;
@@ -135,6 +136,7 @@ mod zone;
 
 pub use char_str::{CharStr, LongString, ReadError, ReadErrorKind};
 pub use data::{BadData, RecordData};
+pub use generate::{Generate, GenerateFault, GenerateFaultKind, GeneratedEntry};
 pub use kinds::{Class, RecordType, Ttl, WordError, WordErrorKind};
 pub use labels::Labels;
 pub use library::version;

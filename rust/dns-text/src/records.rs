@@ -1,12 +1,14 @@
 //! The records of zone files.
 use crate::data::RecordData;
+use crate::generate::Generate;
 use crate::library;
 use crate::status::reasons;
 use crate::stream::{FollowedRecords, RecordReader, TextReader};
 use crate::{entries, position, Class, Name, Position, Positions, RecordType, Ttl};
 use dns_text_sys::{
     dnstext_kept_name, dnstext_outcome, dnstext_record, dnstext_record_next, dnstext_zone,
-    dnstext_zone_origin, DNSTEXT_END, DNSTEXT_INCLUDE, DNSTEXT_NO_ROOM, DNSTEXT_OK,
+    dnstext_zone_origin, DNSTEXT_END, DNSTEXT_GENERATE, DNSTEXT_INCLUDE, DNSTEXT_NO_ROOM,
+    DNSTEXT_OK,
 };
 use std::error::Error;
 use std::fmt;
@@ -44,6 +46,10 @@ pub enum ZoneItem {
         file: Vec<u8>,
         origin: Option<Name>,
     },
+    /// `$GENERATE`: an entry for each number of a range. The caller reads them by
+    /// [`Records::read_entry`] or [`RecordReader::read_entry`](crate::RecordReader::read_entry); or
+    /// [`Records::follow_includes`] does.
+    Generate(Generate),
 }
 
 impl ZoneItem {
@@ -63,6 +69,10 @@ impl ZoneItem {
                 file,
                 origin,
             },
+            ZoneItem::Generate(directive) => ZoneItem::Generate(Generate {
+                place: before + directive.place,
+                ..directive
+            }),
         }
     }
 }
@@ -134,7 +144,7 @@ reasons! {
         LoneReturn = DNSTEXT_LONE_RETURN,
         /// A wrong directive, or a wrong header of a record: owner, TTL, class, type.
         BadHead = DNSTEXT_BAD_HEAD,
-        /// `$GENERATE`, which another tool must expand first.
+        /// A directive that is not supported. No call of this version returns it.
         NotSupported = DNSTEXT_NOT_SUPPORTED,
         /// A token that is not a name, as owner or origin.
         BadName = DNSTEXT_BAD_NAME,
@@ -326,6 +336,12 @@ impl<'t> Records<'t> {
         RecordReader::resumed(rest.into(), self.state, place, position).follow_includes(read)
     }
 
+    /// Reads an entry of a `$GENERATE` directive, as if it were in the place of the last item. Offsets are
+    /// those in the entry. The TTLs that it sets apply to later records, and its owner doesn't.
+    pub fn read_entry(&mut self, entry: &[u8]) -> Option<Result<ZoneItem, RecordFault>> {
+        self.state.read_entry(entry)
+    }
+
     /// Returns the offset of the next entry.
     pub fn place(&self) -> usize {
         self.state.zone.at
@@ -456,6 +472,21 @@ impl ZoneState {
         (found, self.zone.at)
     }
 
+    /// Reads an entry of a `$GENERATE` directive. Of its state only the TTLs stay.
+    pub(crate) fn read_entry(&mut self, entry: &[u8]) -> Option<Result<ZoneItem, RecordFault>> {
+        let kept = self.zone;
+        self.zone.at = 0;
+        let found = self.next(entry);
+        self.zone = dnstext_zone {
+            has_default_ttl: self.zone.has_default_ttl,
+            default_ttl: self.zone.default_ttl,
+            has_last_ttl: self.zone.has_last_ttl,
+            last_ttl: self.zone.last_ttl,
+            ..kept
+        };
+        found
+    }
+
     /// Reads the next item of a text.
     fn next(&mut self, text: &[u8]) -> Option<Result<ZoneItem, RecordFault>> {
         let mut record = dnstext_record::default();
@@ -476,6 +507,13 @@ impl ZoneState {
                 file: given.to_vec(),
                 origin,
             })),
+            (DNSTEXT_GENERATE, _) => Some(Ok(ZoneItem::Generate(Generate {
+                place: record.place,
+                text: text
+                    .get(record.place..self.zone.at)
+                    .unwrap_or_default()
+                    .to_vec(),
+            }))),
             (status, _) => Some(Err(RecordFault {
                 kind: RecordFaultKind::of(status),
                 place: outcome.place,

@@ -1,6 +1,8 @@
 //! The records of a zone file and of the files that it includes.
 use super::{RecordReader, StreamError};
-use crate::{Name, Position, Record, RecordFault, ZoneItem};
+use crate::{
+    Generate, GenerateFault, GenerateFaultKind, Name, Position, Record, RecordFault, ZoneItem,
+};
 use std::borrow::Cow;
 use std::error::Error;
 use std::fmt;
@@ -13,6 +15,9 @@ const MOST_OPEN: usize = 10;
 /// Greatest number of files that are included.
 const MOST_FILES: usize = 10_000;
 
+/// Greatest number of entries of a `$GENERATE` directive, unless another is set; that of `zonetext`.
+const MOST_ENTRIES: u64 = 1 << 20;
+
 /// An iterator over the records of a zone file and of the files that it includes, in order; see
 /// [`Records::follow_includes`](crate::Records::follow_includes) and [`RecordReader::follow_includes`].
 ///
@@ -21,6 +26,26 @@ const MOST_FILES: usize = 10_000;
 /// TTLs apply (RFC 1035 section 5.1; BIND). After an error, reading continues at the next entry, or after the
 /// line of a syntax error; and after the `$INCLUDE` of a file that isn't read. At most 10 files include one
 /// another, and at most 10,000 are included in all.
+///
+/// The records of a `$GENERATE` directive are in its place, one by one. Their offset is that of the directive,
+/// and so is the position of their errors. They have the origin, the class and the TTLs at the directive. The
+/// TTLs that they set apply after it, and their owners don't. A rejected entry ends its directive. A directive
+/// with more than 1,048,576 entries has none: [`with_max_generate`](FollowedRecords::with_max_generate) sets
+/// another limit.
+///
+/// ```
+/// use dns_text::{records, FollowErrorKind};
+///
+/// let zone = b"$TTL 1h\n$GENERATE 1-3 h$.example. A 192.0.2.$\n";
+/// let open = |_: &[u8]| Err::<&[u8], _>("no file");
+/// let found = || records(zone).follow_includes(open);
+/// let owners: Result<Vec<_>, _> = found().map(|it| it.map(|it| it.owner.to_string())).collect();
+/// assert_eq!(owners?, ["h1.example.", "h2.example.", "h3.example."]);
+/// let error = found().with_max_generate(2).next().unwrap().unwrap_err();
+/// assert!(matches!(error.kind, FollowErrorKind::TooManyEntries { most: 2 }));
+/// assert_eq!(error.to_string(), "2:1: $GENERATE has more than 2 entries");
+/// # Ok::<(), Box<dyn std::error::Error>>(())
+/// ```
 #[derive(Debug)]
 pub struct FollowedRecords<R, F> {
     open: F,
@@ -28,6 +53,10 @@ pub struct FollowedRecords<R, F> {
     files: Vec<OpenFile<R>>,
     /// Number of files that were included.
     included: usize,
+    /// Greatest number of entries of a `$GENERATE` directive.
+    most_entries: u64,
+    /// The directive of the file that is read, while its entries are.
+    generated: Option<GeneratedRecords>,
 }
 
 /// A file that is open, and its name, if it is not the first.
@@ -37,13 +66,21 @@ struct OpenFile<R> {
     reader: RecordReader<R>,
 }
 
+/// A `$GENERATE` directive, and the index of its next entry.
+#[derive(Debug)]
+struct GeneratedRecords {
+    directive: Generate,
+    index: u64,
+}
+
 /// An error of a zone file or of a file that it includes. It displays as `file:line:column: message`, without
 /// a file in the first one.
 #[derive(Debug)]
 pub struct FollowError<E> {
     /// Name of the file, as in its `$INCLUDE`; `None` for the first file.
     pub file: Option<Vec<u8>>,
-    /// Line and column, if it is not an error of reading.
+    /// Line and column, if it is not an error of reading. Those of the directive for an error of `$GENERATE` or
+    /// of one of its entries.
     pub position: Option<Position>,
     pub kind: FollowErrorKind<E>,
 }
@@ -61,6 +98,13 @@ pub enum FollowErrorKind<E> {
     TooDeep { file: Vec<u8> },
     /// The file that an `$INCLUDE` names is not read: 10,000 files are included already.
     TooMany { file: Vec<u8> },
+    /// A rejected `$GENERATE` directive. The offset of the rejected token is in the fault.
+    Generate(GenerateFault),
+    /// A rejected entry of a `$GENERATE` directive, whose offset is in the fault, and its number. No record of
+    /// the directive follows.
+    GeneratedEntry { number: u32, fault: RecordFault },
+    /// A `$GENERATE` directive that isn't read: it has more than `most` entries.
+    TooManyEntries { most: u64 },
     /// Reading failed. No record of this file follows.
     Io(io::Error),
 }
@@ -80,6 +124,13 @@ impl<E: fmt::Display> fmt::Display for FollowErrorKind<E> {
             FollowErrorKind::TooMany { file } => {
                 let why = "10000 files are included already";
                 write!(f, "not included: {why} '{}'", shown(file))
+            }
+            FollowErrorKind::Generate(fault) => f.write_str(&fault.reason),
+            FollowErrorKind::GeneratedEntry { number, fault } => {
+                write!(f, "$GENERATE {number}: {}", fault.message())
+            }
+            FollowErrorKind::TooManyEntries { most } => {
+                write!(f, "$GENERATE has more than {most} entries")
             }
             FollowErrorKind::Io(error) => write!(f, "{error}"),
         }
@@ -110,7 +161,15 @@ impl<R, F> FollowedRecords<R, F> {
             open,
             files: vec![first],
             included: 0,
+            most_entries: MOST_ENTRIES,
+            generated: None,
         }
+    }
+
+    /// Sets the greatest number of entries of a `$GENERATE` directive.
+    pub fn with_max_generate(mut self, most: u64) -> Self {
+        self.most_entries = most;
+        self
     }
 
     /// Returns the name of the last item's file, as in its `$INCLUDE`; `None` for the first file, and at the
@@ -138,6 +197,35 @@ impl<R, F> FollowedRecords<R, F> {
             position,
             kind,
         }
+    }
+
+    /// Begins to read the entries of a directive. Returns the error if it has too many.
+    fn generate<E>(&mut self, directive: Generate) -> Result<(), FollowErrorKind<E>> {
+        let most = self.most_entries;
+        match directive.entry(most) {
+            Ok(None) => {}
+            Err(fault) if fault.kind == GenerateFaultKind::BadGenerate => {
+                return Err(FollowErrorKind::Generate(fault));
+            }
+            // (perhaps one that is too long)
+            _ => return Err(FollowErrorKind::TooManyEntries { most }),
+        }
+        let index = 0;
+        self.generated = Some(GeneratedRecords { directive, index });
+        Ok(())
+    }
+
+    /// Returns the record of the next entry of the directive that is read, or the error that ends it; `None`
+    /// after its last entry, and if none is read.
+    fn next_generated<E>(&mut self) -> Option<Result<Record, FollowError<E>>> {
+        let reader = &mut self.files.last_mut()?.reader;
+        let generated = self.generated.as_mut()?;
+        let place = generated.directive.place;
+        let found = generated.next(reader);
+        if !matches!(found, Some(Ok(_))) {
+            self.generated = None;
+        }
+        Some(found?.map_err(|kind| self.error(self.locate(place), kind)))
     }
 
     /// Opens an included file. Returns the error if it isn't read.
@@ -174,6 +262,30 @@ impl<R, F> FollowedRecords<R, F> {
     }
 }
 
+impl GeneratedRecords {
+    /// Returns the record of the next entry, or the error that ends the directive.
+    fn next<R, E>(
+        &mut self,
+        reader: &mut RecordReader<R>,
+    ) -> Option<Result<Record, FollowErrorKind<E>>> {
+        let entry = match self.directive.entry(self.index) {
+            Ok(entry) => entry?,
+            Err(fault) => return Some(Err(FollowErrorKind::Generate(fault))),
+        };
+        self.index += 1;
+        let place = self.directive.place;
+        match reader.read_entry(&entry.text)? {
+            Ok(ZoneItem::Record(record)) => Some(Ok(Record { place, ..record })),
+            // (the library writes no directives as entries)
+            Ok(_) => None,
+            Err(fault) => Some(Err(FollowErrorKind::GeneratedEntry {
+                number: entry.number,
+                fault: RecordFault { place, ..fault },
+            })),
+        }
+    }
+}
+
 impl<R, F, T, E> Iterator for FollowedRecords<R, F>
 where
     R: BufRead,
@@ -183,8 +295,11 @@ where
     type Item = Result<Record, FollowError<E>>;
 
     fn next(&mut self) -> Option<Self::Item> {
-        while let Some(file) = self.files.last_mut() {
-            match file.reader.next() {
+        loop {
+            if let Some(found) = self.next_generated() {
+                return Some(found);
+            }
+            match self.files.last_mut()?.reader.next() {
                 None => self.close(),
                 Some(Ok(ZoneItem::Record(record))) => return Some(Ok(record)),
                 Some(Ok(ZoneItem::Include {
@@ -197,6 +312,12 @@ where
                         return Some(Err(self.error(position, kind)));
                     }
                 }
+                Some(Ok(ZoneItem::Generate(directive))) => {
+                    let position = self.locate(directive.place);
+                    if let Err(kind) = self.generate(directive) {
+                        return Some(Err(self.error(position, kind)));
+                    }
+                }
                 Some(Err(StreamError::Fault { fault, position })) => {
                     let kind = FollowErrorKind::Fault(fault);
                     return Some(Err(self.error(Some(position), kind)));
@@ -206,7 +327,6 @@ where
                 }
             }
         }
-        None
     }
 }
 

@@ -139,6 +139,12 @@ impl<R> RecordReader<R> {
         }
     }
 
+    /// Reads an entry of a `$GENERATE` directive, as if it were in the place of the last item. Offsets are
+    /// those in the entry. The TTLs that it sets apply to later records, and its owner doesn't.
+    pub fn read_entry(&mut self, entry: &[u8]) -> Option<Result<ZoneItem, RecordFault>> {
+        self.state.read_entry(entry)
+    }
+
     /// Returns line and column of an offset in the last item, such as where a record begins.
     pub fn locate(&self, place: usize) -> Option<Position> {
         self.window.locate(place)

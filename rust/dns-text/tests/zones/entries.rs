@@ -67,6 +67,7 @@ fn agrees(wanted: &str, found: &Result<ZoneItem, (RecordFault, Position)>) -> bo
             }
             octets == octets_of(wanted)
         }
+        Ok(ZoneItem::Generate(directive)) => wanted == format!("generate {}", directive.place),
         Ok(ZoneItem::Record(record)) => {
             let fields: Vec<&str> = wanted.splitn(6, '|').collect();
             let [place, owner, ttl, class, code, octets] = fields[..] else {
