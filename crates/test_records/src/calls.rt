@@ -10,6 +10,7 @@ mod digits;
 mod field;
 mod fields;
 mod gateway;
+mod generate;
 mod head;
 mod kind;
 mod list;
@@ -60,6 +61,7 @@ fn call(name: &str, inputs: &Inputs, answer: &mut Answer) {
         "params" => params::call(name, inputs, answer),
         "apl" => apl::call(name, inputs, answer),
         "gateway" => gateway::call(name, inputs, answer),
+        "generate" => generate::call(name, inputs, answer),
         "loc" => location::call(name, inputs, answer),
         "data" => data::call(name, inputs, answer),
         "canonical" => canonical::call(name, inputs, answer),

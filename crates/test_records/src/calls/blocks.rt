@@ -168,7 +168,7 @@ fn add_yielded(reader: &mut BlockReader<&Heap>, state: &mut State, answer: &mut 
             return true;
         };
         match given {
-            Ok(ParsedEntry::Nothing) => continue,
+            Ok(ParsedEntry::Empty) => continue,
             Ok(read) => add_read(state, read, target.as_slice(), answer),
             Err(refusal) => {
                 if !add_rejected(reader, state, refusal, answer) {

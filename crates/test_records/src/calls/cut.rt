@@ -120,6 +120,10 @@ fn fill<'a>(
                 answer.refuse_text("include");
                 return false;
             }
+            Ok(ParsedEntry::Generate { .. }) => {
+                answer.refuse_text("generate");
+                return false;
+            }
             Ok(read) => read,
             Err(refusal) => {
                 if let Some(error) = record_error(refusal) {

@@ -4,7 +4,7 @@ use dns_lexer::entry_tokens::{EntryToken, EntryTokens};
 use dns_wire::Name;
 use dns_zone::zonefile_fmt::SimpleWriter;
 use error_texts::errors::error_text;
-use rdata::{Shape, check_data, read_type, type_row};
+use rdata::{Shape, check_data, read_rdata, type_row};
 use rdata_fields::{RecordError, TokenList};
 use rdata_values::{ErrorKind, RecordType};
 use std::fmt;
@@ -131,7 +131,7 @@ fn read(inputs: &[Vec<u8>], wanted: Wanted, answer: &mut Answer) {
     let origin = origin_of(origin, answer).or(Name::from_octets(ORIGIN).ok());
     let mut source = TokenList::new(tokens.as_slice(), text.len());
     let mut target: Octets = Vec::new(answer.heap());
-    match read_type(rtype, origin.as_ref(), &mut source, &mut target) {
+    match read_rdata(rtype, origin.as_ref(), &mut source, &mut target) {
         Ok(()) => add_read(wanted, rtype, target.as_slice(), answer),
         Err(error) => add_error(wanted, error, answer),
     }

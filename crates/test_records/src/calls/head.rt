@@ -129,6 +129,7 @@ fn read(text: &[u8], answer: &mut Answer) {
         Ok(Some(Directive::Origin)) => origin(tokens.get(1).copied(), &mut source, answer),
         Ok(Some(Directive::Ttl)) => default_ttl(&mut source, answer),
         Ok(Some(Directive::Include)) => include(tokens.get(2).copied(), &mut source, answer),
+        Ok(Some(Directive::Generate)) => answer.add_text("generate"),
         Ok(None) if end.begins_blank => record(None, &mut source, answer),
         Ok(None) => {
             source.advance();

@@ -9,6 +9,7 @@ use rdata_values::{Class, ErrorKind};
 use std::alloc::{AllocError, Allocator};
 use std::slice;
 use test_support::{Answer, Failure, Heap};
+use zone_delegations::hidden_records;
 use zone_dnssec::nsec3_hash::{hash_name, hashed_name};
 use zone_dnssec::{SecurityFinding, Times, check_signed};
 use zone_reader::{ParsedEntry, RecordReader, State};
@@ -155,6 +156,26 @@ fn add_found(
     }
 }
 
+/// Adds the records of a zone of sorted records that delegations hide.
+fn add_hidden(
+    records: &[HeapRecord<'_>],
+    refused: &SortedSets<'_>,
+    name: &Name<&[u8]>,
+    answer: &mut Answer,
+) {
+    let Some(sorted) = SortedRecords::new(records) else {
+        return answer.fail(Failure::Unlike);
+    };
+    match hidden_records(answer.heap(), name, &sorted, refused) {
+        Ok(found) => {
+            for place in found.as_slice() {
+                add_broken("hidden", Some(*place), records, answer);
+            }
+        }
+        Err(_) => answer.refuse(&ShortBuf),
+    }
+}
+
 /// Adds the findings of a zone. The inputs are its text and its origin.
 pub fn rules(inputs: &[Vec<u8>], answer: &mut Answer) {
     let [text, origin @ ..] = inputs else {
@@ -212,6 +233,34 @@ pub fn refused(inputs: &[Vec<u8>], answer: &mut Answer) {
         return answer.fail(Failure::Unlike);
     };
     add_found(records.as_slice(), &sets, &name, answer);
+}
+
+/// Adds the records of a zone that delegations hide, by owner and type. The inputs are the text of the
+/// zone, its origin, and optionally a text of records with the owners and types of rejected entries.
+pub fn hidden(inputs: &[Vec<u8>], answer: &mut Answer) {
+    let (text, origin, others) = match inputs {
+        [text, origin] => (text.as_slice(), origin, b"".as_slice()),
+        [text, origin, others] => (text.as_slice(), origin, others.as_slice()),
+        _ => return answer.fail(Failure::BadInputs),
+    };
+    let origin = slice::from_ref(origin);
+    let Some(name) = origin_of(origin, answer) else {
+        return answer.fail(Failure::BadInputs);
+    };
+    let state = state_of(origin, answer);
+    let mut records = read_records(text, state, answer);
+    let state = state_of(origin, answer);
+    let others = read_records(others, state, answer);
+    let Ok(sets) = sets_of(others.as_slice(), answer.heap()) else {
+        return answer.refuse(&ShortBuf);
+    };
+    if records.sort_by(|left, right| left.compare(right)).is_err() {
+        return answer.refuse(&ShortBuf);
+    }
+    let Some(sets) = SortedSets::new(sets.as_slice()) else {
+        return answer.fail(Failure::Unlike);
+    };
+    add_hidden(records.as_slice(), &sets, &name, answer);
 }
 
 /// Returns the seconds that a text spells.

@@ -3,7 +3,7 @@ use super::blocks::{blocks, limit};
 use super::cut::cut;
 use super::data::Why;
 use super::results::{Octets, origin_of};
-use super::rules::{dnssec, hash, refused, rules};
+use super::rules::{dnssec, hash, hidden, refused, rules};
 use dns_lexer::pieces::Wrong;
 use rdata_fields::RecordError;
 use rdata_values::{Class, ErrorKind};
@@ -31,6 +31,7 @@ pub fn call(name: &str, inputs: &Inputs, answer: &mut Answer) {
         "cut" => cut(inputs, answer),
         "dnssec" => dnssec(inputs.all(), answer),
         "refused" => refused(inputs.all(), answer),
+        "hidden" => hidden(inputs.all(), answer),
         "hash" => hash(inputs.all(), answer),
         _ => answer.fail(Failure::NoCall),
     }
@@ -39,7 +40,7 @@ pub fn call(name: &str, inputs: &Inputs, answer: &mut Answer) {
 /// Returns where a TTL comes from.
 fn ttl_kind(ttl: RecordTtl) -> &'static str {
     match ttl {
-        RecordTtl::Own(_) => "own",
+        RecordTtl::Explicit(_) => "own",
         RecordTtl::Default(_) => "default",
         RecordTtl::Last(_) => "last",
         RecordTtl::Minimum(_) => "minimum",
@@ -66,16 +67,23 @@ fn add_owner(state: &State, answer: &mut Answer) {
 /// Adds an entry: of a record its offset, owner, TTL, class, type and data.
 pub fn add_read(state: &State, read: ParsedEntry, octets: &[u8], answer: &mut Answer) {
     match read {
-        ParsedEntry::Nothing => answer.add_text("nothing"),
+        ParsedEntry::Empty => answer.add_text("nothing"),
         ParsedEntry::Directive => answer.add_text("directive"),
-        ParsedEntry::Include { file, has_origin } => {
-            let (name, origin) = include_parts(octets, file);
+        ParsedEntry::Include {
+            file_name_len,
+            has_origin,
+        } => {
+            let (name, origin) = include_parts(octets, file_name_len);
             answer.add_text("include ");
             answer.add(name);
             if has_origin {
                 answer.add_text(" ");
                 answer.add(origin);
             }
+        }
+        ParsedEntry::Generate { at } => {
+            answer.add_text("generate ");
+            answer.add_number(at);
         }
         ParsedEntry::Record {
             at,

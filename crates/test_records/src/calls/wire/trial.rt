@@ -2,7 +2,7 @@
 use dns_lexer::entry_tokens::{EntryToken, EntryTokens};
 use dns_wire::Name;
 use dns_zone::zonefile_fmt::SimpleWriter;
-use rdata::{Shape, check_data, read_type, type_row};
+use rdata::{Shape, check_data, read_rdata, type_row};
 use rdata_fields::TokenList;
 use rdata_values::RecordType;
 use std::alloc::Global;
@@ -80,7 +80,7 @@ impl Trial {
         let mut source = TokenList::new(tokens.as_slice(), text.len());
         let mut target: Vec<u8> = Vec::new(alloc);
         let origin: Option<&Name<&[u8]>> = None;
-        let made = read_type(RecordType(self.number), origin, &mut source, &mut target);
+        let made = read_rdata(RecordType(self.number), origin, &mut source, &mut target);
         made.is_ok() && target.as_slice() == octets
     }
 
