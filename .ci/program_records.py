@@ -289,7 +289,7 @@ def entries_row(row):
             reason, place = item[1:].rsplit(b"|", 1)
             is_of_text = reason in FAULTS.values()
             reported.append((at(text, int(place)) if is_of_text else spot(text, int(place), reason), reason))
-        elif item.startswith(b"include "):
+        elif item.startswith((b"include ", b"generate ")):
             return None
         elif item not in (b"directive", b"nothing"):
             fields = re.fullmatch(rb"[0-9]+\|(.*)\|(?:own|default|last|minimum) ([0-9]+)\|([0-9]+)\|([0-9]+)\|(.*)", item, re.S)
@@ -309,7 +309,7 @@ def entries_row(row):
     return Plan({"f": text, "g": records}, [words + [b"f"], words + [b"g"]], f"the records of g, and {reported}", agrees)
 
 
-ITEM = re.compile(rb"!.*?\|[0-9]+;|directive;|nothing;|include .*?;", re.S)
+ITEM = re.compile(rb"!.*?\|[0-9]+;|directive;|nothing;|include .*?;|generate [0-9]+;", re.S)
 RECORD = re.compile(rb"([0-9]+)\|((?:[\x01-\x3f].*?)?\0)\|(?:own|default|last|minimum) ([0-9]+)\|([0-9]+)\|([0-9]+)\|", re.S)
 
 
@@ -347,6 +347,8 @@ BEFORE = b"$TTL 77\n$ORIGIN example.\nprev 5 A 192.0.2.9\n"
 def head_row(row):
     """Headers and directives: a record with a complete header prints the same line."""
     (text,) = row.inputs
+    if row.wanted == b"generate":
+        return None
     words, files = zonetext("records", "main"), {"main": BEFORE + text + b"\n"}
     if row.is_refused:
         reason, place = row.wanted[1:].split(b"|")[:2]
@@ -377,6 +379,27 @@ def head_row(row):
     return Plan(files, [words, zonetext("records", "alike")], f"the records of {short(alike)}",
                 lambda rans: all(it.status == 0 and not it.err for it in rans) and rans[0].out == rans[1].out
                 and len(lines(rans[0].out)) == 2)
+
+
+# ---- $GENERATE
+
+# The greatest number of entries of the rows.
+MOST_GENERATED = "1000"
+
+
+def generate_row(row):
+    """A directive is expanded to the texts of its entries, or its error has a position and a reason."""
+    (text,) = row.inputs
+    words = zonetext("expand", "--max-generate", MOST_GENERATED, "f")
+    if not row.is_refused:
+        return exact(words, row.wanted, files={"f": text})
+    reason, place, offset = row.wanted[1:].split(b"|")
+    if reason in (b"expected $GENERATE", b"quoted text is not closed"):
+        return None  # (no directive for the program)
+    quote = int(offset) > 0 and text[int(place) : int(place) + 1] == b'"'
+    wanted = (b"f", at(text, int(place) + int(offset) + quote), b"error", reason)
+    return judged({"f": text}, words, f"status 1, no output, an error {short(reason)}",
+                  lambda ran: ran.status == 1 and not ran.out and are_said(error_lines(ran), [wanted]))
 
 
 # ---- Zones
@@ -433,6 +456,32 @@ def rules_row(codes, *options):
         return Plan(files, commands, f"findings {short(b';'.join(wanted))}", agrees)
 
     return plan
+
+
+def hidden_row(row):
+    """The hidden records by line; all addresses among them are one finding, with their number."""
+    text, origin, *others = row.inputs
+    # `check` takes records of one class alone, and the text has no rejected entry.
+    if others or b" CH " in text:
+        return None
+    zone = origin_words(origin)
+    commands = [zonetext("check", *zone, "--json", "--max", "0", "f"), zonetext("records", *zone, "f")]
+    wanted = [tuple(it.split(b" ")[1:]) for it in items(row.wanted)]
+    addresses = sorted(it for it in wanted if it[1] in (b"A", b"AAAA"))
+
+    def agrees(rans):
+        check, records = rans
+        owners = owners_by_line(text, records.out)
+        if owners is None or check.status not in (0, 1) or records.status:
+            return False
+        found = [(owners[it["line"]], it["message"]) for it in findings(check, {"hidden"})]
+        glueless = [it for it in found if it[0][1] in (b"A", b"AAAA")]
+        others = sorted(it[0] for it in found if it not in glueless)
+        count = re.findall(r"\((\d+) such addresses\)", " ".join(it[1] for it in glueless))
+        return (others == sorted(it for it in wanted if it not in addresses) and len(glueless) == min(1, len(addresses))
+                and all(it[0] in addresses for it in glueless) and count == [str(len(addresses))] * (len(addresses) > 1))
+
+    return Plan({"f": text}, commands, f"hidden {short(b';'.join(b' '.join(it) for it in wanted))}", agrees)
 
 
 def hash_row(row):
@@ -643,10 +692,12 @@ CALLS = {
     "zone.pieces": entries_row,
     "zone.blocks": entries_row,
     "zone.rules": rules_row(RULES),
+    "zone.hidden": hidden_row,
     "zone.dnssec": rules_row(SECURITY, "--dnssec"),
     "zone.cut": cut_row,
     "zone.hash": hash_row,
     "head.read": head_row,
+    "generate.texts": generate_row,
     "set.unique": unique_row,
     "set.sort": sort_row,
     "set.diff": set_diff,

@@ -37,7 +37,7 @@ import program_records
 from row_file import FILES, rows_of
 
 # Calls of which --turns takes all rows, and the part that it takes of others.
-WHOLE = re.compile(r"zone\.(rules|dnssec|cut)|(set|zonetext)\..*|dnstext")
+WHOLE = re.compile(r"zone\.(rules|hidden|dnssec|cut)|(set|zonetext)\..*|dnstext")
 TURNS = 4
 # Time limit of a run, in seconds.
 SECONDS = 60
