@@ -57,21 +57,36 @@ absent_row = refl
 cut_length_row : first_counted (255 ∷ 0 ∷ []) ≡ []
 cut_length_row = refl
 
--- A 192.0.2.1 with the TTL 3600, at the offset 12 of the first file, of class IN and of class CH
-abbrev address : ℕ → RecordParts
-address class = record { code = 1; class = class; ttl = 3600; file = 0; offset = 12; rdata = 192 ∷ 0 ∷ 2 ∷ 1 ∷ [] }
+-- A 192.0.2.1 with a TTL, at an offset of the first file, of class IN
+abbrev timed_address : ℕ → ℕ → RecordParts
+timed_address ttl offset = record { code = 1; class = 1; ttl = ttl; file = 0; offset = offset; rdata = 192 ∷ 0 ∷ 2 ∷ 1 ∷ [] }
 
-short_record_row : parts_octets (address 1) ≡ 253 ∷ 1 ∷ 0 ∷ 0 ∷ 0 ∷ 14 ∷ 16 ∷ 0 ∷ 0 ∷ 0 ∷ 12 ∷ 4 ∷ 192 ∷ 0 ∷ 2 ∷ 1 ∷ []
+usual_record_row : parts_octets (timed_address 86400 12) ≡ 1 ∷ 13 ∷ 0 ∷ 0 ∷ 0 ∷ 12 ∷ 4 ∷ 192 ∷ 0 ∷ 2 ∷ 1 ∷ []
+unfolding parts_octets octets16 octets32 octets64
+usual_record_row = refl
+
+far_record_row : parts_octets (timed_address 0 (5 * 2 ^ 32 + 12)) ≡ 1 ∷ 80 ∷ 0 ∷ 0 ∷ 0 ∷ 12 ∷ 4 ∷ 192 ∷ 0 ∷ 2 ∷ 1 ∷ []
+unfolding parts_octets octets16 octets32 octets64
+far_record_row = refl
+
+-- A 192.0.2.1 with the TTL 3600, at the offset 12 of the second file, of class IN and of class CH
+abbrev address : ℕ → RecordParts
+address class = record { code = 1; class = class; ttl = 3600; file = 1; offset = 12; rdata = 192 ∷ 0 ∷ 2 ∷ 1 ∷ [] }
+
+short_record_row : parts_octets (address 1) ≡ 253 ∷ 1 ∷ 1 ∷ 0 ∷ 0 ∷ 14 ∷ 16 ∷ 0 ∷ 0 ∷ 0 ∷ 12 ∷ 4 ∷ 192 ∷ 0 ∷ 2 ∷ 1 ∷ []
 unfolding parts_octets octets16 octets32 octets64
 short_record_row = refl
 
-long_record_row : parts_octets (address 3) ≡ 254 ∷ 0 ∷ 1 ∷ 0 ∷ 3 ∷ 0 ∷ 0 ∷ 14 ∷ 16 ∷ 0 ∷ 0 ∷ 0 ∷ 0 ∷ (replicate 7 0 ++ 12 ∷ 4 ∷ 192 ∷ 0 ∷ 2 ∷ 1 ∷ [])
+long_record_row : parts_octets (address 3) ≡ 254 ∷ 0 ∷ 1 ∷ 0 ∷ 3 ∷ 0 ∷ 0 ∷ 14 ∷ 16 ∷ 0 ∷ 0 ∷ 0 ∷ 1 ∷ (replicate 7 0 ++ 12 ∷ 4 ∷ 192 ∷ 0 ∷ 2 ∷ 1 ∷ [])
 unfolding parts_octets octets16 octets32 octets64
 long_record_row = refl
 
--- neither a length nor octets that are cut off begin a record
-length_begins_row : begins_parts (30 ∷ replicate 30 0) ≡ false
-length_begins_row = refl
+-- neither the octet 255 nor octets that are cut off begin a record
+count_begins_row : begins_parts (255 ∷ replicate 30 0) ≡ false
+count_begins_row = refl
+
+cut_usual_row : begins_parts (1 ∷ replicate 4 0) ≡ false
+cut_usual_row = refl
 
 cut_begins_row : begins_parts (253 ∷ replicate 9 0) ≡ false
 cut_begins_row = refl
@@ -100,7 +115,7 @@ second_of_two_row : record_of two_records (entry 18) ≡ added_record (codes "b"
 unfolding parts_octets octets16 octets32 octets64
 second_of_two_row = refl
 
-no_record_row : parts_at two_records 1 ≡ absent_parts
+no_record_row : parts_at two_records 44 ≡ absent_parts
 unfolding parts_octets octets16 octets32 octets64
 no_record_row = refl
 
