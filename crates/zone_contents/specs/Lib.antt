@@ -1,5 +1,6 @@
 pub mod Contents
 pub mod Keys
+pub mod Locations
 pub mod Rows
 pub mod Searches
 pub mod Summaries

@@ -1,6 +1,8 @@
--- Worked rows of keys in a zone.
-use Rattle.std.specs.Prelude.{◌≡◌, ℕ, List, [], ◌∷◌, ◌++◌, codes, refl}
+-- Worked rows of keys in a zone, and of the numbers of locations.
+use Rattle.std.specs.Prelude.{◌≡◌, ℕ, ◌+◌, ◌*◌, List, [], ◌∷◌, ◌++◌, codes, refl}
 use Rattle.zone_contents.specs.Keys.{key_in_zone, name_in_zone}
+use Rattle.zone_contents.specs.Locations.{far_number, located, location}
+use Rattle.zone_contents.specs.declared.locations.Location.{Location}
 
 -- the zone `b.`
 abbrev zone : List (List ℕ)
@@ -35,3 +37,20 @@ below_name_row = refl
 
 after_name_row : name_in_zone zone (2 ∷ 0 ∷ (codes "c" ++ 0 ∷ [])) ≡ codes "c" ∷ [] ∷ []
 after_name_row = refl
+
+-- records in line 12: at column 1 without a target, and with one in column 16; at column 9 without a target
+plain_row : located [] (12 * 256) ≡ location 12 1 12 1
+plain_row = refl
+
+target_row : located [] (12 * 256 + 15) ≡ location 12 1 12 16
+target_row = refl
+
+indented_row : located [] (12 * 256 + 135) ≡ location 12 9 12 9
+indented_row = refl
+
+-- at column 9, with a target two lines below
+far_row : located [] (far_number (location 12 9 14 16)) ≡ location 12 9 14 16
+far_row = refl
+
+stored_row : located (location 1 2 3 4 ∷ []) 254 ≡ location 1 2 3 4
+stored_row = refl

@@ -1,6 +1,7 @@
 //! The records of a zone in little memory, as the rules of a zone read them.
 #![tactic(auto)]
 
+pub mod locations;
 pub mod lookups;
 pub mod records;
 pub mod searches;
@@ -8,5 +9,6 @@ pub mod stored;
 pub mod summary;
 pub mod zone_key;
 
+pub use locations::{Location, Locations};
 pub use stored::{StoredZone, ZoneStore};
 pub use zone_key::{Apex, ZoneKey};

@@ -3,12 +3,14 @@ ghost use Rattle.std.specs.Prelude.{◌≡◌, ◌<◌, [], OnOk, OnErr, length,
 ghost use Rattle.std.specs.List.Sorted.{IsPermutation, IsSorted, IsStable};
 ghost use Rattle.dns_octets.specs.Lowered.{lowered};
 ghost use Rattle.zone_contents.specs.Contents.{stored_in_zone, AddsRecord, AddsStored, IsZoneRecord};
+ghost use Rattle.zone_set.specs.Duplicates.{is_duplicate_at};
 ghost use Rattle.zone_set.specs.Stored.{record_at, stored_order};
 
 use crate::summary::Summary;
 use crate::zone_key::{Apex, ZoneKey};
 use dns_octets::AsOctets;
 use dns_wire::Name;
+use rdata_values::RecordType;
 use std::alloc::{AllocError, Allocator, Global};
 use std::marker::Model;
 use zone_record::Record;
@@ -134,6 +136,23 @@ impl<A: Allocator> Model for StoredZone<A> {
 }
 
 impl<A: Allocator> StoredZone<A> {
+    /// Returns the type of the record at an index.
+    pub fn rtype(&self, place: usize) -> RecordType
+        requires { place < length self.now.records }
+        ensures { result ≡ (record_at self.now.records place).parts.code }
+    {
+        self.store.rtype(place)
+    }
+
+    /// Returns whether the record at an index is a duplicate: whether the one before it is equal but
+    /// for its TTL, its file and its position.
+    pub fn is_duplicate(&self, place: usize) -> bool
+        requires { place < length self.now.records }
+        ensures { result ≡ is_duplicate_at self.now.records place }
+    {
+        self.store.is_duplicate(place)
+    }
+
     /// Returns the number of the file of the record at an index, and its position there, as they
     /// were added.
     pub fn position(&self, place: usize) -> (u32, u64)

@@ -1,5 +1,5 @@
 //! Keys of the names in a zone, whose first octets differ.
-ghost use Rattle.std.specs.Prelude.{◌≡◌, ◌≤◌, ◌+◌, ◌∷◌, ◌++◌, length, map};
+ghost use Rattle.std.specs.Prelude.{◌≡◌, ◌≤◌, ◌+◌, [], ◌∷◌, ◌++◌, length, map};
 ghost use Rattle.dns_octets.specs.Lowered.{lowered};
 ghost use Rattle.dns_wire.specs.Wire.{wire};
 ghost use Rattle.zone_record.specs.Keys.{order_key};
@@ -74,28 +74,30 @@ impl Apex {
     }
 }
 
-/// Returns a mark and then octets.
-fn marked(mark: u8, octets: &[u8]) -> ArrayVec<u8, MAX_ZONE_KEY>
-    requires { length octets.now ≤ 509 }
-    ensures { result.items ≡ mark ∷ octets.now }
+/// Writes a mark and then octets to an empty buffer.
+fn write_marked(mark: u8, octets: &[u8], marked: &mut ArrayVec<u8, MAX_ZONE_KEY>)
+    requires empty { marked.old.items ≡ [] }
+    requires short { length octets.now ≤ 509 }
+    ensures { marked.new.items ≡ mark ∷ octets.now }
 {
-    let mut key = ArrayVec::new();
-    key.push(mark);
-    key.try_extend_from_slice(octets).unwrap();
-    key
+    marked.push(mark);
+    marked.try_extend_from_slice(octets).unwrap();
 }
 
-/// Returns the key of a name in a zone, by the order keys of the apex and of the name.
-fn zone_key(apex: &[u8], key: &[u8]) -> ArrayVec<u8, MAX_ZONE_KEY>
-    requires { length key.now ≤ 509 }
-    ensures { result.items ≡ zone_key apex.now key.now }
+/// Writes the key of a name in a zone, by the order keys of the apex and of the name, to an empty
+/// buffer.
+fn write_zone_key(apex: &[u8], key: &[u8], marked: &mut ArrayVec<u8, MAX_ZONE_KEY>)
+    requires empty { marked.old.items ≡ [] }
+    requires short { length key.now ≤ 509 }
+    ensures { marked.new.items ≡ zone_key apex.now key.now }
 {
     if let Some(rest) = key.strip_prefix(apex) {
-        return marked(WITHIN, rest);
+        write_marked(WITHIN, rest, marked);
+        return;
     }
     match key.cmp(apex) {
-        Ordering::Less => marked(BEFORE, key),
-        _ => marked(AFTER, key),
+        Ordering::Less => write_marked(BEFORE, key, marked),
+        _ => write_marked(AFTER, key, marked),
     }
 }
 
@@ -122,9 +124,9 @@ impl ZoneKey {
         ensures { result ≡ key_in_zone apex.now name.now }
     {
         let key = OrderKey::of(name);
-        ZoneKey {
-            octets: zone_key(apex.key(), key.as_slice()),
-        }
+        let mut octets = ArrayVec::new();
+        write_zone_key(apex.key(), key.as_slice(), &mut octets);
+        ZoneKey { octets }
     }
 
     /// Returns the octets of the key.

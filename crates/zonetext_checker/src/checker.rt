@@ -3,16 +3,16 @@ mod record_checks;
 
 use crate::findings::Findings;
 use crate::held_zone::{
-    HeldZone, LocatedRecord, RecordLocation, Repeats, is_of_absence, is_of_signed_absence,
-    other_soa,
+    HeldZone, RecordLocation, Repeats, SortedZone, is_of_absence, is_of_signed_absence, other_soa,
 };
 use crate::hidden_zone::report_hidden;
 use crate::lone_rules::breaks_none;
 use crate::refusals::refused_type;
-use crate::rule_texts::ZoneRecords;
+use crate::rule_texts::CheckedZone;
 use crate::scan::needs_lint;
 use crate::scopes::{Scope, scope_of};
 use crate::signature_groups::{groups_of, is_of_time};
+use crate::signed_zone::signed_findings;
 use crate::slips::is_of_parameters;
 use dns_lexer::entry_tokens::EntryToken;
 use dns_octets::AsOctets;
@@ -25,13 +25,11 @@ use zone_check::finding::EntryFinding;
 use zone_check::octet_findings::{ReportedOctets, find_in_octets};
 use zone_check::scan::{OctetScan, scan_octets};
 use zone_check::value_findings::data_code;
-use zone_dnssec::{Times, check_signed};
+use zone_dnssec::Times;
 use zone_format::place::LocatedOffset;
 use zone_reader::{NameBuffer, ParsedEntry, directive_word};
 use zone_rules::names::view;
-use zone_rules::sorted::has_type;
-use zone_rules::{Rule, SortedRecords, SortedSets, check_zone};
-use zone_set::TaggedOctets;
+use zone_rules::{Rule, SortedSets, ZoneRecords, check_zone};
 use zone_stream::BlockRefusal;
 use zonetext_files::generated::RejectedDirective;
 use zonetext_files::open_file::first_place;
@@ -154,16 +152,17 @@ impl<'a> Checker<'a> {
             None => None,
         };
         let findings = Findings::new(rt, reporter, named, limits.is_standard, !limits.is_text);
+        let held = match &zone {
+            _ if !holds => None,
+            Some(zone) => Some(HeldZone::new(alloc, zone)),
+            None => Some(HeldZone::new(alloc, &Name::root_ref())),
+        };
         Checker {
             alloc,
             findings,
             limits,
             zone,
-            held: if holds {
-                Some(HeldZone::new(alloc))
-            } else {
-                None
-            },
+            held,
             records: 0,
             seen: None,
             crlf_files: Vec::new(alloc),
@@ -270,21 +269,27 @@ impl<'a> Checker<'a> {
     }
 
     /// Stores a record and the position of its type, if records are held. `at` is the type's offset.
-    fn hold_record(&mut self, entry: &Entry<'_>, at: usize) -> Result<(), RunError> {
+    fn hold_record(
+        &mut self,
+        entry: &Entry<'_>,
+        scan: OctetScan,
+        at: usize,
+    ) -> Result<(), RunError> {
         let Some(held) = &mut self.held else {
             return Ok(());
         };
         let Some(given) = entry.record()? else {
             return Ok(());
         };
-        let position = position_at(entry, at.saturating_sub(entry.offset));
+        let start = at.saturating_sub(entry.offset);
+        let position = position_at(entry, start);
         let location = RecordLocation {
             file: entry.number,
             position,
-            target: target_position(entry, position),
+            target: target_position(entry, scan, start, position),
             generated: number_of(entry),
         };
-        held.records.add(given, location)
+        held.add(&given, location)
     }
 
     /// Stores the RRset of a rejected record, if records are stored and its owner and its type are
@@ -306,6 +311,7 @@ impl<'a> Checker<'a> {
         let Some(held) = self.held.take() else {
             return Ok(());
         };
+        let held = held.sorted();
         let has_zone = self.zone.is_some() && !self.is_cut;
         self.findings.reporter.exceptions.sort()?;
         if !self.is_cut {
@@ -320,7 +326,7 @@ impl<'a> Checker<'a> {
     }
 
     /// Reports findings about the records that are held.
-    fn check_held(&mut self, held: &HeldZone) -> Result<(), RunError> {
+    fn check_held(&mut self, held: &SortedZone) -> Result<(), RunError> {
         match self.zone.take() {
             Some(zone) => self.check_zone(held, &zone, true),
             None => self.check_zone(held, &Name::root_ref(), false),
@@ -330,7 +336,7 @@ impl<'a> Checker<'a> {
     /// Reports an exception, by its number, if it was not used.
     fn end_exception(
         &mut self,
-        held: &HeldZone,
+        held: &SortedZone,
         number: usize,
         has_zone: bool,
     ) -> Result<(), RunError> {
@@ -414,7 +420,7 @@ impl<'a> Checker<'a> {
         match entry.read {
             Ok(ParsedEntry::Record { at, .. }) => {
                 self.count_record();
-                self.hold_record(entry, *at)
+                self.hold_record(entry, scan, *at)
             }
             _ => Ok(()),
         }
@@ -423,47 +429,40 @@ impl<'a> Checker<'a> {
     /// Reports which rules the records break: those of a zone, or only those of RRsets.
     fn check_zone<Origin: AsOctets>(
         &mut self,
-        held: &HeldZone,
+        held: &SortedZone,
         zone: &Name<Origin>,
         is_zone: bool,
     ) -> Result<(), RunError> {
-        let mut set = held.records.set()?;
-        set.sort()?;
-        let records = set.as_slice();
-        let Some(sorted) = SortedRecords::new(records) else {
-            return Err(RunError::Damaged);
-        };
         let refused = held.refused.sorted()?;
         let Some(refused) = SortedSets::new(refused.as_slice()) else {
             return Err(RunError::Damaged);
         };
-        let found = check_zone(self.alloc, zone, &sorted, &refused)?;
+        let found = check_zone(self.alloc, zone, &held.records, &refused)?;
         if is_zone {
-            if let Some(finding) = other_soa(found.as_slice(), records) {
-                let record = finding.record.and_then(|place| records.get(place));
-                return self.report_other_soa(held, code_of_rule(finding.rule), record, zone);
+            if let Some(finding) = other_soa(found.as_slice(), held) {
+                let code = code_of_rule(finding.rule);
+                return self.report_other_soa(held, code, finding.record, zone);
             }
         }
-        let checked = ZoneRecords {
+        let checked = CheckedZone {
             zone,
-            sorted: &sorted,
+            held,
             refused: &refused,
         };
         let mut repeats = Repeats::new(self.alloc);
         for finding in &found {
-            let record = finding.record.and_then(|place| records.get(place));
-            if repeats.has(finding.rule, record)? {
+            if repeats.has(finding, held)? {
                 continue;
             }
             if self.reports_rule(finding.rule, is_zone) {
-                self.findings.report_rule(held, &checked, finding)?;
+                self.findings.report_rule(&checked, finding)?;
             }
         }
         if is_zone {
-            report_hidden(self.alloc, &mut self.findings, held, &checked, self.has_gap)?;
+            report_hidden(self.alloc, &mut self.findings, &checked, self.has_gap)?;
         }
         match self.limits.times {
-            Some(times) if is_zone => self.check_signatures(held, zone, times, &sorted),
+            Some(times) if is_zone => self.check_signatures(held, zone, times),
             _ => Ok(()),
         }
     }
@@ -480,9 +479,9 @@ impl<'a> Checker<'a> {
     /// Reports that the records have an SOA only at a name that is not the zone's.
     fn report_other_soa<Origin: AsOctets>(
         &mut self,
-        held: &HeldZone,
+        held: &SortedZone,
         code: Code,
-        record: Option<&LocatedRecord<'_>>,
+        record: Option<usize>,
         zone: &Name<Origin>,
     ) -> Result<(), RunError> {
         let zone = DisplayWithDot::new(zone);
@@ -494,36 +493,33 @@ impl<'a> Checker<'a> {
     /// Reports which rules of DNSSEC the records of a zone break.
     fn check_signatures<Origin: AsOctets>(
         &mut self,
-        held: &HeldZone,
+        held: &SortedZone,
         zone: &Name<Origin>,
         times: Times,
-        records: &SortedRecords<'_, TaggedOctets<'_, RecordLocation>, &[u8]>,
     ) -> Result<(), RunError> {
         // Findings that an unread record might explain are not reported.
         let is_whole = !self.has_gap && held.refused.is_empty();
-        if !has_type(records, &view(zone), RecordType::DNSKEY) {
+        if !held.records.has_type(&view(zone), RecordType::DNSKEY) {
             return if is_whole {
                 self.findings.report_broken(held, Code::NoDnskey, None)
             } else {
                 Ok(())
             };
         }
-        let found = check_signed(self.alloc, zone, times, records)?;
+        let found = signed_findings(self.alloc, held, zone, times)?;
         for finding in &found {
             if (!is_whole && is_of_signed_absence(finding.rule)) || is_of_time(finding.rule) {
                 continue;
             }
-            let record = records.as_slice().get(finding.record);
             self.findings
-                .report_broken(held, code_of_security(finding.rule), record)?;
+                .report_broken(held, code_of_security(finding.rule), Some(finding.record))?;
         }
         let joins = self.findings.reporter.joins_equal();
-        let groups = groups_of(self.alloc, found.as_slice(), records.as_slice(), joins)?;
+        let groups = groups_of(self.alloc, found.as_slice(), held, joins)?;
         for group in &groups {
             let text = group.text(self.alloc)?;
-            let record = records.as_slice().get(group.record);
-            self.findings
-                .report_at(held, code_of_security(group.rule), record, false, &text)?;
+            let (code, record) = (code_of_security(group.rule), Some(group.record));
+            self.findings.report_at(held, code, record, false, &text)?;
         }
         Ok(())
     }

@@ -1,7 +1,7 @@
 //! Reports findings with the owners and the types of the records that they are about.
 use crate::entry_texts::entry_text;
-use crate::held_zone::{HeldZone, LocatedRecord};
-use crate::rule_texts::{ZoneRecords, is_at_target, rule_text};
+use crate::held_zone::{RecordLocation, SortedZone};
+use crate::rule_texts::{CheckedZone, is_at_target, rule_text};
 use dns_lexer::pieces::Fault;
 use dns_lexer::position::Position;
 use dns_octets::AsOctets;
@@ -11,7 +11,8 @@ use zone_check::finding::EntryFinding;
 use zone_check::rejection_findings::rejected_finding;
 use zone_check::texts::code_text;
 use zone_reader::NameBuffer;
-use zone_rules::Finding;
+use zone_rules::zone_records::OwnerBuffer;
+use zone_rules::{Finding, ZoneRecords};
 use zonetext_files::file_lines::FileLines;
 use zonetext_files::open_file::first_place;
 use zonetext_files::stop::RunError;
@@ -29,24 +30,22 @@ const MOST_SEARCHED: usize = 200_000;
 
 /// Returns the number of the file and the position of a finding at a record, or at its target, or at
 /// the first file's start.
-fn place_of(record: Option<&LocatedRecord<'_>>, at_target: bool) -> (usize, Position) {
-    let Some(record) = record else {
-        return (0, first_place().position);
-    };
-    let location = record.owner.as_octets().tag;
-    if at_target {
-        (location.file, location.target)
-    } else {
-        (location.file, location.position)
+fn place_of(found: Option<RecordLocation>, at_target: bool) -> (usize, Position) {
+    match found {
+        Some(found) if at_target => (found.file, found.target),
+        Some(found) => (found.file, found.position),
+        None => (0, first_place().position),
     }
 }
 
 /// Returns the number of a record's entry, if it is generated.
-fn number_of(record: Option<&LocatedRecord<'_>>) -> Option<u32> {
-    match record {
-        Some(record) => record.owner.as_octets().tag.generated,
-        None => None,
-    }
+fn number_of(found: Option<RecordLocation>) -> Option<u32> {
+    found?.generated
+}
+
+/// Returns the position of a record, by its index, if a finding is about one.
+fn location_of(held: &SortedZone, record: Option<usize>) -> Option<RecordLocation> {
+    held.location(record?)
 }
 
 /// Returns the location of the code of an exception.
@@ -240,9 +239,9 @@ impl<'a> Findings<'a> {
     /// Reports that a rule is broken, by a record or by what is missing in the zone.
     pub fn report_broken(
         &mut self,
-        held: &HeldZone,
+        held: &SortedZone,
         code: Code,
-        record: Option<&LocatedRecord<'_>>,
+        record: Option<usize>,
     ) -> Result<(), RunError> {
         let text = Text::worded(self.alloc, code_text(code), None)?;
         self.report_at(held, code, record, false, &text)
@@ -251,20 +250,17 @@ impl<'a> Findings<'a> {
     /// Reports that records break a rule of zones. Its text is made only if it may be shown.
     pub fn report_rule<Origin: AsOctets>(
         &mut self,
-        held: &HeldZone,
-        records: &ZoneRecords<'_, '_, Origin>,
+        checked: &CheckedZone<'_, Origin>,
         finding: &Finding,
     ) -> Result<(), RunError> {
-        let record = finding
-            .record
-            .and_then(|place| records.sorted.as_slice().get(place));
+        let (held, record) = (checked.held, finding.record);
         let at_target = is_at_target(finding.rule);
         let code = code_of_rule(finding.rule);
         let Some(severity) = self.count_at(held, code, record, at_target) else {
             return Ok(());
         };
-        let may_search = at_target && self.may_search(records.sorted.as_slice().len());
-        let text = rule_text(self.alloc, records, finding, may_search)?;
+        let may_search = at_target && self.may_search(held.records.len());
+        let text = rule_text(self.alloc, checked, finding, may_search)?;
         self.show_at(held, severity, code, record, at_target, &text)
     }
 
@@ -283,44 +279,59 @@ impl<'a> Findings<'a> {
     /// severity if it may be shown.
     pub fn count_at(
         &mut self,
-        held: &HeldZone,
+        held: &SortedZone,
         code: Code,
-        record: Option<&LocatedRecord<'_>>,
+        record: Option<usize>,
         at_target: bool,
     ) -> Option<Severity> {
-        let (file, position) = place_of(record, at_target);
-        self.select_exceptions(record);
+        let found = location_of(held, record);
+        let (file, position) = place_of(found, at_target);
+        self.select_exceptions(found);
         let spot = line_spot(held.file(file), file, position, None);
         self.reporter.count(spot, code, false)
+    }
+
+    /// Returns the owner and the type of a record, by its index, as they are shown.
+    fn record_subject(
+        &self,
+        held: &SortedZone,
+        record: Option<usize>,
+    ) -> Result<Subject, AllocError> {
+        let Some(place) = record else {
+            return Ok(Subject::none(self.alloc));
+        };
+        let mut owner = OwnerBuffer::new();
+        match held.record(place, &mut owner) {
+            Some(record) => {
+                let rtype = Some(record.data.rtype());
+                Subject::new(self.alloc, &record.owner, rtype, self.zone.as_ref())
+            }
+            None => Ok(Subject::none(self.alloc)),
+        }
     }
 
     /// Shows a finding that was counted at a record, or at its target, or at the first file's start.
     pub fn show_at(
         &mut self,
-        held: &HeldZone,
+        held: &SortedZone,
         severity: Severity,
         code: Code,
-        record: Option<&LocatedRecord<'_>>,
+        record: Option<usize>,
         at_target: bool,
         text: &Text,
     ) -> Result<(), RunError> {
-        let (file, position) = place_of(record, at_target);
+        let found = location_of(held, record);
+        let (file, position) = place_of(found, at_target);
         let name = held.file(file);
         let line = if self.reads_line(file) {
             self.lines.line(file, name, position.line)?
         } else {
             None
         };
-        let subject = match record {
-            Some(record) => {
-                let rtype = Some(record.data.rtype());
-                Subject::new(self.alloc, &record.owner, rtype, self.zone.as_ref())?
-            }
-            None => Subject::none(self.alloc),
-        };
+        let subject = self.record_subject(held, record)?;
         let octets = line.as_ref().map(|line| line.as_slice());
         let spot = FindingLocation {
-            generated: number_of(record),
+            generated: number_of(found),
             ..line_spot(name, file, position, octets)
         };
         let finding_text = subject.finding_text(text.message.as_str(), text.help.as_str());
@@ -330,9 +341,9 @@ impl<'a> Findings<'a> {
     /// Reports a finding at a record, or at its target, or at the first file's start.
     pub fn report_at(
         &mut self,
-        held: &HeldZone,
+        held: &SortedZone,
         code: Code,
-        record: Option<&LocatedRecord<'_>>,
+        record: Option<usize>,
         at_target: bool,
         text: &Text,
     ) -> Result<(), RunError> {
@@ -343,20 +354,15 @@ impl<'a> Findings<'a> {
     }
 
     /// Returns whether an exception of a record excepts findings with a code, and marks it as used.
-    pub fn excepts(&mut self, code: Code, record: &LocatedRecord<'_>) -> bool {
+    pub fn excepts(&mut self, code: Code, record: RecordLocation) -> bool {
         self.select_exceptions(Some(record));
         self.reporter.exceptions.excepts(code)
     }
 
     /// Puts the exceptions of a record in effect, or none.
-    fn select_exceptions(&mut self, record: Option<&LocatedRecord<'_>>) {
-        match record {
-            Some(record) => {
-                let location = record.owner.as_octets().tag;
-                self.reporter
-                    .exceptions
-                    .select(location.file, location.position);
-            }
+    fn select_exceptions(&mut self, found: Option<RecordLocation>) {
+        match found {
+            Some(found) => self.reporter.exceptions.select(found.file, found.position),
             None => self.reporter.exceptions.begin(),
         }
     }

@@ -1,13 +1,19 @@
 //! The records of zone files, with their positions.
-use crate::record_arena::Held;
 use crate::refused_sets::RefusedSets;
+use crate::spelled_owners::SpelledOwners;
 use dns_lexer::position::Position;
+use dns_octets::AsOctets;
+use dns_wire::Name;
+use rdata_fields::RecordRef;
 use rdata_values::RecordType;
 use std::alloc::{AllocError, Global};
+use zone_contents::{Location, Locations, StoredZone, ZoneStore};
 use zone_dnssec::SecurityRule;
-use zone_record::Record;
-use zone_rules::{Finding, Rule};
-use zone_set::TaggedOctets;
+use zone_reader::NameBuffer;
+use zone_record::{Record, record_of};
+use zone_rules::zone_records::OwnerBuffer;
+use zone_rules::{Finding, Rule, ZoneRecords};
+use zonetext_files::stop::RunError;
 
 /// The position of a record.
 #[derive(Clone, Copy)]
@@ -21,13 +27,31 @@ pub struct RecordLocation {
     pub generated: Option<u32>,
 }
 
-/// A record with its position.
-pub type LocatedRecord<'h> = Record<TaggedOctets<'h, RecordLocation>, &'h [u8]>;
+/// Returns the position of a record as it is stored.
+fn stored_location(found: RecordLocation) -> Location {
+    Location {
+        line: found.position.line as u64,
+        column: found.position.column as u64,
+        target_line: found.target.line as u64,
+        target_column: found.target.column as u64,
+        generated: found.generated,
+    }
+}
 
-/// The records of files, with their positions.
+/// Returns a position that was stored.
+fn position_of(line: u64, column: u64) -> Position {
+    Position {
+        line: line as usize,
+        column: column as usize,
+    }
+}
+
+/// The records of files, in the order in which they were read.
 #[derive(Drop)]
 pub struct HeldZone {
-    pub records: Held<RecordLocation>,
+    records: ZoneStore,
+    locations: Locations,
+    owners: SpelledOwners,
     /// The RRsets with a rejected entry.
     pub refused: RefusedSets,
     /// The paths of the files, by their numbers.
@@ -35,21 +59,121 @@ pub struct HeldZone {
 }
 
 impl HeldZone {
-    /// Returns an empty collection.
-    pub fn new(alloc: Global) -> HeldZone {
+    /// Returns an empty collection, for the records of a zone.
+    pub fn new<Origin: AsOctets>(alloc: Global, zone: &Name<Origin>) -> HeldZone {
         HeldZone {
-            records: Held::new(alloc),
+            records: ZoneStore::new(alloc, zone),
+            locations: Locations::new(alloc),
+            owners: SpelledOwners::new(alloc),
             refused: RefusedSets::new(alloc),
             files: Vec::new(alloc),
         }
     }
 
+    /// Stores a record with its position.
+    pub fn add(&mut self, given: &RecordRef<'_>, found: RecordLocation) -> Result<(), RunError> {
+        let (Some(record), Ok(file)) = (record_of(given), u32::try_from(found.file)) else {
+            return Err(RunError::Damaged);
+        };
+        let location = self.locations.add(&stored_location(found))?;
+        self.owners.add(given.owner, file, location)?;
+        self.records.add(&record, file, location)?;
+        Ok(())
+    }
+
+    /// Returns the records in canonical order.
+    pub fn sorted(self) -> SortedZone {
+        let mut owners = self.owners;
+        owners.sort();
+        SortedZone {
+            records: self.records.sort(),
+            locations: self.locations,
+            owners,
+            refused: self.refused,
+            files: self.files,
+        }
+    }
+}
+
+/// A record, with its owner as it is written.
+pub type HeldRecord<'z> = Record<OwnerBuffer, &'z [u8]>;
+
+/// The records of files in canonical order, with their positions.
+#[derive(Drop)]
+pub struct SortedZone {
+    pub records: StoredZone,
+    locations: Locations,
+    owners: SpelledOwners,
+    /// The RRsets with a rejected entry.
+    pub refused: RefusedSets,
+    /// The paths of the files, by their numbers.
+    files: Vec<String>,
+}
+
+impl SortedZone {
     /// Returns the path of a file, by its number.
     pub fn file(&self, number: usize) -> &str {
         match self.files.get(number) {
             Some(file) => file.as_str(),
             None => "-",
         }
+    }
+
+    /// Returns the position of the record at an index.
+    pub fn location(&self, place: usize) -> Option<RecordLocation> {
+        if place >= self.records.len() {
+            return None;
+        }
+        let (file, location) = self.records.position(place);
+        let found = self.locations.get(location);
+        Some(RecordLocation {
+            file: file as usize,
+            position: position_of(found.line, found.column),
+            target: position_of(found.target_line, found.target_column),
+            generated: found.generated,
+        })
+    }
+
+    /// Returns the owner of the record at an index, as it is written.
+    pub fn owner(&self, place: usize) -> Option<NameBuffer> {
+        if place >= self.records.len() {
+            return None;
+        }
+        let (file, location) = self.records.position(place);
+        if let Some(octets) = self.owners.find(file, location) {
+            let written = Name::from_octets(octets).ok()?;
+            return NameBuffer::from_labels((), &written).ok();
+        }
+        let mut owner = OwnerBuffer::new();
+        NameBuffer::from_labels((), &self.records.record(place, &mut owner).owner).ok()
+    }
+
+    /// Returns the record at an index, with its owner as it is written. The buffer is for the owner in
+    /// lower case.
+    pub fn record<'z>(
+        &'z self,
+        place: usize,
+        owner: &'z mut OwnerBuffer,
+    ) -> Option<HeldRecord<'z>> {
+        let written = self.owner(place)?;
+        if place >= self.records.len() {
+            return None;
+        }
+        let found = self.records.record(place, owner);
+        Some(Record {
+            owner: written,
+            ttl: found.ttl,
+            class: found.class,
+            data: found.data,
+        })
+    }
+
+    /// Returns the type of the record at an index.
+    pub fn rtype(&self, place: usize) -> Option<RecordType> {
+        if place >= self.records.len() {
+            return None;
+        }
+        Some(self.records.rtype(place))
     }
 }
 
@@ -70,16 +194,14 @@ impl Repeats {
 
     /// Returns whether a finding is a duplicate of a directive with one that was reported. Adds the
     /// directive otherwise.
-    pub fn has(
-        &mut self,
-        rule: Rule,
-        record: Option<&LocatedRecord<'_>>,
-    ) -> Result<bool, AllocError> {
-        let Some(record) = record else {
+    pub fn has(&mut self, finding: &Finding, zone: &SortedZone) -> Result<bool, AllocError> {
+        if finding.rule != Rule::Duplicate {
+            return Ok(false);
+        }
+        let Some(location) = finding.record.and_then(|place| zone.location(place)) else {
             return Ok(false);
         };
-        let location = record.owner.as_octets().tag;
-        if rule != Rule::Duplicate || location.generated.is_none() {
+        if location.generated.is_none() {
             return Ok(false);
         }
         let place = (location.file, location.position.line);
@@ -92,24 +214,24 @@ impl Repeats {
 }
 
 /// Returns whether a finding is an SOA at another name than the zone's.
-fn is_other_soa(finding: &Finding, records: &[LocatedRecord<'_>]) -> bool {
+fn is_other_soa(finding: &Finding, zone: &SortedZone) -> bool {
     if !matches!(finding.rule, Rule::Outside | Rule::SoaNotApex) {
         return false;
     }
-    match finding.record.and_then(|place| records.get(place)) {
-        Some(record) => record.data.rtype() == RecordType::SOA,
+    match finding.record {
+        Some(place) => zone.rtype(place) == Some(RecordType::SOA),
         None => false,
     }
 }
 
 /// Returns the first finding that is an SOA at another name than the zone's, if no SOA is at the
 /// zone's name: then the records are probably those of another zone.
-pub fn other_soa(found: &[Finding], records: &[LocatedRecord<'_>]) -> Option<Finding> {
+pub fn other_soa(found: &[Finding], zone: &SortedZone) -> Option<Finding> {
     let mut lacks_soa = false;
     let mut other = None;
     for finding in found {
         lacks_soa = lacks_soa || finding.rule == Rule::NoSoa;
-        if other.is_none() && is_other_soa(finding, records) {
+        if other.is_none() && is_other_soa(finding, zone) {
             other = Some(*finding);
         }
     }

@@ -1,11 +1,12 @@
 //! Findings about records that delegations hide: addresses are one finding, with their number.
 use crate::findings::Findings;
-use crate::held_zone::{HeldZone, LocatedRecord, RecordLocation};
-use crate::rule_texts::{ZoneRecords, is_address, is_before};
+use crate::held_zone::RecordLocation;
+use crate::rule_texts::{CheckedZone, is_address, is_before};
 use dns_octets::AsOctets;
 use dns_wire::{DisplayWithDot, Name};
 use std::alloc::{AllocError, Global};
 use zone_delegations::hidden_records;
+use zone_reader::NameBuffer;
 use zone_rules::hosts::is_cut;
 use zone_rules::names::{parent, view};
 use zonetext_files::stop::RunError;
@@ -49,10 +50,10 @@ impl HiddenAddresses {
 
 /// Returns the delegation that hides a name: the one that is nearest to the apex.
 fn delegation_of<'n, Origin: AsOctets>(
-    records: &ZoneRecords<'_, '_, Origin>,
+    checked: &CheckedZone<'_, Origin>,
     owner: Name<&'n [u8]>,
 ) -> Option<Name<&'n [u8]>> {
-    let zone = view(records.zone);
+    let zone = view(checked.zone);
     let mut found = None;
     let mut next = Some(owner);
     for _ in 0..MAX_LABELS {
@@ -60,21 +61,20 @@ fn delegation_of<'n, Origin: AsOctets>(
             return found;
         };
         next = parent(&name);
-        if is_cut(&zone, records.sorted, &name) {
+        if is_cut(&zone, &checked.held.records, &name) {
             found = Some(name);
         }
     }
     found
 }
 
-/// Returns the message about a record that a delegation hides, up to what is special about
-/// addresses.
-fn hidden_text<Origin: AsOctets>(
+/// Returns the message about a name that a delegation hides, up to what is special about addresses.
+fn owner_text<Origin: AsOctets>(
     alloc: Global,
-    records: &ZoneRecords<'_, '_, Origin>,
-    record: &LocatedRecord<'_>,
+    checked: &CheckedZone<'_, Origin>,
+    owner: &NameBuffer,
 ) -> Result<String, AllocError> {
-    match delegation_of(records, view(&record.owner)) {
+    match delegation_of(checked, view(owner)) {
         Some(name) => {
             let name = DisplayWithDot::new(&name);
             format!(in alloc; "hidden by the delegation {name}")
@@ -84,14 +84,26 @@ fn hidden_text<Origin: AsOctets>(
     }
 }
 
+/// Returns the message about a record that a delegation hides.
+fn hidden_text<Origin: AsOctets>(
+    alloc: Global,
+    checked: &CheckedZone<'_, Origin>,
+    record: usize,
+) -> Result<String, AllocError> {
+    match checked.held.owner(record) {
+        Some(owner) => owner_text(alloc, checked, &owner),
+        None => String::from_str(alloc, "hidden by a delegation"),
+    }
+}
+
 /// Returns the message about addresses that delegations hide, at the first of them.
 fn address_text<Origin: AsOctets>(
     alloc: Global,
-    records: &ZoneRecords<'_, '_, Origin>,
-    record: &LocatedRecord<'_>,
+    checked: &CheckedZone<'_, Origin>,
+    record: usize,
     count: usize,
 ) -> Result<Text, AllocError> {
-    let hidden = hidden_text(alloc, records, record)?;
+    let hidden = hidden_text(alloc, checked, record)?;
     let hidden = hidden.as_str();
     let message = if count > 1 {
         format!(in alloc; "{hidden}, and no NS has this host ({count} such addresses)")?
@@ -106,35 +118,32 @@ fn address_text<Origin: AsOctets>(
 pub fn report_hidden<Origin: AsOctets>(
     alloc: Global,
     findings: &mut Findings<'_>,
-    held: &HeldZone,
-    records: &ZoneRecords<'_, '_, Origin>,
+    checked: &CheckedZone<'_, Origin>,
     has_gap: bool,
 ) -> Result<(), RunError> {
-    let found = hidden_records(alloc, records.zone, records.sorted, records.refused)?;
+    let held = checked.held;
+    let found = hidden_records(alloc, checked.zone, &held.records, checked.refused)?;
     let mut addresses = None;
     for place in &found {
-        let Some(record) = records.sorted.as_slice().get(*place) else {
-            continue;
-        };
-        if !is_address(record) {
-            if let Some(severity) = findings.count_at(held, Code::Hidden, Some(record), false) {
-                let text = Text::new(alloc, hidden_text(alloc, records, record)?);
-                findings.show_at(held, severity, Code::Hidden, Some(record), false, &text)?;
+        let record = Some(*place);
+        if !is_address(held, *place) {
+            if let Some(severity) = findings.count_at(held, Code::Hidden, record, false) {
+                let text = Text::new(alloc, hidden_text(alloc, checked, *place)?);
+                findings.show_at(held, severity, Code::Hidden, record, false, &text)?;
             }
-        } else if !has_gap && !findings.excepts(Code::Hidden, record) {
-            let location = record.owner.as_octets().tag;
-            addresses = Some(HiddenAddresses::with(addresses, *place, location));
+        } else if let Some(location) = held.location(*place) {
+            if !has_gap && !findings.excepts(Code::Hidden, location) {
+                addresses = Some(HiddenAddresses::with(addresses, *place, location));
+            }
         }
     }
     let Some(group) = addresses else {
         return Ok(());
     };
-    let Some(record) = records.sorted.as_slice().get(group.record) else {
-        return Ok(());
-    };
-    if let Some(severity) = findings.count_at(held, Code::Hidden, Some(record), false) {
-        let text = address_text(alloc, records, record, group.count)?;
-        findings.show_at(held, severity, Code::Hidden, Some(record), false, &text)?;
+    let record = Some(group.record);
+    if let Some(severity) = findings.count_at(held, Code::Hidden, record, false) {
+        let text = address_text(alloc, checked, group.record, group.count)?;
+        findings.show_at(held, severity, Code::Hidden, record, false, &text)?;
     }
     Ok(())
 }

@@ -14,4 +14,6 @@ mod rule_texts;
 mod scan;
 pub mod scopes;
 mod signature_groups;
+mod signed_zone;
 mod slips;
+mod spelled_owners;

@@ -1,5 +1,5 @@
 //! The messages of findings about the records of a zone.
-use crate::held_zone::{LocatedRecord, RecordLocation};
+use crate::held_zone::{HeldRecord, RecordLocation, SortedZone};
 use dns_octets::AsOctets;
 use dns_wire::{DisplayWithDot, Name};
 use finding_texts::similar::edits_between;
@@ -9,16 +9,15 @@ use zone_check::codes::code_of_rule;
 use zone_check::texts::code_text;
 use zone_rules::hosts::dname_over_host;
 use zone_rules::names::{is_name_below, view};
-use zone_rules::sorted::owned_by;
-use zone_rules::{Finding, Rule, SortedRecords, SortedSets};
-use zone_set::TaggedOctets;
+use zone_rules::zone_records::OwnerBuffer;
+use zone_rules::{Finding, Rule, SortedSets, ZoneRecords};
 use zonetext_findings::subjects::Text;
 
 /// The records of a zone, and its RRsets with a rejected entry.
 #[derive(Clone, Copy)]
-pub struct ZoneRecords<'z, 'h, Origin: AsOctets> {
+pub struct CheckedZone<'z, Origin: AsOctets> {
     pub zone: &'z Name<Origin>,
-    pub sorted: &'z SortedRecords<'z, TaggedOctets<'h, RecordLocation>, &'h [u8]>,
+    pub held: &'z SortedZone,
     pub refused: &'z SortedSets<'z>,
 }
 
@@ -36,7 +35,7 @@ pub fn is_at_target(rule: Rule) -> bool {
 }
 
 /// Returns the target of a record: the host of NS, MX and SRV, and that of CNAME.
-fn target_of<'r>(record: &'r LocatedRecord<'_>) -> Option<Name<&'r [u8]>> {
+fn target_of<'r>(record: &'r HeldRecord<'_>) -> Option<Name<&'r [u8]>> {
     let place = match record.data.rtype() {
         RecordType::NS | RecordType::CNAME => 0,
         RecordType::MX => 1,
@@ -49,9 +48,9 @@ fn target_of<'r>(record: &'r LocatedRecord<'_>) -> Option<Name<&'r [u8]>> {
     }
 }
 
-/// Returns whether a record is an address.
-pub fn is_address(record: &LocatedRecord<'_>) -> bool {
-    matches!(record.data.rtype(), RecordType::A | RecordType::AAAA)
+/// Returns whether the record at an index is an address.
+pub fn is_address(held: &SortedZone, place: usize) -> bool {
+    matches!(held.rtype(place), Some(RecordType::A | RecordType::AAAA))
 }
 
 /// A name of the zone with an address, and the number of edits that lead to it.
@@ -64,7 +63,7 @@ struct Near {
 /// Returns the name with an address that is most like another name below the zone, if one is.
 fn nearest<Origin: AsOctets>(
     alloc: Global,
-    records: &ZoneRecords<'_, '_, Origin>,
+    records: &CheckedZone<'_, Origin>,
     target: &Name<&[u8]>,
 ) -> Result<Option<Near>, AllocError> {
     let zone = view(records.zone);
@@ -73,12 +72,15 @@ fn nearest<Origin: AsOctets>(
         return Ok(best);
     }
     let wanted = relative_text(alloc, target, &zone)?;
-    for record in records.sorted.as_slice() {
-        let owner = view(&record.owner);
-        if !is_address(record) || owner.len().abs_diff(target.len()) > 2 {
+    for place in 0..records.held.records.len() {
+        if !is_address(records.held, place) {
             continue;
         }
-        if !is_name_below(&owner, &zone) {
+        let Some(owner) = records.held.owner(place) else {
+            continue;
+        };
+        let owner = view(&owner);
+        if owner.len().abs_diff(target.len()) > 2 || !is_name_below(&owner, &zone) {
             continue;
         }
         let text = relative_text(alloc, &owner, &zone)?;
@@ -108,8 +110,8 @@ fn relative_text(
 /// set, its help has the name that was probably meant.
 fn missing_target<Origin: AsOctets>(
     alloc: Global,
-    records: &ZoneRecords<'_, '_, Origin>,
-    record: &LocatedRecord<'_>,
+    records: &CheckedZone<'_, Origin>,
+    record: &HeldRecord<'_>,
     rule: Rule,
     may_search: bool,
 ) -> Result<Option<Text>, AllocError> {
@@ -141,13 +143,12 @@ fn missing_target<Origin: AsOctets>(
 }
 
 /// Returns the message about a target below a DNAME.
-fn dname_target<'r, 'h>(
+fn dname_target<Origin: AsOctets>(
     alloc: Global,
-    sorted: &'r SortedRecords<'r, TaggedOctets<'h, RecordLocation>, &'h [u8]>,
-    refused: &'r SortedSets<'r>,
-    record: &'r LocatedRecord<'h>,
+    records: &CheckedZone<'_, Origin>,
+    record: &HeldRecord<'_>,
 ) -> Result<Option<Text>, AllocError> {
-    let Some(name) = dname_over_host(sorted, refused, record) else {
+    let Some(name) = dname_over_host(&records.held.records, records.refused, record) else {
         return Ok(None);
     };
     let name = DisplayWithDot::new(&name);
@@ -156,7 +157,7 @@ fn dname_target<'r, 'h>(
 }
 
 /// Returns the message about a target that is a CNAME.
-fn cname_target(alloc: Global, record: &LocatedRecord<'_>) -> Result<Option<Text>, AllocError> {
+fn cname_target(alloc: Global, record: &HeldRecord<'_>) -> Result<Option<Text>, AllocError> {
     let Some(target) = target_of(record) else {
         return Ok(None);
     };
@@ -177,14 +178,17 @@ pub fn is_before(left: RecordLocation, right: RecordLocation) -> bool {
 
 /// Returns the position of the first CNAME of a name in the files, if it is before a record.
 fn first_cname<Origin: AsOctets>(
-    records: &ZoneRecords<'_, '_, Origin>,
-    record: &LocatedRecord<'_>,
+    records: &CheckedZone<'_, Origin>,
+    record: &HeldRecord<'_>,
+    place: usize,
 ) -> Option<RecordLocation> {
-    let mut first = record.owner.as_octets().tag;
+    let held = records.held;
+    let mut first = held.location(place)?;
     let own = first;
-    for other in owned_by(records.sorted, &view(&record.owner)) {
-        let location = other.owner.as_octets().tag;
-        if other.data.rtype() == RecordType::CNAME && is_before(location, first) {
+    let (start, end) = held.records.places(&view(&record.owner));
+    for place in start..end {
+        let location = held.location(place)?;
+        if held.rtype(place) == Some(RecordType::CNAME) && is_before(location, first) {
             first = location;
         }
     }
@@ -198,10 +202,11 @@ fn first_cname<Origin: AsOctets>(
 /// Returns the message about a second CNAME of a name, with the position of the first.
 fn second_cname<Origin: AsOctets>(
     alloc: Global,
-    records: &ZoneRecords<'_, '_, Origin>,
-    record: &LocatedRecord<'_>,
+    records: &CheckedZone<'_, Origin>,
+    record: &HeldRecord<'_>,
+    place: usize,
 ) -> Result<Option<Text>, AllocError> {
-    let Some(first) = first_cname(records, record) else {
+    let Some(first) = first_cname(records, record, place) else {
         return Ok(None);
     };
     let name = DisplayWithDot::new(&record.owner);
@@ -211,20 +216,25 @@ fn second_cname<Origin: AsOctets>(
 }
 
 /// Returns the message about a record that breaks a rule, if it has more than that of the code.
-fn own_text<'r, 'h, Origin: AsOctets>(
+fn own_text<Origin: AsOctets>(
     alloc: Global,
-    records: &ZoneRecords<'r, 'h, Origin>,
-    record: &'r LocatedRecord<'h>,
+    records: &CheckedZone<'_, Origin>,
+    place: usize,
     rule: Rule,
     may_search: bool,
 ) -> Result<Option<Text>, AllocError> {
+    let mut owner = OwnerBuffer::new();
+    let Some(record) = records.held.record(place, &mut owner) else {
+        return Ok(None);
+    };
+    let record = &record;
     match rule {
         Rule::HostMissing | Rule::NsAddress | Rule::MissingGlue | Rule::CnameTargetMissing => {
             missing_target(alloc, records, record, rule, may_search)
         }
         Rule::HostIsAlias => cname_target(alloc, record),
-        Rule::HostBelowDname => dname_target(alloc, records.sorted, records.refused, record),
-        Rule::Cname => second_cname(alloc, records, record),
+        Rule::HostBelowDname => dname_target(alloc, records, record),
+        Rule::Cname => second_cname(alloc, records, record, place),
         _ => Ok(None),
     }
 }
@@ -233,15 +243,12 @@ fn own_text<'r, 'h, Origin: AsOctets>(
 /// for.
 pub fn rule_text<Origin: AsOctets>(
     alloc: Global,
-    records: &ZoneRecords<'_, '_, Origin>,
+    records: &CheckedZone<'_, Origin>,
     finding: &Finding,
     may_search: bool,
 ) -> Result<Text, AllocError> {
-    let record = finding
-        .record
-        .and_then(|place| records.sorted.as_slice().get(place));
-    if let Some(record) = record {
-        if let Some(text) = own_text(alloc, records, record, finding.rule, may_search)? {
+    if let Some(place) = finding.record {
+        if let Some(text) = own_text(alloc, records, place, finding.rule, may_search)? {
             return Ok(text);
         }
     }

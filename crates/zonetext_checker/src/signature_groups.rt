@@ -1,9 +1,10 @@
 //! Findings about the times of signatures: equal ones are reported together.
-use crate::held_zone::{LocatedRecord, RecordLocation};
+use crate::held_zone::{RecordLocation, SortedZone};
 use rdata_values::{Date, RecordType};
 use std::alloc::{AllocError, Global};
 use std::cmp::Ordering;
 use zone_dnssec::{SecurityFinding, SecurityRule};
+use zone_rules::zone_records::OwnerBuffer;
 use zonetext_findings::subjects::Text;
 
 /// Indexes of the fields of an RRSIG (RFC 4034 section 3.1).
@@ -52,11 +53,12 @@ fn long_number(octets: Option<&[u8]>) -> u32 {
 }
 
 /// Returns the finding about one signature, if its rule is about its time.
-fn group_of(finding: &SecurityFinding, records: &[LocatedRecord<'_>]) -> Option<Group> {
-    let record = records.get(finding.record)?;
+fn group_of(finding: &SecurityFinding, zone: &SortedZone) -> Option<Group> {
     if !is_of_time(finding.rule) {
         return None;
     }
+    let mut owner = OwnerBuffer::new();
+    let record = zone.record(finding.record, &mut owner)?;
     let time = if finding.rule == SecurityRule::NotYetValid {
         INCEPTION
     } else {
@@ -67,7 +69,7 @@ fn group_of(finding: &SecurityFinding, records: &[LocatedRecord<'_>]) -> Option<
         covered: short_number(record.data.part(COVERED)),
         seconds: long_number(record.data.part(time)),
         record: finding.record,
-        location: record.owner.as_octets().tag,
+        location: zone.location(finding.record)?,
         count: 1,
     })
 }
@@ -112,12 +114,12 @@ fn compare(left: &Group, right: &Group) -> Ordering {
 pub fn groups_of(
     alloc: Global,
     found: &[SecurityFinding],
-    records: &[LocatedRecord<'_>],
+    zone: &SortedZone,
     joins_equal: bool,
 ) -> Result<Vec<Group>, AllocError> {
     let mut single = Vec::new(alloc);
     for finding in found {
-        if let Some(group) = group_of(finding, records) {
+        if let Some(group) = group_of(finding, zone) {
             single.push(group)?;
         }
     }

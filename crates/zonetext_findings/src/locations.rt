@@ -9,6 +9,7 @@ use dns_lexer::unclosed::outermost_open_of_octets;
 use rdata_values::RecordType;
 use std::alloc::{AllocError, Global};
 use zone_check::rejection_findings::fault_finding;
+use zone_check::scan::OctetScan;
 use zone_reader::{ParsedEntry, type_word};
 use zonetext_files::generated::Generated;
 use zonetext_files::open_file::place_after;
@@ -81,18 +82,75 @@ fn offset_after_type(entry: &Entry<'_>, number: usize) -> Option<usize> {
     None
 }
 
+/// Returns whether an octet separates words.
+fn is_blank(octet: u8) -> bool {
+    matches!(octet, b' ' | b'\t' | b'\n')
+}
+
+/// Returns the offset of the last word of an entry, if all of its tokens are words without escapes,
+/// and it has neither parentheses nor comments.
+fn last_word(octets: &[u8], scan: OctetScan) -> Option<usize> {
+    if !scan.is_plain || scan.has_parenthesis || scan.has_quote {
+        return None;
+    }
+    if scan.has_backslash || scan.has_semicolon {
+        return None;
+    }
+    let last = octets.iter().rposition(|octet| !is_blank(*octet))?;
+    match octets[..last].iter().rposition(|octet| is_blank(*octet)) {
+        Some(blank) => Some(blank + 1),
+        None => Some(0),
+    }
+}
+
+/// Returns the position of an offset in the first line of an entry, whose beginning has a position. The
+/// octets before it are ASCII.
+fn on_first_line(beginning: Position, at: usize) -> Position {
+    Position {
+        line: beginning.line,
+        column: beginning.column.saturating_add(at),
+    }
+}
+
+/// Returns the position of the target of a record, which is the last field of its data. `number` is
+/// the index of that field, and `start` the offset of the record's first token from the beginning of
+/// the entry.
+fn position_of_target(
+    entry: &Entry<'_>,
+    scan: OctetScan,
+    start: usize,
+    first: Position,
+    number: usize,
+) -> Position {
+    match last_word(entry.octets, scan) {
+        Some(at) if start == 0 => on_first_line(first, at),
+        Some(at) => position_at(entry, at),
+        None => match offset_after_type(entry, number) {
+            Some(at) => position_at(entry, at),
+            None => first,
+        },
+    }
+}
+
 /// Returns the position of the target of a record, or that of its first token if it has none.
-pub fn target_position(entry: &Entry<'_>, first: Position) -> Position {
+/// `start` is the offset of that token from the beginning of the entry, and `first` its position. That
+/// of a generated entry is the position of its directive.
+pub fn target_position(
+    entry: &Entry<'_>,
+    scan: OctetScan,
+    start: usize,
+    first: Position,
+) -> Position {
     let Ok(ParsedEntry::Record { rtype, .. }) = entry.read else {
         return first;
     };
     let Some(number) = target_number(*rtype) else {
         return first;
     };
-    match offset_after_type(entry, number) {
-        Some(at) => position_at(entry, at),
-        None => first,
+    if entry.generated.is_some() {
+        return first;
     }
+    position_of_target(entry, scan, start, first, number)
 }
 
 /// Returns the tokens of an entry, or those before its syntax error.
@@ -154,7 +212,7 @@ pub fn number_of(entry: &Entry<'_>) -> Option<u32> {
 /// Returns the position of an offset of an entry, which is counted from the entry's beginning. That of
 /// a generated entry is the position of its directive.
 pub fn position_at(entry: &Entry<'_>, at: usize) -> Position {
-    if entry.generated.is_some() {
+    if at == 0 || entry.generated.is_some() {
         return entry.place().position;
     }
     let count = at.min(entry.held.len());

@@ -1,14 +1,16 @@
 //! The command `canon`: writes the records of zone files in full, in canonical order.
-use crate::gathered::{Gathered, NumberedRecord, gather};
 use crate::json_records::push_json_record;
 use crate::run_files::RecordVisitor;
 use crate::sorting::{Sorting, gather_sorting};
+use crate::stored_records::{StoredRecords, store_records};
 use crate::visit::Reading;
 use dns_octets::AsOctets;
 use rdata_values::RecordType;
 use std::alloc::{AllocError, Global};
 use std::io;
 use zone_record::Record;
+use zone_rules::ZoneRecords;
+use zone_rules::zone_records::OwnerBuffer;
 use zone_set::{Selection, push_generic, push_record};
 use zonetext_files::lines::Lines;
 use zonetext_files::stop::{RunError, exit_status};
@@ -24,42 +26,19 @@ pub struct Form {
     pub is_json: bool,
 }
 
-/// Returns the indexes of records in a list, in the order of the files. `count` is the number of
-/// records before duplicates were omitted.
-fn by_number(
-    alloc: Global,
-    records: &[NumberedRecord<'_>],
-    count: usize,
-) -> Result<Vec<usize>, AllocError> {
-    let mut places: Vec<Option<usize>> = vec![in alloc; None; count]?;
-    for (place, record) in records.iter().enumerate() {
-        if let Some(slot) = places.get_mut(record.owner.as_octets().tag) {
-            *slot = Some(place);
+/// Returns the indexes of records that are no duplicates, in the order of the files.
+fn by_number(alloc: Global, stored: &StoredRecords) -> Result<Vec<usize>, AllocError> {
+    let count = stored.zone.len();
+    let mut places: Vec<usize> = vec![in alloc; usize::MAX; count]?;
+    for place in 0..count {
+        if stored.zone.is_duplicate(place) {
+            continue;
+        }
+        if let Some(slot) = places.get_mut(stored.number(place)) {
+            *slot = place;
         }
     }
-    let mut order = Vec::new(alloc);
-    for place in &places {
-        if let Some(place) = place {
-            order.push(*place)?;
-        }
-    }
-    Ok(order)
-}
-
-/// Returns the indexes of SOAs in a list, and after them those of its other records.
-fn soa_first(alloc: Global, records: &[NumberedRecord<'_>]) -> Result<Vec<usize>, AllocError> {
-    let mut order = Vec::new(alloc);
-    for (place, record) in records.iter().enumerate() {
-        if record.data.rtype() == RecordType::SOA {
-            order.push(place)?;
-        }
-    }
-    for (place, record) in records.iter().enumerate() {
-        if record.data.rtype() != RecordType::SOA {
-            order.push(place)?;
-        }
-    }
-    Ok(order)
+    Ok(places)
 }
 
 /// Appends the line of a record, with its place if that is known.
@@ -78,29 +57,76 @@ fn push_line<Owner: AsOctets, Octets: AsOctets>(
     }
 }
 
-/// Writes records to standard output.
-fn write_records(
-    rt: &HostRuntime,
-    gathered: &Gathered,
-    records: &[NumberedRecord<'_>],
+/// Appends the line of the record at an index, if there is one.
+fn push_stored(
+    lines: &mut Lines<'_>,
+    stored: &StoredRecords,
+    place: usize,
     form: Form,
 ) -> Result<(), RunError> {
-    let count = gathered.len();
-    let order = if form.keeps_order {
-        by_number(rt.alloc(), records, count)?
-    } else {
-        soa_first(rt.alloc(), records)?
-    };
-    let mut lines = Lines::new(rt);
-    for place in &order {
-        if let Some(record) = records.get(*place) {
-            let place = gathered.place(record.owner.as_octets().tag);
-            push_line(&mut lines.text, record, form, place)?;
-            lines.flush_block()?;
+    if place >= stored.zone.len() {
+        return Ok(());
+    }
+    let mut owner = OwnerBuffer::new();
+    let record = stored.zone.record(place, &mut owner);
+    let found = stored.place(stored.number(place));
+    push_line(&mut lines.text, &record, form, found)?;
+    lines.flush_block()?;
+    Ok(())
+}
+
+/// Appends the lines of records in canonical order that are SOAs, or of those that are not. Returns
+/// the number of duplicates among these, which are omitted.
+fn push_soas(
+    lines: &mut Lines<'_>,
+    stored: &StoredRecords,
+    form: Form,
+    are_soas: bool,
+) -> Result<u64, RunError> {
+    let mut duplicates: u64 = 0;
+    for place in 0..stored.zone.len() {
+        if (stored.zone.rtype(place) == RecordType::SOA) != are_soas {
+            continue;
+        }
+        if stored.zone.is_duplicate(place) {
+            duplicates = duplicates.saturating_add(1);
+        } else {
+            push_stored(lines, stored, place, form)?;
         }
     }
+    Ok(duplicates)
+}
+
+/// Appends the lines of records in the order of the files, and returns the number of duplicates,
+/// which are omitted.
+fn push_by_number(
+    lines: &mut Lines<'_>,
+    alloc: Global,
+    stored: &StoredRecords,
+    form: Form,
+) -> Result<u64, RunError> {
+    let mut duplicates: u64 = 0;
+    for place in &by_number(alloc, stored)? {
+        if *place == usize::MAX {
+            duplicates = duplicates.saturating_add(1);
+        } else {
+            push_stored(lines, stored, *place, form)?;
+        }
+    }
+    Ok(duplicates)
+}
+
+/// Writes records to standard output, and returns the number of duplicates, which are omitted.
+fn write_records(rt: &HostRuntime, stored: &StoredRecords, form: Form) -> Result<u64, RunError> {
+    let mut lines = Lines::new(rt);
+    let duplicates = if form.keeps_order {
+        push_by_number(&mut lines, rt.alloc(), stored, form)?
+    } else {
+        let soas = push_soas(&mut lines, stored, form, true)?;
+        push_soas(&mut lines, stored, form, false)?.saturating_add(soas)
+    };
     lines.flush()?;
-    Ok(())
+    Ok(duplicates)
 }
 
 /// Reports how many duplicates were omitted.
@@ -113,10 +139,9 @@ fn report_duplicates(rt: &HostRuntime, duplicates: u64) -> io::Result<()> {
 }
 
 /// Writes the records of files, and reports how many duplicates were omitted.
-fn write_gathered(rt: &HostRuntime, gathered: &Gathered, form: Form) -> Result<(), RunError> {
-    let (set, duplicates) = gathered.set()?;
-    write_records(rt, gathered, set.as_slice(), form)?;
-    report_duplicates(rt, duplicates as u64)?;
+fn write_stored(rt: &HostRuntime, stored: &StoredRecords, form: Form) -> Result<(), RunError> {
+    let duplicates = write_records(rt, stored, form)?;
+    report_duplicates(rt, duplicates)?;
     Ok(())
 }
 
@@ -129,11 +154,11 @@ pub fn run(
     selection: Selection<'_>,
     form: Form,
 ) -> u8 {
-    let gathered = match gather(rt, files, reading, selection, form.is_json) {
-        Ok(gathered) => gathered,
+    let stored = match store_records(rt, files, reading, selection, form.is_json) {
+        Ok(stored) => stored,
         Err(status) => return status,
     };
-    match write_gathered(rt, &gathered, form) {
+    match write_stored(rt, &stored, form) {
         Ok(()) => 0,
         Err(stop) => exit_status(rt, "-", stop),
     }

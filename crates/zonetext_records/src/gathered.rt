@@ -27,7 +27,7 @@ pub type NumberedSet<'h> = CanonicalSet<TaggedOctets<'h, usize>, &'h [u8]>;
 
 /// Where the entries of records begin, by the numbers of the records.
 #[derive(Drop)]
-struct Places {
+pub struct Places {
     /// The paths of the files.
     files: Vec<String>,
     /// The number of the file among these, and the line.
@@ -36,7 +36,7 @@ struct Places {
 
 impl Places {
     /// Returns no places.
-    fn new(alloc: Global) -> Places {
+    pub fn new(alloc: Global) -> Places {
         Places {
             files: Vec::new(alloc),
             lines: Vec::new(alloc),
@@ -44,7 +44,7 @@ impl Places {
     }
 
     /// Adds the place of the next record.
-    fn add(&mut self, alloc: Global, entry: &Entry<'_>) -> Result<(), AllocError> {
+    pub fn add(&mut self, alloc: Global, entry: &Entry<'_>) -> Result<(), AllocError> {
         let is_same = match self.files.last() {
             Some(file) => file.as_str() == entry.file,
             None => false,
@@ -56,20 +56,21 @@ impl Places {
         self.lines.push((file, entry.place().position.line))?;
         Ok(())
     }
+
+    /// Returns the file and the line where the entry of a record begins, by the record's number, if
+    /// its place was added.
+    pub fn get(&self, number: usize) -> Option<(&str, usize)> {
+        let (file, line) = *self.lines.get(number)?;
+        let file = self.files.get(file)?;
+        Some((file.as_str(), line))
+    }
 }
 
 impl Gathered {
     /// Returns the file and the line where the entry of a record begins, by the record's number, if
     /// places were kept.
     pub fn place(&self, number: usize) -> Option<(&str, usize)> {
-        let (file, line) = *self.places.lines.get(number)?;
-        let file = self.places.files.get(file)?;
-        Some((file.as_str(), line))
-    }
-
-    /// Returns the number of records.
-    pub fn len(&self) -> usize {
-        self.held.len()
+        self.places.get(number)
     }
 
     /// Returns the records in canonical order, and the number of duplicates that were omitted.

@@ -156,7 +156,7 @@ impl<'a> Checker<'a> {
         if !has_class {
             return self.hold_refused(entry, Some(rtype));
         }
-        self.hold_record(entry, at)
+        self.hold_record(entry, scan, at)
     }
 
     /// Reports a format of `$GENERATE` that ends a name in a dot.

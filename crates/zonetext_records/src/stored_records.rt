@@ -1,0 +1,140 @@
+//! The records of zone files in canonical form and order, in little memory.
+use crate::gathered::Places;
+use crate::visit::{EntryVisitor, Outcome, Reading, visit_entries};
+use dns_wire::Name;
+use rdata_fields::RecordRef;
+use rdata_values::RecordType;
+use std::alloc::Global;
+use zone_contents::{StoredZone, ZoneStore};
+use zone_record::{append_canonical_data, record_of};
+use zone_rules::ZoneRecords;
+use zone_set::Selection;
+use zonetext_files::stop::RunError;
+use zonetext_files::zone_files::Entry;
+
+/// Records in canonical order, each with the number of records before it in the files.
+#[derive(Drop)]
+pub struct StoredRecords {
+    pub zone: StoredZone,
+    places: Places,
+}
+
+impl StoredRecords {
+    /// Returns the number of records before the one at an index, in the files.
+    pub fn number(&self, place: usize) -> usize {
+        if place >= self.zone.len() {
+            return place;
+        }
+        self.zone.position(place).1 as usize
+    }
+
+    /// Returns the file and the line where the entry of a record begins, by the record's number, if
+    /// places were kept.
+    pub fn place(&self, number: usize) -> Option<(&str, usize)> {
+        self.places.get(number)
+    }
+}
+
+/// Stores the records of files.
+#[derive(Drop)]
+struct RecordCollector<'s> {
+    alloc: Global,
+    selection: Selection<'s>,
+    /// Whether the places of records are kept.
+    keeps_places: bool,
+    /// The records, after the first one.
+    store: Option<ZoneStore>,
+    places: Places,
+    /// The RDATA of a record in canonical form.
+    rdata: Vec<u8>,
+}
+
+/// Returns a store for the records of a zone whose first record is given. Any apex stores them; that
+/// of the zone, in little memory.
+fn store_for(alloc: Global, given: &RecordRef<'_>) -> ZoneStore {
+    match Name::from_octets(given.owner) {
+        Ok(owner) if given.rtype == RecordType::SOA => ZoneStore::new(alloc, &owner),
+        _ => ZoneStore::new(alloc, &Name::root_ref()),
+    }
+}
+
+impl RecordCollector<'_> {
+    /// Stores a record in canonical form.
+    fn add(&mut self, given: &RecordRef<'_>) -> Result<(), RunError> {
+        self.rdata.truncate(0);
+        if append_canonical_data(given.rtype, given.data, &mut self.rdata).is_err() {
+            return Err(RunError::OutOfMemory);
+        }
+        let canonical = RecordRef {
+            owner: given.owner,
+            ttl: given.ttl,
+            class: given.class,
+            rtype: given.rtype,
+            data: self.rdata.as_slice(),
+        };
+        let Some(record) = record_of(&canonical) else {
+            return Err(RunError::Damaged);
+        };
+        if self.store.is_none() {
+            self.store = Some(store_for(self.alloc, given));
+        }
+        let Some(store) = &mut self.store else {
+            return Err(RunError::Damaged);
+        };
+        let number = store.len() as u64;
+        store.add(&record, 0, number)?;
+        Ok(())
+    }
+}
+
+impl EntryVisitor for RecordCollector<'_> {
+    fn process_entry(&mut self, entry: &Entry<'_>) -> Result<(), RunError> {
+        let Some(given) = entry.record()? else {
+            return Ok(());
+        };
+        if !self.selection.includes(given.rtype) {
+            return Ok(());
+        }
+        if self.keeps_places {
+            self.places.add(self.alloc, entry)?;
+        }
+        self.add(&given)
+    }
+}
+
+/// Returns the selected records of files, in canonical form and order, with their places if these
+/// are kept. If an entry is rejected, that is reported, and the status is returned in place of them:
+/// 1, or 3 if a file can't be read.
+pub fn store_records(
+    rt: &HostRuntime,
+    files: &[&str],
+    reading: &Reading<'_>,
+    selection: Selection<'_>,
+    keeps_places: bool,
+) -> Result<StoredRecords, u8> {
+    let alloc = rt.alloc();
+    let collector = RecordCollector {
+        alloc,
+        selection,
+        keeps_places,
+        store: None,
+        places: Places::new(alloc),
+        rdata: Vec::new(alloc),
+    };
+    let Outcome {
+        status,
+        visitor,
+        ..
+    } = visit_entries(rt, files, reading, collector);
+    if reading.fails(status) {
+        return Err(status);
+    }
+    let store = match visitor.store {
+        Some(store) => store,
+        None => ZoneStore::new(alloc, &Name::root_ref()),
+    };
+    Ok(StoredRecords {
+        zone: store.sort(),
+        places: visitor.places,
+    })
+}
