@@ -7,13 +7,15 @@ use dns_octets::AsOctets;
 use dns_zone::zonefile_fmt::{self, FormatWriter, Formatter, ZonefileFmt};
 use rdata::type_row;
 
-/// RDATA prints in the presentation format of its type. The table of types ([`rdata::types::TYPES`])
-/// has a row for each type that has one: the shape of the RDATA, which is its fields and its tail.
+/// RDATA prints in the presentation format of its type, if the table of types
+/// ([`rdata::types::TYPES`]) has a row for the type. The row gives the shape of the RDATA: fields, one
+/// after another, and the tail, which fills the rest, as do the texts of TXT and the parameters of
+/// SVCB.
 ///
 /// Other RDATA prints in the generic format (RFC 3597 section 5): `\#`, the number of octets, and
-/// the octets in hexadecimal. It is that of a type without a row, a LOC record with a version other
-/// than 0 (RFC 1876 section 2), and an APL record with an address family other than IPv4 and IPv6
-/// (RFC 3123 section 4).
+/// the octets in hexadecimal. So does RDATA of a type without a row and, by [`write_data`], that of a
+/// LOC record with a version other than 0 (RFC 1876 section 2) and of an APL record with an address
+/// family other than IPv4 and IPv6 (RFC 3123 section 4).
 impl<Octets: AsOctets> ZonefileFmt for Data<Octets> {
     ghost document = { data_document };
 
