@@ -7,7 +7,7 @@ use Rattle.zone_edit.specs.Changes.{Change, HaveTokensInOrder, PushesChanges, ch
 use Rattle.zone_edit.specs.declared.tokens.TokenError.{TokenError}
 use Rattle.zone_edit.specs.declared.tokens.TokenError.TheVariants.{OutOfMemory, OutOfOrder, TooFew}
 use Rattle.zone_edit.specs.declared.zonemd.ZonemdEdit.{ZonemdEdit}
-use Rattle.zone_edit.specs.Zonemds.{IsAnyError, IsRecordError, all_changes, zonemd_changes}
+use Rattle.zone_edit.specs.Zonemds.{HasZonemdTokens, HaveZonemdTokens, IsAnyError, IsRdataError, IsRecordError, all_changes, zonemd_changes}
 use Rattle.zone_edit.proofs.Opening.{rest_of}
 use Rattle.zone_edit.proofs.Pushing.{continues_both, continues_same}
 use Rattle.zone_edit.specs.Tokens.{AreAfterTokens, Continues, IsTokenError, first_only, spans_of, stretches, texts_of}
@@ -80,22 +80,22 @@ after_three count a b d tokens h =
     let low : 0 ≤ d.end = omega arith in
     after_less count 0 d.end tokens low h.1.1.1
 
--- an error of some tokens of a record is one of the record
-pub error_two : (octets : List ℕ) (a b : Span) (tokens : List Span) (e : TokenError) → IsTokenError (length octets) 0 tokens e → IsRecordError octets (a ∷ b ∷ tokens) e
-error_two octets a b tokens OutOfMemory h = tt
-error_two octets a b tokens OutOfOrder h = λ ordered. h (after_two (length octets) a b tokens ordered)
-error_two octets a b tokens TooFew h = absurd h
+-- an error of some tokens of RDATA is one of the RDATA
+pub error_two : (fewest : ℕ) (octets : List ℕ) (a b : Span) (tokens : List Span) (e : TokenError) → IsTokenError (length octets) 0 tokens e → IsRdataError fewest octets (a ∷ b ∷ tokens) e
+error_two fewest octets a b tokens OutOfMemory h = tt
+error_two fewest octets a b tokens OutOfOrder h = λ ordered. h (after_two (length octets) a b tokens ordered)
+error_two fewest octets a b tokens TooFew h = absurd h
 
-pub error_first : (octets : List ℕ) (t : Span) (tokens : List Span) (e : TokenError) → IsTokenError (length octets) 0 (t ∷ []) e → IsRecordError octets (t ∷ tokens) e
-error_first octets t tokens OutOfMemory h = tt
-error_first octets t tokens OutOfOrder h = λ ordered. h (after_first (length octets) t tokens ordered)
-error_first octets t tokens TooFew h = absurd h
+pub error_first : (fewest : ℕ) (octets : List ℕ) (t : Span) (tokens : List Span) (e : TokenError) → IsTokenError (length octets) 0 (t ∷ []) e → IsRdataError fewest octets (t ∷ tokens) e
+error_first fewest octets t tokens OutOfMemory h = tt
+error_first fewest octets t tokens OutOfOrder h = λ ordered. h (after_first (length octets) t tokens ordered)
+error_first fewest octets t tokens TooFew h = absurd h
 
-pub error_three : (octets : List ℕ) (a b d : Span) (tokens : List Span) (e : TokenError) → IsTokenError (length octets) 0 tokens e
-    → IsRecordError octets (a ∷ b ∷ d ∷ tokens) e
-error_three octets a b d tokens OutOfMemory h = tt
-error_three octets a b d tokens OutOfOrder h = λ ordered. h (after_three (length octets) a b d tokens ordered)
-error_three octets a b d tokens TooFew h = absurd h
+pub error_three : (fewest : ℕ) (octets : List ℕ) (a b d : Span) (tokens : List Span) (e : TokenError) → IsTokenError (length octets) 0 tokens e
+    → IsRdataError fewest octets (a ∷ b ∷ d ∷ tokens) e
+error_three fewest octets a b d tokens OutOfMemory h = tt
+error_three fewest octets a b d tokens OutOfOrder h = λ ordered. h (after_three (length octets) a b d tokens ordered)
+error_three fewest octets a b d tokens TooFew h = absurd h
 
 -- the record of an index, and those after it
 module _ (octets : List ℕ) (records : List ZonemdEdit) (i : ℕ) (r d : ZonemdEdit) (lt : i < length records) (is : r ≡ get_or records i d) where
@@ -128,7 +128,10 @@ module _ (octets : List ℕ) (records : List ZonemdEdit) (i : ℕ) (r d : Zonemd
       subst (λ l. HaveTokensInOrder (length octets) (all_changes octets l)) (sym next)
       (ordered_joined (length octets) (zonemd_changes octets r) (all_changes octets (drop (i + 1) records)) p.ordered h)
 
-  pub error_after : (e : TokenError) → IsRecordError octets r.tokens.now e ⊎ IsAnyError octets (drop (i + 1) records) e → IsAnyError octets (drop i records) e
+  pub enough_after : HasZonemdTokens octets r → HaveZonemdTokens octets (drop (i + 1) records) → HaveZonemdTokens octets (drop i records)
+  enough_after own h = subst (HaveZonemdTokens octets) (sym next) (own, h)
+
+  pub error_after : (e : TokenError) → IsRecordError octets r e ⊎ IsAnyError octets (drop (i + 1) records) e → IsAnyError octets (drop i records) e
   error_after e h = subst (λ l. IsAnyError octets l e) (sym next) h
 
 -- after the last record
@@ -145,3 +148,7 @@ pushed_all octets records i first last le spans texts continues found =
       continues = continues;
       ordered = found (subst (λ l. HaveTokensInOrder (length octets) (all_changes octets l)) (sym rest) tt);
     }
+
+pub enough_all : (octets : List ℕ) (records : List ZonemdEdit) (i : ℕ) → length records ≤ i
+    → (HaveZonemdTokens octets (drop i records) → HaveZonemdTokens octets records) → HaveZonemdTokens octets records
+enough_all octets records i le found = found (subst (HaveZonemdTokens octets) (sym (drop_of_length-le records le)) tt)

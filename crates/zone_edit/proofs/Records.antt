@@ -1,8 +1,8 @@
 -- The edits of a record, by what was read of it.
-use Rattle.std.proofs.Common.{ℕ, ◌≡◌, ◌==◌, Bool, true, false, List, [], ◌∷◌, ◌++◌, length, take, refl, sym, ap, subst, ◌∙◌}
+use Rattle.std.proofs.Common.{ℕ, ◌≡◌, ◌≤◌, ◌==◌, Bool, true, false, List, [], ◌∷◌, ◌++◌, length, take, refl, sym, ap, subst, ◌∙◌}
 use Rattle.std.specs.Prelude.{if◌then◌else◌}
 use Rattle.std.specs.Fmt.{decimal}
-use Rattle.std.proofs.lemmas.Bool.{eq-eqb, eqb-true}
+use Rattle.std.proofs.lemmas.Bool.{eq-eqb, eqb-true, true≢false}
 use Rattle.std.proofs.Math.Seq.{take-append_seam}
 use Rattle.dns_codec.specs.Base.{base16, encoded}
 use Rattle.dns_lexer.specs.declared.pieces.Span.{Span}
@@ -13,7 +13,7 @@ use Rattle.zone_edit.specs.declared.zonemd.ZonemdEdit.{ZonemdEdit}
 use Rattle.zone_edit.specs.Changes.{Change, PushesChanges, are_same, change, hex_changes, number_changes}
 use Rattle.zone_edit.specs.Marks.{is_generic}
 use Rattle.zone_edit.specs.Tokens.{Continues, IsTokenError}
-use Rattle.zone_edit.specs.Zonemds.{IsRecordError, field_changes, generic_changes, is_same_zonemd, zonemd_changes, zonemd_octets}
+use Rattle.zone_edit.specs.Zonemds.{HasZonemdTokens, IsRdataError, IsRecordError, fewest_tokens, field_changes, generic_changes, is_same_zonemd, zonemd_changes, zonemd_octets}
 use Rattle.zone_edit.proofs.Changes.{error_first, error_three, error_two, pushes_both, pushes_none}
 
 not_true : (b : Bool) → (b ≡ true → ⊥) → b ≡ false
@@ -91,18 +91,43 @@ module _ {B : Type 0} (octets : List ℕ) (edits new_edits : List (Edit B)) wher
       record_other z b is f
       (chosen_second octets (is_generic octets z.tokens.now) (generic_changes z.tokens.now z.after) (field_changes z.tokens.now z.before z.after) edits new_edits (sym mark ∙ u) p)
 
--- errors of tokens that a record has
-pub generic_error : (octets : List ℕ) (tokens digits : List Span) (mark count : Span) (e : TokenError) → tokens ≡ mark ∷ count ∷ digits → IsTokenError (length octets) 0 digits e
-    → IsRecordError octets tokens e
-generic_error octets tokens digits mark count e is h = subst (λ ts. IsRecordError octets ts e) (sym is) (error_two octets mark count digits e h)
+-- errors of tokens that RDATA has
+pub generic_error : (fewest : ℕ) (octets : List ℕ) (tokens digits : List Span) (mark count : Span) (e : TokenError) → tokens ≡ mark ∷ count ∷ digits
+    → IsTokenError (length octets) 0 digits e → IsRdataError fewest octets tokens e
+generic_error fewest octets tokens digits mark count e is h = subst (λ ts. IsRdataError fewest octets ts e) (sym is) (error_two fewest octets mark count digits e h)
 
-pub serial_error : (octets : List ℕ) (tokens rest : List Span) (serial : Span) (e : TokenError) → tokens ≡ serial ∷ rest → IsTokenError (length octets) 0 (serial ∷ []) e
-    → IsRecordError octets tokens e
-serial_error octets tokens rest serial e is h = subst (λ ts. IsRecordError octets ts e) (sym is) (error_first octets serial rest e h)
+pub serial_error : (fewest : ℕ) (octets : List ℕ) (tokens rest : List Span) (serial : Span) (e : TokenError) → tokens ≡ serial ∷ rest
+    → IsTokenError (length octets) 0 (serial ∷ []) e → IsRdataError fewest octets tokens e
+serial_error fewest octets tokens rest serial e is h = subst (λ ts. IsRdataError fewest octets ts e) (sym is) (error_first fewest octets serial rest e h)
 
-pub digest_error : (octets : List ℕ) (tokens digest : List Span) (serial scheme hash : Span) (e : TokenError) → tokens ≡ serial ∷ scheme ∷ hash ∷ digest
-    → IsTokenError (length octets) 0 digest e → IsRecordError octets tokens e
-digest_error octets tokens digest serial scheme hash e is h = subst (λ ts. IsRecordError octets ts e) (sym is) (error_three octets serial scheme hash digest e h)
+pub digest_error : (fewest : ℕ) (octets : List ℕ) (tokens digest : List Span) (serial scheme hash : Span) (e : TokenError) → tokens ≡ serial ∷ scheme ∷ hash ∷ digest
+    → IsTokenError (length octets) 0 digest e → IsRdataError fewest octets tokens e
+digest_error fewest octets tokens digest serial scheme hash e is h =
+    subst (λ ts. IsRdataError fewest octets ts e) (sym is) (error_three fewest octets serial scheme hash digest e h)
+
+-- a record that doesn't change
+pub enough_same : (octets : List ℕ) (z : ZonemdEdit) (b : Bool) → b ≡ is_same_zonemd z.before z.after → b ≡ true → HasZonemdTokens octets z
+enough_same octets z b is t = λ f. absurd (true≢false (sym t ∙ is ∙ f))
+
+-- the tokens and the errors of one that changes, by its form
+module _ (octets : List ℕ) (z : ZonemdEdit) (b g : Bool) (is : b ≡ is_same_zonemd z.before z.after) (f : b ≡ false) (mark : g ≡ is_generic octets z.tokens.now) where
+  fewest_is : (h : Bool) → g ≡ h → (if h then 3 else 4) ≡ fewest_tokens octets z.tokens.now
+  fewest_is h t = ap (λ a. if a then 3 else 4) (sym t ∙ mark)
+
+  error_of : (h : Bool) (e : TokenError) → g ≡ h → IsRdataError (if h then 3 else 4) octets z.tokens.now e → IsRecordError octets z e
+  error_of h e t p = (sym is ∙ f, subst (λ k. IsRdataError k octets z.tokens.now e) (fewest_is h t) p)
+
+  pub error_generic : (e : TokenError) → g ≡ true → IsRdataError 3 octets z.tokens.now e → IsRecordError octets z e
+  error_generic e t p = error_of true e t p
+
+  pub error_fields : (e : TokenError) → g ≡ false → IsRdataError 4 octets z.tokens.now e → IsRecordError octets z e
+  error_fields e t p = error_of false e t p
+
+  pub enough_generic : g ≡ true → 3 ≤ length z.tokens.now → HasZonemdTokens octets z
+  enough_generic t le = λ _. subst (λ k. k ≤ length z.tokens.now) (fewest_is true t) le
+
+  pub enough_fields : g ≡ false → 4 ≤ length z.tokens.now → HasZonemdTokens octets z
+  enough_fields t le = λ _. subst (λ k. k ≤ length z.tokens.now) (fewest_is false t) le
 
 -- edits that were pushed are dropped
 pub dropped : {B : Type 0} (old new : List (Edit B)) (n : ℕ) → Continues old new → n ≡ length old → take n new ≡ old

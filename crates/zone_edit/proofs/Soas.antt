@@ -1,7 +1,6 @@
 -- SOAs, one after another.
 use Rattle.std.proofs.Common.{◌≡◌, ◌<◌, ℕ, ◌+◌, Some, None, List, ◌∷◌, length, drop, get_or, sym, ap, ◌∙◌}
 use Rattle.std.specs.Fmt.{decimal}
-use Rattle.dns_lexer.specs.declared.pieces.Span.{Span}
 use Rattle.zone_edit.specs.declared.serial.SoaEdit.{SoaEdit}
 use Rattle.zone_edit.specs.declared.serial.SoaError.{SoaError}
 use Rattle.zone_edit.specs.declared.serial.SoaError.TheVariants.{Differing, Generated, GenericForm, Included, NoSoa, NotDecimal, OutOfMemory}

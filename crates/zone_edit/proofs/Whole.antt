@@ -1,5 +1,5 @@
 -- A text that is edited as one chunk.
-use Rattle.std.proofs.Common.{ℕ, ◌≡◌, ◌<◌, ◌+◌, ◌-◌, ◌^◌, List, [], ◌++◌, length, take, ap, subst, ◌∙◌, append-nil, arith}
+use Rattle.std.proofs.Common.{ℕ, ◌≡◌, ◌<◌, ◌^◌, List, [], ◌++◌, length, take, ap, subst, ◌∙◌, append-nil, arith}
 use Rattle.std.proofs.Math.Seq.{take-append_seam}
 use Rattle.dns_octets.specs.Appending.{Extends}
 use Rattle.zone_edit.specs.declared.edit.Edit.{Edit}

@@ -6,13 +6,14 @@ use Rattle.dns_lexer.specs.declared.pieces.Span.{Span}
 use Rattle.zone_edit.specs.declared.place.RecordPlace.{RecordPlace}
 use Rattle.zone_edit.specs.declared.serial.SerialSpelling.TheVariants.{Decimal, Escaped, Generic}
 use Rattle.zone_edit.specs.declared.serial.SoaError.TheVariants.{Generated, Included, NoSoa}
-use Rattle.zone_edit.specs.Changes.{change, change_spans, change_texts, hex_changes, number_changes}
+use Rattle.zone_edit.specs.Changes.{change_spans, change_texts, hex_changes, number_changes}
 use Rattle.zone_edit.specs.Lines.{line_after}
 use Rattle.zone_edit.specs.Marks.{is_generic}
 use Rattle.zone_edit.specs.Places.{soa_place}
 use Rattle.zone_edit.specs.Serials.{serial_token, spelled_token}
 use Rattle.zone_edit.specs.Stale.{is_of_signed_zone, signs_soa}
 use Rattle.zone_edit.specs.Tokens.{span_between}
+use Rattle.zone_edit.specs.Zonemds.{fewest_tokens}
 
 -- ---- the RDATA of an SOA: its serial in digits, with an escape, in quotes; and the generic form (RFC 3597 section 5)
 abbrev soa_spans : List Span
@@ -28,6 +29,10 @@ two_tokens = refl
 
 marks : map (λ text. is_generic text soa_spans) (codes "\\# 1 00" ∷ codes "\"# 1 00" ∷ codes "\\#" ∷ codes "ns h 17" ∷ []) ≡ true ∷ false ∷ true ∷ false ∷ []
 marks = refl
+
+-- the fewest tokens of ZONEMD RDATA, in the generic form and else
+fewest : map (λ text. fewest_tokens text soa_spans) (codes "\\# 1 00" ∷ codes "17 1 1 AB" ∷ []) ≡ 3 ∷ 4 ∷ []
+fewest = refl
 
 -- ---- a digest of three tokens: the first is replaced, the others go with the blanks before them; the comment stays
 abbrev digest_spans : List Span

@@ -1,5 +1,5 @@
 -- Edits of ZONEMD RDATA.
-use Rattle.std.specs.Prelude.{⊤, ◌≡◌, ◌<◌, ◌⊎◌, ℕ, Bool, ◌==◌, ◌&&◌, if◌then◌else◌, List, [], ◌∷◌, ◌++◌, length}
+use Rattle.std.specs.Prelude.{⊤, ◌≡◌, ◌<◌, ◌≤◌, ◌⊎◌, ℕ, Bool, false, ◌==◌, ◌&&◌, if◌then◌else◌, List, [], ◌∷◌, ◌++◌, length}
 use Rattle.std.specs.Int.{to_be_bytes, w32}
 use Rattle.dns_codec.specs.Base.{base16, encoded}
 use Rattle.dns_lexer.specs.declared.pieces.Span.{Span}
@@ -43,13 +43,30 @@ abbrev pub all_changes : List ℕ → List ZonemdEdit → List Change
 all_changes octets [] = []
 all_changes octets (r ∷ records) = zonemd_changes octets r ++ all_changes octets records
 
--- why the tokens of a record can't be replaced
-abbrev pub IsRecordError : List ℕ → List Span → TokenError → Type 0
-IsRecordError octets tokens TooFew = length tokens < 3
-IsRecordError octets tokens OutOfOrder = AreAfterTokens (length octets) 0 tokens → ⊥
-IsRecordError octets tokens OutOfMemory = ⊤
+-- the fewest tokens that RDATA has: the mark, the length and the octets in the generic form, else the serial, the scheme, the hash algorithm and the digest
+abbrev pub fewest_tokens : List ℕ → List Span → ℕ
+fewest_tokens octets tokens = if is_generic octets tokens then 3 else 4
+
+-- a record that changes has these tokens
+abbrev pub HasZonemdTokens : List ℕ → ZonemdEdit → Type 0
+HasZonemdTokens octets r = is_same_zonemd r.before r.after ≡ false → fewest_tokens octets r.tokens.now ≤ length r.tokens.now
+
+-- and so has each of the records
+abbrev pub HaveZonemdTokens : List ℕ → List ZonemdEdit → Type 0
+HaveZonemdTokens octets [] = ⊤
+HaveZonemdTokens octets (r ∷ records) = HasZonemdTokens octets r × HaveZonemdTokens octets records
+
+-- why the tokens of RDATA can't be replaced, if it has this many tokens at least
+abbrev pub IsRdataError : ℕ → List ℕ → List Span → TokenError → Type 0
+IsRdataError fewest octets tokens TooFew = length tokens < fewest
+IsRdataError fewest octets tokens OutOfOrder = AreAfterTokens (length octets) 0 tokens → ⊥
+IsRdataError fewest octets tokens OutOfMemory = ⊤
+
+-- why the tokens of a record can't be replaced: it changes, and the fewest depend on its form
+abbrev pub IsRecordError : List ℕ → ZonemdEdit → TokenError → Type 0
+IsRecordError octets r e = (is_same_zonemd r.before r.after ≡ false) × IsRdataError (fewest_tokens octets r.tokens.now) octets r.tokens.now e
 
 -- why the tokens of one of the records can't be replaced
 abbrev pub IsAnyError : List ℕ → List ZonemdEdit → TokenError → Type 0
 IsAnyError octets [] e = ⊥
-IsAnyError octets (r ∷ records) e = IsRecordError octets r.tokens.now e ⊎ IsAnyError octets records e
+IsAnyError octets (r ∷ records) e = IsRecordError octets r e ⊎ IsAnyError octets records e

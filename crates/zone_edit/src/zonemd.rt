@@ -1,8 +1,8 @@
 //! Edits of ZONEMD RDATA: the tokens of the fields that change are replaced.
-ghost use Rattle.std.specs.Prelude.{◌≡◌, ◌∷◌, ◌++◌, [], IfErr, IfOk, OnErr, OnOk};
+ghost use Rattle.std.specs.Prelude.{◌≡◌, ◌≤◌, ◌∷◌, ◌++◌, [], IfErr, IfOk, OnErr, OnOk, length};
 ghost use Rattle.zone_edit.specs.Changes.{PushesChanges};
 ghost use Rattle.zone_edit.specs.Tokens.{Continues};
-ghost use Rattle.zone_edit.specs.Zonemds.{IsRecordError, IsAnyError, all_changes, field_changes, generic_changes, is_same_zonemd, zonemd_changes, zonemd_octets};
+ghost use Rattle.zone_edit.specs.Zonemds.{HasZonemdTokens, HaveZonemdTokens, IsRdataError, IsRecordError, IsAnyError, all_changes, field_changes, generic_changes, is_same_zonemd, zonemd_changes, zonemd_octets};
 
 use crate::change::{are_same, push_hex, push_hex_change, push_number_change};
 use crate::edit::Edit;
@@ -53,16 +53,17 @@ fn push_generic<B: Allocator + Copy>(
 ) -> Result<(), TokenError>
     ensures ok { OnOk result (PushesChanges octets.now
         (generic_changes tokens.now new.now) edits.old.items edits.new.items) }
-    ensures err { IfErr result (IsRecordError octets.now tokens.now) }
+    ensures enough { OnOk result (3 ≤ length tokens.now) }
+    ensures err { IfErr result (IsRdataError 3 octets.now tokens.now) }
     ensures unchanged { OnErr result (edits.new.items ≡ edits.old.items) }
 {
     match tokens {
+        [] | [_] | [_, _] => Err(TokenError::TooFew),
         [_, _, digits @ ..] => {
             let data = zonemd_octets(alloc, new)?;
             push_hex(alloc, octets, digits, data.as_slice(), edits)?;
             Ok(())
         }
-        _ => Err(TokenError::TooFew),
     }
 }
 
@@ -79,21 +80,22 @@ fn push_fields<B: Allocator + Copy>(
 ) -> Result<(), TokenError>
     ensures ok { OnOk result (PushesChanges octets.now
         (field_changes tokens.now old.now new.now) edits.old.items edits.new.items) }
-    ensures err { IfErr result (IsRecordError octets.now tokens.now) }
+    ensures enough { OnOk result (4 ≤ length tokens.now) }
+    ensures err { IfErr result (IsRdataError 4 octets.now tokens.now) }
     ensures continues { OnErr result (Continues edits.old.items edits.new.items) }
 {
     match tokens {
+        [] | [_] | [_, _] | [_, _, _] => Err(TokenError::TooFew),
         [serial, _, _, digest @ ..] => {
             push_number_change(alloc, octets, *serial, old.serial, new.serial, edits)?;
             push_hex_change(alloc, octets, digest, old.digest, new.digest, edits)?;
             Ok(())
         }
-        _ => Err(TokenError::TooFew),
     }
 }
 
 /// Pushes the edits of a record. The first of them may be pushed before an error.
-#[tactic(auto, using(crate::proofs::Records::record_same, crate::proofs::Records::record_generic, crate::proofs::Records::record_fields, crate::proofs::Pushing::continues_same))]
+#[tactic(auto, using(crate::proofs::Records::record_same, crate::proofs::Records::record_generic, crate::proofs::Records::record_fields, crate::proofs::Records::enough_same, crate::proofs::Records::enough_generic, crate::proofs::Records::enough_fields, crate::proofs::Records::error_generic, crate::proofs::Records::error_fields, crate::proofs::Pushing::continues_same))]
 fn push_record<B: Allocator + Copy>(
     alloc: B,
     octets: &[u8],
@@ -102,7 +104,8 @@ fn push_record<B: Allocator + Copy>(
 ) -> Result<(), TokenError>
     ensures ok { OnOk result (PushesChanges octets.now
         (zonemd_changes octets.now one.now) edits.old.items edits.new.items) }
-    ensures err { IfErr result (IsRecordError octets.now one.now.tokens.now) }
+    ensures enough { OnOk result (HasZonemdTokens octets.now one.now) }
+    ensures err { IfErr result (IsRecordError octets.now one.now) }
     ensures continues { OnErr result (Continues edits.old.items edits.new.items) }
 {
     if is_same_zonemd(&one.before, &one.after) {
@@ -118,7 +121,7 @@ fn push_record<B: Allocator + Copy>(
 }
 
 /// Pushes the edits of records. The first of them may be pushed before an error.
-#[tactic(auto, using(crate::proofs::Changes::pushed_all))]
+#[tactic(auto, using(crate::proofs::Changes::pushed_all, crate::proofs::Changes::enough_all))]
 fn push_records<B: Allocator + Copy>(
     alloc: B,
     octets: &[u8],
@@ -127,6 +130,7 @@ fn push_records<B: Allocator + Copy>(
 ) -> Result<(), TokenError>
     ensures ok { OnOk result (PushesChanges octets.now
         (all_changes octets.now records.now) edits.old.items edits.new.items) }
+    ensures enough { OnOk result (HaveZonemdTokens octets.now records.now) }
     ensures err { IfErr result (IsAnyError octets.now records.now) }
     ensures continues { OnErr result (Continues edits.old.items edits.new.items) }
 {
@@ -145,9 +149,10 @@ fn push_records<B: Allocator + Copy>(
 /// replaced by one with all octets. The scheme, the hash algorithm and the length stay, and so do
 /// comments and parentheses between the tokens.
 ///
-/// Fails with `TooFew` if a record that changes has fewer tokens than fields, with `OutOfOrder` if a
-/// token of it begins before the one before it ends, or ends after the file, and with `OutOfMemory`
-/// if an allocation fails. After an error `edits` is unchanged.
+/// Fails with `TooFew` if a record that changes has fewer tokens than fields: four (serial, scheme,
+/// hash algorithm, digest), or three in the generic form (mark, length, octets). Fails with
+/// `OutOfOrder` if a token of it begins before the one before it ends, or ends after the file, and
+/// with `OutOfMemory` if an allocation fails. After an error `edits` is unchanged.
 #[tactic(auto, using(crate::proofs::Records::dropped))]
 pub fn push_zonemd_edits<B: Allocator + Copy>(
     alloc: B,
@@ -157,6 +162,7 @@ pub fn push_zonemd_edits<B: Allocator + Copy>(
 ) -> Result<(), TokenError>
     ensures ok { OnOk result (PushesChanges octets.now
         (all_changes octets.now records.now) edits.old.items edits.new.items) }
+    ensures enough { OnOk result (HaveZonemdTokens octets.now records.now) }
     ensures err { IfErr result (IsAnyError octets.now records.now) }
     ensures unchanged { OnErr result (edits.new.items ≡ edits.old.items) }
 {

@@ -1,4 +1,4 @@
-use Rattle.std.proofs.Common.{suc, ◌+◌, subst, arith}
+use Rattle.std.proofs.Common.{suc, subst, arith}
 use Rattle.zone_edit.specs.Edits.{IsAfter, IsFirstOutOfOrder}
 use Rattle.zone_edit.proofs.Opening.{ordered_next, rest_of, wrong_here, wrong_next}
 use Rattle.zone_edit.proofs.edit.check_order.Goals as goal

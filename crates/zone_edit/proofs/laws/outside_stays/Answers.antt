@@ -1,4 +1,4 @@
-use Rattle.std.proofs.Common.{ℕ, ◌≡◌, ◌+◌, length, subst, arith}
+use Rattle.std.proofs.Common.{◌≡◌, ◌+◌, length, subst, arith}
 use Rattle.zone_edit.specs.Edits.{EndWithin}
 use Rattle.zone_edit.proofs.Outside.{outside_same}
 use Rattle.zone_edit.proofs.laws.outside_stays.Goals as goal

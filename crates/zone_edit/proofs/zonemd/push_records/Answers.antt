@@ -3,7 +3,7 @@ use Rattle.zone_set.specs.declared.zonemd.Zonemd.{Zonemd}
 use Rattle.zone_edit.specs.declared.zonemd.ZonemdEdit.{ZonemdEdit}
 use Rattle.zone_edit.specs.Tokens.{Continues}
 use Rattle.zone_edit.proofs.Applying.{when_err}
-use Rattle.zone_edit.proofs.Changes.{error_after, ordered_after, spans_after, texts_after}
+use Rattle.zone_edit.proofs.Changes.{enough_after, error_after, ordered_after, spans_after, texts_after}
 use Rattle.zone_edit.proofs.Pushing.{continues_both}
 use Rattle.zone_edit.proofs.zonemd.push_records.Goals as goal
 
@@ -29,6 +29,7 @@ loop-one-preserved g c =
       texts = texts_after octets records i r no_edit lt refl first old new p c.loop-one.invariant.texts;
       continues = continues_both first old new c.loop-one.invariant.continues p.continues;
       ordered = λ h. c.loop-one.invariant.ordered (ordered_after octets records i r no_edit lt refl old new p h);
+      enough = λ h. c.loop-one.invariant.enough (enough_after octets records i r no_edit lt refl c.in_ok-push_record.ensures.enough h);
       error = λ e h. c.loop-one.invariant.error e (error_after octets records i r no_edit lt refl e (inr h));
     }
 
