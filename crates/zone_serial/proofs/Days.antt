@@ -1,5 +1,5 @@
 -- Years of seconds of 32 bits.
-use Rattle.std.proofs.Common.{◌≡◌, ℕ, ◌+◌, ◌-◌, ◌*◌, ◌<◌, ◌≤◌, ◌^◌, arith}
+use Rattle.std.proofs.Common.{◌≡◌, ℕ, ◌-◌, ◌<◌, ◌≤◌, ◌^◌, arith}
 use Rattle.rdata_values.proofs.Calendar.{days_of_years_ge}
 use Rattle.rdata_values.specs.Time.{IsDate, seconds_at}
 use Rattle.rdata_values.specs.declared.time.Date.{Date}

@@ -1,5 +1,5 @@
 -- Distances of serials.
-use Rattle.std.proofs.Common.{◌≡◌, ℕ, ◌+◌, ◌-◌, ◌<◌, ◌%◌, ◌^◌, refl, arith}
+use Rattle.std.proofs.Common.{◌≡◌, ℕ, ◌+◌, ◌-◌, ◌<◌, ◌%◌, ◌^◌, arith}
 use Rattle.zone_serial.specs.SerialArithmetic.{IsSerialAfter}
 
 -- the sum of a serial and its distance to another is the other

@@ -2,8 +2,7 @@
 use Rattle.std.proofs.Common.{◌≡◌, ℕ, ◌+◌, ◌-◌, ◌<◌, ◌≤◌, ◌%◌, ◌^◌, ◌⊎◌, inl, inr, refl, arith}
 use Rattle.std.proofs.lemmas.Bool.{cases_lt, cases_order}
 use Rattle.zone_serial.specs.SerialArithmetic.{IsLessByDistance, IsSerialAfter, serial_sum}
-use Rattle.zone_serial.specs.SerialLaws.{NeverBothGreater, SumsMatchDistances, ThreeStepsReach, farthest_from}
-use Rattle.zone_serial.proofs.Distances.{after_by}
+use Rattle.zone_serial.specs.SerialLaws.{SumsMatchDistances, ThreeStepsReach, farthest_from}
 
 -- a sum that stays below 2^32 is greater, and one that doesn't is less by the rest
 less_by_sum : (old new n : ℕ) → old < 2 ^ 32 → 0 < n → n < 2 ^ 31 → new ≡ (old + n) % 2 ^ 32 → (old + n < 2 ^ 32) ⊎ (2 ^ 32 ≤ old + n) → IsLessByDistance 32 old new

@@ -1,9 +1,8 @@
 -- Worked examples of the definitions.
-use Rattle.std.specs.Prelude.{◌≡◌, ℕ, ◌-◌, ◌^◌, true, false, Result, Ok, Err, List, [], ◌∷◌, map, refl}
+use Rattle.std.specs.Prelude.{◌≡◌, true, false, [], ◌∷◌, map, refl}
 use Rattle.std.proofs.Common.{arith, inl, inr}
-use Rattle.rdata_values.specs.Time.{IsDate, date_at, year_at, month_at, holding}
-use Rattle.rdata_values.specs.declared.time.Date.{Date}
-use Rattle.zone_serial.specs.NextSerials.{IsDatedUpTo, day_of, day_serial, incremented, increments, next_is}
+use Rattle.rdata_values.specs.Time.{date_at, year_at, month_at, holding}
+use Rattle.zone_serial.specs.NextSerials.{IsDatedUpTo, day_of, day_serial, incremented, increments}
 use Rattle.zone_serial.specs.SerialArithmetic.{IsLessByDistance, IsSerialAfter, serial_sum}
 use Rattle.zone_serial.specs.SerialLaws.{farthest_from}
 
