@@ -1,14 +1,14 @@
 -- Octets of records are read back as the records.
-use Rattle.std.proofs.Common.{ℕ, zero, suc, ◌≡◌, ◌^◌, ◌<◌, ◌≤◌, List, [], ◌∷◌, ◌++◌, length, take, drop, refl, ap, ◌∙◌, arith, append_assoc, length-drop}
-use Rattle.std.specs.Prelude.{All, Bool, true, false, if◌then◌else◌, nat_lt, ◌||◌}
-use Rattle.std.specs.Int.{from_be_bytes, to_be_bytes, w16}
+use Rattle.std.proofs.Common.{ℕ, zero, suc, ◌≡◌, ◌^◌, ◌<◌, ◌≤◌, List, [], ◌∷◌, ◌++◌, length, take, drop, refl, sym, ap, ◌∙◌, arith, append_assoc, length-drop, subst, get_or, ◌+◌, ◌*◌, ◌/◌, ◌%◌}
+use Rattle.std.specs.Prelude.{All, Bool, true, false, if◌then◌else◌, nat_lt, ◌==◌, ◌||◌}
+use Rattle.std.specs.Int.{from_be_bytes, to_be_bytes, w16, w32}
 use Rattle.std.specs.List.{flat_map}
 use Rattle.std.proofs.lemmas.Bool.Decides.{nat_tests}
 use Rattle.std.proofs.lemmas.List.{take_at, drop_at}
 use Rattle.std.proofs.lemmas.List.Elements.{All-head, All-tail}
 use Rattle.std.proofs.lemmas.Nat.{from_be_bytes-to_be_bytes_2, from_be_bytes-to_be_bytes_4, from_be_bytes-to_be_bytes_8}
 use Rattle.zone_set.specs.Counted.{counted_octets, first_counted, after_counted}
-use Rattle.zone_set.specs.Parts.{RecordParts, PartsFit, parts_octets, is_short, short_octets, long_octets, octets16, octets32, octets64, begins_short, begins_long, first_short, first_whole, begins_parts, first_parts, after_parts, all_parts, parts_in}
+use Rattle.zone_set.specs.Parts.{RecordParts, PartsFit, parts_octets, numbers_octets, is_short, short_octets, long_octets, octets16, octets32, octets64, usual_ttls, index_of, is_usual, usual_octets, other_octets, begins_usual, first_usual, begins_other, first_other, after_other, begins_short, begins_long, first_short, first_whole, begins_parts, first_parts, after_parts, all_parts, parts_in}
 
 -- octets after their length are read back
 counted_by : (part more : List ℕ) → length part < 2 ^ 16 → (b : Bool) → nat_lt (length part) 255 ≡ b
@@ -74,17 +74,17 @@ long_after : (r : RecordParts) (more : List ℕ) → PartsFit r → after_counte
 unfolding octets16 octets32 octets64
 long_after r more h = counted_after r.rdata more h.rdata
 
-begin_by : (b : Bool) (r : RecordParts) (more : List ℕ) → begins_parts (octets_by b r ++ more) ≡ true
+begin_by : (b : Bool) (r : RecordParts) (more : List ℕ) → begins_other (octets_by b r ++ more) ≡ true
 begin_by true r more = ap (λ a. a || begins_long (octets_by true r ++ more)) (short_begins r more)
 begin_by false r more = (λ i. not_short r more i || long_begins r more i)
 
-first_by : (b : Bool) (r : RecordParts) (more : List ℕ) → PartsFit r → is_short r ≡ b → first_parts (octets_by b r ++ more) ≡ r
+first_by : (b : Bool) (r : RecordParts) (more : List ℕ) → PartsFit r → is_short r ≡ b → first_other (octets_by b r ++ more) ≡ r
 first_by true r more h e =
     ap (λ a. if a then first_short (octets_by true r ++ more) else first_whole (octets_by true r ++ more)) (short_begins r more) ∙ short_first r more h e
 first_by false r more h e =
     ap (λ a. if a then first_short (octets_by false r ++ more) else first_whole (octets_by false r ++ more)) (not_short r more) ∙ long_first r more h
 
-after_by : (b : Bool) (r : RecordParts) (more : List ℕ) → PartsFit r → after_parts (octets_by b r ++ more) ≡ more
+after_by : (b : Bool) (r : RecordParts) (more : List ℕ) → PartsFit r → after_other (octets_by b r ++ more) ≡ more
 after_by true r more h =
     ap (λ a. if a then after_counted (drop 11 (octets_by true r ++ more)) else after_counted (drop 21 (octets_by true r ++ more))) (short_begins r more) ∙ short_after r more h
 after_by false r more h =
@@ -95,21 +95,97 @@ unfolding octets16 octets32 octets64
 long_by true r = omega arith
 long_by false r = omega arith
 
+-- a usual record
+abbrev usual_by : RecordParts → List ℕ
+usual_by r = usual_octets r ++ counted_octets r.rdata
+
+-- a TTL whose index is that of one of the list is the one at that index
+indexed : (n : ℕ) (xs : List ℕ) → index_of n xs < length xs → get_or xs (index_of n xs) 0 ≡ n
+indexed n [] h = absurd (omega (arith, h))
+indexed n (x ∷ xs) h = by (n == x) refl (indexed n xs)
+  where
+    by : (b : Bool) → (n == x) ≡ b → (index_of n xs < length xs → get_or xs (index_of n xs) 0 ≡ n) → get_or (x ∷ xs) (if n == x then 0 else suc (index_of n xs)) 0 ≡ n
+    by true e more = rw e (Prim.grind (arith, nat_tests))
+    by false e more = rw e (more (omega (arith, subst (λ (c : Bool). (if c then 0 else suc (index_of n xs)) < suc (length xs)) e h)))
+
+usual_facts : (r : RecordParts) → is_usual r ≡ true → (r.code < 253) × (index_of r.ttl usual_ttls < 16) × (r.offset < 2 ^ 36) × (0 ≡ r.file) × (1 ≡ r.class)
+usual_facts r e = (Prim.grind (arith, nat_tests), Prim.grind (arith, nat_tests), Prim.grind (arith, nat_tests), Prim.grind (arith, nat_tests), Prim.grind (arith, nat_tests))
+
+usual_begins : (r : RecordParts) (more : List ℕ) → r.code < 253 → begins_usual (usual_by r ++ more) ≡ true
+unfolding octets32
+usual_begins r more h = Prim.grind (arith, nat_tests)
+
+other_not_usual : (b : Bool) (r : RecordParts) (more : List ℕ) → begins_usual (octets_by b r ++ more) ≡ false
+unfolding octets16 octets32 octets64
+other_not_usual true r more = Prim.grind (arith, nat_tests)
+other_not_usual false r more = Prim.grind (arith, nat_tests)
+
+usual_first : (r : RecordParts) (more : List ℕ) → PartsFit r → is_usual r ≡ true → first_usual (usual_by r ++ more) ≡ r
+unfolding octets32
+usual_first r more h e =
+    let facts : (r.code < 253) × (index_of r.ttl usual_ttls < 16) × (r.offset < 2 ^ 36) × (0 ≡ r.file) × (1 ≡ r.class) = usual_facts r e in
+    let index : ℕ = index_of r.ttl usual_ttls in
+    let low : (index + 16 * (r.offset / 2 ^ 32)) % 16 ≡ index = omega (arith, facts.1) in
+    let high : (index + 16 * (r.offset / 2 ^ 32)) / 16 ≡ r.offset / 2 ^ 32 = omega (arith, facts.1) in
+    let less : r.offset % 2 ^ 32 < 2 ^ 32 = omega arith in
+    let whole : r.offset / 2 ^ 32 * 2 ^ 32 + r.offset % 2 ^ 32 ≡ r.offset = omega arith in
+    let lower : from_be_bytes w32 (to_be_bytes w32 (r.offset % 2 ^ 32)) ≡ r.offset % 2 ^ 32 = from_be_bytes-to_be_bytes_4 (r.offset % 2 ^ 32) less in
+    λ i. record {
+      code = r.code;
+      class = facts.4 i;
+      ttl = (ap (λ n. get_or usual_ttls n 0) low ∙ indexed r.ttl usual_ttls facts.1) i;
+      file = facts.3 i;
+      offset = ((λ j. high j * 2 ^ 32 + lower j) ∙ whole) i;
+      rdata = counted_first r.rdata more h.rdata i;
+    }
+
+usual_after : (r : RecordParts) (more : List ℕ) → PartsFit r → after_counted (drop 6 (usual_by r ++ more)) ≡ more
+unfolding octets32
+usual_after r more h = counted_after r.rdata more h.rdata
+
+usual_long : (r : RecordParts) → 1 ≤ length (usual_by r)
+unfolding octets32
+usual_long r = omega arith
+
+-- any record
+abbrev any_by : Bool → RecordParts → List ℕ
+any_by b r = (if b then usual_octets r else other_octets r) ++ counted_octets r.rdata
+
+any_begins : (b : Bool) (r : RecordParts) (more : List ℕ) → is_usual r ≡ b → begins_parts (any_by b r ++ more) ≡ true
+any_begins true r more e = ap (λ a. a || begins_other (usual_by r ++ more)) (usual_begins r more (usual_facts r e).0)
+any_begins false r more e = (λ i. other_not_usual (is_short r) r more i || begin_by (is_short r) r more i)
+
+any_first : (b : Bool) (r : RecordParts) (more : List ℕ) → PartsFit r → is_usual r ≡ b → first_parts (any_by b r ++ more) ≡ r
+any_first true r more h e =
+    ap (λ a. if a then first_usual (usual_by r ++ more) else first_other (usual_by r ++ more)) (usual_begins r more (usual_facts r e).0) ∙ usual_first r more h e
+any_first false r more h e =
+    ap (λ a. if a then first_usual (any_by false r ++ more) else first_other (any_by false r ++ more)) (other_not_usual (is_short r) r more) ∙ first_by (is_short r) r more h refl
+
+any_after : (b : Bool) (r : RecordParts) (more : List ℕ) → PartsFit r → is_usual r ≡ b → after_parts (any_by b r ++ more) ≡ more
+any_after true r more h e =
+    ap (λ a. if a then after_counted (drop 6 (usual_by r ++ more)) else after_other (usual_by r ++ more)) (usual_begins r more (usual_facts r e).0) ∙ usual_after r more h
+any_after false r more h e =
+    ap (λ a. if a then after_counted (drop 6 (any_by false r ++ more)) else after_other (any_by false r ++ more)) (other_not_usual (is_short r) r more) ∙ after_by (is_short r) r more h
+
+any_long : (b : Bool) (r : RecordParts) → 1 ≤ length (any_by b r)
+any_long true r = usual_long r
+any_long false r = long_by (is_short r) r
+
 pub parts_begin : (r : RecordParts) (more : List ℕ) → begins_parts (parts_octets r ++ more) ≡ true
-unfolding parts_octets
-parts_begin r more = begin_by (is_short r) r more
+unfolding parts_octets numbers_octets
+parts_begin r more = any_begins (is_usual r) r more refl
 
 pub parts_first : (r : RecordParts) (more : List ℕ) → PartsFit r → first_parts (parts_octets r ++ more) ≡ r
-unfolding parts_octets
-parts_first r more h = first_by (is_short r) r more h refl
+unfolding parts_octets numbers_octets
+parts_first r more h = any_first (is_usual r) r more h refl
 
 pub parts_after : (r : RecordParts) (more : List ℕ) → PartsFit r → after_parts (parts_octets r ++ more) ≡ more
-unfolding parts_octets
-parts_after r more h = after_by (is_short r) r more h
+unfolding parts_octets numbers_octets
+parts_after r more h = any_after (is_usual r) r more h refl
 
 pub parts_long : (r : RecordParts) → 1 ≤ length (parts_octets r)
-unfolding parts_octets
-parts_long r = long_by (is_short r) r
+unfolding parts_octets numbers_octets
+parts_long r = any_long (is_usual r) r
 
 -- records one after another, up to what begins with none
 pub parts_all : (n : ℕ) (rs : List RecordParts) (rest : List ℕ) → All PartsFit rs → begins_parts rest ≡ false → length rs ≤ n → all_parts n (flat_map parts_octets rs ++ rest) ≡ rs
@@ -130,18 +206,28 @@ after_short (count ∷ rest) = by (nat_lt count 255)
     by true = omega (arith, length-drop count rest)
     by false = omega (arith, length-drop (from_be_bytes w16 (take 2 rest)) (drop 2 rest), length-drop 2 rest)
 
-whole_less : (octets : List ℕ) → begins_short octets ≡ false → begins_parts octets ≡ true → 20 < length octets
+whole_less : (octets : List ℕ) → begins_short octets ≡ false → begins_other octets ≡ true → 20 < length octets
 whole_less octets e h = Prim.grind (arith, nat_tests)
 
 short_less : (octets : List ℕ) → begins_short octets ≡ true → 10 < length octets
 short_less octets e = Prim.grind (arith, nat_tests)
 
-after_less : (octets : List ℕ) → begins_parts octets ≡ true → length (after_parts octets) < length octets
-after_less octets h = by (begins_short octets) refl
+usual_less : (octets : List ℕ) → begins_usual octets ≡ true → 5 < length octets
+usual_less octets e = Prim.grind (arith, nat_tests)
+
+other_less : (octets : List ℕ) → begins_other octets ≡ true → length (after_other octets) < length octets
+other_less octets h = by (begins_short octets) refl
   where
     by : (b : Bool) → begins_short octets ≡ b → length (if b then after_counted (drop 11 octets) else after_counted (drop 21 octets)) < length octets
     by true e = omega (arith, short_less octets e, after_short (drop 11 octets), length-drop 11 octets)
     by false e = omega (arith, whole_less octets e h, after_short (drop 21 octets), length-drop 21 octets)
+
+after_less : (octets : List ℕ) → begins_parts octets ≡ true → length (after_parts octets) < length octets
+after_less octets h = by (begins_usual octets) refl
+  where
+    by : (b : Bool) → begins_usual octets ≡ b → length (if b then after_counted (drop 6 octets) else after_other octets) < length octets
+    by true e = omega (arith, usual_less octets e, after_short (drop 6 octets), length-drop 6 octets)
+    by false e = other_less octets (sym (ap (λ a. a || begins_other octets) e) ∙ h)
 
 no_octets : begins_parts [] ≡ false
 no_octets = refl

@@ -1,5 +1,5 @@
 -- A record of a group as octets: its type, class, TTL, file and offset, then its RDATA.
-use Rattle.std.specs.Prelude.{◌<◌, ◌^◌, ℕ, ◌==◌, ◌&&◌, ◌||◌, nat_lt, Bool, if◌then◌else◌, zero, suc, List, [], ◌∷◌, ◌++◌, length, take, drop, get_or}
+use Rattle.std.specs.Prelude.{◌<◌, ◌+◌, ◌*◌, ◌/◌, ◌%◌, ◌^◌, ℕ, ◌==◌, ◌&&◌, ◌||◌, nat_lt, Bool, if◌then◌else◌, zero, suc, List, [], ◌∷◌, ◌++◌, length, take, drop, get_or}
 use Rattle.std.specs.Int.{from_be_bytes, to_be_bytes, w16, w32, w64}
 use Rattle.rdata_values.specs.Classes.{internet}
 use Rattle.zone_set.specs.Counted.{counted_octets, first_counted, after_counted}
@@ -37,6 +37,23 @@ octets32 n = to_be_bytes w32 n
 unfoldable pub octets64 : ℕ → List ℕ
 octets64 n = to_be_bytes w64 n
 
+-- the TTLs that records mostly have, in seconds
+abbrev pub usual_ttls : List ℕ
+usual_ttls = 0 ∷ 60 ∷ 300 ∷ 600 ∷ 900 ∷ 1800 ∷ 3600 ∷ 7200 ∷ 10800 ∷ 14400 ∷ 21600 ∷ 28800 ∷ 43200 ∷ 86400 ∷ 172800 ∷ 604800 ∷ []
+
+-- the number of elements before a number, or of all if it is not among them
+abbrev pub index_of : ℕ → List ℕ → ℕ
+index_of n [] = 0
+index_of n (x ∷ xs) = if n == x then 0 else suc (index_of n xs)
+
+-- a record of the first file and of class IN, with a usual TTL, a type below 253 and an offset below 2^36
+abbrev pub is_usual : RecordParts → Bool
+is_usual r = (nat_lt r.code 253 && nat_lt (index_of r.ttl usual_ttls) 16) && (nat_lt r.offset 68719476736 && (r.file == 0 && (r.class == internet)))
+
+-- the type; the index of the TTL, plus 16 times the first of five octets of the offset; then the other four
+abbrev pub usual_octets : RecordParts → List ℕ
+usual_octets r = r.code ∷ (index_of r.ttl usual_ttls + 16 * (r.offset / 2 ^ 32)) ∷ octets32 (r.offset % 2 ^ 32)
+
 -- the class is IN, and the type, the file and the offset are small
 abbrev pub is_short : RecordParts → Bool
 is_short r = (nat_lt r.code 256 && nat_lt r.file 256) && (nat_lt r.offset 4294967296 && (r.class == internet))
@@ -56,25 +73,48 @@ position_octets r = octets32 r.file ++ octets64 r.offset
 abbrev pub long_octets : RecordParts → List ℕ
 long_octets r = header_octets r ++ position_octets r
 
--- the numbers in the fewer octets if they fit
-abbrev pub numbers_octets : RecordParts → List ℕ
-numbers_octets r = if is_short r then short_octets r else long_octets r
+-- the numbers of a record that is not usual, in the fewer octets if they fit
+abbrev pub other_octets : RecordParts → List ℕ
+other_octets r = if is_short r then short_octets r else long_octets r
+
+-- the numbers in the fewest octets
+unfoldable pub numbers_octets : RecordParts → List ℕ
+numbers_octets r = if is_usual r then usual_octets r else other_octets r
 
 -- the numbers, and the RDATA after their length
 unfoldable pub parts_octets : RecordParts → List ℕ
 parts_octets r = numbers_octets r ++ counted_octets r.rdata
 
--- octets begin with a record whose numbers take 11 octets, or 21
+-- octets begin with a record whose numbers take 6 octets, 11, or 21
+abbrev pub begins_usual : List ℕ → Bool
+begins_usual octets = nat_lt 5 (length octets) && nat_lt (get_or octets 0 0) 253
+
 abbrev pub begins_short : List ℕ → Bool
 begins_short octets = nat_lt 10 (length octets) && (get_or octets 0 0 == 253)
 
 abbrev pub begins_long : List ℕ → Bool
 begins_long octets = nat_lt 20 (length octets) && (get_or octets 0 0 == 254)
 
+abbrev pub begins_other : List ℕ → Bool
+begins_other octets = begins_short octets || begins_long octets
+
 abbrev pub begins_parts : List ℕ → Bool
-begins_parts octets = begins_short octets || begins_long octets
+begins_parts octets = begins_usual octets || begins_other octets
 
 -- the record that octets begin with
+abbrev pub usual_at : List ℕ → ℕ → ℕ
+usual_at octets i = get_or (take 6 octets) i 0
+
+abbrev pub first_usual : List ℕ → RecordParts
+first_usual octets = record {
+  code = usual_at octets 0;
+  class = internet;
+  ttl = get_or usual_ttls (usual_at octets 1 % 16) 0;
+  file = 0;
+  offset = usual_at octets 1 / 16 * 2 ^ 32 + from_be_bytes w32 (usual_at octets 2 ∷ usual_at octets 3 ∷ usual_at octets 4 ∷ usual_at octets 5 ∷ []);
+  rdata = first_counted (drop 6 octets);
+}
+
 abbrev pub short_at : List ℕ → ℕ → ℕ
 short_at octets i = get_or (take 11 octets) i 0
 
@@ -101,12 +141,18 @@ first_whole octets = record {
   rdata = first_counted (drop 21 octets);
 }
 
+abbrev pub first_other : List ℕ → RecordParts
+first_other octets = if begins_short octets then first_short octets else first_whole octets
+
 abbrev pub first_parts : List ℕ → RecordParts
-first_parts octets = if begins_short octets then first_short octets else first_whole octets
+first_parts octets = if begins_usual octets then first_usual octets else first_other octets
 
 -- the octets after that record
+abbrev pub after_other : List ℕ → List ℕ
+after_other octets = if begins_short octets then after_counted (drop 11 octets) else after_counted (drop 21 octets)
+
 abbrev pub after_parts : List ℕ → List ℕ
-after_parts octets = if begins_short octets then after_counted (drop 11 octets) else after_counted (drop 21 octets)
+after_parts octets = if begins_usual octets then after_counted (drop 6 octets) else after_other octets
 
 -- the records that octets begin with, at most `n`
 unfoldable pub all_parts : ℕ → List ℕ → List RecordParts

@@ -4,7 +4,7 @@ use Rattle.std.specs.declared.cmp.Ordering.TheVariants.{Less, Greater}
 use Rattle.zone_set.specs.Counted.{counted_octets, first_counted, after_counted}
 use Rattle.zone_set.specs.Duplicates.{is_duplicate_at}
 use Rattle.zone_set.specs.Entries.{key_at, key_offset, parts_at, parts_offset, record_of}
-use Rattle.zone_set.specs.Parts.{RecordParts, parts_octets, octets16, octets32, octets64, begins_parts}
+use Rattle.zone_set.specs.Parts.{RecordParts, parts_octets, numbers_octets, octets16, octets32, octets64, begins_parts}
 use Rattle.zone_set.specs.Prefixes.{prefix_number}
 use Rattle.zone_set.specs.Stored.{AddedRecord, added_record, absent_parts, has_stored_rrset, is_same_stored, record_at, stored_order}
 use Rattle.zone_set.specs.declared.entries.Entry.{Entry}
@@ -57,21 +57,36 @@ absent_row = refl
 cut_length_row : first_counted (255 ∷ 0 ∷ []) ≡ []
 cut_length_row = refl
 
--- A 192.0.2.1 with the TTL 3600, at the offset 12 of the first file, of class IN and of class CH
-abbrev address : ℕ → RecordParts
-address class = record { code = 1; class = class; ttl = 3600; file = 0; offset = 12; rdata = 192 ∷ 0 ∷ 2 ∷ 1 ∷ [] }
+-- A 192.0.2.1 with a TTL, at an offset of the first file, of class IN
+abbrev timed_address : ℕ → ℕ → RecordParts
+timed_address ttl offset = record { code = 1; class = 1; ttl = ttl; file = 0; offset = offset; rdata = 192 ∷ 0 ∷ 2 ∷ 1 ∷ [] }
 
-short_record_row : parts_octets (address 1) ≡ 253 ∷ 1 ∷ 0 ∷ 0 ∷ 0 ∷ 14 ∷ 16 ∷ 0 ∷ 0 ∷ 0 ∷ 12 ∷ 4 ∷ 192 ∷ 0 ∷ 2 ∷ 1 ∷ []
-unfolding parts_octets octets16 octets32 octets64
+usual_record_row : parts_octets (timed_address 86400 12) ≡ 1 ∷ 13 ∷ 0 ∷ 0 ∷ 0 ∷ 12 ∷ 4 ∷ 192 ∷ 0 ∷ 2 ∷ 1 ∷ []
+unfolding parts_octets numbers_octets octets16 octets32 octets64
+usual_record_row = refl
+
+far_record_row : parts_octets (timed_address 0 (5 * 2 ^ 32 + 12)) ≡ 1 ∷ 80 ∷ 0 ∷ 0 ∷ 0 ∷ 12 ∷ 4 ∷ 192 ∷ 0 ∷ 2 ∷ 1 ∷ []
+unfolding parts_octets numbers_octets octets16 octets32 octets64
+far_record_row = refl
+
+-- A 192.0.2.1 with the TTL 3600, at the offset 12 of the second file, of class IN and of class CH
+abbrev address : ℕ → RecordParts
+address class = record { code = 1; class = class; ttl = 3600; file = 1; offset = 12; rdata = 192 ∷ 0 ∷ 2 ∷ 1 ∷ [] }
+
+short_record_row : parts_octets (address 1) ≡ 253 ∷ 1 ∷ 1 ∷ 0 ∷ 0 ∷ 14 ∷ 16 ∷ 0 ∷ 0 ∷ 0 ∷ 12 ∷ 4 ∷ 192 ∷ 0 ∷ 2 ∷ 1 ∷ []
+unfolding parts_octets numbers_octets octets16 octets32 octets64
 short_record_row = refl
 
-long_record_row : parts_octets (address 3) ≡ 254 ∷ 0 ∷ 1 ∷ 0 ∷ 3 ∷ 0 ∷ 0 ∷ 14 ∷ 16 ∷ 0 ∷ 0 ∷ 0 ∷ 0 ∷ (replicate 7 0 ++ 12 ∷ 4 ∷ 192 ∷ 0 ∷ 2 ∷ 1 ∷ [])
-unfolding parts_octets octets16 octets32 octets64
+long_record_row : parts_octets (address 3) ≡ 254 ∷ 0 ∷ 1 ∷ 0 ∷ 3 ∷ 0 ∷ 0 ∷ 14 ∷ 16 ∷ 0 ∷ 0 ∷ 0 ∷ 1 ∷ (replicate 7 0 ++ 12 ∷ 4 ∷ 192 ∷ 0 ∷ 2 ∷ 1 ∷ [])
+unfolding parts_octets numbers_octets octets16 octets32 octets64
 long_record_row = refl
 
--- neither a length nor octets that are cut off begin a record
-length_begins_row : begins_parts (30 ∷ replicate 30 0) ≡ false
-length_begins_row = refl
+-- neither the octet 255 nor octets that are cut off begin a record
+count_begins_row : begins_parts (255 ∷ replicate 30 0) ≡ false
+count_begins_row = refl
+
+cut_usual_row : begins_parts (1 ∷ replicate 4 0) ≡ false
+cut_usual_row = refl
 
 cut_begins_row : begins_parts (253 ∷ replicate 9 0) ≡ false
 cut_begins_row = refl
@@ -93,15 +108,15 @@ second_offset_row : parts_offset (entry 18) ≡ 18
 second_offset_row = refl
 
 first_of_two_row : record_of two_records (entry 2) ≡ added_record (codes "b") (address 1)
-unfolding parts_octets octets16 octets32 octets64
+unfolding parts_octets numbers_octets octets16 octets32 octets64
 first_of_two_row = refl
 
 second_of_two_row : record_of two_records (entry 18) ≡ added_record (codes "b") (address 3)
-unfolding parts_octets octets16 octets32 octets64
+unfolding parts_octets numbers_octets octets16 octets32 octets64
 second_of_two_row = refl
 
-no_record_row : parts_at two_records 1 ≡ absent_parts
-unfolding parts_octets octets16 octets32 octets64
+no_record_row : parts_at two_records 44 ≡ absent_parts
+unfolding parts_octets numbers_octets octets16 octets32 octets64
 no_record_row = refl
 
 -- by key, class, type and RDATA, but neither by TTL nor by file

@@ -19,6 +19,9 @@ use zone_record::compare_any_data;
 /// One more than the greatest distance from a key to a record that shares it, in octets.
 pub(crate) const REACH: u64 = 16777216;
 
+/// Least number of entries that are sorted in place: memory for half of so many would matter.
+const MANY: usize = 8388608;
+
 /// One more than the greatest offset of a record in a store.
 const MAX_OFFSET: u64 = 1099511627776;
 
@@ -246,11 +249,14 @@ fn sort_in_place<A: Allocator>(octets: &[u8], entries: &mut Vec<Entry, A>)
     entries.sort_unstable_by(|left, right| compare_entries(octets, left, right));
 }
 
-/// Sorts entries by their prefixes first, with memory if it can be allocated.
+/// Sorts entries by their prefixes first, with memory if they are few and it can be allocated.
 fn sort_prefixed<A: Allocator>(octets: &[u8], entries: &mut Vec<Entry, A>)
     ensures permutation { IsPermutation entries.old.items entries.new.items }
     ensures sorted { IsSorted (prefixed_order octets.now) entries.new.items }
 {
+    if entries.len() >= MANY {
+        return sort_in_place(octets, entries);
+    }
     match sort_with_memory(octets, entries) {
         Ok(()) => {}
         Err(_) => sort_in_place(octets, entries),
@@ -260,8 +266,8 @@ fn sort_prefixed<A: Allocator>(octets: &[u8], entries: &mut Vec<Entry, A>)
 /// Sorts entries by their keys, then by class, type and RDATA in canonical order, and then by the
 /// order in which they were added.
 ///
-/// Is quick if the entries are nearly in order and memory for half of them can be allocated. Without
-/// it sorts them in place.
+/// Is quick if the entries are nearly in order, fewer than [`MANY`], and memory for half of them can be
+/// allocated. Else it sorts them in place.
 pub(crate) fn sort_entries<A: Allocator>(octets: &[u8], entries: &mut Vec<Entry, A>)
     requires { All (IsStoreEntry octets.now) entries.old.items }
     ensures permutation { IsPermutation entries.old.items entries.new.items }

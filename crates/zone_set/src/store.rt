@@ -226,7 +226,8 @@ impl<A: Allocator> RecordStore<A> {
     /// by class, type and RDATA. Records that differ in their TTL and where they come from at most
     /// stay in the order in which they were added.
     ///
-    /// Uses memory for half of the entries if it can be allocated, and else none.
+    /// Uses memory for half of the entries if these are fewer than 2^23 and it can be allocated, and else
+    /// none.
     pub fn sort(self) -> SortedStore<A>
         ensures permutation { IsPermutation self result }
         ensures sorted { IsSorted stored_order result }
