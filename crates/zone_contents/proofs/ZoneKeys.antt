@@ -1,5 +1,5 @@
 -- Keys in a zone compare as the order keys of their names, which can be read back.
-use Rattle.std.proofs.Common.{ℕ, ◌≡◌, List, [], ◌∷◌, ◌++◌, length, take, drop, refl, sym, ap, ◌∙◌, arith}
+use Rattle.std.proofs.Common.{ℕ, ◌≡◌, ◌+◌, ◌≤◌, List, [], ◌∷◌, ◌++◌, length, take, drop, refl, sym, ap, ◌∙◌, arith, length-append}
 use Rattle.std.specs.Prelude.{Bool, true, false, ◌&&◌, nat_eq, if◌then◌else◌}
 use Rattle.std.specs.Cmp.{IsTotalOrder}
 use Rattle.std.specs.Cmp.Lexicographic.{same_text}
@@ -92,6 +92,15 @@ where_is apex key = by (begins_with key apex) refl
     by : (b : Bool) → begins_with key apex ≡ b → Where apex key
     by true h = within (drop (length apex) key) (begins_parts key apex h) (ap (λ b. if b then 1 ∷ drop (length apex) key else (if is_lt (octet_order key apex) then 0 else 2) ∷ key) h)
     by false h = other h (octet_order key apex) refl
+
+-- the key of a name in a zone is longer by one octet at most
+pub zone_key_long : (apex key : List ℕ) → length (zone_key apex key) ≤ 1 + length key
+zone_key_long apex key = by (where_is apex key)
+  where
+    by : Where apex key → length (zone_key apex key) ≤ 1 + length key
+    by (within rest e k) = omega (arith, ap length k, ap length e, length-append apex rest)
+    by (before e k) = omega (arith, ap length k)
+    by (after e n k) = omega (arith, ap length k)
 
 -- ---- reading back
 

@@ -20,9 +20,10 @@ use Rattle.zone_record.specs.Names.{labels_from_root, name_order, octet_order}
 use Rattle.zone_record.proofs.BelowKeys.{begins_below}
 use Rattle.zone_record.proofs.KeyNames.{name_below, name_read}
 use Rattle.zone_record.proofs.KeyOrders.{key_order}
+use Rattle.zone_record.proofs.KeyRooms.{name_room}
 use Rattle.zone_record.proofs.LoweredNames.{lowered_again, lowered_labels, lowered_name}
 use Rattle.zone_contents.specs.Keys.{IsApex, IsNameKey, key_in_zone, name_in_zone, whole_key, zone_key}
-use Rattle.zone_contents.proofs.ZoneKeys.{keys_in_order, whole_is}
+use Rattle.zone_contents.proofs.ZoneKeys.{keys_in_order, whole_is, zone_key_long}
 
 pub all_again : (labels : List (List ℕ)) → map lowered (map lowered labels) ≡ map lowered labels
 all_again [] = refl
@@ -73,6 +74,15 @@ lower_wire_name name w = subst IsWireName (lower_wire name w) (lowered_name (wir
 
 pub wire_name_short : (name : List (List ℕ)) → IsWireName (wire name) → length (wire name) ≤ 255
 wire_name_short name w = omega (arith, length_wire name, (is_name_of name w).fits)
+
+pub key_short : (apex : List (List ℕ)) (key : List ℕ) → IsNameKey apex key → length key ≤ 510
+key_short apex key k =
+    omega (
+      arith,
+      ap length k.is,
+      zone_key_long (order_key apex) (order_key k.name),
+      name_room (wire k.name) k.name (length_wire k.name) (is_name_of k.name k.is_name) k.name refl,
+    )
 
 wire-append : (a b : List (List ℕ)) → wire (a ++ b) ≡ wire a ++ wire b
 wire-append [] b = refl

@@ -1,5 +1,5 @@
 //! Searches among the sorted records of a zone.
-ghost use Rattle.std.specs.Prelude.{◌≡◌, ◌<◌, ◌≤◌, All, IfSome, Some, true, false, length, slice_get};
+ghost use Rattle.std.specs.Prelude.{◌≡◌, ◌<◌, ◌≤◌, [], All, IfSome, Some, length, slice_get};
 ghost use Rattle.zone_contents.specs.Contents.{listed_record, listing, AreSortedRecords, IsZoneRecord};
 ghost use Rattle.zone_contents.specs.Searches.{closest_earlier, shared_by, EndsKey};
 ghost use Rattle.zone_rules.specs.Present.{rrset_of_record};
@@ -7,7 +7,8 @@ ghost use Rattle.zone_rules.specs.Searches.{before_place, AreOwnedFrom, PartsBef
 ghost use Rattle.zone_rules.specs.Zones.{closest_owned};
 ghost use Rattle.zone_set.specs.Stored.{record_at};
 
-use crate::zone_key::{Apex, ZoneKey, write_name};
+use crate::zone_key::{Apex, MAX_ZONE_KEY, ZoneKey, write_name};
+use arrayvec::ArrayVec;
 use dns_wire::Name;
 use std::alloc::Allocator;
 use zone_rules::names::{name_of, octets_of, shared_name};
@@ -28,6 +29,22 @@ fn count_before<A: Allocator>(apex: &Apex, store: &SortedStore<A>, name: &Name<&
     store.count_before(key.as_slice())
 }
 
+/// Writes the key of the record at an index to an empty buffer.
+fn write_key<A: Allocator>(
+    store: &SortedStore<A>,
+    place: usize,
+    key: &mut ArrayVec<u8, MAX_ZONE_KEY>,
+)
+    requires place { place < length store.now }
+    requires empty { key.old.items ≡ [] }
+    requires short { length (record_at store.now place).key ≤ 510 }
+    ensures { key.new.items ≡ (record_at store.now place).key }
+{
+    let stored = store.key(place);
+    key.try_extend_from_slice(stored.first.as_slice()).unwrap();
+    key.try_extend_from_slice(stored.rest).unwrap();
+}
+
 /// Returns the owner of the record at an index, in lower case.
 pub(crate) fn owner_at<'b, A: Allocator>(
     apex: &Apex,
@@ -39,7 +56,9 @@ pub(crate) fn owner_at<'b, A: Allocator>(
     requires are { All (IsZoneRecord apex.now) store.now }
     ensures { result ≡ (listed_record apex.now (record_at store.now place)).owner }
 {
-    write_name(apex, store.key(place), owner);
+    let mut key = ArrayVec::new();
+    write_key(store, place, &mut key);
+    write_name(apex, key.as_slice(), owner);
     name_of(owner.as_slice())
 }
 
@@ -124,22 +143,13 @@ pub(crate) fn closest_before<'n, A: Allocator>(
     shared_before(apex, store, place, name)
 }
 
-/// Returns whether the record at an index has a key.
-fn has_key<A: Allocator>(store: &SortedStore<A>, place: usize, key: &[u8]) -> bool
-    requires { place < length store.now }
-    ensures has { result ≡ true → (record_at store.now place).key ≡ key.now }
-    ensures lacks { result ≡ false → (record_at store.now place).key ≡ key.now → ⊥ }
-{
-    store.key(place) == key
-}
-
 /// Returns the index after the records with a key, of which the first has this index.
 fn past_key<A: Allocator>(store: &SortedStore<A>, first: usize, key: &[u8]) -> usize
     requires { first ≤ length store.now }
     ensures { EndsKey key.now store.now first result }
 {
     for place in first..store.len() {
-        if !has_key(store, place, key) {
+        if !store.has_key(place, key) {
             return place;
         }
     }
@@ -157,7 +167,7 @@ pub(crate) fn past_few<A: Allocator>(
     ensures { IfSome result (EndsKey key.now store.now first) }
 {
     for place in first..store.len() {
-        if !has_key(store, place, key) {
+        if !store.has_key(place, key) {
             return Some(place);
         }
         if place - first >= FEW {

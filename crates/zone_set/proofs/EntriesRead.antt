@@ -1,17 +1,33 @@
 -- What an entry says is what was stored.
-use Rattle.std.proofs.Common.{ℕ, ◌≡◌, ◌+◌, ◌^◌, ◌<◌, ◌≤◌, ◌/◌, ◌-◌, List, [], ◌∷◌, ◌++◌, length, drop, refl, sym, ap, ◌∙◌, arith, append_assoc, length-append, get_or, subst}
-use Rattle.std.specs.Prelude.{All, if◌then◌else◌}
-use Rattle.std.proofs.lemmas.List.{drop_at, append-nil, map-append}
+use Rattle.std.proofs.Common.{ℕ, ◌≡◌, ◌+◌, ◌^◌, ◌<◌, ◌≤◌, ◌/◌, ◌-◌, List, [], ◌∷◌, ◌++◌, length, take, drop, refl, sym, ap, ◌∙◌, arith, append_assoc, length-append, length-drop, get_or, subst}
+use Rattle.std.specs.Prelude.{All, Bool, true, false, if◌then◌else◌, nat_lt}
+use Rattle.std.specs.Int.{from_be_bytes, to_be_bytes, w16}
+use Rattle.std.proofs.lemmas.List.{take_at, drop_at, append-nil, map-append}
 use Rattle.std.proofs.lemmas.List.Elements.{All-nil, All-cons, All-head, All-tail, All-push, All-get_or}
 use Rattle.std.proofs.lemmas.List.Sorted.{IsNonDecreasingBy-push}
-use Rattle.zone_set.specs.Counted.{counted_octets, first_counted}
-use Rattle.zone_set.specs.Entries.{HasAt, HasPrefix, IsEntryFor, IsEntryOf, IsStoreEntry, key_at, key_offset, parts_at, parts_offset, record_of}
+use Rattle.std.proofs.lemmas.Nat.{from_be_bytes-to_be_bytes_2}
+use Rattle.zone_set.specs.Counted.{after_length, first_length, length_octets}
+use Rattle.zone_set.specs.Entries.{HasAt, IsEntryFor, IsEntryOf, IsStoreEntry, after_rest, first_rest, key_at, key_in, octets_of, offset_of, parts_at, parts_or_absent, prefix_of, record_octets, record_of, seven_octets}
 use Rattle.zone_set.specs.Parts.{PartsFit, RecordParts, begins_parts, first_parts, parts_octets}
 use Rattle.zone_set.specs.Prefixes.{prefix_number}
 use Rattle.zone_set.specs.Stored.{AddedRecord, added_record, absent_parts}
 use Rattle.zone_set.specs.Stores.{IsStored, StoresMore, stored_records}
 use Rattle.zone_set.specs.declared.entries.Entry.{Entry}
-use Rattle.zone_set.proofs.PartsRead.{counted_first, parts_begin, parts_first, parts_long}
+use Rattle.zone_set.proofs.KeyPrefixes.{IsOctet, key_read}
+use Rattle.zone_set.proofs.PartsRead.{parts_begin, parts_first, parts_long}
+
+-- a length is read back
+length_by : (n : ℕ) (more : List ℕ) → n < 2 ^ 16 → (b : Bool) → nat_lt n 255 ≡ b
+    → (first_length ((if b then n ∷ [] else 255 ∷ to_be_bytes w16 n) ++ more) ≡ n)
+    × (after_length ((if b then n ∷ [] else 255 ∷ to_be_bytes w16 n) ++ more) ≡ more)
+length_by n more h true e = (rw e refl, rw e refl)
+length_by n more h false e = (omega (arith, from_be_bytes-to_be_bytes_2 n h), refl)
+
+length_first : (n : ℕ) (more : List ℕ) → n < 2 ^ 16 → first_length (length_octets n ++ more) ≡ n
+length_first n more h = (length_by n more h (nat_lt n 255) refl).0
+
+length_after : (n : ℕ) (more : List ℕ) → n < 2 ^ 16 → after_length (length_octets n ++ more) ≡ more
+length_after n more h = (length_by n more h (nat_lt n 255) refl).1
 
 -- the octets at an offset, and what follows them
 drop_has : (octets : List ℕ) (offset : ℕ) (part : List ℕ) (h : HasAt octets offset part) → drop offset octets ≡ part ++ h.1
@@ -26,40 +42,75 @@ has_more octets offset part more h =
 pub has_end : (octets part : List ℕ) → HasAt (octets ++ part) (length octets) part
 has_end octets part = (octets, [], ap (λ os. octets ++ os) (sym (append-nil part)), refl)
 
-module _ (octets : List ℕ) (e : Entry) (r : AddedRecord) (is : IsEntryOf octets e r) where
-  pub key_is : key_at octets (key_offset e) ≡ r.key
-  key_is = ap first_counted (drop_has octets (key_offset e) (counted_octets r.key) is.key) ∙ counted_first r.key is.key.1 is.key_fits
+-- octets that begin with those of a record
+module _ (r : AddedRecord) (more : List ℕ) (fits : length r.key < 2 ^ 16) where
+  abbrev os : List ℕ
+  os = length_octets (length r.key) ++ (drop 7 r.key ++ (parts_octets r.parts ++ more))
 
-  parts_is : parts_at octets (parts_offset e) ≡ r.parts
-  parts_is =
-      ap (λ rest. if begins_parts rest then first_parts rest else absent_parts) (drop_has octets (parts_offset e) (parts_octets r.parts) is.parts)
-      ∙ ap (λ b. if b then first_parts (parts_octets r.parts ++ is.parts.1) else absent_parts) (parts_begin r.parts is.parts.1)
-      ∙ parts_first r.parts is.parts.1 is.parts_fit
+  whole_is : record_octets r ++ more ≡ os
+  unfolding record_octets
+  whole_is = append_assoc (length_octets (length r.key)) (drop 7 r.key ++ parts_octets r.parts) more ∙ ap (λ rest. length_octets (length r.key) ++ rest) (append_assoc (drop 7 r.key) (parts_octets r.parts) more)
+
+  length_is : first_length os ≡ length r.key
+  length_is = length_first (length r.key) (drop 7 r.key ++ (parts_octets r.parts ++ more)) fits
+
+  more_is : after_length os ≡ drop 7 r.key ++ (parts_octets r.parts ++ more)
+  more_is = length_after (length r.key) (drop 7 r.key ++ (parts_octets r.parts ++ more)) fits
+
+  rest_is : first_rest os ≡ drop 7 r.key
+  rest_is = (λ i. take (length_is i - 7) (more_is i)) ∙ take_at (drop 7 r.key) (parts_octets r.parts ++ more) (length r.key - 7) (length-drop 7 r.key)
+
+  after_is : after_rest os ≡ parts_octets r.parts ++ more
+  after_is = (λ i. drop (length_is i - 7) (more_is i)) ∙ drop_at (drop 7 r.key) (parts_octets r.parts ++ more) (length r.key - 7) (length-drop 7 r.key)
+
+module _ (octets : List ℕ) (e : Entry) (r : AddedRecord) (is : IsEntryOf octets e r) where
+  abbrev back : List ℕ
+  back = is.has.1
+
+  octets_are : octets_of octets e ≡ length_octets (length r.key) ++ (drop 7 r.key ++ (parts_octets r.parts ++ back))
+  octets_are = drop_has octets (offset_of e) (record_octets r) is.has ∙ whole_is r back is.key_fits
+
+  pub count_is : first_length (octets_of octets e) ≡ length r.key
+  count_is = ap first_length octets_are ∙ length_is r back is.key_fits
+
+  pub rests_are : first_rest (octets_of octets e) ≡ drop 7 r.key
+  rests_are = ap first_rest octets_are ∙ rest_is r back is.key_fits
+
+  pub key_is : key_at octets e ≡ r.key
+  key_is = (λ i. take (count_is i) (seven_octets (is.prefix i)) ++ rests_are i) ∙ key_read r.key is.key_small
+
+  parts_are : parts_at octets e ≡ r.parts
+  parts_are =
+      ap parts_or_absent (ap after_rest octets_are ∙ after_is r back is.key_fits)
+      ∙ ap (λ b. if b then first_parts (parts_octets r.parts ++ back) else absent_parts) (parts_begin r.parts back)
+      ∙ parts_first r.parts back is.parts_fit
 
   pub record_is : record_of octets e ≡ r
-  record_is = λ i. record { key = key_is i; parts = parts_is i }
+  record_is = λ i. record { key = key_is i; parts = parts_are i }
 
-  pub has_prefix : HasPrefix octets e
-  has_prefix = is.prefix ∙ ap (prefix_number 8) (sym key_is)
+  -- the prefix of an entry is that of its key
+  pub prefix_is : prefix_of e ≡ prefix_number 7 (key_at octets e)
+  prefix_is = is.prefix ∙ ap (prefix_number 7) (sym key_is)
 
   -- a record begins before the end of the octets
-  begins_before : parts_offset e < length octets
+  begins_before : offset_of e < length octets
+  unfolding record_octets
   begins_before =
-      let whole : length octets ≡ length is.parts.0 + length (parts_octets r.parts ++ is.parts.1) = ap length is.parts.2 ∙ length-append is.parts.0 (parts_octets r.parts ++ is.parts.1) in
-      omega (arith, whole, is.parts.3, length-append (parts_octets r.parts) is.parts.1, parts_long r.parts)
+      let whole : length octets ≡ length is.has.0 + length (record_octets r ++ back) = ap length is.has.2 ∙ length-append is.has.0 (record_octets r ++ back) in
+      let parts : length (record_octets r ++ back) ≡ length (length_octets (length r.key)) + length (drop 7 r.key ++ (parts_octets r.parts ++ back)) =
+      ap length (whole_is r back is.key_fits) ∙ length-append (length_octets (length r.key)) (drop 7 r.key ++ (parts_octets r.parts ++ back)) in
+      omega (arith, whole, is.has.3, parts, length-append (drop 7 r.key) (parts_octets r.parts ++ back), length-append (parts_octets r.parts) back, parts_long r.parts)
 
   pub entry_more : (more : List ℕ) → IsEntryOf (octets ++ more) e r
   entry_more more = record {
     key_fits = is.key_fits;
+    key_small = is.key_small;
     parts_fit = is.parts_fit;
-    key = has_more octets (key_offset e) (counted_octets r.key) more is.key;
-    parts = has_more octets (parts_offset e) (parts_octets r.parts) more is.parts;
+    has = has_more octets (offset_of e) (record_octets r) more is.has;
     prefix = is.prefix;
+    middle_fits = is.middle_fits;
+    low_fits = is.low_fits;
   }
-
-all_back : {X : Type 0} (P : X → Type 0) (xs ys : List X) → All P (xs ++ ys) → All P ys
-all_back P [] ys h = h
-all_back P (x ∷ xs) ys h = all_back P xs ys (All-tail P x (xs ++ ys) h)
 
 pub all_more : (octets more : List ℕ) (entries : List Entry) → All (IsStoreEntry octets) entries → All (IsStoreEntry (octets ++ more)) entries
 all_more octets more [] all = All-nil (IsStoreEntry (octets ++ more))
@@ -75,45 +126,32 @@ records_more octets more (e ∷ entries) all =
     let same = record_is (octets ++ more) e first.0 (entry_more octets e first.0 first.1 more) ∙ sym (record_is octets e first.0 first.1) in
     λ i. same i ∷ records_more octets more entries (All-tail (IsStoreEntry octets) e entries all) i
 
-pub all_prefixes : (octets : List ℕ) (entries : List Entry) → All (IsStoreEntry octets) entries → All (HasPrefix octets) entries
-all_prefixes octets [] all = All-nil (HasPrefix octets)
-all_prefixes octets (e ∷ entries) all =
-    let first = All-head (IsStoreEntry octets) e entries all in
-    All-cons (HasPrefix octets) e entries (has_prefix octets e first.0 first.1) (all_prefixes octets entries (All-tail (IsStoreEntry octets) e entries all))
-
-later : (a b n : ℕ) → a / 2 ^ 24 < n → n ≤ b / 2 ^ 24 → a ≤ b
-later a b n h k = omega (arith, h, k)
-
--- where the key of the last entry is
-pub last_has : (octets key : List ℕ) (entries front : List Entry) (last : Entry) (offset : ℕ) → All (IsStoreEntry octets) entries → entries ≡ front ++ last ∷ [] → offset ≡ key_offset last
-    → key_at octets (key_offset last) ≡ key → HasAt octets offset (counted_octets key)
-last_has octets key entries front last offset all ends offset_is same =
-    let e : IsStoreEntry octets last = All-head (IsStoreEntry octets) last [] (all_back (IsStoreEntry octets) front (last ∷ []) (subst (λ (es : List Entry). All (IsStoreEntry octets) es) ends all)) in
-    let key_same : e.0.key ≡ key = sym (key_is octets last e.0 e.1) ∙ same in
-    subst (λ (n : ℕ). HasAt octets n (counted_octets key)) (sym offset_is) (subst (λ (k : List ℕ). HasAt octets (key_offset last) (counted_octets k)) key_same e.1.key)
-
 -- an entry of what was appended
-pub entry_is : (old new : List ℕ) (e : Entry) (prefix offset len : ℕ) (key : List ℕ) (parts : RecordParts) → length key < 2 ^ 16 → PartsFit parts → HasAt old offset (counted_octets key) → new ≡ old ++ parts_octets parts
-    → prefix ≡ prefix_number 8 key → len ≡ length old → IsEntryFor prefix offset len e → IsEntryOf new e (added_record key parts)
-entry_is old new e prefix offset len key parts key_fits parts_fit has is prefix_is len_is made = record {
+pub entry_is : (old new : List ℕ) (e : Entry) (prefix len : ℕ) (key : List ℕ) (parts : RecordParts) → length key < 2 ^ 16 → All IsOctet key → PartsFit parts → new ≡ old ++ record_octets (added_record key parts)
+    → prefix ≡ prefix_number 7 key → len ≡ length old → IsEntryFor prefix len e → IsEntryOf new e (added_record key parts)
+entry_is old new e prefix len key parts key_fits key_small parts_fit is prefix_is len_is made = record {
   key_fits = key_fits;
+  key_small = key_small;
   parts_fit = parts_fit;
-  key = subst (λ (os : List ℕ). HasAt os (key_offset e) (counted_octets key)) (sym is) (subst (λ (n : ℕ). HasAt (old ++ parts_octets parts) n (counted_octets key)) (sym made.1) (has_more old offset (counted_octets key) (parts_octets parts) has));
-  parts = subst (λ (os : List ℕ). HasAt os (parts_offset e) (parts_octets parts)) (sym is) (subst (λ (n : ℕ). HasAt (old ++ parts_octets parts) n (parts_octets parts)) (sym (made.2 ∙ len_is)) (has_end old (parts_octets parts)));
+  has =
+    subst (λ (os : List ℕ). HasAt os (offset_of e) (record_octets (added_record key parts))) (sym is)
+    (subst (λ (n : ℕ). HasAt (old ++ record_octets (added_record key parts)) n (record_octets (added_record key parts))) (sym (made.1 ∙ len_is)) (has_end old (record_octets (added_record key parts))));
   prefix = made.0 ∙ prefix_is;
+  middle_fits = made.2;
+  low_fits = made.3;
 }
 
 -- an entry whose octets are after those of all others
-pub stored_more : (octets more : List ℕ) (entries : List Entry) (e : Entry) (r : AddedRecord) → IsStored octets entries → IsEntryOf (octets ++ more) e r → length octets ≤ parts_offset e
+pub stored_more : (octets more : List ℕ) (entries : List Entry) (e : Entry) (r : AddedRecord) → IsStored octets entries → IsEntryOf (octets ++ more) e r → length octets ≤ offset_of e
     → StoresMore octets entries (octets ++ more) (entries ++ e ∷ []) r
 stored_more octets more entries e r stored is after =
-    let low : (d : Entry) → 0 < length entries → (get_or entries (length entries - 1) d).at ≤ e.at = λ d some.
+    let low : (d : Entry) → 0 < length entries → offset_of (get_or entries (length entries - 1) d) ≤ offset_of e = λ d some.
     let last = All-get_or (IsStoreEntry octets) entries (length entries - 1) d (omega (arith, some)) stored.are in
-    later (get_or entries (length entries - 1) d).at e.at (length octets) (begins_before octets (get_or entries (length entries - 1) d) last.0 last.1) after in
+    omega (arith, begins_before octets (get_or entries (length entries - 1) d) last.0 last.1, after) in
     record {
       stored = record {
         are = All-push (IsStoreEntry (octets ++ more)) entries e (all_more octets more entries stored.are) (r, is);
-        rise = IsNonDecreasingBy-push (λ x. x.at) entries e stored.rise low;
+        rise = IsNonDecreasingBy-push offset_of entries e stored.rise low;
       };
       records = map-append (record_of (octets ++ more)) entries (e ∷ []) ∙ (λ i. records_more octets more entries stored.are i ++ record_is (octets ++ more) e r is i ∷ []);
     }

@@ -1,21 +1,27 @@
 -- The orders of records and of their entries are total, and prefixes decide as keys do.
-use Rattle.std.proofs.Common.{ℕ, ◌≡◌, ◌<◌, List, refl, sym, ap, ◌∙◌, arith, get_or}
-use Rattle.std.specs.Prelude.{All}
+use Rattle.std.proofs.Common.{ℕ, ◌≡◌, ◌<◌, get_or, List, [], ◌∷◌, length, drop, refl, sym, ap, ◌∙◌, arith}
+use Rattle.std.specs.Prelude.{All, true, false}
 use Rattle.std.specs.Cmp.{IsTotalOrder}
-use Rattle.std.specs.Ordering.{nat_cmp, ordering_then, ordering_reverse}
+use Rattle.std.specs.Ordering.{is_eq, nat_cmp, ordering_then, ordering_reverse}
 use Rattle.std.specs.declared.cmp.Ordering.{Ordering}
 use Rattle.std.specs.declared.cmp.Ordering.TheVariants.{Less, Equal, Greater}
+use Rattle.std.proofs.lemmas.Bool.{false≢true}
 use Rattle.std.proofs.lemmas.Bool.Decides.{nat_tests}
-use Rattle.std.proofs.lemmas.Cmp.{nat_cmp_total, nat_list_cmp_total, on_total, then_total}
+use Rattle.std.proofs.lemmas.Cmp.{nat_cmp_total, nat_list_cmp_total, on_total, then_total, tied_itself}
+use Rattle.std.proofs.lemmas.List.{get_or-map}
+use Rattle.std.proofs.lemmas.List.Elements.{All-get_or}
 use Rattle.zone_record.specs.Names.{octet_order}
 use Rattle.zone_record.specs.AnyData.{any_data_order}
 use Rattle.zone_record.proofs.AnyOrders.{any_total}
-use Rattle.zone_set.specs.Entries.{HasPrefix, entry_order, key_at, key_offset, parts_at, parts_offset, prefixed_keys, prefixed_order, record_of}
+use Rattle.zone_set.specs.Counted.{first_length}
+use Rattle.zone_set.specs.Entries.{IsStoreEntry, after_rest, entry_order, first_rest, key_at, octets_of, octets_order, offset_of, parts_at, parts_or_absent, prefix_of, prefixed_keys, prefixed_order, prefixed_records, record_of, rests_order}
+use Rattle.zone_set.specs.Indexes.{stored_at}
 use Rattle.zone_set.specs.Parts.{RecordParts}
 use Rattle.zone_set.specs.Prefixes.{prefix_number}
-use Rattle.zone_set.specs.Stored.{AddedRecord, parts_cmp, stored_order, type_order}
+use Rattle.zone_set.specs.Stored.{AddedRecord, absent_parts, added_record, parts_cmp, stored_order, type_order}
 use Rattle.zone_set.specs.declared.entries.Entry.{Entry}
-use Rattle.zone_set.proofs.KeyPrefixes.{key_octets_small, prefixes_decide, IsOctet}
+use Rattle.zone_set.proofs.EntriesRead.{count_is, key_is, rests_are}
+use Rattle.zone_set.proofs.KeyPrefixes.{IsOctet, all_octets, by_rest, rests_decide}
 
 -- an order, and then one that depends on a number which is the same where the first says `Equal`
 module _ {K : Type 0} {R : K → K → Ordering} (o : IsTotalOrder R) (number : K → ℕ) (S : ℕ → K → K → Ordering) (each : (n : ℕ) → IsTotalOrder (S n)) (same : (x y : K) → R x y ≡ Equal → number x ≡ number y) where
@@ -100,12 +106,17 @@ pub rrsets_total : IsTotalOrder (λ (a b : AddedRecord). ordering_then (octet_or
 rrsets_total = then_total (on_total (λ (r : AddedRecord). r.key) nat_list_cmp_total) (on_total (λ (r : AddedRecord). r.parts) types_total)
 
 pub entries_total : (octets : List ℕ) → IsTotalOrder (entry_order octets)
-entries_total octets = then_total (on_total (record_of octets) stored_total) (on_total (λ (e : Entry). e.at) nat_cmp_total)
+entries_total octets = then_total (on_total (record_of octets) stored_total) (on_total offset_of nat_cmp_total)
+
+rests_total : IsTotalOrder rests_order
+rests_total = then_total (on_total first_rest nat_list_cmp_total) (on_total first_length nat_cmp_total)
+
+octets_total : IsTotalOrder octets_order
+octets_total = then_total rests_total (on_total (λ (os : List ℕ). parts_or_absent (after_rest os)) parts_total)
 
 pub prefixed_total : (octets : List ℕ) → IsTotalOrder (prefixed_order octets)
 prefixed_total octets =
-    then_total (then_total (on_total (λ (e : Entry). e.prefix) nat_cmp_total) (on_total (λ (e : Entry). key_at octets (key_offset e)) nat_list_cmp_total))
-    (then_total (on_total (λ (e : Entry). parts_at octets (parts_offset e)) parts_total) (on_total (λ (e : Entry). e.at) nat_cmp_total))
+    then_total (then_total (on_total prefix_of nat_cmp_total) (on_total (octets_of octets) octets_total)) (on_total offset_of nat_cmp_total)
 
 then_assoc : (p q r : Ordering) → ordering_then p (ordering_then q r) ≡ ordering_then (ordering_then p q) r
 then_assoc Less q r = refl
@@ -113,15 +124,70 @@ then_assoc Equal q r = refl
 then_assoc Greater q r = refl
 
 -- the prefix of an entry decides as its key
-pub prefixed_key : (octets : List ℕ) → ((i : ℕ) → get_or octets i 0 < 256) → (e : Entry) (prefix : ℕ) (key : List ℕ) → All IsOctet key → HasPrefix octets e → prefix ≡ prefix_number 8 key
-    → prefixed_keys octets e prefix key ≡ octet_order (key_at octets (key_offset e)) key
-prefixed_key octets small e prefix key few p q =
-    let own = key_at octets (key_offset e) in
-    (λ i. ordering_then (nat_cmp (p i) (q i)) (octet_order own key)) ∙ sym (prefixes_decide 8 own key (key_octets_small octets (key_offset e) small) few)
+pub prefixed_key : (octets : List ℕ) (e : Entry) (prefix : ℕ) (key : List ℕ) → All IsOctet key → IsStoreEntry octets e → prefix ≡ prefix_number 7 key → prefixed_keys octets e prefix key ≡ octet_order (key_at octets e) key
+prefixed_key octets e prefix key few s q =
+    (λ i. ordering_then (nat_cmp (s.1.prefix i) (q i)) (ordering_then (octet_order (rests_are octets e s.0 s.1 i) (drop 7 key)) (nat_cmp (count_is octets e s.0 s.1 i) (length key))))
+    ∙ sym (rests_decide 7 s.0.key key s.1.key_small few)
+    ∙ ap (λ k. octet_order k key) (sym (key_is octets e s.0 s.1))
 
-pub prefixed_is : (octets : List ℕ) → ((i : ℕ) → get_or octets i 0 < 256) → (a b : Entry) → HasPrefix octets a → HasPrefix octets b → prefixed_order octets a b ≡ entry_order octets a b
-prefixed_is octets small a b p q =
-    let parts = parts_cmp (parts_at octets (parts_offset a)) (parts_at octets (parts_offset b)) in
-    ap (λ o. ordering_then o (ordering_then parts (nat_cmp a.at b.at)))
-    (prefixed_key octets small a b.prefix (key_at octets (key_offset b)) (key_octets_small octets (key_offset b) small) p q)
-    ∙ then_assoc (octet_order (key_at octets (key_offset a)) (key_at octets (key_offset b))) parts (nat_cmp a.at b.at)
+pub prefixed_is : (octets : List ℕ) (a b : Entry) → IsStoreEntry octets a → IsStoreEntry octets b → prefixed_records octets a b ≡ stored_order (record_of octets a) (record_of octets b)
+prefixed_is octets a b p q =
+    let parts = parts_cmp (parts_at octets a) (parts_at octets b) in
+    (λ i. ordering_then (nat_cmp (p.1.prefix i) (q.1.prefix i))
+    (ordering_then (ordering_then (octet_order (rests_are octets a p.0 p.1 i) (rests_are octets b q.0 q.1 i)) (nat_cmp (count_is octets a p.0 p.1 i) (count_is octets b q.0 q.1 i))) parts))
+    ∙ then_assoc (nat_cmp (prefix_number 7 p.0.key) (prefix_number 7 q.0.key)) (by_rest 7 p.0.key q.0.key) parts
+    ∙ ap (λ o. ordering_then o parts) (sym (rests_decide 7 p.0.key q.0.key p.1.key_small q.1.key_small))
+    ∙ (λ i. ordering_then (octet_order (sym (key_is octets a p.0 p.1) i) (sym (key_is octets b q.0 q.1) i)) parts)
+
+pub then_equal : (r s : Ordering) → ordering_then r s ≡ Equal → r ≡ Equal
+then_equal Less s e = absurd (no e)
+  where
+    no : Less ≡ Equal → ⊥
+    no e = cc
+then_equal Equal s e = refl
+then_equal Greater s e = absurd (no e)
+  where
+    no : Greater ≡ Equal → ⊥
+    no e = cc
+
+-- keys that tie are equal
+pub same_keys : (a b : List ℕ) → octet_order a b ≡ Equal → a ≡ b
+same_keys [] [] e = refl
+same_keys [] (y ∷ b) e = absurd (no e)
+  where
+    no : Less ≡ Equal → ⊥
+    no e = cc
+same_keys (x ∷ a) [] e = absurd (no e)
+  where
+    no : Greater ≡ Equal → ⊥
+    no e = cc
+same_keys (x ∷ a) (y ∷ b) e =
+    let head : x ≡ y = one_number x y (then_equal (nat_cmp x y) (octet_order a b) e) in
+    λ i. head i ∷ same_keys a b (second_equal (nat_cmp x y) (octet_order a b) e) i
+
+is_tie : (o : Ordering) → is_eq o ≡ true → o ≡ Equal
+is_tie Less h = cc
+is_tie Equal h = refl
+is_tie Greater h = cc
+
+pub keys_tie : (a b : List ℕ) → is_eq (octet_order a b) ≡ true → a ≡ b
+keys_tie a b h = same_keys a b (is_tie (octet_order a b) h)
+
+pub keys_apart : (a b : List ℕ) → is_eq (octet_order a b) ≡ false → a ≡ b → ⊥
+keys_apart a b h e = false≢true (sym h ∙ ap is_eq (ap (octet_order a) (sym e) ∙ tied_itself nat_list_cmp_total a))
+
+-- ---- records at indexes
+
+module _ (octets : List ℕ) (entries : List Entry) (all : All (IsStoreEntry octets) entries) where
+  at_index : (i : ℕ) (d : Entry) → i < length entries → record_of octets (get_or entries i d) ≡ stored_at octets entries i
+  at_index i d low = sym (get_or-map (record_of octets) entries i d (added_record [] absent_parts) low)
+
+  pub indexed_key : (i prefix : ℕ) (d : Entry) (key : List ℕ) → i < length entries → ((i : ℕ) → get_or key i 0 < 256) → prefix ≡ prefix_number 7 key
+      → prefixed_keys octets (get_or entries i d) prefix key ≡ octet_order (stored_at octets entries i).key key
+  indexed_key i prefix d key low small is =
+      prefixed_key octets (get_or entries i d) prefix key (all_octets key small) (All-get_or (IsStoreEntry octets) entries i d low all) is ∙ ap (λ r. octet_order r.key key) (at_index i d low)
+
+  pub indexed_order : (i j : ℕ) (d e : Entry) → i < length entries → j < length entries → prefixed_records octets (get_or entries i d) (get_or entries j e) ≡ stored_order (stored_at octets entries i) (stored_at octets entries j)
+  indexed_order i j d e low lower =
+      prefixed_is octets (get_or entries i d) (get_or entries j e) (All-get_or (IsStoreEntry octets) entries i d low all) (All-get_or (IsStoreEntry octets) entries j e lower all)
+      ∙ (λ k. stored_order (at_index i d low k) (at_index j e lower k))

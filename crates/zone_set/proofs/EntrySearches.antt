@@ -13,12 +13,11 @@ use Rattle.std.proofs.lemmas.List.{get_or-map, length-map}
 use Rattle.std.proofs.lemmas.List.Elements.{All-get_or}
 use Rattle.std.proofs.lemmas.List.Sorted.{searchable_from_sorted, IsPartitionedBy-leb}
 use Rattle.zone_record.specs.Names.{octet_order}
-use Rattle.zone_set.specs.Entries.{HasPrefix, IsStoreEntry, is_before_key, is_before_rrset, key_at, key_offset, parts_at, parts_offset, prefixed_keys, record_of}
+use Rattle.zone_set.specs.Entries.{IsStoreEntry, is_before_key, is_before_rrset, key_at, parts_at, prefixed_keys, record_of}
 use Rattle.zone_set.specs.Prefixes.{prefix_number}
 use Rattle.zone_set.specs.Stored.{AddedRecord, added_record, has_stored_rrset, order_to_rrset, record_at, stored_order, type_order, CountsBeforeRrset}
 use Rattle.zone_set.specs.Stores.{stored_records}
 use Rattle.zone_set.specs.declared.entries.Entry.{Entry}
-use Rattle.zone_set.proofs.EntriesRead.{all_prefixes}
 use Rattle.zone_set.proofs.EntryOrders.{prefixed_key, rrsets_total}
 use Rattle.zone_set.proofs.KeyPrefixes.{all_octets}
 use Rattle.zone_set.proofs.StoreSorts.{first_not, some_entry}
@@ -89,9 +88,9 @@ rrsets_coarser a b h = then_not (octet_order a.key b.key) (type_order a.parts b.
 abbrev pub rrset : List ℕ → ℕ → ℕ → AddedRecord
 rrset key class code = added_record key (record { code = code; class = class; ttl = 0; file = 0; offset = 0; rdata = [] })
 
-module _ (octets key : List ℕ) (small : (i : ℕ) → get_or octets i 0 < 256) (few : (i : ℕ) → get_or key i 0 < 256) (prefix : ℕ) (is : prefix ≡ prefix_number 8 key) (entries : List Entry) (all : All (IsStoreEntry octets) entries) where
-  keyed : (k : ℕ) (d : Entry) → k < length entries → prefixed_keys octets (get_or entries k d) prefix key ≡ octet_order (key_at octets (key_offset (get_or entries k d))) key
-  keyed k d low = prefixed_key octets small (get_or entries k d) prefix key (all_octets key few) (All-get_or (HasPrefix octets) entries k d low (all_prefixes octets entries all)) is
+module _ (octets key : List ℕ) (few : (i : ℕ) → get_or key i 0 < 256) (prefix : ℕ) (is : prefix ≡ prefix_number 7 key) (entries : List Entry) (all : All (IsStoreEntry octets) entries) where
+  keyed : (k : ℕ) (d : Entry) → k < length entries → prefixed_keys octets (get_or entries k d) prefix key ≡ octet_order (key_at octets (get_or entries k d)) key
+  keyed k d low = prefixed_key octets (get_or entries k d) prefix key (all_octets key few) (All-get_or (IsStoreEntry octets) entries k d low all) is
 
   pub before_key : (k : ℕ) (d : Entry) → k < length entries → is_before_key octets prefix key (get_or entries k d) ≡ is_lt (octet_order (record_of octets (get_or entries k d)).key key)
   before_key k d low = ap is_lt (keyed k d low)
@@ -99,7 +98,7 @@ module _ (octets key : List ℕ) (small : (i : ℕ) → get_or octets i 0 < 256)
   pub before_rrset : (class code k : ℕ) (d : Entry) → k < length entries
       → is_before_rrset octets prefix key class code (get_or entries k d) ≡ is_lt (order_to_rrset (record_of octets (get_or entries k d)) key class code)
   before_rrset class code k d low =
-      ap (λ o. is_lt (ordering_then o (type_order (parts_at octets (parts_offset (get_or entries k d))) class code))) (keyed k d low)
+      ap (λ o. is_lt (ordering_then o (type_order (parts_at octets (get_or entries k d)) class code))) (keyed k d low)
 
 -- ---- the first of those that pass a test
 

@@ -1,14 +1,15 @@
 -- The first octets of keys decide before the keys do.
 use Rattle.std.proofs.Common.{ℕ, zero, suc, ◌≡◌, ◌+◌, ◌*◌, ◌^◌, ◌<◌, ◌≤◌, List, [], ◌∷◌, refl, sym, ap, ◌∙◌, arith}
-use Rattle.std.specs.Prelude.{All, Bool, true, false, if◌then◌else◌, nat_lt, get_or, take, drop}
+use Rattle.std.specs.Prelude.{All, ◌++◌, length, get_or, take, drop}
+use Rattle.std.specs.Int.{from_be_bytes, to_be_bytes, w64}
 use Rattle.std.specs.Ordering.{nat_cmp, ordering_then}
 use Rattle.std.specs.declared.cmp.Ordering.{Ordering}
 use Rattle.std.specs.declared.cmp.Ordering.TheVariants.{Less, Equal, Greater}
 use Rattle.std.proofs.lemmas.Bool.Decides.{nat_tests}
-use Rattle.std.proofs.lemmas.List.Elements.{All-nil, All-cons, All-head, All-tail, All-drop, All-take}
+use Rattle.std.proofs.lemmas.List.Elements.{All-nil, All-cons, All-head, All-tail, All-get_or}
+use Rattle.std.proofs.lemmas.Nat.{be_bytes_8}
 use Rattle.std.proofs.Math.Nat.{mul-le-mul_right, mul_assoc, pow-suc, pow-le-pow_right}
-use Rattle.zone_set.specs.Entries.{key_at}
-use Rattle.zone_set.specs.Counted.{first_counted, first_long}
+use Rattle.zone_set.specs.Entries.{seven_octets}
 use Rattle.zone_record.specs.Names.{octet_order}
 use Rattle.zone_set.specs.Prefixes.{prefix_number}
 
@@ -46,6 +47,9 @@ level m n h = Prim.grind (arith, nat_tests)
 
 shifted : (d a b : ℕ) → nat_cmp (d + a) (d + b) ≡ nat_cmp a b
 shifted d a b = Prim.grind (arith, nat_tests)
+
+next : (m n : ℕ) → nat_cmp (suc m) (suc n) ≡ nat_cmp m n
+next m n = Prim.grind (arith, nat_tests)
 
 at_least : (m : ℕ) → ordering_then (nat_cmp 0 m) Less ≡ Less
 at_least zero = refl
@@ -129,17 +133,110 @@ prefix_fits n os x h small digit =
     let power : 256 ^ n ≤ 256 ^ 7 = pow-le-pow_right {n = 256} (omega arith) {i = n} {j = 7} (omega (arith, small)) in
     omega (arith, prefix, power, digit)
 
--- a key in a slice of octets
-pub key_octets_small : (octets : List ℕ) (at : ℕ) → ((i : ℕ) → get_or octets i 0 < 256) → All IsOctet (key_at octets at)
-key_octets_small octets at h = by (drop at octets) (All-drop IsOctet at octets (all_octets octets h))
-  where
-    by : (rest : List ℕ) → All IsOctet rest → All IsOctet (first_counted rest)
-    by [] h = All-nil IsOctet
-    by (count ∷ rest) h = either (nat_lt count 255)
-      where
-        more : All IsOctet rest
-        more = All-tail IsOctet count rest h
+pub prefix_least : (os : List ℕ) → ((i : ℕ) → get_or os i 0 < 256) → prefix_number 7 os < 2 ^ 56
+prefix_least os h = omega (arith, prefix_small 7 os (all_octets os h))
 
-        either : (b : Bool) → All IsOctet (if b then take count rest else first_long rest)
-        either true = All-take IsOctet count rest more
-        either false = All-take IsOctet _ (drop 2 rest) (All-drop IsOctet 2 rest more)
+-- ---- keys without their first octets
+
+-- lists that tie have one length
+same_length : (a b : List ℕ) → octet_order a b ≡ ordering_then (octet_order a b) (nat_cmp (length a) (length b))
+same_length [] [] = refl
+same_length [] (y ∷ b) = refl
+same_length (x ∷ a) [] = refl
+same_length (x ∷ a) (y ∷ b) = by (nat_cmp x y) (same_length a b)
+  where
+    by : (o : Ordering) → octet_order a b ≡ ordering_then (octet_order a b) (nat_cmp (length a) (length b))
+        → ordering_then o (octet_order a b) ≡ ordering_then (ordering_then o (octet_order a b)) (nat_cmp (suc (length a)) (suc (length b)))
+    by Less e = refl
+    by Equal e = e ∙ ap (ordering_then (octet_order a b)) (sym (next (length a) (length b)))
+    by Greater e = refl
+
+-- no octets are before others
+none_less : (n : ℕ) (b : List ℕ) (m : ℕ) → ordering_then (octet_order [] b) (nat_cmp 0 (suc m)) ≡ Less
+none_less n [] m = less 0 (suc m) (omega arith)
+none_less n (y ∷ b) m = refl
+
+none_greater : (n : ℕ) (a : List ℕ) (m : ℕ) → ordering_then (octet_order a []) (nat_cmp (suc m) 0) ≡ Greater
+none_greater n [] m = greater (suc m) 0 (omega arith)
+none_greater n (x ∷ a) m = refl
+
+-- by the octets after the first ones, and then by the lengths
+abbrev pub by_rest : ℕ → List ℕ → List ℕ → Ordering
+by_rest n a b = ordering_then (octet_order (drop n a) (drop n b)) (nat_cmp (length a) (length b))
+
+-- the first octets of two lists decide as numbers, and then what follows them does
+pub rests_decide : (n : ℕ) (a b : List ℕ) → All IsOctet a → All IsOctet b → octet_order a b ≡ ordering_then (nat_cmp (prefix_number n a) (prefix_number n b)) (by_rest n a b)
+rests_decide zero a b h k =
+    same_length a b ∙ ap (λ o. ordering_then o (by_rest 0 a b)) (sym (level (prefix_number 0 a) (prefix_number 0 b) (prefix_none a ∙ sym (prefix_none b))))
+rests_decide (suc n) [] [] h k = refl
+rests_decide (suc n) [] (y ∷ b) h k =
+    sym (ap (ordering_then (nat_cmp 0 (prefix_number (suc n) (y ∷ b)))) (none_less n (drop n b) (length b)) ∙ at_least (prefix_number (suc n) (y ∷ b)))
+rests_decide (suc n) (x ∷ a) [] h k =
+    sym (ap (ordering_then (nat_cmp (prefix_number (suc n) (x ∷ a)) 0)) (none_greater n (drop n a) (length a)) ∙ at_most (prefix_number (suc n) (x ∷ a)))
+rests_decide (suc n) (x ∷ a) (y ∷ b) h k = by (compared x y) (rests_decide n a b (All-tail IsOctet x a h) (All-tail IsOctet y b k))
+  where
+    more_a : prefix_number n a < 256 ^ n
+    more_a = prefix_small n a (All-tail IsOctet x a h)
+
+    more_b : prefix_number n b < 256 ^ n
+    more_b = prefix_small n b (All-tail IsOctet y b k)
+
+    rest : Ordering
+    rest = by_rest (suc n) (x ∷ a) (y ∷ b)
+
+    by : Compared x y → octet_order a b ≡ ordering_then (nat_cmp (prefix_number n a) (prefix_number n b)) (by_rest n a b)
+        → ordering_then (nat_cmp x y) (octet_order a b) ≡ ordering_then (nat_cmp (prefix_number (suc n) (x ∷ a)) (prefix_number (suc n) (y ∷ b))) rest
+    by (below p) e =
+        ap (λ o. ordering_then o (octet_order a b)) (less x y p)
+        ∙ sym (ap (λ o. ordering_then o rest) (less _ _ (digit_less x y (256 ^ n) (prefix_number n a) (prefix_number n b) p more_a)))
+    by (above p) e =
+        ap (λ o. ordering_then o (octet_order a b)) (greater x y p)
+        ∙ sym (ap (λ o. ordering_then o rest) (greater _ _ (digit_less y x (256 ^ n) (prefix_number n b) (prefix_number n a) p more_b)))
+    by (same p) e =
+        ap (λ o. ordering_then o (octet_order a b)) (level x y p)
+        ∙ e
+        ∙ ap (λ o. ordering_then (nat_cmp (prefix_number n a) (prefix_number n b)) (ordering_then (octet_order (drop n a) (drop n b)) o)) (sym (next (length a) (length b)))
+        ∙ (λ i. ordering_then (sym (shifted (x * 256 ^ n) (prefix_number n a) (prefix_number n b)) i) rest)
+        ∙ (λ i. ordering_then (nat_cmp (x * 256 ^ n + prefix_number n a) (p i * 256 ^ n + prefix_number n b)) rest)
+
+-- ---- the first octets of a key, read back from their number
+
+-- the first seven octets, where absent ones are 0
+abbrev padded : List ℕ → List ℕ
+padded os = get_or os 0 0 ∷ get_or os 1 0 ∷ get_or os 2 0 ∷ get_or os 3 0 ∷ get_or os 4 0 ∷ get_or os 5 0 ∷ get_or os 6 0 ∷ []
+
+pub small_at : (os : List ℕ) → All IsOctet os → (i : ℕ) → get_or os i 0 < 256
+small_at [] h i = omega arith
+small_at (o ∷ os) h zero = All-head IsOctet o os h
+small_at (o ∷ os) h (suc i) = small_at os (All-tail IsOctet o os h) i
+
+number_is : (os : List ℕ) → prefix_number 7 os ≡ from_be_bytes w64 (0 ∷ padded os)
+number_is os = omega (arith, prefix_none os, prefix_more 0 os, prefix_more 1 os, prefix_more 2 os, prefix_more 3 os, prefix_more 4 os, prefix_more 5 os, prefix_more 6 os)
+
+padded_small : (os : List ℕ) → All IsOctet os → (i : ℕ) → get_or (0 ∷ padded os) i 0 < 256
+padded_small os h zero = omega arith
+padded_small os h (suc zero) = small_at os h 0
+padded_small os h (suc (suc zero)) = small_at os h 1
+padded_small os h (suc (suc (suc zero))) = small_at os h 2
+padded_small os h (suc (suc (suc (suc zero)))) = small_at os h 3
+padded_small os h (suc (suc (suc (suc (suc zero))))) = small_at os h 4
+padded_small os h (suc (suc (suc (suc (suc (suc zero)))))) = small_at os h 5
+padded_small os h (suc (suc (suc (suc (suc (suc (suc zero))))))) = small_at os h 6
+padded_small os h (suc (suc (suc (suc (suc (suc (suc (suc i)))))))) = omega arith
+
+seven_are : (os : List ℕ) → All IsOctet os → seven_octets (prefix_number 7 os) ≡ padded os
+seven_are os h = ap (drop 1) (be_bytes_8 (0 ∷ padded os) (prefix_number 7 os) refl (padded_small os h) (number_is os))
+
+take_padded : (os : List ℕ) → take (length os) (padded os) ++ drop 7 os ≡ os
+take_padded [] = refl
+take_padded (a ∷ []) = refl
+take_padded (a ∷ b ∷ []) = refl
+take_padded (a ∷ b ∷ c ∷ []) = refl
+take_padded (a ∷ b ∷ c ∷ d ∷ []) = refl
+take_padded (a ∷ b ∷ c ∷ d ∷ e ∷ []) = refl
+take_padded (a ∷ b ∷ c ∷ d ∷ e ∷ f ∷ []) = refl
+take_padded (a ∷ b ∷ c ∷ d ∷ e ∷ f ∷ g ∷ []) = refl
+take_padded (a ∷ b ∷ c ∷ d ∷ e ∷ f ∷ g ∷ h ∷ os) = refl
+
+pub key_read : (os : List ℕ) → All IsOctet os → take (length os) (seven_octets (prefix_number 7 os)) ++ drop 7 os ≡ os
+key_read os h = ap (λ s. take (length os) s ++ drop 7 os) (seven_are os h) ∙ take_padded os

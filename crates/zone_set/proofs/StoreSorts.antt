@@ -8,14 +8,16 @@ use Rattle.std.specs.declared.cmp.Ordering.{Ordering}
 use Rattle.std.specs.declared.cmp.Ordering.TheVariants.{Less, Equal, Greater}
 use Rattle.std.proofs.lemmas.Bool.Decides.{nat_tests}
 use Rattle.std.proofs.lemmas.List.{get_or-map, length-map}
-use Rattle.std.proofs.lemmas.List.Elements.{All-head, All-tail, All-filter, filter_passes}
+use Rattle.std.proofs.lemmas.List.Elements.{All-nil, All-cons, All-head, All-tail, All-filter, filter_passes}
 use Rattle.std.proofs.lemmas.List.Sorted.{ranks_by, All-permutation, IsPermutation-map, sum_by-IsPermutation}
-use Rattle.zone_set.specs.Entries.{HasPrefix, entry_order, key_at, record_of}
+use Rattle.zone_record.specs.Names.{octet_order}
+use Rattle.zone_set.specs.Entries.{IsStoreEntry, entry_order, key_at, offset_of, parts_at, prefix_of, record_of}
 use Rattle.zone_set.specs.Prefixes.{prefix_number}
-use Rattle.zone_set.specs.Stored.{AddedRecord, stored_order}
+use Rattle.zone_set.specs.Stored.{AddedRecord, parts_cmp, stored_order}
 use Rattle.zone_set.specs.Stores.{stored_records}
 use Rattle.zone_set.specs.declared.entries.Entry.{Entry}
-use Rattle.zone_set.proofs.EntryOrders.{entries_total, stored_total}
+use Rattle.zone_set.proofs.EntriesRead.{prefix_is}
+use Rattle.zone_set.proofs.EntryOrders.{entries_total, same_keys, stored_total, then_equal}
 use Rattle.zone_set.proofs.Rising.{NoneLess, Rises, rises_from_sorted, rises_filter, one_list, sum_filter}
 
 -- the elements that come from those that pass a test
@@ -33,7 +35,7 @@ first_not Equal rest h = refl
 first_not Greater rest h = refl
 
 abbrev pub some_entry : Entry
-some_entry = record { prefix = 0; at = 0 }
+some_entry = record { high = 0; middle = 0; low = 0 }
 
 -- records in the order of their entries
 pub sorted_records : (octets : List ℕ) (entries : List Entry) → IsSorted (entry_order octets) entries → IsSorted stored_order (stored_records octets entries)
@@ -45,17 +47,17 @@ sorted_records octets entries sorted k d low high =
 
 -- entries whose places don't fall
 abbrev by_place : Entry → Entry → Bool
-by_place a b = nat_lt a.at b.at
+by_place a b = nat_lt (offset_of a) (offset_of b)
 
 pub not_below : (m n : ℕ) → n ≤ m → nat_lt m n ≡ false
 not_below m n h = Prim.grind (arith, nat_tests)
 
-none_before : (e : Entry) (es : List Entry) → ((j : ℕ) (d : Entry) → j < length es → e.at ≤ (get_or es j d).at) → NoneLess by_place e es
+none_before : (e : Entry) (es : List Entry) → ((j : ℕ) (d : Entry) → j < length es → offset_of e ≤ offset_of (get_or es j d)) → NoneLess by_place e es
 unfolding NoneLess
 none_before e [] h = tt
-none_before e (x ∷ es) h = (not_below x.at e.at (h 0 e (omega arith)), none_before e es (λ j d low. h (suc j) d (omega (arith, low))))
+none_before e (x ∷ es) h = (not_below (offset_of x) (offset_of e) (h 0 e (omega arith)), none_before e es (λ j d low. h (suc j) d (omega (arith, low))))
 
-places_rise : (es : List Entry) → IsNonDecreasingBy (λ e. e.at) es → Rises by_place es
+places_rise : (es : List Entry) → IsNonDecreasingBy offset_of es → Rises by_place es
 unfolding Rises
 places_rise [] h = tt
 places_rise (e ∷ es) h =
@@ -78,6 +80,20 @@ tie Greater Greater e h = cc
 lt_is : (m n : ℕ) → is_lt (nat_cmp m n) ≡ nat_lt m n
 lt_is m n = Prim.grind (arith, nat_tests)
 
+all_both : {X : Type 0} (P Q : X → Type 0) (xs : List X) → All P xs → All Q xs → All (λ x. P x × Q x) xs
+all_both P Q [] h k = All-nil (λ x. P x × Q x)
+all_both P Q (x ∷ xs) h k = All-cons (λ y. P y × Q y) x xs (All-head P x xs h, All-head Q x xs k) (all_both P Q xs (All-tail P x xs h) (All-tail Q x xs k))
+
+-- a prefix and an offset make one entry
+one_entry : (a b : Entry) → prefix_of a ≡ prefix_of b → offset_of a ≡ offset_of b → a.middle < 2 ^ 32 → b.middle < 2 ^ 32 → a.low < 2 ^ 32 → b.low < 2 ^ 32 → a ≡ b
+one_entry a b p o ma mb la lb =
+    let high : a.high ≡ b.high = omega (arith, p, ma, mb) in
+    let top : a.middle / 2 ^ 8 ≡ b.middle / 2 ^ 8 = omega (arith, p, ma, mb) in
+    let rest : a.middle % 2 ^ 8 ≡ b.middle % 2 ^ 8 = omega (arith, o, la, lb) in
+    let middle : a.middle ≡ b.middle = omega (arith, top, rest) in
+    let low : a.low ≡ b.low = omega (arith, o, la, lb) in
+    λ i. record { high = high i; middle = middle i; low = low i }
+
 module _ (octets : List ℕ) (x : AddedRecord) where
   abbrev test : Entry → Bool
   test e = not (is_lt (stored_order x (record_of octets e))) && not (is_lt (stored_order (record_of octets e) x))
@@ -90,8 +106,8 @@ module _ (octets : List ℕ) (x : AddedRecord) where
 
   place_not : (a b : Entry) → test a ≡ true → test b ≡ true → is_lt (entry_order octets b a) ≡ false → by_place b a ≡ false
   place_not a b h m not_less =
-      sym (lt_is b.at a.at)
-      ∙ sym (ap (λ o. is_lt (ordering_then o (nat_cmp b.at a.at))) (tied_both b a m h))
+      sym (lt_is (offset_of b) (offset_of a))
+      ∙ sym (ap (λ o. is_lt (ordering_then o (nat_cmp (offset_of b) (offset_of a)))) (tied_both b a m h))
       ∙ not_less
 
   none_place : (a : Entry) (bs : List Entry) → test a ≡ true → All (λ e. test e ≡ true) bs → NoneLess (λ a b. is_lt (entry_order octets a b)) a bs → NoneLess by_place a bs
@@ -106,21 +122,29 @@ module _ (octets : List ℕ) (x : AddedRecord) where
   rises_place (e ∷ es) all r =
       (none_place e es (All-head (λ e. test e ≡ true) e es all) (All-tail (λ e. test e ≡ true) e es all) r.0, rises_place es (All-tail (λ e. test e ≡ true) e es all) r.1)
 
-  apart : (a b : Entry) → HasPrefix octets a → HasPrefix octets b → a.at ≡ b.at → a ≡ b
-  apart a b p q e =
-      let prefix : a.prefix ≡ b.prefix = p ∙ ap (λ n. prefix_number 8 (key_at octets (n / 2 ^ 24 - n % 2 ^ 24))) e ∙ sym q in
-      λ i. record { prefix = prefix i; at = e i }
+  -- entries that tie with a record, and have one offset, are equal
+  abbrev Tied : Entry → Type 0
+  Tied e = IsStoreEntry octets e × (test e ≡ true)
 
-  same_entries : (before entries : List Entry) → All (HasPrefix octets) before → IsNonDecreasingBy (λ e. e.at) before → IsPermutation before entries → IsSorted (entry_order octets) entries
+  apart : (a b : Entry) → Tied a → Tied b → offset_of a ≡ offset_of b → a ≡ b
+  apart a b p q same =
+      let keys : key_at octets a ≡ key_at octets b = same_keys (key_at octets a) (key_at octets b) (then_equal (octet_order (key_at octets a) (key_at octets b)) (parts_cmp (parts_at octets a) (parts_at octets b)) (tied_both a b p.1 q.1)) in
+      let prefixes : prefix_of a ≡ prefix_of b = prefix_is octets a p.0.0 p.0.1 ∙ ap (prefix_number 7) keys ∙ sym (prefix_is octets b q.0.0 q.0.1) in
+      one_entry a b prefixes same p.0.1.middle_fits q.0.1.middle_fits p.0.1.low_fits q.0.1.low_fits
+
+  all_tied : (es : List Entry) → All (IsStoreEntry octets) es → All Tied (filter test es)
+  all_tied es all = all_both (IsStoreEntry octets) (λ e. test e ≡ true) (filter test es) (All-filter test (IsStoreEntry octets) es all) (filter_passes test es)
+
+  same_entries : (before entries : List Entry) → All (IsStoreEntry octets) before → IsNonDecreasingBy offset_of before → IsPermutation before entries → IsSorted (entry_order octets) entries
       → filter test entries ≡ filter test before
   same_entries before entries good rise moved sorted =
       let order : Rises (λ a b. is_lt (entry_order octets a b)) entries = rises_from_sorted (λ a b. is_lt (entry_order octets a b)) (ranks_by (entries_total octets) (λ e. e)) entries sorted in
-      one_list (λ e. e.at) (HasPrefix octets) apart (filter test entries) (filter test before)
-      (All-filter test (HasPrefix octets) entries (All-permutation (HasPrefix octets) before entries moved good)) (All-filter test (HasPrefix octets) before good)
+      one_list offset_of Tied apart (filter test entries) (filter test before)
+      (all_tied entries (All-permutation (IsStoreEntry octets) before entries moved good)) (all_tied before good)
       (rises_place (filter test entries) (filter_passes test entries) (rises_filter (λ a b. is_lt (entry_order octets a b)) test entries order)) (rises_filter by_place test before (places_rise before rise))
       (λ f. sum_filter test f entries ∙ sum_by-IsPermutation (λ e. cond (test e) (f e) 0) before entries moved ∙ sym (sum_filter test f before))
 
-pub stable_records : (octets : List ℕ) (before entries : List Entry) → All (HasPrefix octets) before → IsNonDecreasingBy (λ e. e.at) before → IsPermutation before entries → IsSorted (entry_order octets) entries
+pub stable_records : (octets : List ℕ) (before entries : List Entry) → All (IsStoreEntry octets) before → IsNonDecreasingBy offset_of before → IsPermutation before entries → IsSorted (entry_order octets) entries
     → IsStable stored_order (stored_records octets before) (stored_records octets entries)
 stable_records octets before entries good rise moved sorted x =
     let q : AddedRecord → Bool = λ r. not (is_lt (stored_order x r)) && not (is_lt (stored_order r x)) in

@@ -1,10 +1,23 @@
 -- Octets after their length.
-use Rattle.std.specs.Prelude.{◌≡◌, ◌<◌, ◌^◌, ℕ, if◌then◌else◌, nat_lt, List, [], ◌∷◌, ◌++◌, length, take, drop}
+use Rattle.std.specs.Prelude.{◌≡◌, ◌<◌, ◌+◌, ◌*◌, ◌^◌, ℕ, if◌then◌else◌, nat_lt, List, [], ◌∷◌, ◌++◌, length, take, drop, get_or}
 use Rattle.std.specs.Int.{from_be_bytes, to_be_bytes, w16}
 
--- a length below 255 is one octet, and any other is 255 and two octets; then the octets
+-- a length below 255 is one octet, and any other is 255 and two octets
+abbrev pub length_octets : ℕ → List ℕ
+length_octets n = if nat_lt n 255 then n ∷ [] else 255 ∷ to_be_bytes w16 n
+
+-- the length, then the octets
 abbrev pub counted_octets : List ℕ → List ℕ
-counted_octets octets = (if nat_lt (length octets) 255 then length octets ∷ [] else 255 ∷ to_be_bytes w16 (length octets)) ++ octets
+counted_octets octets = length_octets (length octets) ++ octets
+
+-- the length that octets begin with, and the octets after it; absent octets count as 0
+abbrev pub first_length : List ℕ → ℕ
+first_length [] = 0
+first_length (count ∷ rest) = if nat_lt count 255 then count else get_or rest 0 0 * 256 + get_or rest 1 0
+
+abbrev pub after_length : List ℕ → List ℕ
+after_length [] = []
+after_length (count ∷ rest) = if nat_lt count 255 then rest else drop 2 rest
 
 -- the octets that a length of two octets counts, or those that there are of them, and the rest
 abbrev pub first_long : List ℕ → List ℕ

@@ -1,75 +1,108 @@
--- Entries: where the key and the rest of a record are among the octets of a store.
-use Rattle.std.specs.Prelude.{◌≡◌, ◌<◌, ◌^◌, ◌/◌, ◌%◌, ◌-◌, ℕ, if◌then◌else◌, Bool, List, ◌++◌, length, drop}
+-- Entries: the first octets of a record's key, and where its other octets are among those of a store.
+use Rattle.std.specs.Prelude.{◌≡◌, ◌<◌, ◌+◌, ◌*◌, ◌^◌, ◌/◌, ◌%◌, ◌-◌, ℕ, if◌then◌else◌, All, Bool, List, ◌++◌, length, take, drop}
+use Rattle.std.specs.Int.{to_be_bytes, w64}
 use Rattle.std.specs.Ordering.{is_lt, nat_cmp, ordering_then}
 use Rattle.std.specs.declared.cmp.Ordering.{Ordering}
 use Rattle.zone_record.specs.Names.{octet_order}
-use Rattle.zone_set.specs.Counted.{counted_octets, first_counted}
+use Rattle.zone_set.specs.Counted.{first_length, after_length, length_octets}
 use Rattle.zone_set.specs.Parts.{RecordParts, PartsFit, parts_octets, begins_parts, first_parts}
 use Rattle.zone_set.specs.Prefixes.{prefix_number}
 use Rattle.zone_set.specs.Stored.{AddedRecord, absent_parts, parts_cmp, stored_order, type_order}
 use Rattle.zone_set.specs.declared.entries.Entry.{Entry}
 
--- where the rest of the record begins, and where its key does, before it
-abbrev pub parts_offset : Entry → ℕ
-parts_offset e = e.at / 2 ^ 24
+-- the first seven octets of the key as a number, and where the other octets of the record begin
+abbrev pub prefix_of : Entry → ℕ
+prefix_of e = e.high * 2 ^ 24 + e.middle / 2 ^ 8
 
-abbrev pub key_offset : Entry → ℕ
-key_offset e = e.at / 2 ^ 24 - e.at % 2 ^ 24
+abbrev pub offset_of : Entry → ℕ
+offset_of e = e.middle % 2 ^ 8 * 2 ^ 32 + e.low
 
--- the octets after their length at an offset
-abbrev pub key_at : List ℕ → ℕ → List ℕ
-key_at octets offset = first_counted (drop offset octets)
+-- the octets from there on
+abbrev pub octets_of : List ℕ → Entry → List ℕ
+octets_of octets e = drop (offset_of e) octets
 
--- all of a record but its key, at the start of octets and at an offset
+-- a record without the first seven octets of its key: the length of the key, its other octets, and all else
+unfoldable pub record_octets : AddedRecord → List ℕ
+record_octets r = length_octets (length r.key) ++ (drop 7 r.key ++ parts_octets r.parts)
+
+-- the octets of a key after the first seven, and what follows them, in octets that begin with its length
+abbrev pub first_rest : List ℕ → List ℕ
+first_rest octets = take (first_length octets - 7) (after_length octets)
+
+abbrev pub after_rest : List ℕ → List ℕ
+after_rest octets = drop (first_length octets - 7) (after_length octets)
+
+-- the seven octets of a number, the most significant first
+abbrev pub seven_octets : ℕ → List ℕ
+seven_octets prefix = drop 1 (to_be_bytes w64 prefix)
+
+-- a key by its first octets as a number, and by octets that begin with its length
+abbrev pub key_in : ℕ → List ℕ → List ℕ
+key_in prefix octets = take (first_length octets) (seven_octets prefix) ++ first_rest octets
+
+-- all of a record but its key, at the start of octets
 abbrev pub parts_or_absent : List ℕ → RecordParts
 parts_or_absent octets = if begins_parts octets then first_parts octets else absent_parts
 
-abbrev pub parts_at : List ℕ → ℕ → RecordParts
-parts_at octets offset = parts_or_absent (drop offset octets)
+-- the key, and all else, of the record of an entry
+abbrev pub key_at : List ℕ → Entry → List ℕ
+key_at octets e = key_in (prefix_of e) (octets_of octets e)
 
--- the record of an entry
+abbrev pub parts_at : List ℕ → Entry → RecordParts
+parts_at octets e = parts_or_absent (after_rest (octets_of octets e))
+
 abbrev pub record_of : List ℕ → Entry → AddedRecord
-record_of octets e = record { key = key_at octets (key_offset e); parts = parts_at octets (parts_offset e) }
+record_of octets e = record { key = key_at octets e; parts = parts_at octets e }
 
 -- octets have others at an offset
 abbrev pub HasAt : List ℕ → ℕ → List ℕ → Type 0
 HasAt octets offset part = (front back : List ℕ) × (octets ≡ front ++ (part ++ back)) × (length front ≡ offset)
 
--- an entry is that of a record: the octets have the key after its length, and the rest, where the entry says
+-- an entry is that of a record: it has the first octets of the key, and the store has the others where the entry says
 pub record IsEntryOf (octets : List ℕ) (e : Entry) (r : AddedRecord) : Type 0 where
   pub key_fits : length r.key < 2 ^ 16
+  pub key_small : All (λ o. o < 256) r.key
   pub parts_fit : PartsFit r.parts
-  pub key : HasAt octets (key_offset e) (counted_octets r.key)
-  pub parts : HasAt octets (parts_offset e) (parts_octets r.parts)
-  pub prefix : e.prefix ≡ prefix_number 8 r.key
+  pub has : HasAt octets (offset_of e) (record_octets r)
+  pub prefix : prefix_of e ≡ prefix_number 7 r.key
+  pub middle_fits : e.middle < 2 ^ 32
+  pub low_fits : e.low < 2 ^ 32
 
 abbrev pub IsStoreEntry : List ℕ → Entry → Type 0
 IsStoreEntry octets e = (r : AddedRecord) × IsEntryOf octets e r
 
--- an entry has a prefix, and the offsets of a key and of the rest of a record
-abbrev pub IsEntryFor : ℕ → ℕ → ℕ → Entry → Type 0
-IsEntryFor prefix key parts e = (e.prefix ≡ prefix) × (key_offset e ≡ key) × (parts_offset e ≡ parts)
+-- an entry has a prefix and an offset
+abbrev pub IsEntryFor : ℕ → ℕ → Entry → Type 0
+IsEntryFor prefix offset e = (prefix_of e ≡ prefix) × (offset_of e ≡ offset) × (e.middle < 2 ^ 32) × (e.low < 2 ^ 32)
 
--- the prefix of an entry is that of its key
-abbrev pub HasPrefix : List ℕ → Entry → Type 0
-HasPrefix octets e = e.prefix ≡ prefix_number 8 (key_at octets (key_offset e))
+-- keys without their first seven octets compare as the octets that they have, then by their lengths
+abbrev pub rests_order : List ℕ → List ℕ → Ordering
+rests_order a b = ordering_then (octet_order (first_rest a) (first_rest b)) (nat_cmp (first_length a) (first_length b))
 
--- as the records, and those that are equal by what the entries say of their place
-abbrev pub entry_order : List ℕ → Entry → Entry → Ordering
-entry_order octets a b = ordering_then (stored_order (record_of octets a) (record_of octets b)) (nat_cmp a.at b.at)
+abbrev pub rest_order : List ℕ → List ℕ → Ordering
+rest_order octets key = ordering_then (octet_order (first_rest octets) (drop 7 key)) (nat_cmp (first_length octets) (length key))
 
--- the prefixes, then the keys
+-- a key compared with another: the prefixes, then the rest
 abbrev pub prefixed_keys : List ℕ → Entry → ℕ → List ℕ → Ordering
-prefixed_keys octets e prefix key = ordering_then (nat_cmp e.prefix prefix) (octet_order (key_at octets (key_offset e)) key)
+prefixed_keys octets e prefix key = ordering_then (nat_cmp (prefix_of e) prefix) (rest_order (octets_of octets e) key)
 
--- by the prefixes, then the keys, class, type and RDATA, and then by what the entries say of their place
+-- records compared: the prefixes of their keys, then the keys, then class, type and RDATA
+abbrev pub octets_order : List ℕ → List ℕ → Ordering
+octets_order a b = ordering_then (rests_order a b) (parts_cmp (parts_or_absent (after_rest a)) (parts_or_absent (after_rest b)))
+
+abbrev pub prefixed_records : List ℕ → Entry → Entry → Ordering
+prefixed_records octets a b = ordering_then (nat_cmp (prefix_of a) (prefix_of b)) (octets_order (octets_of octets a) (octets_of octets b))
+
+-- as the records, and those that are equal in the order of their offsets
 abbrev pub prefixed_order : List ℕ → Entry → Entry → Ordering
-prefixed_order octets a b =
-    ordering_then (prefixed_keys octets a b.prefix (key_at octets (key_offset b))) (ordering_then (parts_cmp (parts_at octets (parts_offset a)) (parts_at octets (parts_offset b))) (nat_cmp a.at b.at))
+prefixed_order octets a b = ordering_then (prefixed_records octets a b) (nat_cmp (offset_of a) (offset_of b))
+
+abbrev pub entry_order : List ℕ → Entry → Entry → Ordering
+entry_order octets a b = ordering_then (stored_order (record_of octets a) (record_of octets b)) (nat_cmp (offset_of a) (offset_of b))
 
 -- a record is before a key, or before an RRset, by the prefixes first
 abbrev pub is_before_key : List ℕ → ℕ → List ℕ → Entry → Bool
 is_before_key octets prefix key e = is_lt (prefixed_keys octets e prefix key)
 
 abbrev pub is_before_rrset : List ℕ → ℕ → List ℕ → ℕ → ℕ → Entry → Bool
-is_before_rrset octets prefix key class code e = is_lt (ordering_then (prefixed_keys octets e prefix key) (type_order (parts_at octets (parts_offset e)) class code))
+is_before_rrset octets prefix key class code e = is_lt (ordering_then (prefixed_keys octets e prefix key) (type_order (parts_at octets e) class code))

@@ -1,28 +1,28 @@
 -- Worked rows of keys, records and entries.
 use Rattle.std.specs.Prelude.{◌≡◌, ℕ, true, false, List, [], ◌∷◌, ◌++◌, ◌+◌, ◌*◌, ◌^◌, replicate, codes, refl}
 use Rattle.std.specs.declared.cmp.Ordering.TheVariants.{Less, Greater}
-use Rattle.zone_set.specs.Counted.{counted_octets, first_counted, after_counted}
+use Rattle.zone_set.specs.Counted.{counted_octets, first_counted, after_counted, first_length, after_length}
 use Rattle.zone_set.specs.Duplicates.{is_duplicate_at}
-use Rattle.zone_set.specs.Entries.{key_at, key_offset, parts_at, parts_offset, record_of}
+use Rattle.zone_set.specs.Entries.{key_in, offset_of, parts_at, prefix_of, record_octets, record_of}
 use Rattle.zone_set.specs.Parts.{RecordParts, parts_octets, numbers_octets, octets16, octets32, octets64, begins_parts}
 use Rattle.zone_set.specs.Prefixes.{prefix_number}
 use Rattle.zone_set.specs.Stored.{AddedRecord, added_record, absent_parts, has_stored_rrset, is_same_stored, record_at, stored_order}
 use Rattle.zone_set.specs.declared.entries.Entry.{Entry}
 
--- of no octets, of one, of eight, and of nine, the last of which does not count
-none_prefix_row : prefix_number 8 [] ≡ 0
+-- of no octets, of one, of seven, and of eight, the last of which does not count
+none_prefix_row : prefix_number 7 [] ≡ 0
 none_prefix_row = refl
 
-first_prefix_row : prefix_number 8 (1 ∷ []) ≡ 72057594037927936
+first_prefix_row : prefix_number 7 (1 ∷ []) ≡ 281474976710656
 first_prefix_row = refl
 
-last_prefix_row : prefix_number 8 (replicate 7 0 ++ 1 ∷ []) ≡ 1
+last_prefix_row : prefix_number 7 (replicate 6 0 ++ 1 ∷ []) ≡ 1
 last_prefix_row = refl
 
-greatest_prefix_row : prefix_number 8 (replicate 8 255) ≡ 18446744073709551615
+greatest_prefix_row : prefix_number 7 (replicate 7 255) ≡ 72057594037927935
 greatest_prefix_row = refl
 
-long_prefix_row : prefix_number 8 (replicate 8 0 ++ 1 ∷ []) ≡ 0
+long_prefix_row : prefix_number 7 (replicate 7 0 ++ 1 ∷ []) ≡ 0
 long_prefix_row = refl
 
 -- lengths of one octet, and of three
@@ -37,6 +37,21 @@ long_row = refl
 
 longer_row : counted_octets (replicate 256 7) ≡ 255 ∷ 1 ∷ 0 ∷ replicate 256 7
 longer_row = refl
+
+length_row : first_length (254 ∷ 1 ∷ []) ≡ 254
+length_row = refl
+
+after_length_row : after_length (254 ∷ 1 ∷ []) ≡ 1 ∷ []
+after_length_row = refl
+
+long_length_row : first_length (255 ∷ 1 ∷ 2 ∷ 3 ∷ []) ≡ 258
+long_length_row = refl
+
+after_long_length_row : after_length (255 ∷ 1 ∷ 2 ∷ 3 ∷ []) ≡ 3 ∷ []
+after_long_length_row = refl
+
+cut_off_length_row : first_length (255 ∷ 1 ∷ []) ≡ 256
+cut_off_length_row = refl
 
 -- octets between others, and octets of which some are absent
 first_row : first_counted (2 ∷ codes "abc") ≡ codes "ab"
@@ -91,32 +106,43 @@ cut_usual_row = refl
 cut_begins_row : begins_parts (253 ∷ replicate 9 0) ≡ false
 cut_begins_row = refl
 
--- two records of the owner `b`: the key at 0, the first record at 2, the second at 18
+-- the first octets of a key are in its entry, and the others are after the length
+record_row : record_octets (added_record (codes "abcdefghi") (address 1)) ≡ 9 ∷ (codes "hi" ++ parts_octets (address 1))
+unfolding record_octets
+record_row = refl
+
+long_key_row : key_in (prefix_number 7 (codes "abcdefghi")) (9 ∷ codes "hij") ≡ codes "abcdefghi"
+long_key_row = refl
+
+short_key_row : key_in (prefix_number 7 (codes "ab")) (2 ∷ codes "hij") ≡ codes "ab"
+short_key_row = refl
+
+zero_key_row : key_in 0 (3 ∷ codes "hij") ≡ 0 ∷ 0 ∷ 0 ∷ []
+zero_key_row = refl
+
+-- two records of the owner `b`: the first at 0, the second at 17
 abbrev two_records : List ℕ
-two_records = 1 ∷ (codes "b" ++ (parts_octets (address 1) ++ parts_octets (address 3)))
+two_records = record_octets (added_record (codes "b") (address 1)) ++ record_octets (added_record (codes "b") (address 3))
 
 abbrev entry : ℕ → Entry
-entry offset = record { prefix = prefix_number 8 (codes "b"); at = offset * 2 ^ 24 + offset }
+entry offset = record { high = 98 * 2 ^ 24; middle = 0; low = offset }
 
-key_row : key_at two_records 0 ≡ codes "b"
-key_row = refl
+entry_prefix_row : prefix_of (entry 17) ≡ prefix_number 7 (codes "b")
+entry_prefix_row = refl
 
-second_key_row : key_offset (entry 18) ≡ 0
-second_key_row = refl
+entry_offset_row : offset_of (record { high = 98 * 2 ^ 24; middle = 256 + 2; low = 17 }) ≡ 2 * 2 ^ 32 + 17
+entry_offset_row = refl
 
-second_offset_row : parts_offset (entry 18) ≡ 18
-second_offset_row = refl
-
-first_of_two_row : record_of two_records (entry 2) ≡ added_record (codes "b") (address 1)
-unfolding parts_octets numbers_octets octets16 octets32 octets64
+first_of_two_row : record_of two_records (entry 0) ≡ added_record (codes "b") (address 1)
+unfolding record_octets parts_octets numbers_octets octets16 octets32 octets64
 first_of_two_row = refl
 
-second_of_two_row : record_of two_records (entry 18) ≡ added_record (codes "b") (address 3)
-unfolding parts_octets numbers_octets octets16 octets32 octets64
+second_of_two_row : record_of two_records (entry 17) ≡ added_record (codes "b") (address 3)
+unfolding record_octets parts_octets numbers_octets octets16 octets32 octets64
 second_of_two_row = refl
 
-no_record_row : parts_at two_records 44 ≡ absent_parts
-unfolding parts_octets numbers_octets octets16 octets32 octets64
+no_record_row : parts_at two_records (entry 44) ≡ absent_parts
+unfolding record_octets parts_octets numbers_octets octets16 octets32 octets64
 no_record_row = refl
 
 -- by key, class, type and RDATA, but neither by TTL nor by file

@@ -1,9 +1,69 @@
 //! Octets after their length, so that they can be found again among others.
-ghost use Rattle.std.specs.Prelude.{◌≡◌, ◌<◌, ◌^◌, ◌++◌, OnOk, OnErr, drop, length};
+ghost use Rattle.std.specs.Prelude.{◌≡◌, ◌+◌, ◌*◌, ◌<◌, ◌^◌, ◌++◌, OnOk, OnErr, drop, get_or, length};
 ghost use Rattle.dns_octets.specs.Appending.{Extends};
-ghost use Rattle.zone_set.specs.Counted.{after_counted, after_long, counted_octets, first_counted, first_long, SplitsCounted, SplitsLong};
+ghost use Rattle.zone_set.specs.Counted.{after_counted, after_length, after_long, counted_octets, first_counted, first_length, first_long, length_octets, SplitsCounted, SplitsLong};
 
 use std::alloc::{AllocError, Allocator};
+
+/// Returns the octet at an index, or 0 after the last octet.
+pub(crate) fn octet_or_zero(octets: &[u8], index: usize) -> u8
+    ensures { result ≡ get_or octets.now index 0 }
+{
+    match octets.get(index) {
+        Some(octet) => *octet,
+        None => 0,
+    }
+}
+
+/// Returns the octets from an offset on, or none after the end.
+pub(crate) fn rest_at(octets: &[u8], offset: usize) -> &[u8]
+    ensures { result.now ≡ drop offset octets.now }
+{
+    match octets.get(offset..) {
+        Some(rest) => rest,
+        None => &[],
+    }
+}
+
+/// Appends a length. If it is below 255 it is one octet; else it is the octet 255 and then two octets,
+/// the most significant first.
+///
+/// Fails without memory; the first octets may then have been appended.
+pub(crate) fn push_length<A: Allocator>(count: usize, out: &mut Vec<u8, A>) -> Result<(), AllocError>
+    requires { count < 2 ^ 16 }
+    ensures ok { OnOk result (out.new.items ≡ out.old.items ++ length_octets count) }
+    ensures err { OnErr result (Extends out.old.items out.new.items) }
+{
+    if count < 255 {
+        out.push(count as u8)?;
+        return Ok(());
+    }
+    out.push(255)?;
+    out.extend_from_slice(&(count as u16).to_be_bytes())
+}
+
+/// Splits octets that begin with a length of two octets: returns the length, and the rest.
+fn split_long_length(octets: &[u8]) -> (usize, &[u8])
+    ensures count { result.0 ≡ get_or octets.now 0 0 * 256 + get_or octets.now 1 0 }
+    ensures rest { result.1.now ≡ drop 2 octets.now }
+{
+    let high = usize::from(octet_or_zero(octets, 0));
+    let low = usize::from(octet_or_zero(octets, 1));
+    (high * 256 + low, rest_at(octets, 2))
+}
+
+/// Splits octets that begin with a length as [`push_length`] appends it: returns the length, and the
+/// rest. Octets that the length lacks count as 0.
+pub(crate) fn split_length(octets: &[u8]) -> (usize, &[u8])
+    ensures count { result.0 ≡ first_length octets.now }
+    ensures rest { result.1.now ≡ after_length octets.now }
+{
+    match octets.split_first() {
+        Some((count, rest)) if *count < 255 => (usize::from(*count), rest),
+        Some((_, rest)) => split_long_length(rest),
+        None => (0, &[]),
+    }
+}
 
 /// Appends the length of octets, then the octets. A length below 255 is one octet; any other is the
 /// octet 255 and then two octets, the most significant first.

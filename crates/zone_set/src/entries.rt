@@ -1,23 +1,25 @@
-//! Entries: where the key and the rest of each record are among the octets of a store.
-ghost use Rattle.std.specs.Prelude.{◌≡◌, ◌<◌, All, IfSome, OnErr, OnOk, drop, get_or, length};
+//! Entries: the first octets of the key of each record, and where its other octets are in a store.
+ghost use Rattle.std.specs.Prelude.{◌≡◌, ◌<◌, ◌^◌, ◌++◌, All, IfSome, OnErr, OnOk, length, take};
 ghost use Rattle.std.specs.List.Sorted.{IsPermutation, IsSorted};
 ghost use Rattle.std.specs.Ordering.{nat_cmp, ordering_then};
-ghost use Rattle.zone_set.specs.Entries.{entry_order, key_at, key_offset, parts_at, parts_offset, parts_or_absent, prefixed_keys, prefixed_order, HasPrefix, IsStoreEntry, IsEntryFor};
+ghost use Rattle.zone_record.specs.Names.{octet_order};
+ghost use Rattle.zone_set.specs.Counted.{first_length};
+ghost use Rattle.zone_set.specs.Entries.{after_rest, entry_order, first_rest, key_at, octets_of, octets_order, offset_of, parts_at, parts_or_absent, prefix_of, prefixed_keys, prefixed_order, prefixed_records, rest_order, seven_octets, IsEntryFor, IsStoreEntry};
 ghost use Rattle.zone_set.specs.Indexes.{stored_at};
 ghost use Rattle.zone_set.specs.Parts.{record_parts};
 ghost use Rattle.zone_set.specs.Prefixes.{prefix_number};
-ghost use Rattle.zone_set.specs.Stored.{absent_parts, parts_cmp, record_at};
-ghost use Rattle.zone_set.specs.Stores.{stored_records};
+ghost use Rattle.zone_set.specs.Stored.{absent_parts, parts_cmp, stored_order};
 
-use crate::counted::split_counted;
+use crate::counted::{octet_or_zero, rest_at, split_length};
 use crate::records::{EntryHeader, GroupEntry, first_type, split_record};
+use arrayvec::ArrayVec;
 use rdata_values::{Class, RecordType};
 use std::alloc::{AllocError, Allocator};
 use std::cmp::Ordering;
 use zone_record::compare_any_data;
 
-/// One more than the greatest distance from a key to a record that shares it, in octets.
-pub(crate) const REACH: u64 = 16777216;
+/// Number of octets of a key that an entry has.
+pub(crate) const PREFIX: usize = 7;
 
 /// Least number of entries that are sorted in place: memory for half of so many would matter.
 const MANY: usize = 8388608;
@@ -25,49 +27,39 @@ const MANY: usize = 8388608;
 /// One more than the greatest offset of a record in a store.
 const MAX_OFFSET: u64 = 1099511627776;
 
-/// A record of a store. Its key, after the length ([`push_counted`](crate::push_counted)), and the
-/// rest of it ([`append_stored`](crate::append_stored)) are among the octets of the store.
+/// A record of a store: the first seven octets of its key, and the offset of its other octets among
+/// those of the store. Octets that the key lacks are 0.
 #[derive(Clone, Copy)]
 pub struct Entry {
-    /// First eight octets of the key, as [`key_prefix`] returns them.
-    pub prefix: u64,
-    /// Offset of the record without its key, times 2^24, plus the distance from the key to it.
-    pub at: u64,
+    /// First four octets of the key, the first most significant.
+    pub high: u32,
+    /// Next three octets of the key, then the first of five octets of the offset.
+    pub middle: u32,
+    /// Other octets of the offset.
+    pub low: u32,
 }
 
-/// Returns the octet at an index, or 0 after the last octet.
-fn octet_or_zero(octets: &[u8], index: usize) -> u8
-    ensures { result ≡ get_or octets.now index 0 }
-{
-    match octets.get(index) {
-        Some(octet) => *octet,
-        None => 0,
-    }
+/// The key of a record of a store: its first octets, seven at most, and the others.
+#[derive(Drop)]
+pub struct StoredKey<'s> {
+    pub first: ArrayVec<u8, 7>,
+    pub rest: &'s [u8],
 }
 
-/// Returns the first eight octets of a key as a number, the first octet most significant. Octets
+/// Returns the first seven octets of a key as a number, the first octet most significant. Octets
 /// that the key lacks count as 0.
 ///
 /// A key with a lesser number is before one with a greater number. Keys with one number may be in
 /// any order.
 pub fn key_prefix(key: &[u8]) -> u64
-    ensures { result ≡ prefix_number 8 key.now }
+    ensures value { result ≡ prefix_number 7 key.now }
+    ensures least { result < 2 ^ 56 }
 {
     let mut prefix = 0;
-    for index in 0..8 {
+    for index in 0..PREFIX {
         prefix = prefix * 256 + u64::from(octet_or_zero(key, index));
     }
     prefix
-}
-
-/// Returns the octets that follow their length at an offset, or none after the end.
-fn key_at(octets: &[u8], offset: usize) -> &[u8]
-    ensures { result.now ≡ key_at octets.now offset }
-{
-    match octets.get(offset..) {
-        Some(rest) => split_counted(rest).0,
-        None => &[],
-    }
 }
 
 /// Returns a record without its owner, type, class, TTL, file and RDATA.
@@ -87,16 +79,6 @@ fn absent<'s>() -> GroupEntry<'s>
     }
 }
 
-/// Returns the octets from an offset on, or none after the end.
-fn rest_at(octets: &[u8], offset: usize) -> &[u8]
-    ensures { result.now ≡ drop offset octets.now }
-{
-    match octets.get(offset..) {
-        Some(rest) => rest,
-        None => &[],
-    }
-}
-
 /// Returns the record that octets begin with, without its owner. If they begin with none, all of its
 /// numbers are 0.
 fn first_or_absent(octets: &[u8]) -> GroupEntry<'_>
@@ -106,14 +88,6 @@ fn first_or_absent(octets: &[u8]) -> GroupEntry<'_>
         Some((found, _)) => found,
         None => absent(),
     }
-}
-
-/// Returns the record at an offset, without its owner. If octets have none there, all of its numbers
-/// are 0.
-fn parts_at(octets: &[u8], offset: usize) -> GroupEntry<'_>
-    ensures { record_parts result ≡ parts_at octets.now offset }
-{
-    first_or_absent(rest_at(octets, offset))
 }
 
 /// Returns the class and the type of the record that octets begin with. If they begin with none, both
@@ -132,66 +106,109 @@ fn first_type_or_absent(octets: &[u8]) -> (Class, RecordType)
 }
 
 impl Entry {
-    /// Returns the entry of a record whose key has an offset and whose other parts have another.
-    /// Returns `None` if an offset is 2^40 or greater, or if the second is not after the first by
-    /// less than 2^24.
-    pub(crate) fn new(prefix: u64, key: usize, parts: usize) -> Option<Entry>
-        ensures { IfSome result (IsEntryFor prefix key parts) }
+    /// Returns the entry of a record whose key has a prefix and whose other octets have an offset.
+    /// Returns `None` if the offset is 2^40 or greater.
+    pub(crate) fn new(prefix: u64, offset: usize) -> Option<Entry>
+        requires { prefix < 2 ^ 56 }
+        ensures { IfSome result (IsEntryFor prefix offset) }
     {
-        let distance = parts.checked_sub(key)? as u64;
-        let offset = parts as u64;
-        if distance >= REACH || offset >= MAX_OFFSET {
+        let offset = offset as u64;
+        if offset >= MAX_OFFSET {
             return None;
         }
         Some(Entry {
-            prefix,
-            at: offset * REACH + distance,
+            high: (prefix / 16777216) as u32,
+            middle: (prefix % 16777216 * 256 + offset / 4294967296) as u32,
+            low: (offset % 4294967296) as u32,
         })
     }
 
-    /// Returns the offset of the record without its key.
-    fn parts_offset(&self) -> usize
-        ensures { result ≡ parts_offset self.now }
+    /// Returns the first seven octets of the key as a number.
+    fn prefix(&self) -> u64
+        ensures { result ≡ prefix_of self.now }
     {
-        (self.at / REACH) as usize
+        u64::from(self.high) * 16777216 + u64::from(self.middle / 256)
     }
 
-    /// Returns the offset of the key.
-    pub(crate) fn key_offset(&self) -> usize
-        ensures { result ≡ key_offset self.now }
+    /// Returns the offset of the other octets.
+    fn offset(&self) -> usize
+        ensures { result ≡ offset_of self.now }
     {
-        (self.at / REACH).saturating_sub(self.at % REACH) as usize
+        (u64::from(self.middle % 256) * 4294967296 + u64::from(self.low)) as usize
     }
 }
 
-/// Returns the key of an entry.
-pub(crate) fn key_of<'s>(octets: &'s [u8], entry: &Entry) -> &'s [u8]
-    ensures { result.now ≡ key_at octets.now (key_offset entry.now) }
+/// Returns the octets of a store from those of the record of an entry on.
+fn octets_of<'s>(octets: &'s [u8], entry: &Entry) -> &'s [u8]
+    ensures { result.now ≡ octets_of octets.now entry.now }
 {
-    key_at(octets, entry.key_offset())
+    rest_at(octets, entry.offset())
+}
+
+/// Splits octets that begin with the length of a key: returns the length, the octets of the key after
+/// the first seven, and the octets after these.
+fn split_rest(octets: &[u8]) -> (usize, &[u8], &[u8])
+    ensures count { result.0 ≡ first_length octets.now }
+    ensures rest { result.1.now ≡ first_rest octets.now }
+    ensures after { result.2.now ≡ after_rest octets.now }
+{
+    let (count, more) = split_length(octets);
+    let (rest, after) = more.split_at(more.len().min(count.saturating_sub(PREFIX)));
+    (count, rest, after)
+}
+
+/// Returns the first octets of a key by their number, if the key has a length.
+fn first_octets(prefix: u64, count: usize) -> ArrayVec<u8, 7>
+    ensures { result.items ≡ take count (seven_octets prefix) }
+{
+    let octets = prefix.to_be_bytes();
+    let mut first = ArrayVec::new();
+    first
+        .try_extend_from_slice(&octets[1..count.min(PREFIX) + 1])
+        .unwrap();
+    first
+}
+
+/// Returns the key of an entry.
+pub(crate) fn key_of<'s>(octets: &'s [u8], entry: &Entry) -> StoredKey<'s>
+    ensures { result.first.items ++ result.rest.now ≡ key_at octets.now entry.now }
+{
+    let (count, rest, _) = split_rest(octets_of(octets, entry));
+    StoredKey {
+        first: first_octets(entry.prefix(), count),
+        rest,
+    }
 }
 
 /// Returns the record of an entry, without its owner.
 pub(crate) fn parts_of<'s>(octets: &'s [u8], entry: &Entry) -> GroupEntry<'s>
-    ensures { record_parts result ≡ parts_at octets.now (parts_offset entry.now) }
+    ensures { record_parts result ≡ parts_at octets.now entry.now }
 {
-    parts_at(octets, entry.parts_offset())
+    first_or_absent(split_rest(octets_of(octets, entry)).2)
 }
 
 /// Returns the class and the type of the record of an entry.
 pub(crate) fn type_of(octets: &[u8], entry: &Entry) -> (Class, RecordType)
-    ensures class { result.0 ≡ (parts_at octets.now (parts_offset entry.now)).class }
-    ensures rtype { result.1 ≡ (parts_at octets.now (parts_offset entry.now)).code }
+    ensures class { result.0 ≡ (parts_at octets.now entry.now).class }
+    ensures rtype { result.1 ≡ (parts_at octets.now entry.now).code }
 {
-    first_type_or_absent(rest_at(octets, entry.parts_offset()))
+    first_type_or_absent(split_rest(octets_of(octets, entry)).2)
+}
+
+/// Compares the key that octets have, without its first seven octets, with another one.
+fn compare_rest(octets: &[u8], key: &[u8]) -> Ordering
+    ensures { result ≡ rest_order octets.now key.now }
+{
+    let (count, rest, _) = split_rest(octets);
+    rest.cmp(rest_at(key, PREFIX)).then(count.cmp(&key.len()))
 }
 
 /// Compares the key of an entry with another one, first by their prefixes.
 pub(crate) fn compare_prefixed(octets: &[u8], entry: &Entry, prefix: u64, key: &[u8]) -> Ordering
     ensures { result ≡ prefixed_keys octets.now entry.now prefix key.now }
 {
-    match entry.prefix.cmp(&prefix) {
-        Ordering::Equal => key_of(octets, entry).cmp(key),
+    match entry.prefix().cmp(&prefix) {
+        Ordering::Equal => compare_rest(octets_of(octets, entry), key),
         order => order,
     }
 }
@@ -214,19 +231,38 @@ pub(crate) fn compare_parts(left: &GroupEntry<'_>, right: &GroupEntry<'_>) -> Or
     }
 }
 
-/// Compares two entries: by their prefixes, then by their keys, then by class, type and RDATA, and
-/// then by the order in which they were added.
+/// Compares two records whose keys have one prefix: by their keys, then by class, type and RDATA.
+fn compare_octets(left: &[u8], right: &[u8]) -> Ordering
+    ensures { result ≡ octets_order left.now right.now }
+{
+    let (left_count, left_rest, left_parts) = split_rest(left);
+    let (right_count, right_rest, right_parts) = split_rest(right);
+    match left_rest.cmp(right_rest).then(left_count.cmp(&right_count)) {
+        Ordering::Equal => {
+            compare_parts(&first_or_absent(left_parts), &first_or_absent(right_parts))
+        }
+        order => order,
+    }
+}
+
+/// Compares the records of two entries: by the prefixes of their keys, then by their keys, then by
+/// class, type and RDATA.
 ///
 /// The prefixes decide where they differ, so that most comparisons read no octets.
+fn compare_records(octets: &[u8], left: &Entry, right: &Entry) -> Ordering
+    ensures { result ≡ prefixed_records octets.now left.now right.now }
+{
+    match left.prefix().cmp(&right.prefix()) {
+        Ordering::Equal => compare_octets(octets_of(octets, left), octets_of(octets, right)),
+        order => order,
+    }
+}
+
+/// Compares two entries: by their records, and then by the order in which they were added.
 fn compare_entries(octets: &[u8], left: &Entry, right: &Entry) -> Ordering
     ensures { result ≡ prefixed_order octets.now left.now right.now }
 {
-    match compare_prefixed(octets, left, right.prefix, key_of(octets, right)) {
-        Ordering::Equal => compare_parts(&parts_of(octets, left), &parts_of(octets, right)).then(
-            left.at.cmp(&right.at),
-        ),
-        order => order,
-    }
+    compare_records(octets, left, right).then(left.offset().cmp(&right.offset()))
 }
 
 /// Sorts entries. Fails without memory; they are then unchanged.
@@ -277,11 +313,40 @@ pub(crate) fn sort_entries<A: Allocator>(octets: &[u8], entries: &mut Vec<Entry,
 }
 
 /// Returns the key of the record at an index.
-pub(crate) fn key_by_index<'s>(octets: &'s [u8], entries: &[Entry], index: usize) -> &'s [u8]
+pub(crate) fn key_by_index<'s>(octets: &'s [u8], entries: &[Entry], index: usize) -> StoredKey<'s>
     requires { index < length entries.now }
-    ensures { result.now ≡ (record_at (stored_records octets.now entries.now) index).key }
+    ensures { result.first.items ++ result.rest.now ≡ (stored_at octets.now entries.now index).key }
 {
     key_of(octets, &entries[index])
+}
+
+/// Compares the key of the record at an index with another one.
+pub(crate) fn compare_key_by_index(
+    octets: &[u8],
+    entries: &[Entry],
+    index: usize,
+    key: &[u8],
+) -> Ordering
+    requires index { index < length entries.now }
+    requires stored { All (IsStoreEntry octets.now) entries.now }
+    ensures { result ≡ octet_order (stored_at octets.now entries.now index).key key.now }
+{
+    compare_prefixed(octets, &entries[index], key_prefix(key), key)
+}
+
+/// Compares the records at two indexes.
+pub(crate) fn compare_by_index(
+    octets: &[u8],
+    entries: &[Entry],
+    left: usize,
+    right: usize,
+) -> Ordering
+    requires left { left < length entries.now }
+    requires right { right < length entries.now }
+    requires stored { All (IsStoreEntry octets.now) entries.now }
+    ensures { result ≡ stored_order (stored_at octets.now entries.now left) (stored_at octets.now entries.now right) }
+{
+    compare_records(octets, &entries[left], &entries[right])
 }
 
 /// Returns the record at an index, without its owner.
@@ -291,7 +356,7 @@ pub(crate) fn parts_by_index<'s>(
     index: usize,
 ) -> GroupEntry<'s>
     requires { index < length entries.now }
-    ensures { record_parts result ≡ (record_at (stored_records octets.now entries.now) index).parts }
+    ensures { record_parts result ≡ (stored_at octets.now entries.now index).parts }
 {
     parts_of(octets, &entries[index])
 }

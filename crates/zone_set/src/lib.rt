@@ -1,4 +1,4 @@
-//! Records of a zone in little memory: octets, and one entry of 16 octets for each record, which are
+//! Records of a zone in little memory: octets, and one entry of 12 octets for each record, which are
 //! sorted into canonical order.
 //!
 //! Sets of records: sorted, without duplicates, and compared.
@@ -38,7 +38,7 @@ pub use changes::{Change, changes_between};
 pub use compute::right_data;
 pub use counted::{push_counted, split_counted};
 pub use dnssec::is_dnssec;
-pub use entries::key_prefix;
+pub use entries::{StoredKey, key_prefix};
 pub use error::CheckError;
 pub use hashing::{hash_zone, sha384_digest, sha512_digest};
 pub use lines::{push_change, push_generic, push_record};

@@ -1,13 +1,15 @@
 //! The records of a zone in canonical order, by index, and lookups by owner and type.
-ghost use Rattle.std.specs.Prelude.{◌≡◌, ◌<◌, ◌≤◌, length};
+ghost use Rattle.std.specs.Prelude.{◌≡◌, ◌<◌, ◌≤◌, ◌++◌, false, true, length};
 ghost use Rattle.std.specs.List.Sorted.{IsSorted};
 ghost use Rattle.std.specs.Ordering.{is_eq};
+ghost use Rattle.zone_record.specs.Names.{octet_order};
 ghost use Rattle.zone_set.specs.Duplicates.{is_duplicate_at};
 ghost use Rattle.zone_set.specs.Parts.{record_parts};
 ghost use Rattle.zone_set.specs.Stored.{has_stored_rrset, order_to_rrset, record_at, stored_order, CountsBeforeKey, CountsBeforeRrset};
 
 use crate::entries::{
-    Entry, compare_parts, compare_type, key_by_index, parts_by_index, type_by_index,
+    Entry, StoredKey, compare_by_index, compare_key_by_index, compare_type, key_by_index,
+    parts_by_index, type_by_index,
 };
 use crate::lookups::{count_before_key, count_before_rrset};
 use crate::records::GroupEntry;
@@ -46,13 +48,32 @@ impl<A: Allocator> SortedStore<A> {
     }
 
     /// Returns the key of the record at an index.
-    pub fn key(&self, index: usize) -> &[u8]
+    pub fn key(&self, index: usize) -> StoredKey<'_>
         requires { index < length self.now }
-        ensures { result.now ≡ (record_at self.now index).key }
+        ensures { result.first.items ++ result.rest.now ≡ (record_at self.now index).key }
     {
         let octets = self.octets.as_slice();
         let entries = self.entries.as_slice();
         key_by_index(octets, entries, index)
+    }
+
+    /// Compares the key of the record at an index with another one, octet by octet.
+    pub fn compare_key(&self, index: usize, key: &[u8]) -> Ordering
+        requires { index < length self.now }
+        ensures { result ≡ octet_order (record_at self.now index).key key.now }
+    {
+        let octets = self.octets.as_slice();
+        let entries = self.entries.as_slice();
+        compare_key_by_index(octets, entries, index, key)
+    }
+
+    /// Returns whether the record at an index has a key.
+    pub fn has_key(&self, index: usize, key: &[u8]) -> bool
+        requires { index < length self.now }
+        ensures has { result ≡ true → (record_at self.now index).key ≡ key.now }
+        ensures lacks { result ≡ false → (record_at self.now index).key ≡ key.now → ⊥ }
+    {
+        self.compare_key(index, key).is_eq()
     }
 
     /// Returns the record at an index, without its owner.
@@ -100,10 +121,9 @@ impl<A: Allocator> SortedStore<A> {
         requires right { right < length self.now }
         ensures { result ≡ stored_order (record_at self.now left) (record_at self.now right) }
     {
-        match self.key(left).cmp(self.key(right)) {
-            Ordering::Equal => compare_parts(&self.entry(left), &self.entry(right)),
-            order => order,
-        }
+        let octets = self.octets.as_slice();
+        let entries = self.entries.as_slice();
+        compare_by_index(octets, entries, left, right)
     }
 
     /// Returns whether the record at an index is a duplicate: whether the one before it is equal but
@@ -144,7 +164,7 @@ impl<A: Allocator> SortedStore<A> {
         requires { index < length self.now }
         ensures { result ≡ is_eq (order_to_rrset (record_at self.now index) key.now class rtype) }
     {
-        match self.key(index).cmp(key) {
+        match self.compare_key(index, key) {
             Ordering::Equal => compare_type(self.class_and_type(index), class, rtype).is_eq(),
             order => order.is_eq(),
         }

@@ -1,43 +1,19 @@
 //! A store: the records of a zone, in the order in which they were added.
-ghost use Rattle.std.specs.Prelude.{◌≡◌, ◌<◌, ◌≤◌, ◌^◌, ◌++◌, [], ◌∷◌, All, length, true, IfOk, IfSome, OnOk, OnErr};
+ghost use Rattle.std.specs.Prelude.{◌≡◌, ◌<◌, ◌≤◌, ◌^◌, ◌++◌, [], ◌∷◌, drop, length, IfOk, OnOk, OnErr};
 ghost use Rattle.std.specs.List.Sorted.{IsPermutation, IsSorted, IsStable};
 ghost use Rattle.dns_octets.specs.Appending.{Extends};
-ghost use Rattle.zone_set.specs.Counted.{counted_octets};
-ghost use Rattle.zone_set.specs.Entries.{key_at, key_offset, parts_offset, HasAt, IsEntryOf, IsStoreEntry};
+ghost use Rattle.zone_set.specs.Counted.{length_octets};
+ghost use Rattle.zone_set.specs.Entries.{offset_of, record_octets, IsEntryOf};
 ghost use Rattle.zone_set.specs.Parts.{record_parts};
 ghost use Rattle.zone_set.specs.Stored.{added_record, stored_order};
 ghost use Rattle.zone_set.specs.Stores.{IsStored, StoresMore};
 
-use crate::counted::push_counted;
-use crate::entries::{Entry, REACH, key_of, key_prefix, sort_entries};
+use crate::counted::{push_length, rest_at};
+use crate::entries::{Entry, PREFIX, key_prefix, sort_entries};
 use crate::records::{EntryHeader, GroupEntry, append_stored};
 use crate::sorted::SortedStore;
 use std::alloc::{AllocError, Allocator, Global};
 use std::marker::Model;
-
-/// Returns whether an entry has a key.
-fn has_key(octets: &[u8], entry: &Entry, key: &[u8]) -> bool
-    ensures { result ≡ true → key_at octets.now (key_offset entry.now) ≡ key.now }
-{
-    key_of(octets, entry) == key
-}
-
-/// Returns the offset of the key of the last entry, if that is a given key and the octets that follow
-/// it are not too many for another record to share it.
-fn last_key(octets: &[u8], entries: &[Entry], key: &[u8]) -> Option<usize>
-    requires { All (IsStoreEntry octets.now) entries.now }
-    ensures { IfSome result (λ offset. HasAt octets.now offset (counted_octets key.now)) }
-{
-    let (last, _) = entries.split_last()?;
-    let offset = last.key_offset();
-    if octets.len().saturating_sub(offset) as u64 >= REACH {
-        return None;
-    }
-    if has_key(octets, last, key) {
-        return Some(offset);
-    }
-    None
-}
 
 /// Returns the number of octets.
 fn count_of<A: Allocator>(octets: &Vec<u8, A>) -> usize
@@ -46,24 +22,32 @@ fn count_of<A: Allocator>(octets: &Vec<u8, A>) -> usize
     octets.len()
 }
 
-/// Appends a key after its length, unless the last entry has it. Returns its offset. Fails without
-/// memory; the first octets may then have been appended.
-fn push_key<A: Allocator>(
-    key: &[u8],
-    octets: &mut Vec<u8, A>,
-    entries: &[Entry],
-) -> Result<usize, AllocError>
-    requires key { length key.now < 2 ^ 16 }
-    requires stored { All (IsStoreEntry octets.old.items) entries.now }
-    ensures ok { IfOk result (λ offset. HasAt octets.new.items offset (counted_octets key.now)) }
-    ensures more { Extends octets.old.items octets.new.items }
+/// Appends the length of a key, and the octets after its first seven. Fails without memory; the first
+/// octets may then have been appended.
+fn push_key<A: Allocator>(key: &[u8], octets: &mut Vec<u8, A>) -> Result<(), AllocError>
+    requires { length key.now < 2 ^ 16 }
+    ensures ok { OnOk result (octets.new.items ≡ octets.old.items ++ (length_octets (length key.now) ++ drop 7 key.now)) }
+    ensures err { OnErr result (Extends octets.old.items octets.new.items) }
 {
-    if let Some(offset) = last_key(octets.as_slice(), entries, key) {
-        return Ok(offset);
-    }
-    let offset = octets.len();
-    push_counted(key, octets)?;
-    Ok(offset)
+    push_length(key.len(), octets)?;
+    octets.extend_from_slice(rest_at(key, PREFIX))
+}
+
+/// Appends a record, without the first seven octets of its key. Fails without memory; the first octets
+/// may then have been appended.
+#[tactic(auto, unfolding(crate::specs::Entries::record_octets))]
+fn push_record<A: Allocator>(
+    key: &[u8],
+    added: &GroupEntry<'_>,
+    octets: &mut Vec<u8, A>,
+) -> Result<(), AllocError>
+    requires key { length key.now < 2 ^ 16 }
+    requires rdata { length added.now.rdata.now < 2 ^ 16 }
+    ensures ok { OnOk result (octets.new.items ≡ octets.old.items ++ record_octets (added_record key.now (record_parts added.now))) }
+    ensures err { OnErr result (Extends octets.old.items octets.new.items) }
+{
+    push_key(key, octets)?;
+    append_stored(added, octets)
 }
 
 /// States that numbers of a record fit their octets.
@@ -98,20 +82,17 @@ fn push_octets<A: Allocator>(
     key: &[u8],
     added: &GroupEntry<'_>,
     octets: &mut Vec<u8, A>,
-    entries: &[Entry],
 ) -> Result<Entry, AllocError>
     requires key { length key.now < 2 ^ 16 }
     requires rdata { length added.now.rdata.now < 2 ^ 16 }
-    requires stored { All (IsStoreEntry octets.old.items) entries.now }
     ensures ok { IfOk result (λ e. IsEntryOf octets.new.items e (added_record key.now (record_parts added.now))) }
-    ensures last { IfOk result (λ e. length octets.old.items ≤ parts_offset e) }
+    ensures last { IfOk result (λ e. length octets.old.items ≤ offset_of e) }
     ensures more { Extends octets.old.items octets.new.items }
 {
     header_fits(&added.header);
-    let key_offset = push_key(key, octets, entries)?;
     let offset = count_of(octets);
-    append_stored(added, octets)?;
-    match Entry::new(key_prefix(key), key_offset, offset) {
+    push_record(key, added, octets)?;
+    match Entry::new(key_prefix(key), offset) {
         Some(entry) => Ok(entry),
         None => Err(AllocError),
     }
@@ -141,7 +122,7 @@ fn push_added<A: Allocator>(
     ensures octets { OnErr result (Extends octets.old.items octets.new.items) }
     ensures entries { OnErr result (entries.new.items ≡ entries.old.items) }
 {
-    let entry = push_octets(key, added, octets, entries.as_slice())?;
+    let entry = push_octets(key, added, octets)?;
     push_entry(entry, entries)
 }
 
@@ -171,8 +152,8 @@ fn append_added<A: Allocator>(
 /// The records of a zone, in the order in which they were added. A record is added with the order
 /// key of its owner ([`zone_record::push_order_key`]), or with what follows the zone's key in it.
 ///
-/// Records that are added one after another with one key share its octets. Besides its octets a
-/// record takes 16 octets.
+/// Besides its RDATA, a record takes as many octets as its key has and 14 more, if its numbers take few
+/// octets. A key takes seven octets at least.
 #[derive(Drop)]
 pub struct RecordStore<A: Allocator = Global> {
     octets: Vec<u8, A>,

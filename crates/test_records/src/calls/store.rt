@@ -125,7 +125,9 @@ fn add_keys(sorted: &SortedStore<&Heap>, answer: &mut Answer) {
     for index in 0..sorted.len() {
         answer.add_number(sorted.entry(index).header.offset as usize);
         answer.add_text(" ");
-        answer.add(sorted.key(index));
+        let key = sorted.key(index);
+        answer.add(key.first.as_slice());
+        answer.add(key.rest);
         answer.add_text(";");
     }
 }

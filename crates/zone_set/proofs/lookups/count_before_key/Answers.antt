@@ -11,10 +11,9 @@ returns-clause-point c =
     let key = c.args.key.now in
     let entries = c.args.entries.now in
     let prefix = c.key_prefix-prefix.result in
-    let small : (i : ℕ) → get_or octets i 0 < 256 = λ i. omega (arith, c.type_inv.octets i) in
     let few : (i : ℕ) → get_or key i 0 < 256 = λ i. omega (arith, c.type_inv.key i) in
     let target = added_record key absent_parts in
-    let same = before_key octets key small few prefix c.key_prefix-prefix.ensures entries c.requires.are in
+    let same = before_key octets key few prefix c.key_prefix-prefix.ensures.value entries c.requires.are in
     point keys_total keys_coarser target octets entries (is_before_key octets prefix key) same c.partition_point.result c.partition_point.ensures.bound
     (IsPartitionPoint-from_clause (is_before_key octets prefix key) entries c.partition_point.result c.partition_point.ensures.partitioned
     (parted keys_total keys_coarser target octets entries (is_before_key octets prefix key) same c.requires.sorted) (λ a r f k. search rules))

@@ -13,10 +13,9 @@ returns-clause-point c =
     let code = c.args.rtype in
     let entries = c.args.entries.now in
     let prefix = c.key_prefix-prefix.result in
-    let small : (i : ℕ) → get_or octets i 0 < 256 = λ i. omega (arith, c.type_inv.octets i) in
     let few : (i : ℕ) → get_or key i 0 < 256 = λ i. omega (arith, c.type_inv.key i) in
     let target = rrset key class code in
-    let same = before_rrset octets key small few prefix c.key_prefix-prefix.ensures entries c.requires.are class code in
+    let same = before_rrset octets key few prefix c.key_prefix-prefix.ensures.value entries c.requires.are class code in
     point rrsets_total rrsets_coarser target octets entries (is_before_rrset octets prefix key class code) same c.partition_point.result c.partition_point.ensures.bound
     (IsPartitionPoint-from_clause (is_before_rrset octets prefix key class code) entries c.partition_point.result c.partition_point.ensures.partitioned
     (parted rrsets_total rrsets_coarser target octets entries (is_before_rrset octets prefix key class code) same c.requires.sorted) (λ a r f k. search rules))

@@ -5,7 +5,6 @@ use Rattle.std.proofs.lemmas.List.Sorted.{All-permutation}
 use Rattle.zone_set.specs.Entries.{entry_order, IsStoreEntry}
 use Rattle.zone_set.specs.Stored.{AddedRecord, stored_order}
 use Rattle.zone_set.specs.Stores.{stored_records}
-use Rattle.zone_set.proofs.EntriesRead.{all_prefixes}
 use Rattle.zone_set.proofs.StoreSorts.{moved_records, sorted_records, stable_records}
 use Rattle.zone_set.proofs.store.RecordStore.sort.Goals as goal
 
@@ -41,4 +40,4 @@ returns-clause-stable g c =
     let new = c.sort_entries.new.entries.items in
     let sorted : IsSorted (entry_order octets) new = subst (λ (os : List ℕ). IsSorted (entry_order os) new) c.as_slice.ensures.value c.sort_entries.ensures.sorted in
     subst (λ (rs : List AddedRecord). IsStable stored_order rs (stored_records octets new)) c.self.view_is
-    (stable_records octets old new (all_prefixes octets old c.self.invariant.are) c.self.invariant.rise c.sort_entries.ensures.permutation sorted)
+    (stable_records octets old new c.self.invariant.are c.self.invariant.rise c.sort_entries.ensures.permutation sorted)
