@@ -1,3 +1,5 @@
+pub mod ComparedZones
+pub mod Distinct
 pub mod FewTypes
 pub mod Listings
 pub mod Summed

@@ -1,8 +1,13 @@
--- Worked rows of keys in a zone, and of the numbers of locations.
-use Rattle.std.specs.Prelude.{◌≡◌, ℕ, ◌+◌, ◌*◌, List, [], ◌∷◌, ◌++◌, codes, refl}
+-- Worked rows of keys in a zone, of changes between zones, and of the numbers of locations.
+use Rattle.std.specs.Prelude.{◌≡◌, ℕ, ◌+◌, ◌*◌, List, [], ◌∷◌, ◌++◌, codes, refl, Some, None}
+use Rattle.zone_contents.specs.Changes.{change_of}
+use Rattle.zone_contents.specs.Contents.{ZoneValue}
 use Rattle.zone_contents.specs.Keys.{key_in_zone, name_in_zone}
 use Rattle.zone_contents.specs.Locations.{far_number, located, location}
+use Rattle.zone_contents.specs.declared.changes.ZoneChange.TheVariants.{Removed, Added, NewTtl}
 use Rattle.zone_contents.specs.declared.locations.Location.{Location}
+use Rattle.zone_set.specs.Differences.{after_change, before_change}
+use Rattle.zone_set.specs.Stored.{added_record}
 
 -- the zone `b.`
 abbrev zone : List (List ℕ)
@@ -54,3 +59,18 @@ far_row = refl
 
 stored_row : located (location 1 2 3 4 ∷ []) 254 ≡ location 1 2 3 4
 stored_row = refl
+
+-- the zone with one address record, of a TTL
+abbrev with_ttl : ℕ → ZoneValue
+with_ttl ttl = record { apex = zone; records = added_record (1 ∷ []) (record { code = 1; class = 1; ttl = ttl; file = 0; offset = 0; rdata = 192 ∷ 0 ∷ 2 ∷ 1 ∷ [] }) ∷ [] }
+
+new_ttl_row : after_change (change_of (with_ttl 60) (with_ttl 90) (NewTtl 0 0))
+    ≡ Some (record { owner = codes "b" ∷ [] ∷ []; ttl = 90; class = 1; «data» = record { rtype = 1; octets = 192 ∷ 0 ∷ 2 ∷ 1 ∷ [] } })
+new_ttl_row = refl
+
+removed_row : before_change (change_of (with_ttl 60) (with_ttl 90) (Removed 0))
+    ≡ Some (record { owner = codes "b" ∷ [] ∷ []; ttl = 60; class = 1; «data» = record { rtype = 1; octets = 192 ∷ 0 ∷ 2 ∷ 1 ∷ [] } })
+removed_row = refl
+
+added_row : before_change (change_of (with_ttl 60) (with_ttl 90) (Added 0)) ≡ None
+added_row = refl

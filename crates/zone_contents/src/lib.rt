@@ -1,6 +1,7 @@
 //! The records of a zone in little memory, as the rules of a zone read them.
 #![tactic(auto)]
 
+pub mod changes;
 pub mod locations;
 pub mod lookups;
 pub mod records;
@@ -9,6 +10,7 @@ pub mod stored;
 pub mod summary;
 pub mod zone_key;
 
+pub use changes::{ZoneChange, changes_between_zones};
 pub use locations::{Location, Locations};
 pub use stored::{StoredZone, ZoneStore};
 pub use zone_key::{Apex, ZoneKey};

@@ -177,7 +177,7 @@ fn check(
 /// others of a known scheme and hash algorithm do too, unless one is enough.
 #[inline(never)]
 pub fn run(rt: &HostRuntime, file: &str, reading: &Reading<'_>, work: DigestOptions) -> u8 {
-    let gathered = match gather(rt, &[file], reading, Selection::all(), false) {
+    let gathered = match gather(rt, &[file], reading, Selection::all()) {
         Ok(gathered) => gathered,
         Err(status) => return status,
     };

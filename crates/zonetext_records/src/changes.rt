@@ -1,13 +1,16 @@
 //! The command `diff`: compares the records of two zone files.
-use crate::gathered::{Gathered, gather};
-use crate::json_records::push_json_change;
+use crate::json_records::push_json_record;
+use crate::stored_records::{StoredRecords, store_records};
 use crate::visit::Reading;
-use dns_octets::AsOctets;
 use rdata_values::RecordType;
 use std::alloc::{AllocError, Global};
 use std::collections::BTreeMap;
 use std::io;
-use zone_set::{Change, Selection, TaggedOctets, changes_between, push_change, serial_rises};
+use zone_contents::{ZoneChange, changes_between_zones};
+use zone_rules::ZoneRecords;
+use zone_rules::zone_records::{OwnerBuffer, ZoneRecord};
+use zone_set::{Change, Selection, push_change, serial_rises};
+use zonetext_checker::checker::SoaInfo;
 use zonetext_files::lines::Lines;
 use zonetext_files::stop::{RunError, exit_status};
 
@@ -35,12 +38,20 @@ struct Count {
     new_ttls: usize,
 }
 
+/// Returns the type of a record, if the zone has one at this index.
+fn rtype_at(zone: &StoredRecords, place: usize) -> RecordType {
+    if place < zone.zone.len() {
+        zone.zone.rtype(place)
+    } else {
+        RecordType(0)
+    }
+}
+
 /// Returns the type of the changed record.
-fn rtype_of<Owner: AsOctets, Octets: AsOctets>(change: &Change<'_, Owner, Octets>) -> RecordType {
+fn rtype_of(old: &StoredRecords, new: &StoredRecords, change: ZoneChange) -> RecordType {
     match change {
-        Change::Removed(record) | Change::Added(record) | Change::NewTtl(record, _) => {
-            record.data.rtype()
-        }
+        ZoneChange::Removed(place) => rtype_at(old, place),
+        ZoneChange::Added(place) | ZoneChange::NewTtl(_, place) => rtype_at(new, place),
     }
 }
 
@@ -55,26 +66,28 @@ impl Count {
     }
 
     /// Counts one more change.
-    fn count<Owner: AsOctets, Octets: AsOctets>(&mut self, change: &Change<'_, Owner, Octets>) {
+    fn count(&mut self, change: ZoneChange) {
         let number = match change {
-            Change::Removed(_) => &mut self.removed,
-            Change::Added(_) => &mut self.added,
-            Change::NewTtl(..) => &mut self.new_ttls,
+            ZoneChange::Removed(_) => &mut self.removed,
+            ZoneChange::Added(_) => &mut self.added,
+            ZoneChange::NewTtl(..) => &mut self.new_ttls,
         };
         *number = number.saturating_add(1);
     }
 }
 
 /// Returns the number of changes of each type, by the type's number.
-fn counts_of<Owner: AsOctets, Octets: AsOctets>(
+fn counts_of(
     alloc: Global,
-    changes: &[Change<'_, Owner, Octets>],
+    old: &StoredRecords,
+    new: &StoredRecords,
+    changes: &[ZoneChange],
 ) -> Result<BTreeMap<u16, Count>, AllocError> {
     let mut counts = BTreeMap::new(alloc);
     for change in changes {
-        let number = rtype_of(change).0;
+        let number = rtype_of(old, new, *change).0;
         let mut count = counts.get(&number).copied().unwrap_or(Count::new());
-        count.count(change);
+        count.count(*change);
         counts.insert(number, count)?;
     }
     Ok(counts)
@@ -90,12 +103,82 @@ fn write_summary(rt: &HostRuntime, counts: &BTreeMap<u16, Count>) -> io::Result<
     Ok(())
 }
 
+/// Returns the record of a zone at an index, if there is one.
+fn record_at<'b>(
+    zone: &'b StoredRecords,
+    place: usize,
+    owner: &'b mut OwnerBuffer,
+) -> Result<ZoneRecord<'b>, RunError> {
+    if place >= zone.zone.len() {
+        return Err(RunError::Damaged);
+    }
+    Ok(zone.zone.record(place, owner))
+}
+
+/// Appends a record as a JSON object, with its place.
+fn push_object(
+    text: &mut String,
+    zone: &StoredRecords,
+    place: usize,
+    change: &str,
+) -> Result<(), RunError> {
+    let mut owner = OwnerBuffer::new();
+    let record = record_at(zone, place, &mut owner)?;
+    let found = zone.place(zone.number(place));
+    push_json_record(text, &record, false, Some(change), found)?;
+    Ok(())
+}
+
+/// Appends a change as JSON objects: a new TTL is a deletion and an addition.
+fn push_objects(
+    text: &mut String,
+    old: &StoredRecords,
+    new: &StoredRecords,
+    change: ZoneChange,
+) -> Result<(), RunError> {
+    match change {
+        ZoneChange::Removed(place) => push_object(text, old, place, "delete"),
+        ZoneChange::Added(place) => push_object(text, new, place, "add"),
+        ZoneChange::NewTtl(before, after) => {
+            push_object(text, old, before, "delete")?;
+            push_object(text, new, after, "add")
+        }
+    }
+}
+
+/// Appends the line of a change.
+fn push_text(
+    text: &mut String,
+    old: &StoredRecords,
+    new: &StoredRecords,
+    change: ZoneChange,
+) -> Result<(), RunError> {
+    let mut before = OwnerBuffer::new();
+    let mut after = OwnerBuffer::new();
+    match change {
+        ZoneChange::Removed(place) => {
+            let record = record_at(old, place, &mut before)?;
+            push_change(text, &Change::Removed(&record))?;
+        }
+        ZoneChange::Added(place) => {
+            let record = record_at(new, place, &mut after)?;
+            push_change(text, &Change::Added(&record))?;
+        }
+        ZoneChange::NewTtl(was, is) => {
+            let was = record_at(old, was, &mut before)?;
+            let is = record_at(new, is, &mut after)?;
+            push_change(text, &Change::NewTtl(&was, &is))?;
+        }
+    }
+    Ok(())
+}
+
 /// Writes changes between two zones, and reports how many more there are.
-fn write_changes<'h>(
+fn write_changes(
     rt: &HostRuntime,
-    old: &'h Gathered,
-    new: &'h Gathered,
-    changes: &[Change<'_, TaggedOctets<'h, usize>, &'h [u8]>],
+    old: &StoredRecords,
+    new: &StoredRecords,
+    changes: &[ZoneChange],
     output: Output,
 ) -> Result<(), RunError> {
     let count = match output.most {
@@ -105,9 +188,9 @@ fn write_changes<'h>(
     let mut lines = Lines::new(rt);
     for change in changes.iter().take(count) {
         if output.is_json {
-            push_json_change(&mut lines.text, old, new, change)?;
+            push_objects(&mut lines.text, old, new, *change)?;
         } else {
-            push_change(&mut lines.text, change)?;
+            push_text(&mut lines.text, old, new, *change)?;
         }
         lines.flush_block()?;
     }
@@ -121,8 +204,12 @@ fn write_changes<'h>(
 
 /// Reports if the serial of the second zone is not greater than that of the first, and returns
 /// whether it is so.
-pub fn report_serial(rt: &HostRuntime, old: &Gathered, new: &Gathered) -> io::Result<bool> {
-    let (Some(old), Some(new)) = (&old.seen, &new.seen) else {
+pub fn report_serial(
+    rt: &HostRuntime,
+    old: &Option<SoaInfo>,
+    new: &Option<SoaInfo>,
+) -> io::Result<bool> {
+    let (Some(old), Some(new)) = (old, new) else {
         return Ok(false);
     };
     let (old, new) = (old.serial, new.serial);
@@ -136,23 +223,21 @@ pub fn report_serial(rt: &HostRuntime, old: &Gathered, new: &Gathered) -> io::Re
 /// Writes the differences between two zones, and returns the status: 1 if there are any.
 fn compare(
     rt: &HostRuntime,
-    old: &Gathered,
-    new: &Gathered,
+    old: &StoredRecords,
+    new: &StoredRecords,
     output: Output,
 ) -> Result<u8, RunError> {
-    let (old_set, _) = old.set()?;
-    let (new_set, _) = new.set()?;
-    let changes = changes_between(rt.alloc(), &old_set, &new_set)?;
+    let changes = changes_between_zones(rt.alloc(), &old.zone, &new.zone)?;
     let changes = changes.as_slice();
     if changes.is_empty() {
         return Ok(0);
     }
     if output.is_summary {
-        write_summary(rt, &counts_of(rt.alloc(), changes)?)?;
+        write_summary(rt, &counts_of(rt.alloc(), old, new, changes)?)?;
     } else {
         write_changes(rt, old, new, changes, output)?;
     }
-    let lacks_serial = report_serial(rt, old, new)? && output.needs_serial;
+    let lacks_serial = report_serial(rt, &old.seen, &new.seen)? && output.needs_serial;
     Ok(if lacks_serial { UNFIT } else { 1 })
 }
 
@@ -167,8 +252,8 @@ pub fn run(
     selection: Selection<'_>,
     output: Output,
 ) -> u8 {
-    let old = gather(rt, &[first], reading, selection, output.is_json);
-    let new = gather(rt, &[second], reading, selection, output.is_json);
+    let old = store_records(rt, &[first], reading, selection, output.is_json);
+    let new = store_records(rt, &[second], reading, selection, output.is_json);
     let (old, new) = match (old, new) {
         (Ok(old), Ok(new)) => (old, new),
         (Err(status), Err(other)) => return status.max(other),

@@ -1,7 +1,7 @@
 //! The records of zone files in canonical form, stored in memory.
 use crate::visit::{EntryVisitor, Outcome, Reading, visit_entries};
 use rdata_fields::RecordRef;
-use std::alloc::{AllocError, Global};
+use std::alloc::Global;
 use zone_record::{Record, append_canonical_data, append_lowered};
 use zone_set::{CanonicalSet, Selection, TaggedOctets};
 use zonetext_checker::checker::SoaInfo;
@@ -14,7 +14,6 @@ use zonetext_files::zone_files::Entry;
 #[derive(Drop)]
 pub struct Gathered {
     held: Held<usize>,
-    places: Places,
     /// The first SOA, also if SOAs are omitted.
     pub seen: Option<SoaInfo>,
 }
@@ -25,54 +24,7 @@ pub type NumberedRecord<'h> = Record<TaggedOctets<'h, usize>, &'h [u8]>;
 /// Records in canonical order, without duplicates.
 pub type NumberedSet<'h> = CanonicalSet<TaggedOctets<'h, usize>, &'h [u8]>;
 
-/// Where the entries of records begin, by the numbers of the records.
-#[derive(Drop)]
-pub struct Places {
-    /// The paths of the files.
-    files: Vec<String>,
-    /// The number of the file among these, and the line.
-    lines: Vec<(usize, usize)>,
-}
-
-impl Places {
-    /// Returns no places.
-    pub fn new(alloc: Global) -> Places {
-        Places {
-            files: Vec::new(alloc),
-            lines: Vec::new(alloc),
-        }
-    }
-
-    /// Adds the place of the next record.
-    pub fn add(&mut self, alloc: Global, entry: &Entry<'_>) -> Result<(), AllocError> {
-        let is_same = match self.files.last() {
-            Some(file) => file.as_str() == entry.file,
-            None => false,
-        };
-        if !is_same {
-            self.files.push(String::from_str(alloc, entry.file)?)?;
-        }
-        let file = self.files.len().saturating_sub(1);
-        self.lines.push((file, entry.place().position.line))?;
-        Ok(())
-    }
-
-    /// Returns the file and the line where the entry of a record begins, by the record's number, if
-    /// its place was added.
-    pub fn get(&self, number: usize) -> Option<(&str, usize)> {
-        let (file, line) = *self.lines.get(number)?;
-        let file = self.files.get(file)?;
-        Some((file.as_str(), line))
-    }
-}
-
 impl Gathered {
-    /// Returns the file and the line where the entry of a record begins, by the record's number, if
-    /// places were kept.
-    pub fn place(&self, number: usize) -> Option<(&str, usize)> {
-        self.places.get(number)
-    }
-
     /// Returns the records in canonical order, and the number of duplicates that were omitted.
     pub fn set(&self) -> Result<(NumberedSet<'_>, usize), RunError> {
         match CanonicalSet::from_set(self.held.set()?) {
@@ -123,11 +75,7 @@ pub struct Gatherer<'s> {
     selection: Selection<'s>,
     /// Whether names keep their letter case.
     keeps_case: bool,
-    /// Whether the places of records are kept.
-    keeps_places: bool,
     held: Held<usize>,
-    places: Places,
-    alloc: Global,
     lowerer: Lowerer,
 }
 
@@ -137,10 +85,7 @@ impl<'s> Gatherer<'s> {
         Gatherer {
             selection,
             keeps_case: false,
-            keeps_places: false,
             held: Held::new(alloc),
-            places: Places::new(alloc),
-            alloc,
             lowerer: Lowerer::new(alloc),
         }
     }
@@ -151,17 +96,10 @@ impl<'s> Gatherer<'s> {
         self
     }
 
-    /// Returns the same collection, which keeps the places of records if that is wanted.
-    pub fn with_places(mut self, keeps_places: bool) -> Gatherer<'s> {
-        self.keeps_places = keeps_places;
-        self
-    }
-
     /// Returns the records that were collected, and the first SOA.
     pub fn gathered(self, seen: Option<SoaInfo>) -> Gathered {
         Gathered {
             held: self.held,
-            places: self.places,
             seen,
         }
     }
@@ -176,9 +114,6 @@ impl EntryVisitor for Gatherer<'_> {
             return Ok(());
         }
         let number = self.held.len();
-        if self.keeps_places {
-            self.places.add(self.alloc, entry)?;
-        }
         if self.keeps_case {
             return self.held.add(given, number);
         }
@@ -206,16 +141,13 @@ pub fn gather_by(
     Ok(visitor.gathered(seen))
 }
 
-/// Returns the selected records of files, in canonical form, with their places if these are kept. If
-/// an entry is rejected, that is reported, and the status is returned in place of them: 1, or 3 if a
-/// file can't be read.
+/// Returns the selected records of files, in canonical form. If an entry is rejected, that is
+/// reported, and the status is returned in place of them: 1, or 3 if a file can't be read.
 pub fn gather(
     rt: &HostRuntime,
     files: &[&str],
     reading: &Reading<'_>,
     selection: Selection<'_>,
-    keeps_places: bool,
 ) -> Result<Gathered, u8> {
-    let gatherer = Gatherer::new(rt.alloc(), selection).with_places(keeps_places);
-    gather_by(rt, files, reading, gatherer)
+    gather_by(rt, files, reading, Gatherer::new(rt.alloc(), selection))
 }

@@ -1,5 +1,4 @@
 //! Records, and digests and serials of zones, as JSON objects, one a line.
-use crate::gathered::{Gathered, NumberedRecord};
 use crate::visit::{EntryVisitor, Reading, visit_entries};
 use clap::Arg;
 use dns_octets::AsOctets;
@@ -8,7 +7,7 @@ use finding_formats::record_json::{
 };
 use std::alloc::{AllocError, Global};
 use zone_record::{Record, record_of};
-use zone_set::{Change, TaggedOctets, Zonemd, push_generic, push_record};
+use zone_set::{Zonemd, push_generic, push_record};
 use zonetext_files::lines::Lines;
 use zonetext_files::stop::{RunError, exit_status};
 use zonetext_files::zone_files::Entry;
@@ -84,34 +83,6 @@ pub fn push_json_record<Owner: AsOctets, Octets: AsOctets>(
     match place {
         Some((file, number)) => push_object(text, line.as_str(), change, Some(file), Some(number)),
         None => push_object(text, line.as_str(), change, None, None),
-    }
-}
-
-/// Appends a record of a zone as a JSON object, with its place if that is known.
-fn push_gathered(
-    text: &mut String,
-    zone: &Gathered,
-    record: &NumberedRecord<'_>,
-    change: &str,
-) -> Result<(), AllocError> {
-    let place = zone.place(record.owner.as_octets().tag);
-    push_json_record(text, record, false, Some(change), place)
-}
-
-/// Appends a change between two zones as JSON objects: a new TTL is a deletion and an addition.
-pub fn push_json_change<'h>(
-    text: &mut String,
-    old: &'h Gathered,
-    new: &'h Gathered,
-    change: &Change<'_, TaggedOctets<'h, usize>, &'h [u8]>,
-) -> Result<(), AllocError> {
-    match *change {
-        Change::Removed(record) => push_gathered(text, old, record, "delete"),
-        Change::Added(record) => push_gathered(text, new, record, "add"),
-        Change::NewTtl(was, is) => {
-            push_gathered(text, old, was, "delete")?;
-            push_gathered(text, new, is, "add")
-        }
     }
 }
 

@@ -1,13 +1,15 @@
 //! Sorts records into canonical order, in memory and, if they don't fit, in runs on disk.
 use crate::merging::merge;
 use crate::run_files::{RecordVisitor, RunFile};
-use std::alloc::Global;
+use dns_wire::Name;
+use zone_contents::{StoredZone, ZoneStore};
 use zone_record::Record;
-use zone_set::{CanonicalSet, ZoneSet, push_run_record, read_run_record};
+use zone_rules::ZoneRecords;
+use zone_rules::zone_records::OwnerBuffer;
 use zonetext_files::stop::RunError;
 
-/// Number of octets that a record needs while it is sorted, besides its own.
-const INDEX: usize = 128;
+/// Number of octets that a record needs while it is sorted, besides its owner and its RDATA.
+const INDEX: usize = 64;
 
 /// Number of runs that are merged at a time.
 const WIDTH: usize = 64;
@@ -26,50 +28,31 @@ pub struct Sorter<'s> {
     rt: &'s HostRuntime,
     /// Greatest number of octets of memory.
     size: usize,
-    /// The records that are in memory, as octets of a run.
-    octets: Vec<u8>,
-    /// Number of these records.
-    count: usize,
+    /// The zone of the records, if it is known.
+    apex: Option<Name<Vec<u8>>>,
+    /// The records that are in memory.
+    store: Option<ZoneStore>,
+    /// Number of octets of the owners and the RDATA of these.
+    octets: usize,
     /// The others, in runs.
     file: Option<RunFile<'s>>,
     /// Number of duplicates that were omitted.
     duplicates: u64,
 }
 
-/// Records over octets that are stored elsewhere, in canonical order.
-type LentSet<'l> = CanonicalSet<&'l [u8], &'l [u8]>;
-
-/// Returns the records of octets of a run in canonical order, and the number of duplicates that
-/// were omitted; or nothing if the octets are not such records.
-fn sorted<'l>(
-    alloc: Global,
-    octets: &'l [u8],
-    count: usize,
-) -> Result<Option<(LentSet<'l>, usize)>, RunError> {
-    let mut set = ZoneSet::with_capacity(alloc, count)?;
-    let mut rest = octets;
-    for _ in 0..count {
-        let Some((one, behind)) = read_run_record(rest) else {
-            return Ok(None);
-        };
-        set.push(one)?;
-        rest = behind;
+/// Passes the records of a zone to a consumer, only the first of duplicates. Returns the number of
+/// duplicates that were omitted.
+fn visit_records<T: RecordVisitor>(zone: &StoredZone, visitor: &mut T) -> Result<u64, RunError> {
+    let mut owner = OwnerBuffer::new();
+    let mut duplicates: u64 = 0;
+    for place in 0..zone.len() {
+        if zone.is_duplicate(place) {
+            duplicates = duplicates.saturating_add(1);
+        } else {
+            visitor.process_record(&zone.record(place, &mut owner))?;
+        }
     }
-    if !rest.is_empty() {
-        return Ok(None);
-    }
-    match CanonicalSet::from_set(set) {
-        Ok(made) => Ok(Some(made)),
-        Err(_) => Err(RunError::OutOfMemory),
-    }
-}
-
-/// Passes records in their order to a consumer.
-fn visit_records<T: RecordVisitor>(set: &LentSet<'_>, visitor: &mut T) -> Result<(), RunError> {
-    for one in set.as_slice() {
-        visitor.process_record(one)?;
-    }
-    Ok(())
+    Ok(duplicates)
 }
 
 impl<'s> Sorter<'s> {
@@ -78,47 +61,69 @@ impl<'s> Sorter<'s> {
         Sorter {
             rt,
             size,
-            octets: Vec::new(rt.alloc()),
-            count: 0,
+            apex: None,
+            store: None,
+            octets: 0,
             file: None,
             duplicates: 0,
         }
     }
 
-    /// Returns whether `more` octets more don't fit.
-    fn is_full(&self, more: usize) -> bool {
-        let octets = self.octets.len().saturating_add(more);
-        let index = self.count.saturating_add(1).saturating_mul(INDEX);
+    /// Sets the zone of the records, unless it is known. Records at names outside of it can be
+    /// added too.
+    pub fn set_apex(&mut self, apex: &[u8]) -> Result<(), RunError> {
+        if self.apex.is_none() {
+            let mut octets = Vec::new(self.rt.alloc());
+            octets.extend_from_slice(apex)?;
+            self.apex = Name::from_octets(octets).ok();
+        }
+        Ok(())
+    }
+
+    /// Returns a store without records.
+    fn new_store(&self) -> ZoneStore {
+        match &self.apex {
+            Some(apex) => ZoneStore::new(self.rt.alloc(), apex),
+            None => ZoneStore::new(self.rt.alloc(), &Name::root_ref()),
+        }
+    }
+
+    /// Returns whether `more` octets more don't fit among `count` records.
+    fn is_full(&self, count: usize, more: usize) -> bool {
+        let octets = self.octets.saturating_add(more);
+        let index = count.saturating_add(1).saturating_mul(INDEX);
         octets > self.size / 2 || octets.saturating_add(index) > self.size
     }
 
     /// Adds a record.
     pub fn add(&mut self, one: &Record<&[u8], &[u8]>) -> Result<(), RunError> {
-        let more = one
-            .owner
-            .len()
-            .saturating_add(one.data.as_slice().len())
-            .saturating_add(12);
-        if self.count > 0 && self.is_full(more) {
+        let more = one.owner.len().saturating_add(one.data.as_slice().len());
+        let count = match &self.store {
+            Some(store) => store.len(),
+            None => 0,
+        };
+        if count > 0 && self.is_full(count, more) {
             self.write_run()?;
         }
-        if self.count == 0 {
-            self.octets.reserve_exact(self.size / 2)?;
-        }
-        push_run_record(&mut self.octets, one)?;
-        self.count = self.count.saturating_add(1);
+        let mut store = match self.store.take() {
+            Some(store) => store,
+            None => self.new_store(),
+        };
+        store.add(one, 0, 0)?;
+        self.store = Some(store);
+        self.octets = self.octets.saturating_add(more);
         Ok(())
     }
 
     /// Passes the records in memory to a consumer in canonical order, only the first of duplicates,
     /// and drops them.
     fn visit_held<T: RecordVisitor>(&mut self, visitor: &mut T) -> Result<(), RunError> {
-        let Some((set, duplicates)) = sorted(self.rt.alloc(), self.octets.as_slice(), self.count)?
-        else {
-            return Err(RunError::Damaged);
+        self.octets = 0;
+        let Some(store) = self.store.take() else {
+            return Ok(());
         };
-        visit_records(&set, visitor)?;
-        self.duplicates = self.duplicates.saturating_add(duplicates as u64);
+        let duplicates = visit_records(&store.sort(), visitor)?;
+        self.duplicates = self.duplicates.saturating_add(duplicates);
         Ok(())
     }
 
@@ -131,8 +136,6 @@ impl<'s> Sorter<'s> {
         self.visit_held(&mut file)?;
         file.end_run()?;
         self.file = Some(file);
-        self.octets.truncate(0);
-        self.count = 0;
         Ok(())
     }
 
@@ -160,7 +163,6 @@ impl<'s> Sorter<'s> {
             return Ok(self.duplicates);
         }
         self.write_run()?;
-        self.octets = Vec::new(self.rt.alloc());
         let Some(mut file) = self.file.take() else {
             return Err(RunError::Damaged);
         };

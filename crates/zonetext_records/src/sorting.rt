@@ -55,6 +55,7 @@ impl EntryVisitor for Sorting<'_> {
             return Err(RunError::Damaged);
         };
         if lowered.rtype == RecordType::SOA {
+            self.others.set_apex(lowered.owner)?;
             self.soas.add(&one)
         } else {
             self.others.add(&one)

@@ -1,14 +1,14 @@
 //! The records of zone files in canonical form and order, in little memory.
-use crate::gathered::Places;
 use crate::visit::{EntryVisitor, Outcome, Reading, visit_entries};
 use dns_wire::Name;
 use rdata_fields::RecordRef;
 use rdata_values::RecordType;
-use std::alloc::Global;
+use std::alloc::{AllocError, Global};
 use zone_contents::{StoredZone, ZoneStore};
 use zone_record::{append_canonical_data, record_of};
 use zone_rules::ZoneRecords;
 use zone_set::Selection;
+use zonetext_checker::checker::SoaInfo;
 use zonetext_files::stop::RunError;
 use zonetext_files::zone_files::Entry;
 
@@ -17,6 +17,49 @@ use zonetext_files::zone_files::Entry;
 pub struct StoredRecords {
     pub zone: StoredZone,
     places: Places,
+    /// The first SOA, also if SOAs are omitted.
+    pub seen: Option<SoaInfo>,
+}
+
+/// Where the entries of records begin, by the numbers of the records.
+#[derive(Drop)]
+pub struct Places {
+    /// The paths of the files.
+    files: Vec<String>,
+    /// The number of the file among these, and the line.
+    lines: Vec<(usize, usize)>,
+}
+
+impl Places {
+    /// Returns no places.
+    pub fn new(alloc: Global) -> Places {
+        Places {
+            files: Vec::new(alloc),
+            lines: Vec::new(alloc),
+        }
+    }
+
+    /// Adds the place of the next record.
+    pub fn add(&mut self, alloc: Global, entry: &Entry<'_>) -> Result<(), AllocError> {
+        let is_same = match self.files.last() {
+            Some(file) => file.as_str() == entry.file,
+            None => false,
+        };
+        if !is_same {
+            self.files.push(String::from_str(alloc, entry.file)?)?;
+        }
+        let file = self.files.len().saturating_sub(1);
+        self.lines.push((file, entry.place().position.line))?;
+        Ok(())
+    }
+
+    /// Returns the file and the line where the entry of a record begins, by the record's number, if
+    /// its place was added.
+    pub fn get(&self, number: usize) -> Option<(&str, usize)> {
+        let (file, line) = *self.lines.get(number)?;
+        let file = self.files.get(file)?;
+        Some((file.as_str(), line))
+    }
 }
 
 impl StoredRecords {
@@ -123,8 +166,8 @@ pub fn store_records(
     };
     let Outcome {
         status,
+        seen,
         visitor,
-        ..
     } = visit_entries(rt, files, reading, collector);
     if reading.fails(status) {
         return Err(status);
@@ -136,5 +179,6 @@ pub fn store_records(
     Ok(StoredRecords {
         zone: store.sort(),
         places: visitor.places,
+        seen,
     })
 }

@@ -328,7 +328,7 @@ fn soas_of<'r, 'h>(
         let Some(one) = soa_of(rt, new)? else {
             return Ok(None);
         };
-        if report_serial(rt, old.gathered, new.gathered)? {
+        if report_serial(rt, &old.gathered.seen, &new.gathered.seen)? {
             return Ok(None);
         }
         soas.added = Some(one);

@@ -1,0 +1,33 @@
+-- How the records of two zones differ.
+use Rattle.std.specs.Prelude.{◌<◌, ℕ, List, length, map}
+use Rattle.std.specs.Borrow.{Bor}
+use Rattle.zone_record.specs.declared.record.Record.{Record}
+use Rattle.zone_contents.specs.Contents.{listed_record, ZoneValue}
+use Rattle.zone_contents.specs.declared.changes.ZoneChange.{ZoneChange}
+use Rattle.zone_contents.specs.declared.changes.ZoneChange.TheVariants.{Removed, Added, NewTtl}
+use Rattle.zone_set.specs.Stored.{record_at}
+use Rattle.zone_set.specs.declared.changes.Change.{Change}
+use Rattle.zone_set.specs.declared.changes.Change.TheVariants as Set
+
+-- the record of a zone at an index
+abbrev pub contents_at : ZoneValue → ℕ → Record (Unit {0}) (Unit {0})
+contents_at z place = listed_record z.apex (record_at z.records place)
+
+-- a reference to a value
+abbrev pub lent : {X : Type 0} → X → Bor X
+lent x = record { ref_ptr = (0, 0); now = x }
+
+-- a change, with the records at its indexes
+abbrev pub change_of : ZoneValue → ZoneValue → ZoneChange → Change (Unit {0}) (Unit {0})
+change_of old new (Removed place) = Set.Removed (lent (contents_at old place))
+change_of old new (Added place) = Set.Added (lent (contents_at new place))
+change_of old new (NewTtl before after) = Set.NewTtl (lent (contents_at old before)) (lent (contents_at new after))
+
+abbrev pub changes_of : ZoneValue → ZoneValue → List ZoneChange → List (Change (Unit {0}) (Unit {0}))
+changes_of old new changes = map (change_of old new) changes
+
+-- the zones have records at the indexes of a change
+abbrev pub IsInZones : ZoneValue → ZoneValue → ZoneChange → Type 0
+IsInZones old new (Removed place) = place < length old.records
+IsInZones old new (Added place) = place < length new.records
+IsInZones old new (NewTtl before after) = (before < length old.records) × (after < length new.records)
