@@ -9,3 +9,4 @@ pub mod ShownLaws
 pub mod ShownSteps
 pub mod TokenLists
 pub mod WordSteps
+pub mod ZoneSteps

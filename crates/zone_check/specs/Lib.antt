@@ -1,6 +1,7 @@
 pub mod Codes
 pub mod Data
 pub mod DirectiveFindings
+pub mod EntryFindings
 pub mod EntryWords
 pub mod FindingOrder
 pub mod FindingSpans
@@ -14,4 +15,6 @@ pub mod RuleFindings
 pub mod Scan
 pub mod Shown
 pub mod Texts
+pub mod TokensOf
 pub mod ValueFindings
+pub mod ZoneFindings

@@ -4,14 +4,20 @@ use Rattle.dns_lexer.specs.EntryTokens.{TokenSeen}
 use Rattle.rdata.specs.Types.{type_shapes}
 use Rattle.rdata_values.specs.Rtype as Rtype
 use Rattle.record_rules.specs.declared.rule.RecordRule.TheVariants.{CaaUnknown, CommentInData as CommentRule, NaptrBoth as BothRule, NaptrRegexp as RegexpRule, ReverseName as ReverseRule, SoaMailOneLabel, SoaRetry, TargetAddress as AddressRule, TxtWords as WordsRule, WildcardInside as WildcardRule}
+use Rattle.zone_rules.specs.declared.rule.Finding.{Finding}
+use Rattle.zone_rules.specs.declared.rule.Rule.TheVariants.{CnameLoop as CnameLoopRule, Duplicate as DuplicateRule, MissingGlue as GlueRule, TtlDiffers as TtlRule}
 use Rattle.zone_reader.specs.declared.ttl.RecordTtl.TheVariants.{Explicit, Minimum}
 use Rattle.zonetext_report.specs.Lint.{remark}
-use Rattle.zonetext_report.specs.declared.code.Code.TheVariants.{CaaTag, CommentInData, ControlOctet, ControlZ, Data, MaxTtl, MissingDot, NaptrBoth, NaptrRegexp, NoOrigin, ReverseName, SoaMinimumTtl, SoaTimers, SpfType, TargetAddress, Ttl, TxtWords, WildcardInside}
+use Rattle.zonetext_report.specs.declared.code.Code.TheVariants.{CaaTag, CommentInData, ControlOctet, ControlZ, Data, Glue, MaxEntry, MaxTtl, MissingDot, NaptrBoth, NaptrRegexp, NoOrigin, NoOwner, ReverseName, SoaMinimumTtl, SoaTimers, SpfType, TargetAddress, Ttl, TxtWords, WildcardInside}
 use Rattle.zonetext_report.specs.declared.code.Severity.TheVariants.{Error, Warning}
+use Rattle.zone_check.specs.declared.entry.EntryKind.TheVariants.{Blank, OneRecord, TooLong}
 use Rattle.zone_check.specs.declared.finding.About.TheVariants.{Entry, Octets, Rejection, RuleAtToken, RuleOfRecord, Token}
 use Rattle.zone_check.specs.declared.octet_findings.ReportedOctets.{ReportedOctets}
+use Rattle.zone_check.specs.declared.zone_findings.BrokenRule.{BrokenRule}
 use Rattle.zone_check.specs.declared.shown.Decision.TheVariants.{Shown, Counted, Omitted}
 use Rattle.zone_check.specs.Data.{has_ohttp_value}
+use Rattle.zone_check.specs.EntryFindings.{is_directive, is_news, is_of_parameters, is_scanned, long_finding, rejection_with, reports_crlf}
+use Rattle.zone_check.specs.FindingOrder.{first_shown}
 use Rattle.zone_check.specs.FindingSpans.{finding_at, finding_of_entry}
 use Rattle.zone_check.specs.NameFindings.{name_findings, record_names}
 use Rattle.zone_check.specs.Names.{ends_in_dot, ends_like}
@@ -20,7 +26,9 @@ use Rattle.zone_check.specs.RejectionFindings.{rejected_finding}
 use Rattle.zone_check.specs.RuleFindings.{rule_finding, rule_findings}
 use Rattle.zone_check.specs.Scan.{scan_of}
 use Rattle.zone_check.specs.Shown.{decisions_after}
+use Rattle.zone_check.specs.TokensOf.{begins_with_blank}
 use Rattle.zone_check.specs.ValueFindings.{last_long_ttl, max_ttl_finding, minimum_finding}
+use Rattle.zone_check.specs.ZoneFindings.{is_reported_rule, reported_finding, without_repeats}
 
 abbrev word_at : ℕ → List ℕ → TokenSeen
 word_at at text = record { text = text; is_quoted = false; is_adjacent = false; at = at }
@@ -149,3 +157,69 @@ mail_below_root = refl
 -- two are shown, and one that is left out is not counted
 two_shown : decisions_after 2 [] (Some Error ∷ None ∷ Some Warning ∷ Some Error ∷ []) ≡ Shown Error ∷ Omitted ∷ Shown Warning ∷ Counted Error ∷ []
 two_shown = refl
+
+-- ` A 192.0.2.1`
+blank_first : begins_with_blank (codes " A 192.0.2.1\n") ≡ true
+blank_first = refl
+
+-- `$TTL 1h` is a directive, ` $TTL 1h` is not
+directive_first : is_directive (codes "$TTL 1h\n") (word_at 0 (codes "$TTL") ∷ word_at 5 (codes "1h") ∷ []) ≡ true
+directive_first = refl
+
+directive_after_blank : is_directive (codes " $TTL 1h\n") (word_at 1 (codes "$TTL") ∷ word_at 6 (codes "1h") ∷ []) ≡ false
+directive_after_blank = refl
+
+-- the octets of a generated entry are not in the file
+generated_octets : is_scanned true Blank ≡ false
+generated_octets = refl
+
+long_octets : is_scanned false TooLong ≡ false
+long_octets = refl
+
+-- `a HTTPS 1 . alpn="h2"`
+adjacent_value : is_of_parameters (OneRecord (Explicit 60) 1 Rtype.https) ≡ true
+adjacent_value = refl
+
+crlf_once : reports_crlf Blank true ≡ false
+crlf_once = refl
+
+-- ` A 192.0.2.1` after a rejected owner: once
+owner_missing : rejection_with NoOwner 1 (is_news NoOwner false false) (word_at 1 (codes "A") ∷ []) ≡ Some (finding_at NoOwner 1 1 Rejection)
+owner_missing = refl
+
+owner_missing_again : rejection_with NoOwner 1 (is_news NoOwner false true) (word_at 1 (codes "A") ∷ []) ≡ None
+owner_missing_again = refl
+
+too_long : long_finding ≡ finding_at MaxEntry 0 1 Entry
+too_long = refl
+
+-- of three findings two are shown, or all
+first_two : first_shown 2 (Error ∷ Warning ∷ Error ∷ []) ≡ Error ∷ Warning ∷ []
+first_two = refl
+
+all_three : first_shown 0 (Error ∷ Warning ∷ Error ∷ []) ≡ Error ∷ Warning ∷ Error ∷ []
+all_three = refl
+
+-- the fourth record has no glue: at its target, in a zone whose records were all read
+abbrev lost_glue : Finding
+lost_glue = record { rule = GlueRule; «record» = Some 3 }
+
+glue_at_target : reported_finding (record { is_zone = true; has_gap = false }) lost_glue ≡ Some (record { code = Glue; rule = GlueRule; «record» = Some 3; is_at_target = true })
+glue_at_target = refl
+
+glue_after_gap : reported_finding (record { is_zone = true; has_gap = true }) lost_glue ≡ None
+glue_after_gap = refl
+
+-- without a zone two TTLs of an RRset are reported, and a CNAME that leads to itself is not
+ttl_without_zone : is_reported_rule TtlRule (record { is_zone = false; has_gap = true }) ≡ true
+ttl_without_zone = refl
+
+loop_without_zone : is_reported_rule CnameLoopRule (record { is_zone = false; has_gap = false }) ≡ false
+loop_without_zone = refl
+
+-- two duplicates of one directive: once
+abbrev duplicate_at : ℕ → BrokenRule
+duplicate_at place = record { finding = record { rule = DuplicateRule; «record» = Some place }; directive = Some (record { file = 0; line = 7 }) }
+
+duplicates_once : without_repeats [] (duplicate_at 4 ∷ duplicate_at 9 ∷ []) ≡ duplicate_at 4 ∷ []
+duplicates_once = refl

@@ -3,7 +3,7 @@ ghost use Rattle.std.specs.Prelude.{◌≡◌};
 ghost use Rattle.record_rules.specs.LoneRuleNames.{lone_rule_name};
 ghost use Rattle.zone_dnssec.specs.SecurityNames.{security_name};
 ghost use Rattle.zone_rules.specs.RuleNames.{rule_name};
-ghost use Rattle.zone_check.specs.Codes.{code_of_entry, code_of_fault, code_in_header, code_of_part, code_of_record_rule};
+ghost use Rattle.zone_check.specs.Codes.{code_of_entry, code_of_fault, code_in_header, code_of_part, code_of_record_rule, code_of_zone_rule};
 ghost use Rattle.zonetext_report.specs.Code.{code_name};
 
 use dns_lexer::pieces::Wrong;
@@ -86,7 +86,8 @@ pub fn code_of_record_rule(rule: RecordRule) -> Code
 
 /// Returns the code of a rule that a zone breaks, which has the rule's name.
 pub fn code_of_rule(rule: Rule) -> Code
-    ensures { code_name result ≡ rule_name rule }
+    ensures name { code_name result ≡ rule_name rule }
+    ensures value { result ≡ code_of_zone_rule rule }
 {
     match rule {
         Rule::NoSoa => Code::NoSoa,

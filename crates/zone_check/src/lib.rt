@@ -5,6 +5,9 @@
 pub mod codes;
 pub mod data;
 pub mod directive_findings;
+pub mod entry;
+pub mod entry_findings;
+pub mod entry_tokens;
 pub mod entry_words;
 pub mod finding;
 pub mod finding_order;
@@ -17,5 +20,7 @@ pub mod rejection_findings;
 pub mod rule_findings;
 pub mod scan;
 pub mod shown;
+pub mod sink;
 pub mod texts;
 pub mod value_findings;
+pub mod zone_findings;
