@@ -2,12 +2,13 @@
 ghost use Rattle.std.specs.Prelude.{◌≤◌, length};
 
 use crate::reporter::FindingLocation;
-use dns_lexer::entry_tokens::{EntryPart, EntryToken, EntryTokens, NextEntryError};
+use dns_lexer::entry_tokens::{EntryPart, EntryToken, EntryTokens};
 use dns_lexer::pieces::{Fault, Wrong};
 use dns_lexer::position::Position;
 use dns_lexer::unclosed::outermost_open_of_octets;
 use rdata_values::RecordType;
 use std::alloc::{AllocError, Global};
+use zone_check::entry_tokens;
 use zone_check::rejection_findings::fault_finding;
 use zone_check::scan::OctetScan;
 use zone_reader::{ParsedEntry, type_word};
@@ -30,7 +31,7 @@ pub fn data_start(tokens: &[EntryToken<'_>], is_blank: bool) -> usize {
 
 /// Returns whether an entry begins with a blank.
 pub fn begins_blank(entry: &Entry<'_>) -> bool {
-    matches!(entry.octets.first(), Some(b' ' | b'\t'))
+    entry_tokens::begins_blank(entry.octets)
 }
 
 /// Returns a column of a line, with the line. `number` is that of the file.
@@ -155,11 +156,7 @@ pub fn target_position(
 
 /// Returns the tokens of an entry, or those before its syntax error.
 pub fn tokens_of<'e>(alloc: Global, entry: &Entry<'e>) -> Result<Vec<EntryToken<'e>>, AllocError> {
-    let mut tokens = Vec::new(alloc);
-    match EntryTokens::of_octets(entry.octets).next_entry(&mut tokens) {
-        Err(NextEntryError::ShortBuf) => Err(AllocError),
-        _ => Ok(tokens),
-    }
+    entry_tokens::tokens_of(alloc, entry.octets)
 }
 
 /// Number of the first tokens of an entry among which its owner and its type are: an owner, a TTL, a

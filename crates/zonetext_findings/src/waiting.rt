@@ -2,6 +2,8 @@
 use dns_lexer::position::Position;
 use std::alloc::{AllocError, Global};
 use std::cmp::Ordering;
+use zone_check::finding_order::KeptFinding;
+use zone_check::sink::send_shown;
 use zonetext_report::code::{Code, Severity};
 use zonetext_report::finding::Finding;
 
@@ -46,13 +48,6 @@ fn compare_places(left: (usize, Position), right: (usize, Position)) -> Ordering
         .cmp(&right.0)
         .then(left.1.line.cmp(&right.1.line))
         .then(left.1.column.cmp(&right.1.column))
-}
-
-/// Returns the order of two findings: by file, line and column, and otherwise as they were added.
-fn compare(left: &Row, right: &Row) -> Ordering {
-    compare_places((left.number, left.position), (right.number, right.position)).then(
-        left.start.cmp(&right.start),
-    )
 }
 
 /// Returns the octets between two offsets.
@@ -134,12 +129,33 @@ impl Waiting {
         Ok(())
     }
 
+    /// Returns the findings that are shown, in the order of the files, lines and columns, and
+    /// otherwise as they were added.
+    fn shown(&self) -> Result<Vec<KeptFinding>, AllocError> {
+        let mut kept = Vec::new(self.alloc);
+        for (index, row) in self.rows.iter().enumerate() {
+            kept.push(KeptFinding {
+                file: row.number,
+                position: row.position,
+                index,
+                code: row.code,
+            })?;
+        }
+        let mut shown = Vec::new(self.alloc);
+        send_shown(&mut kept, self.most, &mut shown)?;
+        Ok(shown)
+    }
+
     /// Sorts the findings, and drops those that are not shown.
     pub fn sort(&mut self) -> Result<(), AllocError> {
-        self.rows.sort_by(|left, right| compare(left, right))?;
-        if self.most > 0 {
-            self.rows.truncate(self.most);
+        let shown = self.shown()?;
+        let mut rows = Vec::new(self.alloc);
+        for finding in &shown {
+            if let Some(row) = self.rows.get(finding.index) {
+                rows.push(*row)?;
+            }
         }
+        self.rows = rows;
         Ok(())
     }
 
