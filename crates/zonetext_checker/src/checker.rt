@@ -3,7 +3,7 @@ mod record_checks;
 
 use crate::findings::Findings;
 use crate::held_zone::{
-    HeldZone, RecordLocation, Repeats, SortedZone, is_of_absence, is_of_signed_absence, other_soa,
+    HeldZone, RecordLocation, SortedZone, broken_rules, is_of_signed_absence, other_soa,
 };
 use crate::hidden_zone::report_hidden;
 use crate::lone_rules::breaks_none;
@@ -13,7 +13,6 @@ use crate::scan::needs_lint;
 use crate::scopes::{Scope, scope_of};
 use crate::signature_groups::{groups_of, is_of_time};
 use crate::signed_zone::signed_findings;
-use crate::slips::is_of_parameters;
 use dns_lexer::entry_tokens::EntryToken;
 use dns_octets::AsOctets;
 use dns_wire::{DisplayWithDot, Name};
@@ -21,15 +20,19 @@ use rdata_fields::RecordError;
 use rdata_values::{Class, RecordType};
 use std::alloc::Global;
 use zone_check::codes::{code_of_entry, code_of_rule, code_of_security};
-use zone_check::finding::EntryFinding;
-use zone_check::octet_findings::{ReportedOctets, find_in_octets};
+use zone_check::entry::{EntryContext, EntryKind, ReadEntry};
+use zone_check::entry_findings::find_in_entry;
+use zone_check::finding::{About, EntryFinding};
+use zone_check::name_findings::OriginState;
+use zone_check::octet_findings::ReportedOctets;
 use zone_check::scan::{OctetScan, scan_octets};
 use zone_check::value_findings::data_code;
+use zone_check::zone_findings::{ZoneContext, find_in_zone};
 use zone_dnssec::Times;
 use zone_format::place::LocatedOffset;
 use zone_reader::{NameBuffer, ParsedEntry, directive_word};
 use zone_rules::names::view;
-use zone_rules::{Rule, SortedSets, ZoneRecords, check_zone};
+use zone_rules::{SortedSets, ZoneRecords, check_zone};
 use zone_stream::BlockRefusal;
 use zonetext_files::generated::RejectedDirective;
 use zonetext_files::open_file::first_place;
@@ -37,7 +40,6 @@ use zonetext_files::shown::quoted;
 use zonetext_files::stop::RunError;
 use zonetext_files::zone_files::{Entry, IncludeError, Visit};
 use zonetext_findings::exceptions::{may_except, stated_of};
-use zonetext_findings::explain::Refusal;
 use zonetext_findings::generate_findings::refusal_text;
 use zonetext_findings::locations::{
     beginning, begins_blank, line_spot, long_at, number_of, part_at, position_at, target_position,
@@ -47,10 +49,6 @@ use zonetext_findings::octet_texts::{is_of_file, octet_text};
 use zonetext_findings::reporter::{FindingText, Reporter};
 use zonetext_findings::subjects::Text;
 use zonetext_report::code::Code;
-use zonetext_report::lint::Block;
-
-/// Ctrl-Z, which ended files of CP/M and DOS.
-const CONTROL_Z: u8 = 0x1A;
 
 /// What is required of records.
 #[derive(Clone, Copy)]
@@ -133,6 +131,45 @@ fn lints(entry: &Entry<'_>, scan: OctetScan) -> bool {
     entry.generated.is_none() && needs_lint(entry.octets, scan)
 }
 
+/// Returns whether a finding is about the octets of an entry.
+fn is_of_octets(finding: &EntryFinding) -> bool {
+    matches!(finding.about, About::Octets)
+}
+
+/// Returns whether a relative name without an origin is among findings.
+fn has_no_origin(found: &[EntryFinding]) -> bool {
+    for finding in found {
+        if finding.code == Code::NoOrigin {
+            return true;
+        }
+    }
+    false
+}
+
+/// Returns what an entry was read as.
+fn kind_of(entry: &Entry<'_>) -> EntryKind {
+    match entry.read {
+        Ok(ParsedEntry::Empty) => EntryKind::Blank,
+        Ok(ParsedEntry::Directive | ParsedEntry::Include { .. }) => EntryKind::Directive,
+        Ok(ParsedEntry::Generate { .. }) => EntryKind::Generate,
+        Ok(
+            ParsedEntry::Record {
+                ttl,
+                class,
+                rtype,
+                ..
+            },
+        ) => EntryKind::OneRecord {
+            ttl: *ttl,
+            class: *class,
+            rtype: *rtype,
+        },
+        Err(BlockRefusal::Text(fault)) => EntryKind::Malformed(*fault),
+        Err(BlockRefusal::Entry(error)) => EntryKind::Rejected(*error),
+        Err(BlockRefusal::LongEntry) => EntryKind::TooLong,
+    }
+}
+
 impl<'a> Checker<'a> {
     /// Returns a checker before the first file.
     pub fn new(
@@ -184,49 +221,18 @@ impl<'a> Checker<'a> {
             .report(long_at(entry), Code::MaxEntry, true, finding_text)
     }
 
-    /// Returns whether a rejected entry is reported: a relative name without an origin is reported
-    /// once, and so are entries without an owner after a rejected one.
-    fn is_news(&mut self, code: Code) -> bool {
-        match code {
-            Code::NoOrigin => {
-                let was_told = self.has_reported_origin;
-                self.has_reported_origin = true;
-                !was_told
-            }
-            Code::NoOwner => {
-                let was_told = self.has_reported_owner;
-                self.has_reported_owner = true;
-                !was_told
-            }
-            _ => true,
-        }
-    }
-
-    /// Reports why an entry is rejected.
-    fn report_rejection(&mut self, entry: &Entry<'_>, error: &RecordError) -> Result<(), RunError> {
+    /// Stores what is known of a rejected entry.
+    fn hold_rejection(&mut self, entry: &Entry<'_>, error: &RecordError) -> Result<(), RunError> {
         let tokens = tokens_of(self.alloc, entry)?;
         let is_directive = directive_of(tokens.as_slice(), begins_blank(entry)).is_some();
         let code = code_of_entry(is_directive, error);
         self.has_gap = self.has_gap || code == Code::Directive;
-        if code != Code::NoOwner {
-            self.has_reported_owner = false;
-        }
-        if !is_directive {
-            let rtype = refused_type(error, tokens.as_slice(), begins_blank(entry));
-            self.hold_refused(entry, rtype)?;
-        }
-        if !self.is_news(code) {
+        self.has_reported_owner = code == Code::NoOwner;
+        if is_directive {
             return Ok(());
         }
-        self.findings.report_explained(
-            entry,
-            Refusal {
-                tokens: tokens.as_slice(),
-                is_blank: begins_blank(entry),
-                error,
-                code,
-            },
-        )
+        let rtype = refused_type(error, tokens.as_slice(), begins_blank(entry));
+        self.hold_refused(entry, rtype)
     }
 
     /// Returns whether an entry is blank, or a record other than an SOA that has no findings.
@@ -449,14 +455,15 @@ impl<'a> Checker<'a> {
             held,
             refused: &refused,
         };
-        let mut repeats = Repeats::new(self.alloc);
-        for finding in &found {
-            if repeats.has(finding, held)? {
-                continue;
-            }
-            if self.reports_rule(finding.rule, is_zone) {
-                self.findings.report_rule(&checked, finding)?;
-            }
+        let broken = broken_rules(self.alloc, found.as_slice(), held)?;
+        let context = ZoneContext {
+            is_zone,
+            has_gap: self.has_gap,
+        };
+        let mut findings = Vec::new(self.alloc);
+        find_in_zone(self.alloc, broken.as_slice(), context, &mut findings)?;
+        for finding in &findings {
+            self.findings.report_rule(&checked, finding)?;
         }
         if is_zone {
             report_hidden(self.alloc, &mut self.findings, &checked, self.has_gap)?;
@@ -464,15 +471,6 @@ impl<'a> Checker<'a> {
         match self.limits.times {
             Some(times) if is_zone => self.check_signatures(held, zone, times),
             _ => Ok(()),
-        }
-    }
-
-    /// Returns whether a broken rule is reported. Without a zone only rules of RRsets are. Missing
-    /// records are reported only if all records were read.
-    fn reports_rule(&self, rule: Rule, is_zone: bool) -> bool {
-        match rule {
-            Rule::Duplicate | Rule::TtlDiffers => true,
-            _ => is_zone && !(self.has_gap && is_of_absence(rule)),
         }
     }
 
@@ -524,25 +522,15 @@ impl<'a> Checker<'a> {
         Ok(())
     }
 
-    /// Returns whether CR LF at line ends of an entry's file is reported: once a file, and not if a
-    /// syntax error cuts the entry off.
-    fn reports_crlf(&self, entry: &Entry<'_>) -> bool {
-        if let Err(BlockRefusal::Text(_)) = entry.read {
-            return false;
-        }
-        !self.crlf_files.contains(&entry.number)
-    }
-
     /// Returns whether a finding about octets is reported: if only the text is checked, it must be
     /// denied.
     fn reports_octets(&self, code: Code) -> bool {
         !self.limits.is_text || self.findings.reporter.denies(code)
     }
 
-    /// Returns which findings about the octets of an entry are reported. A service parameter's value
-    /// is adjacent to its key (RFC 9460 section 2.1), and if only the text is checked, types are not
-    /// known.
-    fn reported_octets(&self, entry: &Entry<'_>) -> ReportedOctets {
+    /// Returns which findings about octets are reported. If only the text is checked, types are not
+    /// known, nor whether tokens may be adjacent.
+    fn reported_octets(&self) -> ReportedOctets {
         ReportedOctets {
             nul: self.reports_octets(Code::Nul),
             control_z: self.reports_octets(Code::ControlZ),
@@ -550,10 +538,50 @@ impl<'a> Checker<'a> {
             high_octet: self.reports_octets(Code::HighOctet),
             control_octet: self.reports_octets(Code::ControlOctet),
             nested_parentheses: self.reports_octets(Code::NestedParentheses),
-            adjacent_tokens: !self.limits.is_text && !is_of_parameters(entry),
+            adjacent_tokens: !self.limits.is_text,
             crlf: self.reports_octets(Code::Crlf),
             no_final_newline: self.reports_octets(Code::NoFinalNewline),
         }
+    }
+
+    /// Returns the findings about an entry.
+    fn find(&self, entry: &Entry<'_>, scan: OctetScan) -> Result<Vec<EntryFinding>, RunError> {
+        let origin = match entry.read {
+            Ok(ParsedEntry::Record { .. }) => self.origin_text(entry, scan)?,
+            _ => String::new(self.alloc),
+        };
+        let is_below_root = self.is_below_root(entry);
+        let context = EntryContext {
+            is_text: self.limits.is_text,
+            reports_slips: self.limits.reports_slips,
+            reported: self.reported_octets(),
+            is_crlf_reported: self.crlf_files.contains(&entry.number),
+            origin: origin.as_bytes(),
+            state: OriginState {
+                assumes_root: is_below_root && entry.state.origin.name().is_some(),
+                is_reported: self.has_reported_origin,
+            },
+            is_below_root,
+            is_owner_reported: self.has_reported_owner,
+            class: self.limits.class,
+            max_ttl: self.limits.max_ttl,
+        };
+        let owner = match entry.record()? {
+            Some(record) => record.owner,
+            None => &[],
+        };
+        let read = ReadEntry {
+            octets: entry.octets,
+            start: entry.offset,
+            kind: kind_of(entry),
+            owner,
+            data: entry.data,
+            is_generated: entry.generated.is_some(),
+            is_last: entry.is_last,
+        };
+        let mut found = Vec::new(self.alloc);
+        find_in_entry(self.alloc, &read, &context, &mut found)?;
+        Ok(found)
     }
 
     /// Reports a finding about the octets of an entry.
@@ -574,21 +602,18 @@ impl<'a> Checker<'a> {
         self.findings.show_entry(entry, severity, spot, code, &text)
     }
 
-    /// Reports findings about the octets of an entry. Returns whether it begins with Ctrl-Z.
-    fn lint(&mut self, entry: &Entry<'_>, scan: OctetScan) -> Result<bool, RunError> {
-        let is_long = matches!(entry.read, Err(BlockRefusal::LongEntry));
-        if is_long || !lints(entry, scan) {
-            return Ok(false);
-        }
-        let block = Block {
-            is_last: entry.is_last && entry.octets.first() != Some(&CONTROL_Z),
-            reports_crlf: self.reports_crlf(entry),
-        };
-        let reported = self.reported_octets(entry);
-        let mut found = Vec::new(self.alloc);
-        find_in_octets(self.alloc, entry.octets, block, reported, &mut found)?;
+    /// Reports those findings about an entry that are about its octets. Returns whether one is that
+    /// of Ctrl-Z, after which nothing is read.
+    fn report_all_octets(
+        &mut self,
+        entry: &Entry<'_>,
+        found: &[EntryFinding],
+    ) -> Result<bool, RunError> {
         let mut is_end = false;
-        for finding in &found {
+        for finding in found {
+            if !is_of_octets(finding) {
+                continue;
+            }
             is_end = is_end || finding.code == Code::ControlZ;
             if finding.code == Code::Crlf {
                 self.crlf_files.push(entry.number)?;
@@ -598,28 +623,67 @@ impl<'a> Checker<'a> {
         Ok(is_end)
     }
 
+    /// Reports those findings about an entry that are not about its octets.
+    pub(crate) fn report_read(
+        &mut self,
+        entry: &Entry<'_>,
+        found: &[EntryFinding],
+    ) -> Result<(), RunError> {
+        for finding in found {
+            if !is_of_octets(finding) {
+                self.report_finding(entry, finding)?;
+            }
+        }
+        Ok(())
+    }
+
+    /// Reports a finding about an entry that is not about its octets.
+    fn report_finding(
+        &mut self,
+        entry: &Entry<'_>,
+        finding: &EntryFinding,
+    ) -> Result<(), RunError> {
+        match entry.read {
+            Err(BlockRefusal::Text(fault)) => self.findings.report_fault(entry, finding, *fault),
+            Err(BlockRefusal::LongEntry) => self.report_long(entry),
+            Err(BlockRefusal::Entry(error)) => self
+                .findings
+                .report_explained(entry, finding, error),
+            Ok(_) => self
+                .findings
+                .report_found(entry, finding, self.limits.max_ttl),
+        }
+    }
+
     /// Reports findings about an entry.
     #[inline(never)]
     fn check_entry(&mut self, entry: &Entry<'_>, scan: OctetScan) -> Result<(), RunError> {
-        let is_end = self.lint(entry, scan)?;
+        let found = self.find(entry, scan)?;
+        let found = found.as_slice();
+        if self.report_all_octets(entry, found)? {
+            return Ok(());
+        }
+        self.has_reported_origin = self.has_reported_origin || has_no_origin(found);
         match entry.read {
-            _ if is_end => Ok(()),
-            Err(BlockRefusal::Text(fault)) => self.findings.report_fault(entry, *fault),
-            Err(BlockRefusal::LongEntry) => self.report_long(entry),
-            _ if self.limits.is_text => Ok(()),
-            Ok(ParsedEntry::Empty) => Ok(()),
-            Ok(ParsedEntry::Directive) => self.check_directive(entry),
-            Ok(ParsedEntry::Include { .. }) => self.check_directive(entry),
+            _ if self.limits.is_text => self.report_read(entry, found),
+            Ok(ParsedEntry::Directive | ParsedEntry::Include { .. }) => {
+                self.see_directive(entry)?;
+                self.report_read(entry, found)
+            }
             Ok(ParsedEntry::Generate { .. }) => self.check_generate(entry),
             Ok(
                 ParsedEntry::Record {
                     at,
-                    ttl,
                     class,
                     rtype,
+                    ..
                 },
-            ) => self.check_record(entry, scan, *at, *ttl, *class, *rtype),
-            Err(BlockRefusal::Entry(error)) => self.report_rejection(entry, error),
+            ) => self.check_record(entry, scan, found, *at, *class, *rtype),
+            Err(BlockRefusal::Entry(error)) => {
+                self.hold_rejection(entry, error)?;
+                self.report_read(entry, found)
+            }
+            _ => self.report_read(entry, found),
         }
     }
 }

@@ -1,15 +1,15 @@
 //! Reports findings with the owners and the types of the records that they are about.
 use crate::entry_texts::entry_text;
 use crate::held_zone::{RecordLocation, SortedZone};
-use crate::rule_texts::{CheckedZone, is_at_target, rule_text};
+use crate::rule_texts::{CheckedZone, rule_text};
 use dns_lexer::pieces::Fault;
 use dns_lexer::position::Position;
 use dns_octets::AsOctets;
+use rdata_fields::RecordError;
 use std::alloc::{AllocError, Global};
-use zone_check::codes::{code_of_fault, code_of_rule};
 use zone_check::finding::EntryFinding;
-use zone_check::rejection_findings::rejected_finding;
 use zone_check::texts::code_text;
+use zone_check::zone_findings::ZoneFinding;
 use zone_reader::NameBuffer;
 use zone_rules::zone_records::OwnerBuffer;
 use zone_rules::{Finding, ZoneRecords};
@@ -19,7 +19,7 @@ use zonetext_files::stop::RunError;
 use zonetext_files::zone_files::Entry;
 use zonetext_findings::exceptions::{Exception, Slip};
 use zonetext_findings::explain::{Refusal, explain};
-use zonetext_findings::locations::{begins_blank, fault_at, first_tokens, line_spot, part_at};
+use zonetext_findings::locations::{begins_blank, first_tokens, line_spot, part_at, tokens_of};
 use zonetext_findings::octet_texts::fault_text;
 use zonetext_findings::reporter::{FindingLocation, FindingText, Reporter};
 use zonetext_findings::subjects::{Subject, Text};
@@ -139,28 +139,31 @@ impl<'a> Findings<'a> {
         )
     }
 
-    /// Reports findings about an entry. `most` is the greatest TTL that is allowed.
+    /// Reports a finding about an entry. `most` is the greatest TTL that is allowed.
     pub fn report_found(
         &mut self,
         entry: &Entry<'_>,
-        found: &[EntryFinding],
+        finding: &EntryFinding,
         most: Option<u32>,
     ) -> Result<(), RunError> {
-        for finding in found {
-            let code = finding.code;
-            let spot = part_at(entry, finding.start, finding.width);
-            if let Some(severity) = self.reporter.count(spot, code, false) {
-                let text = entry_text(self.alloc, entry, finding, most)?;
-                self.show_entry(entry, severity, spot, code, &text)?;
-            }
-        }
-        Ok(())
+        let code = finding.code;
+        let spot = part_at(entry, finding.start, finding.width);
+        let Some(severity) = self.reporter.count(spot, code, false) else {
+            return Ok(());
+        };
+        let text = entry_text(self.alloc, entry, finding, most)?;
+        self.show_entry(entry, severity, spot, code, &text)
     }
 
     /// Reports a syntax error of the text.
-    pub fn report_fault(&mut self, entry: &Entry<'_>, fault: Fault) -> Result<(), RunError> {
-        let code = code_of_fault(fault.wrong);
-        let spot = fault_at(entry, fault);
+    pub fn report_fault(
+        &mut self,
+        entry: &Entry<'_>,
+        finding: &EntryFinding,
+        fault: Fault,
+    ) -> Result<(), RunError> {
+        let code = finding.code;
+        let spot = part_at(entry, finding.start, finding.width);
         let Some(severity) = self.reporter.count(spot, code, true) else {
             return Ok(());
         };
@@ -185,13 +188,19 @@ impl<'a> Findings<'a> {
     pub fn report_explained(
         &mut self,
         entry: &Entry<'_>,
-        refusal: Refusal<'_, '_>,
+        finding: &EntryFinding,
+        error: &RecordError,
     ) -> Result<(), RunError> {
-        let at = refusal.error.offset.saturating_sub(entry.offset);
-        let finding = rejected_finding(refusal.code, at, refusal.tokens);
         let spot = part_at(entry, finding.start, finding.width);
         let Some(severity) = self.reporter.count(spot, finding.code, true) else {
             return Ok(());
+        };
+        let tokens = tokens_of(self.alloc, entry)?;
+        let refusal = Refusal {
+            tokens: tokens.as_slice(),
+            is_blank: begins_blank(entry),
+            error,
+            code: finding.code,
         };
         let found = explain(self.alloc, entry, refusal)?;
         if found.is_record {
@@ -251,16 +260,19 @@ impl<'a> Findings<'a> {
     pub fn report_rule<Origin: AsOctets>(
         &mut self,
         checked: &CheckedZone<'_, Origin>,
-        finding: &Finding,
+        finding: &ZoneFinding,
     ) -> Result<(), RunError> {
         let (held, record) = (checked.held, finding.record);
-        let at_target = is_at_target(finding.rule);
-        let code = code_of_rule(finding.rule);
+        let (code, at_target) = (finding.code, finding.is_at_target);
         let Some(severity) = self.count_at(held, code, record, at_target) else {
             return Ok(());
         };
         let may_search = at_target && self.may_search(held.records.len());
-        let text = rule_text(self.alloc, checked, finding, may_search)?;
+        let broken = Finding {
+            rule: finding.rule,
+            record,
+        };
+        let text = rule_text(self.alloc, checked, &broken, may_search)?;
         self.show_at(held, severity, code, record, at_target, &text)
     }
 

@@ -7,6 +7,7 @@ use dns_wire::Name;
 use rdata_fields::RecordRef;
 use rdata_values::RecordType;
 use std::alloc::{AllocError, Global};
+use zone_check::zone_findings::{BrokenRule, DirectiveLine};
 use zone_contents::{Location, Locations, StoredZone, ZoneStore};
 use zone_dnssec::SecurityRule;
 use zone_reader::NameBuffer;
@@ -177,40 +178,35 @@ impl SortedZone {
     }
 }
 
-/// The directives with a duplicate that was reported. The duplicates of a directive are reported once.
-#[derive(Drop)]
-pub struct Repeats {
-    /// Number of the file, and line of the directive.
-    places: Vec<(usize, usize)>,
+/// Returns the directive that generated the record of a duplicate, if one did.
+fn directive_of(finding: &Finding, zone: &SortedZone) -> Option<DirectiveLine> {
+    if finding.rule != Rule::Duplicate {
+        return None;
+    }
+    let location = zone.location(finding.record?)?;
+    if location.generated.is_none() {
+        return None;
+    }
+    Some(DirectiveLine {
+        file: location.file,
+        line: location.position.line,
+    })
 }
 
-impl Repeats {
-    /// Returns no directives.
-    pub fn new(alloc: Global) -> Repeats {
-        Repeats {
-            places: Vec::new(alloc),
-        }
+/// Returns the rules that are broken, with the directives of duplicates.
+pub fn broken_rules(
+    alloc: Global,
+    found: &[Finding],
+    zone: &SortedZone,
+) -> Result<Vec<BrokenRule>, AllocError> {
+    let mut broken = Vec::new(alloc);
+    for finding in found {
+        broken.push(BrokenRule {
+            finding: *finding,
+            directive: directive_of(finding, zone),
+        })?;
     }
-
-    /// Returns whether a finding is a duplicate of a directive with one that was reported. Adds the
-    /// directive otherwise.
-    pub fn has(&mut self, finding: &Finding, zone: &SortedZone) -> Result<bool, AllocError> {
-        if finding.rule != Rule::Duplicate {
-            return Ok(false);
-        }
-        let Some(location) = finding.record.and_then(|place| zone.location(place)) else {
-            return Ok(false);
-        };
-        if location.generated.is_none() {
-            return Ok(false);
-        }
-        let place = (location.file, location.position.line);
-        if self.places.contains(&place) {
-            return Ok(true);
-        }
-        self.places.push(place)?;
-        Ok(false)
-    }
+    Ok(broken)
 }
 
 /// Returns whether a finding is an SOA at another name than the zone's.
@@ -236,23 +232,6 @@ pub fn other_soa(found: &[Finding], zone: &SortedZone) -> Option<Finding> {
         }
     }
     if lacks_soa { other } else { None }
-}
-
-/// Returns whether a zone breaks a rule because a record is missing.
-pub fn is_of_absence(rule: Rule) -> bool {
-    match rule {
-        Rule::NoSoa
-        | Rule::NoNs
-        | Rule::NsAddress
-        | Rule::MissingGlue
-        | Rule::HostMissing
-        | Rule::CdsWithoutKey
-        | Rule::DsWithoutNs
-        | Rule::CnameTargetMissing
-        | Rule::WeakDigest
-        | Rule::SingleNs => true,
-        _ => false,
-    }
 }
 
 /// Returns whether a signed zone may break a rule because a record is missing.

@@ -15,5 +15,4 @@ mod scan;
 pub mod scopes;
 mod signature_groups;
 mod signed_zone;
-mod slips;
 mod spelled_owners;

@@ -21,19 +21,6 @@ pub struct CheckedZone<'z, Origin: AsOctets> {
     pub refused: &'z SortedSets<'z>,
 }
 
-/// Returns whether a rule is about the target of a record.
-pub fn is_at_target(rule: Rule) -> bool {
-    matches!(
-        rule,
-        Rule::NsAddress
-            | Rule::MissingGlue
-            | Rule::HostIsAlias
-            | Rule::HostBelowDname
-            | Rule::HostMissing
-            | Rule::CnameTargetMissing
-    )
-}
-
 /// Returns the target of a record: the host of NS, MX and SRV, and that of CNAME.
 fn target_of<'r>(record: &'r HeldRecord<'_>) -> Option<Name<&'r [u8]>> {
     let place = match record.data.rtype() {

@@ -2,13 +2,9 @@
 use super::{Checker, SoaInfo};
 use crate::scan::{ends_twice, repeats_origin};
 use dns_wire::DisplayWithoutDot;
-use rdata_fields::RecordRef;
 use rdata_values::{Class, RecordType};
 use std::alloc::AllocError;
-use zone_check::directive_findings::directive_finding;
 use zone_check::finding::EntryFinding;
-use zone_check::name_findings::OriginState;
-use zone_check::record_findings::{RecordContext, find_in_record};
 use zone_check::scan::OctetScan;
 use zone_reader::{NameBuffer, RecordTtl};
 use zone_record::Data;
@@ -16,8 +12,7 @@ use zone_set::serial_of;
 use zonetext_files::stop::RunError;
 use zonetext_files::zone_files::Entry;
 use zonetext_findings::generate_findings::dot_in;
-use zonetext_findings::locations::{begins_blank, tokens_of};
-use zonetext_report::code::Code;
+use zonetext_findings::locations::tokens_of;
 
 impl<'a> Checker<'a> {
     /// Returns whether the names of a record, as they are spelled, may have findings. A relative
@@ -40,56 +35,17 @@ impl<'a> Checker<'a> {
 
     /// Returns the text of the origin without its last dot, or none if names need not be looked at
     /// or the origin is the root.
-    fn origin_text(&self, entry: &Entry<'_>, scan: OctetScan) -> Result<String, AllocError> {
+    pub(super) fn origin_text(
+        &self,
+        entry: &Entry<'_>,
+        scan: OctetScan,
+    ) -> Result<String, AllocError> {
         match entry.state.origin.name() {
             Some(origin) if origin.len() >= 2 && self.may_show_names(entry, scan) => {
                 DisplayWithoutDot::new(origin).to_string(self.alloc)
             }
             _ => Ok(String::new(self.alloc)),
         }
-    }
-
-    /// Reports findings about a record as it is written.
-    fn check_text(
-        &mut self,
-        entry: &Entry<'_>,
-        scan: OctetScan,
-        record: &RecordRef<'_>,
-        ttl: RecordTtl,
-    ) -> Result<(), RunError> {
-        let is_below_root = self.is_below_root(entry);
-        let context = RecordContext {
-            ttl,
-            begins_blank: begins_blank(entry),
-            origin: OriginState {
-                assumes_root: is_below_root && entry.state.origin.name().is_some(),
-                is_reported: self.has_reported_origin,
-            },
-            is_below_root,
-            class: self.limits.class,
-            max_ttl: self.limits.max_ttl,
-        };
-        let origin = self.origin_text(entry, scan)?;
-        let tokens = tokens_of(self.alloc, entry)?;
-        let mut found = Vec::new(self.alloc);
-        find_in_record(
-            record,
-            entry.octets,
-            origin.as_bytes(),
-            context,
-            tokens.as_slice(),
-            &mut found,
-        )?;
-        for finding in &found {
-            self.has_reported_origin = self.has_reported_origin || finding.code == Code::NoOrigin;
-        }
-        self.report_found(entry, found.as_slice())
-    }
-
-    /// Reports findings about an entry.
-    fn report_found(&mut self, entry: &Entry<'_>, found: &[EntryFinding]) -> Result<(), RunError> {
-        self.findings
-            .report_found(entry, found, self.limits.max_ttl)
     }
 
     /// Stores the first SOA. Fails with `Damaged` if its octets are not an SOA.
@@ -114,7 +70,7 @@ impl<'a> Checker<'a> {
     }
 
     /// Returns whether the root is appended to relative names of an entry because no origin is known.
-    fn is_below_root(&self, entry: &Entry<'_>) -> bool {
+    pub(super) fn is_below_root(&self, entry: &Entry<'_>) -> bool {
         match entry.state.origin.name() {
             Some(origin) => self.limits.assumes_root && origin.len() < 2,
             None => true,
@@ -132,13 +88,13 @@ impl<'a> Checker<'a> {
         }
     }
 
-    /// Reports findings about a record.
+    /// Reports the findings about a record, and stores it. `at` is the offset of its first token.
     pub(super) fn check_record(
         &mut self,
         entry: &Entry<'_>,
         scan: OctetScan,
+        found: &[EntryFinding],
         at: usize,
-        ttl: RecordTtl,
         class: Class,
         rtype: RecordType,
     ) -> Result<(), RunError> {
@@ -150,9 +106,7 @@ impl<'a> Checker<'a> {
         if has_class && !self.limits.reports_slips {
             return Ok(());
         }
-        if let Some(record) = entry.record()? {
-            self.check_text(entry, scan, &record, ttl)?;
-        }
+        self.report_read(entry, found)?;
         if !has_class {
             return self.hold_refused(entry, Some(rtype));
         }
@@ -166,22 +120,21 @@ impl<'a> Checker<'a> {
         }
         let tokens = tokens_of(self.alloc, entry)?;
         match dot_in(tokens.as_slice()) {
-            Some(finding) => self.report_found(entry, &[finding]),
+            Some(finding) => self
+                .findings
+                .report_found(entry, &finding, self.limits.max_ttl),
             None => Ok(()),
         }
     }
 
-    /// Reports findings about a directive.
-    pub(super) fn check_directive(&mut self, entry: &Entry<'_>) -> Result<(), RunError> {
+    /// Ends the assumption of the root at `$ORIGIN`.
+    pub(super) fn see_directive(&mut self, entry: &Entry<'_>) -> Result<(), RunError> {
         let tokens = tokens_of(self.alloc, entry)?;
         if let Some(word) = tokens.first() {
             if word.text.eq_ignore_ascii_case(b"$ORIGIN") {
                 self.limits.assumes_root = false;
             }
         }
-        match directive_finding(tokens.as_slice()) {
-            Some(finding) => self.report_found(entry, &[finding]),
-            None => Ok(()),
-        }
+        Ok(())
     }
 }
