@@ -7,7 +7,7 @@ use Rattle.std.proofs.lemmas.List.Elements.{All-nil, All-cons, All-head, All-tai
 use Rattle.std.proofs.lemmas.List.Sorted.{IsNonDecreasingBy-push}
 use Rattle.std.proofs.lemmas.Nat.{from_be_bytes-to_be_bytes_2}
 use Rattle.zone_set.specs.Counted.{after_length, first_length, length_octets}
-use Rattle.zone_set.specs.Entries.{HasAt, IsEntryFor, IsEntryOf, IsStoreEntry, after_rest, first_rest, key_at, key_in, octets_of, offset_of, parts_at, parts_or_absent, prefix_of, record_octets, record_of, seven_octets}
+use Rattle.zone_set.specs.Entries.{HasAt, IsEntryFor, IsEntryOf, IsStoreEntry, after_rest, first_rest, key_at, stored_key, octets_of, record_offset, parts_at, parts_or_absent, prefix_of, record_octets, record_of, seven_octets}
 use Rattle.zone_set.specs.Parts.{PartsFit, RecordParts, begins_parts, first_parts, parts_octets}
 use Rattle.zone_set.specs.Prefixes.{prefix_number}
 use Rattle.zone_set.specs.Stored.{AddedRecord, added_record, absent_parts}
@@ -68,7 +68,7 @@ module _ (octets : List ℕ) (e : Entry) (r : AddedRecord) (is : IsEntryOf octet
   back = is.has.1
 
   octets_are : octets_of octets e ≡ length_octets (length r.key) ++ (drop 7 r.key ++ (parts_octets r.parts ++ back))
-  octets_are = drop_has octets (offset_of e) (record_octets r) is.has ∙ whole_is r back is.key_fits
+  octets_are = drop_has octets (record_offset e) (record_octets r) is.has ∙ whole_is r back is.key_fits
 
   pub count_is : first_length (octets_of octets e) ≡ length r.key
   count_is = ap first_length octets_are ∙ length_is r back is.key_fits
@@ -93,7 +93,7 @@ module _ (octets : List ℕ) (e : Entry) (r : AddedRecord) (is : IsEntryOf octet
   prefix_is = is.prefix ∙ ap (prefix_number 7) (sym key_is)
 
   -- a record begins before the end of the octets
-  begins_before : offset_of e < length octets
+  begins_before : record_offset e < length octets
   unfolding record_octets
   begins_before =
       let whole : length octets ≡ length is.has.0 + length (record_octets r ++ back) = ap length is.has.2 ∙ length-append is.has.0 (record_octets r ++ back) in
@@ -106,7 +106,7 @@ module _ (octets : List ℕ) (e : Entry) (r : AddedRecord) (is : IsEntryOf octet
     key_fits = is.key_fits;
     key_small = is.key_small;
     parts_fit = is.parts_fit;
-    has = has_more octets (offset_of e) (record_octets r) more is.has;
+    has = has_more octets (record_offset e) (record_octets r) more is.has;
     prefix = is.prefix;
     middle_fits = is.middle_fits;
     low_fits = is.low_fits;
@@ -134,24 +134,24 @@ entry_is old new e prefix len key parts key_fits key_small parts_fit is prefix_i
   key_small = key_small;
   parts_fit = parts_fit;
   has =
-    subst (λ (os : List ℕ). HasAt os (offset_of e) (record_octets (added_record key parts))) (sym is)
-    (subst (λ (n : ℕ). HasAt (old ++ record_octets (added_record key parts)) n (record_octets (added_record key parts))) (sym (made.1 ∙ len_is)) (has_end old (record_octets (added_record key parts))));
+      subst (λ (os : List ℕ). HasAt os (record_offset e) (record_octets (added_record key parts))) (sym is)
+      (subst (λ (n : ℕ). HasAt (old ++ record_octets (added_record key parts)) n (record_octets (added_record key parts))) (sym (made.1 ∙ len_is)) (has_end old (record_octets (added_record key parts))));
   prefix = made.0 ∙ prefix_is;
   middle_fits = made.2;
   low_fits = made.3;
 }
 
 -- an entry whose octets are after those of all others
-pub stored_more : (octets more : List ℕ) (entries : List Entry) (e : Entry) (r : AddedRecord) → IsStored octets entries → IsEntryOf (octets ++ more) e r → length octets ≤ offset_of e
+pub stored_more : (octets more : List ℕ) (entries : List Entry) (e : Entry) (r : AddedRecord) → IsStored octets entries → IsEntryOf (octets ++ more) e r → length octets ≤ record_offset e
     → StoresMore octets entries (octets ++ more) (entries ++ e ∷ []) r
 stored_more octets more entries e r stored is after =
-    let low : (d : Entry) → 0 < length entries → offset_of (get_or entries (length entries - 1) d) ≤ offset_of e = λ d some.
+    let low : (d : Entry) → 0 < length entries → record_offset (get_or entries (length entries - 1) d) ≤ record_offset e = λ d some.
     let last = All-get_or (IsStoreEntry octets) entries (length entries - 1) d (omega (arith, some)) stored.are in
     omega (arith, begins_before octets (get_or entries (length entries - 1) d) last.0 last.1, after) in
     record {
       stored = record {
         are = All-push (IsStoreEntry (octets ++ more)) entries e (all_more octets more entries stored.are) (r, is);
-        rise = IsNonDecreasingBy-push offset_of entries e stored.rise low;
+        rise = IsNonDecreasingBy-push record_offset entries e stored.rise low;
       };
       records = map-append (record_of (octets ++ more)) entries (e ∷ []) ∙ (λ i. records_more octets more entries stored.are i ++ record_is (octets ++ more) e r is i ∷ []);
     }

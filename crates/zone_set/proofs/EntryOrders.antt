@@ -14,14 +14,14 @@ use Rattle.zone_record.specs.Names.{octet_order}
 use Rattle.zone_record.specs.AnyData.{any_data_order}
 use Rattle.zone_record.proofs.AnyOrders.{any_total}
 use Rattle.zone_set.specs.Counted.{first_length}
-use Rattle.zone_set.specs.Entries.{IsStoreEntry, after_rest, entry_order, first_rest, key_at, octets_of, octets_order, offset_of, parts_at, parts_or_absent, prefix_of, prefixed_keys, prefixed_order, prefixed_records, record_of, rests_order}
+use Rattle.zone_set.specs.Entries.{IsStoreEntry, after_rest, entry_order, first_rest, key_at, octets_of, octets_order, record_offset, parts_at, parts_or_absent, prefix_of, prefixed_keys, prefixed_order, prefixed_records, record_of, rests_order}
 use Rattle.zone_set.specs.Indexes.{stored_at}
 use Rattle.zone_set.specs.Parts.{RecordParts}
-use Rattle.zone_set.specs.Prefixes.{prefix_number}
+use Rattle.zone_set.specs.Prefixes.{prefix_number, rests_cmp}
 use Rattle.zone_set.specs.Stored.{AddedRecord, absent_parts, added_record, parts_cmp, stored_order, type_order}
 use Rattle.zone_set.specs.declared.entries.Entry.{Entry}
 use Rattle.zone_set.proofs.EntriesRead.{count_is, key_is, rests_are}
-use Rattle.zone_set.proofs.KeyPrefixes.{IsOctet, all_octets, by_rest, rests_decide}
+use Rattle.zone_set.proofs.KeyPrefixes.{IsOctet, all_octets, rests_decide}
 
 -- an order, and then one that depends on a number which is the same where the first says `Equal`
 module _ {K : Type 0} {R : K → K → Ordering} (o : IsTotalOrder R) (number : K → ℕ) (S : ℕ → K → K → Ordering) (each : (n : ℕ) → IsTotalOrder (S n)) (same : (x y : K) → R x y ≡ Equal → number x ≡ number y) where
@@ -106,7 +106,7 @@ pub rrsets_total : IsTotalOrder (λ (a b : AddedRecord). ordering_then (octet_or
 rrsets_total = then_total (on_total (λ (r : AddedRecord). r.key) nat_list_cmp_total) (on_total (λ (r : AddedRecord). r.parts) types_total)
 
 pub entries_total : (octets : List ℕ) → IsTotalOrder (entry_order octets)
-entries_total octets = then_total (on_total (record_of octets) stored_total) (on_total offset_of nat_cmp_total)
+entries_total octets = then_total (on_total (record_of octets) stored_total) (on_total record_offset nat_cmp_total)
 
 rests_total : IsTotalOrder rests_order
 rests_total = then_total (on_total first_rest nat_list_cmp_total) (on_total first_length nat_cmp_total)
@@ -116,7 +116,7 @@ octets_total = then_total rests_total (on_total (λ (os : List ℕ). parts_or_ab
 
 pub prefixed_total : (octets : List ℕ) → IsTotalOrder (prefixed_order octets)
 prefixed_total octets =
-    then_total (then_total (on_total prefix_of nat_cmp_total) (on_total (octets_of octets) octets_total)) (on_total offset_of nat_cmp_total)
+    then_total (then_total (on_total prefix_of nat_cmp_total) (on_total (octets_of octets) octets_total)) (on_total record_offset nat_cmp_total)
 
 then_assoc : (p q r : Ordering) → ordering_then p (ordering_then q r) ≡ ordering_then (ordering_then p q) r
 then_assoc Less q r = refl
@@ -135,7 +135,7 @@ prefixed_is octets a b p q =
     let parts = parts_cmp (parts_at octets a) (parts_at octets b) in
     (λ i. ordering_then (nat_cmp (p.1.prefix i) (q.1.prefix i))
     (ordering_then (ordering_then (octet_order (rests_are octets a p.0 p.1 i) (rests_are octets b q.0 q.1 i)) (nat_cmp (count_is octets a p.0 p.1 i) (count_is octets b q.0 q.1 i))) parts))
-    ∙ then_assoc (nat_cmp (prefix_number 7 p.0.key) (prefix_number 7 q.0.key)) (by_rest 7 p.0.key q.0.key) parts
+    ∙ then_assoc (nat_cmp (prefix_number 7 p.0.key) (prefix_number 7 q.0.key)) (rests_cmp 7 p.0.key q.0.key) parts
     ∙ ap (λ o. ordering_then o parts) (sym (rests_decide 7 p.0.key q.0.key p.1.key_small q.1.key_small))
     ∙ (λ i. ordering_then (octet_order (sym (key_is octets a p.0 p.1) i) (sym (key_is octets b q.0 q.1) i)) parts)
 

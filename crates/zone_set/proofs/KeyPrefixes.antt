@@ -11,7 +11,7 @@ use Rattle.std.proofs.lemmas.Nat.{be_bytes_8}
 use Rattle.std.proofs.Math.Nat.{mul-le-mul_right, mul_assoc, pow-suc, pow-le-pow_right}
 use Rattle.zone_set.specs.Entries.{seven_octets}
 use Rattle.zone_record.specs.Names.{octet_order}
-use Rattle.zone_set.specs.Prefixes.{prefix_number}
+use Rattle.zone_set.specs.Prefixes.{prefix_number, rests_cmp}
 
 abbrev pub IsOctet : ℕ → Type 0
 IsOctet o = o < 256
@@ -160,14 +160,10 @@ none_greater : (n : ℕ) (a : List ℕ) (m : ℕ) → ordering_then (octet_order
 none_greater n [] m = greater (suc m) 0 (omega arith)
 none_greater n (x ∷ a) m = refl
 
--- by the octets after the first ones, and then by the lengths
-abbrev pub by_rest : ℕ → List ℕ → List ℕ → Ordering
-by_rest n a b = ordering_then (octet_order (drop n a) (drop n b)) (nat_cmp (length a) (length b))
-
 -- the first octets of two lists decide as numbers, and then what follows them does
-pub rests_decide : (n : ℕ) (a b : List ℕ) → All IsOctet a → All IsOctet b → octet_order a b ≡ ordering_then (nat_cmp (prefix_number n a) (prefix_number n b)) (by_rest n a b)
+pub rests_decide : (n : ℕ) (a b : List ℕ) → All IsOctet a → All IsOctet b → octet_order a b ≡ ordering_then (nat_cmp (prefix_number n a) (prefix_number n b)) (rests_cmp n a b)
 rests_decide zero a b h k =
-    same_length a b ∙ ap (λ o. ordering_then o (by_rest 0 a b)) (sym (level (prefix_number 0 a) (prefix_number 0 b) (prefix_none a ∙ sym (prefix_none b))))
+    same_length a b ∙ ap (λ o. ordering_then o (rests_cmp 0 a b)) (sym (level (prefix_number 0 a) (prefix_number 0 b) (prefix_none a ∙ sym (prefix_none b))))
 rests_decide (suc n) [] [] h k = refl
 rests_decide (suc n) [] (y ∷ b) h k =
     sym (ap (ordering_then (nat_cmp 0 (prefix_number (suc n) (y ∷ b)))) (none_less n (drop n b) (length b)) ∙ at_least (prefix_number (suc n) (y ∷ b)))
@@ -182,9 +178,9 @@ rests_decide (suc n) (x ∷ a) (y ∷ b) h k = by (compared x y) (rests_decide n
     more_b = prefix_small n b (All-tail IsOctet y b k)
 
     rest : Ordering
-    rest = by_rest (suc n) (x ∷ a) (y ∷ b)
+    rest = rests_cmp (suc n) (x ∷ a) (y ∷ b)
 
-    by : Compared x y → octet_order a b ≡ ordering_then (nat_cmp (prefix_number n a) (prefix_number n b)) (by_rest n a b)
+    by : Compared x y → octet_order a b ≡ ordering_then (nat_cmp (prefix_number n a) (prefix_number n b)) (rests_cmp n a b)
         → ordering_then (nat_cmp x y) (octet_order a b) ≡ ordering_then (nat_cmp (prefix_number (suc n) (x ∷ a)) (prefix_number (suc n) (y ∷ b))) rest
     by (below p) e =
         ap (λ o. ordering_then o (octet_order a b)) (less x y p)

@@ -11,7 +11,7 @@ use Rattle.std.proofs.lemmas.List.{get_or-map, length-map}
 use Rattle.std.proofs.lemmas.List.Elements.{All-nil, All-cons, All-head, All-tail, All-filter, filter_passes}
 use Rattle.std.proofs.lemmas.List.Sorted.{ranks_by, All-permutation, IsPermutation-map, sum_by-IsPermutation}
 use Rattle.zone_record.specs.Names.{octet_order}
-use Rattle.zone_set.specs.Entries.{IsStoreEntry, entry_order, key_at, offset_of, parts_at, prefix_of, record_of}
+use Rattle.zone_set.specs.Entries.{IsStoreEntry, entry_order, key_at, record_offset, parts_at, prefix_of, record_of}
 use Rattle.zone_set.specs.Prefixes.{prefix_number}
 use Rattle.zone_set.specs.Stored.{AddedRecord, parts_cmp, stored_order}
 use Rattle.zone_set.specs.Stores.{stored_records}
@@ -47,17 +47,17 @@ sorted_records octets entries sorted k d low high =
 
 -- entries whose places don't fall
 abbrev by_place : Entry → Entry → Bool
-by_place a b = nat_lt (offset_of a) (offset_of b)
+by_place a b = nat_lt (record_offset a) (record_offset b)
 
 pub not_below : (m n : ℕ) → n ≤ m → nat_lt m n ≡ false
 not_below m n h = Prim.grind (arith, nat_tests)
 
-none_before : (e : Entry) (es : List Entry) → ((j : ℕ) (d : Entry) → j < length es → offset_of e ≤ offset_of (get_or es j d)) → NoneLess by_place e es
+none_before : (e : Entry) (es : List Entry) → ((j : ℕ) (d : Entry) → j < length es → record_offset e ≤ record_offset (get_or es j d)) → NoneLess by_place e es
 unfolding NoneLess
 none_before e [] h = tt
-none_before e (x ∷ es) h = (not_below (offset_of x) (offset_of e) (h 0 e (omega arith)), none_before e es (λ j d low. h (suc j) d (omega (arith, low))))
+none_before e (x ∷ es) h = (not_below (record_offset x) (record_offset e) (h 0 e (omega arith)), none_before e es (λ j d low. h (suc j) d (omega (arith, low))))
 
-places_rise : (es : List Entry) → IsNonDecreasingBy offset_of es → Rises by_place es
+places_rise : (es : List Entry) → IsNonDecreasingBy record_offset es → Rises by_place es
 unfolding Rises
 places_rise [] h = tt
 places_rise (e ∷ es) h =
@@ -85,7 +85,7 @@ all_both P Q [] h k = All-nil (λ x. P x × Q x)
 all_both P Q (x ∷ xs) h k = All-cons (λ y. P y × Q y) x xs (All-head P x xs h, All-head Q x xs k) (all_both P Q xs (All-tail P x xs h) (All-tail Q x xs k))
 
 -- a prefix and an offset make one entry
-one_entry : (a b : Entry) → prefix_of a ≡ prefix_of b → offset_of a ≡ offset_of b → a.middle < 2 ^ 32 → b.middle < 2 ^ 32 → a.low < 2 ^ 32 → b.low < 2 ^ 32 → a ≡ b
+one_entry : (a b : Entry) → prefix_of a ≡ prefix_of b → record_offset a ≡ record_offset b → a.middle < 2 ^ 32 → b.middle < 2 ^ 32 → a.low < 2 ^ 32 → b.low < 2 ^ 32 → a ≡ b
 one_entry a b p o ma mb la lb =
     let high : a.high ≡ b.high = omega (arith, p, ma, mb) in
     let top : a.middle / 2 ^ 8 ≡ b.middle / 2 ^ 8 = omega (arith, p, ma, mb) in
@@ -106,8 +106,8 @@ module _ (octets : List ℕ) (x : AddedRecord) where
 
   place_not : (a b : Entry) → test a ≡ true → test b ≡ true → is_lt (entry_order octets b a) ≡ false → by_place b a ≡ false
   place_not a b h m not_less =
-      sym (lt_is (offset_of b) (offset_of a))
-      ∙ sym (ap (λ o. is_lt (ordering_then o (nat_cmp (offset_of b) (offset_of a)))) (tied_both b a m h))
+      sym (lt_is (record_offset b) (record_offset a))
+      ∙ sym (ap (λ o. is_lt (ordering_then o (nat_cmp (record_offset b) (record_offset a)))) (tied_both b a m h))
       ∙ not_less
 
   none_place : (a : Entry) (bs : List Entry) → test a ≡ true → All (λ e. test e ≡ true) bs → NoneLess (λ a b. is_lt (entry_order octets a b)) a bs → NoneLess by_place a bs
@@ -126,7 +126,7 @@ module _ (octets : List ℕ) (x : AddedRecord) where
   abbrev Tied : Entry → Type 0
   Tied e = IsStoreEntry octets e × (test e ≡ true)
 
-  apart : (a b : Entry) → Tied a → Tied b → offset_of a ≡ offset_of b → a ≡ b
+  apart : (a b : Entry) → Tied a → Tied b → record_offset a ≡ record_offset b → a ≡ b
   apart a b p q same =
       let keys : key_at octets a ≡ key_at octets b = same_keys (key_at octets a) (key_at octets b) (then_equal (octet_order (key_at octets a) (key_at octets b)) (parts_cmp (parts_at octets a) (parts_at octets b)) (tied_both a b p.1 q.1)) in
       let prefixes : prefix_of a ≡ prefix_of b = prefix_is octets a p.0.0 p.0.1 ∙ ap (prefix_number 7) keys ∙ sym (prefix_is octets b q.0.0 q.0.1) in
@@ -135,16 +135,16 @@ module _ (octets : List ℕ) (x : AddedRecord) where
   all_tied : (es : List Entry) → All (IsStoreEntry octets) es → All Tied (filter test es)
   all_tied es all = all_both (IsStoreEntry octets) (λ e. test e ≡ true) (filter test es) (All-filter test (IsStoreEntry octets) es all) (filter_passes test es)
 
-  same_entries : (before entries : List Entry) → All (IsStoreEntry octets) before → IsNonDecreasingBy offset_of before → IsPermutation before entries → IsSorted (entry_order octets) entries
+  same_entries : (before entries : List Entry) → All (IsStoreEntry octets) before → IsNonDecreasingBy record_offset before → IsPermutation before entries → IsSorted (entry_order octets) entries
       → filter test entries ≡ filter test before
   same_entries before entries good rise moved sorted =
       let order : Rises (λ a b. is_lt (entry_order octets a b)) entries = rises_from_sorted (λ a b. is_lt (entry_order octets a b)) (ranks_by (entries_total octets) (λ e. e)) entries sorted in
-      one_list offset_of Tied apart (filter test entries) (filter test before)
+      one_list record_offset Tied apart (filter test entries) (filter test before)
       (all_tied entries (All-permutation (IsStoreEntry octets) before entries moved good)) (all_tied before good)
       (rises_place (filter test entries) (filter_passes test entries) (rises_filter (λ a b. is_lt (entry_order octets a b)) test entries order)) (rises_filter by_place test before (places_rise before rise))
       (λ f. sum_filter test f entries ∙ sum_by-IsPermutation (λ e. cond (test e) (f e) 0) before entries moved ∙ sym (sum_filter test f before))
 
-pub stable_records : (octets : List ℕ) (before entries : List Entry) → All (IsStoreEntry octets) before → IsNonDecreasingBy offset_of before → IsPermutation before entries → IsSorted (entry_order octets) entries
+pub stable_records : (octets : List ℕ) (before entries : List Entry) → All (IsStoreEntry octets) before → IsNonDecreasingBy record_offset before → IsPermutation before entries → IsSorted (entry_order octets) entries
     → IsStable stored_order (stored_records octets before) (stored_records octets entries)
 stable_records octets before entries good rise moved sorted x =
     let q : AddedRecord → Bool = λ r. not (is_lt (stored_order x r)) && not (is_lt (stored_order r x)) in

@@ -5,25 +5,33 @@ use Rattle.std.specs.Ordering.{is_lt, nat_cmp, ordering_then}
 use Rattle.std.specs.declared.cmp.Ordering.{Ordering}
 use Rattle.zone_record.specs.Names.{octet_order}
 use Rattle.zone_set.specs.Counted.{first_length, after_length, length_octets}
-use Rattle.zone_set.specs.Parts.{RecordParts, PartsFit, parts_octets, begins_parts, first_parts}
+use Rattle.zone_set.specs.Parts.{RecordParts, PartsFit, record_parts, parts_octets, begins_parts, first_parts}
 use Rattle.zone_set.specs.Prefixes.{prefix_number}
-use Rattle.zone_set.specs.Stored.{AddedRecord, absent_parts, parts_cmp, stored_order, type_order}
+use Rattle.zone_set.specs.Stored.{AddedRecord, absent_parts, added_record, parts_cmp, stored_order, type_order}
 use Rattle.zone_set.specs.declared.entries.Entry.{Entry}
+use Rattle.zone_set.specs.declared.records.GroupEntry.{GroupEntry}
 
 -- the first seven octets of the key as a number, and where the other octets of the record begin
 abbrev pub prefix_of : Entry → ℕ
 prefix_of e = e.high * 2 ^ 24 + e.middle / 2 ^ 8
 
-abbrev pub offset_of : Entry → ℕ
-offset_of e = e.middle % 2 ^ 8 * 2 ^ 32 + e.low
+abbrev pub record_offset : Entry → ℕ
+record_offset e = e.middle % 2 ^ 8 * 2 ^ 32 + e.low
 
 -- the octets from there on
 abbrev pub octets_of : List ℕ → Entry → List ℕ
-octets_of octets e = drop (offset_of e) octets
+octets_of octets e = drop (record_offset e) octets
+
+-- the length of a key, and its octets after the first seven
+abbrev pub rest_octets : List ℕ → List ℕ
+rest_octets key = length_octets (length key) ++ drop 7 key
 
 -- a record without the first seven octets of its key: the length of the key, its other octets, and all else
 unfoldable pub record_octets : AddedRecord → List ℕ
 record_octets r = length_octets (length r.key) ++ (drop 7 r.key ++ parts_octets r.parts)
+
+abbrev pub stored_octets : List ℕ → GroupEntry → List ℕ
+stored_octets key added = record_octets (added_record key (record_parts added))
 
 -- the octets of a key after the first seven, and what follows them, in octets that begin with its length
 abbrev pub first_rest : List ℕ → List ℕ
@@ -37,8 +45,8 @@ abbrev pub seven_octets : ℕ → List ℕ
 seven_octets prefix = drop 1 (to_be_bytes w64 prefix)
 
 -- a key by its first octets as a number, and by octets that begin with its length
-abbrev pub key_in : ℕ → List ℕ → List ℕ
-key_in prefix octets = take (first_length octets) (seven_octets prefix) ++ first_rest octets
+abbrev pub stored_key : ℕ → List ℕ → List ℕ
+stored_key prefix octets = take (first_length octets) (seven_octets prefix) ++ first_rest octets
 
 -- all of a record but its key, at the start of octets
 abbrev pub parts_or_absent : List ℕ → RecordParts
@@ -46,7 +54,7 @@ parts_or_absent octets = if begins_parts octets then first_parts octets else abs
 
 -- the key, and all else, of the record of an entry
 abbrev pub key_at : List ℕ → Entry → List ℕ
-key_at octets e = key_in (prefix_of e) (octets_of octets e)
+key_at octets e = stored_key (prefix_of e) (octets_of octets e)
 
 abbrev pub parts_at : List ℕ → Entry → RecordParts
 parts_at octets e = parts_or_absent (after_rest (octets_of octets e))
@@ -63,7 +71,7 @@ pub record IsEntryOf (octets : List ℕ) (e : Entry) (r : AddedRecord) : Type 0 
   pub key_fits : length r.key < 2 ^ 16
   pub key_small : All (λ o. o < 256) r.key
   pub parts_fit : PartsFit r.parts
-  pub has : HasAt octets (offset_of e) (record_octets r)
+  pub has : HasAt octets (record_offset e) (record_octets r)
   pub prefix : prefix_of e ≡ prefix_number 7 r.key
   pub middle_fits : e.middle < 2 ^ 32
   pub low_fits : e.low < 2 ^ 32
@@ -73,7 +81,7 @@ IsStoreEntry octets e = (r : AddedRecord) × IsEntryOf octets e r
 
 -- an entry has a prefix and an offset
 abbrev pub IsEntryFor : ℕ → ℕ → Entry → Type 0
-IsEntryFor prefix offset e = (prefix_of e ≡ prefix) × (offset_of e ≡ offset) × (e.middle < 2 ^ 32) × (e.low < 2 ^ 32)
+IsEntryFor prefix offset e = (prefix_of e ≡ prefix) × (record_offset e ≡ offset) × (e.middle < 2 ^ 32) × (e.low < 2 ^ 32)
 
 -- keys without their first seven octets compare as the octets that they have, then by their lengths
 abbrev pub rests_order : List ℕ → List ℕ → Ordering
@@ -95,10 +103,10 @@ prefixed_records octets a b = ordering_then (nat_cmp (prefix_of a) (prefix_of b)
 
 -- as the records, and those that are equal in the order of their offsets
 abbrev pub prefixed_order : List ℕ → Entry → Entry → Ordering
-prefixed_order octets a b = ordering_then (prefixed_records octets a b) (nat_cmp (offset_of a) (offset_of b))
+prefixed_order octets a b = ordering_then (prefixed_records octets a b) (nat_cmp (record_offset a) (record_offset b))
 
 abbrev pub entry_order : List ℕ → Entry → Entry → Ordering
-entry_order octets a b = ordering_then (stored_order (record_of octets a) (record_of octets b)) (nat_cmp (offset_of a) (offset_of b))
+entry_order octets a b = ordering_then (stored_order (record_of octets a) (record_of octets b)) (nat_cmp (record_offset a) (record_offset b))
 
 -- a record is before a key, or before an RRset, by the prefixes first
 abbrev pub is_before_key : List ℕ → ℕ → List ℕ → Entry → Bool

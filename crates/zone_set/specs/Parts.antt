@@ -81,6 +81,13 @@ other_octets r = if is_short r then short_octets r else long_octets r
 unfoldable pub numbers_octets : RecordParts → List ℕ
 numbers_octets r = if is_usual r then usual_octets r else other_octets r
 
+-- the numbers of a record as it is added: if it is usual, and if it is not
+abbrev pub usual_numbers : GroupEntry → List ℕ
+usual_numbers added = usual_octets (record_parts added)
+
+abbrev pub other_numbers : GroupEntry → List ℕ
+other_numbers added = other_octets (record_parts added)
+
 -- the numbers, and the RDATA after their length
 unfoldable pub parts_octets : RecordParts → List ℕ
 parts_octets r = numbers_octets r ++ counted_octets r.rdata

@@ -3,7 +3,7 @@ use Rattle.std.specs.Prelude.{◌≡◌, ℕ, true, false, List, [], ◌∷◌, 
 use Rattle.std.specs.declared.cmp.Ordering.TheVariants.{Less, Greater}
 use Rattle.zone_set.specs.Counted.{counted_octets, first_counted, after_counted, first_length, after_length}
 use Rattle.zone_set.specs.Duplicates.{is_duplicate_at}
-use Rattle.zone_set.specs.Entries.{key_in, offset_of, parts_at, prefix_of, record_octets, record_of}
+use Rattle.zone_set.specs.Entries.{stored_key, record_offset, parts_at, prefix_of, record_octets, record_of}
 use Rattle.zone_set.specs.Parts.{RecordParts, parts_octets, numbers_octets, octets16, octets32, octets64, begins_parts}
 use Rattle.zone_set.specs.Prefixes.{prefix_number}
 use Rattle.zone_set.specs.Stored.{AddedRecord, added_record, absent_parts, has_stored_rrset, is_same_stored, record_at, stored_order}
@@ -111,13 +111,13 @@ record_row : record_octets (added_record (codes "abcdefghi") (address 1)) ≡ 9 
 unfolding record_octets
 record_row = refl
 
-long_key_row : key_in (prefix_number 7 (codes "abcdefghi")) (9 ∷ codes "hij") ≡ codes "abcdefghi"
+long_key_row : stored_key (prefix_number 7 (codes "abcdefghi")) (9 ∷ codes "hij") ≡ codes "abcdefghi"
 long_key_row = refl
 
-short_key_row : key_in (prefix_number 7 (codes "ab")) (2 ∷ codes "hij") ≡ codes "ab"
+short_key_row : stored_key (prefix_number 7 (codes "ab")) (2 ∷ codes "hij") ≡ codes "ab"
 short_key_row = refl
 
-zero_key_row : key_in 0 (3 ∷ codes "hij") ≡ 0 ∷ 0 ∷ 0 ∷ []
+zero_key_row : stored_key 0 (3 ∷ codes "hij") ≡ 0 ∷ 0 ∷ 0 ∷ []
 zero_key_row = refl
 
 -- two records of the owner `b`: the first at 0, the second at 17
@@ -130,7 +130,7 @@ entry offset = record { high = 98 * 2 ^ 24; middle = 0; low = offset }
 entry_prefix_row : prefix_of (entry 17) ≡ prefix_number 7 (codes "b")
 entry_prefix_row = refl
 
-entry_offset_row : offset_of (record { high = 98 * 2 ^ 24; middle = 256 + 2; low = 17 }) ≡ 2 * 2 ^ 32 + 17
+entry_offset_row : record_offset (record { high = 98 * 2 ^ 24; middle = 256 + 2; low = 17 }) ≡ 2 * 2 ^ 32 + 17
 entry_offset_row = refl
 
 first_of_two_row : record_of two_records (entry 0) ≡ added_record (codes "b") (address 1)

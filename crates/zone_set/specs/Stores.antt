@@ -1,7 +1,7 @@
 -- A store: octets, and an entry for each record.
 use Rattle.std.specs.Prelude.{◌≡◌, ℕ, List, [], ◌∷◌, ◌++◌, All, map}
 use Rattle.std.specs.List.Sorted.{IsNonDecreasingBy, IsSorted}
-use Rattle.zone_set.specs.Entries.{IsStoreEntry, offset_of, record_of}
+use Rattle.zone_set.specs.Entries.{IsStoreEntry, record_offset, record_of}
 use Rattle.zone_set.specs.Stored.{AddedRecord, stored_order}
 use Rattle.zone_set.specs.declared.entries.Entry.{Entry}
 
@@ -12,7 +12,7 @@ stored_records octets entries = map (record_of octets) entries
 -- each entry is that of a record, in the order in which the records were added
 pub record IsStored (octets : List ℕ) (entries : List Entry) : Type 0 where
   pub are : All (IsStoreEntry octets) entries
-  pub rise : IsNonDecreasingBy offset_of entries
+  pub rise : IsNonDecreasingBy record_offset entries
 
 -- the same after a record was added
 pub record StoresMore (octets : List ℕ) (entries : List Entry) (new_octets : List ℕ) (new_entries : List Entry) (added : AddedRecord) : Type 0 where

@@ -29,7 +29,10 @@ pub(crate) fn rest_at(octets: &[u8], offset: usize) -> &[u8]
 /// the most significant first.
 ///
 /// Fails without memory; the first octets may then have been appended.
-pub(crate) fn push_length<A: Allocator>(count: usize, out: &mut Vec<u8, A>) -> Result<(), AllocError>
+pub(crate) fn push_length<A: Allocator>(
+    count: usize,
+    out: &mut Vec<u8, A>,
+) -> Result<(), AllocError>
     requires { count < 2 ^ 16 }
     ensures ok { OnOk result (out.new.items ≡ out.old.items ++ length_octets count) }
     ensures err { OnErr result (Extends out.old.items out.new.items) }

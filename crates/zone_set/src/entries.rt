@@ -4,11 +4,11 @@ ghost use Rattle.std.specs.List.Sorted.{IsPermutation, IsSorted};
 ghost use Rattle.std.specs.Ordering.{nat_cmp, ordering_then};
 ghost use Rattle.zone_record.specs.Names.{octet_order};
 ghost use Rattle.zone_set.specs.Counted.{first_length};
-ghost use Rattle.zone_set.specs.Entries.{after_rest, entry_order, first_rest, key_at, octets_of, octets_order, offset_of, parts_at, parts_or_absent, prefix_of, prefixed_keys, prefixed_order, prefixed_records, rest_order, seven_octets, IsEntryFor, IsStoreEntry};
-ghost use Rattle.zone_set.specs.Indexes.{stored_at};
+ghost use Rattle.zone_set.specs.Entries.{after_rest, entry_order, first_rest, key_at, octets_of, octets_order, record_offset, parts_at, parts_or_absent, prefix_of, prefixed_keys, prefixed_order, prefixed_records, rest_order, seven_octets, IsEntryFor, IsStoreEntry};
+ghost use Rattle.zone_set.specs.Indexes.{order_at, stored_at};
 ghost use Rattle.zone_set.specs.Parts.{record_parts};
 ghost use Rattle.zone_set.specs.Prefixes.{prefix_number};
-ghost use Rattle.zone_set.specs.Stored.{absent_parts, parts_cmp, stored_order};
+ghost use Rattle.zone_set.specs.Stored.{absent_parts, parts_cmp};
 
 use crate::counted::{octet_or_zero, rest_at, split_length};
 use crate::records::{EntryHeader, GroupEntry, first_type, split_record};
@@ -21,7 +21,7 @@ use zone_record::compare_any_data;
 /// Number of octets of a key that an entry has.
 pub(crate) const PREFIX: usize = 7;
 
-/// Least number of entries that are sorted in place: memory for half of so many would matter.
+/// Least number of entries that are sorted in place, as memory for half of them would matter.
 const MANY: usize = 8388608;
 
 /// One more than the greatest offset of a record in a store.
@@ -132,7 +132,7 @@ impl Entry {
 
     /// Returns the offset of the other octets.
     fn offset(&self) -> usize
-        ensures { result ≡ offset_of self.now }
+        ensures { result ≡ record_offset self.now }
     {
         (u64::from(self.middle % 256) * 4294967296 + u64::from(self.low)) as usize
     }
@@ -344,7 +344,7 @@ pub(crate) fn compare_by_index(
     requires left { left < length entries.now }
     requires right { right < length entries.now }
     requires stored { All (IsStoreEntry octets.now) entries.now }
-    ensures { result ≡ stored_order (stored_at octets.now entries.now left) (stored_at octets.now entries.now right) }
+    ensures { result ≡ order_at octets.now entries.now left right }
 {
     compare_records(octets, &entries[left], &entries[right])
 }

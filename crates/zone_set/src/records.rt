@@ -2,7 +2,7 @@
 ghost use Rattle.std.specs.Prelude.{◌≡◌, ◌↔◌, ◌<◌, ◌≤◌, ◌^◌, ◌++◌, drop, get_or, length, true, IfSome, IsSome, OnOk, OnErr};
 ghost use Rattle.dns_octets.specs.Appending.{Extends};
 ghost use Rattle.zone_set.specs.Counted.{after_counted};
-ghost use Rattle.zone_set.specs.Parts.{record_parts, parts_octets, numbers_octets, other_octets, usual_ttls, index_of, is_usual, usual_octets, is_short, short_octets, long_octets, header_octets, position_octets, octets16, octets32, octets64, begins_parts, begins_usual, begins_other, begins_short, begins_long, first_parts, first_usual, first_other, first_short, first_whole, after_parts, after_other};
+ghost use Rattle.zone_set.specs.Parts.{record_parts, parts_octets, numbers_octets, other_numbers, usual_numbers, usual_ttls, index_of, is_usual, is_short, short_octets, long_octets, header_octets, position_octets, octets16, octets32, octets64, begins_parts, begins_usual, begins_other, begins_short, begins_long, first_parts, first_usual, first_other, first_short, first_whole, after_parts, after_other};
 
 use crate::counted::{push_counted, split_counted};
 use rdata_values::{Class, RecordType};
@@ -180,7 +180,7 @@ fn push_long<A: Allocator>(added: &GroupEntry<'_>, out: &mut Vec<u8, A>) -> Resu
 /// Appends the numbers of a record that is not usual. Fails without memory; the first octets may then
 /// have been appended.
 fn push_other<A: Allocator>(added: &GroupEntry<'_>, out: &mut Vec<u8, A>) -> Result<(), AllocError>
-    ensures ok { OnOk result (out.new.items ≡ out.old.items ++ other_octets (record_parts added.now)) }
+    ensures ok { OnOk result (out.new.items ≡ out.old.items ++ other_numbers added.now) }
     ensures err { OnErr result (Extends out.old.items out.new.items) }
 {
     if is_short(added) {
@@ -211,7 +211,7 @@ fn push_usual<A: Allocator>(added: &GroupEntry<'_>, out: &mut Vec<u8, A>) -> Res
     requires code { added.now.header.rtype < 253 }
     requires offset { added.now.header.offset < 2 ^ 36 }
     requires ttl { index_of added.now.header.ttl usual_ttls < 16 }
-    ensures ok { OnOk result (out.new.items ≡ out.old.items ++ usual_octets (record_parts added.now)) }
+    ensures ok { OnOk result (out.new.items ≡ out.old.items ++ usual_numbers added.now) }
     ensures err { OnErr result (Extends out.old.items out.new.items) }
 {
     let offset = added.header.offset;

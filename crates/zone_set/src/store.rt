@@ -1,9 +1,8 @@
 //! A store: the records of a zone, in the order in which they were added.
-ghost use Rattle.std.specs.Prelude.{◌≡◌, ◌<◌, ◌≤◌, ◌^◌, ◌++◌, [], ◌∷◌, drop, length, IfOk, OnOk, OnErr};
+ghost use Rattle.std.specs.Prelude.{◌≡◌, ◌<◌, ◌≤◌, ◌^◌, ◌++◌, [], ◌∷◌, length, IfOk, OnOk, OnErr};
 ghost use Rattle.std.specs.List.Sorted.{IsPermutation, IsSorted, IsStable};
 ghost use Rattle.dns_octets.specs.Appending.{Extends};
-ghost use Rattle.zone_set.specs.Counted.{length_octets};
-ghost use Rattle.zone_set.specs.Entries.{offset_of, record_octets, IsEntryOf};
+ghost use Rattle.zone_set.specs.Entries.{record_offset, rest_octets, stored_octets, IsEntryOf};
 ghost use Rattle.zone_set.specs.Parts.{record_parts};
 ghost use Rattle.zone_set.specs.Stored.{added_record, stored_order};
 ghost use Rattle.zone_set.specs.Stores.{IsStored, StoresMore};
@@ -26,7 +25,7 @@ fn count_of<A: Allocator>(octets: &Vec<u8, A>) -> usize
 /// octets may then have been appended.
 fn push_key<A: Allocator>(key: &[u8], octets: &mut Vec<u8, A>) -> Result<(), AllocError>
     requires { length key.now < 2 ^ 16 }
-    ensures ok { OnOk result (octets.new.items ≡ octets.old.items ++ (length_octets (length key.now) ++ drop 7 key.now)) }
+    ensures ok { OnOk result (octets.new.items ≡ octets.old.items ++ rest_octets key.now) }
     ensures err { OnErr result (Extends octets.old.items octets.new.items) }
 {
     push_length(key.len(), octets)?;
@@ -43,7 +42,7 @@ fn push_record<A: Allocator>(
 ) -> Result<(), AllocError>
     requires key { length key.now < 2 ^ 16 }
     requires rdata { length added.now.rdata.now < 2 ^ 16 }
-    ensures ok { OnOk result (octets.new.items ≡ octets.old.items ++ record_octets (added_record key.now (record_parts added.now))) }
+    ensures ok { OnOk result (octets.new.items ≡ octets.old.items ++ stored_octets key.now added.now) }
     ensures err { OnErr result (Extends octets.old.items octets.new.items) }
 {
     push_key(key, octets)?;
@@ -86,7 +85,7 @@ fn push_octets<A: Allocator>(
     requires key { length key.now < 2 ^ 16 }
     requires rdata { length added.now.rdata.now < 2 ^ 16 }
     ensures ok { IfOk result (λ e. IsEntryOf octets.new.items e (added_record key.now (record_parts added.now))) }
-    ensures last { IfOk result (λ e. length octets.old.items ≤ offset_of e) }
+    ensures last { IfOk result (λ e. length octets.old.items ≤ record_offset e) }
     ensures more { Extends octets.old.items octets.new.items }
 {
     header_fits(&added.header);
