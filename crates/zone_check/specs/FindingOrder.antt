@@ -16,12 +16,12 @@ pub record IsSortedByPlace (found sorted : List KeptFinding) : Type 0 where
   pub in_order : IsSorted place_order sorted
 
 -- the first ones, up to a number, or all if that is 0
-abbrev pub first_shown : {A : Type 0} → (most : ℕ) → List A → List A
-first_shown most found = if most == 0 then found else take most found
+abbrev pub first_findings : {A : Type 0} → (most : ℕ) → List A → List A
+first_findings most found = if most == 0 then found else take most found
 
 -- of the findings that are counted, those that are shown, each once
 abbrev pub ShownFindings : (most : ℕ) → (found shown : List KeptFinding) → Type 0
-ShownFindings most found shown = (sorted : List KeptFinding) × IsSortedByPlace found sorted × (shown ≡ first_shown most sorted)
+ShownFindings most found shown = (sorted : List KeptFinding) × IsSortedByPlace found sorted × (shown ≡ first_findings most sorted)
 
 -- a sink receives these, after what it received before
 abbrev pub SendsShown : (most : ℕ) → (found before after : List KeptFinding) → Type 0

@@ -17,7 +17,7 @@ use Rattle.zone_check.specs.declared.zone_findings.BrokenRule.{BrokenRule}
 use Rattle.zone_check.specs.declared.shown.Decision.TheVariants.{Shown, Counted, Omitted}
 use Rattle.zone_check.specs.Data.{has_ohttp_value}
 use Rattle.zone_check.specs.EntryFindings.{is_directive, is_news, is_of_parameters, is_scanned, long_finding, rejection_with, reports_crlf}
-use Rattle.zone_check.specs.FindingOrder.{first_shown}
+use Rattle.zone_check.specs.FindingOrder.{first_findings}
 use Rattle.zone_check.specs.FindingSpans.{finding_at, finding_of_entry}
 use Rattle.zone_check.specs.NameFindings.{name_findings, record_names}
 use Rattle.zone_check.specs.Names.{ends_in_dot, ends_like}
@@ -194,10 +194,10 @@ too_long : long_finding ≡ finding_at MaxEntry 0 1 Entry
 too_long = refl
 
 -- of three findings two are shown, or all
-first_two : first_shown 2 (Error ∷ Warning ∷ Error ∷ []) ≡ Error ∷ Warning ∷ []
+first_two : first_findings 2 (Error ∷ Warning ∷ Error ∷ []) ≡ Error ∷ Warning ∷ []
 first_two = refl
 
-all_three : first_shown 0 (Error ∷ Warning ∷ Error ∷ []) ≡ Error ∷ Warning ∷ Error ∷ []
+all_three : first_findings 0 (Error ∷ Warning ∷ Error ∷ []) ≡ Error ∷ Warning ∷ Error ∷ []
 all_three = refl
 
 -- the fourth record has no glue: at its target, in a zone whose records were all read

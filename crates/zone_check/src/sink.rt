@@ -1,6 +1,6 @@
 //! Sends findings to where they are shown.
 ghost use Rattle.std.specs.Prelude.{◌≡◌, ◌++◌, ◌∷◌, [], List, OnOk};
-ghost use Rattle.zone_check.specs.FindingOrder.{SendsShown, first_shown};
+ghost use Rattle.zone_check.specs.FindingOrder.{SendsShown, first_findings};
 
 use crate::finding_order::{KeptFinding, sort_by_place};
 use std::alloc::{AllocError, Global};
@@ -30,8 +30,8 @@ impl FindingSink for Vec<KeptFinding, Global> {
 }
 
 /// Returns the first of some findings, up to a number, or all if that is 0.
-fn first_shown(findings: &[KeptFinding], most: usize) -> &[KeptFinding]
-    ensures { result.now ≡ first_shown most findings.now }
+fn first_findings(findings: &[KeptFinding], most: usize) -> &[KeptFinding]
+    ensures { result.now ≡ first_findings most findings.now }
 {
     if most == 0 {
         return findings;
@@ -63,5 +63,5 @@ pub fn send_shown<S: FindingSink>(
         (S.received sink.new)) }
 {
     sort_by_place(findings)?;
-    send_each(first_shown(findings.as_slice(), most), sink)
+    send_each(first_findings(findings.as_slice(), most), sink)
 }
