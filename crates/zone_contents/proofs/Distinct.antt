@@ -1,6 +1,6 @@
 -- The records of a zone without duplicates, from an index on.
-use Rattle.std.proofs.Common.{ℕ, zero, suc, ◌≡◌, ◌+◌, ◌-◌, ◌<◌, ◌≤◌, Bool, true, false, cond, inl, inr, List, [], ◌∷◌, length, drop, get_or, map, refl, sym, ap, ◌∙◌, subst, arith, drop_of_length-le}
-use Rattle.std.specs.Prelude.{All, Some, ◌&&◌, slice_get}
+use Rattle.std.proofs.Common.{ℕ, zero, suc, ◌≡◌, ◌+◌, ◌-◌, ◌<◌, ◌≤◌, Bool, true, false, cond, inl, inr, List, [], ◌∷◌, length, drop, get_or, refl, sym, ap, ◌∙◌, arith, drop_of_length-le}
+use Rattle.std.specs.Prelude.{Some, ◌&&◌, nat_lt, slice_get}
 use Rattle.std.specs.Cmp.{IsTotalOrder, Equal-is}
 use Rattle.std.specs.List.{dedup, dedup_from}
 use Rattle.std.specs.List.Sorted.{IsSorted}
@@ -8,7 +8,7 @@ use Rattle.std.specs.Option.{option_map}
 use Rattle.std.specs.Ordering.{eq_by_cmp, is_eq, is_lt, ordering_reverse, ordering_then}
 use Rattle.std.specs.declared.cmp.Ordering.{Ordering}
 use Rattle.std.specs.declared.cmp.Ordering.TheVariants.{Less, Equal, Greater}
-use Rattle.std.proofs.lemmas.Bool.{cases_lt, false≢true}
+use Rattle.std.proofs.lemmas.Bool.{cases_lt, false≢true, lt-ltb}
 use Rattle.std.proofs.lemmas.Cmp.{alike_right, tied_itself}
 use Rattle.std.proofs.lemmas.List.{drop-drop, drop_more, get_or-drop, length-drop}
 use Rattle.std.proofs.lemmas.List.Kept.{IsStrictlySortedBy-dedup}
@@ -24,10 +24,9 @@ use Rattle.zone_contents.proofs.Listings.{listed_at, listed_get, listed_length, 
 use Rattle.zone_contents.proofs.ZoneKeys.{keys_in_order}
 use Rattle.zone_contents.proofs.ZoneNames.{owner_is}
 use Rattle.zone_rules.specs.Zones.{as_listed}
-use Rattle.zone_set.specs.Canonical.{sort_key}
 use Rattle.zone_set.specs.Duplicates.{is_duplicate_at}
 use Rattle.zone_set.specs.Lookups.{canonical_order, same_key, AreCanonical}
-use Rattle.zone_set.specs.Stored.{AddedRecord, absent_parts, added_record, parts_cmp, record_at, stored_order}
+use Rattle.zone_set.specs.Stored.{AddedRecord, absent_parts, added_record, is_same_stored, parts_cmp, record_at, stored_order}
 use Rattle.zone_set.proofs.CanonicalOrders as Orders
 use Rattle.zone_set.proofs.Passing.{order_total}
 
@@ -65,6 +64,9 @@ first_kept E k (y ∷ ys) =
 
 starts : {X : Type 0} (E : X → X → Bool) (xs : List X) (x : X) (ys : List X) → xs ≡ x ∷ ys → dedup E xs ≡ x ∷ drop 1 (dedup E xs)
 starts E xs x ys e = ap (dedup E) e ∙ first_kept E x ys ∙ ap (λ l. x ∷ drop 1 (dedup E l)) (sym e)
+
+is_later : (k : ℕ) → 0 < k → nat_lt 0 k ≡ true
+is_later k low = lt-ltb 0 k low
 
 -- ---- the order of records
 
@@ -110,8 +112,7 @@ module _ (apex : List (List ℕ)) where
     canonical_from place = IsStrictlySortedBy-dedup order_total (λ x y. refl) (drop place xs) (sorted_from place)
 
     duplicate_is : (k : ℕ) → 0 < k → k < length records → is_duplicate_at records k ≡ same_key (at (k - 1)) (at k)
-    duplicate_is zero low lt = absurd (omega (arith, low))
-    duplicate_is (suc j) low lt = ap is_eq (in_order j (suc j) (omega (arith, lt)) lt)
+    duplicate_is k low lt = ap (λ b. b && is_same_stored (record_at records (k - 1)) (record_at records k)) (is_later k low) ∙ ap is_eq (in_order (k - 1) k (omega (arith, lt)) lt)
 
     before_is : (place i : ℕ) (d : Listed) → place + i < length records → get_or (at place ∷ drop (place + 1) xs) i d ≡ at (place + i)
     before_is place zero d lt = ap at (omega arith)
@@ -125,7 +126,7 @@ module _ (apex : List (List ℕ)) where
         ∙ ap (λ m. same_key (at m) (at (place + 1 + i))) (omega arith)
         ∙ sym (duplicate_is (place + 1 + i) (omega arith) lt)
 
-    -- the records from an index on are the one there, and those from the next one on that is no duplicate
+    -- the records from an index on are the one there, and those after its duplicates
     pub skipped : (place next : ℕ) → place < length records → EndsDuplicates records place next → dedup same_key (drop place xs) ≡ at place ∷ dedup same_key (drop next xs)
     skipped place next lt run =
         let long = listed_length apex records in

@@ -2,9 +2,10 @@
 use Rattle.std.specs.Prelude.{◌<◌, ℕ, List, length, map}
 use Rattle.std.specs.Borrow.{Bor}
 use Rattle.zone_record.specs.declared.record.Record.{Record}
-use Rattle.zone_contents.specs.Contents.{listed_record, ZoneValue}
+use Rattle.zone_contents.specs.Contents.{contents, listed_record, ZoneValue}
 use Rattle.zone_contents.specs.declared.changes.ZoneChange.{ZoneChange}
 use Rattle.zone_contents.specs.declared.changes.ZoneChange.TheVariants.{Removed, Added, NewTtl}
+use Rattle.zone_set.specs.Differences.{AreChanges, HoldSame, MakeOf}
 use Rattle.zone_set.specs.Stored.{record_at}
 use Rattle.zone_set.specs.declared.changes.Change.{Change}
 use Rattle.zone_set.specs.declared.changes.Change.TheVariants as Set
@@ -31,3 +32,15 @@ abbrev pub IsInZones : ZoneValue → ZoneValue → ZoneChange → Type 0
 IsInZones old new (Removed place) = place < length old.records
 IsInZones old new (Added place) = place < length new.records
 IsInZones old new (NewTtl before after) = (before < length old.records) × (after < length new.records)
+
+-- the changes between all records of two zones, of which the first counts under each key
+abbrev pub AreZoneChanges : ZoneValue → ZoneValue → List ZoneChange → Type 0
+AreZoneChanges old new changes = AreChanges (contents old) (contents new) (changes_of old new changes)
+
+-- the changes turn the first zone into the second
+abbrev pub MakeZone : ZoneValue → List ZoneChange → ZoneValue → Type 0
+MakeZone old changes new = MakeOf (contents old) (changes_of old new changes) (contents new)
+
+-- under each key both zones have the same TTL, or neither has the key
+abbrev pub HoldSameRecords : ZoneValue → ZoneValue → Type 0
+HoldSameRecords old new = HoldSame (contents old) (contents new)

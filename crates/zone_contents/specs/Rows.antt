@@ -5,7 +5,6 @@ use Rattle.zone_contents.specs.Contents.{ZoneValue}
 use Rattle.zone_contents.specs.Keys.{key_in_zone, name_in_zone}
 use Rattle.zone_contents.specs.Locations.{far_number, located, location}
 use Rattle.zone_contents.specs.declared.changes.ZoneChange.TheVariants.{Removed, Added, NewTtl}
-use Rattle.zone_contents.specs.declared.locations.Location.{Location}
 use Rattle.zone_set.specs.Differences.{after_change, before_change}
 use Rattle.zone_set.specs.Stored.{added_record}
 

@@ -37,15 +37,23 @@ pub record SkipsDuplicates (z : ZoneValue) (place next : ℕ) : Type 0 where
   pub are : distinct_from z place ≡ contents_at z place ∷ distinct_from z next
 
 -- the change of two records that differ in their TTL
-pub record IsTtlChange (old new : ZoneValue) (from to : ℕ) (c : ZoneChange) : Type 0 where
+pub record IsNewTtl (old new : ZoneValue) (from to : ℕ) (c : ZoneChange) : Type 0 where
   pub other : (contents_at old from).ttl ≢ (contents_at new to).ttl
   pub inside : IsInZones old new c
   pub key : changed_record (change_of old new c) ≡ contents_at old from
   pub before : before_change (change_of old new c) ≡ Some (contents_at old from)
   pub after : after_change (change_of old new c) ≡ Some (contents_at new to)
 
+-- two records have one TTL
+abbrev pub SameTtl : ZoneValue → ZoneValue → ℕ → ℕ → Type 0
+SameTtl old new from to = (contents_at old from).ttl ≡ (contents_at new to).ttl
+
+-- no record is left from two indexes on
+abbrev pub AtEnds : ZoneValue → ZoneValue → ℕ → ℕ → Type 0
+AtEnds old new from to = (distinct_from old from ≡ []) × (distinct_from new to ≡ [])
+
 -- fewer records are left, and their changes come after this one
-pub record StepsInZones (old new : ZoneValue) (from to : ℕ) (step : ZoneStep) : Type 0 where
+pub record StepsOver (old new : ZoneValue) (from to : ℕ) (step : ZoneStep) : Type 0 where
   pub fewer : length (distinct_from old step.old) + length (distinct_from new step.new) < length (distinct_from old from) + length (distinct_from new to)
   pub inside : All (IsInZones old new) (option_to_list step.change)
   pub goes_on : (rest : List (Change (Unit {0}) (Unit {0}))) → AreChanges (distinct_from old step.old) (distinct_from new step.new) rest

@@ -1,9 +1,7 @@
 //! Compares the records of two zones.
 ghost use Rattle.std.specs.Prelude.{◌≡◌, ◌↔◌, ◌<◌, [], All, IfOk, MatchOption, length};
-ghost use Rattle.zone_contents.specs.Changes.{changes_of, contents_at, IsInZones};
-ghost use Rattle.zone_contents.specs.Contents.{contents};
-ghost use Rattle.zone_contents.specs.Steps.{distinct_from, EndsDuplicates, HasDistinct, IsTtlChange, StepsInZones, SkipsDuplicates};
-ghost use Rattle.zone_set.specs.Differences.{AreChanges, HoldSame, MakeOf};
+ghost use Rattle.zone_contents.specs.Changes.{contents_at, AreZoneChanges, HoldSameRecords, IsInZones, MakeZone};
+ghost use Rattle.zone_contents.specs.Steps.{IsNewTtl, AtEnds, EndsDuplicates, HasDistinct, SameTtl, SkipsDuplicates, StepsOver};
 ghost use Rattle.zone_set.specs.Lookups.{canonical_order};
 ghost use Rattle.zone_set.specs.Stored.{record_at};
 
@@ -35,8 +33,7 @@ struct ZoneStep {
     new: usize,
 }
 
-/// Returns the index of the first record after one that is no duplicate of it, or the number of
-/// records.
+/// Returns the index of the first record after one and its duplicates, or the number of records.
 fn past_duplicates<A: Allocator>(store: &SortedStore<A>, place: usize) -> usize
     requires { place < length store.now }
     ensures { EndsDuplicates store.now place result }
@@ -54,17 +51,17 @@ fn past_duplicates<A: Allocator>(store: &SortedStore<A>, place: usize) -> usize
 /// 6).
 fn compare_records<A: Allocator>(
     old: &StoredZone<A>,
-    from: usize,
+    at: usize,
     new: &StoredZone<A>,
     to: usize,
 ) -> Ordering
-    requires old { from < length old.now.records }
+    requires old { at < length old.now.records }
     requires new { to < length new.now.records }
-    ensures { result ≡ canonical_order (contents_at old.now from) (contents_at new.now to) }
+    ensures { result ≡ canonical_order (contents_at old.now at) (contents_at new.now to) }
 {
     let mut old_owner = OwnerBuffer::new();
     let mut new_owner = OwnerBuffer::new();
-    let record = old.record(from, &mut old_owner);
+    let record = old.record(at, &mut old_owner);
     record.compare(&new.record(to, &mut new_owner))
 }
 
@@ -72,18 +69,18 @@ fn compare_records<A: Allocator>(
 /// are equal.
 fn ttl_change<A: Allocator>(
     old: &StoredZone<A>,
-    from: usize,
+    at: usize,
     new: &StoredZone<A>,
     to: usize,
 ) -> Option<ZoneChange>
-    requires old { from < length old.now.records }
+    requires old { at < length old.now.records }
     requires new { to < length new.now.records }
-    ensures { MatchOption result ((contents_at old.now from).ttl ≡ (contents_at new.now to).ttl) (IsTtlChange old.now new.now from to) }
+    ensures { MatchOption result (SameTtl old.now new.now at to) (IsNewTtl old.now new.now at to) }
 {
-    if old.ttl(from) == new.ttl(to) {
+    if old.ttl(at) == new.ttl(to) {
         return None;
     }
-    Some(ZoneChange::NewTtl(from, to))
+    Some(ZoneChange::NewTtl(at, to))
 }
 
 /// Compares the records at two indexes, and skips the first one in canonical order with its
@@ -91,37 +88,37 @@ fn ttl_change<A: Allocator>(
 fn next_step<A: Allocator>(
     old: &StoredZone<A>,
     new: &StoredZone<A>,
-    from: usize,
+    at: usize,
     to: usize,
 ) -> Option<ZoneStep>
-    ensures { MatchOption result ((distinct_from old.now from ≡ []) × (distinct_from new.now to ≡ [])) (StepsInZones old.now new.now from to) }
+    ensures { MatchOption result (AtEnds old.now new.now at to) (StepsOver old.now new.now at to) }
 {
-    match (old.has_record(from), new.has_record(to)) {
+    match (old.has_record(at), new.has_record(to)) {
         (false, false) => None,
         (true, false) => Some(ZoneStep {
-            change: Some(ZoneChange::Removed(from)),
-            old: old.past_duplicates(from),
+            change: Some(ZoneChange::Removed(at)),
+            old: old.past_duplicates(at),
             new: to,
         }),
         (false, true) => Some(ZoneStep {
             change: Some(ZoneChange::Added(to)),
-            old: from,
+            old: at,
             new: new.past_duplicates(to),
         }),
-        (true, true) => Some(match compare_records(old, from, new, to) {
+        (true, true) => Some(match compare_records(old, at, new, to) {
             Ordering::Less => ZoneStep {
-                change: Some(ZoneChange::Removed(from)),
-                old: old.past_duplicates(from),
+                change: Some(ZoneChange::Removed(at)),
+                old: old.past_duplicates(at),
                 new: to,
             },
             Ordering::Greater => ZoneStep {
                 change: Some(ZoneChange::Added(to)),
-                old: from,
+                old: at,
                 new: new.past_duplicates(to),
             },
             Ordering::Equal => ZoneStep {
-                change: ttl_change(old, from, new, to),
-                old: old.past_duplicates(from),
+                change: ttl_change(old, at, new, to),
+                old: old.past_duplicates(at),
                 new: new.past_duplicates(to),
             },
         }),
@@ -139,8 +136,7 @@ impl<A: Allocator> StoredZone<A> {
         true
     }
 
-    /// Returns the index of the first record after one that is no duplicate of it, or the number of
-    /// records.
+    /// Returns the index of the first record after one and its duplicates, or the number of records.
     fn past_duplicates(&self, place: usize) -> usize
         requires { place < length self.now.records }
         ensures { SkipsDuplicates self.now place result }
@@ -159,15 +155,16 @@ impl<A: Allocator> StoredZone<A> {
 
 /// Returns the differences between two zones, in canonical order: records that only one of them has,
 /// and records with different TTLs. Of duplicates the first one counts. Fails without memory.
+#[tactic(auto, using(crate::proofs::ComparedZones::none_compared))]
 pub fn changes_between_zones<A: Allocator, B: Allocator>(
     alloc: B,
     old: &StoredZone<A>,
     new: &StoredZone<A>,
 ) -> Result<Vec<ZoneChange, B>, AllocError>
     ensures inside { IfOk result (λ v. All (IsInZones old.now new.now) v.items) }
-    ensures changes { IfOk result (λ v. AreChanges (contents old.now) (contents new.now) (changes_of old.now new.now v.items)) }
-    ensures makes { IfOk result (λ v. MakeOf (contents old.now) (changes_of old.now new.now v.items) (contents new.now)) }
-    ensures same { IfOk result (λ v. (v.items ≡ []) ↔ HoldSame (contents old.now) (contents new.now)) }
+    ensures changes { IfOk result (λ v. AreZoneChanges old.now new.now v.items) }
+    ensures makes { IfOk result (λ v. MakeZone old.now v.items new.now) }
+    ensures same { IfOk result (λ v. (v.items ≡ []) ↔ HoldSameRecords old.now new.now) }
 {
     let mut changes = Vec::new(alloc);
     let mut from = 0;

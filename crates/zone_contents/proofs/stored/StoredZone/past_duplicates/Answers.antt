@@ -1,7 +1,7 @@
-use Rattle.std.proofs.Common.{◌<◌, length, ap, arith, subst, sym}
+use Rattle.std.proofs.Common.{◌<◌, length, subst, sym}
 use Rattle.zone_contents.specs.Steps.{SkipsDuplicates}
 use Rattle.zone_contents.proofs.Distinct.{zone_skips}
-use Rattle.zone_contents.proofs.changes.StoredZone.past_duplicates.Goals as goal
+use Rattle.zone_contents.proofs.stored.StoredZone.past_duplicates.Goals as goal
 
 pub returns : goal.returns
 returns g c =

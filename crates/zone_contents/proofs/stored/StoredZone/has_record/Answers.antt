@@ -1,7 +1,7 @@
 use Rattle.std.proofs.Common.{false, true, arith, subst}
 use Rattle.zone_contents.specs.Steps.{HasDistinct}
 use Rattle.zone_contents.proofs.Distinct.{zone_has, zone_lacks}
-use Rattle.zone_contents.proofs.changes.StoredZone.has_record.Goals as goal
+use Rattle.zone_contents.proofs.stored.StoredZone.has_record.Goals as goal
 
 pub returns-then-place-len : goal.returns-then-place-len
 returns-then-place-len g c =
