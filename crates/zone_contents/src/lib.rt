@@ -2,6 +2,7 @@
 #![tactic(auto)]
 
 pub mod changes;
+mod key_labels;
 pub mod locations;
 pub mod lookups;
 pub mod records;

@@ -5,6 +5,7 @@ ghost use Rattle.dns_wire.specs.Wire.{wire};
 ghost use Rattle.zone_record.specs.Keys.{order_key};
 ghost use Rattle.zone_contents.specs.Keys.{key_in_zone, name_in_zone, zone_key, IsNameKey};
 
+use crate::key_labels::push_labels;
 use arrayvec::ArrayVec;
 use dns_octets::AsOctets;
 use dns_wire::{MAX_NAME, Name};
@@ -157,9 +158,9 @@ pub fn write_name(apex: &Apex, key: &[u8], name: &mut ArrayVec<u8, MAX_NAME>)
     };
     if *mark == WITHIN {
         let octets = apex.octets();
-        push_key_name(rest, name);
+        push_labels(rest, name);
         append(octets, name);
     } else {
-        push_key_name(rest, name);
+        push_labels(rest, name);
     }
 }

@@ -4,12 +4,12 @@ use Rattle.dns_wire.specs.Wire.{wire}
 use Rattle.zone_contents.proofs.ZoneNames.{other_labels, other_room, within_labels, within_octets, within_room}
 use Rattle.zone_contents.proofs.zone_key.write_name.Goals as goal
 
-pub push_key_name-requires-clause-labels : goal.push_key_name-requires-clause-labels
-push_key_name-requires-clause-labels c =
+pub push_labels-requires-clause-labels : goal.push_labels-requires-clause-labels
+push_labels-requires-clause-labels c =
     within_labels c.args.apex.now c.args.key.now c.requires c.in-Some.mark.now c.in-Some.rest.now c.in-Some.ensures.cases.0 c.if-mark-eq-WITHIN.true
 
-pub push_key_name-requires-clause-room : goal.push_key_name-requires-clause-room
-push_key_name-requires-clause-room c =
+pub push_labels-requires-clause-room : goal.push_labels-requires-clause-room
+push_labels-requires-clause-room c =
     omega (arith, within_room c.args.apex.now c.args.key.now c.requires c.in-Some.mark.now c.in-Some.rest.now c.in-Some.ensures.cases.0 c.if-mark-eq-WITHIN.true c.octets-octets.ensures.lower, ap length c.clear.ensures)
 
 pub append-requires : goal.append-requires
@@ -17,22 +17,22 @@ append-requires c =
     omega (
       arith,
       within_room c.args.apex.now c.args.key.now c.requires c.in-Some.mark.now c.in-Some.rest.now c.in-Some.ensures.cases.0 c.if-mark-eq-WITHIN.true c.octets-octets.ensures.lower,
-      ap length (c.push_key_name.ensures ∙ ap (λ l. l ++ wire (key_name c.in-Some.rest.now)) c.clear.ensures),
+      ap length (c.push_labels.ensures ∙ ap (λ l. l ++ wire (key_name c.in-Some.rest.now)) c.clear.ensures),
       ap length c.octets-octets.ensures.value,
     )
 
-pub push_key_name-requires-else-mark-eq-WITHIN-clause-labels :
-    goal.push_key_name-requires-else-mark-eq-WITHIN-clause-labels
-push_key_name-requires-else-mark-eq-WITHIN-clause-labels c =
+pub push_labels-requires-else-mark-eq-WITHIN-clause-labels :
+    goal.push_labels-requires-else-mark-eq-WITHIN-clause-labels
+push_labels-requires-else-mark-eq-WITHIN-clause-labels c =
     other_labels c.args.apex.now c.args.key.now c.requires c.in-Some.mark.now c.in-Some.rest.now c.in-Some.ensures.cases.0 c.if-mark-eq-WITHIN.false
 
-pub push_key_name-requires-else-mark-eq-WITHIN-clause-room :
-    goal.push_key_name-requires-else-mark-eq-WITHIN-clause-room
-push_key_name-requires-else-mark-eq-WITHIN-clause-room c =
+pub push_labels-requires-else-mark-eq-WITHIN-clause-room :
+    goal.push_labels-requires-else-mark-eq-WITHIN-clause-room
+push_labels-requires-else-mark-eq-WITHIN-clause-room c =
     omega (arith, other_room c.args.apex.now c.args.key.now c.requires c.in-Some.mark.now c.in-Some.rest.now c.in-Some.ensures.cases.0 c.if-mark-eq-WITHIN.false, ap length c.clear.ensures)
 
 pub returns-then-mark-eq-WITHIN : goal.returns-then-mark-eq-WITHIN
 returns-then-mark-eq-WITHIN c =
     c.append.ensures
-    ∙ (λ i. (c.push_key_name.ensures ∙ ap (λ l. l ++ wire (key_name c.in-Some.rest.now)) c.clear.ensures) i ++ c.octets-octets.ensures.value i)
+    ∙ (λ i. (c.push_labels.ensures ∙ ap (λ l. l ++ wire (key_name c.in-Some.rest.now)) c.clear.ensures) i ++ c.octets-octets.ensures.value i)
     ∙ within_octets c.args.apex.now c.args.key.now c.requires c.in-Some.mark.now c.in-Some.rest.now c.in-Some.ensures.cases.0 c.if-mark-eq-WITHIN.true c.octets-octets.ensures.lower
