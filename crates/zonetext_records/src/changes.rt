@@ -39,16 +39,16 @@ struct Count {
 }
 
 /// Returns the type of a record, if the zone has one at this index.
-fn rtype_at(zone: &StoredRecords, place: usize) -> RecordType {
+fn rtype_at(zone: &StoredRecords, place: usize) -> Option<RecordType> {
     if place < zone.zone.len() {
-        zone.zone.rtype(place)
+        Some(zone.zone.rtype(place))
     } else {
-        RecordType(0)
+        None
     }
 }
 
-/// Returns the type of the changed record.
-fn rtype_of(old: &StoredRecords, new: &StoredRecords, change: ZoneChange) -> RecordType {
+/// Returns the type of the changed record, if there is one.
+fn rtype_of(old: &StoredRecords, new: &StoredRecords, change: ZoneChange) -> Option<RecordType> {
     match change {
         ZoneChange::Removed(place) => rtype_at(old, place),
         ZoneChange::Added(place) | ZoneChange::NewTtl(_, place) => rtype_at(new, place),
@@ -85,7 +85,10 @@ fn counts_of(
 ) -> Result<BTreeMap<u16, Count>, AllocError> {
     let mut counts = BTreeMap::new(alloc);
     for change in changes {
-        let number = rtype_of(old, new, *change).0;
+        let Some(rtype) = rtype_of(old, new, *change) else {
+            continue;
+        };
+        let number = rtype.0;
         let mut count = counts.get(&number).copied().unwrap_or(Count::new());
         count.count(*change);
         counts.insert(number, count)?;
