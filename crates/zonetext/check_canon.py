@@ -3,7 +3,7 @@
 expected one. Over random zones, `canon --wire` must print what ldns-read-zone prints, if that is
 installed. The changes that `diff` prints must turn the first zone into the second. `digest` must accept
 the digests that ldns-signzone and dnspython make. `canon --memory` must print the same as `canon`.
-`rt run` in this folder builds the program as out/zonetext. With UNPROVED set, large zones are a hundredth as
+`rt run` in this folder builds the program as out/zonetext. With UNPROVED set, large zones are a fortieth as
 large, and a third of the random zones are run.
 
     crates/zonetext/check_canon.py [PROGRAM] [SEED]
@@ -34,7 +34,7 @@ SIGNER = 'ldns-signzone'
 UNPROVED = 'UNPROVED' in os.environ
 ROUNDS = 40
 LINES = 20 if UNPROVED else 60
-LESS = 100 if UNPROVED else 1
+LESS = 40 if UNPROVED else 1
 counts = {'rows': 0, 'wrong': 0}
 
 
