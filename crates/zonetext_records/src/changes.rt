@@ -9,7 +9,7 @@ use std::io;
 use zone_contents::{ZoneChange, changes_between_zones};
 use zone_rules::ZoneRecords;
 use zone_rules::zone_records::{OwnerBuffer, ZoneRecord};
-use zone_set::{Change, Selection, push_change, serial_rises};
+use zone_set::{Change, Selection, push_change, push_record, serial_rises};
 use zonetext_checker::checker::SoaInfo;
 use zonetext_files::lines::Lines;
 use zonetext_files::stop::{RunError, exit_status};
@@ -149,6 +149,45 @@ fn push_objects(
     }
 }
 
+/// Appends the line of a record that only one zone has.
+fn push_lone(
+    text: &mut String,
+    zone: &StoredRecords,
+    place: usize,
+    is_removed: bool,
+) -> Result<(), RunError> {
+    let mut owner = OwnerBuffer::new();
+    let record = record_at(zone, place, &mut owner)?;
+    if is_removed {
+        push_change(text, &Change::Removed(&record))?;
+    } else {
+        push_change(text, &Change::Added(&record))?;
+    }
+    Ok(())
+}
+
+/// Returns the TTL of the record of a zone at an index, if there is one.
+fn ttl_at(zone: &StoredRecords, place: usize) -> Result<u32, RunError> {
+    let mut owner = OwnerBuffer::new();
+    let record = record_at(zone, place, &mut owner)?;
+    Ok(record.ttl)
+}
+
+/// Appends the line of a record with a new TTL in place of `ttl`, as [`push_change`] does.
+fn push_new_ttl(
+    text: &mut String,
+    zone: &StoredRecords,
+    place: usize,
+    ttl: u32,
+) -> Result<(), RunError> {
+    let mut owner = OwnerBuffer::new();
+    let record = record_at(zone, place, &mut owner)?;
+    let now = record.ttl;
+    write!(text, "~ {ttl} -> {now} ")?;
+    push_record(text, &record)?;
+    Ok(())
+}
+
 /// Appends the line of a change.
 fn push_text(
     text: &mut String,
@@ -156,24 +195,14 @@ fn push_text(
     new: &StoredRecords,
     change: ZoneChange,
 ) -> Result<(), RunError> {
-    let mut before = OwnerBuffer::new();
-    let mut after = OwnerBuffer::new();
     match change {
-        ZoneChange::Removed(place) => {
-            let record = record_at(old, place, &mut before)?;
-            push_change(text, &Change::Removed(&record))?;
-        }
-        ZoneChange::Added(place) => {
-            let record = record_at(new, place, &mut after)?;
-            push_change(text, &Change::Added(&record))?;
-        }
-        ZoneChange::NewTtl(was, is) => {
-            let was = record_at(old, was, &mut before)?;
-            let is = record_at(new, is, &mut after)?;
-            push_change(text, &Change::NewTtl(&was, &is))?;
+        ZoneChange::Removed(place) => push_lone(text, old, place, true),
+        ZoneChange::Added(place) => push_lone(text, new, place, false),
+        ZoneChange::NewTtl(before, after) => {
+            let ttl = ttl_at(old, before)?;
+            push_new_ttl(text, new, after, ttl)
         }
     }
-    Ok(())
 }
 
 /// Writes changes between two zones, and reports how many more there are.

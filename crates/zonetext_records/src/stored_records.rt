@@ -101,6 +101,14 @@ fn store_for(alloc: Global, given: &RecordRef<'_>) -> ZoneStore {
     }
 }
 
+/// Returns a store, or one without records if there is none.
+fn store_or_empty(alloc: Global, store: Option<ZoneStore>) -> ZoneStore {
+    match store {
+        Some(store) => store,
+        None => ZoneStore::new(alloc, &Name::root_ref()),
+    }
+}
+
 impl RecordCollector<'_> {
     /// Stores a record in canonical form.
     fn add(&mut self, given: &RecordRef<'_>) -> Result<(), RunError> {
@@ -145,6 +153,18 @@ impl EntryVisitor for RecordCollector<'_> {
     }
 }
 
+impl RecordCollector<'_> {
+    /// Returns the records that were collected, in canonical order, and the first SOA.
+    fn stored(self, seen: Option<SoaInfo>) -> StoredRecords {
+        let store = store_or_empty(self.alloc, self.store);
+        StoredRecords {
+            zone: store.sort(),
+            places: self.places,
+            seen,
+        }
+    }
+}
+
 /// Returns the selected records of files, in canonical form and order, with their places if these
 /// are kept. If an entry is rejected, that is reported, and the status is returned in place of them:
 /// 1, or 3 if a file can't be read.
@@ -172,13 +192,5 @@ pub fn store_records(
     if reading.fails(status) {
         return Err(status);
     }
-    let store = match visitor.store {
-        Some(store) => store,
-        None => ZoneStore::new(alloc, &Name::root_ref()),
-    };
-    Ok(StoredRecords {
-        zone: store.sort(),
-        places: visitor.places,
-        seen,
-    })
+    Ok(visitor.stored(seen))
 }
