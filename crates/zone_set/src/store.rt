@@ -151,7 +151,7 @@ fn append_added<A: Allocator>(
 /// The records of a zone, in the order in which they were added. A record is added with the order
 /// key of its owner ([`zone_record::push_order_key`]), or with what follows the zone's key in it.
 ///
-/// Besides its RDATA, a record takes as many octets as its key has and 14 more, if its numbers take few
+/// Besides its RDATA, a record takes as many octets as its key has and 13 more, if its numbers take few
 /// octets. A key takes seven octets at least.
 #[derive(Drop)]
 pub struct RecordStore<A: Allocator = Global> {
