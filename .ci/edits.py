@@ -27,8 +27,8 @@ import tempfile
 from dataclasses import dataclass
 
 ROOT = os.path.dirname(os.path.dirname(os.path.realpath(__file__)))
-# Messages about a proof file that cites what an edit removed, or that the prover no longer reads.
-STALE = re.compile(r"has no field|is not in scope|has no `|was not admitted|rattle does not read")
+# The message about a proof file that cites what an edit removed.
+STALE = re.compile(r"has no field|is not in scope|has no `|was not admitted")
 # Names of std and of the kit's crates that only edits use.
 OF_STD = set(
     "MAX STD3 is_none is_some_and len_utf8 min saturating_add saturating_sub trim_end_matches truncate".split()
