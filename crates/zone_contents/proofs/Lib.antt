@@ -1,4 +1,5 @@
 pub mod ComparedZones
+pub mod DigestSteps
 pub mod Distinct
 pub mod FewTypes
 pub mod KeyLabels

@@ -127,7 +127,7 @@ fn next_step<A: Allocator>(
 
 impl<A: Allocator> StoredZone<A> {
     /// Returns whether there is a record at an index.
-    fn has_record(&self, place: usize) -> bool
+    pub(crate) fn has_record(&self, place: usize) -> bool
         ensures { HasDistinct self.now place result }
     {
         if place >= self.store.len() {
@@ -137,7 +137,7 @@ impl<A: Allocator> StoredZone<A> {
     }
 
     /// Returns the index of the first record after one and its duplicates, or the number of records.
-    fn past_duplicates(&self, place: usize) -> usize
+    pub(crate) fn past_duplicates(&self, place: usize) -> usize
         requires { place < length self.now.records }
         ensures { SkipsDuplicates self.now place result }
     {
