@@ -3,6 +3,7 @@ pub mod Distinct
 pub mod FewTypes
 pub mod KeyLabels
 pub mod Listings
+pub mod OneKey
 pub mod Summed
 pub mod ZoneKeys
 pub mod ZoneNames

@@ -5,7 +5,7 @@ ghost use Rattle.zone_rules.specs.Zones.{as_listed};
 ghost use Rattle.zone_set.specs.Stored.{record_at};
 
 use crate::lookups::{has_type, host_types};
-use crate::searches::{closest, closest_before, owner_at, places};
+use crate::searches::{closest, closest_before, have_one_owner, owner_at, places};
 use crate::stored::StoredZone;
 use crate::zone_key::Apex;
 use dns_wire::Name;
@@ -51,6 +51,14 @@ impl<A: Allocator> ZoneRecords for StoredZone<A> {
 
     fn record<'b>(&'b self, place: usize, owner: &'b mut OwnerBuffer) -> ZoneRecord<'b> {
         record_at(&self.apex, &self.store, place, owner)
+    }
+
+    fn type_at(&self, place: usize) -> RecordType {
+        self.store.rtype(place)
+    }
+
+    fn have_one_owner(&self, left: usize, right: usize) -> bool {
+        have_one_owner(&self.apex, &self.store, left, right)
     }
 
     fn places(&self, name: &Name<&[u8]>) -> (usize, usize) {

@@ -1,5 +1,6 @@
 //! Searches among the sorted records of a zone.
-ghost use Rattle.std.specs.Prelude.{◌≡◌, ◌<◌, ◌≤◌, [], All, IfSome, Some, length, slice_get};
+ghost use Rattle.std.specs.Prelude.{◌≡◌, ◌<◌, ◌≤◌, ◌↔◌, [], All, IfSome, IsTrue, Some, length, slice_get};
+ghost use Rattle.std.specs.Option.{option_map};
 ghost use Rattle.zone_contents.specs.Contents.{listed_record, listing, AreSortedRecords, IsZoneRecord};
 ghost use Rattle.zone_contents.specs.Searches.{closest_earlier, shared_by, EndsKey};
 ghost use Rattle.zone_rules.specs.Present.{rrset_of_record};
@@ -60,6 +61,23 @@ pub(crate) fn owner_at<'b, A: Allocator>(
     write_key(store, place, &mut key);
     write_name(apex, key.as_slice(), owner);
     name_of(owner.as_slice())
+}
+
+/// Returns whether the records at two indexes have the same owner.
+pub(crate) fn have_one_owner<A: Allocator>(
+    apex: &Apex,
+    store: &SortedStore<A>,
+    left: usize,
+    right: usize,
+) -> bool
+    requires left { left < length store.now }
+    requires right { right < length store.now }
+    requires are { All (IsZoneRecord apex.now) store.now }
+    ensures { IsTrue result ↔ option_map (λ r. r.owner) (slice_get (listing apex.now store.now) left) ≡ option_map (λ r. r.owner) (slice_get (listing apex.now store.now) right) }
+{
+    let mut key = ArrayVec::new();
+    write_key(store, left, &mut key);
+    store.has_key(right, key.as_slice())
 }
 
 /// Returns the longest name that a name and the owner of the record at an index are at or below.

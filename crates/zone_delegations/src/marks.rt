@@ -3,7 +3,7 @@ ghost use Rattle.std.specs.Prelude.{◌≡◌, ◌+◌, ◌<◌, ◌≤◌, IfOk
 ghost use Rattle.zone_delegations.specs.Hidden.{delegation_of, server_of};
 ghost use Rattle.zone_delegations.specs.Owners.{AreAllCutMarks, AreAllServerMarks, AreCutMarks, AreMarkedBy, AreMarkedFrom, AreOwnerMarks, AreServerMarks};
 
-use crate::cuts::is_delegating;
+use crate::cuts::{is_delegating, is_ns_at};
 use dns_wire::Name;
 use rdata_values::RecordType;
 use std::alloc::{AllocError, Allocator};
@@ -88,6 +88,9 @@ fn mark_delegation<Z: ZoneRecords, A: Allocator>(
     requires marks { AreCutMarks origin.now (Z.contents records.now) place marks.old.items }
     ensures { AreCutMarks origin.now (Z.contents records.now) (place + 1) marks.new.items }
 {
+    if !is_ns_at(records, place) {
+        return;
+    }
     let mut owner = OwnerBuffer::new();
     let record = records.record(place, &mut owner);
     let Some(name) = delegation_of(origin, &record) else {
@@ -111,6 +114,9 @@ fn mark_server<Z: ZoneRecords, A: Allocator>(
     requires marks { AreServerMarks origin.now (Z.contents records.now) place marks.old.items }
     ensures { AreServerMarks origin.now (Z.contents records.now) (place + 1) marks.new.items }
 {
+    if !is_ns_at(records, place) {
+        return;
+    }
     let mut owner = OwnerBuffer::new();
     let record = records.record(place, &mut owner);
     let Some(name) = server_of(origin, &record) else {

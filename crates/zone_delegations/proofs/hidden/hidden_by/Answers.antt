@@ -4,8 +4,8 @@ use Rattle.zone_delegations.specs.Hidden.{hidden_if, is_hidden_at}
 use Rattle.zone_delegations.proofs.HiddenRecords.{hidden_is}
 use Rattle.zone_delegations.proofs.hidden.hidden_by.Goals as goal
 
-pub loop-place-preserved : goal.loop-place-preserved
-loop-place-preserved g c = record {
+pub loop-place-preserved-then-not-is_glue : goal.loop-place-preserved-then-not-is_glue
+loop-place-preserved-then-not-is_glue g c = record {
   within = omega (arith, c.loop-place-test.true, c.len-place-end.ensures);
   known = c.is_below_after-is_below.ensures;
   found =

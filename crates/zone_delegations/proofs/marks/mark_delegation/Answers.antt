@@ -2,7 +2,7 @@ use Rattle.std.proofs.Common.{false, length, take, sym, ◌∙◌}
 use Rattle.std.proofs.lemmas.List.{get_or_read_under}
 use Rattle.std.specs.Prelude.{slice_get}
 use Rattle.zone_delegations.specs.Hidden.{delegation_of}
-use Rattle.zone_delegations.proofs.Listed.{listed_delegation}
+use Rattle.zone_delegations.proofs.Listed.{listed_delegation, other_delegation}
 use Rattle.zone_delegations.proofs.OwnerMarks.{marks_more, marks_same, owner_marks, own_marked}
 use Rattle.zone_delegations.proofs.marks.mark_delegation.Goals as goal
 
@@ -25,3 +25,8 @@ pub returns : goal.returns
 returns g c =
     marks_more (delegation_of c.args.origin.now) (g.Z.ZoneRecords.contents c.args.records.now) c.args.place c.in-Some.name c.args.marks.now.items c.mark_owners.new.marks.items c.requires.place
     (sym (listed_delegation c.args.origin.now (slice_get (g.Z.ZoneRecords.contents c.args.records.now) c.args.place) c.record-record.result c.record-record.ensures) ∙ sym c.delegation_of.ensures ∙ c.in-Some.is) c.requires.marks c.mark_owners.ensures
+
+pub returns-then-not-is_ns_at : goal.returns-then-not-is_ns_at
+returns-then-not-is_ns_at g c =
+    marks_same (delegation_of c.args.origin.now) (g.Z.ZoneRecords.contents c.args.records.now) c.args.place c.args.marks.now.items c.requires.place
+    (other_delegation c.args.origin.now (slice_get (g.Z.ZoneRecords.contents c.args.records.now) c.args.place) (sym c.is_ns_at.ensures ∙ c.if-not-is_ns_at.true)) c.requires.marks
