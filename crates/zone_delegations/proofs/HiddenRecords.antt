@@ -1,5 +1,5 @@
 -- The records that are hidden.
-use Rattle.std.proofs.Common.{ℕ, zero, suc, ◌≡◌, ◌<◌, Bool, true, false, Option, Some, None, List, [], ◌∷◌, ◌++◌, length, refl, sym, ap, ◌∙◌, arith}
+use Rattle.std.proofs.Common.{ℕ, zero, suc, ◌≡◌, ◌<◌, Bool, true, false, Option, Some, None, List, [], ◌∷◌, ◌++◌, length, refl, sym, ap, ◌∙◌, arith, append-nil}
 use Rattle.std.specs.Prelude.{◌==◌, ◌&&◌, ◌||◌, not, slice_get}
 use Rattle.std.specs.List.{flat_map, list_any, range_with_len}
 use Rattle.std.specs.Option.{option_map, option_map_or}
@@ -32,6 +32,10 @@ any_found p (x ∷ xs) (suc k) h = by (p x) (any_found p xs k h)
 and_off : (b : Bool) → (b && false) ≡ false
 and_off true = refl
 and_off false = refl
+
+-- no index is added for a record that is not hidden
+pub none_added : (found : List ℕ) (place : ℕ) (is_hidden : Bool) → is_hidden ≡ false → found ≡ found ++ hidden_if is_hidden place
+none_added found place is_hidden h = sym (append-nil found) ∙ ap (λ b. found ++ hidden_if b place) (sym h)
 
 -- ---- a zone without delegations
 

@@ -93,14 +93,15 @@ fn hidden_by<Z: ZoneRecords, A: Allocator>(
     for place in 0..records.len() {
         let rtype = type_at(records, place);
         let is_server = servers[place];
-        // Glue is never hidden, and no delegation above it is looked up.
-        if !is_glue(rtype, may_be_server, is_server) {
-            is_below = is_below_after(origin, records, before, is_below, place);
-            before = place;
-            let is_cut = cuts[place];
-            let is_hidden = hides(rtype, is_below, is_cut, may_be_server, is_server);
-            add_if(is_hidden, place, &mut found)?;
+        // Glue isn't hidden, whatever delegations are above it.
+        if is_glue(rtype, may_be_server, is_server) {
+            continue;
         }
+        is_below = is_below_after(origin, records, before, is_below, place);
+        before = place;
+        let is_cut = cuts[place];
+        let is_hidden = hides(rtype, is_below, is_cut, may_be_server, is_server);
+        add_if(is_hidden, place, &mut found)?;
     }
     Ok(found)
 }
