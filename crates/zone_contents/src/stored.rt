@@ -85,6 +85,14 @@ impl<A: Allocator> ZoneStore<A> {
         self.store.len()
     }
 
+    /// Allocates memory for more octets and records. Fails without memory. The records are the
+    /// same in both cases, and more can be added.
+    pub fn reserve(&mut self, octets: usize, records: usize) -> Result<(), AllocError>
+        ensures { self.new ≡ self.old }
+    {
+        self.store.reserve(octets, records)
+    }
+
     /// Adds a record. The letter case of its owner is not kept. Fails without memory; the collection
     /// is then unchanged.
     pub fn add<Owner: AsOctets, Octets: AsOctets>(

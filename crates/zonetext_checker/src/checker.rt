@@ -210,6 +210,13 @@ impl<'a> Checker<'a> {
         }
     }
 
+    /// Allocates memory for the records of a file with this size, if they are stored.
+    pub fn expect(&mut self, size: u64) {
+        if let Some(held) = &mut self.held {
+            held.expect(size);
+        }
+    }
+
     /// Reports an entry that is too long.
     fn report_long(&mut self, entry: &Entry<'_>) -> Result<(), RunError> {
         self.has_gap = true;

@@ -71,6 +71,15 @@ impl HeldZone {
         }
     }
 
+    /// Allocates memory for the records of a file with this size, if it can: three octets for four
+    /// of the file, and a record for each 40. Without it, memory is allocated as records are added.
+    pub fn expect(&mut self, size: u64) {
+        let Ok(size) = usize::try_from(size) else {
+            return;
+        };
+        let _ = self.records.reserve(size / 4 * 3, size / 40);
+    }
+
     /// Stores a record with its position.
     pub fn add(&mut self, given: &RecordRef<'_>, found: RecordLocation) -> Result<(), RunError> {
         let (Some(record), Ok(file)) = (record_of(given), u32::try_from(found.file)) else {
