@@ -1,13 +1,15 @@
 //! Searches among the sorted records of a zone.
 ghost use Rattle.std.specs.Prelude.{◌≡◌, ◌<◌, ◌≤◌, [], All, IfSome, Some, length, slice_get};
 ghost use Rattle.zone_contents.specs.Contents.{listed_record, listing, AreSortedRecords, IsZoneRecord};
+ghost use Rattle.dns_wire.specs.Wire.{wire};
+ghost use Rattle.zone_contents.specs.Keys.{name_in_zone};
 ghost use Rattle.zone_contents.specs.Searches.{closest_earlier, shared_by, EndsKey};
 ghost use Rattle.zone_rules.specs.Present.{rrset_of_record};
 ghost use Rattle.zone_rules.specs.Searches.{before_place, AreOwnedFrom, PartsBefore};
 ghost use Rattle.zone_rules.specs.Zones.{closest_owned};
 ghost use Rattle.zone_set.specs.Stored.{record_at};
 
-use crate::zone_key::{Apex, MAX_ZONE_KEY, ZoneKey, write_name};
+use crate::zone_key::{Apex, MAX_ZONE_KEY, ZoneKey, write_name, write_split_name};
 use arrayvec::ArrayVec;
 use dns_wire::Name;
 use std::alloc::Allocator;
@@ -45,6 +47,41 @@ fn write_key<A: Allocator>(
     key.try_extend_from_slice(stored.rest).unwrap();
 }
 
+/// Writes the owner of the record at an index in wire format and in lower case, in place of what a
+/// buffer holds.
+fn write_joined_owner<A: Allocator>(
+    apex: &Apex,
+    store: &SortedStore<A>,
+    place: usize,
+    owner: &mut OwnerBuffer,
+)
+    requires place { place < length store.now }
+    requires are { All (IsZoneRecord apex.now) store.now }
+    ensures { owner.new.items ≡ wire (name_in_zone apex.now (record_at store.now place).key) }
+{
+    let mut key = ArrayVec::new();
+    write_key(store, place, &mut key);
+    write_name(apex, key.as_slice(), owner);
+}
+
+/// Writes the owner of the record at an index in wire format and in lower case, in place of what a
+/// buffer holds. Joins the parts of its key only if a label does not end in the second.
+fn write_owner<A: Allocator>(
+    apex: &Apex,
+    store: &SortedStore<A>,
+    place: usize,
+    owner: &mut OwnerBuffer,
+)
+    requires place { place < length store.now }
+    requires are { All (IsZoneRecord apex.now) store.now }
+    ensures { owner.new.items ≡ wire (name_in_zone apex.now (record_at store.now place).key) }
+{
+    let stored = store.key(place);
+    if !write_split_name(apex, stored.first.as_slice(), stored.rest, owner) {
+        write_joined_owner(apex, store, place, owner);
+    }
+}
+
 /// Returns the owner of the record at an index, in lower case.
 pub(crate) fn owner_at<'b, A: Allocator>(
     apex: &Apex,
@@ -56,9 +93,7 @@ pub(crate) fn owner_at<'b, A: Allocator>(
     requires are { All (IsZoneRecord apex.now) store.now }
     ensures { result ≡ (listed_record apex.now (record_at store.now place)).owner }
 {
-    let mut key = ArrayVec::new();
-    write_key(store, place, &mut key);
-    write_name(apex, key.as_slice(), owner);
+    write_owner(apex, store, place, owner);
     name_of(owner.as_slice())
 }
 

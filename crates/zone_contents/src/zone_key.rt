@@ -1,11 +1,11 @@
 //! Keys of the names in a zone, whose first octets differ.
-ghost use Rattle.std.specs.Prelude.{◌≡◌, ◌≤◌, ◌+◌, [], ◌∷◌, ◌++◌, length, map};
+ghost use Rattle.std.specs.Prelude.{◌≡◌, ◌≤◌, ◌+◌, [], ◌∷◌, ◌++◌, IsTrue, length, map};
 ghost use Rattle.dns_octets.specs.Lowered.{lowered};
 ghost use Rattle.dns_wire.specs.Wire.{wire};
 ghost use Rattle.zone_record.specs.Keys.{order_key};
 ghost use Rattle.zone_contents.specs.Keys.{key_in_zone, name_in_zone, zone_key, IsNameKey};
 
-use crate::key_labels::push_labels;
+use crate::key_labels::{push_labels, push_split_labels};
 use arrayvec::ArrayVec;
 use dns_octets::AsOctets;
 use dns_wire::{MAX_NAME, Name};
@@ -163,4 +163,30 @@ pub fn write_name(apex: &Apex, key: &[u8], name: &mut ArrayVec<u8, MAX_NAME>)
     } else {
         push_labels(rest, name);
     }
+}
+
+/// Writes the name that has a key of two parts in a zone, in lower case, in place of what a buffer
+/// holds, if its labels are found without joining the parts. Returns whether it does.
+pub(crate) fn write_split_name(
+    apex: &Apex,
+    first: &[u8],
+    second: &[u8],
+    name: &mut ArrayVec<u8, MAX_NAME>,
+) -> bool
+    requires { IsNameKey apex.now (first.now ++ second.now) }
+    ensures { IsTrue result → name.new.items ≡ wire (name_in_zone apex.now (first.now ++ second.now)) }
+{
+    name.clear();
+    let Some((mark, first)) = first.split_first() else {
+        return false;
+    };
+    if *mark != WITHIN {
+        return false;
+    }
+    let octets = apex.octets();
+    if !push_split_labels(first, second, name) {
+        return false;
+    }
+    append(octets, name);
+    true
 }
