@@ -14,7 +14,7 @@ use Rattle.zone_record.specs.Names.{octet_order}
 use Rattle.zone_record.specs.AnyData.{any_data_order}
 use Rattle.zone_record.proofs.AnyOrders.{any_total}
 use Rattle.zone_set.specs.Counted.{first_length}
-use Rattle.zone_set.specs.Entries.{IsStoreEntry, after_rest, entry_order, first_rest, key_at, octets_of, octets_order, record_offset, parts_at, parts_or_absent, prefix_of, prefixed_keys, prefixed_order, prefixed_records, record_of, rests_order}
+use Rattle.zone_set.specs.Entries.{IsStoreEntry, after_rest, entry_keys_order, entry_order, first_rest, key_at, octets_of, octets_order, record_offset, parts_at, parts_or_absent, prefix_of, prefixed_keys, prefixed_order, prefixed_records, record_of, rests_order}
 use Rattle.zone_set.specs.Indexes.{stored_at}
 use Rattle.zone_set.specs.Parts.{RecordParts}
 use Rattle.zone_set.specs.Prefixes.{prefix_number, rests_cmp}
@@ -139,6 +139,13 @@ prefixed_is octets a b p q =
     ∙ ap (λ o. ordering_then o parts) (sym (rests_decide 7 p.0.key q.0.key p.1.key_small q.1.key_small))
     ∙ (λ i. ordering_then (octet_order (sym (key_is octets a p.0 p.1) i) (sym (key_is octets b q.0 q.1) i)) parts)
 
+-- the prefixes of two entries decide as their keys
+pub keys_are : (octets : List ℕ) (a b : Entry) → IsStoreEntry octets a → IsStoreEntry octets b → entry_keys_order octets a b ≡ octet_order (key_at octets a) (key_at octets b)
+keys_are octets a b p q =
+    (λ i. ordering_then (nat_cmp (p.1.prefix i) (q.1.prefix i)) (ordering_then (octet_order (rests_are octets a p.0 p.1 i) (rests_are octets b q.0 q.1 i)) (nat_cmp (count_is octets a p.0 p.1 i) (count_is octets b q.0 q.1 i))))
+    ∙ sym (rests_decide 7 p.0.key q.0.key p.1.key_small q.1.key_small)
+    ∙ (λ i. octet_order (sym (key_is octets a p.0 p.1) i) (sym (key_is octets b q.0 q.1) i))
+
 pub then_equal : (r s : Ordering) → ordering_then r s ≡ Equal → r ≡ Equal
 then_equal Less s e = absurd (no e)
   where
@@ -186,6 +193,11 @@ module _ (octets : List ℕ) (entries : List Entry) (all : All (IsStoreEntry oct
       → prefixed_keys octets (get_or entries i d) prefix key ≡ octet_order (stored_at octets entries i).key key
   indexed_key i prefix d key low small is =
       prefixed_key octets (get_or entries i d) prefix key (all_octets key small) (All-get_or (IsStoreEntry octets) entries i d low all) is ∙ ap (λ r. octet_order r.key key) (at_index i d low)
+
+  pub indexed_keys : (i j : ℕ) (d e : Entry) → i < length entries → j < length entries → entry_keys_order octets (get_or entries i d) (get_or entries j e) ≡ octet_order (stored_at octets entries i).key (stored_at octets entries j).key
+  indexed_keys i j d e low lower =
+      keys_are octets (get_or entries i d) (get_or entries j e) (All-get_or (IsStoreEntry octets) entries i d low all) (All-get_or (IsStoreEntry octets) entries j e lower all)
+      ∙ (λ k. octet_order (at_index i d low k).key (at_index j e lower k).key)
 
   pub indexed_order : (i j : ℕ) (d e : Entry) → i < length entries → j < length entries → prefixed_records octets (get_or entries i d) (get_or entries j e) ≡ stored_order (stored_at octets entries i) (stored_at octets entries j)
   indexed_order i j d e low lower =

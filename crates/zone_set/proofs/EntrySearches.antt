@@ -37,7 +37,7 @@ module _ {R : AddedRecord → AddedRecord → Ordering} (o : IsTotalOrder R) (co
   rise : (records : List AddedRecord) → IsSorted stored_order records → IsNonDecreasingBy (λ r. ordering_index (R r target)) records
   rise records sorted = searchable_from_sorted o (λ r. r) records target (λ k d low high. coarser (get_or records (k + 1) d) (get_or records k d) (sorted k d low high))
 
-  lesser_first : (records : List AddedRecord) → IsSorted stored_order records → IsPartitionedBy (λ r. is_lt (R r target)) records
+  pub lesser_first : (records : List AddedRecord) → IsSorted stored_order records → IsPartitionedBy (λ r. is_lt (R r target)) records
   lesser_first records sorted i j d le lt t =
       sym (lt_index (R (get_or records i d) target))
       ∙ IsPartitionedBy-leb (λ r. ordering_index (R r target)) records 0 (rise records sorted) i j d le lt (lt_index (R (get_or records j d) target) ∙ t)

@@ -16,8 +16,5 @@ pub mod RunOctets
 pub mod SoaParts
 pub mod CanonicalLists
 pub mod Patches
-mod AtApex
-mod HashedRecords
-mod RightData
 mod Scopes
 mod ZonemdParts

@@ -94,6 +94,10 @@ rest_order octets key = ordering_then (octet_order (first_rest octets) (drop 7 k
 abbrev pub prefixed_keys : List ℕ → Entry → ℕ → List ℕ → Ordering
 prefixed_keys octets e prefix key = ordering_then (nat_cmp (prefix_of e) prefix) (rest_order (octets_of octets e) key)
 
+-- the keys of two entries compared: the prefixes, then the rests
+abbrev pub entry_keys_order : List ℕ → Entry → Entry → Ordering
+entry_keys_order octets a b = ordering_then (nat_cmp (prefix_of a) (prefix_of b)) (rests_order (octets_of octets a) (octets_of octets b))
+
 -- records compared: the prefixes of their keys, then the keys, then class, type and RDATA
 abbrev pub octets_order : List ℕ → List ℕ → Ordering
 octets_order a b = ordering_then (rests_order a b) (parts_cmp (parts_or_absent (after_rest a)) (parts_or_absent (after_rest b)))

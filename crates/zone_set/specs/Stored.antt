@@ -24,6 +24,13 @@ absent_parts = record { code = 0; class = 0; ttl = 0; file = 0; offset = 0; rdat
 abbrev pub record_at : List AddedRecord → ℕ → AddedRecord
 record_at records index = get_or records index (added_record [] absent_parts)
 
+-- the order of the keys of the records at two indexes, and that they have one key
+abbrev pub key_order_at : List AddedRecord → ℕ → ℕ → Ordering
+key_order_at records i j = octet_order (record_at records i).key (record_at records j).key
+
+abbrev pub HaveOneKey : List AddedRecord → ℕ → ℕ → Type 0
+HaveOneKey records i j = (record_at records i).key ≡ (record_at records j).key
+
 -- by class and type, as numbers
 abbrev pub type_order : RecordParts → ℕ → ℕ → Ordering
 type_order r class code = ordering_then (nat_cmp r.class class) (nat_cmp r.code code)

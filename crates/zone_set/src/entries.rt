@@ -4,8 +4,8 @@ ghost use Rattle.std.specs.List.Sorted.{IsPermutation, IsSorted};
 ghost use Rattle.std.specs.Ordering.{nat_cmp, ordering_then};
 ghost use Rattle.zone_record.specs.Names.{octet_order};
 ghost use Rattle.zone_set.specs.Counted.{first_length};
-ghost use Rattle.zone_set.specs.Entries.{after_rest, entry_order, first_rest, key_at, octets_of, octets_order, record_offset, parts_at, parts_or_absent, prefix_of, prefixed_keys, prefixed_order, prefixed_records, rest_order, seven_octets, IsEntryFor, IsStoreEntry};
-ghost use Rattle.zone_set.specs.Indexes.{order_at, stored_at};
+ghost use Rattle.zone_set.specs.Entries.{after_rest, entry_keys_order, entry_order, first_rest, key_at, octets_of, octets_order, record_offset, parts_at, parts_or_absent, prefix_of, prefixed_keys, prefixed_order, prefixed_records, rest_order, rests_order, seven_octets, IsEntryFor, IsStoreEntry};
+ghost use Rattle.zone_set.specs.Indexes.{key_order_by_index, order_at, stored_at};
 ghost use Rattle.zone_set.specs.Parts.{record_parts};
 ghost use Rattle.zone_set.specs.Prefixes.{prefix_number};
 ghost use Rattle.zone_set.specs.Stored.{absent_parts, parts_cmp};
@@ -231,6 +231,25 @@ pub(crate) fn compare_parts(left: &GroupEntry<'_>, right: &GroupEntry<'_>) -> Or
     }
 }
 
+/// Compares the keys that octets have, without their first seven octets.
+fn compare_rests(left: &[u8], right: &[u8]) -> Ordering
+    ensures { result ≡ rests_order left.now right.now }
+{
+    let (left_count, left_rest, _) = split_rest(left);
+    let (right_count, right_rest, _) = split_rest(right);
+    left_rest.cmp(right_rest).then(left_count.cmp(&right_count))
+}
+
+/// Compares the keys of two entries, first by their prefixes.
+fn compare_keys(octets: &[u8], left: &Entry, right: &Entry) -> Ordering
+    ensures { result ≡ entry_keys_order octets.now left.now right.now }
+{
+    match left.prefix().cmp(&right.prefix()) {
+        Ordering::Equal => compare_rests(octets_of(octets, left), octets_of(octets, right)),
+        order => order,
+    }
+}
+
 /// Compares two records whose keys have one prefix: by their keys, then by class, type and RDATA.
 fn compare_octets(left: &[u8], right: &[u8]) -> Ordering
     ensures { result ≡ octets_order left.now right.now }
@@ -332,6 +351,21 @@ pub(crate) fn compare_key_by_index(
     ensures { result ≡ octet_order (stored_at octets.now entries.now index).key key.now }
 {
     compare_prefixed(octets, &entries[index], key_prefix(key), key)
+}
+
+/// Compares the keys of the records at two indexes.
+pub(crate) fn compare_keys_by_index(
+    octets: &[u8],
+    entries: &[Entry],
+    left: usize,
+    right: usize,
+) -> Ordering
+    requires left { left < length entries.now }
+    requires right { right < length entries.now }
+    requires stored { All (IsStoreEntry octets.now) entries.now }
+    ensures { result ≡ key_order_by_index octets.now entries.now left right }
+{
+    compare_keys(octets, &entries[left], &entries[right])
 }
 
 /// Compares the records at two indexes.

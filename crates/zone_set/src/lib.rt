@@ -3,18 +3,16 @@
 //!
 //! Sets of records: sorted, without duplicates, and compared.
 //!
-//! Computes and checks digests of zones (ZONEMD, RFC 8976).
+//! Decides which records the digest of a zone is of (ZONEMD, RFC 8976).
 #![tactic(auto)]
 
 pub mod algorithm;
 pub mod canonical_set;
 pub mod changes;
-pub mod compute;
 pub mod counted;
 pub mod dnssec;
 pub mod entries;
 pub mod error;
-pub mod hashing;
 pub mod lines;
 pub mod lookups;
 pub mod merge_heads;
@@ -29,18 +27,15 @@ pub mod store;
 pub mod store_laws;
 pub mod tagged;
 pub mod verdict;
-pub mod zone;
 pub mod zonemd;
 
 pub use algorithm::HashAlgorithm;
 pub use canonical_set::CanonicalSet;
 pub use changes::{Change, changes_between};
-pub use compute::right_data;
 pub use counted::{push_counted, split_counted};
 pub use dnssec::is_dnssec;
 pub use entries::{StoredKey, key_prefix};
 pub use error::CheckError;
-pub use hashing::{hash_zone, sha384_digest, sha512_digest};
 pub use lines::{push_change, push_generic, push_record};
 pub use merge_heads::{MergeHead, MergeHeads};
 pub use records::{EntryHeader, GroupEntry, append_stored, split_record};
@@ -52,6 +47,5 @@ pub use set::ZoneSet;
 pub use sorted::SortedStore;
 pub use store::RecordStore;
 pub use tagged::TaggedOctets;
-pub use verdict::{Verdict, check_zonemd};
-pub use zone::check_zone;
+pub use verdict::Verdict;
 pub use zonemd::Zonemd;

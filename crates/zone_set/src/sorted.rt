@@ -5,11 +5,11 @@ ghost use Rattle.std.specs.Ordering.{is_eq};
 ghost use Rattle.zone_record.specs.Names.{octet_order};
 ghost use Rattle.zone_set.specs.Duplicates.{is_duplicate_at};
 ghost use Rattle.zone_set.specs.Parts.{record_parts};
-ghost use Rattle.zone_set.specs.Stored.{has_stored_rrset, order_to_rrset, record_at, stored_order, CountsBeforeKey, CountsBeforeRrset};
+ghost use Rattle.zone_set.specs.Stored.{has_stored_rrset, key_order_at, order_to_rrset, record_at, stored_order, CountsBeforeKey, CountsBeforeRrset, HaveOneKey};
 
 use crate::entries::{
-    Entry, StoredKey, compare_by_index, compare_key_by_index, compare_type, key_by_index,
-    parts_by_index, type_by_index,
+    Entry, StoredKey, compare_by_index, compare_key_by_index, compare_keys_by_index, compare_type,
+    key_by_index, parts_by_index, type_by_index,
 };
 use crate::lookups::{count_before_key, count_before_rrset};
 use crate::records::GroupEntry;
@@ -74,6 +74,27 @@ impl<A: Allocator> SortedStore<A> {
         ensures lacks { result ≡ false → (record_at self.now index).key ≡ key.now → ⊥ }
     {
         self.compare_key(index, key).is_eq()
+    }
+
+    /// Compares the keys of the records at two indexes, octet by octet.
+    fn compare_keys(&self, left: usize, right: usize) -> Ordering
+        requires left { left < length self.now }
+        requires right { right < length self.now }
+        ensures { result ≡ key_order_at self.now left right }
+    {
+        let octets = self.octets.as_slice();
+        let entries = self.entries.as_slice();
+        compare_keys_by_index(octets, entries, left, right)
+    }
+
+    /// Returns whether the records at two indexes have one key.
+    pub fn have_one_key(&self, left: usize, right: usize) -> bool
+        requires left { left < length self.now }
+        requires right { right < length self.now }
+        ensures have { result ≡ true → HaveOneKey self.now left right }
+        ensures lack { result ≡ false → HaveOneKey self.now left right → ⊥ }
+    {
+        self.compare_keys(left, right).is_eq()
     }
 
     /// Returns the record at an index, without its owner.

@@ -191,6 +191,17 @@ impl<A: Allocator> RecordStore<A> {
         self.entries.len()
     }
 
+    /// Allocates memory for more octets and records. Fails without memory. The records are the
+    /// same in both cases, and more can be added.
+    ///
+    /// Without it the store allocates as it grows, and then needs the old memory and the new at once.
+    pub fn reserve(&mut self, octets: usize, records: usize) -> Result<(), AllocError>
+        ensures { self.new ≡ self.old }
+    {
+        self.octets.reserve_exact(octets)?;
+        self.entries.reserve_exact(records)
+    }
+
     /// Adds a record after all others. Fails without memory, and if the octets before the record
     /// would be 2^40 or more; the store is then unchanged.
     pub fn add(&mut self, key: &[u8], added: &GroupEntry<'_>) -> Result<(), AllocError>

@@ -40,7 +40,7 @@ impl<'a> Zonemd<'a> {
     }
 
     /// Returns whether ZONEMD data has the same scheme and hash algorithm.
-    pub(crate) fn is_alike<Octets: AsOctets>(&self, data: &Data<Octets>) -> bool
+    pub fn is_alike<Octets: AsOctets>(&self, data: &Data<Octets>) -> bool
         requires { «data».now.rtype ≡ Rtype.zonemd }
         ensures { result ≡ is_alike self.now «data».now }
     {
