@@ -3,9 +3,12 @@ pub mod CnameTargets
 mod FieldNames
 pub mod HostNameParts
 mod HostParts
+pub mod LedNames
 pub mod Lookups
 pub mod NameParts
 pub mod Neighbours
+pub mod OwnRecords
+mod PairTests
 pub mod Searches
 pub mod SharedNames
 pub mod Steps

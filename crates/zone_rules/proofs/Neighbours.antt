@@ -80,7 +80,7 @@ pub record IsAbove (name above : List (List ℕ)) : Type 0 where
 same_itself : (a : List (List ℕ)) → same_name a a ≡ true
 same_itself a = same_is a a ∙ ap is_eq (tied_itself names_total a)
 
-within_more : (label : List ℕ) (labels above : List (List ℕ)) → 0 < length above → is_within labels above ≡ true → is_within (label ∷ labels) above ≡ true
+pub within_more : (label : List ℕ) (labels above : List (List ℕ)) → 0 < length above → is_within labels above ≡ true → is_within (label ∷ labels) above ≡ true
 within_more label labels above some h = within_cons label labels above some ∙ or_right (same_name (label ∷ labels) above) (is_within labels above) h
 
 within_itself : (a : List (List ℕ)) → is_within a a ≡ true
@@ -497,12 +497,19 @@ parent_off origin [] h = refl
 parent_off origin (l ∷ []) h = refl
 parent_off origin (l ∷ n ∷ o) h = or_off (same_name (n ∷ o) origin) (is_below (n ∷ o) origin) h
 
--- none of its ancestors is a delegation
+-- none of its ancestors is below the apex and passes a test
+none_above : (test : List (List ℕ) → Bool) (origin name : List (List ℕ)) → is_parent_below origin name ≡ false → list_any (λ n. is_below n origin && test n) (names_above name) ≡ false
+none_above test origin [] h = refl
+none_above test origin (l ∷ []) h = refl
+none_above test origin (l ∷ n ∷ o) h = λ i. (h i && test (n ∷ o)) || none_above test origin (n ∷ o) (parent_off origin (n ∷ o) h) i
+
+-- none is a delegation
 pub no_cut_above : {N O : Type 0} (records : List (Record N O)) (origin name : List (List ℕ)) → is_parent_below origin name ≡ false → list_any (is_zone_cut origin records) (names_above name) ≡ false
-no_cut_above records origin [] h = refl
-no_cut_above records origin (l ∷ []) h = refl
-no_cut_above records origin (l ∷ n ∷ o) h =
-    λ i. (h i && has_type_at Rtype.ns (n ∷ o) records) || no_cut_above records origin (n ∷ o) (parent_off origin (n ∷ o) h) i
+no_cut_above records origin name h = none_above (λ n. has_type_at Rtype.ns n records) origin name h
+
+pub no_cut_in_above : {N O : Type 0} (records : List (Record N O)) (refused : List RrsetName) (origin name : List (List ℕ)) → is_parent_below origin name ≡ false
+    → list_any (is_cut_in origin records refused) (names_above name) ≡ false
+no_cut_in_above records refused origin name h = none_above (λ n. is_present Rtype.ns n records refused) origin name h
 
 -- the first of two tests decides
 pub first_true : (b c whole r : Bool) → whole ≡ (b || c) → r ≡ b → r ≡ true → r ≡ whole

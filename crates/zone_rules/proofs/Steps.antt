@@ -1,5 +1,5 @@
 -- The loops that collect findings.
-use Rattle.std.proofs.Common.{ℕ, zero, suc, ◌≡◌, ◌+◌, ◌<◌, List, [], ◌∷◌, ◌++◌, length, take, get_or, sym, ap, ◌∙◌, arith, append_assoc}
+use Rattle.std.proofs.Common.{ℕ, zero, suc, ◌≡◌, ◌+◌, ◌-◌, ◌<◌, ◌≤◌, List, [], ◌∷◌, ◌++◌, length, take, get_or, sym, ap, ◌∙◌, arith, append_assoc}
 use Rattle.std.specs.List.{flat_map, range_with_len}
 use Rattle.std.proofs.lemmas.List.{append-nil, take_more}
 use Rattle.std.proofs.lemmas.Grind.{flat_map-append}
@@ -33,3 +33,15 @@ pub zone_more : {A : Type 0} (f : ℕ → List A) (i : ℕ) (first old now : Lis
     → now ≡ first ++ flat_map f (range_with_len 0 (i + 1))
 zone_more f i first old now h e =
     e ∙ ap (λ l. l ++ f i) h ∙ append_assoc first (flat_map f (range_with_len 0 i)) (f i) ∙ ap (λ l. first ++ l) (sym (range_more f i))
+
+-- one round of the loop over the records from an index on
+pub part_more : {A : Type 0} (f : ℕ → List A) (first i : ℕ) (before old now : List A) → first ≤ i → old ≡ before ++ flat_map f (range_with_len first (i - first)) → now ≡ old ++ f i
+    → now ≡ before ++ flat_map f (range_with_len first (i + 1 - first))
+part_more f first i before old now low h e =
+    let n = i - first in
+    let more : i + 1 - first ≡ suc n = omega (arith, low) in
+    let at : first + n ≡ i = omega (arith, low) in
+    e ∙ ap (λ l. l ++ f i) h ∙ append_assoc before (flat_map f (range_with_len first n)) (f i)
+    ∙ ap (λ l. before ++ l)
+    (ap (λ j. flat_map f (range_with_len first n) ++ f j) (sym at) ∙ sym (flat_map_one f (range_with_len first n) (first + n)) ∙ ap (flat_map f) (sym (counting_next first n))
+    ∙ ap (λ m. flat_map f (range_with_len first m)) (sym more))

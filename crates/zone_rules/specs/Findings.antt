@@ -1,5 +1,5 @@
 -- The findings of a zone.
-use Rattle.std.specs.Prelude.{ℕ, ◌≡◌, ◌<◌, ◌↔◌, IsTrue, not, if◌then◌else◌, Bool, false, Option, Some, None, List, [], ◌∷◌, ◌++◌, length, slice_get, Vec}
+use Rattle.std.specs.Prelude.{ℕ, ◌≡◌, ◌<◌, ◌-◌, ◌↔◌, IsTrue, not, if◌then◌else◌, Bool, false, Option, Some, None, List, [], ◌∷◌, ◌++◌, length, slice_get, Vec}
 use Rattle.std.specs.List.{Contains, flat_map, range_with_len}
 use Rattle.std.specs.Option.{option_map_or}
 use Rattle.rdata_values.specs.Rtype as Rtype
@@ -45,6 +45,10 @@ found_in_zone origin records refused = found_at_apex origin records refused ++ f
 -- a vector has exactly these findings, in this order
 abbrev pub HasZoneFindings : {N O A : Type 0} → List (List ℕ) → List (Record N O) → List RrsetName → Vec Finding A → Type 0
 HasZoneFindings origin records refused found = found.items ≡ found_in_zone origin records refused
+
+-- it has those of the records from one index up to another after those that it had
+abbrev pub HasPartFindings : {N O A : Type 0} → List (List ℕ) → List (Record N O) → List RrsetName → ℕ → ℕ → (old new : Vec Finding A) → Type 0
+HasPartFindings origin records refused first past old new = new.items ≡ old.items ++ flat_map (found_at origin records refused) (range_with_len first (past - first))
 
 -- a finding names the record at an index and a rule for records if and only if the record breaks the rule
 abbrev pub ReportsBrokenRules : {N O : Type 0} → List (List ℕ) → List (Record N O) → List RrsetName → List Finding → Type 0

@@ -63,6 +63,10 @@ pub record AreOwnedFrom {N O : Type 0} (name : List (List ℕ)) (records : List 
   pub owned : AllWithin (λ r. same_name r.owner name ≡ true) records first past
   pub after : AllWithin (λ r. same_name r.owner name ≡ false) records past (length records)
 
+-- the same, of the owner of the record at an index
+abbrev pub AreOwnedAt : {N O : Type 0} → List (Record N O) → ℕ → ℕ → ℕ → Type 0
+AreOwnedAt {N} {O} records place first past = (r : Record N O) → slice_get records place ≡ Some r → AreOwnedFrom r.owner records first past
+
 -- the item before an index
 abbrev pub before_place : {X : Type 0} → List X → ℕ → Option X
 before_place items place = if place == 0 then None else slice_get items (place - 1)

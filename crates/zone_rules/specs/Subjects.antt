@@ -7,7 +7,7 @@ use Rattle.zone_record.specs.declared.record.Record.{Record}
 use Rattle.zone_rules.specs.Above.{is_below, is_within, parent_of}
 use Rattle.zone_rules.specs.Findings.{breaks_at}
 use Rattle.zone_rules.specs.Present.{is_present}
-use Rattle.zone_rules.specs.Rules.{alias_at, breaks, is_beside_alias, is_digest_beside, is_record_at_apex, is_server_beside, is_spf_beside, lacks_glue, lacks_ns_address, names_alias, names_missing, names_renamed}
+use Rattle.zone_rules.specs.Rules.{alias_at, breaks, is_beside_alias, is_digest_beside, is_record_at_apex, is_server_beside, leads_to, is_spf_beside, lacks_glue, lacks_ns_address, names_alias, names_missing, names_renamed}
 use Rattle.zone_rules.specs.Zones.{as_listed, record_before, type_of}
 use Rattle.zone_rules.specs.declared.beside.Relation.{Relation}
 use Rattle.zone_rules.specs.declared.beside.Relation.TheVariants.{Alias, Spf, Digest, Server}
@@ -46,9 +46,17 @@ is_parent_below origin name = option_map_or (λ above. is_below above origin) (p
 abbrev pub is_alias_in : {N O : Type 0} → List (Record N O) → ℕ → Bool
 is_alias_in records place = option_map_or (λ r. type_of r == Rtype.cname) (slice_get records place) false
 
+-- a record is the one at an index
+abbrev pub IsRecordAt : {N O M P : Type 0} → List (Record N O) → ℕ → Record M P → Type 0
+IsRecordAt records place r = Some r ≡ option_map as_listed (slice_get records place)
+
 -- the index, if there is one, of the first CNAME at a name
 abbrev pub IsFirstAlias : {N O : Type 0} → List (List ℕ) → List (Record N O) → Option ℕ → Type 0
 IsFirstAlias name records place = option_and_then (slice_get records) place ≡ alias_at name records
+
+-- whether CNAMEs lead to a name from any whose first CNAME is at an index, if there is one
+abbrev pub IsLedFrom : {N O : Type 0} → ℕ → List (Record N O) → List (List ℕ) → Option ℕ → Bool → Type 0
+IsLedFrom count records goal place led = (name : List (List ℕ)) → IsFirstAlias name records place → led ≡ leads_to count records goal name
 
 -- a relation of a record to another one
 abbrev pub relates : {N O M P : Type 0} → Relation → Record M P → Record N O → Bool
@@ -74,10 +82,6 @@ pub record IsSubject {N O : Type 0} (origin : List (List ℕ)) (records : List (
   pub found : Some s.found ≡ option_map as_listed (slice_get records s.place)
   pub before : s.before ≡ option_map as_listed (record_before records s.place)
   pub faults : AreHostFaults origin records refused s.found s.faults
-
--- the faults of a subject are those of its record
-abbrev pub HasItsFaults : {N O : Type 0} → List (List ℕ) → List (Record N O) → List RrsetName → Subject → Type 0
-HasItsFaults origin records refused s = AreHostFaults origin records refused s.found s.faults
 
 -- the record of a subject breaks a rule
 abbrev pub breaks_by : {N O : Type 0} → Rule → List (List ℕ) → List (Record N O) → List RrsetName → Subject → Bool

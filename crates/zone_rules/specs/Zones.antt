@@ -66,6 +66,10 @@ pub record IsSortedWith {N O : Type 0} (records : List (Record N O)) (has_dname 
   pub wildcard : has_wildcard ≡ list_any (λ r. is_wildcard r.owner) records
   pub one_class : in_one_class ≡ is_one_class records
 
+-- the records at two indexes have the same owner, in the same letters
+abbrev pub HaveOneOwner : {N O : Type 0} → List (Record N O) → ℕ → ℕ → Type 0
+HaveOneOwner records left right = option_map (λ r. r.owner) (slice_get records left) ≡ option_map (λ r. r.owner) (slice_get records right)
+
 -- the record before an index
 abbrev pub record_before : {N O : Type 0} → List (Record N O) → ℕ → Option (Record N O)
 record_before records place = if place == 0 then None else slice_get records (place - 1)

@@ -2,8 +2,9 @@
 ghost use Rattle.std.specs.Prelude.{◌≡◌, ◌<◌, IfSome, Some, length};
 ghost use Rattle.rdata_values.specs.Rtype as Rtype;
 ghost use Rattle.zone_rules.specs.HostNames.{name_in};
-ghost use Rattle.zone_rules.specs.Rules.{alias_target, is_alias_loop, lacks_records, leads_to, names_nothing};
-ghost use Rattle.zone_rules.specs.Subjects.{is_alias_in, IsFirstAlias};
+ghost use Rattle.zone_rules.specs.Rules.{alias_target, is_alias_loop, lacks_records, names_nothing};
+ghost use Rattle.zone_rules.specs.Searches.{AreOwnedFrom};
+ghost use Rattle.zone_rules.specs.Subjects.{is_alias_in, IsFirstAlias, IsLedFrom, IsRecordAt};
 ghost use Rattle.zone_rules.specs.Zones.{type_of};
 
 use crate::host_names::name_part;
@@ -81,18 +82,21 @@ fn is_alias_at<Z: ZoneRecords>(records: &Z, place: usize) -> bool
     requires { place < length (Z.contents records.now) }
     ensures { result ≡ is_alias_in (Z.contents records.now) place }
 {
-    let mut owner = OwnerBuffer::new();
-    let record = records.record(place, &mut owner);
-    record.data.rtype() == RecordType::CNAME
+    records.type_at(place) == RecordType::CNAME
 }
 
-/// Returns the index of the first CNAME at a name.
+/// Returns the index of the first CNAME at a name, whose records are from one index up to another.
 #[tactic(auto, using(crate::proofs::CnameTargets::one_more_other))]
-fn alias_place<Z: ZoneRecords>(records: &Z, name: &Name<&[u8]>) -> Option<usize>
+fn first_alias<Z: ZoneRecords>(
+    records: &Z,
+    _name: &Name<&[u8]>,
+    first: usize,
+    past: usize,
+) -> Option<usize>
+    requires { AreOwnedFrom _name.now (Z.contents records.now) first past }
     ensures bound { IfSome result (λ place. place < length (Z.contents records.now)) }
-    ensures value { IsFirstAlias name.now (Z.contents records.now) result }
+    ensures value { IsFirstAlias _name.now (Z.contents records.now) result }
 {
-    let (first, past) = records.places(name);
     for place in first..past {
         if is_alias_at(records, place) {
             return Some(place);
@@ -101,34 +105,65 @@ fn alias_place<Z: ZoneRecords>(records: &Z, name: &Name<&[u8]>) -> Option<usize>
     None
 }
 
-/// Returns whether CNAMEs lead from a name to another one, up to `count` of them.
+/// Returns the index of the first CNAME at a name.
+fn alias_place<Z: ZoneRecords>(records: &Z, name: &Name<&[u8]>) -> Option<usize>
+    ensures bound { IfSome result (λ place. place < length (Z.contents records.now)) }
+    ensures value { IsFirstAlias name.now (Z.contents records.now) result }
+{
+    let (first, past) = records.places(name);
+    first_alias(records, name, first, past)
+}
+
+/// Returns the index of the first CNAME at the owner of the record at an index.
+fn own_alias_place<Z: ZoneRecords>(
+    records: &Z,
+    place: usize,
+    record: &ZoneRecord<'_>,
+) -> Option<usize>
+    requires { IsRecordAt (Z.contents records.now) place «record».now }
+    ensures bound { IfSome result (λ place. place < length (Z.contents records.now)) }
+    ensures value { IsFirstAlias «record».now.owner (Z.contents records.now) result }
+{
+    let (first, past) = records.places_at(place);
+    first_alias(records, &record.owner, first, past)
+}
+
+/// Returns whether CNAMEs lead from a name to another one, up to `count` of them. `from` is the index
+/// of the first CNAME at the first name.
 fn is_led_to<Z: ZoneRecords>(
     records: &Z,
     goal: &Name<&[u8]>,
-    name: &Name<&[u8]>,
+    from: Option<usize>,
     count: usize,
 ) -> bool
-    ensures { result ≡ leads_to count (Z.contents records.now) goal.now name.now }
+    requires { IfSome from (λ place. place < length (Z.contents records.now)) }
+    ensures { IsLedFrom count (Z.contents records.now) goal.now from result }
 {
     if count == 0 {
         return false;
     }
-    let Some(place) = alias_place(records, name) else {
+    let Some(place) = from else {
         return false;
     };
     let mut owner = OwnerBuffer::new();
     let record = records.record(place, &mut owner);
     match alias_target(&record) {
-        Some(next) => is_same(&next, goal) || is_led_to(records, goal, &next, count - 1),
+        Some(next) => {
+            is_same(&next, goal) || is_led_to(records, goal, alias_place(records, &next), count - 1)
+        }
         None => false,
     }
 }
 
 /// Returns whether a record is a CNAME, and CNAMEs lead back to its owner.
-pub(crate) fn is_loop<Z: ZoneRecords>(records: &Z, record: &ZoneRecord<'_>) -> bool
+pub(crate) fn is_loop<Z: ZoneRecords>(records: &Z, place: usize, record: &ZoneRecord<'_>) -> bool
+    requires { IsRecordAt (Z.contents records.now) place «record».now }
     ensures { result ≡ is_alias_loop (Z.contents records.now) «record».now }
 {
+    if record.data.rtype() != RecordType::CNAME {
+        return false;
+    }
     let goal = view(&record.owner);
-    record.data.rtype() == RecordType::CNAME
-        && is_led_to(records, &goal, &record.owner, MAX_ALIASES)
+    let from = own_alias_place(records, place, record);
+    is_led_to(records, &goal, from, MAX_ALIASES)
 }

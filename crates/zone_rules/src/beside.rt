@@ -2,7 +2,7 @@
 ghost use Rattle.std.specs.Prelude.{◌≡◌, ◌<◌, length};
 ghost use Rattle.std.specs.List.{list_any};
 ghost use Rattle.zone_rules.specs.Rules.{has_spf_before, is_alias_in_company, is_beside_alias, is_digest_beside, is_server_beside, is_lone_server, is_spf_beside, is_weak_digest};
-ghost use Rattle.zone_rules.specs.Subjects.{relates, relates_at};
+ghost use Rattle.zone_rules.specs.Subjects.{relates, relates_at, IsRecordAt};
 
 use crate::hosts::names_server;
 use crate::keys::{is_of_same_key, is_of_sha1};
@@ -91,14 +91,20 @@ fn is_related_at<Z: ZoneRecords>(
     is_related(relation, record, &other)
 }
 
-/// Returns whether a record has a relation to another one.
+/// Returns whether the record at an index has a relation to another one.
 #[tactic(auto, using(crate::proofs::Subjects::one_more, crate::proofs::Subjects::none_related))]
-fn has_related<Z: ZoneRecords>(records: &Z, relation: Relation, one: &ZoneRecord<'_>) -> bool
+fn has_related<Z: ZoneRecords>(
+    records: &Z,
+    relation: Relation,
+    place: usize,
+    one: &ZoneRecord<'_>,
+) -> bool
+    requires { IsRecordAt (Z.contents records.now) place one.now }
     ensures { result ≡ list_any (relates relation one.now) (Z.contents records.now) }
 {
-    let (first, past) = records.places(&one.owner);
-    for place in first..past {
-        if is_related_at(records, relation, one, place) {
+    let (first, past) = records.places_at(place);
+    for other in first..past {
+        if is_related_at(records, relation, one, other) {
             return true;
         }
     }
@@ -106,31 +112,43 @@ fn has_related<Z: ZoneRecords>(records: &Z, relation: Relation, one: &ZoneRecord
 }
 
 /// Returns whether a record is an alias, and another one must not have the same owner.
-pub(crate) fn has_company<Z: ZoneRecords>(records: &Z, record: &ZoneRecord<'_>) -> bool
+pub(crate) fn has_company<Z: ZoneRecords>(
+    records: &Z,
+    place: usize,
+    record: &ZoneRecord<'_>,
+) -> bool
+    requires { IsRecordAt (Z.contents records.now) place «record».now }
     ensures { result ≡ is_alias_in_company (Z.contents records.now) «record».now }
 {
-    record.data.rtype() == RecordType::CNAME && has_related(records, Relation::Alias, record)
+    record.data.rtype() == RecordType::CNAME && has_related(records, Relation::Alias, place, record)
 }
 
 /// Returns whether a record has an SPF record, and so has an earlier one at its owner.
-pub(crate) fn is_second_spf<Z: ZoneRecords>(records: &Z, record: &ZoneRecord<'_>) -> bool
+pub(crate) fn is_second_spf<Z: ZoneRecords>(
+    records: &Z,
+    place: usize,
+    record: &ZoneRecord<'_>,
+) -> bool
+    requires { IsRecordAt (Z.contents records.now) place «record».now }
     ensures { result ≡ has_spf_before (Z.contents records.now) «record».now }
 {
-    is_spf(record) && has_related(records, Relation::Spf, record)
+    is_spf(record) && has_related(records, Relation::Spf, place, record)
 }
 
 /// Returns whether a record is a DS with SHA-1, and its key has no other digest.
 pub(crate) fn is_weak_ds<Z: ZoneRecords>(
     records: &Z,
     refused: &SortedSets<'_>,
+    place: usize,
     record: &ZoneRecord<'_>,
 ) -> bool
+    requires { IsRecordAt (Z.contents records.now) place «record».now }
     ensures { result ≡ is_weak_digest (Z.contents records.now) refused.now «record».now }
 {
     record.data.rtype() == RecordType::DS
         && is_of_sha1(record)
         && !lists_set(refused, &record.owner, RecordType::DS)
-        && !has_related(records, Relation::Digest, record)
+        && !has_related(records, Relation::Digest, place, record)
 }
 
 /// Returns whether a record is the only NS of the apex, and its host may be a server.
@@ -138,8 +156,10 @@ pub(crate) fn is_lone_server<Z: ZoneRecords>(
     origin: &Name<&[u8]>,
     records: &Z,
     refused: &SortedSets<'_>,
+    place: usize,
     record: &ZoneRecord<'_>,
 ) -> bool
+    requires { IsRecordAt (Z.contents records.now) place «record».now }
     ensures { result ≡ is_lone_server origin.now (Z.contents records.now) refused.now «record».now }
 {
     if record.data.rtype() != RecordType::NS {
@@ -149,5 +169,5 @@ pub(crate) fn is_lone_server<Z: ZoneRecords>(
     is_same(owner, origin)
         && names_server(record)
         && !lists_set(refused, owner, RecordType::NS)
-        && !has_related(records, Relation::Server, record)
+        && !has_related(records, Relation::Server, place, record)
 }

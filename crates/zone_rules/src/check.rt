@@ -1,9 +1,9 @@
 //! Checks a zone against the rules.
-ghost use Rattle.std.specs.Prelude.{◌≡◌, ◌<◌, ◌++◌, OnOk, IfOk, length};
+ghost use Rattle.std.specs.Prelude.{◌≡◌, ◌<◌, ◌≤◌, ◌++◌, OnOk, IfOk, length};
 ghost use Rattle.std.specs.List.{flat_map};
 ghost use Rattle.std.specs.Option.{option_map};
-ghost use Rattle.zone_rules.specs.Findings.{found_at, found_at_apex, found_if, found_in_zone, found_of, HasZoneFindings};
-ghost use Rattle.zone_rules.specs.Subjects.{breaks_by, is_broken, HasItsFaults, IsSubject};
+ghost use Rattle.zone_rules.specs.Findings.{found_at, found_at_apex, found_if, found_in_zone, found_of, HasZoneFindings, HasPartFindings};
+ghost use Rattle.zone_rules.specs.Subjects.{breaks_by, is_broken, IsSubject};
 ghost use Rattle.zone_rules.specs.Zones.{as_listed, record_before};
 
 use crate::aliases::{is_loop, is_target_missing};
@@ -69,9 +69,10 @@ fn breaks_rule<Z: ZoneRecords>(
     refused: &SortedSets<'_>,
     subject: &Subject<'_>,
 ) -> bool
-    requires { HasItsFaults origin.now (Z.contents records.now) refused.now subject.now }
+    requires { IsSubject origin.now (Z.contents records.now) refused.now subject.now }
     ensures { result ≡ breaks_by rule origin.now (Z.contents records.now) refused.now subject.now }
 {
+    let place = subject.place;
     let before = &subject.before;
     let record = &subject.found;
     let faults = &subject.faults;
@@ -80,13 +81,13 @@ fn breaks_rule<Z: ZoneRecords>(
         Rule::Outside => is_outside_zone(origin, record),
         Rule::TwoSoas => is_second(RecordType::SOA, before, record),
         Rule::NsAddress => faults.lacks_address,
-        Rule::Cname => has_company(records, record),
+        Rule::Cname => has_company(records, place, record),
         Rule::TwoDnames => is_second(RecordType::DNAME, before, record),
         Rule::BelowDname => is_under_dname(records, record),
         Rule::DsAtApex => is_apex_record(RecordType::DS, origin, record),
         Rule::WildcardNs => is_ns_at_wildcard(record),
         Rule::SoaNotApex => is_soa_elsewhere(origin, record),
-        Rule::NsBesideDname => is_dname_at_delegation(origin, records, record),
+        Rule::NsBesideDname => is_dname_at_delegation(origin, records, place, record),
         Rule::Nsec3Owner => is_nsec3_without_hash(record),
         Rule::MissingGlue => faults.lacks_glue,
         Rule::HostIsAlias => faults.is_alias,
@@ -94,15 +95,15 @@ fn breaks_rule<Z: ZoneRecords>(
         Rule::HostMissing => faults.is_missing,
         Rule::HostName => is_no_host_name(record),
         Rule::CdsWithoutKey => is_without_key(origin, records, refused, record),
-        Rule::DsWithoutNs => is_ds_without_ns(origin, records, refused, record),
-        Rule::NotAtApex => is_not_at_apex(origin, records, refused, record),
+        Rule::DsWithoutNs => is_ds_without_ns(origin, records, refused, place, record),
+        Rule::NotAtApex => is_not_at_apex(origin, records, refused, place, record),
         Rule::KeyProtocol => is_of_other_protocol(record),
         Rule::KeyAlgorithm => is_without_algorithm(record),
         Rule::CnameTargetMissing => is_target_missing(origin, records, refused, record),
-        Rule::CnameLoop => is_loop(records, record),
-        Rule::TwoSpf => is_second_spf(records, record),
-        Rule::WeakDigest => is_weak_ds(records, refused, record),
-        Rule::SingleNs => is_lone_server(origin, records, refused, record),
+        Rule::CnameLoop => is_loop(records, place, record),
+        Rule::TwoSpf => is_second_spf(records, place, record),
+        Rule::WeakDigest => is_weak_ds(records, refused, place, record),
+        Rule::SingleNs => is_lone_server(origin, records, refused, place, record),
         Rule::TtlDiffers => has_other_ttl(before, record),
         Rule::Duplicate => is_duplicate(before, record),
     }
@@ -222,13 +223,54 @@ fn add_lacking<Z: ZoneRecords, A: Allocator>(
     )
 }
 
+/// Appends the findings of what is missing at the apex of the zone with this origin and these records:
+/// an SOA, or an NS. RRsets with a rejected entry are not missing.
+///
+/// Fails if memory for the findings is out.
+pub fn find_lacking<Z: ZoneRecords, Origin: AsOctets, A: Allocator>(
+    origin: &Name<Origin>,
+    records: &Z,
+    refused: &SortedSets<'_>,
+    found: &mut Vec<Finding, A>,
+) -> Result<(), AllocError>
+    ensures { OnOk result (found.new.items
+        ≡ found.old.items ++ found_at_apex origin.now (Z.contents records.now) refused.now) }
+{
+    add_lacking(&view(origin), records, refused, found)
+}
+
+/// Appends the findings of the records from one index up to another, of the zone with this origin and
+/// these records: the rules that each breaks, record by record. So the findings of a large zone need not
+/// be held at once.
+///
+/// Fails if memory for the findings is out.
+#[tactic(auto, using(crate::proofs::Steps::part_more))]
+pub fn find_broken<Z: ZoneRecords, Origin: AsOctets, A: Allocator>(
+    origin: &Name<Origin>,
+    records: &Z,
+    refused: &SortedSets<'_>,
+    first: usize,
+    past: usize,
+    found: &mut Vec<Finding, A>,
+) -> Result<(), AllocError>
+    requires order { first ≤ past }
+    requires within { past ≤ length (Z.contents records.now) }
+    ensures { OnOk result (HasPartFindings origin.now (Z.contents records.now) refused.now
+        first past found.old found.new) }
+{
+    let apex = view(origin);
+    for place in first..past {
+        add_broken(&apex, records, refused, place, found)?;
+    }
+    Ok(())
+}
+
 /// Returns the findings of the zone with this origin and these records: first what is missing at
 /// its apex, and then the rules that each record breaks, record by record. The class of records
 /// matters only for RRsets and hosts. RRsets with a rejected entry are in the zone, though their
 /// data is unknown: they are not reported as missing.
 ///
 /// Fails if memory for the findings is out.
-#[tactic(auto, using(crate::proofs::Steps::zone_more))]
 pub fn check_zone<Z: ZoneRecords, Origin: AsOctets, A: Allocator>(
     alloc: A,
     origin: &Name<Origin>,
@@ -237,11 +279,8 @@ pub fn check_zone<Z: ZoneRecords, Origin: AsOctets, A: Allocator>(
 ) -> Result<Vec<Finding, A>, AllocError>
     ensures { IfOk result (HasZoneFindings origin.now (Z.contents records.now) refused.now) }
 {
-    let apex = view(origin);
     let mut found = Vec::new(alloc);
-    add_lacking(&apex, records, refused, &mut found)?;
-    for place in 0..records.len() {
-        add_broken(&apex, records, refused, place, &mut found)?;
-    }
+    find_lacking(origin, records, refused, &mut found)?;
+    find_broken(origin, records, refused, 0, records.len(), &mut found)?;
     Ok(found)
 }

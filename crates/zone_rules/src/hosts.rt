@@ -6,14 +6,15 @@ ghost use Rattle.rdata_tokens.specs.NameSpelling.{IsWireName};
 ghost use Rattle.zone_rules.specs.Above.{is_within};
 ghost use Rattle.zone_rules.specs.Present.{has_address_in, is_listed, is_own, is_present, is_renamed};
 ghost use Rattle.zone_rules.specs.Rules.{dname_above_host, is_alias, is_below_own_dname, is_below_zone_cut, is_dname_at_cut, is_missing, is_serverless, is_zone_cut, lacks_address, names_server};
-ghost use Rattle.zone_rules.specs.Subjects.{has_a_in, has_aaaa_in, has_cname_in, is_apex_server, is_parent_below, is_server_above, wants_host, AreHostFaults};
+ghost use Rattle.zone_rules.specs.Subjects.{has_a_in, has_aaaa_in, has_cname_in, is_apex_server, is_server_above, wants_host, AreHostFaults, IsRecordAt};
 ghost use Rattle.zone_rules.specs.Zones.{but_root, host_field, host_octets, host_of};
 
 use crate::host_names::name_part;
 use crate::names::{is_name_below, is_name_within, name_of, parent};
 use crate::owners::{has_dname_above, is_apex_record};
 use crate::present::{
-    dname_above, gets_address, gets_by_wildcard, is_delegated_name, is_under_refused_dname,
+    dname_above, gets_address, gets_by_wildcard, has_own_type, is_delegated_name, is_parent_below,
+    is_under_refused_dname,
 };
 use crate::refused::{SortedSets, lists_set};
 use crate::subject::HostFaults;
@@ -117,21 +118,15 @@ pub fn is_cut<Z: ZoneRecords>(origin: &Name<&[u8]>, records: &Z, name: &Name<&[u
 pub(crate) fn is_dname_at_delegation<Z: ZoneRecords>(
     origin: &Name<&[u8]>,
     records: &Z,
+    place: usize,
     record: &ZoneRecord<'_>,
 ) -> bool
+    requires { IsRecordAt (Z.contents records.now) place «record».now }
     ensures { result ≡ is_dname_at_cut origin.now (Z.contents records.now) «record».now }
 {
-    record.data.rtype() == RecordType::DNAME && is_cut(origin, records, &record.owner)
-}
-
-/// Returns whether the parent of a name is below the apex.
-fn is_parent_below(name: &Name<&[u8]>, origin: &Name<&[u8]>) -> bool
-    ensures { result ≡ is_parent_below origin.now name.now }
-{
-    match parent(name) {
-        Some(above) => is_name_below(&above, origin),
-        None => false,
-    }
+    record.data.rtype() == RecordType::DNAME
+        && is_name_below(&record.owner, origin)
+        && has_own_type(records, place, record, RecordType::NS)
 }
 
 /// Returns whether an ancestor of a name is a delegation: one that is below the apex.

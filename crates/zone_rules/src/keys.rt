@@ -2,9 +2,10 @@
 ghost use Rattle.std.specs.Prelude.{◌≡◌, ◌==◌, slice_get};
 ghost use Rattle.zone_record.specs.Records.{data_of};
 ghost use Rattle.zone_rules.specs.Rules.{are_of_one_key, has_no_algorithm, has_octet_at, has_other_protocol, have_one_octet, is_apex_type, is_below_its_apex, is_delete_request, is_of_sha1, lacks_key, lacks_ns};
+ghost use Rattle.zone_rules.specs.Subjects.{IsRecordAt};
 
 use crate::names::is_name_below;
-use crate::present::has_set;
+use crate::present::{has_own_set, has_set};
 use crate::refused::SortedSets;
 use crate::zone_records::{ZoneRecord, ZoneRecords};
 use dns_octets::AsOctets;
@@ -44,15 +45,17 @@ pub(crate) fn is_ds_without_ns<Z: ZoneRecords>(
     origin: &Name<&[u8]>,
     records: &Z,
     refused: &SortedSets<'_>,
+    place: usize,
     record: &ZoneRecord<'_>,
 ) -> bool
+    requires { IsRecordAt (Z.contents records.now) place «record».now }
     ensures { result ≡ lacks_ns origin.now (Z.contents records.now) refused.now «record».now }
 {
     if record.data.rtype() != RecordType::DS {
         return false;
     }
-    let owner = &record.owner;
-    is_name_below(owner, origin) && !has_set(records, refused, owner, RecordType::NS)
+    is_name_below(&record.owner, origin)
+        && !has_own_set(records, refused, place, record, RecordType::NS)
 }
 
 /// Returns whether records of a type belong at an apex.
@@ -74,15 +77,17 @@ pub(crate) fn is_not_at_apex<Z: ZoneRecords>(
     origin: &Name<&[u8]>,
     records: &Z,
     refused: &SortedSets<'_>,
+    place: usize,
     one: &ZoneRecord<'_>,
 ) -> bool
+    requires { IsRecordAt (Z.contents records.now) place one.now }
     ensures { result ≡ is_below_its_apex origin.now (Z.contents records.now) refused.now one.now }
 {
     let rtype = one.data.rtype();
-    let owner = &one.owner;
     (is_for_apex(rtype)
-        || (rtype == RecordType::DNSKEY && !has_set(records, refused, owner, RecordType::NS)))
-        && is_name_below(owner, origin)
+        || (rtype == RecordType::DNSKEY
+            && !has_own_set(records, refused, place, one, RecordType::NS)))
+        && is_name_below(&one.owner, origin)
 }
 
 /// Returns the octet at an offset of a record's data.

@@ -21,7 +21,7 @@ mod spf;
 pub mod subject;
 pub mod zone_records;
 
-pub use check::check_zone;
+pub use check::{check_zone, find_broken, find_lacking};
 pub use refused::{RrsetName, SortedSets};
 pub use rule::{Finding, Rule};
 pub use sorted::SortedRecords;

@@ -60,7 +60,7 @@ pub(crate) fn are_equal<Owner: AsOctets, Octets: AsOctets>(
 ) -> bool
     ensures { result ≡ is_equal_record left.now right.now }
 {
-    left.compare(right).is_eq()
+    left.data.rtype() == right.data.rtype() && left.compare(right).is_eq()
 }
 
 /// Returns whether a record comes before another one in canonical order.
@@ -80,10 +80,10 @@ pub fn are_one_set<Owner: AsOctets, Octets: AsOctets>(
 ) -> bool
     ensures { result ≡ is_one_set left.now right.now }
 {
-    have_one_owner(left, right)
-        && left.class == right.class
+    left.class == right.class
         && left.data.rtype() == right.data.rtype()
         && set_type_of(left) == set_type_of(right)
+        && have_one_owner(left, right)
 }
 
 /// Returns whether a record and the one before it have a type and the same owner, and differ.

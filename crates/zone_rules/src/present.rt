@@ -4,15 +4,19 @@ ghost use Rattle.rdata_values.specs.Rtype as Rtype;
 ghost use Rattle.dns_wire.specs.Wire.{wire_length};
 ghost use Rattle.zone_rules.specs.Present.{closest_dname, has_any_address, yields_records, has_address_in, has_records, has_synthesized, closest_present, is_below_cut_in, is_cut_in, is_delegated_in, is_listed_within, is_present, is_synthesized, lists_dname_above, wildcard_has, NothingIsSynthesized};
 ghost use Rattle.zone_rules.specs.Searches.{closest_above_some};
-ghost use Rattle.zone_rules.specs.Zones.{has_owner};
+ghost use Rattle.zone_rules.specs.Subjects.{is_parent_below, IsRecordAt};
+ghost use Rattle.zone_rules.specs.Zones.{has_owner, has_type_at};
 
-use crate::names::{is_name_below, name_of, octets_of};
+use crate::names::{is_name_below, name_of, octets_of, parent};
 use crate::refused::{SortedSets, lists_set};
 use crate::search::longer;
-use crate::zone_records::ZoneRecords;
+use crate::zone_records::{ZoneRecord, ZoneRecords};
 use arrayvec::ArrayVec;
 use dns_wire::Name;
 use rdata_values::RecordType;
+
+/// Greatest number of records of one owner that are looked at one after another.
+const FEW: usize = 8;
 
 /// Returns whether the zone has an RRset of a type at a name.
 pub(crate) fn has_set<Z: ZoneRecords>(
@@ -180,6 +184,52 @@ pub(crate) fn gets_records<Z: ZoneRecords>(
     has_records(records, refused, name) || gets_records_by_wildcard(records, refused, name)
 }
 
+/// Returns whether the owner of the record at an index has a record of a type.
+pub(crate) fn has_own_type<Z: ZoneRecords>(
+    records: &Z,
+    place: usize,
+    record: &ZoneRecord<'_>,
+    rtype: RecordType,
+) -> bool
+    requires { IsRecordAt (Z.contents records.now) place «record».now }
+    ensures { result ≡ has_type_at rtype «record».now.owner (Z.contents records.now) }
+{
+    let (first, past) = records.places_at(place);
+    if past.saturating_sub(first) > FEW {
+        return records.has_type(&record.owner, rtype);
+    }
+    for other in first..past {
+        if records.type_at(other) == rtype {
+            return true;
+        }
+    }
+    false
+}
+
+/// Returns whether the zone has an RRset of a type at the owner of the record at an index.
+pub(crate) fn has_own_set<Z: ZoneRecords>(
+    records: &Z,
+    refused: &SortedSets<'_>,
+    place: usize,
+    record: &ZoneRecord<'_>,
+    rtype: RecordType,
+) -> bool
+    requires { IsRecordAt (Z.contents records.now) place «record».now }
+    ensures { result ≡ is_present rtype «record».now.owner (Z.contents records.now) refused.now }
+{
+    has_own_type(records, place, record, rtype) || lists_set(refused, &record.owner, rtype)
+}
+
+/// Returns whether the parent of a name is below the apex.
+pub(crate) fn is_parent_below(name: &Name<&[u8]>, origin: &Name<&[u8]>) -> bool
+    ensures { result ≡ is_parent_below origin.now name.now }
+{
+    match parent(name) {
+        Some(above) => is_name_below(&above, origin),
+        None => false,
+    }
+}
+
 /// Returns whether a name is a delegation.
 fn is_cut_name<Z: ZoneRecords>(
     origin: &Name<&[u8]>,
@@ -204,7 +254,7 @@ fn owner_above<'a, Z: ZoneRecords>(
     longer(records.closest_before(name), refused.closest_before(name))
 }
 
-/// Returns whether an ancestor of a name is a delegation.
+/// Returns whether an ancestor of a name is a delegation: one that is below the apex.
 #[tactic(auto, using(crate::proofs::Neighbours::cuts_none, crate::proofs::Neighbours::found_fewer))]
 fn is_below_cut<Z: ZoneRecords>(
     origin: &Name<&[u8]>,
@@ -214,6 +264,9 @@ fn is_below_cut<Z: ZoneRecords>(
 ) -> bool
     ensures { result ≡ is_below_cut_in origin.now (Z.contents records.now) refused.now name.now }
 {
+    if !is_parent_below(name, origin) {
+        return false;
+    }
     match owner_above(records, refused, name) {
         Some(above) => {
             is_cut_name(origin, records, refused, &above)

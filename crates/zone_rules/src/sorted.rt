@@ -1,15 +1,15 @@
 //! Records of a zone in canonical order, and lookups by owner and type.
-ghost use Rattle.std.specs.Prelude.{◌≡◌, ◌<◌, ◌≤◌, ◌↔◌, ◌==◌, IfSome, IsSome, Some, filter, length, slice_get};
+ghost use Rattle.std.specs.Prelude.{◌≡◌, ◌<◌, ◌≤◌, ◌↔◌, ◌==◌, IfSome, IsSome, IsTrue, Some, filter, length, slice_get};
 ghost use Rattle.std.specs.List.{list_all};
 ghost use Rattle.std.specs.List.Sorted.{IsPartitionedBy};
 ghost use Rattle.std.specs.Option.{option_map};
 ghost use Rattle.std.specs.Ordering.{is_le};
 ghost use Rattle.dns_wire.specs.Order.{same_name};
 ghost use Rattle.zone_record.specs.Names.{name_order};
-ghost use Rattle.zone_rules.specs.Searches.{AreOwnedFrom, PartsUpTo};
-ghost use Rattle.zone_rules.specs.Zones.{AreInOrder, as_listed, has_type_at, is_one_class};
+ghost use Rattle.zone_rules.specs.Searches.{AreOwnedAt, AreOwnedFrom, PartsUpTo};
+ghost use Rattle.zone_rules.specs.Zones.{as_listed, has_type_at, is_one_class, type_of, AreInOrder, HaveOneOwner};
 
-use crate::names::{is_wildcard_name, order_of, view};
+use crate::names::{is_wildcard_name, octets_of, order_of, view};
 use crate::refused::RrsetName;
 use crate::search::{OfRrset, closest, closest_before, finds};
 use crate::zone_records::{HostTypes, OwnerBuffer, ZoneRecord, ZoneRecords, borrowed_record};
@@ -167,6 +167,18 @@ fn places_of<Owner: AsOctets, Octets: AsOctets>(
     (first, first + count)
 }
 
+/// Returns the index of the first record that has the owner of the record at an index, ignoring letter
+/// case, and the index after the last one.
+fn places_at<Owner: AsOctets, Octets: AsOctets>(
+    records: &SortedRecords<'_, Owner, Octets>,
+    place: usize,
+) -> (usize, usize)
+    requires { place < length records.now }
+    ensures { AreOwnedAt records.now place result.0 result.1 }
+{
+    places_of(records, &view(&records.as_slice()[place].owner))
+}
+
 /// Returns whether a name has a record of a type.
 ///
 /// Makes one binary search. If records are of several classes, it scans those of the owner.
@@ -196,6 +208,44 @@ fn record_at<Owner: AsOctets, Octets: AsOctets>(
     borrowed_record(&records[place])
 }
 
+/// Returns the type of the record at an index.
+fn type_at<Owner: AsOctets, Octets: AsOctets>(
+    records: &[Record<Owner, Octets>],
+    place: usize,
+) -> RecordType
+    requires { place < length records.now }
+    ensures { Some result ≡ option_map type_of (slice_get records.now place) }
+{
+    records[place].data.rtype()
+}
+
+/// Returns whether octets are equal.
+fn are_equal(left: &[u8], right: &[u8]) -> bool
+    ensures { IsTrue result ↔ left.now ≡ right.now }
+{
+    left == right
+}
+
+/// Returns whether names are equal, in the same letters.
+fn are_equal_names<Octets: AsOctets>(left: &Name<Octets>, right: &Name<Octets>) -> bool
+    ensures { IsTrue result ↔ left.now ≡ right.now }
+{
+    are_equal(octets_of(left), octets_of(right))
+}
+
+/// Returns whether the records at two indexes have the same owner, in the same letters.
+fn have_one_owner<Owner: AsOctets, Octets: AsOctets>(
+    records: &[Record<Owner, Octets>],
+    left: usize,
+    right: usize,
+) -> bool
+    requires left { left < length records.now }
+    requires right { right < length records.now }
+    ensures { IsTrue result ↔ HaveOneOwner records.now left right }
+{
+    are_equal_names(&records[left].owner, &records[right].owner)
+}
+
 impl<'a, Owner: AsOctets, Octets: AsOctets> ZoneRecords for SortedRecords<'a, Owner, Octets> {
     type OwnerOctets = Owner;
 
@@ -209,6 +259,18 @@ impl<'a, Owner: AsOctets, Octets: AsOctets> ZoneRecords for SortedRecords<'a, Ow
 
     fn record<'b>(&'b self, place: usize, _owner: &'b mut OwnerBuffer) -> ZoneRecord<'b> {
         record_at(self.records, place)
+    }
+
+    fn type_at(&self, place: usize) -> RecordType {
+        type_at(self.records, place)
+    }
+
+    fn have_one_owner(&self, left: usize, right: usize) -> bool {
+        have_one_owner(self.records, left, right)
+    }
+
+    fn places_at(&self, place: usize) -> (usize, usize) {
+        places_at(self, place)
     }
 
     fn places(&self, name: &Name<&[u8]>) -> (usize, usize) {

@@ -27,15 +27,15 @@ pub struct HostTypes {
 /// The records of a zone in canonical order (RFC 4034 section 6), and lookups among them. The
 /// letter case of owners is without meaning: a zone may hold them in lower case.
 pub trait ZoneRecords {
-    ghost use Rattle.std.specs.Prelude.{◌≡◌, ◌<◌, List, Some, length, slice_get};
+    ghost use Rattle.std.specs.Prelude.{◌≡◌, ◌<◌, ◌↔◌, IsTrue, List, Some, length, slice_get};
     ghost use Rattle.std.specs.List.{list_any};
     ghost use Rattle.std.specs.Option.{option_map};
     ghost use Rattle.rdata_values.specs.Rtype as Rtype;
     ghost use Rattle.zone_record.specs.declared.record.Record.{Record};
     ghost use Rattle.zone_rules.specs.Above.{is_wildcard};
     ghost use Rattle.zone_rules.specs.Present.{rrset_of_record};
-    ghost use Rattle.zone_rules.specs.Searches.{AreOwnedFrom, closest_above_earlier};
-    ghost use Rattle.zone_rules.specs.Zones.{as_listed, closest_owned, has_type_among, has_type_at};
+    ghost use Rattle.zone_rules.specs.Searches.{AreOwnedAt, AreOwnedFrom, closest_above_earlier};
+    ghost use Rattle.zone_rules.specs.Zones.{as_listed, closest_owned, has_type_among, has_type_at, type_of, HaveOneOwner};
 
     /// The type that holds the octets of owners in the list of records.
     type OwnerOctets;
@@ -55,6 +55,24 @@ pub trait ZoneRecords {
     fn record<'b>(&'b self, place: usize, owner: &'b mut OwnerBuffer) -> ZoneRecord<'b>
         requires { place < length (contents self.now) }
         ensures { Some result ≡ option_map as_listed (slice_get (contents self.now) place) };
+
+    /// Returns the type of the record at an index. Writes no owner.
+    fn type_at(&self, place: usize) -> RecordType
+        requires { place < length (contents self.now) }
+        ensures { Some result ≡ option_map type_of (slice_get (contents self.now) place) };
+
+    /// Returns whether the records at two indexes have the same owner, in the same letters. Writes
+    /// no owner.
+    fn have_one_owner(&self, left: usize, right: usize) -> bool
+        requires left { left < length (contents self.now) }
+        requires right { right < length (contents self.now) }
+        ensures { IsTrue result ↔ HaveOneOwner (contents self.now) left right };
+
+    /// Returns the index of the first record that has the owner of the record at an index, ignoring
+    /// letter case, and the index after the last one.
+    fn places_at(&self, place: usize) -> (usize, usize)
+        requires { place < length (contents self.now) }
+        ensures { AreOwnedAt (contents self.now) place result.0 result.1 };
 
     /// Returns the index of the first record whose owner is a name, ignoring letter case, and the
     /// index after the last one. The range between them is empty if there is none. The records

@@ -4,6 +4,7 @@ use Rattle.std.specs.List.{list_any}
 use Rattle.std.specs.Option.{option_map_or}
 use Rattle.std.proofs.lemmas.Bool.{false≢true}
 use Rattle.zone_rules.specs.Subjects.{relates}
+use Rattle.zone_rules.proofs.OwnRecords.{listed_within, owned_by_it}
 use Rattle.zone_rules.proofs.Subjects.{none_related}
 use Rattle.zone_rules.proofs.beside.has_related.Goals as goal
 
@@ -20,11 +21,15 @@ any_found p [] k h = absurd (false≢true h)
 any_found p (x ∷ xs) zero h = or_first (p x) (list_any p xs) h
 any_found p (x ∷ xs) (suc k) h = or_second (p x) (list_any p xs) (any_found p xs k h)
 
+pub places_at-first-requires : goal.places_at-first-requires
+places_at-first-requires g c = listed_within (g.Z.ZoneRecords.contents c.args.records.now) c.args.place c.args.one.now c.requires
+
 pub returns-then-is_related_at : goal.returns-then-is_related_at
 returns-then-is_related_at g c =
-    sym (any_found (relates c.args.relation c.args.one.now) (g.Z.ZoneRecords.contents c.args.records.now) c.loop-place.place (sym c.is_related_at.ensures ∙ c.if-is_related_at.true))
+    sym (any_found (relates c.args.relation c.args.one.now) (g.Z.ZoneRecords.contents c.args.records.now) c.loop-other.other (sym c.is_related_at.ensures ∙ c.if-is_related_at.true))
 
 pub returns : goal.returns
 returns g c =
-    sym (none_related c.args.relation c.args.one.now (g.Z.ZoneRecords.contents c.args.records.now) c.places-first.result.0 c.places-first.result.1 c.places-first.ensures
-    (λ i d low lt. c.loop-place.invariant i d low (omega (arith, lt, c.loop-place-test.false))))
+    sym (none_related c.args.relation c.args.one.now (g.Z.ZoneRecords.contents c.args.records.now) c.places_at-first.result.0 c.places_at-first.result.1
+    (owned_by_it (g.Z.ZoneRecords.contents c.args.records.now) c.args.place c.args.one.now c.requires c.places_at-first.result.0 c.places_at-first.result.1 c.places_at-first.ensures)
+    (λ i d low lt. c.loop-other.invariant i d low (omega (arith, lt, c.loop-other-test.false))))

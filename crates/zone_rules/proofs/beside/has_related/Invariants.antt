@@ -3,5 +3,5 @@ use Rattle.std.specs.List.{AllWithin}
 use Rattle.zone_rules.specs.Subjects.{relates}
 use Rattle.zone_rules.proofs.beside.has_related.Given as goal
 
-abbrev pub invariant-loop-place : goal.invariant-loop-place
-invariant-loop-place g l = AllWithin (λ r. relates l.relation l.one r ≡ false) (g.Z.ZoneRecords.contents l.records) l.first l.place
+abbrev pub invariant-loop-other : goal.invariant-loop-other
+invariant-loop-other g l = AllWithin (λ r. relates l.relation l.one r ≡ false) (g.Z.ZoneRecords.contents l.records) l.first l.other
