@@ -1,6 +1,6 @@
 -- The records of a zone without duplicates, from an index on.
-use Rattle.std.proofs.Common.{ℕ, zero, suc, ◌≡◌, ◌+◌, ◌-◌, ◌<◌, ◌≤◌, Bool, true, false, cond, inl, inr, List, [], ◌∷◌, length, drop, get_or, refl, sym, ap, ◌∙◌, arith, drop_of_length-le}
-use Rattle.std.specs.Prelude.{Some, ◌&&◌, nat_lt, slice_get}
+use Rattle.std.proofs.Common.{ℕ, zero, suc, ◌≡◌, ◌+◌, ◌-◌, ◌<◌, ◌≤◌, Bool, true, false, cond, inl, inr, List, [], ◌∷◌, ◌++◌, length, drop, get_or, refl, sym, ap, ◌∙◌, arith, drop_of_length-le}
+use Rattle.std.specs.Prelude.{Some, ◌&&◌, if◌then◌else◌, nat_lt, slice_get}
 use Rattle.std.specs.Cmp.{IsTotalOrder, Equal-is}
 use Rattle.std.specs.List.{dedup, dedup_from}
 use Rattle.std.specs.List.Sorted.{IsSorted}
@@ -19,7 +19,8 @@ use Rattle.zone_record.specs.Names.{octet_order}
 use Rattle.zone_record.specs.declared.record.Record.{Record}
 use Rattle.zone_record.proofs.KeyNames.{name_read}
 use Rattle.zone_contents.specs.Contents.{contents, listed_record, listing, AreSortedRecords, IsZoneRecord, ZoneValue}
-use Rattle.zone_contents.specs.Steps.{EndsDuplicates, HasDistinct, SkipsDuplicates}
+use Rattle.zone_contents.specs.Digests.{first_at}
+use Rattle.zone_contents.specs.Steps.{distinct_from, EndsDuplicates, HasDistinct, SkipsDuplicates}
 use Rattle.zone_contents.proofs.Listings.{listed_at, listed_get, listed_length, valid_at}
 use Rattle.zone_contents.proofs.ZoneKeys.{keys_in_order}
 use Rattle.zone_contents.proofs.ZoneNames.{owner_is}
@@ -139,6 +140,75 @@ module _ (apex : List (List ℕ)) where
         (λ i d low. tied place i d (omega (arith, low, run.bound)) ∙ run.same (place + 1 + i) (omega arith) (omega (arith, low)))
         (λ d low. tied place n d (omega (arith, low, more, long)) ∙ ap (is_duplicate_at records) (omega (arith, run.from)) ∙ run.ends (omega (arith, low, more, long, run.from)))
         ∙ ap (λ l. first ∷ dedup same_key l) (drop-drop n (place + 1) xs ∙ ap (λ m. drop m xs) (omega (arith, run.from)))
+
+-- ---- the records of a zone, one after another
+
+module _ {X : Type 0} {R : X → X → Ordering} (o : IsTotalOrder R) where
+  -- after the first one the same elements stay, whichever of two that tie it is
+  tail_alike : (k p : X) (ys : List X) → R p k ≡ Equal → drop 1 (dedup_from (eq_by_cmp R) k ys) ≡ drop 1 (dedup_from (eq_by_cmp R) p ys)
+  tail_alike k p [] tie = refl
+  tail_alike k p (y ∷ ys) tie =
+      let E = eq_by_cmp R in
+      ap (λ b. drop 1 (cond b (dedup_from E k ys) (k ∷ dedup_from E y ys))) (ap is_eq (sym (alike_right o p k y tie)))
+      ∙ elim (E y p) as (λ b. drop 1 (cond b (dedup_from E k ys) (k ∷ dedup_from E y ys)) ≡ drop 1 (cond b (dedup_from E p ys) (p ∷ dedup_from E y ys))) [ true ↦ tail_alike k p ys tie | false ↦ refl ]
+
+  -- the element after one stays, unless it ties with it
+  stays : (k p : X) (ys : List X) (b : Bool) → eq_by_cmp R p k ≡ b → drop 1 (cond b (dedup_from (eq_by_cmp R) k ys) (k ∷ dedup_from (eq_by_cmp R) p ys)) ≡ (if b then [] else p ∷ []) ++ drop 1 (dedup_from (eq_by_cmp R) p ys)
+  stays k p ys true h = tail_alike k p ys ((Equal-is (R p k)).0 h)
+  stays k p ys false h = first_kept (eq_by_cmp R) p ys
+
+  turned_test : (k p : X) → eq_by_cmp R k p ≡ eq_by_cmp R p k
+  turned_test k p = ap is_eq (o.antisymm k p) ∙ turned (R p k)
+
+-- the records from an index on, without duplicates of the one before it
+abbrev pub rest_from : ZoneValue → ℕ → List Listed
+rest_from z zero = distinct_from z 0
+rest_from z (suc n) = drop 1 (distinct_from z n)
+
+module _ (apex : List (List ℕ)) (records : List AddedRecord) where
+  abbrev listed : ZoneValue
+  listed = record { apex = apex; records = records }
+
+  abbrev here : ℕ → Listed
+  here k = listed_record apex (record_at records k)
+
+  from : (n : ℕ) → n < length records → drop n (listing apex records) ≡ here n ∷ drop (suc n) (listing apex records)
+  from n lt =
+      let next : n + 1 ≡ suc n = omega arith in
+      drop_more (listing apex records) n (here n) (omega (arith, lt, listed_length apex records)) ∙ ap (λ r. r ∷ drop (n + 1) (listing apex records)) (listed_at apex records n (here n) lt)
+      ∙ ap (λ m. here n ∷ drop m (listing apex records)) next
+
+  gone : (n : ℕ) → length records ≤ n → drop n (listing apex records) ≡ []
+  gone n low = drop_of_length-le (listing apex records) (omega (arith, low, listed_length apex records))
+
+  rest_ends : (n : ℕ) → length records ≤ suc n → drop 1 (distinct_from listed n) ≡ []
+  rest_ends n low =
+      elim (cases_lt n (length records)) [
+        | inl lt ↦ ap (λ l. drop 1 (dedup same_key l)) (from n lt ∙ ap (λ l. here n ∷ l) (gone (suc n) low))
+        | inr more ↦ ap (λ l. drop 1 (dedup same_key l)) (gone n (omega (arith, more)))
+      ]
+
+  pub rest_none : (place : ℕ) → length records ≤ place → rest_from listed place ≡ []
+  rest_none zero low = ap (dedup same_key) (gone 0 low)
+  rest_none (suc n) low = rest_ends n low
+
+  module _ (are : AreSortedRecords apex records) where
+    rest_after : (n : ℕ) → suc n < length records → drop 1 (distinct_from listed n) ≡ first_at listed (suc n) ++ drop 1 (distinct_from listed (suc n))
+    rest_after n lt =
+        let later = drop (suc (suc n)) (listing apex records) in
+        let both : drop n (listing apex records) ≡ here n ∷ here (suc n) ∷ later = from n (omega (arith, lt)) ∙ ap (λ l. here n ∷ l) (from (suc n) lt) in
+        let b = is_duplicate_at records (suc n) in
+        let same : same_key (here (suc n)) (here n) ≡ b =
+        turned_test order_total (here (suc n)) (here n) ∙ ap (λ m. same_key (here m) (here (suc n))) (omega arith) ∙ sym (duplicate_is apex records are (suc n) (omega arith) lt) in
+        ap (λ l. drop 1 (dedup same_key l)) both
+        ∙ ap (λ c. drop 1 (cond c (dedup_from same_key (here n) later) (here n ∷ dedup_from same_key (here (suc n)) later))) same
+        ∙ stays order_total (here n) (here (suc n)) later b same
+        ∙ ap (λ l. first_at listed (suc n) ++ drop 1 (dedup same_key l)) (sym (from (suc n) lt))
+
+    -- the records from an index on are the one there, unless it is a duplicate, and those after it
+    pub rest_step : (place : ℕ) → place < length records → rest_from listed place ≡ first_at listed place ++ rest_from listed (suc place)
+    rest_step zero lt = starts same_key (listing apex records) (here 0) (drop 1 (listing apex records)) (from 0 lt)
+    rest_step (suc n) lt = rest_after n lt
 
 -- ---- the records of a zone
 

@@ -1,5 +1,5 @@
 -- Which types a name has, by the records that it owns.
-use Rattle.std.proofs.Common.{ℕ, ◌≡◌, ◌≤◌, List, ◌∙◌, subst}
+use Rattle.std.proofs.Common.{ℕ, ◌≡◌, List, ◌∙◌, subst}
 use Rattle.std.specs.Prelude.{All}
 use Rattle.std.specs.List.Sorted.{IsSorted}
 use Rattle.zone_contents.specs.Contents.{listing, IsZoneRecord}

@@ -1,8 +1,15 @@
+pub mod AtApex
 pub mod ComparedZones
+pub mod DigestSteps
 pub mod Distinct
 pub mod FewTypes
 pub mod KeyLabels
 pub mod Listings
+pub mod OneKey
+pub mod OwnPlaces
+pub mod RightData
+pub mod SortedSets
 pub mod Summed
+pub mod WithinZone
 pub mod ZoneKeys
 pub mod ZoneNames

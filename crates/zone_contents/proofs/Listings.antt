@@ -1,5 +1,5 @@
 -- The records of a zone in the order of their owners, and searches among them.
-use Rattle.std.proofs.Common.{ℕ, zero, suc, ◌≡◌, ◌+◌, ◌-◌, ◌<◌, ◌≤◌, Bool, true, false, List, [], ◌∷◌, length, take, drop, get_or, map, refl, sym, ap, ◌∙◌, subst, arith}
+use Rattle.std.proofs.Common.{ℕ, zero, suc, ◌≡◌, ◌+◌, ◌-◌, ◌<◌, ◌≤◌, Bool, true, false, List, [], ◌∷◌, length, take, drop, get_or, map, refl, sym, ap, ◌∙◌, arith}
 use Rattle.std.specs.Prelude.{All, Some, ◌==◌, ◌&&◌, ◌||◌, slice_get}
 use Rattle.std.specs.List.{AllAdjacentBelow, AllWithin, list_any}
 use Rattle.std.specs.List.Sorted.{IsPartitionPoint, IsSorted}
@@ -17,7 +17,7 @@ use Rattle.zone_record.specs.Names.{name_order, octet_order}
 use Rattle.zone_record.proofs.Orders.{octets_equal}
 use Rattle.zone_record.specs.declared.record.Record.{Record}
 use Rattle.dns_wire.specs.Order.{same_name}
-use Rattle.zone_contents.specs.Contents.{listed_record, listing, AreSortedRecords, IsZoneRecord}
+use Rattle.zone_contents.specs.Contents.{listed_record, listing, IsZoneRecord}
 use Rattle.zone_contents.specs.Keys.{key_in_zone}
 use Rattle.zone_contents.specs.Searches.{has_type_within, EndsKey}
 use Rattle.zone_contents.proofs.ZoneNames.{key_is_order, keys_are_order}

@@ -74,12 +74,12 @@ begins_itself (x ∷ xs) = ap (λ b. b && begins_with xs xs) (one x) ∙ begins_
     one n = Prim.grind (arith, nat_tests)
 
 -- where a name is by its key: in the zone, before its apex, or after the zone
-data Where (apex key : List ℕ) : Type 0 where
+pub data Where (apex key : List ℕ) : Type 0 where
   within : (rest : List ℕ) → key ≡ apex ++ rest → zone_key apex key ≡ 1 ∷ rest → Where apex key
   before : octet_order key apex ≡ Less → zone_key apex key ≡ 0 ∷ key → Where apex key
   after : octet_order key apex ≡ Greater → begins_with key apex ≡ false → zone_key apex key ≡ 2 ∷ key → Where apex key
 
-where_is : (apex key : List ℕ) → Where apex key
+pub where_is : (apex key : List ℕ) → Where apex key
 where_is apex key = by (begins_with key apex) refl
   where
     other : (n : begins_with key apex ≡ false) (o : Ordering) → octet_order key apex ≡ o → Where apex key

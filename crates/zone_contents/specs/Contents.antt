@@ -1,5 +1,5 @@
 -- The records of a zone that are held in a store.
-use Rattle.std.specs.Prelude.{◌≡◌, ℕ, All, List, [], ◌∷◌, ◌++◌, map}
+use Rattle.std.specs.Prelude.{◌≡◌, ℕ, Bool, true, All, List, [], ◌∷◌, ◌++◌, map, take}
 use Rattle.std.specs.List.Sorted.{IsSorted}
 use Rattle.dns_octets.specs.Lowered.{lowered}
 use Rattle.zone_record.specs.Records.{data_of}
@@ -58,6 +58,11 @@ pub record AreSortedRecords (apex : List (List ℕ)) (records : List AddedRecord
   pub are : All (IsZoneRecord apex) records
   pub sorted : IsSorted stored_order records
 
-pub record IsStoredZone (apex : List (List ℕ)) (records : List AddedRecord) (s : Summary) : Type 0 where
+-- all records are known to have keys of names at the apex or below it, which begin with a 1
+abbrev pub AreWithinZone : Bool → List AddedRecord → Type 0
+AreWithinZone known records = known ≡ true → All (λ r. take 1 r.key ≡ 1 ∷ []) records
+
+pub record IsStoredZone (apex : List (List ℕ)) (records : List AddedRecord) (s : Summary) (are_within : Bool) : Type 0 where
   pub records_are : AreSortedRecords apex records
   pub summary : IsSummary (listing apex records) s
+  pub within : AreWithinZone are_within records

@@ -28,6 +28,17 @@ key_in_zone apex name = zone_key (order_key apex) (order_key name)
 abbrev pub name_in_zone : List (List ℕ) → List ℕ → List (List ℕ)
 name_in_zone apex key = key_name (whole_key (order_key apex) key)
 
+-- the octets of the name with an order key of two parts; they are appended to others
+abbrev pub joined_octets : List ℕ → List ℕ → List ℕ
+joined_octets first second = wire (key_name (first ++ second))
+
+abbrev pub AddsName : List ℕ → List ℕ → List ℕ → List ℕ → Type 0
+AddsName first second old new = new ≡ old ++ joined_octets first second
+
+-- the octets of the name with a key in a zone
+abbrev pub name_octets : List (List ℕ) → List ℕ → List ℕ
+name_octets apex key = wire (name_in_zone apex key)
+
 -- a key is that of a name
 pub record IsNameKey (apex : List (List ℕ)) (key : List ℕ) : Type 0 where
   pub name : List (List ℕ)

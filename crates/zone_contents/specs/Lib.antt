@@ -1,5 +1,6 @@
 pub mod Changes
 pub mod Contents
+pub mod Digests
 pub mod Keys
 pub mod Locations
 pub mod Rows

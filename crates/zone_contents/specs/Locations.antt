@@ -1,5 +1,5 @@
 -- Positions of records in their files, as numbers.
-use Rattle.std.specs.Prelude.{◌≡◌, ◌==◌, nat_lt, nat_eq, ℕ, ◌+◌, ◌-◌, ◌*◌, ◌/◌, ◌%◌, ◌^◌, ◌++◌, if◌then◌else◌, false, List, get_or, None}
+use Rattle.std.specs.Prelude.{◌≡◌, ◌==◌, nat_lt, ℕ, ◌+◌, ◌-◌, ◌*◌, ◌/◌, ◌%◌, ◌^◌, ◌++◌, if◌then◌else◌, false, List, get_or, None}
 use Rattle.zone_contents.specs.declared.locations.Location.{Location}
 
 -- the location of a record that is not generated

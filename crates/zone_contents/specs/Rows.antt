@@ -1,12 +1,15 @@
--- Worked rows of keys in a zone, of changes between zones, and of the numbers of locations.
+-- Worked rows of keys in a zone, of changes between zones, of the numbers of locations, and of digests.
 use Rattle.std.specs.Prelude.{◌≡◌, ℕ, ◌+◌, ◌*◌, List, [], ◌∷◌, ◌++◌, codes, refl, Some, None}
+use Rattle.rdata_values.specs.Rtype as Rtype
 use Rattle.zone_contents.specs.Changes.{change_of}
 use Rattle.zone_contents.specs.Contents.{ZoneValue}
-use Rattle.zone_contents.specs.Keys.{key_in_zone, name_in_zone}
+use Rattle.zone_contents.specs.Digests.{chosen_at, first_at, simple_fields, zone_alike_count, zone_apex_data, zone_octets}
+use Rattle.zone_contents.specs.Keys.{joined_octets, key_in_zone, name_in_zone, name_octets}
 use Rattle.zone_contents.specs.Locations.{far_number, located, location}
 use Rattle.zone_contents.specs.declared.changes.ZoneChange.TheVariants.{Removed, Added, NewTtl}
 use Rattle.zone_set.specs.Differences.{after_change, before_change}
-use Rattle.zone_set.specs.Stored.{added_record}
+use Rattle.zone_set.specs.Stored.{added_record, AddedRecord}
+use Rattle.zone_set.specs.declared.algorithm.HashAlgorithm.TheVariants.{Sha512}
 
 -- the zone `b.`
 abbrev zone : List (List ℕ)
@@ -42,6 +45,13 @@ below_name_row = refl
 after_name_row : name_in_zone zone (2 ∷ 0 ∷ (codes "c" ++ 0 ∷ [])) ≡ codes "c" ∷ [] ∷ []
 after_name_row = refl
 
+name_octets_row : name_octets zone (1 ∷ (codes "a" ++ 0 ∷ [])) ≡ 1 ∷ (codes "a" ++ 1 ∷ (codes "b" ++ 0 ∷ []))
+name_octets_row = refl
+
+-- the name `ab.`, whose order key is split in its label
+joined_row : joined_octets (0 ∷ codes "a") (codes "b" ++ 0 ∷ []) ≡ 2 ∷ (codes "ab" ++ 0 ∷ [])
+joined_row = refl
+
 -- records in line 12: at column 1 without a target, and with one in column 16; at column 9 without a target
 plain_row : located [] (12 * 256) ≡ location 12 1 12 1
 plain_row = refl
@@ -73,3 +83,38 @@ removed_row = refl
 
 added_row : before_change (change_of (with_ttl 60) (with_ttl 90) (Added 0)) ≡ None
 added_row = refl
+
+-- a record at the apex of the zone, by its type, TTL and RDATA
+abbrev at_apex : ℕ → ℕ → List ℕ → AddedRecord
+at_apex code ttl rdata = added_record (1 ∷ []) (record { code = code; class = 1; ttl = ttl; file = 0; offset = 0; rdata = rdata })
+
+-- an address, the same with another TTL, and a ZONEMD
+abbrev with_digest : ZoneValue
+with_digest = record { apex = zone; records = at_apex Rtype.a 60 (192 ∷ 0 ∷ 2 ∷ 1 ∷ []) ∷ at_apex Rtype.a 90 (192 ∷ 0 ∷ 2 ∷ 1 ∷ []) ∷ at_apex Rtype.zonemd 60 (0 ∷ 0 ∷ 0 ∷ 9 ∷ 1 ∷ 2 ∷ []) ∷ [] }
+
+-- of duplicates the first one is hashed, and the ZONEMD is not
+zone_octets_row : zone_octets zone with_digest ≡ 1 ∷ 98 ∷ 0 ∷ 0 ∷ 1 ∷ 0 ∷ 1 ∷ 0 ∷ 0 ∷ 0 ∷ 60 ∷ 0 ∷ 4 ∷ 192 ∷ 0 ∷ 2 ∷ 1 ∷ []
+zone_octets_row = refl
+
+-- in another zone no record is hashed
+other_octets_row : zone_octets (codes "a" ∷ [] ∷ []) with_digest ≡ []
+other_octets_row = refl
+
+apex_data_row : zone_apex_data Rtype.zonemd zone with_digest ≡ record { rtype = Rtype.zonemd; octets = 0 ∷ 0 ∷ 0 ∷ 9 ∷ 1 ∷ 2 ∷ [] } ∷ []
+apex_data_row = refl
+
+-- the second address is a duplicate
+first_row : first_at with_digest 1 ≡ []
+first_row = refl
+
+chosen_row : chosen_at Rtype.zonemd zone with_digest 2 ≡ 2 ∷ []
+chosen_row = refl
+
+not_chosen_row : chosen_at Rtype.soa zone with_digest 2 ≡ []
+not_chosen_row = refl
+
+alike_count_row : zone_alike_count (record { serial = 8; scheme = 1; hash = 2; digest = record { ref_ptr = (0, 0); now = [] } }) zone with_digest ≡ 1
+alike_count_row = refl
+
+fields_row : simple_fields 9 Sha512 ≡ 0 ∷ 0 ∷ 0 ∷ 9 ∷ 1 ∷ 2 ∷ []
+fields_row = refl

@@ -16,6 +16,12 @@ pub record EndsKey (key : List ℕ) (records : List AddedRecord) (first past : �
   pub same : AllWithin (λ r. r.key ≡ key) records first past
   pub ends : past < length records → (record_at records past).key ≡ key → ⊥
 
+-- records from an index on, up to a given one, have its key, and the one before the first of them has not
+pub record BeginsKey (records : List AddedRecord) (place first : ℕ) : Type 0 where
+  pub bound : first ≤ place
+  pub same : AllWithin (λ r. r.key ≡ (record_at records place).key) records first place
+  pub begins : 0 < first → (record_at records (first - 1)).key ≡ (record_at records place).key → ⊥
+
 -- the closest name that a name and the owner of a record are at or below
 abbrev pub shared_by : {N O : Type 0} → List (List ℕ) → Option (Record N O) → Option (List (List ℕ))
 shared_by name r = option_and_then (shared_with rrset_of_record name) r

@@ -1,5 +1,5 @@
 -- What the records of a zone have in common.
-use Rattle.std.specs.Prelude.{◌≡◌, ◌==◌, ◌||◌, not, true, false, All, List, length, map}
+use Rattle.std.specs.Prelude.{◌≡◌, ◌==◌, ◌||◌, not, true, false, All, List, length}
 use Rattle.std.specs.List.{list_any}
 use Rattle.rdata_values.specs.Classes.{internet}
 use Rattle.rdata_values.specs.Rtype as Rtype

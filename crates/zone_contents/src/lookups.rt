@@ -1,12 +1,12 @@
 //! Which types a name has, among the sorted records of a zone.
-ghost use Rattle.std.specs.Prelude.{◌≡◌, ◌≤◌, length};
+ghost use Rattle.std.specs.Prelude.{◌≡◌, ◌≤◌, false, length};
 ghost use Rattle.rdata_values.specs.Rtype as Rtype;
-ghost use Rattle.zone_contents.specs.Contents.{AreSortedRecords};
+ghost use Rattle.zone_contents.specs.Contents.{AreSortedRecords, AreWithinZone};
 ghost use Rattle.zone_contents.specs.Searches.{has_in_zone, has_type_within, HaveClass};
 
 use crate::searches::{past_few, places};
 use crate::summary::Summary;
-use crate::zone_key::{Apex, ZoneKey};
+use crate::zone_key::{Apex, ZoneKey, is_within_zone};
 use dns_wire::Name;
 use rdata_values::RecordType;
 use std::alloc::Allocator;
@@ -77,8 +77,8 @@ fn types_within<A: Allocator>(store: &SortedStore<A>, first: usize, past: usize)
     }
 }
 
-/// Returns which types a name has, of those that matter for a host.
-pub(crate) fn host_types<A: Allocator>(
+/// Returns which types a name has, of those that matter for a host. Looks up the name.
+fn found_types<A: Allocator>(
     apex: &Apex,
     store: &SortedStore<A>,
     summary: &Summary,
@@ -100,4 +100,40 @@ pub(crate) fn host_types<A: Allocator>(
         has_aaaa: has_type(apex, store, summary, name, RecordType::AAAA),
         has_cname: has_type(apex, store, summary, name, RecordType::CNAME),
     }
+}
+
+/// Returns that a name has no types.
+fn no_types() -> HostTypes
+    ensures a { result.has_a ≡ false }
+    ensures aaaa { result.has_aaaa ≡ false }
+    ensures cname { result.has_cname ≡ false }
+{
+    let has_none = false;
+    HostTypes {
+        has_a: has_none,
+        has_aaaa: has_none,
+        has_cname: has_none,
+    }
+}
+
+/// Returns which types a name has, of those that matter for a host. If all records are at the apex or
+/// below it, other names aren't looked up.
+pub(crate) fn host_types<A: Allocator>(
+    apex: &Apex,
+    store: &SortedStore<A>,
+    summary: &Summary,
+    are_within: bool,
+    name: &Name<&[u8]>,
+) -> HostTypes
+    requires records { AreSortedRecords apex.now store.now }
+    requires class { HaveClass summary.now store.now }
+    requires within { AreWithinZone are_within store.now }
+    ensures a { result.has_a ≡ has_in_zone Rtype.a name.now apex.now store.now }
+    ensures aaaa { result.has_aaaa ≡ has_in_zone Rtype.aaaa name.now apex.now store.now }
+    ensures cname { result.has_cname ≡ has_in_zone Rtype.cname name.now apex.now store.now }
+{
+    if are_within && !is_within_zone(apex, name) {
+        return no_types();
+    }
+    found_types(apex, store, summary, name)
 }

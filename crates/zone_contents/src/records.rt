@@ -5,7 +5,7 @@ ghost use Rattle.zone_rules.specs.Zones.{as_listed};
 ghost use Rattle.zone_set.specs.Stored.{record_at};
 
 use crate::lookups::{has_type, host_types};
-use crate::searches::{closest, closest_before, owner_at, places};
+use crate::searches::{closest, closest_before, have_one_owner, owner_at, places, places_at};
 use crate::stored::StoredZone;
 use crate::zone_key::Apex;
 use dns_wire::Name;
@@ -53,6 +53,18 @@ impl<A: Allocator> ZoneRecords for StoredZone<A> {
         record_at(&self.apex, &self.store, place, owner)
     }
 
+    fn type_at(&self, place: usize) -> RecordType {
+        self.store.rtype(place)
+    }
+
+    fn have_one_owner(&self, left: usize, right: usize) -> bool {
+        have_one_owner(&self.apex, &self.store, left, right)
+    }
+
+    fn places_at(&self, place: usize) -> (usize, usize) {
+        places_at(&self.apex, &self.store, place)
+    }
+
     fn places(&self, name: &Name<&[u8]>) -> (usize, usize) {
         places(&self.apex, &self.store, name)
     }
@@ -62,7 +74,13 @@ impl<A: Allocator> ZoneRecords for StoredZone<A> {
     }
 
     fn host_types(&self, name: &Name<&[u8]>) -> HostTypes {
-        host_types(&self.apex, &self.store, &self.summary, name)
+        host_types(
+            &self.apex,
+            &self.store,
+            &self.summary,
+            self.are_within,
+            name,
+        )
     }
 
     fn has_dname(&self) -> bool {

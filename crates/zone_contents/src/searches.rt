@@ -1,13 +1,14 @@
 //! Searches among the sorted records of a zone.
-ghost use Rattle.std.specs.Prelude.{◌≡◌, ◌<◌, ◌≤◌, [], All, IfSome, Some, length, slice_get};
+ghost use Rattle.std.specs.Prelude.{◌≡◌, ◌<◌, ◌≤◌, ◌↔◌, [], All, IfSome, IsTrue, Some, length, slice_get};
 ghost use Rattle.zone_contents.specs.Contents.{listed_record, listing, AreSortedRecords, IsZoneRecord};
-ghost use Rattle.zone_contents.specs.Searches.{closest_earlier, shared_by, EndsKey};
+ghost use Rattle.zone_contents.specs.Keys.{name_octets};
+ghost use Rattle.zone_contents.specs.Searches.{closest_earlier, shared_by, BeginsKey, EndsKey};
 ghost use Rattle.zone_rules.specs.Present.{rrset_of_record};
-ghost use Rattle.zone_rules.specs.Searches.{before_place, AreOwnedFrom, PartsBefore};
-ghost use Rattle.zone_rules.specs.Zones.{closest_owned};
+ghost use Rattle.zone_rules.specs.Searches.{before_place, AreOwnedAt, AreOwnedFrom, PartsBefore};
+ghost use Rattle.zone_rules.specs.Zones.{closest_owned, HaveOneOwner};
 ghost use Rattle.zone_set.specs.Stored.{record_at};
 
-use crate::zone_key::{Apex, MAX_ZONE_KEY, ZoneKey, write_name};
+use crate::zone_key::{Apex, MAX_ZONE_KEY, ZoneKey, write_name, write_split_name};
 use arrayvec::ArrayVec;
 use dns_wire::Name;
 use std::alloc::Allocator;
@@ -45,6 +46,41 @@ fn write_key<A: Allocator>(
     key.try_extend_from_slice(stored.rest).unwrap();
 }
 
+/// Writes the owner of the record at an index in wire format and in lower case, in place of what a
+/// buffer holds.
+fn write_joined_owner<A: Allocator>(
+    apex: &Apex,
+    store: &SortedStore<A>,
+    place: usize,
+    owner: &mut OwnerBuffer,
+)
+    requires place { place < length store.now }
+    requires are { All (IsZoneRecord apex.now) store.now }
+    ensures { owner.new.items ≡ name_octets apex.now (record_at store.now place).key }
+{
+    let mut key = ArrayVec::new();
+    write_key(store, place, &mut key);
+    write_name(apex, key.as_slice(), owner);
+}
+
+/// Writes the owner of the record at an index in wire format and in lower case, in place of what a
+/// buffer holds. Joins the parts of its key only if [`write_split_name`] does not write it.
+fn write_owner<A: Allocator>(
+    apex: &Apex,
+    store: &SortedStore<A>,
+    place: usize,
+    owner: &mut OwnerBuffer,
+)
+    requires place { place < length store.now }
+    requires are { All (IsZoneRecord apex.now) store.now }
+    ensures { owner.new.items ≡ name_octets apex.now (record_at store.now place).key }
+{
+    let stored = store.key(place);
+    if !write_split_name(apex, stored.first.as_slice(), stored.rest, owner) {
+        write_joined_owner(apex, store, place, owner);
+    }
+}
+
 /// Returns the owner of the record at an index, in lower case.
 pub(crate) fn owner_at<'b, A: Allocator>(
     apex: &Apex,
@@ -56,10 +92,23 @@ pub(crate) fn owner_at<'b, A: Allocator>(
     requires are { All (IsZoneRecord apex.now) store.now }
     ensures { result ≡ (listed_record apex.now (record_at store.now place)).owner }
 {
-    let mut key = ArrayVec::new();
-    write_key(store, place, &mut key);
-    write_name(apex, key.as_slice(), owner);
+    write_owner(apex, store, place, owner);
     name_of(owner.as_slice())
+}
+
+/// Returns whether the records at two indexes have the same owner.
+pub(crate) fn have_one_owner<A: Allocator>(
+    apex: &Apex,
+    store: &SortedStore<A>,
+    left: usize,
+    right: usize,
+) -> bool
+    requires left { left < length store.now }
+    requires right { right < length store.now }
+    requires are { All (IsZoneRecord apex.now) store.now }
+    ensures { IsTrue result ↔ HaveOneOwner (listing apex.now store.now) left right }
+{
+    store.have_one_key(left, right)
 }
 
 /// Returns the longest name that a name and the owner of the record at an index are at or below.
@@ -175,6 +224,45 @@ pub(crate) fn past_few<A: Allocator>(
         }
     }
     Some(store.len())
+}
+
+/// Returns the index of the first record with the key of the record at an index.
+fn first_with_key<A: Allocator>(store: &SortedStore<A>, place: usize) -> usize
+    requires { place < length store.now }
+    ensures { BeginsKey store.now place result }
+{
+    let mut first = place;
+    'back: while first > 0 && store.have_one_key(first - 1, place) {
+        first -= 1;
+    }
+    first
+}
+
+/// Returns the index after the last record with the key of the record at an index.
+fn past_with_key<A: Allocator>(store: &SortedStore<A>, place: usize) -> usize
+    requires { place < length store.now }
+    ensures { EndsKey (record_at store.now place).key store.now place result }
+{
+    for next in place..store.len() {
+        if !store.have_one_key(next, place) {
+            return next;
+        }
+    }
+    store.len()
+}
+
+/// Returns the index of the first record that has the owner of the record at an index, and the index
+/// after the last one.
+pub(crate) fn places_at<A: Allocator>(
+    apex: &Apex,
+    store: &SortedStore<A>,
+    place: usize,
+) -> (usize, usize)
+    requires place { place < length store.now }
+    requires records { AreSortedRecords apex.now store.now }
+    ensures { AreOwnedAt (listing apex.now store.now) place result.0 result.1 }
+{
+    (first_with_key(store, place), past_with_key(store, place))
 }
 
 /// Returns the index of the first record whose owner is a name, and the index after the last one.

@@ -2,12 +2,13 @@
 ghost use Rattle.std.specs.Prelude.{◌≡◌, ◌<◌, [], OnOk, OnErr, length, map};
 ghost use Rattle.std.specs.List.Sorted.{IsPermutation, IsSorted, IsStable};
 ghost use Rattle.dns_octets.specs.Lowered.{lowered};
-ghost use Rattle.zone_contents.specs.Contents.{stored_in_zone, AddsRecord, AddsStored, IsZoneRecord};
+ghost use Rattle.zone_contents.specs.Contents.{stored_in_zone, AddsRecord, AddsStored, AreWithinZone, IsZoneRecord};
+ghost use Rattle.zone_contents.specs.Digests.{HasCanonicalSet};
 ghost use Rattle.zone_set.specs.Duplicates.{is_duplicate_at};
 ghost use Rattle.zone_set.specs.Stored.{record_at, stored_order};
 
 use crate::summary::Summary;
-use crate::zone_key::{Apex, ZoneKey};
+use crate::zone_key::{AFTER, Apex, WITHIN, ZoneKey};
 use dns_octets::AsOctets;
 use dns_wire::Name;
 use rdata_values::RecordType;
@@ -42,6 +43,17 @@ fn add_record<A: Allocator, Owner: AsOctets, Octets: AsOctets>(
     };
     let rdata = record.data.as_slice();
     store.add(key.as_slice(), &GroupEntry { header, rdata })
+}
+
+/// Returns whether all records are at the apex of a zone or below it, if there are records: the keys of
+/// the first and the last are between those of all such names.
+fn are_within<A: Allocator>(store: &SortedStore<A>) -> bool
+    ensures { AreWithinZone result store.now }
+{
+    if store.len() == 0 {
+        return false;
+    }
+    store.compare_key(0, &[WITHIN]).is_ge() && store.compare_key(store.len() - 1, &[AFTER]).is_lt()
 }
 
 /// The records of a zone, in the order in which they were added, with the file and the position of
@@ -85,6 +97,14 @@ impl<A: Allocator> ZoneStore<A> {
         self.store.len()
     }
 
+    /// Allocates memory for more octets and records. Fails without memory. The records are the
+    /// same in both cases, and more can be added.
+    pub fn reserve(&mut self, octets: usize, records: usize) -> Result<(), AllocError>
+        ensures { self.new ≡ self.old }
+    {
+        self.store.reserve(octets, records)
+    }
+
     /// Adds a record. The letter case of its owner is not kept. Fails without memory; the collection
     /// is then unchanged.
     pub fn add<Owner: AsOctets, Octets: AsOctets>(
@@ -108,10 +128,13 @@ impl<A: Allocator> ZoneStore<A> {
         ensures permutation { IsPermutation self.records result.records }
         ensures sorted { IsSorted stored_order result.records }
         ensures stable { IsStable stored_order self.records result.records }
+        ensures canonical { HasCanonicalSet self result }
     {
+        let store = self.store.sort();
         StoredZone {
+            are_within: are_within(&store),
             apex: self.apex,
-            store: self.store.sort(),
+            store,
             summary: self.summary,
         }
     }
@@ -123,6 +146,8 @@ pub struct StoredZone<A: Allocator = Global> {
     pub(crate) apex: Apex,
     pub(crate) store: SortedStore<A>,
     pub(crate) summary: Summary,
+    /// Whether all records are known to be at the apex or below it.
+    pub(crate) are_within: bool,
 }
 
 impl<A: Allocator> Model for StoredZone<A> {
@@ -132,7 +157,7 @@ impl<A: Allocator> Model for StoredZone<A> {
 
     ghost view = { λ s. record { apex = s.apex; records = s.store } };
 
-    ghost invariant = { λ s. IsStoredZone s.apex s.store s.summary };
+    ghost invariant = { λ s. IsStoredZone s.apex s.store s.summary s.are_within };
 }
 
 impl<A: Allocator> StoredZone<A> {

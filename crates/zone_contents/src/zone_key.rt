@@ -1,18 +1,20 @@
 //! Keys of the names in a zone, whose first octets differ.
-ghost use Rattle.std.specs.Prelude.{◌≡◌, ◌≤◌, ◌+◌, [], ◌∷◌, ◌++◌, length, map};
+ghost use Rattle.std.specs.Prelude.{◌≡◌, ◌<◌, ◌≤◌, ◌+◌, [], ◌∷◌, ◌++◌, IsTrue, length, map};
 ghost use Rattle.dns_octets.specs.Lowered.{lowered};
 ghost use Rattle.dns_wire.specs.Wire.{wire};
+ghost use Rattle.rdata_tokens.specs.NameSpelling.{IsWireName};
 ghost use Rattle.zone_record.specs.Keys.{order_key};
-ghost use Rattle.zone_contents.specs.Keys.{key_in_zone, name_in_zone, zone_key, IsNameKey};
+ghost use Rattle.zone_contents.specs.Keys.{key_in_zone, name_in_zone, name_octets, zone_key, IsNameKey};
+ghost use Rattle.zone_rules.specs.Above.{is_within};
 
-use crate::key_labels::push_labels;
+use crate::key_labels::{push_labels, push_split_labels};
 use arrayvec::ArrayVec;
 use dns_octets::AsOctets;
 use dns_wire::{MAX_NAME, Name};
 use std::cmp::Ordering;
 use std::marker::Model;
 use zone_record::{OrderKey, push_key_name};
-use zone_rules::names::octets_of;
+use zone_rules::names::{is_name_within, name_of, octets_of};
 
 /// Maximum length of the key of a name in a zone, in octets.
 pub const MAX_ZONE_KEY: usize = 510;
@@ -21,10 +23,10 @@ pub const MAX_ZONE_KEY: usize = 510;
 const BEFORE: u8 = 0;
 
 /// First octet of the key of a name at the apex or below it.
-const WITHIN: u8 = 1;
+pub(crate) const WITHIN: u8 = 1;
 
 /// First octet of the key of a name that is after all names of the zone.
-const AFTER: u8 = 2;
+pub(crate) const AFTER: u8 = 2;
 
 /// The name of a zone.
 #[derive(Drop)]
@@ -69,6 +71,7 @@ impl Apex {
     /// Returns the name in wire format.
     fn octets(&self) -> &[u8]
         ensures value { result.now ≡ wire self.now }
+        ensures is_name { IsWireName result.now }
         ensures lower { map lowered self.now ≡ self.now }
     {
         self.octets.as_slice()
@@ -139,6 +142,17 @@ impl ZoneKey {
     }
 }
 
+/// Returns whether a name is at the apex or below it.
+pub(crate) fn is_within_zone(apex: &Apex, name: &Name<&[u8]>) -> bool
+    ensures value { result ≡ is_within name.now apex.now }
+    ensures some { 0 < length apex.now }
+{
+    let top = name_of(apex.octets());
+    // No effect at run time: the proof reads that the apex ends in the root.
+    let _octets = octets_of(&top);
+    is_name_within(name, &top)
+}
+
 /// Appends octets to those of a buffer.
 fn append(octets: &[u8], name: &mut ArrayVec<u8, MAX_NAME>)
     requires { length name.old.items + length octets.now ≤ 255 }
@@ -163,4 +177,34 @@ pub fn write_name(apex: &Apex, key: &[u8], name: &mut ArrayVec<u8, MAX_NAME>)
     } else {
         push_labels(rest, name);
     }
+}
+
+/// Writes the name that has a key of two parts in a zone, in lower case, in place of what a buffer
+/// holds, if its labels are found without joining the parts. Returns whether it does.
+pub(crate) fn write_split_name(
+    apex: &Apex,
+    first: &[u8],
+    second: &[u8],
+    name: &mut ArrayVec<u8, MAX_NAME>,
+) -> bool
+    requires { IsNameKey apex.now (first.now ++ second.now) }
+    ensures { IsTrue result → name.new.items ≡ name_octets apex.now (first.now ++ second.now) }
+{
+    if second.is_empty() {
+        write_name(apex, first, name);
+        return true;
+    }
+    name.clear();
+    let Some((mark, first)) = first.split_first() else {
+        return false;
+    };
+    if *mark != WITHIN {
+        return false;
+    }
+    let octets = apex.octets();
+    if !push_split_labels(first, second, name) {
+        return false;
+    }
+    append(octets, name);
+    true
 }

@@ -1,22 +1,22 @@
-use Rattle.std.proofs.Common.{◌∙◌}
+use Rattle.std.proofs.Common.{sym, ◌∙◌}
 use Rattle.rdata_values.specs.Rtype as Rtype
-use Rattle.zone_contents.proofs.FewTypes.{few_types}
+use Rattle.zone_contents.proofs.WithinZone.{has_no_type}
 use Rattle.zone_contents.proofs.lookups.host_types.Goals as goal
 
-pub returns-in-Some-clause-a : goal.returns-in-Some-clause-a
-returns-in-Some-clause-a g c =
-    c.types_within.ensures.a
-    ∙ few_types c.args.apex.now c.args.name.now c.args.store.now c.of-key.result c.as_slice.result.now c.as_slice-2.result.now c.count_before-first.result c.in-Some.past Rtype.a c.requires.records.are c.requires.records.sorted
-    c.of-key.ensures c.as_slice.ensures.value c.as_slice-2.ensures.value c.count_before-first.ensures.point c.in-Some.ensures
+pub returns-then-not-is_within_zone-clause-a : goal.returns-then-not-is_within_zone-clause-a
+returns-then-not-is_within_zone-clause-a g c =
+    c.no_types.ensures.a
+    ∙ sym (has_no_type c.args.apex.now c.args.name.now c.is_within_zone.ensures.some (sym c.is_within_zone.ensures.value ∙ c.if-not-is_within_zone.true) Rtype.a c.args.store.now c.requires.records.are
+    (c.requires.within c.if-are_within.true))
 
-pub returns-in-Some-clause-aaaa : goal.returns-in-Some-clause-aaaa
-returns-in-Some-clause-aaaa g c =
-    c.types_within.ensures.aaaa
-    ∙ few_types c.args.apex.now c.args.name.now c.args.store.now c.of-key.result c.as_slice.result.now c.as_slice-2.result.now c.count_before-first.result c.in-Some.past Rtype.aaaa c.requires.records.are c.requires.records.sorted
-    c.of-key.ensures c.as_slice.ensures.value c.as_slice-2.ensures.value c.count_before-first.ensures.point c.in-Some.ensures
+pub returns-then-not-is_within_zone-clause-aaaa : goal.returns-then-not-is_within_zone-clause-aaaa
+returns-then-not-is_within_zone-clause-aaaa g c =
+    c.no_types.ensures.aaaa
+    ∙ sym (has_no_type c.args.apex.now c.args.name.now c.is_within_zone.ensures.some (sym c.is_within_zone.ensures.value ∙ c.if-not-is_within_zone.true) Rtype.aaaa c.args.store.now c.requires.records.are
+    (c.requires.within c.if-are_within.true))
 
-pub returns-in-Some-clause-cname : goal.returns-in-Some-clause-cname
-returns-in-Some-clause-cname g c =
-    c.types_within.ensures.cname
-    ∙ few_types c.args.apex.now c.args.name.now c.args.store.now c.of-key.result c.as_slice.result.now c.as_slice-2.result.now c.count_before-first.result c.in-Some.past Rtype.cname c.requires.records.are c.requires.records.sorted
-    c.of-key.ensures c.as_slice.ensures.value c.as_slice-2.ensures.value c.count_before-first.ensures.point c.in-Some.ensures
+pub returns-then-not-is_within_zone-clause-cname : goal.returns-then-not-is_within_zone-clause-cname
+returns-then-not-is_within_zone-clause-cname g c =
+    c.no_types.ensures.cname
+    ∙ sym (has_no_type c.args.apex.now c.args.name.now c.is_within_zone.ensures.some (sym c.is_within_zone.ensures.value ∙ c.if-not-is_within_zone.true) Rtype.cname c.args.store.now c.requires.records.are
+    (c.requires.within c.if-are_within.true))

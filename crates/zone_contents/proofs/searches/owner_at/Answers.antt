@@ -1,30 +1,18 @@
-use Rattle.std.proofs.Common.{ap, subst, sym, ◌∙◌}
+use Rattle.std.proofs.Common.{subst, sym, ◌∙◌}
 use Rattle.rdata_tokens.specs.NameSpelling.{IsWireName}
 use Rattle.dns_wire.specs.Labelled.{wire_same}
-use Rattle.dns_wire.specs.Wire.{wire}
-use Rattle.zone_contents.specs.Keys.{name_in_zone, IsNameKey}
 use Rattle.zone_contents.proofs.Listings.{valid_at}
-use Rattle.zone_contents.proofs.ZoneNames.{key_short, owner_wire}
+use Rattle.zone_contents.proofs.ZoneNames.{owner_wire}
 use Rattle.zone_set.specs.Stored.{record_at}
 use Rattle.zone_contents.proofs.searches.owner_at.Goals as goal
-
-pub write_key-requires-clause-short : goal.write_key-requires-clause-short
-write_key-requires-clause-short g c =
-    let apex = c.args.apex.now in
-    let key = (record_at c.args.store.now c.args.place).key in
-    key_short apex key (valid_at apex c.args.store.now c.requires.are c.args.place c.requires.place).owner
-
-pub write_name-requires : goal.write_name-requires
-write_name-requires g c =
-    subst (IsNameKey c.args.apex.now) (sym (c.as_slice.ensures.value ∙ c.write_key.ensures)) (valid_at c.args.apex.now c.args.store.now c.requires.are c.args.place c.requires.place).owner
 
 pub name_of-requires : goal.name_of-requires
 name_of-requires g c =
     let apex = c.args.apex.now in
     let key = (record_at c.args.store.now c.args.place).key in
-    subst IsWireName (sym (c.as_slice-2.ensures.value ∙ c.write_name.ensures ∙ ap (λ k. wire (name_in_zone apex k)) (c.as_slice.ensures.value ∙ c.write_key.ensures)))
+    subst IsWireName (sym (c.as_slice.ensures.value ∙ c.write_owner.ensures))
     (owner_wire apex key (valid_at apex c.args.store.now c.requires.are c.args.place c.requires.place).owner)
 
 pub returns : goal.returns
 returns g c =
-    wire_same _ _ (sym c.name_of.ensures ∙ c.as_slice-2.ensures.value ∙ c.write_name.ensures ∙ ap (λ k. wire (name_in_zone c.args.apex.now k)) (c.as_slice.ensures.value ∙ c.write_key.ensures))
+    wire_same _ _ (sym c.name_of.ensures ∙ c.as_slice.ensures.value ∙ c.write_owner.ensures)

@@ -1,4 +1,4 @@
-use Rattle.std.proofs.Common.{ap, arith, sym, ◌∙◌}
+use Rattle.std.proofs.Common.{ap, arith, sym}
 use Rattle.std.proofs.lemmas.Option.{slice_get_past}
 use Rattle.zone_contents.specs.Contents.{listing}
 use Rattle.zone_contents.proofs.Listings.{listed_length}

@@ -11,6 +11,9 @@ host_types-requires-clause-records g c = c.self.invariant.records_are
 pub host_types-requires-clause-class : goal.host_types-requires-clause-class
 host_types-requires-clause-class g c = class_is c.self.inside.apex c.self.inside.store c.self.inside.summary c.self.invariant.summary
 
+pub host_types-requires-clause-within : goal.host_types-requires-clause-within
+host_types-requires-clause-within g c = c.self.invariant.within
+
 pub returns-clause-a : goal.returns-clause-a
 returns-clause-a g c = c.host_types.ensures.a ∙ ap (λ z. has_type_at Rtype.a c.args.name.now (contents z)) c.self.view_is
 
