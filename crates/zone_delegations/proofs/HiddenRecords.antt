@@ -1,5 +1,5 @@
 -- The records that are hidden.
-use Rattle.std.proofs.Common.{ℕ, zero, suc, ◌≡◌, ◌<◌, Bool, true, false, Option, Some, None, List, [], ◌∷◌, ◌++◌, length, refl, ap, ◌∙◌, arith}
+use Rattle.std.proofs.Common.{ℕ, zero, suc, ◌≡◌, ◌<◌, Bool, true, false, Option, Some, None, List, [], ◌∷◌, ◌++◌, length, refl, sym, ap, ◌∙◌, arith, append-nil}
 use Rattle.std.specs.Prelude.{◌==◌, ◌&&◌, ◌||◌, not, slice_get}
 use Rattle.std.specs.List.{flat_map, list_any, range_with_len}
 use Rattle.std.specs.Option.{option_map, option_map_or}
@@ -12,7 +12,7 @@ use Rattle.zone_rules.specs.Rules.{is_below_zone_cut, is_zone_cut}
 use Rattle.zone_rules.specs.Zones.{type_of}
 use Rattle.zone_rules.specs.declared.refused.RrsetName.{RrsetName}
 use Rattle.zone_delegations.specs.Hidden.{delegation_of, hidden_if, hidden_places, is_delegating, is_glue_record, is_hidden_at, is_hidden_record, is_name_among, is_parent_type, server_of}
-use Rattle.zone_delegations.specs.Owners.{hides, owner_at, type_at}
+use Rattle.zone_delegations.specs.Owners.{hides, is_glue, is_of_child, owner_at, type_at}
 use Rattle.zone_delegations.proofs.SameOwners.{any_off, cut_is, no_cut}
 
 -- a list with an element that passes a test is not empty
@@ -28,6 +28,14 @@ any_found p (x ∷ xs) (suc k) h = by (p x) (any_found p xs k h)
     by : (b : Bool) → list_any p xs ≡ true → (b || list_any p xs) ≡ true
     by true e = refl
     by false e = e
+
+and_off : (b : Bool) → (b && false) ≡ false
+and_off true = refl
+and_off false = refl
+
+-- no index is added for a record that is not hidden
+pub none_added : (found : List ℕ) (place : ℕ) (is_hidden : Bool) → is_hidden ≡ false → found ≡ found ++ hidden_if is_hidden place
+none_added found place is_hidden h = sym (append-nil found) ∙ ap (λ b. found ++ hidden_if b place) (sym h)
 
 -- ---- a zone without delegations
 
@@ -70,3 +78,14 @@ module _ {N O : Type 0} (origin : List (List ℕ)) (records : List (Record N O))
       by None = refl
       by (Some r) =
           ap (λ cut. (is_below_zone_cut origin records r.owner || (cut && not (is_parent_type (type_of r)))) && not (is_glue_record origin records refused r)) (cut_is origin records r.owner)
+
+  pub glue_is : (place : ℕ) (rtype : RecordType) (may_be_server is_server : Bool)
+      → rtype ≡ type_at records place
+      → may_be_server ≡ list_any (λ s. s.rtype == Rtype.ns) refused
+      → is_server ≡ option_map_or (is_name_among (server_of origin) records) (owner_at records place) false
+      → is_glue rtype may_be_server is_server ≡ true
+      → is_hidden_at origin records refused place ≡ false
+  glue_is place rtype may_be_server is_server a d e h =
+      let below : Bool = option_map_or (is_below_zone_cut origin records) (owner_at records place) false in
+      let cut : Bool = option_map_or (is_name_among (delegation_of origin) records) (owner_at records place) false in
+      sym (hidden_is place rtype below cut may_be_server is_server a refl refl d e) ∙ ap (λ g. is_of_child rtype below cut && not g) h ∙ and_off (is_of_child rtype below cut)

@@ -1,13 +1,13 @@
 -- Records that a zone lends, with their octets in other types, and what they are in its list.
-use Rattle.std.proofs.Common.{ℕ, ◌≡◌, Bool, true, false, Option, Some, None, List, [], ◌∷◌, refl, sym, ap, ◌∙◌}
-use Rattle.std.specs.Prelude.{◌||◌, if◌then◌else◌, option_and_then}
+use Rattle.std.proofs.Common.{ℕ, ◌≡◌, Bool, true, false, Option, Some, None, List, [], ◌∷◌, refl, sym, ap}
+use Rattle.std.specs.Prelude.{◌==◌, ◌&&◌, ◌||◌, if◌then◌else◌, option_and_then}
 use Rattle.std.specs.Option.{option_map, option_map_or}
-use Rattle.dns_wire.specs.Labelled.{wire_same}
-use Rattle.dns_wire.specs.Wire.{wire}
+use Rattle.rdata_values.specs.Rtype as Rtype
+use Rattle.rdata_values.specs.declared.types.RecordType.{RecordType}
 use Rattle.zone_record.specs.declared.record.Record.{Record}
-use Rattle.zone_rules.specs.Above.{parent_of}
+use Rattle.zone_rules.specs.Above.{is_below, parent_of}
 use Rattle.zone_rules.specs.Rules.{is_below_zone_cut, is_zone_cut}
-use Rattle.zone_rules.specs.Zones.{as_listed, type_of}
+use Rattle.zone_rules.specs.Zones.{as_listed, host_of, type_of}
 use Rattle.zone_delegations.specs.Hidden.{delegation_of, is_delegating, server_of}
 
 same_some : {X : Type 0} (x y : X) → Some x ≡ Some y → x ≡ y
@@ -17,10 +17,6 @@ module _ {N O R S : Type 0} where
   pub listed_owner : (o : Option (Record N O)) (r : Record R S) → Some r ≡ option_map as_listed o → Some r.owner ≡ option_map (λ x. x.owner) o
   listed_owner None r e = cc
   listed_owner (Some x) r e = ap (λ z. Some z.owner) (same_some r (as_listed x) e)
-
-  pub listed_type : (o : Option (Record N O)) (r : Record R S) → Some r ≡ option_map as_listed o → type_of r ≡ option_map_or type_of o 0
-  listed_type None r e = cc
-  listed_type (Some x) r e = ap type_of (same_some r (as_listed x) e)
 
   pub listed_delegating : (origin : List (List ℕ)) (o : Option (Record N O)) (r : Record R S) → Some r ≡ option_map as_listed o → is_delegating origin r ≡ option_map_or (is_delegating origin) o false
   listed_delegating origin None r e = cc
@@ -34,15 +30,24 @@ module _ {N O R S : Type 0} where
   listed_server origin None r e = cc
   listed_server origin (Some x) r e = ap (server_of origin) (same_some r (as_listed x) e)
 
-  -- owners with the same octets are equal
-  pub one_owner : (o p : Option (Record N O)) (r s : Record R S) → Some r ≡ option_map as_listed o → Some s ≡ option_map as_listed p → wire r.owner ≡ wire s.owner
-      → option_map (λ x. x.owner) o ≡ option_map (λ x. x.owner) p
-  one_owner o p r s e f w = sym (listed_owner o r e) ∙ ap Some (wire_same r.owner s.owner w) ∙ listed_owner p s f
+pub some_type : {N O : Type 0} (o : Option (Record N O)) (t : RecordType) → Some t ≡ option_map type_of o → t ≡ option_map_or type_of o 0
+some_type None t e = cc
+some_type (Some x) t e = same_some t (type_of x) e
 
-  -- equal owners have the same octets
-  pub one_wire : (o p : Option (Record N O)) (r s : Record R S) → Some r ≡ option_map as_listed o → Some s ≡ option_map as_listed p
-      → option_map (λ x. x.owner) o ≡ option_map (λ x. x.owner) p → wire r.owner ≡ wire s.owner
-  one_wire o p r s e f h = ap wire (same_some r.owner s.owner (listed_owner o r e ∙ h ∙ sym (listed_owner p s f)))
+-- ---- a record of another type than NS
+
+module _ {N O : Type 0} (origin : List (List ℕ)) where
+  pub other_delegating : (o : Option (Record N O)) → (option_map_or type_of o 0 == Rtype.ns) ≡ false → false ≡ option_map_or (is_delegating origin) o false
+  other_delegating None h = refl
+  other_delegating (Some x) h = sym (ap (λ b. b && is_below x.owner origin) h)
+
+  pub other_delegation : (o : Option (Record N O)) → (option_map_or type_of o 0 == Rtype.ns) ≡ false → option_and_then (delegation_of origin) o ≡ None
+  other_delegation None h = refl
+  other_delegation (Some x) h = ap (λ b. if b && is_below x.owner origin then Some x.owner else None) h
+
+  pub other_server : (o : Option (Record N O)) → (option_map_or type_of o 0 == Rtype.ns) ≡ false → option_and_then (server_of origin) o ≡ None
+  other_server None h = refl
+  other_server (Some x) h = ap (λ b. if b then option_and_then (λ host. if is_below host origin then Some host else None) (host_of x) else None) h
 
 -- ---- an NS below the apex has its owner as its name
 

@@ -178,6 +178,17 @@ module _ {N O : Type 0} (origin : List (List ℕ)) (records : List (Record N O))
           marked_already x records before k r.owner lt (ap (option_map (λ r. r.owner)) e)
           (ap (same_name r.owner) (delegation_is origin r x h) ∙ same_itself r.owner) own mark
 
+-- a record that is marked adds no mark
+pub marked_before : {N O : Type 0} (origin : List (List ℕ)) (records : List (Record N O)) (k : ℕ) (marks : List Bool) → k < length records → AreMarks (delegation_of origin) (take k records) records marks
+    → get_or marks k false ≡ true → AreMarks (delegation_of origin) (take (k + 1) records) records marks
+marked_before origin records k marks lt are mark = by (option_and_then (delegation_of origin) (slice_get records k)) refl
+  where
+    by : (o : Option (List (List ℕ))) → option_and_then (delegation_of origin) (slice_get records k) ≡ o → AreMarks (delegation_of origin) (take (k + 1) records) records marks
+    by None e = marks_same (delegation_of origin) records k marks lt e are
+    by (Some name) e =
+        marks_more (delegation_of origin) records k name marks marks lt e are
+        (own_marked origin records k name marks lt e (owner_marks (delegation_of origin) records (take k records) marks are) mark)
+
 -- ---- a loop that sets marks
 
 pub set_none : (marks : List Bool) (first : ℕ) → AreMarkedFrom marks marks first first

@@ -15,9 +15,6 @@ owner_at records place = option_map (λ r. r.owner) (slice_get records place)
 abbrev pub type_at : {N O : Type 0} → List (Record N O) → ℕ → RecordType
 type_at records place = option_map_or type_of (slice_get records place) 0
 
-abbrev pub HaveOneOwner : {N O : Type 0} → List (Record N O) → ℕ → ℕ → Type 0
-HaveOneOwner records left right = owner_at records left ≡ owner_at records right
-
 -- the record at an index is an NS below the apex
 abbrev pub is_delegating_at : {N O : Type 0} → List (List ℕ) → List (Record N O) → ℕ → Bool
 is_delegating_at origin records place = option_map_or (is_delegating origin) (slice_get records place) false

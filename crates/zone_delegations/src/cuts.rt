@@ -1,16 +1,33 @@
 //! The delegations of a zone, and the owners below them.
-ghost use Rattle.std.specs.Prelude.{◌≡◌, ◌<◌, ◌↔◌, IsTrue, length};
+ghost use Rattle.std.specs.Prelude.{◌≡◌, ◌<◌, ◌==◌, length};
 ghost use Rattle.std.specs.List.{list_any};
+ghost use Rattle.rdata_values.specs.Rtype as Rtype;
 ghost use Rattle.zone_rules.specs.Rules.{is_below_zone_cut};
 ghost use Rattle.zone_delegations.specs.Hidden.{is_delegating};
-ghost use Rattle.zone_delegations.specs.Owners.{is_delegating_at, HaveOneOwner, IsBelowAt};
+ghost use Rattle.zone_delegations.specs.Owners.{is_delegating_at, type_at, IsBelowAt};
 
 use dns_wire::Name;
 use rdata_values::RecordType;
 use zone_rules::ZoneRecords;
 use zone_rules::hosts::{is_cut, is_under_cut};
-use zone_rules::names::{is_name_below, octets_of, parent};
+use zone_rules::names::{is_name_below, parent};
 use zone_rules::zone_records::{OwnerBuffer, ZoneRecord};
+
+/// Returns the type of the record at an index.
+pub(crate) fn type_at<Z: ZoneRecords>(records: &Z, place: usize) -> RecordType
+    requires { place < length (Z.contents records.now) }
+    ensures { result ≡ type_at (Z.contents records.now) place }
+{
+    records.type_at(place)
+}
+
+/// Returns whether the record at an index is an NS.
+pub(crate) fn is_ns_at<Z: ZoneRecords>(records: &Z, place: usize) -> bool
+    requires { place < length (Z.contents records.now) }
+    ensures { result ≡ (type_at (Z.contents records.now) place == Rtype.ns) }
+{
+    type_at(records, place) == RecordType::NS
+}
 
 /// Returns whether a record is an NS below the apex.
 pub(crate) fn is_delegating(origin: &Name<&[u8]>, record: &ZoneRecord<'_>) -> bool
@@ -24,6 +41,9 @@ fn is_delegating_at<Z: ZoneRecords>(origin: &Name<&[u8]>, records: &Z, place: us
     requires { place < length (Z.contents records.now) }
     ensures { result ≡ is_delegating_at origin.now (Z.contents records.now) place }
 {
+    if !is_ns_at(records, place) {
+        return false;
+    }
     let mut owner = OwnerBuffer::new();
     let record = records.record(place, &mut owner);
     is_delegating(origin, &record)
@@ -65,26 +85,6 @@ pub(crate) fn is_below_at<Z: ZoneRecords>(origin: &Name<&[u8]>, records: &Z, pla
     is_below_cut(origin, records, &record.owner)
 }
 
-/// Returns whether octets are equal.
-fn are_equal(left: &[u8], right: &[u8]) -> bool
-    ensures { IsTrue result ↔ left.now ≡ right.now }
-{
-    left == right
-}
-
-/// Returns whether the records at two indexes have the same owner, in the same letters.
-fn have_one_owner<Z: ZoneRecords>(records: &Z, left: usize, right: usize) -> bool
-    requires left { left < length (Z.contents records.now) }
-    requires right { right < length (Z.contents records.now) }
-    ensures { IsTrue result ↔ HaveOneOwner (Z.contents records.now) left right }
-{
-    let mut owner = OwnerBuffer::new();
-    let mut other_owner = OwnerBuffer::new();
-    let record = records.record(left, &mut owner);
-    let other = records.record(right, &mut other_owner);
-    are_equal(octets_of(&record.owner), octets_of(&other.owner))
-}
-
 /// Returns whether the owner of the record at an index is below a delegation, if that is known of
 /// another record. It is looked up once for records that have one owner.
 pub(crate) fn is_below_after<Z: ZoneRecords>(
@@ -99,7 +99,7 @@ pub(crate) fn is_below_after<Z: ZoneRecords>(
     requires known { IsBelowAt origin.now (Z.contents records.now) before was_below }
     ensures { IsBelowAt origin.now (Z.contents records.now) place result }
 {
-    if have_one_owner(records, before, place) {
+    if records.have_one_owner(before, place) {
         return was_below;
     }
     is_below_at(origin, records, place)

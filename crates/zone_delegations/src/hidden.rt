@@ -1,16 +1,15 @@
 //! Finds the records that delegations hide.
 ghost use Rattle.std.specs.Prelude.{◌≡◌, ◌<◌, ◌++◌, IfOk, OnOk, length};
 ghost use Rattle.zone_delegations.specs.Hidden.{hidden_if, is_glue_type, is_parent_type, HasHidden};
-ghost use Rattle.zone_delegations.specs.Owners.{hides, is_glue, is_of_child, type_at, AreAllCutMarks, AreAllServerMarks};
+ghost use Rattle.zone_delegations.specs.Owners.{hides, is_glue, is_of_child, AreAllCutMarks, AreAllServerMarks};
 
-use crate::cuts::{has_delegation, is_below_after, is_below_at};
+use crate::cuts::{has_delegation, is_below_after, is_below_at, type_at};
 use crate::marks::{delegation_marks, server_marks};
 use dns_octets::AsOctets;
 use dns_wire::Name;
 use rdata_values::RecordType;
 use std::alloc::{AllocError, Allocator};
 use zone_rules::names::view;
-use zone_rules::zone_records::OwnerBuffer;
 use zone_rules::{SortedSets, ZoneRecords};
 
 /// Returns whether a zone has records of a type at its delegations.
@@ -58,16 +57,6 @@ fn hides(
     is_of_child(rtype, is_below, is_cut) && !is_glue(rtype, may_be_server, is_server)
 }
 
-/// Returns the type of the record at an index.
-fn type_at<Z: ZoneRecords>(records: &Z, place: usize) -> RecordType
-    requires { place < length (Z.contents records.now) }
-    ensures { result ≡ type_at (Z.contents records.now) place }
-{
-    let mut owner = OwnerBuffer::new();
-    let record = records.record(place, &mut owner);
-    record.data.rtype()
-}
-
 /// Appends an index, if the record there is hidden.
 fn add_if<A: Allocator>(
     is_hidden: bool,
@@ -102,11 +91,15 @@ fn hidden_by<Z: ZoneRecords, A: Allocator>(
     let mut before = 0;
     let mut is_below = is_below_at(origin, records, 0);
     for place in 0..records.len() {
+        let rtype = type_at(records, place);
+        let is_server = servers[place];
+        // Glue isn't hidden, whatever delegations are above it.
+        if is_glue(rtype, may_be_server, is_server) {
+            continue;
+        }
         is_below = is_below_after(origin, records, before, is_below, place);
         before = place;
-        let rtype = type_at(records, place);
         let is_cut = cuts[place];
-        let is_server = servers[place];
         let is_hidden = hides(rtype, is_below, is_cut, may_be_server, is_server);
         add_if(is_hidden, place, &mut found)?;
     }

@@ -2,8 +2,9 @@
 ghost use Rattle.std.specs.Prelude.{◌≡◌, ◌+◌, ◌<◌, ◌≤◌, IfOk, false, length, replicate};
 ghost use Rattle.zone_delegations.specs.Hidden.{delegation_of, server_of};
 ghost use Rattle.zone_delegations.specs.Owners.{AreAllCutMarks, AreAllServerMarks, AreCutMarks, AreMarkedBy, AreMarkedFrom, AreOwnerMarks, AreServerMarks};
+ghost use Rattle.zone_rules.specs.Searches.{AreOwnedFrom};
 
-use crate::cuts::is_delegating;
+use crate::cuts::{is_delegating, is_ns_at};
 use dns_wire::Name;
 use rdata_values::RecordType;
 use std::alloc::{AllocError, Allocator};
@@ -56,16 +57,19 @@ fn set_marks<A: Allocator>(marks: &mut Vec<bool, A>, first: usize, past: usize)
     }
 }
 
-/// Marks the records that have a name as their owner. If one is marked, all are.
+/// Marks the records that have a name as their owner: those from one index up to another. If one is
+/// marked, all are.
 fn mark_owners<Z: ZoneRecords, A: Allocator>(
-    records: &Z,
-    name: &Name<&[u8]>,
+    _records: &Z,
+    _name: &Name<&[u8]>,
+    first: usize,
+    past: usize,
     marks: &mut Vec<bool, A>,
 )
-    requires { AreOwnerMarks (Z.contents records.now) marks.old.items }
-    ensures { AreMarkedBy name.now (Z.contents records.now) marks.old.items marks.new.items }
+    requires owned { AreOwnedFrom _name.now (Z.contents _records.now) first past }
+    requires marks { AreOwnerMarks (Z.contents _records.now) marks.old.items }
+    ensures { AreMarkedBy _name.now (Z.contents _records.now) marks.old.items marks.new.items }
 {
-    let (first, past) = records.places(name);
     if first >= past {
         return;
     }
@@ -88,16 +92,20 @@ fn mark_delegation<Z: ZoneRecords, A: Allocator>(
     requires marks { AreCutMarks origin.now (Z.contents records.now) place marks.old.items }
     ensures { AreCutMarks origin.now (Z.contents records.now) (place + 1) marks.new.items }
 {
+    if !is_ns_at(records, place) {
+        return;
+    }
+    let is_marked = marks[place];
+    if is_marked {
+        return;
+    }
     let mut owner = OwnerBuffer::new();
     let record = records.record(place, &mut owner);
     let Some(name) = delegation_of(origin, &record) else {
         return;
     };
-    let is_marked = marks[place];
-    if is_marked {
-        return;
-    }
-    mark_owners(records, &name, marks);
+    let (first, past) = records.places_at(place);
+    mark_owners(records, &name, first, past, marks);
 }
 
 /// Marks the records whose owner is the host of the record at an index, if this is an NS.
@@ -111,12 +119,16 @@ fn mark_server<Z: ZoneRecords, A: Allocator>(
     requires marks { AreServerMarks origin.now (Z.contents records.now) place marks.old.items }
     ensures { AreServerMarks origin.now (Z.contents records.now) (place + 1) marks.new.items }
 {
+    if !is_ns_at(records, place) {
+        return;
+    }
     let mut owner = OwnerBuffer::new();
     let record = records.record(place, &mut owner);
     let Some(name) = server_of(origin, &record) else {
         return;
     };
-    mark_owners(records, &name, marks);
+    let (first, past) = records.places(&name);
+    mark_owners(records, &name, first, past, marks);
 }
 
 /// Returns, for each record, whether its owner is a delegation.
