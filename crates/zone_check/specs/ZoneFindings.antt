@@ -69,6 +69,16 @@ without_repeats seen [] = []
 without_repeats seen (b ∷ broken) =
     if is_repeat seen (repeated_directive b) then without_repeats seen broken else b ∷ without_repeats (seen ++ option_to_list (repeated_directive b)) broken
 
--- the findings about the broken rules of a zone, in their order
+-- the directives that were seen, and then those of other duplicates, each once
+abbrev pub directives_after : (seen : List DirectiveLine) → List BrokenRule → List DirectiveLine
+directives_after seen [] = seen
+directives_after seen (b ∷ broken) =
+    if is_repeat seen (repeated_directive b) then directives_after seen broken else directives_after (seen ++ option_to_list (repeated_directive b)) broken
+
+-- the findings about some broken rules of a zone, in their order, after directives that were seen
+abbrev pub FindingsAfter : ZoneContext → (seen : List DirectiveLine) → List BrokenRule → (before after : List ZoneFinding) → Type 0
+FindingsAfter c seen broken before after = after ≡ before ++ flat_map (λ b. option_to_list (reported_finding c b.finding)) (without_repeats seen broken)
+
+-- the findings about all broken rules of a zone
 abbrev pub FindingsOfZone : ZoneContext → List BrokenRule → (before after : List ZoneFinding) → Type 0
-FindingsOfZone c broken before after = after ≡ before ++ flat_map (λ b. option_to_list (reported_finding c b.finding)) (without_repeats [] broken)
+FindingsOfZone c broken before after = FindingsAfter c [] broken before after

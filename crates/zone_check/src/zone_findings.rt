@@ -1,7 +1,7 @@
 //! Finds what is reported about the records of a zone.
 ghost use Rattle.std.specs.Prelude.{◌≡◌, ◌++◌, OnOk, option_to_list};
 ghost use Rattle.std.specs.List.{list_any};
-ghost use Rattle.zone_check.specs.ZoneFindings.{FindingsOfZone, is_at_target, is_missing_record, is_repeat, is_reported_rule, is_same_directive, reported_finding, repeated_directive, zone_finding};
+ghost use Rattle.zone_check.specs.ZoneFindings.{FindingsAfter, directives_after, is_at_target, is_missing_record, is_repeat, is_reported_rule, is_same_directive, reported_finding, repeated_directive, zone_finding};
 
 use crate::codes::code_of_rule;
 use std::alloc::{AllocError, Global};
@@ -178,20 +178,22 @@ fn append_finding(
 }
 
 /// Appends the findings about the records of a zone, in the order of the broken rules. The
-/// duplicates of a directive are reported once. Fails without memory.
+/// duplicates of a directive are reported once: `seen` has the directives of those before, and then
+/// these too. So the rules of a zone can be given in parts. Fails without memory.
 pub fn find_in_zone(
-    alloc: Global,
     broken: &[BrokenRule],
     context: ZoneContext,
+    seen: &mut Vec<DirectiveLine>,
     found: &mut Vec<ZoneFinding>,
 ) -> Result<(), AllocError>
-    ensures { OnOk result (FindingsOfZone context broken.now found.old.items found.new.items) }
+    ensures found { OnOk result (FindingsAfter context seen.old.items broken.now
+        found.old.items found.new.items) }
+    ensures seen { OnOk result (seen.new.items ≡ directives_after seen.old.items broken.now) }
 {
-    let mut seen = Vec::new(alloc);
     for one in broken {
         let directive = repeated_directive(one);
         if !is_repeat(directive, seen.as_slice()) {
-            append_directive(directive, &mut seen)?;
+            append_directive(directive, seen)?;
             append_finding(reported_finding(one.finding, context), found)?;
         }
     }
