@@ -3,12 +3,12 @@ mod record_checks;
 
 use crate::findings::Findings;
 use crate::held_zone::{
-    HeldZone, RecordLocation, SortedZone, broken_rules, is_of_signed_absence, other_soa,
+    HeldZone, RecordLocation, SortedZone, broken_rules, is_of_signed_absence, lacks_soa,
 };
 use crate::hidden_zone::report_hidden;
 use crate::lone_rules::breaks_none;
 use crate::refusals::refused_type;
-use crate::rule_texts::CheckedZone;
+use crate::rule_texts::{CheckedZone, other_soa};
 use crate::scan::needs_lint;
 use crate::scopes::{Scope, scope_of};
 use crate::signature_groups::{groups_of, is_of_time};
@@ -27,12 +27,12 @@ use zone_check::name_findings::OriginState;
 use zone_check::octet_findings::ReportedOctets;
 use zone_check::scan::{OctetScan, scan_octets};
 use zone_check::value_findings::data_code;
-use zone_check::zone_findings::{ZoneContext, find_in_zone};
+use zone_check::zone_findings::{DirectiveLine, ZoneContext, find_in_zone};
 use zone_dnssec::Times;
 use zone_format::place::LocatedOffset;
 use zone_reader::{NameBuffer, ParsedEntry, directive_word};
 use zone_rules::names::view;
-use zone_rules::{SortedSets, ZoneRecords, check_zone};
+use zone_rules::{Finding, SortedSets, ZoneRecords, find_broken, find_lacking};
 use zone_stream::BlockRefusal;
 use zonetext_files::generated::RejectedDirective;
 use zonetext_files::open_file::first_place;
@@ -49,6 +49,9 @@ use zonetext_findings::octet_texts::{is_of_file, octet_text};
 use zonetext_findings::reporter::{FindingText, Reporter};
 use zonetext_findings::subjects::Text;
 use zonetext_report::code::Code;
+
+/// Number of records whose findings are held at once.
+const PART: usize = 4096;
 
 /// What is required of records.
 #[derive(Clone, Copy)]
@@ -207,6 +210,13 @@ impl<'a> Checker<'a> {
             has_reported_owner: false,
             is_cut: false,
             has_gap: false,
+        }
+    }
+
+    /// Allocates memory for the records of a file with this size, if they are stored.
+    pub fn expect(&mut self, size: u64) {
+        if let Some(held) = &mut self.held {
+            held.expect(size);
         }
     }
 
@@ -432,6 +442,28 @@ impl<'a> Checker<'a> {
         }
     }
 
+    /// Reports findings of some records: those of a zone, or only those of RRsets. `seen` has the
+    /// directives whose duplicates were reported.
+    fn report_broken<Origin: AsOctets>(
+        &mut self,
+        checked: &CheckedZone<'_, Origin>,
+        found: &[Finding],
+        is_zone: bool,
+        seen: &mut Vec<DirectiveLine>,
+    ) -> Result<(), RunError> {
+        let broken = broken_rules(self.alloc, found, checked.held)?;
+        let context = ZoneContext {
+            is_zone,
+            has_gap: self.has_gap,
+        };
+        let mut findings = Vec::new(self.alloc);
+        find_in_zone(broken.as_slice(), context, seen, &mut findings)?;
+        for finding in &findings {
+            self.findings.report_rule(checked, finding)?;
+        }
+        Ok(())
+    }
+
     /// Reports which rules the records break: those of a zone, or only those of RRsets.
     fn check_zone<Origin: AsOctets>(
         &mut self,
@@ -443,27 +475,28 @@ impl<'a> Checker<'a> {
         let Some(refused) = SortedSets::new(refused.as_slice()) else {
             return Err(RunError::Damaged);
         };
-        let found = check_zone(self.alloc, zone, &held.records, &refused)?;
-        if is_zone {
-            if let Some(finding) = other_soa(found.as_slice(), held) {
-                let code = code_of_rule(finding.rule);
-                return self.report_other_soa(held, code, finding.record, zone);
-            }
-        }
         let checked = CheckedZone {
             zone,
             held,
             refused: &refused,
         };
-        let broken = broken_rules(self.alloc, found.as_slice(), held)?;
-        let context = ZoneContext {
-            is_zone,
-            has_gap: self.has_gap,
-        };
-        let mut findings = Vec::new(self.alloc);
-        find_in_zone(self.alloc, broken.as_slice(), context, &mut findings)?;
-        for finding in &findings {
-            self.findings.report_rule(&checked, finding)?;
+        let mut found = Vec::new(self.alloc);
+        find_lacking(zone, &held.records, &refused, &mut found)?;
+        if is_zone && lacks_soa(found.as_slice()) {
+            if let Some(finding) = other_soa(self.alloc, &checked)? {
+                let code = code_of_rule(finding.rule);
+                return self.report_other_soa(held, code, finding.record, zone);
+            }
+        }
+        let mut seen = Vec::new(self.alloc);
+        self.report_broken(&checked, found.as_slice(), is_zone, &mut seen)?;
+        let count = held.records.len();
+        for part in 0..count / PART + 1 {
+            let first = count.min(part.saturating_mul(PART));
+            let past = count.min(first.saturating_add(PART));
+            found.clear();
+            find_broken(zone, &held.records, &refused, first, past, &mut found)?;
+            self.report_broken(&checked, found.as_slice(), is_zone, &mut seen)?;
         }
         if is_zone {
             report_hidden(self.alloc, &mut self.findings, &checked, self.has_gap)?;
@@ -589,7 +622,7 @@ impl<'a> Checker<'a> {
         let code = finding.code;
         let spot = part_at(entry, finding.start, finding.width);
         let is_fault = code.is_text_fault();
-        let Some(severity) = self.findings.reporter.count(spot, code, is_fault) else {
+        let Some(severity) = self.findings.reporter.count(spot, code, is_fault)? else {
             return Ok(());
         };
         let (spot, text) = octet_text(self.alloc, entry, spot, finding)?;

@@ -71,6 +71,15 @@ impl HeldZone {
         }
     }
 
+    /// Allocates memory for the records of a file with this size, if it can: three octets for four
+    /// of the file, and a record for each 40. Without it, memory is allocated as records are added.
+    pub fn expect(&mut self, size: u64) {
+        let Ok(size) = usize::try_from(size) else {
+            return;
+        };
+        let _ = self.records.reserve(size / 4 * 3, size / 40);
+    }
+
     /// Stores a record with its position.
     pub fn add(&mut self, given: &RecordRef<'_>, found: RecordLocation) -> Result<(), RunError> {
         let (Some(record), Ok(file)) = (record_of(given), u32::try_from(found.file)) else {
@@ -209,29 +218,9 @@ pub fn broken_rules(
     Ok(broken)
 }
 
-/// Returns whether a finding is an SOA at another name than the zone's.
-fn is_other_soa(finding: &Finding, zone: &SortedZone) -> bool {
-    if !matches!(finding.rule, Rule::Outside | Rule::SoaNotApex) {
-        return false;
-    }
-    match finding.record {
-        Some(place) => zone.rtype(place) == Some(RecordType::SOA),
-        None => false,
-    }
-}
-
-/// Returns the first finding that is an SOA at another name than the zone's, if no SOA is at the
-/// zone's name: then the records are probably those of another zone.
-pub fn other_soa(found: &[Finding], zone: &SortedZone) -> Option<Finding> {
-    let mut lacks_soa = false;
-    let mut other = None;
-    for finding in found {
-        lacks_soa = lacks_soa || finding.rule == Rule::NoSoa;
-        if other.is_none() && is_other_soa(finding, zone) {
-            other = Some(*finding);
-        }
-    }
-    if lacks_soa { other } else { None }
+/// Returns whether a finding is that the zone has no SOA.
+pub fn lacks_soa(found: &[Finding]) -> bool {
+    found.iter().any(|finding| finding.rule == Rule::NoSoa)
 }
 
 /// Returns whether a signed zone may break a rule because a record is missing.

@@ -10,7 +10,7 @@ use zone_check::texts::code_text;
 use zone_rules::hosts::dname_over_host;
 use zone_rules::names::{is_name_below, view};
 use zone_rules::zone_records::OwnerBuffer;
-use zone_rules::{Finding, Rule, SortedSets, ZoneRecords};
+use zone_rules::{Finding, Rule, SortedSets, ZoneRecords, find_broken};
 use zonetext_findings::subjects::Text;
 
 /// The records of a zone, and its RRsets with a rejected entry.
@@ -19,6 +19,35 @@ pub struct CheckedZone<'z, Origin: AsOctets> {
     pub zone: &'z Name<Origin>,
     pub held: &'z SortedZone,
     pub refused: &'z SortedSets<'z>,
+}
+
+/// Returns the finding of the first SOA, if it is at another name than the zone's: then the records are
+/// probably those of another zone.
+pub fn other_soa<Origin: AsOctets>(
+    alloc: Global,
+    checked: &CheckedZone<'_, Origin>,
+) -> Result<Option<Finding>, AllocError> {
+    let records = &checked.held.records;
+    for place in 0..records.len() {
+        if records.rtype(place) == RecordType::SOA {
+            let mut found = Vec::new(alloc);
+            find_broken(
+                checked.zone,
+                records,
+                checked.refused,
+                place,
+                place + 1,
+                &mut found,
+            )?;
+            return Ok(
+                found
+                    .iter()
+                    .find(|finding| matches!(finding.rule, Rule::Outside | Rule::SoaNotApex))
+                    .copied(),
+            );
+        }
+    }
+    Ok(None)
 }
 
 /// Returns the target of a record: the host of NS, MX and SRV, and that of CNAME.
