@@ -1,5 +1,5 @@
 //! Finds a zone's SOA and its digests in their file.
-use crate::gathered::{Gathered, Gatherer};
+use crate::stored_records::{RecordCollector, StoredRecords};
 use crate::visit::{EntryVisitor, Outcome, Reading, visit_entries};
 use dns_lexer::pieces::Span;
 use rdata_fields::{RecordRef, TokenSource};
@@ -79,17 +79,17 @@ fn placed_of(alloc: Global, entry: &Entry<'_>, given: &RecordRef<'_>) -> Result<
     })
 }
 
-/// Collects the records of a file in canonical form, and the locations of its SOAs and digests.
+/// Stores the records of a file in canonical form, and locates its SOAs and digests.
 #[derive(Drop)]
 struct Finder {
     alloc: Global,
-    gatherer: Gatherer<'static>,
+    collector: RecordCollector<'static>,
     found: Vec<Placed>,
 }
 
 impl EntryVisitor for Finder {
     fn process_entry(&mut self, entry: &Entry<'_>) -> Result<(), RunError> {
-        self.gatherer.process_entry(entry)?;
+        self.collector.process_entry(entry)?;
         if let Some(given) = entry.record()? {
             if matches!(given.rtype, RecordType::SOA | RecordType::ZONEMD) {
                 self.found.push(placed_of(self.alloc, entry, &given)?)?;
@@ -99,18 +99,18 @@ impl EntryVisitor for Finder {
     }
 }
 
-/// Returns the records of a file, and its SOAs and digests, in their order. If an entry is
-/// rejected, that is reported, and the status is returned in place of them: 1, or 3 if a file can't
-/// be read.
+/// Returns the records of a file in canonical order, and its SOAs and digests in theirs. If an entry
+/// is rejected, that is reported, and the status is returned in place of them: 1, or 3 if a file
+/// can't be read.
 pub fn find(
     rt: &HostRuntime,
     file: &str,
     reading: &Reading<'_>,
-) -> Result<(Gathered, Vec<Placed>), u8> {
+) -> Result<(StoredRecords, Vec<Placed>), u8> {
     let alloc = rt.alloc();
     let finder = Finder {
         alloc,
-        gatherer: Gatherer::new(alloc, Selection::all()),
+        collector: RecordCollector::new(alloc, Selection::all(), false),
         found: Vec::new(alloc),
     };
     let Outcome {
@@ -122,9 +122,9 @@ pub fn find(
         return Err(status);
     }
     let Finder {
-        gatherer,
+        collector,
         found,
         ..
     } = visitor;
-    Ok((gatherer.gathered(seen), found))
+    Ok((collector.stored(seen), found))
 }

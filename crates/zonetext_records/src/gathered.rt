@@ -1,4 +1,4 @@
-//! The records of zone files in canonical form, stored in memory.
+//! The records of zone files with the letter case of their names, stored in memory.
 use crate::visit::{EntryVisitor, Outcome, Reading, visit_entries};
 use rdata_fields::RecordRef;
 use std::alloc::Global;
@@ -9,8 +9,7 @@ use zonetext_checker::record_arena::Held;
 use zonetext_files::stop::RunError;
 use zonetext_files::zone_files::Entry;
 
-/// Records in canonical form (RFC 4034 section 6.2) or as they are spelled, each with the number of
-/// records before it.
+/// Records as they are spelled, each with the number of records before it.
 #[derive(Drop)]
 pub struct Gathered {
     held: Held<usize>,
@@ -71,38 +70,9 @@ impl Lowerer {
 
 /// Collects the records of files.
 #[derive(Drop)]
-pub struct Gatherer<'s> {
+struct Gatherer<'s> {
     selection: Selection<'s>,
-    /// Whether names keep their letter case.
-    keeps_case: bool,
     held: Held<usize>,
-    lowerer: Lowerer,
-}
-
-impl<'s> Gatherer<'s> {
-    /// Returns a collection before the first record.
-    pub fn new(alloc: Global, selection: Selection<'s>) -> Gatherer<'s> {
-        Gatherer {
-            selection,
-            keeps_case: false,
-            held: Held::new(alloc),
-            lowerer: Lowerer::new(alloc),
-        }
-    }
-
-    /// Returns the same collection, in which names keep their letter case.
-    pub fn keeping_case(mut self) -> Gatherer<'s> {
-        self.keeps_case = true;
-        self
-    }
-
-    /// Returns the records that were collected, and the first SOA.
-    pub fn gathered(self, seen: Option<SoaInfo>) -> Gathered {
-        Gathered {
-            held: self.held,
-            seen,
-        }
-    }
 }
 
 impl EntryVisitor for Gatherer<'_> {
@@ -114,22 +84,23 @@ impl EntryVisitor for Gatherer<'_> {
             return Ok(());
         }
         let number = self.held.len();
-        if self.keeps_case {
-            return self.held.add(given, number);
-        }
-        let lowered = self.lowerer.lower(given)?;
-        self.held.add(lowered, number)
+        self.held.add(given, number)
     }
 }
 
-/// Passes the records of files to a collection, and returns them. If an entry is rejected, that is
-/// reported, and the status is returned in place of them: 1, or 3 if a file can't be read.
-pub fn gather_by(
+/// Returns the selected records of files, whose names keep their letter case. If an entry is
+/// rejected, that is reported, and the status is returned in place of them: 1, or 3 if a file can't
+/// be read.
+pub fn gather(
     rt: &HostRuntime,
     files: &[&str],
     reading: &Reading<'_>,
-    gatherer: Gatherer<'_>,
+    selection: Selection<'_>,
 ) -> Result<Gathered, u8> {
+    let gatherer = Gatherer {
+        selection,
+        held: Held::new(rt.alloc()),
+    };
     let Outcome {
         status,
         seen,
@@ -138,16 +109,8 @@ pub fn gather_by(
     if reading.fails(status) {
         return Err(status);
     }
-    Ok(visitor.gathered(seen))
-}
-
-/// Returns the selected records of files, in canonical form. If an entry is rejected, that is
-/// reported, and the status is returned in place of them: 1, or 3 if a file can't be read.
-pub fn gather(
-    rt: &HostRuntime,
-    files: &[&str],
-    reading: &Reading<'_>,
-    selection: Selection<'_>,
-) -> Result<Gathered, u8> {
-    gather_by(rt, files, reading, Gatherer::new(rt.alloc(), selection))
+    Ok(Gathered {
+        held: visitor.held,
+        seen,
+    })
 }

@@ -13,7 +13,7 @@ pub mod records;
 mod run_files;
 mod sorter;
 mod sorting;
-mod stored_records;
+pub mod stored_records;
 pub mod update;
 mod update_lines;
 pub mod visit;

@@ -5,7 +5,7 @@ use rdata_fields::RecordRef;
 use rdata_values::RecordType;
 use std::alloc::{AllocError, Global};
 use zone_contents::{StoredZone, ZoneStore};
-use zone_record::{append_canonical_data, record_of};
+use zone_record::{Data, append_canonical_data, record_of};
 use zone_rules::ZoneRecords;
 use zone_set::Selection;
 use zonetext_checker::checker::SoaInfo;
@@ -71,6 +71,14 @@ impl StoredRecords {
         self.zone.position(place).1 as usize
     }
 
+    /// Returns the RDATA of the record at an index, if there is one.
+    pub fn data(&self, place: usize) -> Option<Data<&[u8]>> {
+        if place >= self.zone.len() {
+            return None;
+        }
+        Some(self.zone.data(place))
+    }
+
     /// Returns the file and the line where the entry of a record begins, by the record's number, if
     /// places were kept.
     pub fn place(&self, number: usize) -> Option<(&str, usize)> {
@@ -80,7 +88,7 @@ impl StoredRecords {
 
 /// Stores the records of files.
 #[derive(Drop)]
-struct RecordCollector<'s> {
+pub(crate) struct RecordCollector<'s> {
     alloc: Global,
     selection: Selection<'s>,
     /// Whether the places of records are kept.
@@ -106,6 +114,24 @@ fn store_or_empty(alloc: Global, store: Option<ZoneStore>) -> ZoneStore {
     match store {
         Some(store) => store,
         None => ZoneStore::new(alloc, &Name::root_ref()),
+    }
+}
+
+impl<'s> RecordCollector<'s> {
+    /// Returns a collection before the first record.
+    pub(crate) fn new(
+        alloc: Global,
+        selection: Selection<'s>,
+        keeps_places: bool,
+    ) -> RecordCollector<'s> {
+        RecordCollector {
+            alloc,
+            selection,
+            keeps_places,
+            store: None,
+            places: Places::new(alloc),
+            rdata: Vec::new(alloc),
+        }
     }
 }
 
@@ -155,7 +181,7 @@ impl EntryVisitor for RecordCollector<'_> {
 
 impl RecordCollector<'_> {
     /// Returns the records that were collected, in canonical order, and the first SOA.
-    fn stored(self, seen: Option<SoaInfo>) -> StoredRecords {
+    pub(crate) fn stored(self, seen: Option<SoaInfo>) -> StoredRecords {
         let store = store_or_empty(self.alloc, self.store);
         StoredRecords {
             zone: store.sort(),
@@ -175,15 +201,7 @@ pub fn store_records(
     selection: Selection<'_>,
     keeps_places: bool,
 ) -> Result<StoredRecords, u8> {
-    let alloc = rt.alloc();
-    let collector = RecordCollector {
-        alloc,
-        selection,
-        keeps_places,
-        store: None,
-        places: Places::new(alloc),
-        rdata: Vec::new(alloc),
-    };
+    let collector = RecordCollector::new(rt.alloc(), selection, keeps_places);
     let Outcome {
         status,
         seen,

@@ -1,7 +1,7 @@
 //! The command `diff --nsupdate`: writes the changes from one zone to another as commands of
 //! nsupdate.
 use crate::changes::{UNFIT, report_serial};
-use crate::gathered::{Gathered, Gatherer, NumberedRecord, gather_by};
+use crate::gathered::{Gathered, NumberedRecord, gather};
 use crate::update_lines::{is_long, push_without_ttl, record_text};
 use crate::visit::Reading;
 use dns_octets::AsOctets;
@@ -571,23 +571,12 @@ fn compare<'g>(
 /// the changes.
 #[inline(never)]
 pub fn run(rt: &HostRuntime, first: &str, second: &str, reading: &Reading<'_>, work: Work) -> u8 {
-    let alloc = rt.alloc();
     let selection = Selection {
         without_dnssec: !work.has_signing,
         ..Selection::all()
     };
-    let old = gather_by(
-        rt,
-        &[first],
-        reading,
-        Gatherer::new(alloc, selection).keeping_case(),
-    );
-    let new = gather_by(
-        rt,
-        &[second],
-        reading,
-        Gatherer::new(alloc, selection).keeping_case(),
-    );
+    let old = gather(rt, &[first], reading, selection);
+    let new = gather(rt, &[second], reading, selection);
     let (old, new) = match (old, new) {
         (Ok(old), Ok(new)) => (old, new),
         (Err(status), Err(other)) => return status.max(other),
