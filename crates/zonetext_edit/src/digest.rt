@@ -1,13 +1,13 @@
 //! The command `digest`: checks whether the digests in a zone are those of its records.
+use rdata_values::RecordType;
 use std::io;
-use zone_reader::NameBuffer;
-use zone_set::scope::is_apex;
-use zone_set::{CheckError, HashAlgorithm, Selection, Verdict, Zonemd, check_zone};
+use zone_contents::{apex_places, check_digests};
+use zone_set::{CheckError, HashAlgorithm, Selection, Verdict, Zonemd};
 use zonetext_files::lines::Lines;
 use zonetext_files::shown::Shown;
 use zonetext_files::stop::{EXIT_IO, RunError, exit_status};
-use zonetext_records::gathered::{Gathered, NumberedSet, gather};
 use zonetext_records::json_records::push_json_digest;
+use zonetext_records::stored_records::{StoredRecords, store_records};
 use zonetext_records::visit::Reading;
 
 /// The scheme SIMPLE.
@@ -82,13 +82,13 @@ fn report_json(
     Ok(())
 }
 
-/// Reports the verdict on each ZONEMD at the apex whose scheme and hash algorithm are known, and
-/// lists the others if that is asked for.
+/// Reports the verdict on each ZONEMD at the apex, by its index, whose scheme and hash algorithm are
+/// known, and lists the others if that is asked for.
 fn report_verdicts(
     rt: &HostRuntime,
     file: &str,
-    apex: &NameBuffer,
-    set: &NumberedSet<'_>,
+    stored: &StoredRecords,
+    places: &[usize],
     verdicts: &[Verdict],
     work: DigestOptions,
 ) -> Result<Outcome, RunError> {
@@ -96,17 +96,13 @@ fn report_verdicts(
         matches: false,
         differs: false,
     };
-    let mut verdicts = verdicts.iter();
     let name = file;
     let file = Shown(file);
-    for record in set.as_slice() {
-        let Some(zonemd) = Zonemd::of_data(&record.data) else {
+    for (place, verdict) in places.iter().zip(verdicts) {
+        let Some(data) = stored.data(*place) else {
             continue;
         };
-        if !is_apex(&record.owner, apex) {
-            continue;
-        }
-        let Some(verdict) = verdicts.next() else {
+        let Some(zonemd) = Zonemd::of_data(&data) else {
             continue;
         };
         let is_known = algorithm_of(&zonemd).is_some();
@@ -148,16 +144,16 @@ fn report_none(rt: &HostRuntime, file: &str, verdicts: &[Verdict]) -> io::Result
 fn check(
     rt: &HostRuntime,
     file: &str,
-    gathered: &Gathered,
+    stored: &StoredRecords,
     work: DigestOptions,
 ) -> Result<u8, RunError> {
     let name = Shown(file);
-    let Some(seen) = &gathered.seen else {
+    let Some(seen) = &stored.seen else {
         eprintln!(rt; "zonetext: {name}: no SOA")?;
         return Ok(EXIT_IO);
     };
-    let (set, _) = gathered.set()?;
-    let verdicts = match check_zone(rt.alloc(), &seen.zone, &set) {
+    let alloc = rt.alloc();
+    let verdicts = match check_digests(alloc, &seen.zone, &stored.zone) {
         Ok(verdicts) => verdicts,
         Err(CheckError::NoSingleSoa) => {
             eprintln!(rt; "zonetext: {name}: no single SOA at the zone's name")?;
@@ -166,7 +162,8 @@ fn check(
         Err(CheckError::ShortBuf) => return Err(RunError::OutOfMemory),
     };
     let verdicts = verdicts.as_slice();
-    let outcome = report_verdicts(rt, file, &seen.zone, &set, verdicts, work)?;
+    let places = apex_places(alloc, &seen.zone, &stored.zone, RecordType::ZONEMD)?;
+    let outcome = report_verdicts(rt, file, stored, places.as_slice(), verdicts, work)?;
     if !outcome.matches && !outcome.differs {
         report_none(rt, file, verdicts)?;
     }
@@ -177,11 +174,11 @@ fn check(
 /// others of a known scheme and hash algorithm do too, unless one is enough.
 #[inline(never)]
 pub fn run(rt: &HostRuntime, file: &str, reading: &Reading<'_>, work: DigestOptions) -> u8 {
-    let gathered = match gather(rt, &[file], reading, Selection::all()) {
-        Ok(gathered) => gathered,
+    let stored = match store_records(rt, &[file], reading, Selection::all(), false) {
+        Ok(stored) => stored,
         Err(status) => return status,
     };
-    match check(rt, file, &gathered, work) {
+    match check(rt, file, &stored, work) {
         Ok(status) => status,
         Err(stop) => exit_status(rt, file, stop),
     }

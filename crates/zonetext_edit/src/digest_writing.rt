@@ -8,20 +8,22 @@ use std::alloc::{AllocError, Global};
 use std::fs::File;
 use std::io;
 use std::io::Read;
+use zone_contents::{apex_places, right_data};
 use zone_edit::{
     Edit, RecordPlace, SoaError, TokenError, ZonemdEdit, is_of_signed_zone, is_same_zonemd,
     push_entry_after, push_zonemd_edits, soa_place,
 };
 use zone_reader::NameBuffer;
 use zone_record::{Data, record_of};
+use zone_rules::ZoneRecords;
 use zone_set::scope::is_apex;
-use zone_set::{CheckError, HashAlgorithm, Zonemd, push_record, right_data, serial_of};
+use zone_set::{CheckError, HashAlgorithm, Zonemd, push_record, serial_of};
 use zonetext_files::shown::Shown;
 use zonetext_files::stop::{EXIT_IO, RunError, exit_status};
 use zonetext_lib::formatter::{Formatter, NoForm};
 use zonetext_lib::replace::{Original, Refusal};
 use zonetext_records::digest_places::{Placed, find};
-use zonetext_records::gathered::NumberedSet;
+use zonetext_records::stored_records::StoredRecords;
 use zonetext_records::visit::Reading;
 use zonetext_zones::options::USAGE;
 
@@ -123,24 +125,30 @@ fn zonemd_of(data: &Data<Vec<u8>>) -> Result<Zonemd<'_>, RunError> {
 fn right_of(
     alloc: Global,
     apex: &NameBuffer,
-    set: &NumberedSet<'_>,
+    stored: &StoredRecords,
     algorithm: HashAlgorithm,
 ) -> Result<Data<Vec<u8>>, DigestWriteError> {
-    match right_data(alloc, apex, set, algorithm) {
+    match right_data(alloc, apex, &stored.zone, algorithm) {
         Ok(data) => Ok(zonemd_data(data)?),
         Err(CheckError::NoSingleSoa) => Err(DigestWriteError::NoSingleSoa),
         Err(CheckError::ShortBuf) => Err(DigestWriteError::RunError(RunError::OutOfMemory)),
     }
 }
 
-/// Returns the serial of the SOA of a zone.
-fn serial_at(apex: &NameBuffer, set: &NumberedSet<'_>) -> Option<u32> {
-    for record in set.as_slice() {
-        if record.data.rtype() == RecordType::SOA && is_apex(&record.owner, apex) {
-            return serial_of(&record.data);
-        }
+/// Returns the serial of the first SOA of a zone.
+fn serial_at(
+    alloc: Global,
+    apex: &NameBuffer,
+    stored: &StoredRecords,
+) -> Result<Option<u32>, AllocError> {
+    let places = apex_places(alloc, apex, &stored.zone, RecordType::SOA)?;
+    let Some(place) = places.as_slice().first() else {
+        return Ok(None);
+    };
+    match stored.data(*place) {
+        Some(soa) => Ok(serial_of(&soa)),
+        None => Ok(None),
     }
-    None
 }
 
 /// Returns a line as it is formatted.
@@ -266,13 +274,13 @@ impl Plan {
 fn rights_of(
     alloc: Global,
     apex: &NameBuffer,
-    set: &NumberedSet<'_>,
+    stored: &StoredRecords,
     digests: &[&Placed],
 ) -> Result<Vec<Option<Data<Vec<u8>>>>, DigestWriteError> {
     let mut rights = Vec::new(alloc);
     for one in digests {
         let right = match algorithm_of(&zonemd_of(&one.record.data)?) {
-            Some(algorithm) => Some(right_of(alloc, apex, set, algorithm)?),
+            Some(algorithm) => Some(right_of(alloc, apex, stored, algorithm)?),
             None => None,
         };
         rights.push(right).map_err(AllocError::from)?;
@@ -287,17 +295,18 @@ fn planned(
     octets: &[u8],
     parts: &Parts<'_>,
     apex: &NameBuffer,
-    set: &NumberedSet<'_>,
+    stored: &StoredRecords,
     algorithm: HashAlgorithm,
 ) -> Result<Plan, DigestWriteError> {
     let mut plan = Plan::new(alloc);
     let digests = parts.digests.as_slice();
     if digests.is_empty() {
-        let right = right_of(alloc, apex, set, algorithm)?;
+        let right = right_of(alloc, apex, stored, algorithm)?;
         plan.add(octets, parts.soa, &right)?;
     } else {
-        let rights = rights_of(alloc, apex, set, digests)?;
-        plan.correct(octets, digests, rights.as_slice(), serial_at(apex, set))?;
+        let rights = rights_of(alloc, apex, stored, digests)?;
+        let serial = serial_at(alloc, apex, stored)?;
+        plan.correct(octets, digests, rights.as_slice(), serial)?;
     }
     Ok(plan)
 }
@@ -379,9 +388,9 @@ fn read(rt: &HostRuntime, file: &str) -> Result<Vec<u8>, RunError> {
 }
 
 /// Returns whether records are signed.
-fn is_signed(set: &NumberedSet<'_>) -> bool {
-    for record in set.as_slice() {
-        if is_of_signed_zone(record.data.rtype()) {
+fn is_signed(stored: &StoredRecords) -> bool {
+    for place in 0..stored.zone.len() {
+        if is_of_signed_zone(stored.zone.rtype(place)) {
             return true;
         }
     }
@@ -408,18 +417,17 @@ fn write(
 ) -> Result<Done, DigestWriteError> {
     let alloc = rt.alloc();
     let original = Original::find(rt, alloc, file, work.ignores_journal)?;
-    let (gathered, found) = match find(rt, file, reading) {
+    let (stored, found) = match find(rt, file, reading) {
         Ok(read) => read,
         Err(status) => return Err(DigestWriteError::Reported(status)),
     };
-    let Some(seen) = &gathered.seen else {
+    let Some(seen) = &stored.seen else {
         return Err(DigestWriteError::NoSoa);
     };
     let parts = parts_of(alloc, found.as_slice(), &seen.zone)?;
-    let (set, _) = gathered.set()?;
     let old = read(rt, file)?;
     let octets = old.as_slice();
-    let plan = planned(alloc, octets, &parts, &seen.zone, &set, work.algorithm)?;
+    let plan = planned(alloc, octets, &parts, &seen.zone, &stored, work.algorithm)?;
     let is_changed = !plan.edits.is_empty();
     if is_changed {
         rewrite(rt, original, OldText::Octets(octets), plan.edits.as_slice())?;
@@ -432,7 +440,7 @@ fn write(
     Ok(Done {
         lines,
         is_added,
-        breaks_signatures: is_changed && is_signed(&set),
+        breaks_signatures: is_changed && is_signed(&stored),
     })
 }
 
