@@ -4,6 +4,7 @@ use clap::ArgMatches;
 use dns_wire::DisplayWithDot;
 use rdata_values::Class;
 use std::alloc::{AllocError, Global};
+use std::fs::metadata;
 use std::io::{IsTerminal, Write};
 use std::{env, io};
 use zone_dnssec::Times;
@@ -289,6 +290,17 @@ fn check_file(rt: &HostRuntime, file: &str, options: &Options, totals: &mut Tota
     }
 }
 
+/// Returns the number of octets of a file, if that is known before it is read.
+fn size_of(rt: &HostRuntime, file: &str) -> Option<u64> {
+    if file == "-" {
+        return None;
+    }
+    match metadata(rt, file) {
+        Ok(found) if found.is_file() => Some(found.len()),
+        _ => None,
+    }
+}
+
 /// Checks a file, and returns the status.
 fn check_with(
     rt: &HostRuntime,
@@ -322,6 +334,9 @@ fn check_with(
     let reporter = Reporter::new(rt, policy, options.form, options.most);
     let mut checker = Checker::new(rt, reporter, limits, zone);
     checker.findings.reporter.before.has_finding = totals.has_finding;
+    if let Some(size) = size_of(rt, file) {
+        checker.expect(size);
+    }
     let checked = check_entries(rt, file, options, settings, &mut checker, state);
     let ended = checker.findings.reporter.end_file();
     totals.add(&checker.findings.reporter);
