@@ -8,12 +8,10 @@ use rdata_fields::RecordError;
 use rdata_values::{Class, ErrorKind, RecordType};
 use test_support::input::number_of;
 use test_support::{Answer, Failure, Heap, Inputs};
+use zone_contents::{StoredZone, ZoneStore, check_digests, sha384_digest, sha512_digest};
 use zone_reader::{NameBuffer, ParsedEntry, RecordReader, State};
 use zone_record::{Data, Record};
-use zone_set::{
-    CanonicalSet, Change, Verdict, ZoneSet, changes_between, check_zone, is_dnssec, serial_rises,
-    sha384_digest, sha512_digest,
-};
+use zone_set::{CanonicalSet, Change, Verdict, ZoneSet, changes_between, is_dnssec, serial_rises};
 
 type Owner = ArrayVec<u8, MAX_NAME>;
 
@@ -212,24 +210,41 @@ fn diff((old, new): (&[u8], &[u8]), answer: &mut Answer) {
     }
 }
 
+/// Returns the records of a zone's text in a store, in canonical order.
+fn stored<'a>(
+    text: &[u8],
+    apex: &Name<&[u8]>,
+    answer: &mut Answer<'a>,
+) -> Option<StoredZone<&'a Heap>> {
+    let records = read(text, state_of(Some(apex)), answer)?;
+    let mut store = ZoneStore::new(answer.heap(), apex);
+    for record in records.as_slice() {
+        if store.add(record, 0, 0).is_err() {
+            lack(answer);
+            return None;
+        }
+    }
+    Some(store.sort())
+}
+
 /// Adds the digest of a zone by a hash algorithm.
 fn digest(inputs: &[Vec<u8>], answer: &mut Answer) {
     let [hash, text, origin @ ..] = inputs else {
         return answer.fail(Failure::BadInputs);
     };
     let origin = origin_of(origin, answer);
-    let Some((records, _)) = canonical(text.as_slice(), origin.as_ref(), answer) else {
-        return;
-    };
     let Some(apex) = origin else {
         return answer.fail(Failure::BadInputs);
     };
+    let Some(zone) = stored(text.as_slice(), &apex, answer) else {
+        return;
+    };
     match number_of(hash.as_slice()) {
-        Some(1) => match sha384_digest(answer.heap(), &apex, &records) {
+        Some(1) => match sha384_digest(answer.heap(), &apex, &zone) {
             Ok(digest) => answer.add_shown(&base16::encode_display(digest.as_slice())),
             Err(error) => answer.refuse(&error),
         },
-        Some(2) => match sha512_digest(answer.heap(), &apex, &records) {
+        Some(2) => match sha512_digest(answer.heap(), &apex, &zone) {
             Ok(digest) => answer.add_shown(&base16::encode_display(digest.as_slice())),
             Err(error) => answer.refuse(&error),
         },
@@ -255,13 +270,13 @@ fn check(inputs: &[Vec<u8>], answer: &mut Answer) {
         return answer.fail(Failure::BadInputs);
     };
     let origin = origin_of(origin, answer);
-    let Some((records, _)) = canonical(text.as_slice(), origin.as_ref(), answer) else {
-        return;
-    };
     let Some(apex) = origin else {
         return answer.fail(Failure::BadInputs);
     };
-    match check_zone(answer.heap(), &apex, &records) {
+    let Some(zone) = stored(text.as_slice(), &apex, answer) else {
+        return;
+    };
+    match check_digests(answer.heap(), &apex, &zone) {
         Ok(verdicts) => {
             for verdict in verdicts.as_slice() {
                 answer.add_text(verdict_text(*verdict));
