@@ -11,7 +11,7 @@ import re
 import sys
 
 # Maximum number of them. A change that leaves fewer writes that number here.
-MOST = 171
+MOST = 163
 COLUMNS = 100
 
 TOP = pathlib.Path(__file__).resolve().parent.parent / "crates"
