@@ -1,3 +1,4 @@
+pub mod CollectedSteps
 pub mod DataSteps
 mod DotsAtEnd
 pub mod FindingSteps

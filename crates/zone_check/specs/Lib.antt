@@ -1,4 +1,5 @@
 pub mod Codes
+pub mod Collected
 pub mod Data
 pub mod DirectiveFindings
 pub mod EntryFindings

@@ -13,8 +13,10 @@ use Rattle.zonetext_report.specs.declared.code.Severity.TheVariants.{Error, Warn
 use Rattle.zone_check.specs.declared.entry.EntryKind.TheVariants.{Blank, OneRecord, TooLong}
 use Rattle.zone_check.specs.declared.finding.About.TheVariants.{Entry, Octets, Rejection, RuleAtToken, RuleOfRecord, Token}
 use Rattle.zone_check.specs.declared.octet_findings.ReportedOctets.{ReportedOctets}
+use Rattle.zone_check.specs.declared.collector.FoundFinding.{FoundFinding}
 use Rattle.zone_check.specs.declared.zone_findings.BrokenRule.{BrokenRule}
 use Rattle.zone_check.specs.declared.shown.Decision.TheVariants.{Shown, Counted, Omitted}
+use Rattle.zone_check.specs.Collected.{counted_after, kept_finding}
 use Rattle.zone_check.specs.Data.{has_ohttp_value}
 use Rattle.zone_check.specs.EntryFindings.{is_directive, is_news, is_of_parameters, is_scanned, long_finding, rejection_with, reports_crlf}
 use Rattle.zone_check.specs.FindingOrder.{first_findings}
@@ -199,6 +201,13 @@ first_two = refl
 
 all_three : first_findings 0 (Error ∷ Warning ∷ Error ∷ []) ≡ Error ∷ Warning ∷ Error ∷ []
 all_three = refl
+
+-- of three findings the second is left out: the third is kept after one other
+abbrev found_at : ℕ → FoundFinding
+found_at line = record { file = 0; position = record { line = line; column = 1 }; code = Ttl; is_refused = false; is_excepted = false }
+
+two_counted : counted_after 0 (found_at 7 ∷ found_at 2 ∷ found_at 5 ∷ []) (Some Warning ∷ None ∷ Some Error ∷ []) ≡ kept_finding 0 (found_at 7) Warning ∷ kept_finding 1 (found_at 5) Error ∷ []
+two_counted = refl
 
 -- the fourth record has no glue: at its target, in a zone whose records were all read
 abbrev lost_glue : Finding

@@ -6,7 +6,7 @@ ghost use Rattle.zone_check.specs.FindingOrder.{place_order};
 use dns_lexer::position::Position;
 use std::alloc::{AllocError, Allocator};
 use std::cmp::Ordering;
-use zonetext_report::code::Code;
+use zonetext_report::code::{Code, Severity};
 
 /// A finding that is kept until all are known.
 #[derive(Clone, Copy)]
@@ -18,6 +18,7 @@ pub struct KeptFinding {
     /// Number of findings that were kept before it.
     pub index: usize,
     pub code: Code,
+    pub severity: Severity,
 }
 
 /// Compares the places of two findings: by file as read, then by line, and then by column.

@@ -3,6 +3,7 @@
 #![tactic(auto)]
 
 pub mod codes;
+pub mod collector;
 pub mod data;
 pub mod directive_findings;
 pub mod entry;

@@ -139,6 +139,7 @@ impl Waiting {
                 position: row.position,
                 index,
                 code: row.code,
+                severity: row.severity,
             })?;
         }
         let mut shown = Vec::new(self.alloc);

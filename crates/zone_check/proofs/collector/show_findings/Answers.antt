@@ -1,0 +1,23 @@
+use Rattle.std.proofs.Common.{take, sym, ◌∙◌, subst, arith}
+use Rattle.std.proofs.lemmas.List.{take_all, take_more}
+use Rattle.std.proofs.lemmas.Result.{on_ok_weaker}
+use Rattle.zone_check.specs.Collected.{HasCollected}
+use Rattle.zone_check.proofs.collector.show_findings.Goals as goal
+
+pub loop-finding-preserved : goal.loop-finding-preserved
+loop-finding-preserved g c =
+    let i = c.loop-finding.finding-index in
+    let before = c.loop-finding.invariant in
+    (
+    subst (λ l. HasCollected l c.add.new.self) (sym (take_more c.args.findings.now i _ (omega (arith, c.loop-finding-test.true)))) (c.in_ok-add.ensures.added (take i c.args.findings.now) before.0),
+    c.in_ok-add.ensures.policy ∙ before.1,
+    c.in_ok-add.ensures.most ∙ before.2,
+    )
+
+pub returns : goal.returns
+returns g c =
+    let i = c.loop-finding.finding-index in
+    let before = c.loop-finding.invariant in
+    on_ok_weaker c.finish.result
+    (λ sent. rw (← take_all i c.args.findings.now (omega (arith, c.loop-finding-test.false)), ← before.1, ← before.2) (sent (take i c.args.findings.now) before.0))
+    c.finish.ensures
