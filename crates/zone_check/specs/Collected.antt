@@ -23,7 +23,7 @@ abbrev pub counted_finding : (index : ℕ) → FoundFinding → Option Severity 
 counted_finding index f None = []
 counted_finding index f (Some s) = kept_finding index f s ∷ []
 
--- those of these findings that are counted, each once, after so many others
+-- those of these findings that are counted, each once, after a number of others
 abbrev pub counted_after : (before : ℕ) → List FoundFinding → List (Option Severity) → List KeptFinding
 counted_after before [] severities = []
 counted_after before (f ∷ found) [] = []

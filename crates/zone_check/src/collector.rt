@@ -109,7 +109,7 @@ impl<'p> FindingCollector<'p> {
     pub fn finish<S: FindingSink>(self, sink: &mut S) -> Result<(), AllocError>
         ensures { OnOk result ((found : List FoundFinding) → HasCollected found self.entry
             → SendsShownOf self.entry.policy self.entry.tally.most found
-                (S.received sink.old) (S.received sink.new)) }
+            (S.received sink.old) (S.received sink.new)) }
     {
         let mut counted = self.counted;
         send_shown(&mut counted, self.tally.most, sink)

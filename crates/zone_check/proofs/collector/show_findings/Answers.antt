@@ -7,11 +7,10 @@ use Rattle.zone_check.proofs.collector.show_findings.Goals as goal
 pub loop-finding-preserved : goal.loop-finding-preserved
 loop-finding-preserved g c =
     let i = c.loop-finding.finding-index in
-    let before = c.loop-finding.invariant in
-    (
-    subst (λ l. HasCollected l c.add.new.self) (sym (take_more c.args.findings.now i _ (omega (arith, c.loop-finding-test.true)))) (c.in_ok-add.ensures.added (take i c.args.findings.now) before.0),
-    c.in_ok-add.ensures.policy ∙ before.1,
-    c.in_ok-add.ensures.most ∙ before.2,
+    let before = c.loop-finding.invariant in (
+      subst (λ l. HasCollected l c.add.new.self) (sym (take_more c.args.findings.now i _ (omega (arith, c.loop-finding-test.true)))) (c.in_ok-add.ensures.added (take i c.args.findings.now) before.0),
+      c.in_ok-add.ensures.policy ∙ before.1,
+      c.in_ok-add.ensures.most ∙ before.2,
     )
 
 pub returns : goal.returns
