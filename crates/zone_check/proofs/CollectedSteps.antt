@@ -1,15 +1,13 @@
 -- Findings that are collected, one after another.
 use Rattle.std.proofs.Common.{◌≡◌, ℕ, suc, ◌+◌, List, [], ◌∷◌, ◌++◌, Option, Some, None, option_to_list, length, refl, sym, ap, subst, ◌∙◌, arith}
 use Rattle.std.specs.List.{AllZip}
-use Rattle.std.proofs.lemmas.Slice.Zip.{all_zipped_more}
 use Rattle.zonetext_report.specs.Tally.{IsTally}
 use Rattle.zonetext_report.specs.declared.code.Severity.{Severity}
-use Rattle.zonetext_report.specs.declared.policy.Policy.{Policy}
 use Rattle.zonetext_report.specs.declared.tally.Tally.{Tally}
 use Rattle.zone_check.specs.declared.collector.FindingCollector.{FindingCollector}
 use Rattle.zone_check.specs.declared.collector.FoundFinding.{FoundFinding}
 use Rattle.zone_check.specs.declared.finding_order.KeptFinding.{KeptFinding}
-use Rattle.zone_check.specs.Collected.{AreSeverities, HasCollected, counted_after, counted_finding, kept_finding}
+use Rattle.zone_check.specs.Collected.{HasCollected, counted_after, counted_finding, kept_finding}
 use Rattle.zone_check.specs.Shown.{IsSeverity, counted_severities}
 
 severities_more : (ss : List (Option Severity)) (s : Option Severity) → counted_severities (ss ++ s ∷ []) ≡ counted_severities ss ++ option_to_list s

@@ -3,6 +3,7 @@ pub mod DataSteps
 mod DotsAtEnd
 pub mod FindingSteps
 pub mod NameSteps
+pub mod NoneSteps
 pub mod OctetSteps
 pub mod PlaceOrders
 pub mod ScanLanes

@@ -1,9 +1,9 @@
 //! Finds what is reported about an entry.
-ghost use Rattle.std.specs.Prelude.{◌≡◌, ◌++◌, OnOk, map};
+ghost use Rattle.std.specs.Prelude.{◌≡◌, ◌++◌, OnOk, map, true};
 ghost use Rattle.std.specs.List.{list_any};
 ghost use Rattle.dns_lexer.specs.EntryTokens.{token_seen};
 ghost use Rattle.zone_check.specs.EntryFindings.{begins_with_octet, block_of, has_parameters, has_parameters_if_known, is_control_z_finding, is_directive, is_news, is_of_parameters, is_reported_class, is_scanned, long_finding, record_context, record_in, rejection_finding, reported_of, reports_crlf};
-ghost use Rattle.zone_check.specs.EntryFindings.{AreFindingsOfRecord, AreOwnOctetFindings, AreParsedFindings, AreReadFindings, AreTokenFindings, FindingsOfEntry};
+ghost use Rattle.zone_check.specs.EntryFindings.{AreFindingsOfRecord, AreOwnOctetFindings, AreParsedFindings, AreReadFindings, AreTokenFindings, FindingsOfEntry, HasNoFindings, HasNoneAsRead, none_as_read};
 
 use crate::codes::code_of_entry;
 use crate::directive_findings::directive_finding;
@@ -345,4 +345,34 @@ pub fn find_in_entry(
         return Ok(());
     }
     find_as_read(alloc, entry, context, found)
+}
+
+/// Returns whether an entry of a kind has no findings, apart from those about its octets. If it
+/// returns `false`, nothing is known.
+fn none_as_read(kind: EntryKind, context: &EntryContext<'_>) -> bool
+    ensures { result ≡ none_as_read kind context.now }
+{
+    match kind {
+        EntryKind::Blank | EntryKind::Generate => true,
+        EntryKind::Malformed(_) | EntryKind::TooLong => false,
+        EntryKind::OneRecord { class, .. } => context.is_text || !is_reported_class(class, context),
+        EntryKind::Directive | EntryKind::Rejected(_) => context.is_text,
+    }
+}
+
+/// Returns whether an entry has no findings, apart from those about its octets. If it returns
+/// `false`, nothing is known.
+pub fn has_none_as_read(entry: &ReadEntry<'_>, context: &EntryContext<'_>) -> bool
+    ensures { result ≡ true → HasNoneAsRead entry.now context.now }
+{
+    none_as_read(entry.kind, context)
+}
+
+/// Returns whether an entry has no findings. If it returns `false`, nothing is known. It does so for
+/// each entry whose octets are in the file.
+#[tactic(auto, using(crate::proofs::NoneSteps::no_findings_if))]
+pub fn has_no_findings(entry: &ReadEntry<'_>, context: &EntryContext<'_>) -> bool
+    ensures { result ≡ true → HasNoFindings entry.now context.now }
+{
+    !is_scanned(entry.is_generated, entry.kind) && has_none_as_read(entry, context)
 }
