@@ -589,7 +589,7 @@ impl<'a> Checker<'a> {
         let code = finding.code;
         let spot = part_at(entry, finding.start, finding.width);
         let is_fault = code.is_text_fault();
-        let Some(severity) = self.findings.reporter.count(spot, code, is_fault) else {
+        let Some(severity) = self.findings.reporter.count(spot, code, is_fault)? else {
             return Ok(());
         };
         let (spot, text) = octet_text(self.alloc, entry, spot, finding)?;

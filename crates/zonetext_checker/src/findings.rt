@@ -148,7 +148,7 @@ impl<'a> Findings<'a> {
     ) -> Result<(), RunError> {
         let code = finding.code;
         let spot = part_at(entry, finding.start, finding.width);
-        let Some(severity) = self.reporter.count(spot, code, false) else {
+        let Some(severity) = self.reporter.count(spot, code, false)? else {
             return Ok(());
         };
         let text = entry_text(self.alloc, entry, finding, most)?;
@@ -164,7 +164,7 @@ impl<'a> Findings<'a> {
     ) -> Result<(), RunError> {
         let code = finding.code;
         let spot = part_at(entry, finding.start, finding.width);
-        let Some(severity) = self.reporter.count(spot, code, true) else {
+        let Some(severity) = self.reporter.count(spot, code, true)? else {
             return Ok(());
         };
         let (spot, text) = fault_text(self.alloc, entry, fault)?;
@@ -178,7 +178,7 @@ impl<'a> Findings<'a> {
         spot: FindingLocation<'_>,
         text: &Text,
     ) -> Result<(), RunError> {
-        match self.reporter.count(spot, Code::Directive, true) {
+        match self.reporter.count(spot, Code::Directive, true)? {
             Some(severity) => self.show_entry(entry, severity, spot, Code::Directive, text),
             None => Ok(()),
         }
@@ -192,7 +192,7 @@ impl<'a> Findings<'a> {
         error: &RecordError,
     ) -> Result<(), RunError> {
         let spot = part_at(entry, finding.start, finding.width);
-        let Some(severity) = self.reporter.count(spot, finding.code, true) else {
+        let Some(severity) = self.reporter.count(spot, finding.code, true)? else {
             return Ok(());
         };
         let tokens = tokens_of(self.alloc, entry)?;
@@ -218,7 +218,7 @@ impl<'a> Findings<'a> {
             Slip::Code(part) => (part, "unknown code in an exception"),
         };
         let spot = part_at(entry, part.at, part.octets.len());
-        let Some(severity) = self.reporter.count(spot, Code::Exception, false) else {
+        let Some(severity) = self.reporter.count(spot, Code::Exception, false)? else {
             return Ok(());
         };
         let text = Text::worded(self.alloc, message, Some(part.octets))?;
@@ -230,7 +230,7 @@ impl<'a> Findings<'a> {
         let name = exception.code.name();
         let number = exception.number;
         let spot = code_spot(file, exception, None);
-        let Some(severity) = self.reporter.count(spot, Code::UnusedAllow, false) else {
+        let Some(severity) = self.reporter.count(spot, Code::UnusedAllow, false)? else {
             return Ok(());
         };
         let line = if self.reads_line(number) {
@@ -264,7 +264,7 @@ impl<'a> Findings<'a> {
     ) -> Result<(), RunError> {
         let (held, record) = (checked.held, finding.record);
         let (code, at_target) = (finding.code, finding.is_at_target);
-        let Some(severity) = self.count_at(held, code, record, at_target) else {
+        let Some(severity) = self.count_at(held, code, record, at_target)? else {
             return Ok(());
         };
         let may_search = at_target && self.may_search(held.records.len());
@@ -295,7 +295,7 @@ impl<'a> Findings<'a> {
         code: Code,
         record: Option<usize>,
         at_target: bool,
-    ) -> Option<Severity> {
+    ) -> Result<Option<Severity>, AllocError> {
         let found = location_of(held, record);
         let (file, position) = place_of(found, at_target);
         self.select_exceptions(found);
@@ -359,7 +359,7 @@ impl<'a> Findings<'a> {
         at_target: bool,
         text: &Text,
     ) -> Result<(), RunError> {
-        match self.count_at(held, code, record, at_target) {
+        match self.count_at(held, code, record, at_target)? {
             Some(severity) => self.show_at(held, severity, code, record, at_target, text),
             None => Ok(()),
         }

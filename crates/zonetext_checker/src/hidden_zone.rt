@@ -127,7 +127,7 @@ pub fn report_hidden<Origin: AsOctets>(
     for place in &found {
         let record = Some(*place);
         if !is_address(held, *place) {
-            if let Some(severity) = findings.count_at(held, Code::Hidden, record, false) {
+            if let Some(severity) = findings.count_at(held, Code::Hidden, record, false)? {
                 let text = Text::new(alloc, hidden_text(alloc, checked, *place)?);
                 findings.show_at(held, severity, Code::Hidden, record, false, &text)?;
             }
@@ -141,7 +141,7 @@ pub fn report_hidden<Origin: AsOctets>(
         return Ok(());
     };
     let record = Some(group.record);
-    if let Some(severity) = findings.count_at(held, Code::Hidden, record, false) {
+    if let Some(severity) = findings.count_at(held, Code::Hidden, record, false)? {
         let text = address_text(alloc, checked, group.record, group.count)?;
         findings.show_at(held, severity, Code::Hidden, record, false, &text)?;
     }

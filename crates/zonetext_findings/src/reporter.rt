@@ -5,6 +5,8 @@ use crate::waiting::Waiting;
 use dns_lexer::position::Position;
 use std::alloc::{AllocError, Global};
 use std::io::Write;
+use zone_check::collector::{FindingCollector, FoundFinding};
+use zone_check::finding_order::KeptFinding;
 use zone_check::shown::{Decision, can_be_excepted, decide, severity_of};
 use zonetext_files::stop::RunError;
 use zonetext_report::code::{Code, Severity};
@@ -107,7 +109,9 @@ pub struct Reporter<'a> {
     writes_comments: bool,
     pub exceptions: Exceptions,
     out: Vec<u8>,
-    /// The findings that are written at the end, in the order of the files, if they are.
+    /// The findings that are counted, if they are written at the end, in the order of the files.
+    collector: Option<FindingCollector<'a>>,
+    /// The texts of findings, if they are written at the end.
     waiting: Option<Waiting>,
 }
 
@@ -124,6 +128,7 @@ impl<'a> Reporter<'a> {
             writes_comments: false,
             exceptions: Exceptions::new(rt.alloc()),
             out: Vec::new(rt.alloc()),
+            collector: None,
             waiting: None,
         }
     }
@@ -132,6 +137,7 @@ impl<'a> Reporter<'a> {
     /// come after those of entries, and are before them in the file.
     pub fn wait(&mut self) {
         let most = self.tally.most;
+        self.collector = Some(FindingCollector::new(self.rt.alloc(), self.policy, most));
         self.waiting = Some(Waiting::new(self.rt.alloc(), most));
     }
 
@@ -167,15 +173,35 @@ impl<'a> Reporter<'a> {
 
     /// Writes the findings that wait, in the order of the files, lines and columns.
     pub fn flush(&mut self) -> Result<(), RunError> {
+        let Some(collector) = self.collector.take() else {
+            return Ok(());
+        };
+        let mut shown = Vec::new(self.rt.alloc());
+        collector.finish(&mut shown)?;
         let Some(mut waiting) = self.waiting.take() else {
             return Ok(());
         };
         waiting.sort()?;
-        for number in 0..waiting.len() {
-            if let Some((finding, line)) = waiting.finding(number) {
-                self.push(&finding, line, waiting.generated(number))?;
-                self.write()?;
+        self.write_shown(shown.as_slice(), &waiting)
+    }
+
+    /// Writes the findings that are shown. Their texts are in the same order.
+    fn write_shown(&mut self, shown: &[KeptFinding], waiting: &Waiting) -> Result<(), RunError> {
+        let mut start: usize = 0;
+        for kept in shown {
+            if let Some(place) = waiting.place_of(kept, start) {
+                start = place.saturating_add(1);
+                self.write_waiting(waiting, place)?;
             }
+        }
+        Ok(())
+    }
+
+    /// Writes the finding whose texts are at a place.
+    fn write_waiting(&mut self, waiting: &Waiting, place: usize) -> Result<(), RunError> {
+        if let Some((finding, line)) = waiting.finding(place) {
+            self.push(&finding, line, waiting.generated(place))?;
+            self.write()?;
         }
         Ok(())
     }
@@ -207,23 +233,51 @@ impl<'a> Reporter<'a> {
 
     /// Counts a finding, and returns its severity if it is to be shown. A finding that an exception
     /// in effect names is omitted. A finding that keeps a record from being read is an error, and is
-    /// not omitted.
+    /// not omitted. Fails without memory; the finding is then not counted.
     pub fn count(
         &mut self,
         spot: FindingLocation<'_>,
         code: Code,
         is_refused: bool,
-    ) -> Option<Severity> {
+    ) -> Result<Option<Severity>, AllocError> {
         let is_excepted = can_be_excepted(code, is_refused) && self.exceptions.excepts(code);
-        let severity = severity_of(&self.policy, code, is_refused, is_excepted);
-        let decision = decide(&mut self.tally, severity);
-        let is_shown = match (decision, &self.waiting) {
-            (Decision::Omitted, _) => false,
-            (_, Some(waiting)) => waiting.accepts(spot.number, spot.position),
-            (Decision::Shown(_), None) => true,
-            (Decision::Counted(_), None) => false,
+        let found = FoundFinding {
+            file: spot.number,
+            position: spot.position,
+            code,
+            is_refused,
+            is_excepted,
         };
-        if is_shown { severity } else { None }
+        if self.collector.is_some() {
+            return self.collect(found);
+        }
+        let severity = severity_of(&self.policy, code, is_refused, is_excepted);
+        match decide(&mut self.tally, severity) {
+            Decision::Shown(severity) => Ok(Some(severity)),
+            Decision::Counted(_) | Decision::Omitted => Ok(None),
+        }
+    }
+
+    /// Collects a finding, and returns its severity if it may be shown.
+    fn collect(&mut self, found: FoundFinding) -> Result<Option<Severity>, AllocError> {
+        let Some(collector) = &mut self.collector else {
+            return Ok(None);
+        };
+        let severity = collector.add(found)?;
+        self.tally = collector.tally;
+        let is_accepted = match (collector.counted.last(), &self.waiting) {
+            (Some(kept), Some(waiting)) => waiting.accepts(kept),
+            _ => false,
+        };
+        Ok(if is_accepted { severity } else { None })
+    }
+
+    /// Returns the finding that was counted last, if findings wait.
+    fn last_counted(&self) -> Option<KeptFinding> {
+        match &self.collector {
+            Some(collector) => collector.counted.last().copied(),
+            None => None,
+        }
     }
 
     /// Shows a finding that was counted.
@@ -251,12 +305,24 @@ impl<'a> Reporter<'a> {
             help: finding_text.help,
             note: finding_text.note,
         };
-        if let Some(waiting) = &mut self.waiting {
-            waiting.add(spot.number, &finding, spot.line, spot.generated)?;
-            return Ok(());
+        if let Some(kept) = self.last_counted() {
+            return self.keep_text(kept, &finding, spot);
         }
         self.push(&finding, spot.line, spot.generated)?;
         self.write()
+    }
+
+    /// Stores the texts of a finding that was counted.
+    fn keep_text(
+        &mut self,
+        kept: KeptFinding,
+        finding: &Finding<'_>,
+        spot: FindingLocation<'_>,
+    ) -> Result<(), RunError> {
+        if let Some(waiting) = &mut self.waiting {
+            waiting.add(kept, finding, spot.line, spot.generated)?;
+        }
+        Ok(())
     }
 
     /// Counts and shows a finding.
@@ -267,7 +333,7 @@ impl<'a> Reporter<'a> {
         is_refused: bool,
         finding_text: FindingText<'_>,
     ) -> Result<(), RunError> {
-        match self.count(spot, code, is_refused) {
+        match self.count(spot, code, is_refused)? {
             Some(severity) => self.show(severity, spot, code, finding_text),
             None => Ok(()),
         }

@@ -1,10 +1,9 @@
-//! Findings that are written once all are known, in the order of the files.
+//! The texts of findings that are written once all are known.
 use dns_lexer::position::Position;
 use std::alloc::{AllocError, Global};
-use std::cmp::Ordering;
 use zone_check::finding_order::KeptFinding;
 use zone_check::sink::send_shown;
-use zonetext_report::code::{Code, Severity};
+use zonetext_report::code::Code;
 use zonetext_report::finding::Finding;
 
 /// Number of texts of a finding: its file, owner, type, message, help, note, and line of the file.
@@ -13,9 +12,8 @@ const TEXTS: usize = 7;
 /// A finding, whose texts are stored elsewhere, one after another.
 #[derive(Clone, Copy)]
 struct Row {
-    /// Number of files that were opened before its file.
-    number: usize,
-    severity: Severity,
+    /// The finding as it was counted.
+    kept: KeptFinding,
     code: Code,
     position: Position,
     end_column: usize,
@@ -30,7 +28,7 @@ struct Row {
     generated: Option<u32>,
 }
 
-/// Findings, with the numbers of their files.
+/// The texts of findings that may be among those that are shown.
 #[derive(Drop)]
 pub struct Waiting {
     alloc: Global,
@@ -42,12 +40,13 @@ pub struct Waiting {
     last: Option<Row>,
 }
 
-/// Returns the order of two positions in files.
-fn compare_places(left: (usize, Position), right: (usize, Position)) -> Ordering {
-    left.0
-        .cmp(&right.0)
-        .then(left.1.line.cmp(&right.1.line))
-        .then(left.1.column.cmp(&right.1.column))
+/// Returns whether a finding is before another, by file, line and column.
+fn is_before(left: &KeptFinding, right: &KeptFinding) -> bool {
+    left.file
+        .cmp(&right.file)
+        .then(left.position.line.cmp(&right.position.line))
+        .then(left.position.column.cmp(&right.position.column))
+        .is_lt()
 }
 
 /// Returns the octets between two offsets.
@@ -72,17 +71,10 @@ impl Waiting {
         }
     }
 
-    /// Returns the number of findings.
-    pub fn len(&self) -> usize {
-        self.rows.len()
-    }
-
-    /// Returns whether a finding at a position may be among the first ones.
-    pub fn accepts(&self, number: usize, position: Position) -> bool {
+    /// Returns whether a finding may be among the first ones.
+    pub fn accepts(&self, kept: &KeptFinding) -> bool {
         match &self.last {
-            Some(last) => {
-                compare_places((number, position), (last.number, last.position)).is_lt()
-            }
+            Some(last) => is_before(kept, &last.kept),
             None => true,
         }
     }
@@ -93,10 +85,10 @@ impl Waiting {
         Ok(self.octets.len())
     }
 
-    /// Adds a finding, with its line of the file if that is known.
+    /// Adds a finding that was counted, with its line of the file if that is known.
     pub fn add(
         &mut self,
-        number: usize,
+        kept: KeptFinding,
         finding: &Finding<'_>,
         line: Option<&[u8]>,
         generated: Option<u32>,
@@ -112,8 +104,7 @@ impl Waiting {
             self.append(line.unwrap_or(&[]))?,
         ];
         self.rows.push(Row {
-            number,
-            severity: finding.severity,
+            kept,
             code: finding.code,
             position: finding.position,
             end_column: finding.end_column,
@@ -129,17 +120,13 @@ impl Waiting {
         Ok(())
     }
 
-    /// Returns the findings that are shown, in the order of the files, lines and columns, and
-    /// otherwise as they were added.
+    /// Returns those of the findings that are shown.
     fn shown(&self) -> Result<Vec<KeptFinding>, AllocError> {
         let mut kept = Vec::new(self.alloc);
-        for (index, row) in self.rows.iter().enumerate() {
+        for (place, row) in self.rows.iter().enumerate() {
             kept.push(KeptFinding {
-                file: row.number,
-                position: row.position,
-                index,
-                code: row.code,
-                severity: row.severity,
+                index: place,
+                ..row.kept
             })?;
         }
         let mut shown = Vec::new(self.alloc);
@@ -183,19 +170,29 @@ impl Waiting {
         Ok(())
     }
 
-    /// Returns the number of the generated entry that the finding with a number is about.
-    pub fn generated(&self, number: usize) -> Option<u32> {
-        self.rows.get(number)?.generated
+    /// Returns the place of the texts of a finding, from a place on.
+    pub fn place_of(&self, kept: &KeptFinding, start: usize) -> Option<usize> {
+        for place in start..self.rows.len() {
+            if self.rows[place].kept.index == kept.index {
+                return Some(place);
+            }
+        }
+        None
     }
 
-    /// Returns the finding with a number, and its line of the file if that is known.
-    pub fn finding(&self, number: usize) -> Option<(Finding<'_>, Option<&[u8]>)> {
-        let row = self.rows.get(number)?;
+    /// Returns the number of the generated entry that the finding at a place is about.
+    pub fn generated(&self, place: usize) -> Option<u32> {
+        self.rows.get(place)?.generated
+    }
+
+    /// Returns the finding at a place, and its line of the file if that is known.
+    pub fn finding(&self, place: usize) -> Option<(Finding<'_>, Option<&[u8]>)> {
+        let row = self.rows.get(place)?;
         let octets = self.octets.as_slice();
         let [file, owner, rtype, message, help, note, line] = row.ends;
         let finding = Finding {
             file: text_between(octets, row.start, file),
-            severity: row.severity,
+            severity: row.kept.severity,
             code: row.code,
             position: row.position,
             end_column: row.end_column,
