@@ -7,8 +7,10 @@ pub mod NoneSteps
 pub mod OctetSteps
 pub mod PlaceOrders
 pub mod ScanLanes
+pub mod ShownFirsts
 pub mod ShownLaws
 pub mod ShownSteps
+pub mod StableSorts
 pub mod TokenLists
 pub mod WordSteps
 pub mod ZoneSteps

@@ -16,7 +16,7 @@ use Rattle.zone_check.specs.declared.octet_findings.ReportedOctets.{ReportedOcte
 use Rattle.zone_check.specs.declared.collector.FoundFinding.{FoundFinding}
 use Rattle.zone_check.specs.declared.zone_findings.BrokenRule.{BrokenRule}
 use Rattle.zone_check.specs.declared.shown.Decision.TheVariants.{Shown, Counted, Omitted}
-use Rattle.zone_check.specs.Collected.{counted_after, kept_finding}
+use Rattle.zone_check.specs.Collected.{counted_after, kept_finding, kept_if, number_after}
 use Rattle.zone_check.specs.Data.{has_ohttp_value}
 use Rattle.zone_check.specs.EntryFindings.{is_directive, is_news, is_of_parameters, is_scanned, long_finding, rejection_with, reports_crlf}
 use Rattle.zone_check.specs.FindingOrder.{first_findings}
@@ -208,6 +208,12 @@ found_at line = record { file = 0; position = record { line = line; column = 1 }
 
 two_counted : counted_after 0 (found_at 7 ∷ found_at 2 ∷ found_at 5 ∷ []) (Some Warning ∷ None ∷ Some Error ∷ []) ≡ kept_finding 0 (found_at 7) Warning ∷ kept_finding 1 (found_at 5) Error ∷ []
 two_counted = refl
+
+two_are_counted : number_after 0 (Some Warning ∷ None ∷ Some Error ∷ []) ≡ 2
+two_are_counted = refl
+
+left_out : kept_if 3 (found_at 7) None ≡ None
+left_out = refl
 
 -- the fourth record has no glue: at its target, in a zone whose records were all read
 abbrev lost_glue : Finding

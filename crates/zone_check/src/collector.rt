@@ -1,10 +1,9 @@
 //! Collects findings until all are known.
-ghost use Rattle.std.specs.Prelude.{◌≡◌, ◌++◌, ◌∷◌, [], List, length, IfOk, OnErr, OnOk};
-ghost use Rattle.zone_check.specs.Collected.{HasCollected, SendsShownOf, counted_finding, kept_finding};
-ghost use Rattle.zone_check.specs.Shown.{IsSeverity};
+ghost use Rattle.std.specs.Prelude.{◌≡◌, ◌++◌, ◌∷◌, ◌*◌, ◌<◌, [], List, length, IfOk, OnErr, OnOk, option_to_list};
+ghost use Rattle.zone_check.specs.Collected.{HasCollected, IsFew, IsKeptOf, SendsShownOf, ShowAlike, kept_finding, kept_if, number_after};
 ghost use Rattle.zone_check.specs.declared.collector.FoundFinding.{FoundFinding};
 
-use crate::finding_order::KeptFinding;
+use crate::finding_order::{KeptFinding, sort_by_place};
 use crate::shown::{decide, severity_of};
 use crate::sink::{FindingSink, send_shown};
 use dns_lexer::position::Position;
@@ -27,13 +26,17 @@ pub struct FoundFinding {
     pub is_excepted: bool,
 }
 
-/// The findings that are counted, in the order in which they were found.
+/// Findings that are counted until all are known. Those that can't be shown are not kept: there are at
+/// most twice as many as are shown.
 #[derive(Drop)]
 pub struct FindingCollector<'p> {
     /// Which findings are left out, and which are errors.
     pub policy: Policy<'p>,
     pub tally: Tally,
-    pub counted: Vec<KeptFinding>,
+    /// Number of findings that were counted, up to the greatest number.
+    pub number: usize,
+    /// Those of them that may be shown.
+    pub kept: Vec<KeptFinding>,
 }
 
 /// Returns a finding that is kept, with its severity and the number of those before it.
@@ -49,22 +52,55 @@ fn kept_finding(index: usize, finding: FoundFinding, severity: Severity) -> Kept
     }
 }
 
-/// Appends a finding with a severity, or nothing if it is left out. Fails without memory; the
-/// findings are then unchanged.
+/// Returns the number of findings after one with a severity, or after one that is left out.
+fn number_after(number: usize, severity: Option<Severity>) -> usize
+    ensures { result ≡ number_after number (severity ∷ []) }
+{
+    match severity {
+        Some(_) => number.saturating_add(1),
+        None => number,
+    }
+}
+
+/// Drops the findings that are not shown, once there are twice as many as are. Fails without memory;
+/// the findings are then unchanged.
+fn drop_hidden(kept: &mut Vec<KeptFinding>, most: usize) -> Result<(), AllocError>
+    ensures alike { ShowAlike most kept.old.items kept.new.items }
+    ensures few { OnOk result (0 < most → length kept.new.items < 2 * most) }
+    ensures unchanged { OnErr result (kept.new.items ≡ kept.old.items) }
+{
+    if most == 0 {
+        return Ok(());
+    }
+    if kept.len() / 2 < most {
+        return Ok(());
+    }
+    sort_by_place(kept)?;
+    kept.truncate(most);
+    Ok(())
+}
+
+/// Appends a finding with a severity, or nothing if it is left out, and returns it. Fails without
+/// memory; the findings are then unchanged.
 fn keep(
+    index: usize,
     finding: FoundFinding,
     severity: Option<Severity>,
-    counted: &mut Vec<KeptFinding>,
-) -> Result<(), AllocError>
-    ensures kept { OnOk result (counted.new.items
-        ≡ counted.old.items ++ counted_finding (length counted.old.items) finding severity) }
-    ensures unchanged { OnErr result (counted.new.items ≡ counted.old.items) }
+    kept: &mut Vec<KeptFinding>,
+) -> Result<Option<KeptFinding>, AllocError>
+    ensures result { IfOk result (λ r. r ≡ kept_if index finding severity) }
+    ensures kept { OnOk result (kept.new.items
+        ≡ kept.old.items ++ option_to_list (kept_if index finding severity)) }
+    ensures unchanged { OnErr result (kept.new.items ≡ kept.old.items) }
 {
-    if let Some(severity) = severity {
-        let index = counted.len();
-        counted.push(kept_finding(index, finding, severity))?;
+    match severity {
+        Some(severity) => {
+            let one = kept_finding(index, finding, severity);
+            kept.push(one)?;
+            Ok(Some(one))
+        }
+        None => Ok(None),
     }
-    Ok(())
 }
 
 impl<'p> FindingCollector<'p> {
@@ -78,17 +114,18 @@ impl<'p> FindingCollector<'p> {
         FindingCollector {
             policy,
             tally: Tally::new(most),
-            counted: Vec::new(alloc),
+            number: 0,
+            kept: Vec::new(alloc),
         }
     }
 
-    /// Adds a finding, and returns its severity, or `None` if it is left out. Fails without memory;
-    /// nothing is then added.
-    pub fn add(&mut self, finding: FoundFinding) -> Result<Option<Severity>, AllocError>
+    /// Adds a finding, and returns what is kept of it: nothing if it is left out. Fails without
+    /// memory; nothing is then added.
+    pub fn add(&mut self, finding: FoundFinding) -> Result<Option<KeptFinding>, AllocError>
         ensures policy { self.new.policy ≡ self.old.policy }
         ensures most { self.new.tally.most ≡ self.old.tally.most }
-        ensures severity { IfOk result (IsSeverity self.old.policy finding.code
-            finding.is_refused finding.is_excepted) }
+        ensures kept { IfOk result (IsKeptOf self.old.policy self.old.number finding) }
+        ensures few { OnOk result (IsFew self.old.tally.most self.new.kept.items) }
         ensures added { OnOk result ((found : List FoundFinding) → HasCollected found self.old
             → HasCollected (found ++ finding ∷ []) self.new) }
         ensures unchanged { OnErr result ((found : List FoundFinding) → HasCollected found self.old
@@ -100,9 +137,11 @@ impl<'p> FindingCollector<'p> {
             finding.is_refused,
             finding.is_excepted,
         );
-        keep(finding, severity, &mut self.counted)?;
+        drop_hidden(&mut self.kept, self.tally.most)?;
+        let kept = keep(self.number, finding, severity, &mut self.kept)?;
+        self.number = number_after(self.number, severity);
         decide(&mut self.tally, severity);
-        Ok(severity)
+        Ok(kept)
     }
 
     /// Sends a sink the findings that are shown, in the order of their places. Fails without memory.
@@ -111,8 +150,8 @@ impl<'p> FindingCollector<'p> {
             → SendsShownOf self.entry.policy self.entry.tally.most found
             (S.received sink.old) (S.received sink.new)) }
     {
-        let mut counted = self.counted;
-        send_shown(&mut counted, self.tally.most, sink)
+        let mut kept = self.kept;
+        send_shown(&mut kept, self.tally.most, sink)
     }
 }
 

@@ -109,7 +109,7 @@ pub struct Reporter<'a> {
     writes_comments: bool,
     pub exceptions: Exceptions,
     out: Vec<u8>,
-    /// The findings that are counted, if they are written at the end, in the order of the files.
+    /// The findings that may be shown, if they are written at the end, in the order of the files.
     collector: Option<FindingCollector<'a>>,
     /// The texts of findings, if they are written at the end.
     waiting: Option<Waiting>,
@@ -263,19 +263,18 @@ impl<'a> Reporter<'a> {
         let Some(collector) = &mut self.collector else {
             return Ok(None);
         };
-        let severity = collector.add(found)?;
+        let kept = collector.add(found)?;
         self.tally = collector.tally;
-        let is_accepted = match (collector.counted.last(), &self.waiting) {
-            (Some(kept), Some(waiting)) => waiting.accepts(kept),
-            _ => false,
-        };
-        Ok(if is_accepted { severity } else { None })
+        match (kept, &self.waiting) {
+            (Some(kept), Some(waiting)) if waiting.accepts(&kept) => Ok(Some(kept.severity)),
+            _ => Ok(None),
+        }
     }
 
     /// Returns the finding that was counted last, if findings wait.
     fn last_counted(&self) -> Option<KeptFinding> {
         match &self.collector {
-            Some(collector) => collector.counted.last().copied(),
+            Some(collector) => collector.kept.last().copied(),
             None => None,
         }
     }
