@@ -43,8 +43,8 @@ collected_more found c f s less kept h alike grown =
     let all : List KeptFinding = counted_after 0 found h.severities in
     let added : List KeptFinding = option_to_list (kept_if c.number f s) in
     let last : counted_after 0 (found ++ f ∷ []) (h.severities ++ s ∷ []) ≡ all ++ added =
-      counted_more (λ g t. IsSeverity c.policy g.code g.is_refused g.is_excepted t) 0 found h.severities f s h.judged
-      ∙ ap (λ n. all ++ option_to_list (kept_if n f s)) (sym h.number) in
+    counted_more (λ g t. IsSeverity c.policy g.code g.is_refused g.is_excepted t) 0 found h.severities f s h.judged
+    ∙ ap (λ n. all ++ option_to_list (kept_if n f s)) (sym h.number) in
     subst (λ l. ShowAlike most l kept) (sym last)
     (subst (λ l. ShowAlike most (all ++ added) l) (sym grown) (alike_more most all less added (alike_through most all c.kept.items less h.kept alike)))
 
@@ -59,7 +59,7 @@ collected_less found c d less alike kept policy tally number h = record {
   severities = h.severities;
   judged = subst (λ p. AllZip (λ g t. IsSeverity p g.code g.is_refused g.is_excepted t) found h.severities) (sym policy) h.judged;
   kept = subst (λ t. ShowAlike t.most (counted_after 0 found h.severities) d.kept.items) (sym tally)
-    (subst (λ l. ShowAlike c.tally.most (counted_after 0 found h.severities) l) (sym kept) (alike_through c.tally.most (counted_after 0 found h.severities) c.kept.items less h.kept alike));
+      (subst (λ l. ShowAlike c.tally.most (counted_after 0 found h.severities) l) (sym kept) (alike_through c.tally.most (counted_after 0 found h.severities) c.kept.items less h.kept alike));
   number = number ∙ h.number;
   tallied = subst (λ t. IsTally (counted_severities h.severities) t) (sym tally) h.tallied;
 }

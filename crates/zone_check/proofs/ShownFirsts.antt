@@ -47,13 +47,15 @@ firsts n kept more =
 
 pub pruned : (most : ℕ) (kept sorted : List KeptFinding) → (most == 0) ≡ false → IsSortedByPlace kept sorted → ShowAlike most kept (take most sorted)
 pruned most kept sorted some h more shown s =
-    let first = λ (l : List KeptFinding). ap (λ b. if b then l else take most l) some in
-    (by_place (kept ++ more), is_sorted (kept ++ more),
+    let first = λ (l : List KeptFinding). ap (λ b. if b then l else take most l) some in (
+      by_place (kept ++ more),
+      is_sorted (kept ++ more),
       s.2 ∙ first s.0
-      ∙ ap (take most) (one_order (take most sorted ++ more) s.0 s.1)
-      ∙ ap (λ l. take most (by_place (take most l ++ more))) (one_order kept sorted h)
-      ∙ firsts most kept more
-      ∙ sym (first (by_place (kept ++ more))))
+          ∙ ap (take most) (one_order (take most sorted ++ more) s.0 s.1)
+          ∙ ap (λ l. take most (by_place (take most l ++ more))) (one_order kept sorted h)
+          ∙ firsts most kept more
+          ∙ sym (first (by_place (kept ++ more))),
+    )
 
 pub alike_itself : (most : ℕ) (found : List KeptFinding) → ShowAlike most found found
 alike_itself most found more shown h = h

@@ -114,9 +114,9 @@ module _ {X : Type 0} (lt : X → X → Bool) where
   from_pairs : (xs : List X) → AllPairs (λ x y. lt y x ≡ false) xs → Rising lt xs
   from_pairs [] h = tt
   from_pairs (x ∷ xs) h = (
-      recursion_from_All (λ y. lt y x ≡ false) xs (λ i d inside. h zero (suc i) d (omega arith) (omega arith)),
-      from_pairs xs (λ i j d below inside. h (suc i) (suc j) d (omega arith) (omega arith)),
-    )
+    recursion_from_All (λ y. lt y x ≡ false) xs (λ i d inside. h zero (suc i) d (omega arith) (omega arith)),
+    from_pairs xs (λ i j d below inside. h (suc i) (suc j) d (omega arith) (omega arith)),
+  )
 
   to_pairs : (xs : List X) → Rising lt xs → AllPairs (λ x y. lt y x ≡ false) xs
   to_pairs [] h = λ i j d below inside. absurd (omega arith)
@@ -204,6 +204,6 @@ module _ {X : Type 0} (lt : X → X → Bool) where
         let heads : y ∷ filter (ties lt y) ys ≡ z ∷ filter (ties lt y) zs = sym (kept_first y y ys (tied_itself y)) ∙ same y ∙ kept_first y z zs tied in
         let one : y ≡ z = ap (λ l. get_or l zero y) heads in
         let rest : (t : X) → filter (ties lt t) ys ≡ filter (ties lt t) zs = λ t.
-            same_rest (ties lt t y) y (filter (ties lt t) ys) (filter (ties lt t) zs)
-            (subst (λ w. filter (ties lt t) (y ∷ ys) ≡ filter (ties lt t) (w ∷ zs)) (sym one) (same t)) in
+        same_rest (ties lt t y) y (filter (ties lt t) ys) (filter (ties lt t) zs)
+        (subst (λ w. filter (ties lt t) (y ∷ ys) ≡ filter (ties lt t) (w ∷ zs)) (sym one) (same t)) in
         ap₂ (λ w l. w ∷ l) one (one_sort ys zs a.1 b.1 rest)

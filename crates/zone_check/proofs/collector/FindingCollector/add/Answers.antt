@@ -13,7 +13,7 @@ returns-clause-added c found h =
       severities = h.severities ++ s ∷ [];
       judged = all_zipped_more (λ g t. IsSeverity c.args.self.now.policy g.code g.is_refused g.is_excepted t) found h.severities f s h.judged c.severity_of-severity.ensures;
       kept = subst (λ m. ShowAlike m (counted_after 0 (found ++ f ∷ []) (h.severities ++ s ∷ [])) c.keep.new.kept.items) (sym c.decide.ensures.most)
-        (collected_more found c.args.self.now f s c.drop_hidden.new.kept.items c.keep.new.kept.items h c.drop_hidden.ensures.alike c.in_ok-kept.ensures.kept);
+          (collected_more found c.args.self.now f s c.drop_hidden.new.kept.items c.keep.new.kept.items h c.drop_hidden.ensures.alike c.in_ok-kept.ensures.kept);
       number = c.number_after-self.ensures ∙ ap (λ n. number_after n (s ∷ [])) h.number ∙ sym (number_more 0 h.severities s);
       tallied = tallied_more h.severities s c.decide.new.tally (c.decide.ensures.counts (counted_severities h.severities) h.tallied);
     }
