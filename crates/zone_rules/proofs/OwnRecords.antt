@@ -3,13 +3,17 @@ use Rattle.std.proofs.Common.{ℕ, zero, suc, ◌≡◌, ◌+◌, ◌<◌, ◌�
 use Rattle.std.specs.Prelude.{◌==◌, ◌&&◌, ◌||◌, slice_get}
 use Rattle.std.specs.List.{AllWithin, list_any}
 use Rattle.std.specs.Option.{option_map}
-use Rattle.std.proofs.lemmas.Bool.{cases_lt}
+use Rattle.std.specs.Ordering.{is_eq}
+use Rattle.std.proofs.lemmas.Cmp.{tied_itself}
+use Rattle.std.proofs.lemmas.Option.{slice_get-get_or}
+use Rattle.zone_record.proofs.Orders.{names_total}
 use Rattle.zone_record.specs.declared.record.Record.{Record}
 use Rattle.dns_wire.specs.Order.{same_name}
 use Rattle.zone_rules.specs.Searches.{AreOwnedAt, AreOwnedFrom}
-use Rattle.zone_rules.specs.Subjects.{IsRecordAt}
-use Rattle.zone_rules.specs.Zones.{as_listed, has_type_at, type_of}
-use Rattle.zone_rules.proofs.Subjects.{none_owned, some_same}
+use Rattle.zone_rules.specs.Subjects.{IsRecordAt, OwnerHasType}
+use Rattle.zone_rules.specs.Zones.{as_listed, has_type_at, type_of, HaveOneOwner}
+use Rattle.zone_rules.proofs.Lookups.{same_is}
+use Rattle.zone_rules.proofs.Subjects.{some_same}
 
 some_within : {X : Type 0} (xs : List X) (place : ℕ) (x : X) → slice_get xs place ≡ Some x → place < length xs
 some_within [] place x h = cc
@@ -46,32 +50,30 @@ both : (b c : Bool) → b ≡ true → c ≡ true → (b && c) ≡ true
 both true c h k = k
 both false c h k = cc
 
-not_second : (b c : Bool) → c ≡ false → (b && c) ≡ false
-not_second true c h = h
-not_second false c h = refl
+same_itself : (name : List (List ℕ)) → same_name name name ≡ true
+same_itself name = same_is name name ∙ ap is_eq (tied_itself names_total name)
 
-module _ {N O : Type 0} (rtype : ℕ) (name : List (List ℕ)) (records : List (Record N O)) (first past : ℕ) (owned : AreOwnedFrom name records first past) where
-  pub type_found : (other : ℕ) → first ≤ other → other < past → ((d : Record N O) → (type_of (get_or records other d) == rtype) ≡ true) → has_type_at rtype name records ≡ true
-  type_found other low lt h =
-      any_at (λ r. same_name r.owner name && type_of r == rtype) records other (omega (arith, lt, owned.bound))
-      (λ d. both (same_name (get_or records other d).owner name) (type_of (get_or records other d) == rtype) (owned.owned other d low lt) (h d))
-
-  pub type_missing : AllWithin (λ r. (type_of r == rtype) ≡ false) records first past → has_type_at rtype name records ≡ false
-  type_missing none =
-      none_owned (λ r. same_name r.owner name && type_of r == rtype) name records first past owned (λ r h. ap (λ b. b && type_of r == rtype) h)
-      (λ i d low lt. not_second (same_name (get_or records i d).owner name) (type_of (get_or records i d) == rtype) (none i d low lt))
-
--- one record more that is of another type
-pub one_more_type : {N O : Type 0} (rtype : ℕ) (records : List (Record N O)) (first place : ℕ) → AllWithin (λ r. (type_of r == rtype) ≡ false) records first place
-    → ((d : Record N O) → (type_of (get_or records place d) == rtype) ≡ false) → AllWithin (λ r. (type_of r == rtype) ≡ false) records first (place + 1)
-one_more_type rtype records first place none h i d low lt = by (cases_lt i place)
-  where
-    by : (i < place) ⊎ (place ≤ i) → (type_of (get_or records i d) == rtype) ≡ false
-    by (inl before) = none i d low before
-    by (inr more) = let same : place ≡ i = omega (arith, lt, more) in subst (λ j. (type_of (get_or records j d) == rtype) ≡ false) same (h d)
+same_listed : {N O : Type 0} (o p : Option (Record N O)) (x y : Record N O) → option_map (λ r. r.owner) o ≡ option_map (λ r. r.owner) p → o ≡ Some x → p ≡ Some y → x.owner ≡ y.owner
+same_listed o p x y h d e = some_same x.owner y.owner (ap (option_map (λ r. r.owner)) (sym d) ∙ h ∙ ap (option_map (λ r. r.owner)) e)
 
 -- the type of the record at an index
 pub type_is : {N O : Type 0} (records : List (Record N O)) (place rtype : ℕ) → place < length records → Some rtype ≡ option_map type_of (slice_get records place) → (d : Record N O) → type_of (get_or records place d) ≡ rtype
 type_is [] place rtype lt h d = absurd (omega (arith, lt))
 type_is (r ∷ records) zero rtype lt h d = cc
 type_is (r ∷ records) (suc n) rtype lt h d = type_is records n rtype (omega (arith, lt)) h d
+
+-- a record of the type with the owner of another one
+pub type_at_owner : {N O : Type 0} (records : List (Record N O)) (other place rtype : ℕ) → other < length records → HaveOneOwner records other place
+    → ((d : Record N O) → (type_of (get_or records other d) == rtype) ≡ true) → OwnerHasType records place rtype
+type_at_owner records other place rtype lt one typed r is =
+    any_at (λ q. same_name q.owner r.owner && type_of q == rtype) records other lt
+    (λ d. both (same_name (get_or records other d).owner r.owner) (type_of (get_or records other d) == rtype)
+    (ap (λ n. same_name n r.owner) (same_listed (slice_get records other) (slice_get records place) (get_or records other d) r one (slice_get-get_or records other d lt) is) ∙ same_itself r.owner) (typed d))
+
+-- an owner has the type that it has by the index of a record
+pub owner_has : {N O M P : Type 0} (records : List (Record N O)) (place rtype : ℕ) (one : Record M P) → IsRecordAt records place one → OwnerHasType records place rtype → has_type_at rtype one.owner records ≡ true
+owner_has {N} {O} records place rtype one is has = by (slice_get records place) refl is
+  where
+    by : (o : Option (Record N O)) → slice_get records place ≡ o → Some one ≡ option_map as_listed o → has_type_at rtype one.owner records ≡ true
+    by None e h = cc
+    by (Some r) e h = ap (λ n. has_type_at rtype n records) (ap (λ q. q.owner) (some_same one (as_listed r) h)) ∙ has r e

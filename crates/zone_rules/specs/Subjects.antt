@@ -1,5 +1,5 @@
 -- A record at an index, with what rules ask of it: words for private functions.
-use Rattle.std.specs.Prelude.{◌≡◌, ℕ, ◌==◌, ◌&&◌, not, Bool, false, Option, Some, List, option_and_then, slice_get}
+use Rattle.std.specs.Prelude.{◌≡◌, ℕ, ◌==◌, ◌&&◌, not, Bool, true, false, Option, Some, List, option_and_then, slice_get}
 use Rattle.std.specs.Option.{option_map, option_map_or}
 use Rattle.rdata_values.specs.Classes.{internet}
 use Rattle.rdata_values.specs.Rtype as Rtype
@@ -8,7 +8,7 @@ use Rattle.zone_rules.specs.Above.{is_below, is_within, parent_of}
 use Rattle.zone_rules.specs.Findings.{breaks_at}
 use Rattle.zone_rules.specs.Present.{is_present}
 use Rattle.zone_rules.specs.Rules.{alias_at, breaks, is_beside_alias, is_digest_beside, is_record_at_apex, is_server_beside, leads_to, is_spf_beside, lacks_glue, lacks_ns_address, names_alias, names_missing, names_renamed}
-use Rattle.zone_rules.specs.Zones.{as_listed, record_before, type_of}
+use Rattle.zone_rules.specs.Zones.{as_listed, has_type_at, record_before, type_of}
 use Rattle.zone_rules.specs.declared.beside.Relation.{Relation}
 use Rattle.zone_rules.specs.declared.beside.Relation.TheVariants.{Alias, Spf, Digest, Server}
 use Rattle.zone_rules.specs.declared.refused.RrsetName.{RrsetName}
@@ -49,6 +49,10 @@ is_alias_in records place = option_map_or (λ r. type_of r == Rtype.cname) (slic
 -- a record is the one at an index
 abbrev pub IsRecordAt : {N O M P : Type 0} → List (Record N O) → ℕ → Record M P → Type 0
 IsRecordAt records place r = Some r ≡ option_map as_listed (slice_get records place)
+
+-- the owner of the record at an index has a record of a type
+abbrev pub OwnerHasType : {N O : Type 0} → List (Record N O) → ℕ → ℕ → Type 0
+OwnerHasType {N} {O} records place rtype = (r : Record N O) → slice_get records place ≡ Some r → has_type_at rtype r.owner records ≡ true
 
 -- the index, if there is one, of the first CNAME at a name
 abbrev pub IsFirstAlias : {N O : Type 0} → List (List ℕ) → List (Record N O) → Option ℕ → Type 0

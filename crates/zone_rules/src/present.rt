@@ -1,10 +1,10 @@
 //! The contents of a zone: records, and RRsets with a rejected entry.
-ghost use Rattle.std.specs.Prelude.{◌≡◌, ◌≤◌, [], ◌∷◌, IsTrue, length};
+ghost use Rattle.std.specs.Prelude.{◌≡◌, ◌<◌, ◌≤◌, [], ◌∷◌, IsTrue, length};
 ghost use Rattle.rdata_values.specs.Rtype as Rtype;
 ghost use Rattle.dns_wire.specs.Wire.{wire_length};
 ghost use Rattle.zone_rules.specs.Present.{closest_dname, has_any_address, yields_records, has_address_in, has_records, has_synthesized, closest_present, is_below_cut_in, is_cut_in, is_delegated_in, is_listed_within, is_present, is_synthesized, lists_dname_above, wildcard_has, NothingIsSynthesized};
 ghost use Rattle.zone_rules.specs.Searches.{closest_above_some};
-ghost use Rattle.zone_rules.specs.Subjects.{is_parent_below, IsRecordAt};
+ghost use Rattle.zone_rules.specs.Subjects.{is_parent_below, IsRecordAt, OwnerHasType};
 ghost use Rattle.zone_rules.specs.Zones.{has_owner, has_type_at};
 
 use crate::names::{is_name_below, name_of, octets_of, parent};
@@ -15,7 +15,7 @@ use arrayvec::ArrayVec;
 use dns_wire::Name;
 use rdata_values::RecordType;
 
-/// Greatest number of records of one owner that are looked at one after another.
+/// Greatest number of records before one that are looked at.
 const FEW: usize = 8;
 
 /// Returns whether the zone has an RRset of a type at a name.
@@ -184,7 +184,22 @@ pub(crate) fn gets_records<Z: ZoneRecords>(
     has_records(records, refused, name) || gets_records_by_wildcard(records, refused, name)
 }
 
-/// Returns whether the owner of the record at an index has a record of a type.
+/// Returns whether one of the few records before an index is of a type, and has the owner of the record
+/// there.
+fn is_of_type_before<Z: ZoneRecords>(records: &Z, place: usize, rtype: RecordType) -> bool
+    requires { place < length (Z.contents records.now) }
+    ensures { IsTrue result → OwnerHasType (Z.contents records.now) place rtype }
+{
+    for other in place.saturating_sub(FEW)..place {
+        if records.type_at(other) == rtype && records.have_one_owner(other, place) {
+            return true;
+        }
+    }
+    false
+}
+
+/// Returns whether the owner of the record at an index has a record of a type. Looks at the few
+/// records before it first.
 pub(crate) fn has_own_type<Z: ZoneRecords>(
     records: &Z,
     place: usize,
@@ -194,16 +209,7 @@ pub(crate) fn has_own_type<Z: ZoneRecords>(
     requires { IsRecordAt (Z.contents records.now) place «record».now }
     ensures { result ≡ has_type_at rtype «record».now.owner (Z.contents records.now) }
 {
-    let (first, past) = records.places_at(place);
-    if past.saturating_sub(first) > FEW {
-        return records.has_type(&record.owner, rtype);
-    }
-    for other in first..past {
-        if records.type_at(other) == rtype {
-            return true;
-        }
-    }
-    false
+    is_of_type_before(records, place, rtype) || records.has_type(&record.owner, rtype)
 }
 
 /// Returns whether the zone has an RRset of a type at the owner of the record at an index.
