@@ -14,7 +14,7 @@ pub mod tokens;
 pub use directive::Generate;
 pub use error::{GenerateError, GenerateErrorKind};
 pub use format::{NumberBase, NumberFormat, read_format};
-pub use part::Part;
+pub use part::{Part, ReadPart, append_part, offset_after, read_part};
 pub use range::{GenerateRange, read_range};
 pub use side::{Side, SideError};
 pub use tokens::{DIRECTIVE_TOKENS, DirectiveTokens};

@@ -26,11 +26,11 @@ pub enum Part {
 
 /// The part with which a text begins.
 #[derive(Clone, Copy)]
-pub(crate) struct ReadPart {
+pub struct ReadPart {
     /// The part.
-    pub(crate) part: Part,
+    pub part: Part,
     /// Number of its octets.
-    pub(crate) len: usize,
+    pub len: usize,
 }
 
 /// The greatest sum of a number and an offset.
@@ -106,7 +106,7 @@ fn plain_part(has_offset: bool) -> Result<ReadPart, GenerateErrorKind>
 }
 
 /// Returns whether an offset is in effect after a part.
-pub(crate) fn offset_after(has_offset: bool, part: Part) -> bool
+pub fn offset_after(has_offset: bool, part: Part) -> bool
     ensures { result ≡ offset_after has_offset part }
 {
     match part {
@@ -132,7 +132,7 @@ fn dollar_part(rest: &[u8], last: u32, has_offset: bool) -> Result<ReadPart, Gen
 
 /// Parses the part with which a text begins. `has_offset` says whether an offset is in effect: that of
 /// the last format before it, if it is not 0.
-pub(crate) fn read_part(
+pub fn read_part(
     text: &[u8],
     is_quoted: bool,
     last: u32,
@@ -160,11 +160,7 @@ pub(crate) fn read_part(
 }
 
 /// Appends the text of a part for a number. On an error, the first octets may be appended.
-pub(crate) fn append_part<B: OctetsBuilder>(
-    part: Part,
-    number: u32,
-    out: &mut B,
-) -> Result<(), ShortBuf>
+pub fn append_part<B: OctetsBuilder>(part: Part, number: u32, out: &mut B) -> Result<(), ShortBuf>
     ensures made { OnOk result (B.octets out.new
         ≡ B.octets out.old ++ written_part number part) }
     ensures extends { OnErr result (Extends (B.octets out.old) (B.octets out.new)) }
