@@ -1,5 +1,5 @@
 -- Searches among sorted entries.
-use Rattle.std.proofs.Common.{ℕ, zero, suc, ◌≡◌, ◌+◌, ◌<◌, ◌≤◌, Bool, true, false, List, [], ◌∷◌, length, get_or, refl, sym, ap, ◌∙◌, arith}
+use Rattle.std.proofs.Common.{ℕ, zero, suc, ◌≡◌, ◌+◌, ◌-◌, ◌<◌, ◌≤◌, Bool, true, false, List, [], ◌∷◌, length, get_or, refl, sym, ap, ◌∙◌, arith}
 use Rattle.std.specs.Prelude.{All, nat_le, ◌||◌}
 use Rattle.std.specs.List.{AllWithin, list_any}
 use Rattle.std.specs.List.Sorted.{IsNonDecreasingBy, IsPartitionedBy, IsPartitionPoint, IsSorted}
@@ -32,6 +32,10 @@ le_index Less = refl
 le_index Equal = refl
 le_index Greater = refl
 
+refuted : (b c : Bool) → (b ≡ true → c ≡ true) → c ≡ false → b ≡ false
+refuted true c f e = absurd (false≢true (sym e ∙ f refl))
+refuted false c f e = refl
+
 -- records in an order that their own order refines
 module _ {R : AddedRecord → AddedRecord → Ordering} (o : IsTotalOrder R) (coarser : (a b : AddedRecord) → is_lt (stored_order a b) ≡ false → is_lt (R a b) ≡ false) (target : AddedRecord) where
   rise : (records : List AddedRecord) → IsSorted stored_order records → IsNonDecreasingBy (λ r. ordering_index (R r target)) records
@@ -57,6 +61,14 @@ module _ {R : AddedRecord → AddedRecord → Ordering} (o : IsTotalOrder R) (co
         let long = length-map entries (record_of octets) in
         sym (at i d (record_of octets d) (omega (arith, le, lt)))
         ∙ lesser_first (stored_records octets entries) sorted i j (record_of octets d) le (omega (arith, lt, long)) (at j d (record_of octets d) lt ∙ t)
+
+    -- the first of entries after some that pass the test at which it fails
+    pub turn : IsSorted stored_order (stored_records octets entries) → (first count : ℕ) → first < count → count < length entries → AllWithin (λ e. p e ≡ true) entries first count
+        → ((d : Entry) → p (get_or entries count d) ≡ false) → IsPartitionPoint (λ e. p e ≡ true) (λ e. p e ≡ false) entries count
+    turn sorted first count some within all not = (
+      λ k d low high. parted sorted k (count - 1) d (omega (arith, high)) (omega (arith, some, within)) (all (count - 1) d (omega (arith, some)) (omega (arith, some))),
+      λ k d low high. refuted (p (get_or entries k d)) (p (get_or entries count d)) (parted sorted count k d low high) (not d),
+    )
 
     pub point : (count : ℕ) → count ≤ length entries → IsPartitionPoint (λ e. p e ≡ true) (λ e. p e ≡ false) entries count
         → IsPartitionPoint (λ r. is_lt (R r target) ≡ true) (λ r. is_lt (R r target) ≡ false) (stored_records octets entries) count
@@ -113,13 +125,9 @@ module _ {X : Type 0} (p : X → Bool) where
   any_at [] place e within h k = absurd (omega (arith, within))
   any_at (x ∷ xs) zero e within h k = by (p x) refl
     where
-      decided : (b : Bool) → (b ≡ true → p x ≡ true) → p x ≡ false → b ≡ false
-      decided true f e = absurd (false≢true (sym e ∙ f refl))
-      decided false f e = refl
-
       by : (b : Bool) → p x ≡ b → (b || list_any p xs) ≡ b
       by true e = refl
-      by false e = none_passes xs (λ i d lt. decided (p (get_or xs i d)) (k (suc i) d (omega arith) (omega (arith, lt))) e)
+      by false e = none_passes xs (λ i d lt. refuted (p (get_or xs i d)) (p x) (k (suc i) d (omega arith) (omega (arith, lt))) e)
   any_at (x ∷ xs) (suc n) e within h k =
       ap (λ b. b || list_any p xs) (h 0 x (omega arith) (omega arith))
       ∙ any_at xs n e (omega (arith, within)) (λ i d low lt. h (suc i) d (omega arith) (omega (arith, lt))) (λ i d low lt. k (suc i) d (omega (arith, low)) (omega (arith, lt)))

@@ -35,6 +35,10 @@ HaveOneKey records i j = (record_at records i).key ≡ (record_at records j).key
 abbrev pub type_order : RecordParts → ℕ → ℕ → Ordering
 type_order r class code = ordering_then (nat_cmp r.class class) (nat_cmp r.code code)
 
+-- RDATA by their types, then in canonical form
+abbrev pub typed_data_order : (rtype : ℕ) → List ℕ → (other_type : ℕ) → List ℕ → Ordering
+typed_data_order rtype rdata other_type other = ordering_then (nat_cmp rtype other_type) (any_data_order rtype rdata other)
+
 -- by class, then type, then RDATA
 abbrev pub parts_cmp : RecordParts → RecordParts → Ordering
 parts_cmp a b = ordering_then (type_order a b.class b.code) (any_data_order a.code a.rdata b.rdata)

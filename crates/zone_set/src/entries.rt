@@ -8,10 +8,10 @@ ghost use Rattle.zone_set.specs.Entries.{after_rest, entry_keys_order, entry_ord
 ghost use Rattle.zone_set.specs.Indexes.{key_order_by_index, order_at, stored_at};
 ghost use Rattle.zone_set.specs.Parts.{record_parts};
 ghost use Rattle.zone_set.specs.Prefixes.{prefix_number};
-ghost use Rattle.zone_set.specs.Stored.{absent_parts, parts_cmp};
+ghost use Rattle.zone_set.specs.Stored.{absent_parts, parts_cmp, typed_data_order};
 
 use crate::counted::{octet_or_zero, rest_at, split_length};
-use crate::records::{EntryHeader, GroupEntry, first_type, split_record};
+use crate::records::{EntryHeader, GroupEntry, first_type, split_record, usual_data};
 use arrayvec::ArrayVec;
 use rdata_values::{Class, RecordType};
 use std::alloc::{AllocError, Allocator};
@@ -231,6 +231,39 @@ pub(crate) fn compare_parts(left: &GroupEntry<'_>, right: &GroupEntry<'_>) -> Or
     }
 }
 
+/// Compares the RDATA of two records by their types, and then in canonical form.
+fn compare_data(rtype: RecordType, rdata: &[u8], other_type: RecordType, other: &[u8]) -> Ordering
+    ensures { result ≡ typed_data_order rtype rdata.now other_type other.now }
+{
+    match rtype.0.cmp(&other_type.0) {
+        Ordering::Equal => compare_any_data(rtype, rdata, other),
+        order => order,
+    }
+}
+
+/// Compares the records that octets begin with, without their owners: by class, type and RDATA in
+/// canonical form. Of two usual records no other number is read.
+fn compare_first(left: &[u8], right: &[u8]) -> Ordering
+    ensures { result ≡ parts_cmp (parts_or_absent left.now) (parts_or_absent right.now) }
+{
+    if let Some(found) = usual_data(left) {
+        if let Some(other) = usual_data(right) {
+            return compare_data(found.rtype, found.rdata, other.rtype, other.rdata);
+        }
+    }
+    compare_parts(&first_or_absent(left), &first_or_absent(right))
+}
+
+/// Compares octets. Mostly there are none.
+fn compare_few(left: &[u8], right: &[u8]) -> Ordering
+    ensures { result ≡ octet_order left.now right.now }
+{
+    if left.is_empty() && right.is_empty() {
+        return Ordering::Equal;
+    }
+    left.cmp(right)
+}
+
 /// Compares the keys that octets have, without their first seven octets.
 fn compare_rests(left: &[u8], right: &[u8]) -> Ordering
     ensures { result ≡ rests_order left.now right.now }
@@ -256,10 +289,8 @@ fn compare_octets(left: &[u8], right: &[u8]) -> Ordering
 {
     let (left_count, left_rest, left_parts) = split_rest(left);
     let (right_count, right_rest, right_parts) = split_rest(right);
-    match left_rest.cmp(right_rest).then(left_count.cmp(&right_count)) {
-        Ordering::Equal => {
-            compare_parts(&first_or_absent(left_parts), &first_or_absent(right_parts))
-        }
+    match compare_few(left_rest, right_rest).then(left_count.cmp(&right_count)) {
+        Ordering::Equal => compare_first(left_parts, right_parts),
         order => order,
     }
 }

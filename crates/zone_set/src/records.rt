@@ -28,6 +28,13 @@ pub struct GroupEntry<'a> {
     pub rdata: &'a [u8],
 }
 
+/// The type and the RDATA of a record of class IN.
+#[derive(Clone, Copy)]
+pub(crate) struct UsualData<'a> {
+    pub rtype: RecordType,
+    pub rdata: &'a [u8],
+}
+
 /// First octet of a record of class IN whose other numbers are small. A usual record begins with its
 /// type, which is less.
 const SHORT: u8 = 253;
@@ -356,6 +363,22 @@ fn usual_type(octets: &[u8]) -> Option<(Class, RecordType)>
         return None;
     }
     Some((Class::IN, RecordType(u16::from(head[0]))))
+}
+
+/// Returns the type and the RDATA of a usual record that octets begin with. Its class is IN.
+pub(crate) fn usual_data(octets: &[u8]) -> Option<UsualData<'_>>
+    ensures some { IsSome result ↔ (begins_usual octets.now ≡ true) }
+    ensures rtype { IfSome result (λ d. d.rtype ≡ (first_usual octets.now).code) }
+    ensures rdata { IfSome result (λ d. d.rdata.now ≡ (first_usual octets.now).rdata) }
+{
+    let (head, counted) = octets.split_first_chunk::<6>()?;
+    if head[0] >= SHORT {
+        return None;
+    }
+    Some(UsualData {
+        rtype: RecordType(u16::from(head[0])),
+        rdata: split_counted(counted).0,
+    })
 }
 
 /// Returns the class and the type of a short record that octets begin with.

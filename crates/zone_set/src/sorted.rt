@@ -11,7 +11,7 @@ use crate::entries::{
     Entry, StoredKey, compare_by_index, compare_key_by_index, compare_keys_by_index, compare_type,
     key_by_index, parts_by_index, type_by_index,
 };
-use crate::lookups::{count_before_key, count_before_rrset};
+use crate::lookups::{count_before_key, count_before_key_near, count_before_rrset};
 use crate::records::GroupEntry;
 use rdata_values::{Class, RecordType};
 use std::alloc::{Allocator, Global};
@@ -166,6 +166,17 @@ impl<A: Allocator> SortedStore<A> {
         let octets = self.octets.as_slice();
         let entries = self.entries.as_slice();
         count_before_key(octets, entries, key)
+    }
+
+    /// Returns the number of records whose key is less than a key, as `count_before` does. Searches
+    /// from an index on: quick if the last record with a lesser key is at this index or soon after it.
+    pub fn count_before_near(&self, key: &[u8], place: usize) -> usize
+        ensures bound { result ≤ length self.now }
+        ensures point { CountsBeforeKey key.now self.now result }
+    {
+        let octets = self.octets.as_slice();
+        let entries = self.entries.as_slice();
+        count_before_key_near(octets, entries, key, place)
     }
 
     /// Returns the number of records that are before an RRset: whose key is less, or, with that key,
