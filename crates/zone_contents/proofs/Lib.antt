@@ -10,6 +10,7 @@ pub mod OwnPlaces
 pub mod RightData
 pub mod SortedSets
 pub mod Summed
+pub mod WithinKeys
 pub mod WithinZone
 pub mod ZoneKeys
 pub mod ZoneNames

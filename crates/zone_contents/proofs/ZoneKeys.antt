@@ -1,5 +1,5 @@
 -- Keys in a zone compare as the order keys of their names, which can be read back.
-use Rattle.std.proofs.Common.{ℕ, ◌≡◌, ◌+◌, ◌≤◌, List, [], ◌∷◌, ◌++◌, length, take, drop, refl, sym, ap, ◌∙◌, arith, length-append}
+use Rattle.std.proofs.Common.{ℕ, ◌≡◌, ◌+◌, ◌≤◌, List, [], ◌∷◌, ◌++◌, length, take, drop, refl, sym, ap, ◌∙◌, arith, append-nil, length-append}
 use Rattle.std.specs.Prelude.{Bool, true, false, ◌&&◌, nat_eq, if◌then◌else◌}
 use Rattle.std.specs.Cmp.{IsTotalOrder}
 use Rattle.std.specs.Cmp.Lexicographic.{same_text}
@@ -9,7 +9,7 @@ use Rattle.std.specs.declared.cmp.Ordering.TheVariants.{Less, Equal, Greater}
 use Rattle.std.proofs.lemmas.Bool.{true≢false}
 use Rattle.std.proofs.lemmas.Bool.Decides.{nat_tests}
 use Rattle.std.proofs.lemmas.Cmp.{nat_list_cmp_total, tied_itself}
-use Rattle.std.proofs.lemmas.List.{take-append-drop}
+use Rattle.std.proofs.lemmas.List.{drop_at, take-append-drop}
 use Rattle.zone_record.specs.Names.{octet_order}
 use Rattle.zone_record.proofs.NameOrders.{slice_cmp-append}
 use Rattle.zone_record.proofs.Orders.{octets_equal}
@@ -66,12 +66,21 @@ after_more (x ∷ xs) (y ∷ ys) r h n = by (after_more xs ys r) (nat_cmp x y) r
 begins_parts : (key front : List ℕ) → begins_with key front ≡ true → key ≡ front ++ drop (length front) key
 begins_parts key front h = sym (take-append-drop (length front) key) ∙ ap (λ l. l ++ drop (length front) key) (same_text (take (length front) key) front (sym h))
 
-begins_itself : (front : List ℕ) → begins_with front front ≡ true
-begins_itself [] = refl
-begins_itself (x ∷ xs) = ap (λ b. b && begins_with xs xs) (one x) ∙ begins_itself xs
+begins_front : (front rest : List ℕ) → begins_with (front ++ rest) front ≡ true
+begins_front [] rest = refl
+begins_front (x ∷ xs) rest = ap (λ b. b && begins_with (xs ++ rest) xs) (one x) ∙ begins_front xs rest
   where
     one : (n : ℕ) → nat_eq n n ≡ true
     one n = Prim.grind (arith, nat_tests)
+
+-- the key of a name in a zone, if its order key begins with the apex's
+pub key_within : (apex rest : List ℕ) → zone_key apex (apex ++ rest) ≡ 1 ∷ rest
+key_within apex rest =
+    ap (λ b. if b then 1 ∷ drop (length apex) (apex ++ rest) else (if is_lt (octet_order (apex ++ rest) apex) then 0 else 2) ∷ (apex ++ rest)) (begins_front apex rest)
+    ∙ ap (λ r. 1 ∷ r) (drop_at apex rest (length apex) refl)
+
+begins_itself : (front : List ℕ) → begins_with front front ≡ true
+begins_itself front = ap (λ key. begins_with key front) (sym (append-nil front)) ∙ begins_front front []
 
 -- where a name is by its key: in the zone, before its apex, or after the zone
 pub data Where (apex key : List ℕ) : Type 0 where

@@ -66,7 +66,7 @@ apex_lower key octets is = sym (name_read (key_name key)) ∙ ap key_name (sym i
 pub is_name_of : (name : List (List ℕ)) → IsWireName (wire name) → IsName name
 is_name_of name w = subst IsName (sym (wire_same name w.labels w.whole)) w.is_name
 
-lower_wire : (name : List (List ℕ)) → IsWireName (wire name) → lowered (wire name) ≡ wire (map lowered name)
+pub lower_wire : (name : List (List ℕ)) → IsWireName (wire name) → lowered (wire name) ≡ wire (map lowered name)
 lower_wire name w = lowered_labels name (is_name_of name w)
 
 pub lower_wire_name : (name : List (List ℕ)) → IsWireName (wire name) → IsWireName (wire (map lowered name))

@@ -5,7 +5,7 @@ use Rattle.std.specs.Ordering.{is_lt}
 use Rattle.dns_wire.specs.Wire.{wire}
 use Rattle.rdata_tokens.specs.NameSpelling.{IsWireName}
 use Rattle.zone_record.specs.KeyNames.{key_name}
-use Rattle.zone_record.specs.Keys.{order_key}
+use Rattle.zone_record.specs.Keys.{order_key, IsAtOrBelow}
 use Rattle.zone_record.specs.Names.{octet_order}
 
 abbrev pub begins_with : List ℕ → List ℕ → Bool
@@ -23,6 +23,10 @@ whole_key apex (mark ∷ rest) = if mark == 1 then apex ++ rest else rest
 -- the key of a name in a zone
 abbrev pub key_in_zone : List (List ℕ) → List (List ℕ) → List ℕ
 key_in_zone apex name = zone_key (order_key apex) (order_key name)
+
+-- a name that has these octets is at the apex of a zone or below it, and this is its key there
+abbrev pub IsKeyWithin : List (List ℕ) → List ℕ → List ℕ → Type 0
+IsKeyWithin apex octets key = (name : List (List ℕ)) → octets ≡ wire name → IsAtOrBelow name apex × (key ≡ key_in_zone apex name)
 
 -- the name with a key in a zone, in lower case
 abbrev pub name_in_zone : List (List ℕ) → List ℕ → List (List ℕ)

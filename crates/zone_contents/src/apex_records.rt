@@ -65,7 +65,7 @@ impl<A: Allocator> StoredZone<A> {
         ensures from { result.0 ≤ result.1 }
         ensures owned { AreOwnedFrom apex.now (contents self.now) result.0 result.1 }
     {
-        places(&self.apex, &self.store, &name_of(octets_of(apex)))
+        places(&self.apex, &self.store, None, &name_of(octets_of(apex)))
     }
 }
 

@@ -4,7 +4,7 @@ ghost use Rattle.rdata_values.specs.Rtype as Rtype;
 ghost use Rattle.zone_contents.specs.Contents.{AreSortedRecords, AreWithinZone};
 ghost use Rattle.zone_contents.specs.Searches.{has_in_zone, has_type_within, HaveClass};
 
-use crate::searches::{past_few, places};
+use crate::searches::{count_before_key, past_few, places};
 use crate::summary::Summary;
 use crate::zone_key::{Apex, ZoneKey, is_within_zone};
 use dns_wire::Name;
@@ -41,7 +41,7 @@ fn has_type_of_classes<A: Allocator>(
     requires { AreSortedRecords apex.now store.now }
     ensures { result ≡ has_in_zone rtype name.now apex.now store.now }
 {
-    let (first, past) = places(apex, store, name);
+    let (first, past) = places(apex, store, None, name);
     has_type_within(store, first, past, rtype)
 }
 
@@ -77,11 +77,13 @@ fn types_within<A: Allocator>(store: &SortedStore<A>, first: usize, past: usize)
     }
 }
 
-/// Returns which types a name has, of those that matter for a host. Looks up the name.
+/// Returns which types a name has, of those that matter for a host. Looks up the name: near an index,
+/// if there is one.
 fn found_types<A: Allocator>(
     apex: &Apex,
     store: &SortedStore<A>,
     summary: &Summary,
+    near: Option<usize>,
     name: &Name<&[u8]>,
 ) -> HostTypes
     requires records { AreSortedRecords apex.now store.now }
@@ -90,8 +92,9 @@ fn found_types<A: Allocator>(
     ensures aaaa { result.has_aaaa ≡ has_in_zone Rtype.aaaa name.now apex.now store.now }
     ensures cname { result.has_cname ≡ has_in_zone Rtype.cname name.now apex.now store.now }
 {
-    let key = ZoneKey::of(apex, name);
-    let first = store.count_before(key.as_slice());
+    let mut key = ZoneKey::none();
+    key.write(apex, name);
+    let first = count_before_key(store, near, key.as_slice());
     if let Some(past) = past_few(store, first, key.as_slice()) {
         return types_within(store, first, past);
     }
@@ -117,12 +120,13 @@ fn no_types() -> HostTypes
 }
 
 /// Returns which types a name has, of those that matter for a host. If all records are at the apex or
-/// below it, other names aren't looked up.
+/// below it, other names aren't looked up. Searches near an index, if there is one.
 pub(crate) fn host_types<A: Allocator>(
     apex: &Apex,
     store: &SortedStore<A>,
     summary: &Summary,
     are_within: bool,
+    near: Option<usize>,
     name: &Name<&[u8]>,
 ) -> HostTypes
     requires records { AreSortedRecords apex.now store.now }
@@ -135,5 +139,5 @@ pub(crate) fn host_types<A: Allocator>(
     if are_within && !is_within_zone(apex, name) {
         return no_types();
     }
-    found_types(apex, store, summary, name)
+    found_types(apex, store, summary, near, name)
 }

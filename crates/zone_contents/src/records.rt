@@ -1,6 +1,7 @@
 //! The records of a zone, as its rules read them.
 ghost use Rattle.std.specs.Prelude.{◌≡◌, ◌<◌, All, length};
 ghost use Rattle.zone_contents.specs.Contents.{listed_record, IsZoneRecord};
+ghost use Rattle.zone_record.specs.Records.{data_of};
 ghost use Rattle.zone_rules.specs.Zones.{as_listed};
 ghost use Rattle.zone_set.specs.Stored.{record_at};
 
@@ -36,6 +37,20 @@ fn record_at<'b, A: Allocator>(
     }
 }
 
+/// Returns the RDATA of the record at an index.
+fn data_at<'b, A: Allocator>(
+    _apex: &Apex,
+    store: &'b SortedStore<A>,
+    place: usize,
+) -> Data<&'b [u8]>
+    requires place { place < length store.now }
+    requires are { All (IsZoneRecord _apex.now) store.now }
+    ensures { result ≡ data_of (listed_record _apex.now (record_at store.now place)) }
+{
+    let entry = store.entry(place);
+    Data::from_valid_octets(entry.header.rtype, entry.rdata)
+}
+
 impl<A: Allocator> ZoneRecords for StoredZone<A> {
     ghost use Rattle.zone_contents.specs.Contents.{contents};
 
@@ -57,6 +72,10 @@ impl<A: Allocator> ZoneRecords for StoredZone<A> {
         self.store.rtype(place)
     }
 
+    fn data_at(&self, place: usize) -> Data<&[u8]> {
+        data_at(&self.apex, &self.store, place)
+    }
+
     fn have_one_owner(&self, left: usize, right: usize) -> bool {
         have_one_owner(&self.apex, &self.store, left, right)
     }
@@ -66,7 +85,11 @@ impl<A: Allocator> ZoneRecords for StoredZone<A> {
     }
 
     fn places(&self, name: &Name<&[u8]>) -> (usize, usize) {
-        places(&self.apex, &self.store, name)
+        places(&self.apex, &self.store, None, name)
+    }
+
+    fn places_near(&self, place: usize, name: &Name<&[u8]>) -> (usize, usize) {
+        places(&self.apex, &self.store, Some(place), name)
     }
 
     fn has_type(&self, name: &Name<&[u8]>, rtype: RecordType) -> bool {
@@ -79,6 +102,18 @@ impl<A: Allocator> ZoneRecords for StoredZone<A> {
             &self.store,
             &self.summary,
             self.are_within,
+            None,
+            name,
+        )
+    }
+
+    fn host_types_near(&self, place: usize, name: &Name<&[u8]>) -> HostTypes {
+        host_types(
+            &self.apex,
+            &self.store,
+            &self.summary,
+            self.are_within,
+            Some(place),
             name,
         )
     }

@@ -5,8 +5,8 @@ ghost use Rattle.zone_contents.specs.Keys.{name_octets};
 ghost use Rattle.zone_contents.specs.Searches.{closest_earlier, shared_by, BeginsKey, EndsKey};
 ghost use Rattle.zone_rules.specs.Present.{rrset_of_record};
 ghost use Rattle.zone_rules.specs.Searches.{before_place, AreOwnedAt, AreOwnedFrom, PartsBefore};
-ghost use Rattle.zone_rules.specs.Zones.{closest_owned, HaveOneOwner};
-ghost use Rattle.zone_set.specs.Stored.{record_at};
+ghost use Rattle.zone_rules.specs.Zones.{closest_owned, is_one_owner};
+ghost use Rattle.zone_set.specs.Stored.{record_at, CountsBeforeKey};
 
 use crate::zone_key::{Apex, MAX_ZONE_KEY, ZoneKey, write_name, write_split_name};
 use arrayvec::ArrayVec;
@@ -26,7 +26,8 @@ fn count_before<A: Allocator>(apex: &Apex, store: &SortedStore<A>, name: &Name<&
     ensures bound { result ≤ length store.now }
     ensures point { PartsBefore rrset_of_record name.now (listing apex.now store.now) result }
 {
-    let key = ZoneKey::of(apex, name);
+    let mut key = ZoneKey::none();
+    key.write(apex, name);
     store.count_before(key.as_slice())
 }
 
@@ -96,7 +97,7 @@ pub(crate) fn owner_at<'b, A: Allocator>(
     name_of(owner.as_slice())
 }
 
-/// Returns whether the records at two indexes have the same owner.
+/// Returns whether the records at two indexes have the same owner, ignoring letter case.
 pub(crate) fn have_one_owner<A: Allocator>(
     apex: &Apex,
     store: &SortedStore<A>,
@@ -106,7 +107,7 @@ pub(crate) fn have_one_owner<A: Allocator>(
     requires left { left < length store.now }
     requires right { right < length store.now }
     requires are { All (IsZoneRecord apex.now) store.now }
-    ensures { IsTrue result ↔ HaveOneOwner (listing apex.now store.now) left right }
+    ensures { result ≡ is_one_owner (listing apex.now store.now) left right }
 {
     store.have_one_key(left, right)
 }
@@ -265,17 +266,36 @@ pub(crate) fn places_at<A: Allocator>(
     (first_with_key(store, place), past_with_key(store, place))
 }
 
+/// Returns the number of records whose key is less than a key. Searches near an index, if there is
+/// one.
+pub(crate) fn count_before_key<A: Allocator>(
+    store: &SortedStore<A>,
+    near: Option<usize>,
+    key: &[u8],
+) -> usize
+    ensures bound { result ≤ length store.now }
+    ensures point { CountsBeforeKey key.now store.now result }
+{
+    match near {
+        Some(place) => store.count_before_near(key, place),
+        None => store.count_before(key),
+    }
+}
+
 /// Returns the index of the first record whose owner is a name, and the index after the last one.
+/// Searches near an index, if there is one.
 pub(crate) fn places<A: Allocator>(
     apex: &Apex,
     store: &SortedStore<A>,
+    near: Option<usize>,
     name: &Name<&[u8]>,
 ) -> (usize, usize)
     requires { AreSortedRecords apex.now store.now }
     ensures from { result.0 ≤ result.1 }
     ensures owned { AreOwnedFrom name.now (listing apex.now store.now) result.0 result.1 }
 {
-    let key = ZoneKey::of(apex, name);
-    let first = store.count_before(key.as_slice());
+    let mut key = ZoneKey::none();
+    key.write(apex, name);
+    let first = count_before_key(store, near, key.as_slice());
     (first, past_key(store, first, key.as_slice()))
 }

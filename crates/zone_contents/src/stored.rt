@@ -33,7 +33,8 @@ fn add_record<A: Allocator, Owner: AsOctets, Octets: AsOctets>(
 {
     // No effect at run time: the proof reads that the octets are those of a name.
     let _owner = octets_of(&record.owner);
-    let key = ZoneKey::of(apex, &record.owner);
+    let mut key = ZoneKey::none();
+    key.write(apex, &record.owner);
     let header = EntryHeader {
         rtype: record.data.rtype(),
         class: record.class,

@@ -1,10 +1,12 @@
 //! Keys of the names in a zone, whose first octets differ.
-ghost use Rattle.std.specs.Prelude.{◌≡◌, ◌<◌, ◌≤◌, ◌+◌, [], ◌∷◌, ◌++◌, IsTrue, length, map};
+ghost use Rattle.std.specs.Prelude.{◌≡◌, ◌<◌, ◌≤◌, ◌+◌, [], ◌∷◌, ◌++◌, All, IsTrue, length, map, take};
 ghost use Rattle.dns_octets.specs.Lowered.{lowered};
-ghost use Rattle.dns_wire.specs.Wire.{wire};
+ghost use Rattle.dns_wire.specs.Limits.{max_label};
+ghost use Rattle.dns_wire.specs.Wire.{wire, wire_label};
 ghost use Rattle.rdata_tokens.specs.NameSpelling.{IsWireName};
-ghost use Rattle.zone_record.specs.Keys.{order_key};
-ghost use Rattle.zone_contents.specs.Keys.{key_in_zone, name_in_zone, name_octets, zone_key, IsNameKey};
+ghost use Rattle.zone_record.specs.Keys.{label_key, order_key};
+ghost use Rattle.zone_record.specs.Walks.{BeginsWithLabel};
+ghost use Rattle.zone_contents.specs.Keys.{key_in_zone, name_in_zone, name_octets, zone_key, IsKeyWithin, IsNameKey};
 ghost use Rattle.zone_rules.specs.Above.{is_within};
 
 use crate::key_labels::{push_labels, push_split_labels};
@@ -14,10 +16,13 @@ use dns_wire::{MAX_NAME, Name};
 use std::cmp::Ordering;
 use std::marker::Model;
 use zone_record::{OrderKey, push_key_name};
-use zone_rules::names::{is_name_within, name_of, octets_of};
+use zone_rules::names::{are_alike, is_name_within, name_of, octets_of};
 
 /// Maximum length of the key of a name in a zone, in octets.
 pub const MAX_ZONE_KEY: usize = 510;
+
+/// Size of the block that a label is copied to, in octets. A label has at most 63.
+const BLOCK: usize = 64;
 
 /// First octet of the key of a name that is before the apex in canonical order.
 const BEFORE: u8 = 0;
@@ -105,6 +110,97 @@ fn write_zone_key(apex: &[u8], key: &[u8], marked: &mut ArrayVec<u8, MAX_ZONE_KE
     }
 }
 
+/// Writes the key of any name in a zone, in place of what a buffer holds.
+fn write_any<Octets: AsOctets>(
+    apex: &Apex,
+    name: &Name<Octets>,
+    marked: &mut ArrayVec<u8, MAX_ZONE_KEY>,
+)
+    ensures { marked.new.items ≡ key_in_zone apex.now name.now }
+{
+    let key = OrderKey::of(name);
+    marked.clear();
+    write_zone_key(apex.key(), key.as_slice(), marked);
+}
+
+/// Returns a label with hyphens after it.
+fn padded(label: &[u8]) -> [u8; BLOCK]
+    requires { length label.now ≤ BLOCK }
+    ensures { take (length label.now) result ≡ label.now }
+{
+    let mut block = [b'-'; BLOCK];
+    block[..label.len()].copy_from_slice(label);
+    block
+}
+
+/// Returns whether no octet is 0 or 1.
+fn is_plain(block: &[u8; BLOCK]) -> bool
+    ensures { IsTrue result → All (λ o. 1 < o) block.now }
+{
+    let mut is_plain = true;
+    for index in 0..BLOCK {
+        is_plain &= block[index] > 1;
+    }
+    is_plain
+}
+
+/// Appends octets, and then a 0.
+fn push_ended(octets: &[u8], key: &mut ArrayVec<u8, MAX_ZONE_KEY>)
+    requires { length key.old.items + length octets.now < 510 }
+    ensures { key.new.items ≡ key.old.items ++ (octets.now ++ 0 ∷ []) }
+{
+    key.try_extend_from_slice(octets).unwrap();
+    key.push(0);
+}
+
+/// Appends a label as it is in a key, if no octet of it is 0 or 1. Returns whether it does.
+///
+/// A block of fixed size is lowered and searched faster than a label.
+fn push_plain_label(label: &[u8], key: &mut ArrayVec<u8, MAX_ZONE_KEY>) -> bool
+    requires short { length label.now ≤ max_label }
+    requires room { length key.old.items + length (label_key (lowered label.now)) ≤ 510 }
+    ensures { IsTrue result → key.new.items ≡ key.old.items ++ label_key (lowered label.now) }
+{
+    let mut block = padded(label);
+    block.make_ascii_lowercase();
+    if !is_plain(&block) {
+        return false;
+    }
+    push_ended(&block[..label.len()], key);
+    true
+}
+
+/// Returns the label that octets begin with and the octets after it.
+fn split_label(octets: &[u8]) -> (&[u8], &[u8])
+    requires { BeginsWithLabel octets.now }
+    ensures { octets.now ≡ wire_label result.0.now ++ result.1.now }
+{
+    let end = 1 + usize::from(octets[0]);
+    (&octets[1..end], &octets[end..])
+}
+
+/// Writes the key of the name with these octets in a zone to an empty buffer, if the name is at the
+/// apex or below it and no label below the apex has an octet 0 or 1. Returns whether it does.
+fn write_within(apex: &Apex, octets: &[u8], key: &mut ArrayVec<u8, MAX_ZONE_KEY>) -> bool
+    requires empty { key.old.items ≡ [] }
+    requires is_name { IsWireName octets.now }
+    ensures { IsTrue result → IsKeyWithin apex.now octets.now key.new.items }
+{
+    let top = apex.octets();
+    if octets.len() <= top.len() {
+        if !are_alike(octets, top) {
+            return false;
+        }
+        key.push(WITHIN);
+        return true;
+    }
+    let (label, rest) = split_label(octets);
+    if !write_within(apex, rest, key) {
+        return false;
+    }
+    push_plain_label(label, key)
+}
+
 /// The key of a name in a zone. Keys compare octet by octet as their names do in canonical order.
 ///
 /// At the apex and below it, the key is a 1 and what follows the apex's order key in that of the
@@ -123,14 +219,34 @@ impl Model for ZoneKey {
 }
 
 impl ZoneKey {
+    /// Returns an empty key, which no name has.
+    pub(crate) fn none() -> ZoneKey
+        ensures { result ≡ [] }
+    {
+        ZoneKey {
+            octets: ArrayVec::new(),
+        }
+    }
+
+    /// Writes the key of a name in a zone, in place of this one.
+    ///
+    /// A key that is returned by value is copied with its whole buffer.
+    pub(crate) fn write<Octets: AsOctets>(&mut self, apex: &Apex, name: &Name<Octets>)
+        ensures { self.new ≡ key_in_zone apex.now name.now }
+    {
+        self.octets.clear();
+        if !write_within(apex, octets_of(name), &mut self.octets) {
+            write_any(apex, name, &mut self.octets);
+        }
+    }
+
     /// Returns the key of a name in a zone.
     pub fn of<Octets: AsOctets>(apex: &Apex, name: &Name<Octets>) -> ZoneKey
         ensures { result ≡ key_in_zone apex.now name.now }
     {
-        let key = OrderKey::of(name);
-        let mut octets = ArrayVec::new();
-        write_zone_key(apex.key(), key.as_slice(), &mut octets);
-        ZoneKey { octets }
+        let mut key = ZoneKey::none();
+        key.write(apex, name);
+        key
     }
 
     /// Returns the octets of the key.

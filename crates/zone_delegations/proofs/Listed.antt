@@ -4,11 +4,13 @@ use Rattle.std.specs.Prelude.{◌==◌, ◌&&◌, ◌||◌, if◌then◌else◌,
 use Rattle.std.specs.Option.{option_map, option_map_or}
 use Rattle.rdata_values.specs.Rtype as Rtype
 use Rattle.rdata_values.specs.declared.types.RecordType.{RecordType}
+use Rattle.zone_record.specs.Records.{data_of}
+use Rattle.zone_record.specs.TypeData.{TypeData}
 use Rattle.zone_record.specs.declared.record.Record.{Record}
 use Rattle.zone_rules.specs.Above.{is_below, parent_of}
 use Rattle.zone_rules.specs.Rules.{is_below_zone_cut, is_zone_cut}
-use Rattle.zone_rules.specs.Zones.{as_listed, host_of, type_of}
-use Rattle.zone_delegations.specs.Hidden.{delegation_of, is_delegating, server_of}
+use Rattle.zone_rules.specs.Zones.{as_listed, host_in, type_of}
+use Rattle.zone_delegations.specs.Hidden.{delegation_of, is_delegating, server_in, server_of}
 
 same_some : {X : Type 0} (x y : X) → Some x ≡ Some y → x ≡ y
 same_some x y h = cc
@@ -26,9 +28,9 @@ module _ {N O R S : Type 0} where
   listed_delegation origin None r e = cc
   listed_delegation origin (Some x) r e = ap (delegation_of origin) (same_some r (as_listed x) e)
 
-  pub listed_server : (origin : List (List ℕ)) (o : Option (Record N O)) (r : Record R S) → Some r ≡ option_map as_listed o → server_of origin r ≡ option_and_then (server_of origin) o
-  listed_server origin None r e = cc
-  listed_server origin (Some x) r e = ap (server_of origin) (same_some r (as_listed x) e)
+pub listed_server : {N O : Type 0} (origin : List (List ℕ)) (o : Option (Record N O)) (d : TypeData) → Some d ≡ option_map data_of o → server_in origin d ≡ option_and_then (server_of origin) o
+listed_server origin None d e = cc
+listed_server origin (Some x) d e = ap (server_in origin) (same_some d (data_of x) e)
 
 pub some_type : {N O : Type 0} (o : Option (Record N O)) (t : RecordType) → Some t ≡ option_map type_of o → t ≡ option_map_or type_of o 0
 some_type None t e = cc
@@ -47,7 +49,7 @@ module _ {N O : Type 0} (origin : List (List ℕ)) where
 
   pub other_server : (o : Option (Record N O)) → (option_map_or type_of o 0 == Rtype.ns) ≡ false → option_and_then (server_of origin) o ≡ None
   other_server None h = refl
-  other_server (Some x) h = ap (λ b. if b then option_and_then (λ host. if is_below host origin then Some host else None) (host_of x) else None) h
+  other_server (Some x) h = ap (λ b. if b then option_and_then (λ host. if is_below host origin then Some host else None) (host_in (data_of x)) else None) h
 
 -- ---- an NS below the apex has its owner as its name
 

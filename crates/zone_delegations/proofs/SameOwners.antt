@@ -3,7 +3,7 @@ use Rattle.std.proofs.Common.{ℕ, ◌≡◌, Bool, true, false, Option, Some, N
 use Rattle.std.specs.Prelude.{◌==◌, ◌&&◌, ◌||◌, nat_eq, if◌then◌else◌}
 use Rattle.std.specs.Cmp.Lexicographic.{bytes_decides, pointwise, pointwise_decides}
 use Rattle.std.specs.List.{list_any}
-use Rattle.std.specs.Option.{option_map_or}
+use Rattle.std.specs.Option.{option_map, option_map_or}
 use Rattle.std.specs.Ordering.{is_eq}
 use Rattle.std.proofs.lemmas.Bool.{false≢true}
 use Rattle.std.proofs.lemmas.Cmp.{tied_itself}
@@ -13,7 +13,7 @@ use Rattle.rdata_values.specs.Rtype as Rtype
 use Rattle.zone_record.proofs.Orders.{names_total}
 use Rattle.zone_record.specs.declared.record.Record.{Record}
 use Rattle.zone_rules.specs.Above.{is_below, names_above}
-use Rattle.zone_rules.specs.Rules.{is_zone_cut}
+use Rattle.zone_rules.specs.Rules.{is_below_zone_cut, is_zone_cut}
 use Rattle.zone_rules.specs.Zones.{type_of}
 use Rattle.zone_rules.proofs.Lookups.{same_is}
 use Rattle.zone_delegations.specs.Hidden.{delegation_of, is_delegating, is_name_among}
@@ -108,6 +108,25 @@ module _ {N O : Type 0} (origin : List (List ℕ)) (records : List (Record N O))
       each r =
           chosen (λ other. same_name name other) r.owner (is_delegating origin r)
           ∙ arranged (same_name r.owner name) (same_name name r.owner) (type_of r == Rtype.ns) (is_below r.owner origin) (is_below name origin) (same_sym name r.owner) (below_same origin r.owner name)
+
+  -- of a name in lower case
+  abbrev cut_lowered : List (List ℕ) → Bool
+  cut_lowered name = list_any (λ r. option_map_or (λ other. alike name (map lowered other)) (delegation_of origin r) false) records
+
+  below_cut_by : (name : List (List ℕ)) → is_below_zone_cut origin records name ≡ list_any cut_lowered (names_above (map lowered name))
+  below_cut_by [] = refl
+  below_cut_by (l ∷ []) = refl
+  below_cut_by (l ∷ n ∷ o) = λ i. sym (cut_is (n ∷ o)) i || below_cut_by (n ∷ o) i
+
+  below_cut_same : (a b : List (List ℕ)) → same_name a b ≡ true → is_below_zone_cut origin records a ≡ is_below_zone_cut origin records b
+  below_cut_same a b h = below_cut_by a ∙ ap (λ l. list_any cut_lowered (names_above l)) (lowered_same a b h) ∙ sym (below_cut_by b)
+
+  -- records of one owner are below the same delegations
+  pub below_alike : (o p : Option (Record N O)) → option_map_or (λ a. option_map_or (λ b. same_name a.owner b.owner) p false) o false ≡ true
+      → option_map_or (is_below_zone_cut origin records) (option_map (λ r. r.owner) o) false ≡ option_map_or (is_below_zone_cut origin records) (option_map (λ r. r.owner) p) false
+  below_alike None p h = cc
+  below_alike (Some x) None h = cc
+  below_alike (Some x) (Some y) h = below_cut_same x.owner y.owner h
 
 -- ---- a zone without delegations
 

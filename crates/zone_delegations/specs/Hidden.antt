@@ -5,10 +5,12 @@ use Rattle.std.specs.Option.{option_map_or}
 use Rattle.dns_wire.specs.Order.{same_name}
 use Rattle.rdata_values.specs.Rtype as Rtype
 use Rattle.rdata_values.specs.declared.types.RecordType.{RecordType}
+use Rattle.zone_record.specs.Records.{data_of}
+use Rattle.zone_record.specs.TypeData.{TypeData}
 use Rattle.zone_record.specs.declared.record.Record.{Record}
 use Rattle.zone_rules.specs.Above.{is_below}
 use Rattle.zone_rules.specs.Rules.{is_below_zone_cut, is_zone_cut}
-use Rattle.zone_rules.specs.Zones.{host_of, type_of}
+use Rattle.zone_rules.specs.Zones.{host_in, type_of}
 use Rattle.zone_rules.specs.declared.refused.RrsetName.{RrsetName}
 
 -- ---- delegations
@@ -36,8 +38,11 @@ abbrev pub is_glue_type : RecordType → Bool
 is_glue_type rtype = rtype == Rtype.a || rtype == Rtype.aaaa
 
 -- the host of an NS, if it is below the apex
+abbrev pub server_in : List (List ℕ) → TypeData → Option (List (List ℕ))
+server_in origin d = if d.rtype == Rtype.ns then option_and_then (λ host. if is_below host origin then Some host else None) (host_in d) else None
+
 abbrev pub server_of : {N O : Type 0} → List (List ℕ) → Record N O → Option (List (List ℕ))
-server_of origin r = if type_of r == Rtype.ns then option_and_then (λ host. if is_below host origin then Some host else None) (host_of r) else None
+server_of origin r = server_in origin (data_of r)
 
 -- one of the names is this one
 abbrev pub is_name_among : {N O : Type 0} → (Record N O → Option (List (List ℕ))) → List (Record N O) → List (List ℕ) → Bool

@@ -1,6 +1,6 @@
 //! Marks of records by their owners: the delegations, and the hosts of name servers.
 ghost use Rattle.std.specs.Prelude.{◌≡◌, ◌+◌, ◌<◌, ◌≤◌, IfOk, false, length, replicate};
-ghost use Rattle.zone_delegations.specs.Hidden.{delegation_of, server_of};
+ghost use Rattle.zone_delegations.specs.Hidden.{delegation_of, server_in};
 ghost use Rattle.zone_delegations.specs.Owners.{AreAllCutMarks, AreAllServerMarks, AreCutMarks, AreMarkedBy, AreMarkedFrom, AreOwnerMarks, AreServerMarks};
 ghost use Rattle.zone_rules.specs.Searches.{AreOwnedFrom};
 
@@ -8,8 +8,9 @@ use crate::cuts::{is_delegating, is_ns_at};
 use dns_wire::Name;
 use rdata_values::RecordType;
 use std::alloc::{AllocError, Allocator};
+use zone_record::Data;
 use zone_rules::ZoneRecords;
-use zone_rules::hosts::host;
+use zone_rules::hosts::host_in;
 use zone_rules::names::{is_name_below, view};
 use zone_rules::zone_records::{OwnerBuffer, ZoneRecord};
 
@@ -23,14 +24,14 @@ fn delegation_of<'r>(origin: &Name<&[u8]>, record: &'r ZoneRecord<'_>) -> Option
     Some(view(&record.owner))
 }
 
-/// Returns the host of an NS, if it is below the apex.
-fn server_of<'r>(origin: &Name<&[u8]>, record: &'r ZoneRecord<'_>) -> Option<Name<&'r [u8]>>
-    ensures { result ≡ server_of origin.now «record».now }
+/// Returns the host in data of an NS, if it is below the apex.
+fn server_in<'r>(origin: &Name<&[u8]>, data: &'r Data<&[u8]>) -> Option<Name<&'r [u8]>>
+    ensures { result ≡ server_in origin.now «data».now }
 {
-    if record.data.rtype() != RecordType::NS {
+    if data.rtype() != RecordType::NS {
         return None;
     }
-    let Some(name) = host(record) else {
+    let Some(name) = host_in(data) else {
         return None;
     };
     if !is_name_below(&name, origin) {
@@ -122,12 +123,11 @@ fn mark_server<Z: ZoneRecords, A: Allocator>(
     if !is_ns_at(records, place) {
         return;
     }
-    let mut owner = OwnerBuffer::new();
-    let record = records.record(place, &mut owner);
-    let Some(name) = server_of(origin, &record) else {
+    let data = records.data_at(place);
+    let Some(name) = server_in(origin, &data) else {
         return;
     };
-    let (first, past) = records.places(&name);
+    let (first, past) = records.places_near(place, &name);
     mark_owners(records, &name, first, past, marks);
 }
 

@@ -1,4 +1,6 @@
+mod AlikeBefore
 mod BelowNames
+mod ByType
 pub mod CnameTargets
 mod FieldNames
 pub mod HostNameParts

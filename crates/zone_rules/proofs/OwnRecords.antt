@@ -2,7 +2,7 @@
 use Rattle.std.proofs.Common.{ℕ, zero, suc, ◌≡◌, ◌+◌, ◌<◌, ◌≤◌, ◌⊎◌, inl, inr, Bool, true, false, Option, Some, None, List, [], ◌∷◌, length, get_or, refl, sym, ap, subst, ◌∙◌, arith}
 use Rattle.std.specs.Prelude.{◌==◌, ◌&&◌, ◌||◌, slice_get}
 use Rattle.std.specs.List.{AllWithin, list_any}
-use Rattle.std.specs.Option.{option_map}
+use Rattle.std.specs.Option.{option_map, option_map_or}
 use Rattle.std.specs.Ordering.{is_eq}
 use Rattle.std.proofs.lemmas.Cmp.{tied_itself}
 use Rattle.std.proofs.lemmas.Option.{slice_get-get_or}
@@ -11,7 +11,7 @@ use Rattle.zone_record.specs.declared.record.Record.{Record}
 use Rattle.dns_wire.specs.Order.{same_name}
 use Rattle.zone_rules.specs.Searches.{AreOwnedAt, AreOwnedFrom}
 use Rattle.zone_rules.specs.Subjects.{IsRecordAt, OwnerHasType}
-use Rattle.zone_rules.specs.Zones.{as_listed, has_type_at, type_of, HaveOneOwner}
+use Rattle.zone_rules.specs.Zones.{as_listed, has_type_at, type_of, is_one_owner}
 use Rattle.zone_rules.proofs.Lookups.{same_is}
 use Rattle.zone_rules.proofs.Subjects.{some_same}
 
@@ -50,11 +50,9 @@ both : (b c : Bool) → b ≡ true → c ≡ true → (b && c) ≡ true
 both true c h k = k
 both false c h k = cc
 
-same_itself : (name : List (List ℕ)) → same_name name name ≡ true
-same_itself name = same_is name name ∙ ap is_eq (tied_itself names_total name)
-
-same_listed : {N O : Type 0} (o p : Option (Record N O)) (x y : Record N O) → option_map (λ r. r.owner) o ≡ option_map (λ r. r.owner) p → o ≡ Some x → p ≡ Some y → x.owner ≡ y.owner
-same_listed o p x y h d e = some_same x.owner y.owner (ap (option_map (λ r. r.owner)) (sym d) ∙ h ∙ ap (option_map (λ r. r.owner)) e)
+same_listed : {N O : Type 0} (o p : Option (Record N O)) (x y : Record N O) → option_map_or (λ a. option_map_or (λ b. same_name a.owner b.owner) p false) o false ≡ true → o ≡ Some x → p ≡ Some y
+    → same_name x.owner y.owner ≡ true
+same_listed o p x y h d e = sym (λ i. option_map_or (λ a. option_map_or (λ b. same_name a.owner b.owner) (e i) false) (d i) false) ∙ h
 
 -- the type of the record at an index
 pub type_is : {N O : Type 0} (records : List (Record N O)) (place rtype : ℕ) → place < length records → Some rtype ≡ option_map type_of (slice_get records place) → (d : Record N O) → type_of (get_or records place d) ≡ rtype
@@ -63,12 +61,12 @@ type_is (r ∷ records) zero rtype lt h d = cc
 type_is (r ∷ records) (suc n) rtype lt h d = type_is records n rtype (omega (arith, lt)) h d
 
 -- a record of the type with the owner of another one
-pub type_at_owner : {N O : Type 0} (records : List (Record N O)) (other place rtype : ℕ) → other < length records → HaveOneOwner records other place
+pub type_at_owner : {N O : Type 0} (records : List (Record N O)) (other place rtype : ℕ) → other < length records → is_one_owner records other place ≡ true
     → ((d : Record N O) → (type_of (get_or records other d) == rtype) ≡ true) → OwnerHasType records place rtype
 type_at_owner records other place rtype lt one typed r is =
     any_at (λ q. same_name q.owner r.owner && type_of q == rtype) records other lt
     (λ d. both (same_name (get_or records other d).owner r.owner) (type_of (get_or records other d) == rtype)
-    (ap (λ n. same_name n r.owner) (same_listed (slice_get records other) (slice_get records place) (get_or records other d) r one (slice_get-get_or records other d lt) is) ∙ same_itself r.owner) (typed d))
+    (same_listed (slice_get records other) (slice_get records place) (get_or records other d) r one (slice_get-get_or records other d lt) is) (typed d))
 
 -- an owner has the type that it has by the index of a record
 pub owner_has : {N O M P : Type 0} (records : List (Record N O)) (place rtype : ℕ) (one : Record M P) → IsRecordAt records place one → OwnerHasType records place rtype → has_type_at rtype one.owner records ≡ true

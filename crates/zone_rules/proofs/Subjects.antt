@@ -1,6 +1,6 @@
 -- Records that a zone lends, with their octets in other types, and the rules of their hosts.
 use Rattle.std.proofs.Common.{ℕ, ◌≡◌, ◌+◌, ◌<◌, ◌≤◌, ◌⊎◌, inl, inr, Bool, true, false, Option, Some, None, List, length, get_or, refl, sym, ap, ◌∙◌, arith}
-use Rattle.std.specs.Prelude.{◌==◌, ◌&&◌, not, slice_get}
+use Rattle.std.specs.Prelude.{◌==◌, ◌&&◌, not, option_and_then, slice_get}
 use Rattle.std.specs.List.{AllWithin, list_any}
 use Rattle.std.specs.Option.{option_map, option_map_or}
 use Rattle.std.proofs.lemmas.Bool.{cases_lt}
@@ -15,7 +15,7 @@ use Rattle.zone_rules.specs.Present.{has_address_in}
 use Rattle.zone_rules.specs.Rules.{breaks, is_alias, is_below_own_dname, is_missing, is_of_sha1, are_of_one_key, is_record_at_apex, is_without_glue, lacks_address, names_host}
 use Rattle.zone_rules.specs.Searches.{AreOwnedFrom}
 use Rattle.zone_rules.specs.Spf.{is_spf}
-use Rattle.zone_rules.specs.Subjects.{is_apex_server, is_server_above, relates, wants_host, AreHostFaults, IsSubject}
+use Rattle.zone_rules.specs.Subjects.{alike, is_apex_server, is_server_above, relates, wants_host, AreHostFaults, IsSubject}
 use Rattle.zone_rules.specs.Zones.{as_listed, comes_before, host_of, is_equal_record, record_before, type_of}
 use Rattle.zone_rules.specs.declared.beside.Relation.{Relation}
 use Rattle.zone_rules.specs.declared.beside.Relation.TheVariants.{Alias, Spf, Digest, Server}
@@ -24,6 +24,7 @@ use Rattle.zone_rules.specs.declared.rule.Rule.{Rule}
 use Rattle.zone_rules.specs.declared.rule.Rule.TheVariants.{NoSoa, NoNs, Outside, TwoSoas, NsAddress, Cname, TwoDnames, BelowDname, DsAtApex, WildcardNs, SoaNotApex, NsBesideDname, Nsec3Owner, MissingGlue, HostIsAlias, HostBelowDname, HostMissing, HostName, CdsWithoutKey, DsWithoutNs, NotAtApex, KeyProtocol, KeyAlgorithm, CnameTargetMissing, CnameLoop, TwoSpf, WeakDigest, SingleNs, TtlDiffers, Duplicate}
 use Rattle.zone_rules.specs.declared.subject.HostFaults.{HostFaults}
 use Rattle.zone_rules.specs.declared.subject.Subject.{Subject}
+use Rattle.zone_rules.proofs.ByType.{breaks_alike}
 use Rattle.zone_rules.proofs.Searches.{none_passes}
 
 pub some_same : {X : Type 0} (x y : X) → Some x ≡ Some y → x ≡ y
@@ -69,12 +70,13 @@ breaks_listed R S Duplicate origin records refused None r = refl
 breaks_listed R S Duplicate origin records refused (Some b) r = refl
 
 broken_in : {N O R S : Type 0} (rule : Rule) (origin : List (List ℕ)) (records : List (Record N O)) (refused : List RrsetName) (before : Option (Record R S)) (found : Record R S) (place : ℕ) (o : Option (Record N O))
-    → Some found ≡ option_map as_listed o → before ≡ option_map as_listed (record_before records place)
+    → Some found ≡ option_map as_listed o → before ≡ option_map as_listed (option_and_then (λ r. option_and_then (alike r) (record_before records place)) o)
     → breaks rule origin records refused before found ≡ option_map_or (breaks rule origin records refused (record_before records place)) o false
 broken_in rule origin records refused before found place None e f = cc
 broken_in rule origin records refused before found place (Some r) e f =
     let is : found ≡ as_listed r = some_same found (as_listed r) e in
-    (λ i. breaks rule origin records refused (f i) (is i)) ∙ breaks_listed _ _ rule origin records refused (record_before records place) r
+    (λ i. breaks rule origin records refused (f i) (is i)) ∙ breaks_listed _ _ rule origin records refused (option_and_then (alike r) (record_before records place)) r
+    ∙ breaks_alike rule origin records refused (record_before records place) r
 
 pub broken_at : {N O : Type 0} (rule : Rule) (origin : List (List ℕ)) (records : List (Record N O)) (refused : List RrsetName) (s : Subject) → IsSubject origin records refused s
     → breaks rule origin records refused s.before s.found ≡ breaks_at origin records refused s.place rule

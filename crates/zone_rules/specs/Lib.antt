@@ -5,6 +5,7 @@ pub mod HostNames
 pub mod Present
 pub mod Rows
 pub mod RuleNames
+pub mod RulesByType
 pub mod Rules
 pub mod Searches
 pub mod Spf

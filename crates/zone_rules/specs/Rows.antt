@@ -13,7 +13,7 @@ use Rattle.zone_rules.specs.HostNames.{is_bad_host_name, is_host_label, is_host_
 use Rattle.zone_rules.specs.Present.{closest_encloser, is_synthesized}
 use Rattle.zone_rules.specs.Rules.{are_two_of, has_spf_before, have_other_ttls, has_no_algorithm, has_other_protocol, is_alias_in_company, is_alias_loop, is_below_dname, is_below_its_apex, is_dname_at_cut, is_lone_server, is_soa_below_apex, is_unhashed_nsec3, is_weak_digest, lacks_glue, lacks_key, lacks_ns, lacks_ns_address, names_alias, names_missing, names_nothing, names_renamed}
 use Rattle.zone_rules.specs.Spf.{is_spf}
-use Rattle.zone_rules.specs.Zones.{host_of, is_one_set, HaveOneOwner}
+use Rattle.zone_rules.specs.Zones.{host_of, is_one_set, is_one_owner}
 use Rattle.zone_rules.specs.declared.refused.RrsetName.{RrsetName}
 use Rattle.zone_rules.specs.declared.rule.Rule.TheVariants.{NoSoa, NsAddress, SingleNs}
 
@@ -449,7 +449,7 @@ unfolding type_shapes labels_in_octets
 outside_server_row = refl
 
 -- RRSIGs of one owner belong to the RRset of the type that they cover
-one_owner_row : HaveOneOwner (entry apex Rtype.a address ∷ entry (under (codes "a")) Rtype.a address ∷ entry apex Rtype.ns [] ∷ []) 0 2
+one_owner_row : is_one_owner (entry apex Rtype.a address ∷ entry (under (codes "a")) Rtype.a address ∷ entry apex Rtype.ns [] ∷ []) 0 2 ≡ true
 one_owner_row = refl
 
 one_set_row : is_one_set (entry apex Rtype.rrsig (0 ∷ 1 ∷ [])) (entry apex Rtype.rrsig (0 ∷ 2 ∷ [])) ≡ false

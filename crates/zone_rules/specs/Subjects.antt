@@ -1,6 +1,7 @@
 -- A record at an index, with what rules ask of it: words for private functions.
-use Rattle.std.specs.Prelude.{◌≡◌, ℕ, ◌==◌, ◌&&◌, not, Bool, true, false, Option, Some, List, option_and_then, slice_get}
+use Rattle.std.specs.Prelude.{◌≡◌, ℕ, ◌==◌, ◌&&◌, not, if◌then◌else◌, Bool, true, false, Option, Some, None, List, option_and_then, slice_get}
 use Rattle.std.specs.Option.{option_map, option_map_or}
+use Rattle.dns_wire.specs.Order.{same_name}
 use Rattle.rdata_values.specs.Classes.{internet}
 use Rattle.rdata_values.specs.Rtype as Rtype
 use Rattle.zone_record.specs.declared.record.Record.{Record}
@@ -81,10 +82,18 @@ pub record AreHostFaults {N O M P : Type 0} (origin : List (List ℕ)) (records 
   pub renamed : faults.is_renamed ≡ names_renamed origin records refused r
   pub missing : faults.is_missing ≡ names_missing origin records refused r
 
--- the record at an index, the one before it, and the rules that its host breaks
+-- a record before another one, if it has the same owner and type
+abbrev pub alike : {N O M P : Type 0} → Record M P → Record N O → Option (Record N O)
+alike r b = if type_of b == type_of r && same_name b.owner r.owner then Some b else None
+
+-- the record before an index, if it has the owner and the type of the record there
+abbrev pub alike_before : {N O : Type 0} → List (Record N O) → ℕ → Option (Record N O)
+alike_before records place = option_and_then (λ r. option_and_then (alike r) (record_before records place)) (slice_get records place)
+
+-- the record at an index, the one before it of the same owner and type, and the rules that its host breaks
 pub record IsSubject {N O : Type 0} (origin : List (List ℕ)) (records : List (Record N O)) (refused : List RrsetName) (s : Subject) : Type 0 where
   pub found : Some s.found ≡ option_map as_listed (slice_get records s.place)
-  pub before : s.before ≡ option_map as_listed (record_before records s.place)
+  pub before : s.before ≡ option_map as_listed (alike_before records s.place)
   pub faults : AreHostFaults origin records refused s.found s.faults
 
 -- the record of a subject breaks a rule

@@ -1,5 +1,5 @@
 -- The records at a name, among the records of a zone.
-use Rattle.std.specs.Prelude.{◌≡◌, ℕ, ◌-◌, ◌==◌, ◌&&◌, if◌then◌else◌, Bool, IsTrue, true, Option, Some, None, List, [], ◌∷◌, length, slice_get, option_and_then}
+use Rattle.std.specs.Prelude.{◌≡◌, ℕ, ◌-◌, ◌==◌, ◌&&◌, if◌then◌else◌, Bool, IsTrue, true, Option, Some, None, List, [], ◌∷◌, length, slice_get, option_and_then, false}
 use Rattle.std.specs.Int.{from_be_bytes, w16}
 use Rattle.std.specs.List.{AllAdjacentBelow, list_all, list_any}
 use Rattle.std.specs.Option.{option_map, option_map_or}
@@ -66,9 +66,9 @@ pub record IsSortedWith {N O : Type 0} (records : List (Record N O)) (has_dname 
   pub wildcard : has_wildcard ≡ list_any (λ r. is_wildcard r.owner) records
   pub one_class : in_one_class ≡ is_one_class records
 
--- the records at two indexes have the same owner, in the same letters
-abbrev pub HaveOneOwner : {N O : Type 0} → List (Record N O) → ℕ → ℕ → Type 0
-HaveOneOwner records left right = option_map (λ r. r.owner) (slice_get records left) ≡ option_map (λ r. r.owner) (slice_get records right)
+-- the records at two indexes have the same owner, ignoring letter case
+abbrev pub is_one_owner : {N O : Type 0} → List (Record N O) → ℕ → ℕ → Bool
+is_one_owner records left right = option_map_or (λ a. option_map_or (λ b. same_name a.owner b.owner) (slice_get records right) false) (slice_get records left) false
 
 -- the record before an index
 abbrev pub record_before : {N O : Type 0} → List (Record N O) → ℕ → Option (Record N O)
@@ -87,8 +87,11 @@ but_root [] = None
 but_root (label ∷ []) = None
 but_root (label ∷ next ∷ others) = Some (label ∷ next ∷ others)
 
+abbrev pub host_in : TypeData → Option (List (List ℕ))
+host_in d = option_and_then but_root (option_map labels_in_octets (host_octets d))
+
 abbrev pub host_of : {N O : Type 0} → Record N O → Option (List (List ℕ))
-host_of r = option_and_then but_root (option_map labels_in_octets (host_octets (data_of r)))
+host_of r = host_in (data_of r)
 
 -- the type that an RRSIG covers, in the first two octets of its data (RFC 4034 section 3.1.1)
 abbrev pub covered_type : List ℕ → RecordType

@@ -3,8 +3,8 @@ ghost use Rattle.std.specs.Prelude.{◌≡◌, ◌<◌, ◌≤◌, ◌++◌, OnO
 ghost use Rattle.std.specs.List.{flat_map};
 ghost use Rattle.std.specs.Option.{option_map};
 ghost use Rattle.zone_rules.specs.Findings.{found_at, found_at_apex, found_if, found_in_zone, found_of, HasZoneFindings, HasPartFindings};
-ghost use Rattle.zone_rules.specs.Subjects.{breaks_by, is_broken, IsSubject};
-ghost use Rattle.zone_rules.specs.Zones.{as_listed, record_before};
+ghost use Rattle.zone_rules.specs.Subjects.{alike_before, breaks_by, is_broken, IsSubject};
+ghost use Rattle.zone_rules.specs.Zones.{as_listed};
 
 use crate::aliases::{is_loop, is_target_missing};
 use crate::beside::{has_company, is_lone_server, is_second_spf, is_weak_ds};
@@ -22,44 +22,13 @@ use crate::pairs::{has_other_ttl, is_duplicate, is_second};
 use crate::present::has_set;
 use crate::refused::SortedSets;
 use crate::rule::{Finding, Rule};
+use crate::rules_by_type::rules_of;
 use crate::subject::Subject;
 use crate::zone_records::{OwnerBuffer, ZoneRecord, ZoneRecords};
 use dns_octets::AsOctets;
 use dns_wire::Name;
 use rdata_values::RecordType;
 use std::alloc::{AllocError, Allocator};
-
-/// The rules for records, in the order in which their findings are reported.
-const RECORD_RULES: [Rule; 28] = [
-    Rule::Outside,
-    Rule::TwoSoas,
-    Rule::NsAddress,
-    Rule::Cname,
-    Rule::TwoDnames,
-    Rule::BelowDname,
-    Rule::DsAtApex,
-    Rule::WildcardNs,
-    Rule::SoaNotApex,
-    Rule::NsBesideDname,
-    Rule::Nsec3Owner,
-    Rule::MissingGlue,
-    Rule::HostIsAlias,
-    Rule::HostBelowDname,
-    Rule::HostMissing,
-    Rule::HostName,
-    Rule::CdsWithoutKey,
-    Rule::DsWithoutNs,
-    Rule::NotAtApex,
-    Rule::KeyProtocol,
-    Rule::KeyAlgorithm,
-    Rule::CnameTargetMissing,
-    Rule::CnameLoop,
-    Rule::TwoSpf,
-    Rule::WeakDigest,
-    Rule::SingleNs,
-    Rule::TtlDiffers,
-    Rule::Duplicate,
-];
 
 /// Returns whether the record of a subject breaks a rule.
 fn breaks_rule<Z: ZoneRecords>(
@@ -161,19 +130,27 @@ fn add_each<Z: ZoneRecords, A: Allocator>(
     Ok(())
 }
 
-/// Returns the record before an index.
-fn record_before<'b, Z: ZoneRecords>(
+/// Returns the record before an index, if it has the owner and the type of the record there. Any other
+/// breaks no rule together with this one.
+fn alike_before<'b, Z: ZoneRecords>(
     records: &'b Z,
     place: usize,
     owner: &'b mut OwnerBuffer,
 ) -> Option<ZoneRecord<'b>>
     requires { place < length (Z.contents records.now) }
-    ensures { result ≡ option_map as_listed (record_before (Z.contents records.now) place) }
+    ensures { result ≡ option_map as_listed (alike_before (Z.contents records.now) place) }
 {
     if place == 0 {
         return None;
     }
-    Some(records.record(place - 1, owner))
+    let before = place - 1;
+    if records.type_at(before) != records.type_at(place) {
+        return None;
+    }
+    if !records.have_one_owner(before, place) {
+        return None;
+    }
+    Some(records.record(before, owner))
 }
 
 /// Appends findings of all rules that the record at an index breaks.
@@ -190,14 +167,15 @@ fn add_broken<Z: ZoneRecords, A: Allocator>(
     let mut owner = OwnerBuffer::new();
     let mut owner_before = OwnerBuffer::new();
     let one = records.record(place, &mut owner);
-    let faults = host_faults(origin, records, refused, &one);
+    let rules = rules_of(one.data.rtype());
+    let faults = host_faults(origin, records, refused, place, &one);
     let subject = Subject {
         place,
-        before: record_before(records, place, &mut owner_before),
+        before: alike_before(records, place, &mut owner_before),
         found: one,
         faults,
     };
-    add_each(&RECORD_RULES, origin, records, refused, &subject, found)
+    add_each(rules, origin, records, refused, &subject, found)
 }
 
 /// Appends findings of what is missing at the zone's apex.

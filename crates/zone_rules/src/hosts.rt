@@ -1,5 +1,5 @@
 //! Checks the hosts in records: that they have addresses, and are not aliases.
-ghost use Rattle.std.specs.Prelude.{◌≡◌, [], ◌∷◌, ◌&&◌, ◌||◌, IfSome, Some, codes, not};
+ghost use Rattle.std.specs.Prelude.{◌≡◌, [], ◌∷◌, ◌<◌, ◌&&◌, ◌||◌, IfSome, Some, codes, length, not};
 ghost use Rattle.std.specs.Option.{option_copied};
 ghost use Rattle.rdata_values.specs.Rtype as Rtype;
 ghost use Rattle.rdata_tokens.specs.NameSpelling.{IsWireName};
@@ -7,7 +7,7 @@ ghost use Rattle.zone_rules.specs.Above.{is_within};
 ghost use Rattle.zone_rules.specs.Present.{has_address_in, is_listed, is_own, is_present, is_renamed};
 ghost use Rattle.zone_rules.specs.Rules.{dname_above_host, is_alias, is_below_own_dname, is_below_zone_cut, is_dname_at_cut, is_missing, is_serverless, is_zone_cut, lacks_address, names_server};
 ghost use Rattle.zone_rules.specs.Subjects.{has_a_in, has_aaaa_in, has_cname_in, is_apex_server, is_server_above, wants_host, AreHostFaults, IsRecordAt};
-ghost use Rattle.zone_rules.specs.Zones.{but_root, host_field, host_octets, host_of};
+ghost use Rattle.zone_rules.specs.Zones.{but_root, has_type_at, host_field, host_in, host_octets, host_of};
 
 use crate::host_names::name_part;
 use crate::names::{is_name_below, is_name_within, name_of, parent};
@@ -64,16 +64,23 @@ fn but_root<'a>(name: Name<&'a [u8]>) -> Option<Name<&'a [u8]>>
     }
 }
 
+/// Returns the host in data of NS, MX or SRV, or `None` if it is the root.
+pub fn host_in<Octets: AsOctets>(data: &Data<Octets>) -> Option<Name<&[u8]>>
+    ensures { result ≡ host_in «data».now }
+{
+    match host_part(data) {
+        Some(octets) => but_root(name_of(octets)),
+        None => None,
+    }
+}
+
 /// Returns the host in a record's data, of NS, MX and SRV, or `None` if it is the root.
 pub fn host<Owner: AsOctets, Octets: AsOctets>(
     record: &Record<Owner, Octets>,
 ) -> Option<Name<&[u8]>>
     ensures { result ≡ host_of «record».now }
 {
-    match host_part(&record.data) {
-        Some(octets) => but_root(name_of(octets)),
-        None => None,
-    }
+    host_in(&record.data)
 }
 
 /// Returns whether a name is `invalid.` or below it.
@@ -264,17 +271,39 @@ fn is_there(is_among: bool, refused: &SortedSets<'_>, name: &Name<&[u8]>, rtype:
     is_among || lists_set(refused, name, rtype)
 }
 
-/// Returns which types a name has in the zone, of those that matter for a host.
+/// Returns which types the host in the data of the record at an index has, among the records. The host
+/// of an NS is searched from this record on, as glue comes soon after its delegation.
+fn types_near<Z: ZoneRecords>(
+    records: &Z,
+    place: usize,
+    record: &ZoneRecord<'_>,
+    name: &Name<&[u8]>,
+) -> HostTypes
+    requires { place < length (Z.contents records.now) }
+    ensures a { result.has_a ≡ has_type_at Rtype.a name.now (Z.contents records.now) }
+    ensures aaaa { result.has_aaaa ≡ has_type_at Rtype.aaaa name.now (Z.contents records.now) }
+    ensures cname { result.has_cname ≡ has_type_at Rtype.cname name.now (Z.contents records.now) }
+{
+    if record.data.rtype() == RecordType::NS {
+        return records.host_types_near(place, name);
+    }
+    records.host_types(name)
+}
+
+/// Returns which types the host in the data of the record at an index has in the zone.
 fn types_of_host<Z: ZoneRecords>(
     records: &Z,
     refused: &SortedSets<'_>,
+    place: usize,
+    record: &ZoneRecord<'_>,
     name: &Name<&[u8]>,
 ) -> HostTypes
+    requires { place < length (Z.contents records.now) }
     ensures a { result.has_a ≡ has_a_in name.now (Z.contents records.now) refused.now }
     ensures aaaa { result.has_aaaa ≡ has_aaaa_in name.now (Z.contents records.now) refused.now }
     ensures cname { result.has_cname ≡ has_cname_in name.now (Z.contents records.now) refused.now }
 {
-    let types = records.host_types(name);
+    let types = types_near(records, place, record, name);
     HostTypes {
         has_a: is_there(types.has_a, refused, name, RecordType::A),
         has_aaaa: is_there(types.has_aaaa, refused, name, RecordType::AAAA),
@@ -289,18 +318,20 @@ fn has_address(types: &HostTypes) -> bool
     types.has_a || types.has_aaaa
 }
 
-/// Returns which rules a host in a record's data breaks.
+/// Returns which rules a host in the data of the record at an index breaks.
 fn faults_of<Z: ZoneRecords>(
     origin: &Name<&[u8]>,
     records: &Z,
     refused: &SortedSets<'_>,
+    place: usize,
     record: &ZoneRecord<'_>,
     name: &Name<&[u8]>,
 ) -> HostFaults
-    requires { host_of «record».now ≡ Some name.now }
+    requires place { place < length (Z.contents records.now) }
+    requires host { host_of «record».now ≡ Some name.now }
     ensures { AreHostFaults origin.now (Z.contents records.now) refused.now «record».now result }
 {
-    let types = types_of_host(records, refused, name);
+    let types = types_of_host(records, refused, place, record, name);
     let served = has_address(&types);
     let unserved = is_without_address(origin, records, refused, name, served);
     let alias = is_alias_name(origin, records, refused, name, types.has_cname);
@@ -314,18 +345,20 @@ fn faults_of<Z: ZoneRecords>(
     }
 }
 
-/// Returns which rules the host in a record's data breaks: none without a host. The host is looked
-/// up once.
+/// Returns which rules the host in the data of the record at an index breaks: none without a host.
+/// The host is looked up once.
 pub(crate) fn host_faults<Z: ZoneRecords>(
     origin: &Name<&[u8]>,
     records: &Z,
     refused: &SortedSets<'_>,
+    place: usize,
     record: &ZoneRecord<'_>,
 ) -> HostFaults
+    requires { place < length (Z.contents records.now) }
     ensures { AreHostFaults origin.now (Z.contents records.now) refused.now «record».now result }
 {
     match host(record) {
-        Some(name) => faults_of(origin, records, refused, record, &name),
+        Some(name) => faults_of(origin, records, refused, place, record, &name),
         None => HostFaults {
             lacks_address: false,
             lacks_glue: false,

@@ -15,6 +15,7 @@ pub mod pairs;
 mod present;
 pub mod refused;
 pub mod rule;
+mod rules_by_type;
 pub mod search;
 pub mod sorted;
 mod spf;

@@ -1,5 +1,6 @@
 //! Relations between names (RFC 1034 section 3.1), ignoring letter case (RFC 4343).
 ghost use Rattle.std.specs.Prelude.{◌≡◌, ◌≤◌, All, length, Some};
+ghost use Rattle.dns_octets.specs.Lowered.{same_lowered};
 ghost use Rattle.dns_wire.specs.Order.{same_name};
 ghost use Rattle.dns_wire.specs.Wire.{wire, wire_length, IsName, EndsInRoot};
 ghost use Rattle.rdata_tokens.specs.NameSpelling.{IsWireName};
@@ -80,6 +81,14 @@ pub(crate) fn first_label<'a>(name: &'a Name<&[u8]>) -> &'a [u8]
     &octets[1..end]
 }
 
+/// Returns whether octets are equal, ignoring letter case. Octets in the same letters are found equal
+/// without a look at each letter.
+pub fn are_alike(left: &[u8], right: &[u8]) -> bool
+    ensures { result ≡ same_lowered left.now right.now }
+{
+    left == right || same_octets(left, right)
+}
+
 /// Returns whether a name, given by its labels, is another, or below it.
 fn are_within(labels: NameIter<'_>, top: &Name<&[u8]>) -> bool
     requires { All (λ label. length label ≤ 63) labels }
@@ -88,7 +97,7 @@ fn are_within(labels: NameIter<'_>, top: &Name<&[u8]>) -> bool
     // No effect at run time: the proof reads that the name ends in the root.
     let _octets = octets_of(top);
     let mut above = labels;
-    while !same_octets(above.as_slice(), top.as_slice()) {
+    while !are_alike(above.as_slice(), top.as_slice()) {
         if above.next().is_none() {
             return false;
         }

@@ -5,20 +5,25 @@ ghost use Rattle.std.specs.List.Sorted.{IsPartitionedBy};
 ghost use Rattle.std.specs.Option.{option_map};
 ghost use Rattle.std.specs.Ordering.{is_le};
 ghost use Rattle.dns_wire.specs.Order.{same_name};
+ghost use Rattle.rdata_values.specs.Rtype as Rtype;
 ghost use Rattle.zone_record.specs.Names.{name_order};
+ghost use Rattle.zone_record.specs.Records.{data_of};
 ghost use Rattle.zone_rules.specs.Searches.{AreOwnedAt, AreOwnedFrom, PartsUpTo};
-ghost use Rattle.zone_rules.specs.Zones.{as_listed, has_type_at, is_one_class, type_of, AreInOrder, HaveOneOwner};
+ghost use Rattle.zone_rules.specs.Zones.{as_listed, has_type_at, is_one_class, type_of, AreInOrder, is_one_owner};
 
-use crate::names::{is_wildcard_name, octets_of, order_of, view};
+use crate::names::{is_wildcard_name, order_of, view};
+use crate::pairs;
 use crate::refused::RrsetName;
 use crate::search::{OfRrset, closest, closest_before, finds};
-use crate::zone_records::{HostTypes, OwnerBuffer, ZoneRecord, ZoneRecords, borrowed_record};
+use crate::zone_records::{
+    HostTypes, OwnerBuffer, ZoneRecord, ZoneRecords, borrowed_data, borrowed_record,
+};
 use dns_octets::AsOctets;
 use dns_wire::Name;
 use rdata_values::{Class, RecordType};
 use std::cmp::Ordering;
 use std::marker::Model;
-use zone_record::Record;
+use zone_record::{Data, Record};
 
 /// Returns whether records have a class.
 fn are_of_class<Owner: AsOctets, Octets: AsOctets>(
@@ -197,6 +202,22 @@ pub fn has_type<Owner: AsOctets, Octets: AsOctets>(
         .any(|record| record.data.rtype() == rtype)
 }
 
+/// Returns which types a name has, of those that matter for a host.
+fn host_types<Owner: AsOctets, Octets: AsOctets>(
+    records: &SortedRecords<'_, Owner, Octets>,
+    name: &Name<&[u8]>,
+) -> HostTypes
+    ensures a { result.has_a ≡ has_type_at Rtype.a name.now records.now }
+    ensures aaaa { result.has_aaaa ≡ has_type_at Rtype.aaaa name.now records.now }
+    ensures cname { result.has_cname ≡ has_type_at Rtype.cname name.now records.now }
+{
+    HostTypes {
+        has_a: has_type(records, name, RecordType::A),
+        has_aaaa: has_type(records, name, RecordType::AAAA),
+        has_cname: has_type(records, name, RecordType::CNAME),
+    }
+}
+
 /// Returns the record at an index, over borrowed octets.
 fn record_at<Owner: AsOctets, Octets: AsOctets>(
     records: &[Record<Owner, Octets>],
@@ -219,21 +240,18 @@ fn type_at<Owner: AsOctets, Octets: AsOctets>(
     records[place].data.rtype()
 }
 
-/// Returns whether octets are equal.
-fn are_equal(left: &[u8], right: &[u8]) -> bool
-    ensures { IsTrue result ↔ left.now ≡ right.now }
+/// Returns the RDATA of the record at an index, over borrowed octets.
+fn data_at<Owner: AsOctets, Octets: AsOctets>(
+    records: &[Record<Owner, Octets>],
+    place: usize,
+) -> Data<&[u8]>
+    requires { place < length records.now }
+    ensures { Some result ≡ option_map data_of (slice_get records.now place) }
 {
-    left == right
+    borrowed_data(&records[place].data)
 }
 
-/// Returns whether names are equal, in the same letters.
-fn are_equal_names<Octets: AsOctets>(left: &Name<Octets>, right: &Name<Octets>) -> bool
-    ensures { IsTrue result ↔ left.now ≡ right.now }
-{
-    are_equal(octets_of(left), octets_of(right))
-}
-
-/// Returns whether the records at two indexes have the same owner, in the same letters.
+/// Returns whether the records at two indexes have the same owner, ignoring letter case.
 fn have_one_owner<Owner: AsOctets, Octets: AsOctets>(
     records: &[Record<Owner, Octets>],
     left: usize,
@@ -241,9 +259,9 @@ fn have_one_owner<Owner: AsOctets, Octets: AsOctets>(
 ) -> bool
     requires left { left < length records.now }
     requires right { right < length records.now }
-    ensures { IsTrue result ↔ HaveOneOwner records.now left right }
+    ensures { result ≡ is_one_owner records.now left right }
 {
-    are_equal_names(&records[left].owner, &records[right].owner)
+    pairs::have_one_owner(&records[left], &records[right])
 }
 
 impl<'a, Owner: AsOctets, Octets: AsOctets> ZoneRecords for SortedRecords<'a, Owner, Octets> {
@@ -265,6 +283,10 @@ impl<'a, Owner: AsOctets, Octets: AsOctets> ZoneRecords for SortedRecords<'a, Ow
         type_at(self.records, place)
     }
 
+    fn data_at(&self, place: usize) -> Data<&[u8]> {
+        data_at(self.records, place)
+    }
+
     fn have_one_owner(&self, left: usize, right: usize) -> bool {
         have_one_owner(self.records, left, right)
     }
@@ -277,16 +299,20 @@ impl<'a, Owner: AsOctets, Octets: AsOctets> ZoneRecords for SortedRecords<'a, Ow
         places_of(self, name)
     }
 
+    fn places_near(&self, _place: usize, name: &Name<&[u8]>) -> (usize, usize) {
+        places_of(self, name)
+    }
+
     fn has_type(&self, name: &Name<&[u8]>, rtype: RecordType) -> bool {
         has_type(self, name, rtype)
     }
 
     fn host_types(&self, name: &Name<&[u8]>) -> HostTypes {
-        HostTypes {
-            has_a: has_type(self, name, RecordType::A),
-            has_aaaa: has_type(self, name, RecordType::AAAA),
-            has_cname: has_type(self, name, RecordType::CNAME),
-        }
+        host_types(self, name)
+    }
+
+    fn host_types_near(&self, _place: usize, name: &Name<&[u8]>) -> HostTypes {
+        host_types(self, name)
     }
 
     fn has_dname(&self) -> bool {

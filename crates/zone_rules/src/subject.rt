@@ -17,7 +17,8 @@ pub struct HostFaults {
     pub is_missing: bool,
 }
 
-/// The record at an index, the one before it, and the rules that its host breaks.
+/// The record at an index, the one before it if it has the same owner and type, and the rules that its
+/// host breaks.
 #[derive(Drop)]
 pub struct Subject<'r> {
     pub place: usize,

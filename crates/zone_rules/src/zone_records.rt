@@ -31,11 +31,12 @@ pub trait ZoneRecords {
     ghost use Rattle.std.specs.List.{list_any};
     ghost use Rattle.std.specs.Option.{option_map};
     ghost use Rattle.rdata_values.specs.Rtype as Rtype;
+    ghost use Rattle.zone_record.specs.Records.{data_of};
     ghost use Rattle.zone_record.specs.declared.record.Record.{Record};
     ghost use Rattle.zone_rules.specs.Above.{is_wildcard};
     ghost use Rattle.zone_rules.specs.Present.{rrset_of_record};
     ghost use Rattle.zone_rules.specs.Searches.{AreOwnedAt, AreOwnedFrom, closest_above_earlier};
-    ghost use Rattle.zone_rules.specs.Zones.{as_listed, closest_owned, has_type_among, has_type_at, type_of, HaveOneOwner};
+    ghost use Rattle.zone_rules.specs.Zones.{as_listed, closest_owned, has_type_among, has_type_at, type_of, is_one_owner};
 
     /// The type that holds the octets of owners in the list of records.
     type OwnerOctets;
@@ -61,12 +62,17 @@ pub trait ZoneRecords {
         requires { place < length (contents self.now) }
         ensures { Some result ≡ option_map type_of (slice_get (contents self.now) place) };
 
-    /// Returns whether the records at two indexes have the same owner, in the same letters. Writes
+    /// Returns the RDATA of the record at an index. Writes no owner.
+    fn data_at(&self, place: usize) -> Data<&[u8]>
+        requires { place < length (contents self.now) }
+        ensures { Some result ≡ option_map data_of (slice_get (contents self.now) place) };
+
+    /// Returns whether the records at two indexes have the same owner, ignoring letter case. Writes
     /// no owner.
     fn have_one_owner(&self, left: usize, right: usize) -> bool
         requires left { left < length (contents self.now) }
         requires right { right < length (contents self.now) }
-        ensures { IsTrue result ↔ HaveOneOwner (contents self.now) left right };
+        ensures { result ≡ is_one_owner (contents self.now) left right };
 
     /// Returns the index of the first record that has the owner of the record at an index, ignoring
     /// letter case, and the index after the last one.
@@ -80,12 +86,26 @@ pub trait ZoneRecords {
     fn places(&self, name: &Name<&[u8]>) -> (usize, usize)
         ensures { AreOwnedFrom name.now (contents self.now) result.0 result.1 };
 
+    /// Returns the same as `places`. Searches from the record at an index on: quick if the records of
+    /// the name come soon after it.
+    fn places_near(&self, place: usize, name: &Name<&[u8]>) -> (usize, usize)
+        requires { place < length (contents self.now) }
+        ensures { AreOwnedFrom name.now (contents self.now) result.0 result.1 };
+
     /// Returns whether a name has a record of a type.
     fn has_type(&self, name: &Name<&[u8]>, rtype: RecordType) -> bool
         ensures { result ≡ has_type_at rtype name.now (contents self.now) };
 
     /// Returns which types a name has, of those that matter for a host.
     fn host_types(&self, name: &Name<&[u8]>) -> HostTypes
+        ensures a { result.has_a ≡ has_type_at Rtype.a name.now (contents self.now) }
+        ensures aaaa { result.has_aaaa ≡ has_type_at Rtype.aaaa name.now (contents self.now) }
+        ensures cname { result.has_cname ≡ has_type_at Rtype.cname name.now (contents self.now) };
+
+    /// Returns the same as `host_types`. Searches from the record at an index on: quick if the records
+    /// of the name come soon after it.
+    fn host_types_near(&self, place: usize, name: &Name<&[u8]>) -> HostTypes
+        requires { place < length (contents self.now) }
         ensures a { result.has_a ≡ has_type_at Rtype.a name.now (contents self.now) }
         ensures aaaa { result.has_aaaa ≡ has_type_at Rtype.aaaa name.now (contents self.now) }
         ensures cname { result.has_cname ≡ has_type_at Rtype.cname name.now (contents self.now) };
@@ -109,7 +129,7 @@ pub trait ZoneRecords {
 }
 
 /// Returns the same RDATA, over borrowed octets.
-fn borrowed_data<Octets: AsOctets>(data: &Data<Octets>) -> Data<&[u8]>
+pub(crate) fn borrowed_data<Octets: AsOctets>(data: &Data<Octets>) -> Data<&[u8]>
     ensures { result ≡ «data».now }
 {
     let octets = data.as_slice();

@@ -18,7 +18,7 @@ loop-above-preserved c =
     let above = c.loop-above.above in
     let top = c.args.top.now in
     let off : same_name above top ≡ false =
-    sym (same_octets above top _ _ _ c.loop-above.invariant.0 c.octets_of-octets.ensures.is_name.short c.as_slice.ensures c.as_slice-in-loop-above.ensures.value c.same_octets.ensures) ∙ c.loop-above-test.true in
+    sym (same_octets above top _ _ _ c.loop-above.invariant.0 c.octets_of-octets.ensures.is_name.short c.as_slice.ensures c.as_slice-in-loop-above.ensures.value c.are_alike.ensures) ∙ c.loop-above-test.true in
     within_next above c.next.new.self top c.args.labels c.next.result c.loop-above.invariant.0 c.loop-above.invariant.1 off (ends_some top c.octets_of-octets.ensures.absolute) c.next.ensures.steps
 
 pub returns : goal.returns
@@ -27,5 +27,5 @@ returns c =
     let top = c.args.top.now in
     sym
     (within_here above top
-    (sym (same_octets above top _ _ _ c.loop-above.invariant.0 c.octets_of-octets.ensures.is_name.short c.as_slice.ensures c.as_slice-in-loop-above.ensures.value c.same_octets.ensures) ∙ c.loop-above-test.false))
+    (sym (same_octets above top _ _ _ c.loop-above.invariant.0 c.octets_of-octets.ensures.is_name.short c.as_slice.ensures c.as_slice-in-loop-above.ensures.value c.are_alike.ensures) ∙ c.loop-above-test.false))
     ∙ c.loop-above.invariant.1

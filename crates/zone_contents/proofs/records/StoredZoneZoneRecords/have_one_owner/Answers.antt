@@ -1,8 +1,7 @@
-use Rattle.std.proofs.Common.{◌≡◌, length, ap, subst, arith}
-use Rattle.std.specs.Prelude.{◌↔◌, IsTrue, slice_get}
-use Rattle.std.specs.Option.{option_map}
+use Rattle.std.proofs.Common.{length, ap, ◌∙◌, arith}
 use Rattle.zone_contents.specs.Contents.{contents}
 use Rattle.zone_contents.proofs.Listings.{listed_length}
+use Rattle.zone_rules.specs.Zones.{is_one_owner}
 use Rattle.zone_contents.proofs.records.StoredZoneZoneRecords.have_one_owner.Goals as goal
 
 pub have_one_owner-requires-clause-left : goal.have_one_owner-requires-clause-left
@@ -15,5 +14,4 @@ pub have_one_owner-requires-clause-are : goal.have_one_owner-requires-clause-are
 have_one_owner-requires-clause-are g c = c.self.invariant.records_are.are
 
 pub returns : goal.returns
-returns g c =
-    subst (λ z. IsTrue c.have_one_owner.result ↔ option_map (λ r. r.owner) (slice_get (contents z) c.args.left) ≡ option_map (λ r. r.owner) (slice_get (contents z) c.args.right)) c.self.view_is c.have_one_owner.ensures
+returns g c = c.have_one_owner.ensures ∙ ap (λ z. is_one_owner (contents z) c.args.left c.args.right) c.self.view_is

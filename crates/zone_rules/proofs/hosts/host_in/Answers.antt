@@ -4,7 +4,7 @@ use Rattle.std.specs.Option.{option_map}
 use Rattle.rdata_tokens.specs.PrintedNames.{labels_in_octets}
 use Rattle.rdata_tokens.proofs.NameLaws.{wire_labels}
 use Rattle.zone_rules.specs.Zones.{but_root}
-use Rattle.zone_rules.proofs.hosts.host.Goals as goal
+use Rattle.zone_rules.proofs.hosts.host_in.Goals as goal
 
 pub returns-in-Some : goal.returns-in-Some
 returns-in-Some g c =

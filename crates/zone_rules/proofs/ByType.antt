@@ -1,0 +1,228 @@
+-- What a record can't break by its type, alone or with the record before it.
+use Rattle.std.proofs.Common.{ℕ, ◌≡◌, ◌<◌, Bool, true, false, Option, Some, None, List, [], ◌∷◌, ◌++◌, length, refl, sym, ap, subst, ◌∙◌, arith}
+use Rattle.std.specs.Prelude.{◌==◌, ◌&&◌, ◌||◌, not, if◌then◌else◌, filter, option_and_then, slice_get}
+use Rattle.std.specs.List.{flat_map}
+use Rattle.std.specs.Option.{option_map, option_map_or}
+use Rattle.std.proofs.lemmas.Bool.Decides.{nat_tests}
+use Rattle.dns_wire.specs.Order.{same_name}
+use Rattle.rdata_values.specs.Rtype as Rtype
+use Rattle.rdata_values.specs.declared.types.RecordType.{RecordType}
+use Rattle.rdata_tokens.specs.PrintedNames.{labels_in_octets}
+use Rattle.zone_record.specs.Parts.{data_part}
+use Rattle.zone_record.specs.Records.{data_of}
+use Rattle.zone_record.specs.declared.record.Record.{Record}
+use Rattle.zone_rules.specs.Above.{is_below, is_wildcard}
+use Rattle.zone_rules.specs.Findings.{breaks_at, found_at, found_if, found_of, record_rules}
+use Rattle.zone_rules.specs.Rules.{breaks, have_other_ttls, is_apex_type, lacks_address}
+use Rattle.zone_rules.specs.RulesByType.{has_host_field, may_break, HasRulesOf}
+use Rattle.zone_rules.specs.Subjects.{alike}
+use Rattle.zone_rules.specs.Zones.{as_listed, but_root, host_field, host_of, is_equal_record, record_before, type_of}
+use Rattle.zone_rules.specs.declared.refused.RrsetName.{RrsetName}
+use Rattle.zone_rules.specs.declared.rule.Finding.{Finding}
+use Rattle.zone_rules.specs.declared.rule.Rule.{Rule}
+use Rattle.zone_rules.specs.declared.rule.Rule.TheVariants.{NoSoa, NoNs, Outside, TwoSoas, NsAddress, Cname, TwoDnames, BelowDname, DsAtApex, WildcardNs, SoaNotApex, NsBesideDname, Nsec3Owner, MissingGlue, HostIsAlias, HostBelowDname, HostMissing, HostName, CdsWithoutKey, DsWithoutNs, NotAtApex, KeyProtocol, KeyAlgorithm, CnameTargetMissing, CnameLoop, TwoSpf, WeakDigest, SingleNs, TtlDiffers, Duplicate}
+use Rattle.zone_rules.proofs.PairTests.{other_owner, other_type}
+
+-- ---- a record and one of another owner or type
+
+never : (p q : Bool) → (p && (q && false)) ≡ false
+never true true = refl
+never true false = refl
+never false q = refl
+
+not_both : (m n k : ℕ) (s x : Bool) → ((m == n) && s) ≡ false → ((m == k) && ((n == k) && (s && x))) ≡ false
+not_both m n k false x h = never (m == k) (n == k)
+not_both m n k true x h = Prim.grind (arith, nat_tests, h)
+
+not_one_set : (s c t q u : Bool) → (t && s) ≡ false → ((s && (c && (t && q))) && u) ≡ false
+not_one_set false c t q u h = refl
+not_one_set true false t q u h = refl
+not_one_set true true false q u h = refl
+not_one_set true true true q u h = cc
+
+not_equal : {N O M P : Type 0} (a : Record N O) (b : Record M P) (t s : Bool) → (type_of a == type_of b) ≡ t → same_name a.owner b.owner ≡ s → (t && s) ≡ false → is_equal_record a b ≡ false
+not_equal a b false s e f h = other_type a b e
+not_equal a b true false e f h = other_owner a b f
+not_equal a b true true e f h = cc
+
+other_breaks : {N O M P : Type 0} (rule : Rule) (origin : List (List ℕ)) (records : List (Record N O)) (refused : List RrsetName) (b r : Record M P) → (type_of b == type_of r && same_name b.owner r.owner) ≡ false
+    → breaks rule origin records refused None r ≡ breaks rule origin records refused (Some b) r
+other_breaks NoSoa origin records refused b r h = refl
+other_breaks NoNs origin records refused b r h = refl
+other_breaks Outside origin records refused b r h = refl
+other_breaks TwoSoas origin records refused b r h = sym (not_both (type_of b) (type_of r) Rtype.soa (same_name b.owner r.owner) (not (is_equal_record b r)) h)
+other_breaks NsAddress origin records refused b r h = refl
+other_breaks Cname origin records refused b r h = refl
+other_breaks TwoDnames origin records refused b r h = sym (not_both (type_of b) (type_of r) Rtype.dname (same_name b.owner r.owner) (not (is_equal_record b r)) h)
+other_breaks BelowDname origin records refused b r h = refl
+other_breaks DsAtApex origin records refused b r h = refl
+other_breaks WildcardNs origin records refused b r h = refl
+other_breaks SoaNotApex origin records refused b r h = refl
+other_breaks NsBesideDname origin records refused b r h = refl
+other_breaks Nsec3Owner origin records refused b r h = refl
+other_breaks MissingGlue origin records refused b r h = refl
+other_breaks HostIsAlias origin records refused b r h = refl
+other_breaks HostBelowDname origin records refused b r h = refl
+other_breaks HostMissing origin records refused b r h = refl
+other_breaks HostName origin records refused b r h = refl
+other_breaks CdsWithoutKey origin records refused b r h = refl
+other_breaks DsWithoutNs origin records refused b r h = refl
+other_breaks NotAtApex origin records refused b r h = refl
+other_breaks KeyProtocol origin records refused b r h = refl
+other_breaks KeyAlgorithm origin records refused b r h = refl
+other_breaks CnameTargetMissing origin records refused b r h = refl
+other_breaks CnameLoop origin records refused b r h = refl
+other_breaks TwoSpf origin records refused b r h = refl
+other_breaks WeakDigest origin records refused b r h = refl
+other_breaks SingleNs origin records refused b r h = refl
+other_breaks TtlDiffers origin records refused b r h = sym (not_one_set (same_name b.owner r.owner) (b.class == r.class) (type_of b == type_of r) _ _ h)
+other_breaks Duplicate origin records refused b r h = sym (not_equal b r (type_of b == type_of r) (same_name b.owner r.owner) refl refl h)
+
+alike_if : {N O M P : Type 0} (rule : Rule) (origin : List (List ℕ)) (records : List (Record N O)) (refused : List RrsetName) (b r : Record M P) (t : Bool) → (type_of b == type_of r && same_name b.owner r.owner) ≡ t
+    → breaks rule origin records refused (if t then Some b else None) r ≡ breaks rule origin records refused (Some b) r
+alike_if rule origin records refused b r true h = refl
+alike_if rule origin records refused b r false h = other_breaks rule origin records refused b r h
+
+-- a record breaks the same rules if the one before it is left out because it has another owner or type
+pub breaks_alike : {N O M P : Type 0} (rule : Rule) (origin : List (List ℕ)) (records : List (Record N O)) (refused : List RrsetName) (before : Option (Record M P)) (r : Record M P)
+    → breaks rule origin records refused (option_and_then (alike r) before) r ≡ breaks rule origin records refused before r
+breaks_alike rule origin records refused None r = refl
+breaks_alike rule origin records refused (Some b) r = alike_if rule origin records refused b r (type_of b == type_of r && same_name b.owner r.owner) refl
+
+-- ---- a record of a type that a rule does not ask for
+
+first_false : (p q : Bool) → p ≡ false → (p && q) ≡ false
+first_false true q h = cc
+first_false false q h = refl
+
+both_first : (p q s : Bool) → p ≡ false → ((p && q) && s) ≡ false
+both_first true q s h = cc
+both_first false q s h = refl
+
+no_target : {T : Type 0} (test : T → Bool) (p : Bool) (x : Option T) → p ≡ false → option_map_or test (if p then x else None) false ≡ false
+no_target test true x h = cc
+no_target test false x h = refl
+
+second_no : (p q : Bool) → q ≡ false → (p && q) ≡ false
+second_no true q h = h
+second_no false q h = refl
+
+abbrev field_if : Bool → Bool → Bool → Option ℕ
+field_if a b c = if a then Some 0 else (if b then Some 1 else (if c then Some 3 else None))
+
+no_field_if : (a b c : Bool) → (a || (b || c)) ≡ false → field_if a b c ≡ None
+no_field_if true b c e = cc
+no_field_if false true c e = cc
+no_field_if false false true e = cc
+no_field_if false false false e = refl
+
+no_field : (rtype : RecordType) → has_host_field rtype ≡ false → host_field rtype ≡ None
+no_field rtype h = no_field_if (rtype == Rtype.ns) (rtype == Rtype.mx) (rtype == Rtype.srv) h
+
+no_host : {N O : Type 0} (r : Record N O) → has_host_field (type_of r) ≡ false → host_of r ≡ None
+no_host r h = ap (λ f. option_and_then but_root (option_map labels_in_octets (option_and_then (data_part (data_of r)) f))) (no_field (type_of r) h)
+
+names_none : {N O : Type 0} (test : List (List ℕ) → Bool) (r : Record N O) → has_host_field (type_of r) ≡ false → option_map_or test (host_of r) false ≡ false
+names_none test r h = ap (λ o. option_map_or test o false) (no_host r h)
+
+first_no : (p q x y : Bool) → (p || q) ≡ false → ((p && x) || (q && y)) ≡ false
+first_no true q x y h = cc
+first_no false true x y h = cc
+first_no false false x y h = refl
+
+neither : (p q x y : Bool) → (p || q) ≡ false → ((p || (q && x)) && y) ≡ false
+neither true q x y h = cc
+neither false true x y h = cc
+neither false false x y h = refl
+
+none_breaks : {N O M P : Type 0} (rule : Rule) (origin : List (List ℕ)) (records : List (Record N O)) (refused : List RrsetName) (before : Option (Record M P)) (r : Record M P) → may_break (type_of r) rule ≡ false
+    → breaks rule origin records refused before r ≡ false
+none_breaks NoSoa origin records refused before r h = refl
+none_breaks NoNs origin records refused before r h = refl
+none_breaks Outside origin records refused before r h = cc
+none_breaks TwoSoas origin records refused None r h = refl
+none_breaks TwoSoas origin records refused (Some b) r h = second_no (type_of b == Rtype.soa) _ (ap (λ t. t && (same_name b.owner r.owner && not (is_equal_record b r))) h)
+none_breaks NsAddress origin records refused before r h = both_first _ _ _ h
+none_breaks Cname origin records refused before r h = first_false _ _ h
+none_breaks TwoDnames origin records refused None r h = refl
+none_breaks TwoDnames origin records refused (Some b) r h = second_no (type_of b == Rtype.dname) _ (ap (λ t. t && (same_name b.owner r.owner && not (is_equal_record b r))) h)
+none_breaks BelowDname origin records refused before r h = cc
+none_breaks DsAtApex origin records refused before r h = ap (λ t. t && same_name r.owner origin) h
+none_breaks WildcardNs origin records refused before r h = ap (λ t. t && is_wildcard r.owner) h
+none_breaks SoaNotApex origin records refused before r h = ap (λ t. t && is_below r.owner origin) h
+none_breaks NsBesideDname origin records refused before r h = first_false _ _ h
+none_breaks Nsec3Owner origin records refused before r h = first_false _ _ h
+none_breaks MissingGlue origin records refused before r h = first_false _ _ h
+none_breaks HostIsAlias origin records refused before r h = names_none _ r h
+none_breaks HostBelowDname origin records refused before r h = names_none _ r h
+none_breaks HostMissing origin records refused before r h = second_no _ _ (second_no (r.class == _) _ (names_none _ r h))
+none_breaks HostName origin records refused before r h = cc
+none_breaks CdsWithoutKey origin records refused before r h = first_false _ _ h
+none_breaks DsWithoutNs origin records refused before r h = first_false _ _ h
+none_breaks NotAtApex origin records refused before r h = neither (is_apex_type (type_of r)) (type_of r == Rtype.dnskey) _ _ h
+none_breaks KeyProtocol origin records refused before r h = first_false _ _ h
+none_breaks KeyAlgorithm origin records refused before r h = first_no (type_of r == Rtype.dnskey) (type_of r == Rtype.ds) _ _ h
+none_breaks CnameTargetMissing origin records refused before r h = no_target _ _ _ h
+none_breaks CnameLoop origin records refused before r h = first_false _ _ h
+none_breaks TwoSpf origin records refused before r h = both_first _ _ _ h
+none_breaks WeakDigest origin records refused before r h = first_false _ _ h
+none_breaks SingleNs origin records refused before r h = first_false _ _ h
+none_breaks TtlDiffers origin records refused before r h = cc
+none_breaks Duplicate origin records refused before r h = cc
+
+-- ---- lists that have the rules of a type
+
+pub is_code : (rtype code : ℕ) → (rtype == code) ≡ true → rtype ≡ code
+is_code rtype code h = Prim.grind (arith, nat_tests, h)
+
+pub has_rules : (rtype code : ℕ) (rules : List Rule) → rtype ≡ code → HasRulesOf code rules → HasRulesOf rtype rules
+has_rules rtype code rules e h = subst (λ t. HasRulesOf t rules) (sym e) h
+
+abbrev pub any_rules : List Rule
+any_rules = Outside ∷ BelowDname ∷ HostName ∷ TtlDiffers ∷ Duplicate ∷ []
+
+abbrev pub ns_rules : List Rule
+ns_rules = Outside ∷ NsAddress ∷ BelowDname ∷ WildcardNs ∷ MissingGlue ∷ HostIsAlias ∷ HostBelowDname ∷ HostMissing ∷ HostName ∷ SingleNs ∷ TtlDiffers ∷ Duplicate ∷ []
+
+abbrev pub host_rules : List Rule
+host_rules = Outside ∷ BelowDname ∷ HostIsAlias ∷ HostBelowDname ∷ HostMissing ∷ HostName ∷ TtlDiffers ∷ Duplicate ∷ []
+
+abbrev pub cname_rules : List Rule
+cname_rules = Outside ∷ Cname ∷ BelowDname ∷ HostName ∷ CnameTargetMissing ∷ CnameLoop ∷ TtlDiffers ∷ Duplicate ∷ []
+
+abbrev pub txt_rules : List Rule
+txt_rules = Outside ∷ BelowDname ∷ HostName ∷ TwoSpf ∷ TtlDiffers ∷ Duplicate ∷ []
+
+abbrev pub ds_rules : List Rule
+ds_rules = Outside ∷ BelowDname ∷ DsAtApex ∷ HostName ∷ DsWithoutNs ∷ KeyAlgorithm ∷ WeakDigest ∷ TtlDiffers ∷ Duplicate ∷ []
+
+-- ---- the findings of a record, by the rules that it may break
+
+filter_step : {A X : Type 0} (p : X → Bool) (f : X → List A) (x : X) (xs : List X) (b : Bool) → p x ≡ b → (p x ≡ false → f x ≡ []) → flat_map f (filter p xs) ≡ flat_map f xs
+    → flat_map f (if b then x ∷ filter p xs else filter p xs) ≡ f x ++ flat_map f xs
+filter_step p f x xs true e none rest = ap (λ l. f x ++ l) rest
+filter_step p f x xs false e none rest = rest ∙ ap (λ l. l ++ flat_map f xs) (sym (none e))
+
+flat_filter : {A X : Type 0} (p : X → Bool) (f : X → List A) → ((x : X) → p x ≡ false → f x ≡ []) → (xs : List X) → flat_map f (filter p xs) ≡ flat_map f xs
+flat_filter p f none [] = refl
+flat_filter p f none (x ∷ xs) = filter_step p f x xs (p x) refl (none x) (flat_filter p f none xs)
+
+some_is : {X : Type 0} (x y : X) → Some x ≡ Some y → x ≡ y
+some_is x y h = cc
+
+nothing_of : {N O M P : Type 0} (origin : List (List ℕ)) (records : List (Record N O)) (refused : List RrsetName) (place : ℕ) (one : Record M P) (rule : Rule)
+    → (o : Option (Record N O)) → Some one ≡ option_map as_listed o → may_break (type_of one) rule ≡ false
+    → found_if (option_map_or (breaks rule origin records refused (record_before records place)) o false) rule (Some place) ≡ []
+nothing_of origin records refused place one rule None e h = cc
+nothing_of {N} {O} {M} {P} origin records refused place one rule (Some r) e h =
+    let same : type_of one ≡ type_of r = ap (λ q. type_of q) (some_is one (as_listed r) e) in
+    ap (λ b. found_if b rule (Some place)) (none_breaks rule origin records refused (record_before records place) r (ap (λ t. may_break t rule) (sym same) ∙ h))
+
+-- the findings of a record are those of the rules that it may break
+pub all_found : {N O M P : Type 0} (origin : List (List ℕ)) (records : List (Record N O)) (refused : List RrsetName) (place : ℕ) (one : Record M P) (rules : List Rule)
+    → Some one ≡ option_map as_listed (slice_get records place) → HasRulesOf (type_of one) rules
+    → flat_map (found_of origin records refused place) rules ≡ found_at origin records refused place
+all_found origin records refused place one rules e has =
+    sym (flat_filter (may_break (type_of one)) (found_of origin records refused place) (λ rule. nothing_of origin records refused place one rule (slice_get records place) e) rules)
+    ∙ ap (flat_map (found_of origin records refused place)) has
+    ∙ flat_filter (may_break (type_of one)) (found_of origin records refused place) (λ rule. nothing_of origin records refused place one rule (slice_get records place) e) record_rules
