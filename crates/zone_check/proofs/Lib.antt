@@ -2,6 +2,7 @@ pub mod CollectedSteps
 pub mod DataSteps
 mod DotsAtEnd
 pub mod FindingSteps
+pub mod GenerateSteps
 pub mod NameSteps
 pub mod NoneSteps
 pub mod OctetSteps

@@ -1,22 +1,19 @@
 -- Entries without findings.
-use Rattle.std.proofs.Common.{◌≡◌, Bool, true, false, ◌||◌, not, List, [], ◌++◌, refl, ap, ◌∙◌, subst, append-nil}
+use Rattle.std.proofs.Common.{◌≡◌, Bool, true, false, ◌||◌, not, List, [], ◌++◌, map, refl, ap, ◌∙◌, subst, append-nil}
 use Rattle.std.specs.List.{list_any}
 use Rattle.std.proofs.lemmas.Bool.{not-true}
+use Rattle.dns_lexer.specs.EntryTokens.{token_seen}
 use Rattle.zone_check.specs.declared.entry.EntryContext.{EntryContext}
 use Rattle.zone_check.specs.declared.entry.EntryKind.{EntryKind}
 use Rattle.zone_check.specs.declared.entry.EntryKind.TheVariants.{Blank, Directive, Generate, OneRecord, Rejected, Malformed, TooLong}
 use Rattle.zone_check.specs.declared.entry.ReadEntry.{ReadEntry}
 use Rattle.zone_check.specs.declared.finding.EntryFinding.{EntryFinding}
-use Rattle.zone_check.specs.EntryFindings.{AreFindingsOfRecord, AreOwnOctetFindings, AreParsedFindings, AreReadFindings, AreTokenFindings, HasNoFindings, HasNoneAsRead, is_control_z_finding, is_reported_class, is_scanned, none_as_read, record_in}
+use Rattle.zone_check.specs.EntryFindings.{AreFindingsOfRecord, AreGenerateFindings, AreOwnOctetFindings, AreParsedFindings, AreReadFindings, AreTokenFindings, HasNoFindings, HasNoneAsRead, is_control_z_finding, is_reported_class, is_scanned, none_as_read, record_in}
 
 module _ (e : ReadEntry) (c : EntryContext) (before after : List EntryFinding) where
   text_none : (b : Bool) → b ≡ true → AreParsedFindings b e c before after → after ≡ before
   text_none true is h = h
   text_none false is h = absurd (let t : false ≡ true = is in cc)
-
-  generate_none : (b : Bool) → e.kind ≡ Generate → AreParsedFindings b e c before after → after ≡ before
-  generate_none true is h = h
-  generate_none false is h = subst (λ k. AreTokenFindings k e c h.0 before after) is h.2
 
   record_none : (b r : Bool) → (AreParsedFindings false e c before after → r ≡ false → after ≡ before) → (b || not r) ≡ true → AreParsedFindings b e c before after → after ≡ before
   record_none true r none is h = h
@@ -24,7 +21,12 @@ module _ (e : ReadEntry) (c : EntryContext) (before after : List EntryFinding) w
 
   none_found : (k : EntryKind) → e.kind ≡ k → none_as_read k c ≡ true → AreReadFindings k e c before after → after ≡ before
   none_found Blank is none h = h
-  none_found Generate is none h = generate_none c.is_text is h
+  none_found Generate is none h =
+      record_none c.is_text c.reports_slips
+      (λ p unreported.
+      let found = subst (λ k. AreTokenFindings k e c p.0 before after) is p.2 in
+      subst (λ b. AreGenerateFindings b (map token_seen p.0) before after) unreported found)
+      none h
   none_found Directive is none h = text_none c.is_text none h
   none_found (Rejected error) is none h = text_none c.is_text none h
   none_found (OneRecord ttl class rtype) is none h =

@@ -26,6 +26,7 @@ use Rattle.zone_check.specs.declared.record_findings.RecordContext.{RecordContex
 use Rattle.zone_check.specs.Codes.{code_of_entry}
 use Rattle.zone_check.specs.DirectiveFindings.{IsDirectiveFinding, directive_named_by}
 use Rattle.zone_check.specs.FindingSpans.{finding_at}
+use Rattle.zone_check.specs.GenerateFindings.{IsGenerateFinding}
 use Rattle.zone_check.specs.OctetFindings.{AreOctetFindings, is_control_z}
 use Rattle.zone_check.specs.RecordFindings.{AreRecordFindings}
 use Rattle.zone_check.specs.RejectionFindings.{IsFaultFinding, rejected_finding}
@@ -125,12 +126,17 @@ rejection_finding octets offset e c tokens = rejection_of_code (code_of_entry (i
 abbrev pub long_finding : EntryFinding
 long_finding = finding_at MaxEntry 0 1 Entry
 
+-- nibbles of a `$GENERATE` directive that end a name in a dot, if slips are reported
+abbrev pub AreGenerateFindings : (reports_slips : Bool) → List TokenSeen → (before after : List EntryFinding) → Type 0
+AreGenerateFindings true tokens before after = (f : Option EntryFinding) × IsGenerateFinding tokens f × (after ≡ before ++ option_to_list f)
+AreGenerateFindings false tokens before after = after ≡ before
+
 -- those of the tokens of an entry
 abbrev pub AreTokenFindings : EntryKind → ReadEntry → EntryContext → List EntryToken → (before after : List EntryFinding) → Type 0
 AreTokenFindings Directive e c tokens before after = (f : Option EntryFinding) × IsDirectiveFinding tokens f × (after ≡ before ++ option_to_list f)
 AreTokenFindings (OneRecord ttl class rtype) e c tokens before after = AreFindingsOfRecord (is_reported_class class c) (record_in e ttl class rtype) ttl e.octets.now c tokens before after
 AreTokenFindings (Rejected error) e c tokens before after = after ≡ before ++ option_to_list (rejection_finding e.octets.now e.start error c (map token_seen tokens))
-AreTokenFindings Generate e c tokens before after = after ≡ before
+AreTokenFindings Generate e c tokens before after = AreGenerateFindings c.reports_slips (map token_seen tokens) before after
 AreTokenFindings Blank e c tokens before after = after ≡ before
 AreTokenFindings (Malformed fault) e c tokens before after = after ≡ before
 AreTokenFindings TooLong e c tokens before after = after ≡ before
@@ -156,10 +162,10 @@ pub record FindingsOfEntry (e : ReadEntry) (c : EntryContext) (before after : Li
 
 -- ---- an entry without findings
 
--- such a kind adds none: a record whose slips are not reported, or any if only the text is checked
+-- such a kind adds none: a record or `$GENERATE` whose slips are not reported, or any if only the text is checked
 abbrev pub none_as_read : EntryKind → EntryContext → Bool
 none_as_read Blank c = true
-none_as_read Generate c = true
+none_as_read Generate c = c.is_text || not c.reports_slips
 none_as_read (OneRecord ttl class rtype) c = c.is_text || not (is_reported_class class c)
 none_as_read Directive c = c.is_text
 none_as_read (Rejected e) c = c.is_text

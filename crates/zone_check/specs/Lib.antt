@@ -6,6 +6,7 @@ pub mod EntryFindings
 pub mod EntryWords
 pub mod FindingOrder
 pub mod FindingSpans
+pub mod GenerateFindings
 pub mod NameFindings
 pub mod Names
 pub mod OctetFindings

@@ -1,14 +1,18 @@
 -- Worked examples: findings about entries.
 use Rattle.std.specs.Prelude.{◌≡◌, ℕ, true, false, List, [], ◌∷◌, ◌++◌, codes, Some, None, refl}
+use Rattle.std.specs.Fmt.{digits}
 use Rattle.dns_lexer.specs.EntryTokens.{TokenSeen}
 use Rattle.rdata.specs.Types.{type_shapes}
 use Rattle.rdata_values.specs.Rtype as Rtype
 use Rattle.record_rules.specs.declared.rule.RecordRule.TheVariants.{CaaUnknown, CommentInData as CommentRule, NaptrBoth as BothRule, NaptrRegexp as RegexpRule, ReverseName as ReverseRule, SoaMailOneLabel, SoaRetry, TargetAddress as AddressRule, TxtWords as WordsRule, WildcardInside as WildcardRule}
 use Rattle.zone_rules.specs.declared.rule.Finding.{Finding}
 use Rattle.zone_rules.specs.declared.rule.Rule.TheVariants.{CnameLoop as CnameLoopRule, Duplicate as DuplicateRule, MissingGlue as GlueRule, TtlDiffers as TtlRule}
+use Rattle.zone_generate.specs.declared.format.NumberBase.TheVariants.{Nibbles}
+use Rattle.zone_generate.specs.declared.part.Part.{Part}
+use Rattle.zone_generate.specs.declared.part.Part.TheVariants.{Number}
 use Rattle.zone_reader.specs.declared.ttl.RecordTtl.TheVariants.{Explicit, Minimum}
 use Rattle.zonetext_report.specs.Lint.{remark}
-use Rattle.zonetext_report.specs.declared.code.Code.TheVariants.{CaaTag, CommentInData, ControlOctet, ControlZ, Data, Glue, MaxEntry, MaxTtl, MissingDot, NaptrBoth, NaptrRegexp, NoOrigin, NoOwner, ReverseName, SoaMinimumTtl, SoaTimers, SpfType, TargetAddress, Ttl, TxtWords, WildcardInside}
+use Rattle.zonetext_report.specs.declared.code.Code.TheVariants.{CaaTag, CommentInData, ControlOctet, ControlZ, Data, GenerateDot, Glue, MaxEntry, MaxTtl, MissingDot, NaptrBoth, NaptrRegexp, NoOrigin, NoOwner, ReverseName, SoaMinimumTtl, SoaTimers, SpfType, TargetAddress, Ttl, TxtWords, WildcardInside}
 use Rattle.zonetext_report.specs.declared.code.Severity.TheVariants.{Error, Warning}
 use Rattle.zone_check.specs.declared.entry.EntryKind.TheVariants.{Blank, OneRecord, TooLong}
 use Rattle.zone_check.specs.declared.finding.About.TheVariants.{Entry, Octets, Rejection, RuleAtToken, RuleOfRecord, Token}
@@ -21,6 +25,7 @@ use Rattle.zone_check.specs.Data.{has_ohttp_value}
 use Rattle.zone_check.specs.EntryFindings.{is_directive, is_news, is_of_parameters, is_scanned, long_finding, rejection_with, reports_crlf}
 use Rattle.zone_check.specs.FindingOrder.{first_findings}
 use Rattle.zone_check.specs.FindingSpans.{finding_at, finding_of_entry}
+use Rattle.zone_check.specs.GenerateFindings.{dot_finding, dot_part, is_dot_part, of_name_field}
 use Rattle.zone_check.specs.NameFindings.{name_findings, record_names}
 use Rattle.zone_check.specs.Names.{ends_in_dot, ends_like}
 use Rattle.zone_check.specs.OctetFindings.{octet_findings}
@@ -238,3 +243,27 @@ duplicate_at place = record { finding = record { rule = DuplicateRule; «record�
 
 duplicates_once : without_repeats [] (duplicate_at 4 ∷ duplicate_at 9 ∷ []) ≡ duplicate_at 4 ∷ []
 duplicates_once = refl
+
+-- `${0,4,n}` writes `1.0.` of 1, and `${0,3,n}` writes `1.0`
+abbrev nibbles_of : ℕ → Part
+nibbles_of width = Number (record { is_negative = false; offset = 0; width = width; base = Nibbles })
+
+even_width : is_dot_part 1 (nibbles_of 4) [] ≡ true
+unfolding digits
+even_width = refl
+
+odd_width : is_dot_part 1 (nibbles_of 3) [] ≡ false
+unfolding digits
+odd_width = refl
+
+-- the name continues after `${0,4,n}` in `${0,4,n}ip6.arpa.`
+name_continues : is_dot_part 1 (nibbles_of 4) (codes "ip6.arpa.") ≡ false
+name_continues = refl
+
+-- `"10 ${0,4,n}"`: the second field of an MX is a name, the first is not
+abbrev in_rdata : TokenSeen
+in_rdata = quoted_at 18 (codes "10 ${0,4,n}")
+
+dot_in_rdata : dot_finding in_rdata (of_name_field (Some Rtype.mx) (dot_part (record { first = 1; last = 2; step = 1 }) in_rdata)) ≡ Some (finding_at GenerateDot 22 8 Token)
+unfolding type_shapes digits
+dot_in_rdata = refl

@@ -1,15 +1,16 @@
 //! Finds what is reported about an entry.
-ghost use Rattle.std.specs.Prelude.{◌≡◌, ◌++◌, OnOk, map, true};
+ghost use Rattle.std.specs.Prelude.{◌≡◌, ◌++◌, ◌&&◌, not, OnOk, map, true};
 ghost use Rattle.std.specs.List.{list_any};
 ghost use Rattle.dns_lexer.specs.EntryTokens.{token_seen};
 ghost use Rattle.zone_check.specs.EntryFindings.{begins_with_octet, block_of, has_parameters, has_parameters_if_known, is_control_z_finding, is_directive, is_news, is_of_parameters, is_reported_class, is_scanned, long_finding, record_context, record_in, rejection_finding, reported_of, reports_crlf};
-ghost use Rattle.zone_check.specs.EntryFindings.{AreFindingsOfRecord, AreOwnOctetFindings, AreParsedFindings, AreReadFindings, AreTokenFindings, FindingsOfEntry, HasNoFindings, HasNoneAsRead, none_as_read};
+ghost use Rattle.zone_check.specs.EntryFindings.{AreFindingsOfRecord, AreGenerateFindings, AreOwnOctetFindings, AreParsedFindings, AreReadFindings, AreTokenFindings, FindingsOfEntry, HasNoFindings, HasNoneAsRead, none_as_read};
 
 use crate::codes::code_of_entry;
 use crate::directive_findings::directive_finding;
 use crate::entry::{EntryContext, EntryKind, ReadEntry};
 use crate::entry_tokens::{begins_blank, tokens_of};
 use crate::finding::{About, EntryFinding, finding_at};
+use crate::generate_findings::generate_finding;
 use crate::octet_findings::{ReportedOctets, find_in_octets};
 use crate::record_findings::{RecordContext, find_in_record};
 use crate::rejection_findings::{fault_finding, rejected_finding};
@@ -261,8 +262,26 @@ fn long_finding() -> EntryFinding
     finding_at(Code::MaxEntry, 0, 1, About::Entry)
 }
 
+/// Appends the finding about a `$GENERATE` directive, if slips are reported. Fails without memory.
+fn find_in_generate(
+    alloc: Global,
+    reports_slips: bool,
+    tokens: &[EntryToken<'_>],
+    found: &mut Vec<EntryFinding>,
+) -> Result<(), AllocError>
+    ensures { OnOk result (AreGenerateFindings reports_slips (map token_seen tokens.now)
+        found.old.items found.new.items) }
+{
+    if !reports_slips {
+        return Ok(());
+    }
+    let finding = generate_finding(alloc, tokens)?;
+    append_any(finding, found)
+}
+
 /// Appends the findings about the tokens of an entry. Fails without memory.
 fn find_in_tokens(
+    alloc: Global,
     entry: &ReadEntry<'_>,
     context: &EntryContext<'_>,
     tokens: &[EntryToken<'_>],
@@ -282,7 +301,7 @@ fn find_in_tokens(
             rejection_finding(octets, entry.start, error, context, tokens),
             found,
         ),
-        EntryKind::Generate => Ok(()),
+        EntryKind::Generate => find_in_generate(alloc, context.reports_slips, tokens, found),
         EntryKind::Blank | EntryKind::Malformed(_) | EntryKind::TooLong => Ok(()),
     }
 }
@@ -302,7 +321,7 @@ fn find_in_parsed(
         return Ok(());
     }
     let tokens = tokens_of(alloc, entry.octets)?;
-    find_in_tokens(entry, context, tokens.as_slice(), found)
+    find_in_tokens(alloc, entry, context, tokens.as_slice(), found)
 }
 
 /// Appends the findings about an entry as it was read. Fails without memory.
@@ -353,8 +372,9 @@ fn none_as_read(kind: EntryKind, context: &EntryContext<'_>) -> bool
     ensures { result ≡ none_as_read kind context.now }
 {
     match kind {
-        EntryKind::Blank | EntryKind::Generate => true,
+        EntryKind::Blank => true,
         EntryKind::Malformed(_) | EntryKind::TooLong => false,
+        EntryKind::Generate => context.is_text || !context.reports_slips,
         EntryKind::OneRecord { class, .. } => context.is_text || !is_reported_class(class, context),
         EntryKind::Directive | EntryKind::Rejected(_) => context.is_text,
     }
@@ -363,7 +383,8 @@ fn none_as_read(kind: EntryKind, context: &EntryContext<'_>) -> bool
 /// Returns whether an entry has no findings, apart from those about its octets. If it returns
 /// `false`, nothing is known.
 pub fn has_none_as_read(entry: &ReadEntry<'_>, context: &EntryContext<'_>) -> bool
-    ensures { result ≡ true → HasNoneAsRead entry.now context.now }
+    ensures value { result ≡ none_as_read entry.now.kind context.now }
+    ensures none { result ≡ true → HasNoneAsRead entry.now context.now }
 {
     none_as_read(entry.kind, context)
 }
@@ -372,7 +393,9 @@ pub fn has_none_as_read(entry: &ReadEntry<'_>, context: &EntryContext<'_>) -> bo
 /// each entry whose octets are in the file.
 #[tactic(auto, using(crate::proofs::NoneSteps::no_findings_if))]
 pub fn has_no_findings(entry: &ReadEntry<'_>, context: &EntryContext<'_>) -> bool
-    ensures { result ≡ true → HasNoFindings entry.now context.now }
+    ensures value { result ≡ (not (is_scanned entry.now.is_generated entry.now.kind)
+        && none_as_read entry.now.kind context.now) }
+    ensures none { result ≡ true → HasNoFindings entry.now context.now }
 {
     !is_scanned(entry.is_generated, entry.kind) && has_none_as_read(entry, context)
 }

@@ -12,6 +12,7 @@ pub mod entry_tokens;
 pub mod entry_words;
 pub mod finding;
 pub mod finding_order;
+pub mod generate_findings;
 pub mod laws;
 pub mod name_findings;
 pub mod names;

@@ -2,7 +2,7 @@
 ghost use Rattle.std.specs.Prelude.{◌≡◌, ◌++◌, ◌||◌, OnOk, map};
 ghost use Rattle.dns_lexer.specs.EntryTokens.{token_seen};
 ghost use Rattle.rdata.specs.ByType.{shape_of_code};
-ghost use Rattle.zone_check.specs.NameFindings.{data_names, field_code, field_in, is_field_name, is_generic_token, is_no_origin, is_relative, may_lack_dot, name_code, name_finding, name_findings, own_owner, record_names};
+ghost use Rattle.zone_check.specs.NameFindings.{data_names, field_code, field_in, is_field_name, is_generic_token, is_name_field, is_no_origin, is_relative, may_lack_dot, name_code, name_finding, name_findings, own_owner, record_names};
 
 use crate::finding::{About, EntryFinding, finding_of_token};
 use crate::names::{ends_in_dot, ends_like};
@@ -43,6 +43,13 @@ fn is_field_name(field: Option<Field>) -> bool
     ensures { result ≡ is_field_name field }
 {
     matches!(field, Some(Field::Name))
+}
+
+/// Returns whether the field of RDATA of a type with an index is a name.
+pub(crate) fn is_name_field(rtype: RecordType, number: usize) -> bool
+    ensures { result ≡ is_name_field rtype number }
+{
+    is_field_name(field_in(rtype, number))
 }
 
 /// Returns whether a name is relative: it has no quotes, and no dot at its end that is not escaped
