@@ -578,7 +578,6 @@ impl<'a> Checker<'a> {
                 self.see_directive(entry)?;
                 self.report_read(entry, found)
             }
-            Ok(ParsedEntry::Generate { .. }) => self.check_generate(entry),
             Ok(
                 ParsedEntry::Record {
                     at,

@@ -102,7 +102,7 @@ fn token_of<'e>(tokens: &[EntryToken<'e>], at: usize) -> Option<EntryToken<'e>> 
 }
 
 /// Returns whether the token with this index, in data of a type, is a name.
-pub fn is_name(rtype: RecordType, number: usize) -> bool {
+fn is_name(rtype: RecordType, number: usize) -> bool {
     match type_row(rtype) {
         Some(row) => matches!(row.1.get(number), Some(Field::Name)),
         None => false,

@@ -11,7 +11,6 @@ use zone_record::Data;
 use zone_set::serial_of;
 use zonetext_files::stop::RunError;
 use zonetext_files::zone_files::Entry;
-use zonetext_findings::generate_findings::dot_in;
 use zonetext_findings::locations::tokens_of;
 
 impl<'a> Checker<'a> {
@@ -111,20 +110,6 @@ impl<'a> Checker<'a> {
             return self.hold_refused(entry, Some(rtype));
         }
         self.hold_record(entry, scan, at)
-    }
-
-    /// Reports a format of `$GENERATE` that ends a name in a dot.
-    pub(super) fn check_generate(&mut self, entry: &Entry<'_>) -> Result<(), RunError> {
-        if !self.limits.reports_slips {
-            return Ok(());
-        }
-        let tokens = tokens_of(self.alloc, entry)?;
-        match dot_in(tokens.as_slice()) {
-            Some(finding) => self
-                .findings
-                .report_found(entry, &finding, self.limits.max_ttl),
-            None => Ok(()),
-        }
     }
 
     /// Ends the assumption of the root at `$ORIGIN`.
