@@ -312,7 +312,10 @@ fn compare_records(octets: &[u8], left: &Entry, right: &Entry) -> Ordering
 fn compare_entries(octets: &[u8], left: &Entry, right: &Entry) -> Ordering
     ensures { result ≡ prefixed_order octets.now left.now right.now }
 {
-    compare_records(octets, left, right).then(left.offset().cmp(&right.offset()))
+    match compare_records(octets, left, right) {
+        Ordering::Equal => left.offset().cmp(&right.offset()),
+        order => order,
+    }
 }
 
 /// Sorts entries. Fails without memory; they are then unchanged.
