@@ -289,8 +289,11 @@ fn compare_octets(left: &[u8], right: &[u8]) -> Ordering
 {
     let (left_count, left_rest, left_parts) = split_rest(left);
     let (right_count, right_rest, right_parts) = split_rest(right);
-    match compare_few(left_rest, right_rest).then(left_count.cmp(&right_count)) {
-        Ordering::Equal => compare_first(left_parts, right_parts),
+    match compare_few(left_rest, right_rest) {
+        Ordering::Equal => match left_count.cmp(&right_count) {
+            Ordering::Equal => compare_first(left_parts, right_parts),
+            order => order,
+        },
         order => order,
     }
 }
