@@ -1,9 +1,9 @@
 -- The records with the key of one of them.
 use Rattle.std.proofs.Common.{ℕ, ◌≡◌, ◌+◌, ◌-◌, ◌<◌, ◌≤◌, ◌⊎◌, inl, inr, Bool, true, false, Some, List, [], length, get_or, refl, sym, ap, subst, ◌∙◌, arith}
-use Rattle.std.specs.Prelude.{All, slice_get}
+use Rattle.std.specs.Prelude.{All}
 use Rattle.std.specs.List.{AllWithin}
 use Rattle.std.specs.List.Sorted.{IsSorted}
-use Rattle.std.specs.Ordering.{is_eq, is_lt, ordering_reverse}
+use Rattle.std.specs.Ordering.{is_lt, ordering_reverse}
 use Rattle.std.specs.declared.cmp.Ordering.{Ordering}
 use Rattle.std.specs.declared.cmp.Ordering.TheVariants.{Less, Equal, Greater}
 use Rattle.std.proofs.lemmas.Bool.{cases_lt, false≢true}
@@ -11,8 +11,7 @@ use Rattle.std.proofs.lemmas.List.{get_or_default}
 use Rattle.std.proofs.lemmas.Cmp.{nat_list_cmp_total, tied_itself}
 use Rattle.zone_record.specs.Names.{octet_order}
 use Rattle.zone_record.proofs.Orders.{octets_equal}
-use Rattle.zone_record.specs.declared.record.Record.{Record}
-use Rattle.zone_contents.specs.Contents.{listed_record, listing, AreSortedRecords, IsZoneRecord}
+use Rattle.zone_contents.specs.Contents.{listed_record, listing, IsZoneRecord}
 use Rattle.zone_contents.specs.Keys.{key_in_zone, name_in_zone}
 use Rattle.zone_contents.specs.Searches.{BeginsKey, EndsKey}
 use Rattle.zone_contents.proofs.Listings.{listed_get, owned_from, valid_at}

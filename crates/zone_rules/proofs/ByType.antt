@@ -1,5 +1,5 @@
 -- What a record can't break by its type, alone or with the record before it.
-use Rattle.std.proofs.Common.{ℕ, ◌≡◌, ◌<◌, Bool, true, false, Option, Some, None, List, [], ◌∷◌, ◌++◌, length, refl, sym, ap, subst, ◌∙◌, arith}
+use Rattle.std.proofs.Common.{ℕ, ◌≡◌, Bool, true, false, Option, Some, None, List, [], ◌∷◌, ◌++◌, refl, sym, ap, subst, ◌∙◌, arith}
 use Rattle.std.specs.Prelude.{◌==◌, ◌&&◌, ◌||◌, not, if◌then◌else◌, filter, option_and_then, slice_get}
 use Rattle.std.specs.List.{flat_map}
 use Rattle.std.specs.Option.{option_map, option_map_or}
@@ -12,13 +12,12 @@ use Rattle.zone_record.specs.Parts.{data_part}
 use Rattle.zone_record.specs.Records.{data_of}
 use Rattle.zone_record.specs.declared.record.Record.{Record}
 use Rattle.zone_rules.specs.Above.{is_below, is_wildcard}
-use Rattle.zone_rules.specs.Findings.{breaks_at, found_at, found_if, found_of, record_rules}
-use Rattle.zone_rules.specs.Rules.{breaks, have_other_ttls, is_apex_type, lacks_address}
+use Rattle.zone_rules.specs.Findings.{found_at, found_if, found_of, record_rules}
+use Rattle.zone_rules.specs.Rules.{breaks, is_apex_type}
 use Rattle.zone_rules.specs.RulesByType.{has_host_field, may_break, HasRulesOf}
 use Rattle.zone_rules.specs.Subjects.{alike}
 use Rattle.zone_rules.specs.Zones.{as_listed, but_root, host_field, host_of, is_equal_record, record_before, type_of}
 use Rattle.zone_rules.specs.declared.refused.RrsetName.{RrsetName}
-use Rattle.zone_rules.specs.declared.rule.Finding.{Finding}
 use Rattle.zone_rules.specs.declared.rule.Rule.{Rule}
 use Rattle.zone_rules.specs.declared.rule.Rule.TheVariants.{NoSoa, NoNs, Outside, TwoSoas, NsAddress, Cname, TwoDnames, BelowDname, DsAtApex, WildcardNs, SoaNotApex, NsBesideDname, Nsec3Owner, MissingGlue, HostIsAlias, HostBelowDname, HostMissing, HostName, CdsWithoutKey, DsWithoutNs, NotAtApex, KeyProtocol, KeyAlgorithm, CnameTargetMissing, CnameLoop, TwoSpf, WeakDigest, SingleNs, TtlDiffers, Duplicate}
 use Rattle.zone_rules.proofs.PairTests.{other_owner, other_type}

@@ -1,14 +1,13 @@
 -- CNAMEs that lead from a name, by the index of the first of them.
-use Rattle.std.proofs.Common.{ℕ, zero, suc, ◌≡◌, ◌+◌, ◌-◌, Bool, true, false, Option, Some, None, List, refl, sym, ap, subst, ◌∙◌, arith}
+use Rattle.std.proofs.Common.{ℕ, zero, suc, ◌≡◌, ◌-◌, Bool, true, false, Option, Some, None, List, refl, sym, ap, subst, ◌∙◌, arith}
 use Rattle.std.specs.Prelude.{◌==◌, ◌&&◌, ◌||◌, not, option_and_then, slice_get}
 use Rattle.std.specs.Option.{option_map, option_map_or}
 use Rattle.rdata_values.specs.Rtype as Rtype
 use Rattle.zone_record.specs.declared.record.Record.{Record}
 use Rattle.dns_wire.specs.Order.{same_name}
-use Rattle.zone_rules.specs.Rules.{alias_at, alias_target, is_alias_loop, leads_to, name_after}
+use Rattle.zone_rules.specs.Rules.{alias_target, is_alias_loop, leads_to, name_after}
 use Rattle.zone_rules.specs.Subjects.{IsFirstAlias, IsLedFrom, IsRecordAt}
 use Rattle.zone_rules.specs.Zones.{as_listed, type_of}
-use Rattle.zone_rules.proofs.Subjects.{some_same}
 
 target_listed : {N O : Type 0} (R S : Type 0) (o : Option (Record N O)) → option_and_then (alias_target {N = R} {O = S}) (option_map as_listed o) ≡ option_and_then alias_target o
 target_listed R S None = refl

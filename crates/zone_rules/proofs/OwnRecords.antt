@@ -1,18 +1,14 @@
 -- The records with the owner of the record at an index.
-use Rattle.std.proofs.Common.{ℕ, zero, suc, ◌≡◌, ◌+◌, ◌<◌, ◌≤◌, ◌⊎◌, inl, inr, Bool, true, false, Option, Some, None, List, [], ◌∷◌, length, get_or, refl, sym, ap, subst, ◌∙◌, arith}
+use Rattle.std.proofs.Common.{ℕ, zero, suc, ◌≡◌, ◌<◌, Bool, true, false, Option, Some, None, List, [], ◌∷◌, length, get_or, refl, sym, ap, subst, ◌∙◌, arith}
 use Rattle.std.specs.Prelude.{◌==◌, ◌&&◌, ◌||◌, slice_get}
-use Rattle.std.specs.List.{AllWithin, list_any}
+use Rattle.std.specs.List.{list_any}
 use Rattle.std.specs.Option.{option_map, option_map_or}
-use Rattle.std.specs.Ordering.{is_eq}
-use Rattle.std.proofs.lemmas.Cmp.{tied_itself}
 use Rattle.std.proofs.lemmas.Option.{slice_get-get_or}
-use Rattle.zone_record.proofs.Orders.{names_total}
 use Rattle.zone_record.specs.declared.record.Record.{Record}
 use Rattle.dns_wire.specs.Order.{same_name}
 use Rattle.zone_rules.specs.Searches.{AreOwnedAt, AreOwnedFrom}
 use Rattle.zone_rules.specs.Subjects.{IsRecordAt, OwnerHasType}
 use Rattle.zone_rules.specs.Zones.{as_listed, has_type_at, type_of, is_one_owner}
-use Rattle.zone_rules.proofs.Lookups.{same_is}
 use Rattle.zone_rules.proofs.Subjects.{some_same}
 
 some_within : {X : Type 0} (xs : List X) (place : ℕ) (x : X) → slice_get xs place ≡ Some x → place < length xs

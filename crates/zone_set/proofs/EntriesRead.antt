@@ -1,14 +1,14 @@
 -- What an entry says is what was stored.
-use Rattle.std.proofs.Common.{ℕ, ◌≡◌, ◌+◌, ◌^◌, ◌<◌, ◌≤◌, ◌/◌, ◌-◌, List, [], ◌∷◌, ◌++◌, length, take, drop, refl, sym, ap, ◌∙◌, arith, append_assoc, length-append, length-drop, get_or, subst}
+use Rattle.std.proofs.Common.{ℕ, ◌≡◌, ◌+◌, ◌^◌, ◌<◌, ◌≤◌, ◌-◌, List, [], ◌∷◌, ◌++◌, length, take, drop, refl, sym, ap, ◌∙◌, arith, append_assoc, length-append, length-drop, get_or, subst}
 use Rattle.std.specs.Prelude.{All, Bool, true, false, if◌then◌else◌, nat_lt}
-use Rattle.std.specs.Int.{from_be_bytes, to_be_bytes, w16}
+use Rattle.std.specs.Int.{to_be_bytes, w16}
 use Rattle.std.proofs.lemmas.List.{take_at, drop_at, append-nil, map-append}
 use Rattle.std.proofs.lemmas.List.Elements.{All-nil, All-cons, All-head, All-tail, All-push, All-get_or}
 use Rattle.std.proofs.lemmas.List.Sorted.{IsNonDecreasingBy-push}
 use Rattle.std.proofs.lemmas.Nat.{from_be_bytes-to_be_bytes_2}
 use Rattle.zone_set.specs.Counted.{after_length, first_length, length_octets}
-use Rattle.zone_set.specs.Entries.{HasAt, IsEntryFor, IsEntryOf, IsStoreEntry, after_rest, first_rest, key_at, stored_key, octets_of, record_offset, parts_at, parts_or_absent, prefix_of, record_octets, record_of, seven_octets}
-use Rattle.zone_set.specs.Parts.{PartsFit, RecordParts, begins_parts, first_parts, parts_octets}
+use Rattle.zone_set.specs.Entries.{HasAt, IsEntryFor, IsEntryOf, IsStoreEntry, after_rest, first_rest, key_at, octets_of, record_offset, parts_at, parts_or_absent, prefix_of, record_octets, record_of, seven_octets}
+use Rattle.zone_set.specs.Parts.{PartsFit, RecordParts, first_parts, parts_octets}
 use Rattle.zone_set.specs.Prefixes.{prefix_number}
 use Rattle.zone_set.specs.Stored.{AddedRecord, added_record, absent_parts}
 use Rattle.zone_set.specs.Stores.{IsStored, StoresMore, stored_records}

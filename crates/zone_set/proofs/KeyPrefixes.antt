@@ -1,12 +1,12 @@
 -- The first octets of keys decide before the keys do.
 use Rattle.std.proofs.Common.{ℕ, zero, suc, ◌≡◌, ◌+◌, ◌*◌, ◌^◌, ◌<◌, ◌≤◌, List, [], ◌∷◌, refl, sym, ap, ◌∙◌, arith}
 use Rattle.std.specs.Prelude.{All, ◌++◌, length, get_or, take, drop}
-use Rattle.std.specs.Int.{from_be_bytes, to_be_bytes, w64}
+use Rattle.std.specs.Int.{from_be_bytes, w64}
 use Rattle.std.specs.Ordering.{nat_cmp, ordering_then}
 use Rattle.std.specs.declared.cmp.Ordering.{Ordering}
 use Rattle.std.specs.declared.cmp.Ordering.TheVariants.{Less, Equal, Greater}
 use Rattle.std.proofs.lemmas.Bool.Decides.{nat_tests}
-use Rattle.std.proofs.lemmas.List.Elements.{All-nil, All-cons, All-head, All-tail, All-get_or}
+use Rattle.std.proofs.lemmas.List.Elements.{All-nil, All-cons, All-head, All-tail}
 use Rattle.std.proofs.lemmas.Nat.{be_bytes_8}
 use Rattle.std.proofs.Math.Nat.{mul-le-mul_right, mul_assoc, pow-suc, pow-le-pow_right}
 use Rattle.zone_set.specs.Entries.{seven_octets}

@@ -1,7 +1,6 @@
 use Rattle.std.proofs.Common.{sym, ap, ◌∙◌}
-use Rattle.std.specs.Prelude.{◌==◌, ◌&&◌, not}
+use Rattle.std.specs.Prelude.{◌==◌}
 use Rattle.rdata_values.specs.Rtype as Rtype
-use Rattle.zone_rules.specs.Rules.{leads_to}
 use Rattle.zone_rules.proofs.LedNames.{led_back, not_false}
 use Rattle.zone_rules.proofs.aliases.is_loop.Goals as goal
 
