@@ -122,5 +122,8 @@ impl<'a> SortedSets<'a> {
 pub(crate) fn lists_set(sets: &SortedSets<'_>, name: &Name<&[u8]>, rtype: RecordType) -> bool
     ensures { result ≡ is_listed rtype name.now sets.now }
 {
+    if sets.is_empty() {
+        return false;
+    }
     finds(sets.as_slice(), name, rtype)
 }
