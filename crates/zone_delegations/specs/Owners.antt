@@ -6,6 +6,7 @@ use Rattle.rdata_values.specs.declared.types.RecordType.{RecordType}
 use Rattle.zone_record.specs.declared.record.Record.{Record}
 use Rattle.zone_rules.specs.Rules.{is_below_zone_cut}
 use Rattle.zone_rules.specs.Zones.{type_of}
+use Rattle.zone_delegations.specs.declared.marks.RecordMarks.{RecordMarks}
 use Rattle.zone_delegations.specs.Hidden.{delegation_of, is_delegating, is_glue_type, is_name_among, is_parent_type, server_of}
 
 -- the owner of the record at an index, and its type
@@ -52,6 +53,11 @@ AreServerMarks origin records count marks = AreMarks (server_of origin) (take co
 
 abbrev pub AreAllServerMarks : {N O : Type 0} → List (List ℕ) → List (Record N O) → List Bool → Type 0
 AreAllServerMarks origin records marks = AreMarks (server_of origin) records records marks
+
+-- marks of all records: whether the owner is a delegation, and whether it is the host of an NS and below the apex
+pub record HasRecordMarks {N O A : Type 0} (origin : List (List ℕ)) (records : List (Record N O)) (marks : RecordMarks A) : Type 0 where
+  pub cuts : AreAllCutMarks origin records marks.cuts.items
+  pub servers : AreAllServerMarks origin records marks.servers.items
 
 -- records with one owner have one mark
 pub record AreOwnerMarks {N O : Type 0} (records : List (Record N O)) (marks : List Bool) : Type 0 where

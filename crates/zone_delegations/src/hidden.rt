@@ -4,7 +4,7 @@ ghost use Rattle.zone_delegations.specs.Hidden.{hidden_if, is_glue_type, is_pare
 ghost use Rattle.zone_delegations.specs.Owners.{hides, is_glue, is_of_child, AreAllCutMarks, AreAllServerMarks};
 
 use crate::cuts::{has_delegation, is_below_after, is_below_at, type_at};
-use crate::marks::{delegation_marks, server_marks};
+use crate::marks::record_marks;
 use dns_octets::AsOctets;
 use dns_wire::Name;
 use rdata_values::RecordType;
@@ -126,14 +126,13 @@ pub fn hidden_records<Z: ZoneRecords, Origin: AsOctets, A: Allocator + Copy>(
     if !has_delegation(&apex, records) {
         return Ok(Vec::new(alloc));
     }
-    let cuts = delegation_marks(alloc, &apex, records)?;
-    let servers = server_marks(alloc, &apex, records)?;
+    let marks = record_marks(alloc, &apex, records)?;
     hidden_by(
         alloc,
         &apex,
         records,
         refused,
-        cuts.as_slice(),
-        servers.as_slice(),
+        marks.cuts.as_slice(),
+        marks.servers.as_slice(),
     )
 }

@@ -1,7 +1,7 @@
 //! Marks of records by their owners: the delegations, and the hosts of name servers.
 ghost use Rattle.std.specs.Prelude.{◌≡◌, ◌+◌, ◌<◌, ◌≤◌, IfOk, false, length, replicate};
 ghost use Rattle.zone_delegations.specs.Hidden.{delegation_of, server_in};
-ghost use Rattle.zone_delegations.specs.Owners.{AreAllCutMarks, AreAllServerMarks, AreCutMarks, AreMarkedBy, AreMarkedFrom, AreOwnerMarks, AreServerMarks};
+ghost use Rattle.zone_delegations.specs.Owners.{AreCutMarks, AreMarkedBy, AreMarkedFrom, AreOwnerMarks, AreServerMarks, HasRecordMarks};
 ghost use Rattle.zone_rules.specs.Searches.{AreOwnedFrom};
 
 use crate::cuts::{is_delegating, is_ns_at};
@@ -131,32 +131,28 @@ fn mark_server<Z: ZoneRecords, A: Allocator>(
     mark_owners(records, &name, first, past, marks);
 }
 
-/// Returns, for each record, whether its owner is a delegation.
-pub(crate) fn delegation_marks<Z: ZoneRecords, A: Allocator>(
-    alloc: A,
-    origin: &Name<&[u8]>,
-    records: &Z,
-) -> Result<Vec<bool, A>, AllocError>
-    ensures { IfOk result (λ v. AreAllCutMarks origin.now (Z.contents records.now) v.items) }
-{
-    let mut marks = unmarked(alloc, records.len())?;
-    for place in 0..records.len() {
-        mark_delegation(origin, records, place, &mut marks);
-    }
-    Ok(marks)
+/// The marks of the records of a zone, by their indexes.
+#[derive(Drop)]
+pub(crate) struct RecordMarks<A: Allocator> {
+    /// Whether the owner is a delegation.
+    pub cuts: Vec<bool, A>,
+    /// Whether the owner is the host of an NS and below the apex.
+    pub servers: Vec<bool, A>,
 }
 
-/// Returns, for each record, whether its owner is the host of an NS and below the apex.
-pub(crate) fn server_marks<Z: ZoneRecords, A: Allocator>(
+/// Returns the marks of all records. Each NS is read once for both.
+pub(crate) fn record_marks<Z: ZoneRecords, A: Allocator + Copy>(
     alloc: A,
     origin: &Name<&[u8]>,
     records: &Z,
-) -> Result<Vec<bool, A>, AllocError>
-    ensures { IfOk result (λ v. AreAllServerMarks origin.now (Z.contents records.now) v.items) }
+) -> Result<RecordMarks<A>, AllocError>
+    ensures { IfOk result (HasRecordMarks origin.now (Z.contents records.now)) }
 {
-    let mut marks = unmarked(alloc, records.len())?;
+    let mut cuts = unmarked(alloc, records.len())?;
+    let mut servers = unmarked(alloc, records.len())?;
     for place in 0..records.len() {
-        mark_server(origin, records, place, &mut marks);
+        mark_delegation(origin, records, place, &mut cuts);
+        mark_server(origin, records, place, &mut servers);
     }
-    Ok(marks)
+    Ok(RecordMarks { cuts, servers })
 }
