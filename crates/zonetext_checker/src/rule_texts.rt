@@ -69,57 +69,143 @@ pub fn is_address(held: &SortedZone, place: usize) -> bool {
     matches!(held.rtype(place), Some(RecordType::A | RecordType::AAAA))
 }
 
-/// A name of the zone with an address, and the number of edits that lead to it.
-#[derive(Drop)]
+/// Greatest number of edits that lead from a missing target to the name that was probably meant.
+const MOST_EDITS: usize = 2;
+
+/// A record whose owner is like a missing target, and the number of edits that lead to it.
+#[derive(Clone, Copy)]
 struct Near {
     edits: usize,
-    name: String,
+    place: usize,
 }
 
-/// Returns the name with an address that is most like another name below the zone, if one is.
+/// Returns whether an octet is in a text.
+fn has_octet(text: &[u8], octet: u8) -> bool {
+    for found in text {
+        if *found == octet {
+            return true;
+        }
+    }
+    false
+}
+
+/// Returns whether more octets of a text than edits are allowed are not in another text. Each of them
+/// needs an edit of its own.
+fn has_others(text: &[u8], other: &[u8]) -> bool {
+    let mut count: usize = 0;
+    for octet in text {
+        if has_octet(other, *octet) {
+            continue;
+        }
+        if count >= MOST_EDITS {
+            return true;
+        }
+        count += 1;
+    }
+    false
+}
+
+/// Returns the number of edits between two texts, if they are few.
+fn few_edits(alloc: Global, text: &str, other: &str) -> Result<Option<usize>, AllocError> {
+    let (octets, others) = (text.as_bytes(), other.as_bytes());
+    if has_others(octets, others) || has_others(others, octets) {
+        return Ok(None);
+    }
+    edits_between(alloc, text, other)
+}
+
+/// Returns the number of octets at the end of a text of a name below a zone that are the zone and the
+/// dot before it.
+fn end_of_names(alloc: Global, zone: &Name<&[u8]>) -> Result<usize, AllocError> {
+    if zone.len() == 1 {
+        return Ok(1);
+    }
+    let text = DisplayWithDot::new(zone).to_string(alloc)?;
+    Ok(text.len().saturating_add(1))
+}
+
+/// Returns a text without its last octets.
+fn without_end(text: &str, count: usize) -> &str {
+    text.get(..text.len().saturating_sub(count)).unwrap_or("")
+}
+
+/// A missing target below a zone, in lower case.
+#[derive(Clone, Copy)]
+struct Wanted<'t> {
+    /// Number of its octets on the wire.
+    len: usize,
+    /// Its text without the zone.
+    text: &'t str,
+    /// Number of octets of the zone at the end of the text of a name, and of the dot before it.
+    end: usize,
+}
+
+/// Returns the number of edits between the owner of an address and a missing target, if the owner is
+/// below the zone and they are few.
+fn edits_to_owner(
+    alloc: Global,
+    held: &SortedZone,
+    zone: &Name<&[u8]>,
+    wanted: Wanted<'_>,
+    place: usize,
+) -> Result<Option<usize>, AllocError> {
+    if !is_address(held, place) || place >= held.records.len() {
+        return Ok(None);
+    }
+    let mut buffer = OwnerBuffer::new();
+    let record = held.records.record(place, &mut buffer);
+    let owner = view(&record.owner);
+    if owner.len().abs_diff(wanted.len) > MOST_EDITS || !is_name_below(&owner, zone) {
+        return Ok(None);
+    }
+    let text = DisplayWithDot::new(&owner).to_string(alloc)?;
+    few_edits(alloc, wanted.text, without_end(text.as_str(), wanted.end))
+}
+
+/// Returns the index of the first address whose owner is most like another name below the zone,
+/// ignoring letter case, if one is.
+fn nearest_place<Origin: AsOctets>(
+    alloc: Global,
+    records: &CheckedZone<'_, Origin>,
+    target: &Name<&[u8]>,
+) -> Result<Option<usize>, AllocError> {
+    let (zone, held) = (view(records.zone), records.held);
+    if !is_name_below(target, &zone) {
+        return Ok(None);
+    }
+    let end = end_of_names(alloc, &zone)?;
+    let text = DisplayWithDot::new(target).to_string(alloc)?;
+    let text = text.as_str().to_ascii_lowercase(alloc)?;
+    let wanted = Wanted {
+        len: target.len(),
+        text: without_end(text.as_str(), end),
+        end,
+    };
+    let mut best: Option<Near> = None;
+    for place in 0..held.records.len() {
+        if let Some(edits) = edits_to_owner(alloc, held, &zone, wanted, place)? {
+            if best.is_none_or(|near| edits < near.edits) {
+                best = Some(Near { edits, place });
+            }
+        }
+    }
+    Ok(best.map(|near| near.place))
+}
+
+/// Returns the name with an address that is most like another name below the zone, as it is written, if
+/// one is.
 fn nearest<Origin: AsOctets>(
     alloc: Global,
     records: &CheckedZone<'_, Origin>,
     target: &Name<&[u8]>,
-) -> Result<Option<Near>, AllocError> {
-    let zone = view(records.zone);
-    let mut best: Option<Near> = None;
-    if !is_name_below(target, &zone) {
-        return Ok(best);
+) -> Result<Option<String>, AllocError> {
+    let Some(place) = nearest_place(alloc, records, target)? else {
+        return Ok(None);
+    };
+    match records.held.owner(place) {
+        Some(owner) => Ok(Some(DisplayWithDot::new(&owner).to_string(alloc)?)),
+        None => Ok(None),
     }
-    let wanted = relative_text(alloc, target, &zone)?;
-    for place in 0..records.held.records.len() {
-        if !is_address(records.held, place) {
-            continue;
-        }
-        let Some(owner) = records.held.owner(place) else {
-            continue;
-        };
-        let owner = view(&owner);
-        if owner.len().abs_diff(target.len()) > 2 || !is_name_below(&owner, &zone) {
-            continue;
-        }
-        let text = relative_text(alloc, &owner, &zone)?;
-        if let Some(edits) = edits_between(alloc, wanted.as_str(), text.as_str())? {
-            if best.as_ref().is_none_or(|near| edits < near.edits) {
-                let name = DisplayWithDot::new(&owner).to_string(alloc)?;
-                best = Some(Near { edits, name });
-            }
-        }
-    }
-    Ok(best)
-}
-
-/// Returns the text of a name below a zone, without the labels of the zone and the dot before them.
-fn relative_text(
-    alloc: Global,
-    name: &Name<&[u8]>,
-    zone: &Name<&[u8]>,
-) -> Result<String, AllocError> {
-    let text = DisplayWithDot::new(name).to_string(alloc)?;
-    let zone = DisplayWithDot::new(zone).to_string(alloc)?;
-    let count = text.len().saturating_sub(zone.len().saturating_add(1));
-    String::from_str(alloc, text.as_str().get(..count).unwrap_or(""))
 }
 
 /// Returns the message about a target without an address, or without records. If `may_search` is
@@ -149,8 +235,8 @@ fn missing_target<Origin: AsOctets>(
         return Ok(Some(text));
     }
     match nearest(alloc, records, &target)? {
-        Some(near) => {
-            let name = near.name.as_str();
+        Some(name) => {
+            let name = name.as_str();
             let help = format!(in alloc; "did you mean {name}?")?;
             Ok(Some(Text { help, ..text }))
         }
