@@ -1,15 +1,18 @@
 #!/usr/bin/env python3
 """Times zonetext beside `wc` and beside the zone tools of name servers, all in one run.
 
-usage: bench/tools.py [--turns N] [--folder DIR] [--pages]
+usage: bench/tools.py [--turns N] [--folder DIR] [--pages] [--large]
 
 The program must be built (`rt run` in crates/zonetext), and the C library (`make -C c`) for the rows of C
 and Rust; a peer that isn't installed is skipped. Zone files are generated below DIR, `bench/target/zones`,
 the same in each run: `mix` (SOA, NS, A, AAAA, MX, TXT, DS, CNAME), `com` (delegations), `signed` (A,
 RRSIG, NSEC3) of 10.5 MB, and `mix` of 1 KB to 100 MB. A figure is processor time, the minimum of N turns
-(9) in alternation, of a peer the minimum of 3, of dnspython of 1; instructions are counted by callgrind, on
-`mix` of 1 MB. Prints the tables; with --pages writes them into bench/results.md, ten rows into
-docs/SPEED.md, those of the peers into docs/ZONETEXT.md, and the chart into docs/tools.svg.
+(9) in alternation, of dnspython of 1; instructions are counted by callgrind, on `mix` of 1 MB. `check --zone`
+and kzonecheck are timed by themselves too, in N turns on 100 MB and three times as many on 10.5 MB, on
+`mix`, on its records in random order, and on `com`; `check --zone --dnssec` beside ldns-verify-zone, on a
+signed zone. With --large `check --zone` also runs on `mix` of 1 GB, once. Prints the tables; with --pages
+writes them into bench/results.md, ten rows and those of zone files into docs/SPEED.md, those of the peers
+into docs/ZONETEXT.md, and the chart into docs/tools.svg.
 """
 import argparse
 import base64
@@ -52,6 +55,8 @@ PYTHON = "import dns.zone, sys; dns.zone.from_file(sys.argv[1], sys.argv[2], rel
 CHART = ["`wc -lw`", "zonetext check --text", "zonetext check", "zonetext records", *READERS, *PEERS][:-1]
 COLOURS = ["#777777", "#2a7f62", "#1f4e8c", "#7ba23f", "#d0a020", "#3fa2a2", "#c1662f", "#b0413e", "#8b5fbf", "#444444"]
 B32HEX = "0123456789ABCDEFGHIJKLMNOPQRSTUV"
+# An entry, over several lines if it has parentheses.
+RECORD = re.compile(r"(?:[^\n(]|\([^)]*\))+\n")
 
 
 def hexadecimal(source, count):
@@ -92,17 +97,38 @@ def signed(source, number):
             f"{owner}\t3600\tIN\tRRSIG\tNSEC3 {times} (\n\t\t\t{signature[:44]}\n\t\t\t{signature[44:]} )\n")
 
 
+def entries_of(entry, size):
+    """Returns the entries of a zone file of about `size` octets that follow its head."""
+    source, number, octets = random.Random(1), 0, len(HEAD)
+    while octets < size:
+        text = entry(source, number)
+        octets += len(text)
+        number += 1
+        yield text
+
+
+def write_zone(path, entries):
+    with open(path + ".part", "w", encoding="ascii") as file:
+        file.write(HEAD)
+        file.writelines(entries)
+    os.rename(path + ".part", path)
+
+
 def make_zone(folder, entry, size):
     """Returns the path of a zone file of about `size` octets, which is generated if it doesn't exist."""
     path = os.path.join(folder, f"{entry.__name__}-{size}")
     if not os.path.exists(path):
-        source, number, octets = random.Random(1), 0, len(HEAD)
-        with open(path + ".part", "w", encoding="ascii") as file:
-            file.write(HEAD)
-            while octets < size:
-                octets += file.write(entry(source, number))
-                number += 1
-        os.rename(path + ".part", path)
+        write_zone(path, entries_of(entry, size))
+    return path
+
+
+def make_shuffled_zone(folder, entry, size):
+    """Returns the path of a zone file that has the records of `make_zone` in random order."""
+    path = os.path.join(folder, f"shuffled-{entry.__name__}-{size}")
+    if not os.path.exists(path):
+        records = [it for text in entries_of(entry, size) for it in RECORD.findall(text)]
+        random.Random(2).shuffle(records)
+        write_zone(path, records)
     return path
 
 
@@ -181,12 +207,11 @@ def commands(path):
 
 
 def times(listed, turns):
-    """Returns the minimum processor time of each command by its name: all in alternation, peers in the first three."""
+    """Returns the minimum processor time of each command by its name, all in alternation."""
     least = {name: float("inf") for name, _, _ in listed}
-    for turn in range(turns):
-        for name, words, is_peer in listed:
-            if turn < 3 or not is_peer:
-                least[name] = min(least[name], processor_time(words))
+    for _ in range(turns):
+        for name, words, _ in listed:
+            least[name] = min(least[name], processor_time(words))
     return least
 
 
@@ -223,6 +248,59 @@ def reading_table(path, small, turns):
         rows.append(f"| {name} | {number(seconds * 1000, 1)} | {number(seconds * 1e9 / records, 0)} | "
                     f"{number(seconds / least['`wc -lw`'])} | {number(each, 1)} |")
     return rows
+
+
+def zones(folder):
+    """Returns what the table calls a file, the file, and whether it is large, of each that `check --zone` is timed on."""
+    for size, of_size in [(SIZE, ""), (SIZES[-1], " of 100 MB")]:
+        yield f"`mix`{of_size}", make_zone(folder, mix, size), size > SIZE
+        yield f"`mix`{of_size} in random order", make_shuffled_zone(folder, mix, size), size > SIZE
+        yield f"`com`{of_size}", make_zone(folder, com, size), size > SIZE
+    yield "`signed`", make_zone(folder, signed, SIZE), False
+
+
+def zone_table(folder, turns, with_large):
+    """Returns one row for each file: seconds and memory of `check --zone` and of kzonecheck, and what part of
+    kzonecheck's the first are."""
+    peer = "kzonecheck"
+    rows = [f"| File | `check --zone`, s | {peer}, s | of it | `check --zone`, MB | {peer}, MB | of it |", "|---|---|---|---|---|---|---|"]
+    listed = list(zones(folder)) if shutil.which(peer) else []
+    for name, path, is_large in listed:
+        both = [("ours", ours(f"check --zone {ZONE}", path), False), ("theirs", [*PEERS[peer], path], True)]
+        seconds = list(times(both, turns if is_large else 3 * turns).values())
+        memory = [peak(words) for _, words, _ in both]
+        parts = [[number(pair[0], digits), number(pair[1], digits), number(pair[0] / pair[1])] for pair, digits in ((seconds, 3), (memory, 1))]
+        rows.append(f"| {name} | {' | '.join(parts[0] + parts[1])} |")
+    if with_large:
+        words = ours(f"check --zone {ZONE}", make_zone(folder, mix, 1_000_000_000))
+        rows.append(f"| `mix` of 1 GB | {number(processor_time(words), 1)} | | | {number(peak(words), 0)} | | |")
+    return rows
+
+
+def make_signed_zone(folder):
+    """Returns the path of a zone of 1 MB that ldns-signzone signed, with NSEC3."""
+    path = os.path.join(folder, "mix-1000000.signed")
+    if not os.path.exists(path):
+        unsigned = make_zone(folder, mix, 1_000_000)
+        with tempfile.TemporaryDirectory() as keys:
+            key = subprocess.run(["ldns-keygen", "-a", "ECDSAP256SHA256", "-k", ZONE], cwd=keys, capture_output=True, text=True, check=True)
+            # (ldns reads a later year as one of the last century)
+            words = ["ldns-signzone", "-n", "-t", "0", "-e", "20370101", "-f", path + ".part", unsigned, key.stdout.strip()]
+            subprocess.run(words, cwd=keys, check=True)
+        os.rename(path + ".part", path)
+    return path
+
+
+def dnssec_text(folder, turns):
+    """Returns a line about the time of `check --zone --dnssec` and of ldns-verify-zone."""
+    if not shutil.which("ldns-signzone") or not shutil.which("ldns-verify-zone"):
+        return []
+    path = make_signed_zone(folder)
+    command = f"check --zone {ZONE} --dnssec"
+    seconds = times([("ours", ours(command, path), False), ("theirs", ["ldns-verify-zone", "-V", "0", path], True)], max(turns // 3, 1))
+    return ["", f"`mix` of 1 MB has {number(os.path.getsize(path) / 1e6, 1)} MB once `ldns-signzone` has signed it, with NSEC3. On that "
+            f"`{command}` takes {number(seconds['ours'], 3)} s. `ldns-verify-zone` takes {number(seconds['theirs'], 1)} s, and verifies "
+            "the signatures too."]
 
 
 def refused_without_zone(texts):
@@ -321,6 +399,7 @@ def main():
     words.add_argument("--turns", type=int, default=9)
     words.add_argument("--folder", default=os.path.join(TOP, "bench/target/zones"))
     words.add_argument("--pages", action="store_true")
+    words.add_argument("--large", action="store_true")
     given = words.parse_args()
     if not os.access(ZONETEXT, os.X_OK):
         sys.exit("build the program first: rt run, in crates/zonetext")
@@ -331,10 +410,12 @@ def main():
     rows, measured = table(files, make_zone(given.folder, mix, SIZES[-1]), given.turns)
     beside = peers_table(files["mix"], measured)
     reading = reading_table(files["mix"], make_zone(given.folder, mix, 1_000_000), given.turns)
-    print("\n".join([*rows, "", *beside, "", *reading]), flush=True)
+    of_zones = zone_table(given.folder, given.turns, given.large) + dnssec_text(given.folder, given.turns)
+    print("\n".join([*rows, "", *of_zones, "", *beside, "", *reading]), flush=True)
     drawn = chart(given.folder, given.turns)
     if given.pages:
         put("docs/SPEED.md", "ten", ten(rows))
+        put("docs/SPEED.md", "zones", of_zones)
         put("bench/results.md", "tools", rows)
         put("bench/results.md", "reading", reading)
         put("docs/ZONETEXT.md", "peers", beside)
