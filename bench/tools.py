@@ -403,6 +403,8 @@ def main():
     given = words.parse_args()
     if not os.access(ZONETEXT, os.X_OK):
         sys.exit("build the program first: rt run, in crates/zonetext")
+    # (some commands run elsewhere)
+    given.folder = os.path.abspath(given.folder)
     os.makedirs(given.folder, exist_ok=True)
     os.makedirs(os.path.join(TOP, "bench/target"), exist_ok=True)
     make_readers()
