@@ -3,7 +3,7 @@ use Rattle.std.proofs.Common.{◌≡◌, ℕ, ◌≤◌, List, [], ◌∷◌, �
 use Rattle.std.specs.Prelude.{Option, Some, None, option_map, map, Result, Ok, Err, encode_utf8_all}
 use Rattle.dns_lexer.specs.declared.pieces.Piece.{Piece}
 use Rattle.dns_lexer.specs.declared.pieces.Fault.{Fault}
-use Rattle.dns_lexer.specs.Pieces.{Reads, ReadsOctets, IsFault, IsPieces, IsOctetPieces, EachWithin, moved, moved_piece, moved_fault, place_of}
+use Rattle.dns_lexer.specs.Pieces.{AreItemsOf, Reads, ReadsOctets, IsFault, IsPieces, IsOctetPieces, EachWithin, moved, moved_piece, moved_fault, place_of}
 
 abbrev pub first_fault : List (Result Piece Fault) → Option Fault
 first_fault [] = None
@@ -75,3 +75,27 @@ fault_of octets given f r w h = (
   fault_within (length octets) given f w h,
   reads_fault (encode_utf8_all octets) (map (moved (place_of octets)) given) _ r (moved_first (place_of octets) given ∙ ap (option_map (moved_fault (place_of octets))) h),
 )
+
+-- nothing follows an error
+none_moved : (g : ℕ → ℕ) (more : List (Result Piece Fault)) → map (moved g) more ≡ [] → more ≡ []
+none_moved g [] h = refl
+none_moved g (x ∷ more) h = cc
+
+last_fault : (g : ℕ → ℕ) (xs ys : List Piece) (f e : Fault) (more : List (Result Piece Fault)) → map (moved g) (map Ok xs ++ Err f ∷ more) ≡ map Ok ys ++ Err e ∷ [] → more ≡ []
+last_fault g [] [] f e more h = none_moved g more cc
+last_fault g [] (y ∷ ys) f e more h = cc
+last_fault g (x ∷ xs) [] f e more h = cc
+last_fault g (x ∷ xs) (y ∷ ys) f e more h = let rest : map (moved g) (map Ok xs ++ Err f ∷ more) ≡ map Ok ys ++ Err e ∷ [] = cc in last_fault g xs ys f e more rest
+
+oks_no_fault : (g : ℕ → ℕ) (xs ys : List Piece) (f : Fault) (more : List (Result Piece Fault)) → map (moved g) (map Ok xs ++ Err f ∷ more) ≡ map Ok ys → ⊥
+oks_no_fault g [] [] f more h = cc
+oks_no_fault g [] (y ∷ ys) f more h = cc
+oks_no_fault g (x ∷ xs) [] f more h = cc
+oks_no_fault g (x ∷ xs) (y ∷ ys) f more h = let rest : map (moved g) (map Ok xs ++ Err f ∷ more) ≡ map Ok ys = cc in oks_no_fault g xs ys f more rest
+
+pub fault_last : (octets : List ℕ) (found : List Piece) (f : Fault) (more : List (Result Piece Fault)) → AreItemsOf octets (map Ok found ++ Err f ∷ more) → more ≡ []
+fault_last octets found f more i = go i.0
+  where
+    go : Reads (encode_utf8_all octets) (map (moved (place_of octets)) (map Ok found ++ Err f ∷ more)) → more ≡ []
+    go (inl w) = absurd (oks_no_fault (place_of octets) found w.found f more w.is)
+    go (inr b) = last_fault (place_of octets) found b.found f b.fault more b.is

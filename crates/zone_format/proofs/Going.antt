@@ -1,8 +1,10 @@
 -- The rest to write after marks that were written.
-use Rattle.std.proofs.Common.{◌≡◌, ℕ, ◌+◌, ◌-◌, Bool, true, false, ◌&&◌, List, [], ◌∷◌, ◌++◌, refl, sym, ap, ◌∙◌, append_assoc}
+use Rattle.std.proofs.Common.{◌≡◌, ◌==◌, ℕ, ◌+◌, ◌-◌, Bool, true, false, ◌&&◌, List, [], ◌∷◌, ◌++◌, refl, sym, ap, ◌∙◌, append_assoc}
 use Rattle.std.specs.Prelude.{if◌then◌else◌}
+use Rattle.std.specs.List.{flat_map}
+use Rattle.std.proofs.lemmas.Bool.{and_parts}
 use Rattle.zone_format.specs.declared.line_state.LineState.{LineState}
-use Rattle.zone_format.specs.Marks.{Mark, Token, Note, Open, Close, Feed, Lead, lead}
+use Rattle.zone_format.specs.Marks.{Mark, Token, Note, Open, Close, Feed, Lead, gap_mark, lead}
 use Rattle.zone_format.specs.Writing.{Accepts, WritesMarks, PushesNote, PushesToken, accepts, accepts_from, fed, led, note_before, pushed_note, pushed_parenthesis, pushed_token, state_after, token_before, written_from}
 
 pub written_on : (old before t new rest : List ℕ) → new ≡ old ++ (before ++ t) → new ++ rest ≡ old ++ (before ++ (t ++ rest))
@@ -57,3 +59,29 @@ note_stands old s x new u p = p.line_state
 pub lead_stands : (b : Bool) (s u : LineState) → u ≡ (if b then led s else s) → u ≡ state_after s (lead b)
 lead_stands true s u e = e
 lead_stands false s u e = e
+
+-- what is accepted after marks that are
+pub accepts_parted : (ms more : List Mark) (s : LineState) → accepts_from s ms ≡ true → accepts_from s (ms ++ more) ≡ accepts_from (state_after s ms) more
+accepts_parted [] more s h = refl
+accepts_parted (Token g t ∷ ms) more s h =
+    let p = and_parts (accepts s t) (accepts_from (pushed_token s g t) ms) h in
+    ap (λ b. b && accepts_from (pushed_token s g t) (ms ++ more)) p.0 ∙ accepts_parted ms more (pushed_token s g t) p.1
+accepts_parted (Note t ∷ ms) more s h = accepts_parted ms more (pushed_note s t) h
+accepts_parted (Open ∷ ms) more s h = accepts_parted ms more (pushed_parenthesis s (s.depth + 1)) h
+accepts_parted (Close ∷ ms) more s h = accepts_parted ms more (pushed_parenthesis s (s.depth - 1)) h
+accepts_parted (Feed ∷ ms) more s h = accepts_parted ms more (fed s) h
+accepts_parted (Lead ∷ ms) more s h = accepts_parted ms more (led s) h
+
+-- the octets between two pieces are
+abbrev Passes : List Mark → Type 0
+Passes ms = (s : LineState) → accepts_from s ms ≡ true
+
+gap_step : (a b c : Bool) (ms : List Mark) → Passes ms → Passes ((if a then Open ∷ [] else if b then Close ∷ [] else if c then Feed ∷ [] else []) ++ ms)
+gap_step true b c ms h = λ s. h (pushed_parenthesis s (s.depth + 1))
+gap_step false true c ms h = λ s. h (pushed_parenthesis s (s.depth - 1))
+gap_step false false true ms h = λ s. h (fed s)
+gap_step false false false ms h = h
+
+pub gap_accepted : (gap : List ℕ) → Passes (flat_map gap_mark gap)
+gap_accepted [] = λ s. refl
+gap_accepted (c ∷ gap) = gap_step (c == 40) (c == 41) (c == 10) (flat_map gap_mark gap) (gap_accepted gap)

@@ -12,11 +12,11 @@ use Rattle.dns_lexer.proofs.Joins.{join_bytes, join_lexemes, join_nests, split_j
 use Rattle.zone_format.specs.declared.line_state.LineState.{LineState}
 use Rattle.zone_format.specs.Blocks.{AreEntries, EndsInLine, resting, seam_of}
 use Rattle.zone_format.specs.Form.{start}
-use Rattle.zone_format.specs.Marks.{Mark, Feed, Lead, HasMarks, lead, shortened}
+use Rattle.zone_format.specs.Marks.{Mark, Feed, Lead, HasMarks, all_marks, lead, shortened}
 use Rattle.zone_format.specs.Marks.{Token as TokenMark, Note as NoteMark, Open as OpenMark, Close as CloseMark}
 use Rattle.zone_format.specs.Writing.{fed, led, pushed_note, pushed_parenthesis, pushed_token, state_after}
 use Rattle.zone_format.proofs.Build.{marks_of}
-use Rattle.zone_format.proofs.Reading.{all_is, all_marks}
+use Rattle.zone_format.proofs.Reading.{all_is}
 use Rattle.zone_format.proofs.Same.{encoded_mark, marks_once, moved_all, octets_have, same_marks}
 
 -- what follows a line's end outside parentheses has its own marks

@@ -10,6 +10,7 @@ pub mod Going
 pub mod Joined
 pub mod Moving
 pub mod Opened
+pub mod OrderMarks
 pub mod Planned
 pub mod Positions
 pub mod Reading
@@ -21,3 +22,4 @@ pub mod Shortened
 pub mod Spelling
 pub mod Squeezing
 pub mod Turning
+pub mod Unfit

@@ -19,7 +19,7 @@ use Rattle.dns_lexer.specs.CursorStates.{blank_at}
 use Rattle.dns_lexer.proofs.PieceLexemes.{first_blank_char, blank_bytes, line_bytes, open_bytes, close_bytes, note_bytes, quote_bytes}
 use Rattle.dns_lexer.proofs.PieceSplit.{between_is}
 use Rattle.zone_format.specs.declared.line_state.Above.TheVariants.{Nothing}
-use Rattle.zone_format.specs.Marks.{Mark, Feed, gap_mark, gap_marks, lead, marks, shortened}
+use Rattle.zone_format.specs.Marks.{Mark, Feed, all_marks, gap_mark, gap_marks, lead, marks, shortened}
 use Rattle.zone_format.specs.Marks.{Token as TokenMark, Note as NoteMark, Open as OpenMark, Close as CloseMark}
 use Rattle.zone_format.proofs.Respelling.{respelt, sq}
 use Rattle.zone_format.proofs.Build.{build, built_bytes, built_nests, built_valid, marks_of}
@@ -188,10 +188,6 @@ marks_cut (Note cs ∷ ls) text before from d at b k tied e a f g n v =
     after_piece text at' (marks_of false d ls) rest (marks_cut ls text (before ++ lexeme_bytes (Note cs)) at' d at' b false false o.0 o.1 (omega arith) refl n (rest_valid (Note cs) ls v)) in
     ap (λ l. gap_marks text from at ++ (NoteMark (shortened (lexeme_bytes (Note cs))) ∷ l)) more
     ∙ ap (λ t. gap_marks text from at ++ (NoteMark (shortened t) ∷ rest)) (sym (between_is before (lexeme_bytes (Note cs)) (flat_map lexeme_bytes ls) text at e a))
-
--- the marks of a whole text
-abbrev pub all_marks : List ℕ → List Piece → List Mark
-all_marks text found = lead (blank_at text 0) ++ marks text false 0 found
 
 abbrev pub rewritten : List ℕ → List Mark → List ℕ
 rewritten plan ms = respelt plan Nothing false 0 false ms

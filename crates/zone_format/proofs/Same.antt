@@ -21,10 +21,10 @@ use Rattle.dns_lexer.proofs.PieceSplit.{pieces_one_way, same_found}
 use Rattle.dns_lexer.proofs.PieceWhole.{pieces_run}
 use Rattle.zone_format.specs.declared.line_state.Above.{Above}
 use Rattle.zone_format.specs.declared.line_state.Above.TheVariants.{Nothing, Line, Gap}
-use Rattle.zone_format.specs.Marks.{Mark, Feed, Lead, HasMarks, gap_mark, gap_marks, lead, marks, shortened}
+use Rattle.zone_format.specs.Marks.{Mark, Feed, Lead, HasMarks, all_marks, gap_mark, gap_marks, lead, marks, shortened}
 use Rattle.zone_format.specs.Marks.{Token as TokenMark, Note as NoteMark, Open as OpenMark, Close as CloseMark}
 use Rattle.zone_format.proofs.Givens.{first_fault, pieces_in, all_ok, moved_first, moved_oks, first_of_oks}
-use Rattle.zone_format.proofs.Reading.{all_marks, rewritten, text_marks}
+use Rattle.zone_format.proofs.Reading.{rewritten, text_marks}
 use Rattle.zone_format.proofs.Respelling.{count, deep, end_if, first_of, gap_unless, lead_in, next, respelt, space, sq}
 use Rattle.zone_format.proofs.Short.{short_encoded}
 

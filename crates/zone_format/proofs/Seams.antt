@@ -1,20 +1,20 @@
 -- What was written of blocks in a row.
-use Rattle.std.proofs.Common.{◌≡◌, ℕ, ◌+◌, ◌-◌, true, false, ◌&&◌, List, [], ◌∷◌, ◌++◌, refl, sym, ap, ◌∙◌, inl, append-nil, append_assoc}
-use Rattle.std.proofs.lemmas.Bool.{and_parts}
+use Rattle.std.proofs.Common.{◌≡◌, ℕ, ◌+◌, ◌-◌, false, List, [], ◌∷◌, ◌++◌, refl, sym, ap, ◌∙◌, inl, append-nil, append_assoc}
 use Rattle.dns_symbol.specs.Characters.{open_parenthesis, close_parenthesis}
 use Rattle.zone_format.specs.declared.columns.Turn.TheVariants.{Edge}
 use Rattle.zone_format.specs.declared.line_state.Above.{Above}
 use Rattle.zone_format.specs.declared.line_state.Above.TheVariants.{Nothing, Line, Gap}
 use Rattle.zone_format.specs.declared.line_state.FormatState.{FormatState}
 use Rattle.zone_format.specs.declared.line_state.LineState.{LineState}
-use Rattle.zone_format.specs.Blocks.{FormatsEntries, FormatsLast, FormedTo, WritesBelow, below_seam, first_seam, may_follow, resting, seam_of}
+use Rattle.zone_format.specs.Blocks.{FormatsEntries, FormatsLast, FormedTo, WritesBelow, below_seam, first_seam, resting, seam_of}
 use Rattle.zone_format.specs.Form.{form, forms, lines}
 use Rattle.zone_format.specs.Formats.{Formats}
 use Rattle.zone_format.specs.Marks.{Mark, Token, Note, Open, Close, Feed, Lead}
-use Rattle.zone_format.specs.Refusal.{has_form}
-use Rattle.zone_format.specs.Writing.{accepts, accepts_from, last_line_end, fed, led, note_before, parenthesis_before, pushed_note, pushed_parenthesis, pushed_token, state_after, token_before, written_from}
+use Rattle.zone_format.specs.Refusal.{has_form, may_follow}
+use Rattle.zone_format.specs.Writing.{accepts_from, last_line_end, fed, led, note_before, parenthesis_before, pushed_note, pushed_parenthesis, pushed_token, state_after, token_before, written_from}
 use Rattle.zone_format.proofs.Accepted.{accepted, settled}
 use Rattle.zone_format.proofs.Formed.{both, from_start}
+use Rattle.zone_format.proofs.Going.{accepts_parted}
 use Rattle.zone_format.proofs.Joined.{entries_join, entries_rest, marks_join, none_marked}
 
 -- what is written of marks before others
@@ -42,23 +42,11 @@ parted (Close ∷ ms) more s = two (parenthesis_before s) (close_parenthesis ∷
 parted (Feed ∷ ms) more s = one (last_line_end s) _ _ _ (parted ms more (fed s))
 parted (Lead ∷ ms) more s = parted ms more (led s)
 
--- and accepted
-accepts_parted : (ms more : List Mark) (s : LineState) → accepts_from s ms ≡ true → accepts_from s (ms ++ more) ≡ accepts_from (state_after s ms) more
-accepts_parted [] more s h = refl
-accepts_parted (Token g t ∷ ms) more s h =
-    let p = and_parts (accepts s t) (accepts_from (pushed_token s g t) ms) h in
-    ap (λ b. b && accepts_from (pushed_token s g t) (ms ++ more)) p.0 ∙ accepts_parted ms more (pushed_token s g t) p.1
-accepts_parted (Note t ∷ ms) more s h = accepts_parted ms more (pushed_note s t) h
-accepts_parted (Open ∷ ms) more s h = accepts_parted ms more (pushed_parenthesis s (s.depth + 1)) h
-accepts_parted (Close ∷ ms) more s h = accepts_parted ms more (pushed_parenthesis s (s.depth - 1)) h
-accepts_parted (Feed ∷ ms) more s h = accepts_parted ms more (fed s) h
-accepts_parted (Lead ∷ ms) more s h = accepts_parted ms more (led s) h
-
 -- below a seam
 below : (s : FormatState) (ms : List Mark) → written_from (resting s) ms ≡ forms s.above (below_seam s) (lines ms)
 below s ms = from_start ms (both ms).1 s.above 0 s.noted
 
-follows : (a : Above) (noted : ℕ) (ms : List Mark) → accepts_from (record { above = a; depth = 0; noted = noted; note = 0; turn = Edge; end = 0 }) ms ≡ may_follow a ms
+pub follows : (a : Above) (noted : ℕ) (ms : List Mark) → accepts_from (record { above = a; depth = 0; noted = noted; note = 0; turn = Edge; end = 0 }) ms ≡ may_follow a ms
 follows Nothing noted ms = accepted ms false noted
 follows Line noted ms = settled ms Line 0 noted 0 Edge 0 refl
 follows Gap noted ms = settled ms Gap 0 noted 0 Edge 0 refl

@@ -1,17 +1,15 @@
 -- Zone files that are formatted in blocks of whole entries.
 use Rattle.std.specs.Prelude.{◌≡◌, ◌⊎◌, ℕ, true, Bool, List, [], ◌++◌, encode_utf8_all}
-use Rattle.std.specs.List.{list_all}
 use Rattle.dns_lexer.specs.Lexeme.{Line, lexeme_bytes}
 use Rattle.dns_lexer.specs.Splitting.{Entries, Splits}
 use Rattle.zone_format.specs.declared.columns.Turn.TheVariants.{Edge}
-use Rattle.zone_format.specs.declared.line_state.Above.{Above}
 use Rattle.zone_format.specs.declared.line_state.Above.TheVariants.{Nothing}
 use Rattle.zone_format.specs.declared.line_state.FormatState.{FormatState}
 use Rattle.zone_format.specs.declared.line_state.LineState.{LineState}
 use Rattle.zone_format.specs.Form.{Before, form, forms, lines}
 use Rattle.zone_format.specs.Formats.{Formats}
 use Rattle.zone_format.specs.Marks.{Mark, HasMarks}
-use Rattle.zone_format.specs.Refusal.{has_form, mark_has_no_nul}
+use Rattle.zone_format.specs.Refusal.{has_form, may_follow}
 use Rattle.zone_format.specs.Writing.{accepts_from, last_line_end, state_after, written_from}
 
 -- octets are of the grammar, followed by a line end
@@ -32,11 +30,6 @@ first_seam = record { above = Nothing; noted = 0 }
 -- a line begins after a seam, outside parentheses
 abbrev pub below_seam : FormatState → Before
 below_seam s = record { depth = 0; noted = s.noted }
-
--- what follows has a form: like a separate text if there is nothing above, and else without NUL outside comments
-abbrev pub may_follow : Above → List Mark → Bool
-may_follow Nothing ms = has_form ms
-may_follow _ ms = list_all mark_has_no_nul ms
 
 -- this was written of whole entries: whatever follows them, the form of all is that and then the form of the lines that follow below the seam
 pub record FormedTo (octets out : List ℕ) (s : FormatState) : Type 0 where

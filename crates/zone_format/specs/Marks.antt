@@ -46,6 +46,10 @@ marks octets tied from (QuoteAt p ∷ ps) = gap_marks octets from p.start ++ (To
 marks octets tied from (CommentAt p ∷ ps) = gap_marks octets from p.start ++ (Note (shortened (between octets p.start p.end)) ∷ marks octets false p.end ps)
 marks octets tied from (EndAt p ∷ ps) = gap_marks octets from p.at ++ (lead (blank_at octets p.at) ++ marks octets false p.at ps)
 
+-- the marks of the first pieces of octets
+abbrev pub all_marks : List ℕ → List Piece → List Mark
+all_marks octets found = lead (blank_at octets 0) ++ marks octets false 0 found
+
 -- octets are of the grammar, with these marks
 abbrev pub HasMarks : List ℕ → List Mark → Type 0
-HasMarks octets ms = (found : List Piece) × IsOctetPieces octets found × EachWithin (length octets) (map Ok found) × (lead (blank_at octets 0) ++ marks octets false 0 found ≡ ms)
+HasMarks octets ms = (found : List Piece) × IsOctetPieces octets found × EachWithin (length octets) (map Ok found) × (all_marks octets found ≡ ms)

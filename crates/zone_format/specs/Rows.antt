@@ -1,7 +1,9 @@
 -- Example lines and their forms.
-use Rattle.std.specs.Prelude.{◌≡◌, ℕ, true, false, [], ◌∷◌, codes, refl}
+use Rattle.std.specs.Prelude.{◌≡◌, ℕ, List, true, false, [], ◌∷◌, codes, refl}
 use Rattle.zone_format.specs.Form.{Before, form, line_form}
+use Rattle.zone_format.specs.declared.line_state.Above.TheVariants.{Nothing, Line}
 use Rattle.zone_format.specs.Marks.{Token, Note, Close, Feed, Lead}
+use Rattle.zone_format.specs.Refusal.{may_follow, order_mark_length}
 use Rattle.zone_format.specs.Squeezed.{squeezed}
 
 abbrev before : ℕ → ℕ → Before
@@ -48,3 +50,32 @@ squeezed_blank_lines = refl
 
 nothing : form (Lead ∷ Feed ∷ Feed ∷ []) ≡ []
 nothing = refl
+
+-- EF BB BF, and then `a`
+abbrev marked : List ℕ
+marked = 239 ∷ 187 ∷ 191 ∷ 97 ∷ []
+
+mark_lengths : (order_mark_length marked ≡ 3) × (order_mark_length (254 ∷ 255 ∷ 0 ∷ []) ≡ 2) × (order_mark_length (255 ∷ 254 ∷ []) ≡ 2) × (order_mark_length (239 ∷ 187 ∷ []) ≡ 0) × (order_mark_length (codes "a") ≡ 0)
+mark_lengths = (refl, refl, refl, refl, refl)
+
+-- a mark is an error in the first column of the first line that isn't blank, and there alone
+first_thing : may_follow Nothing (Token false marked ∷ []) ≡ false
+first_thing = refl
+
+below_blank_lines : may_follow Nothing (Feed ∷ Lead ∷ Feed ∷ Token false marked ∷ []) ≡ false
+below_blank_lines = refl
+
+after_a_blank : may_follow Nothing (Lead ∷ Token false marked ∷ []) ≡ true
+after_a_blank = refl
+
+after_a_comment : may_follow Nothing (Note (codes ";") ∷ Feed ∷ Token false marked ∷ []) ≡ true
+after_a_comment = refl
+
+below_a_line : may_follow Line (Token false marked ∷ []) ≡ true
+below_a_line = refl
+
+nul_below_a_line : may_follow Line (Token false (97 ∷ 0 ∷ []) ∷ []) ≡ false
+nul_below_a_line = refl
+
+nul_in_a_comment : may_follow Nothing (Note (59 ∷ 0 ∷ []) ∷ []) ≡ true
+nul_in_a_comment = refl

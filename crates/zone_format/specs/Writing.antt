@@ -1,5 +1,5 @@
 -- Marks written one after another.
-use Rattle.std.specs.Prelude.{◌≡◌, ◌≤◌, ℕ, ◌+◌, ◌-◌, Bool, true, false, ◌&&◌, ◌==◌, not, if◌then◌else◌, List, [], ◌∷◌, ◌++◌, length, replicate}
+use Rattle.std.specs.Prelude.{⊤, ◌≡◌, ◌<◌, ◌≤◌, ℕ, ◌+◌, ◌-◌, Bool, true, false, ◌&&◌, ◌==◌, not, if◌then◌else◌, List, [], ◌∷◌, ◌++◌, length, replicate, slice_index, take}
 use Rattle.dns_symbol.specs.Characters.{line_feed, space as blank, open_parenthesis, close_parenthesis}
 use Rattle.dns_lexer.specs.Pieces.{between}
 use Rattle.dns_lexer.specs.declared.pieces.Span.{Span}
@@ -12,7 +12,9 @@ use Rattle.zone_format.specs.declared.line_state.Above.TheVariants.{Nothing, Lin
 use Rattle.zone_format.specs.declared.line_state.LineState.{LineState}
 use Rattle.zone_format.specs.Columns.{width_of, token_column, after_token, parenthesis_column, note_column, moved_in}
 use Rattle.zone_format.specs.Form.{blank_below, gap, led_turn, start}
-use Rattle.zone_format.specs.Refusal.{begins_order_mark, has_no_nul}
+use Rattle.zone_format.specs.declared.refusal.Refusal.{Refusal}
+use Rattle.zone_format.specs.declared.refusal.Refusal.TheVariants.{Wrong, Nul, OrderMark, OutOfMemory}
+use Rattle.zone_format.specs.Refusal.{begins_order_mark, has_no_nul, order_mark_length}
 use Rattle.zone_format.specs.Marks.{Mark, Token, Note, Open, Close, Feed, Lead, gap_marks, lead, shortened}
 
 -- a line is empty
@@ -89,6 +91,13 @@ is_edge _ _ = false
 abbrev pub accepts : LineState → List ℕ → Bool
 accepts s t = has_no_nul t && not (is_edge s.above s.turn && begins_order_mark t)
 
+-- why a token that begins at an offset may not be written: it has a NUL, and might be written if it ended before that; or it begins with a byte order mark, and the mark might not be written
+abbrev pub IsUnfit : LineState → (t : List ℕ) → (start : ℕ) → Refusal → Type 0
+IsUnfit s t start (Wrong f) = ⊥
+IsUnfit s t start (Nul at) = (i : ℕ) × (at ≡ start + i) × (i < length t) × (slice_index t i ≡ 0) × (accepts s (take i t) ≡ true)
+IsUnfit s t start (OrderMark at) = (at ≡ start) × (begins_order_mark t ≡ true) × (accepts s (take (order_mark_length t) t) ≡ false)
+IsUnfit s t start OutOfMemory = ⊤
+
 -- each token may be written
 abbrev pub accepts_from : LineState → List Mark → Bool
 accepts_from s [] = true
@@ -153,6 +162,10 @@ pub record Advances (octets : List ℕ) (ms : List Mark) (old : List ℕ) (p : P
 
 abbrev pub WritesToken : List ℕ → Progress → Span → List ℕ → List ℕ → Progress → Type 0
 WritesToken octets p span old new q = Advances octets (gap_marks octets p.at span.start ++ (Token (p.is_token && (span.start == p.at)) (between octets span.start span.end) ∷ [])) old p span.end true new q
+
+-- the token is the first that may not
+abbrev pub RejectsToken : List ℕ → Progress → Span → Refusal → Type 0
+RejectsToken octets p span r = IsUnfit (state_after p.line_state (gap_marks octets p.at span.start)) (between octets span.start span.end) span.start r
 
 abbrev pub WritesNote : List ℕ → Progress → Span → List ℕ → List ℕ → Progress → Type 0
 WritesNote octets p span old new q = Advances octets (gap_marks octets p.at span.start ++ (Note (shortened (between octets span.start span.end)) ∷ [])) old p span.end false new q

@@ -4,7 +4,7 @@
 //! a [`FormatState`], and the forms of the blocks in a row are the form of the whole file.
 ghost use Rattle.std.specs.Prelude.{◌<◌, ◌^◌, IfErr, IfOk, length};
 ghost use Rattle.zone_format.specs.Blocks.{FormatsEntries, FormatsLast};
-ghost use Rattle.zone_format.specs.Refusal.{IsWithoutForm};
+ghost use Rattle.zone_format.specs.Refusal.{HasFirstError};
 
 use crate::format::write_all;
 pub use crate::line_state::FormatState;
@@ -24,7 +24,7 @@ pub fn format_entries<A: Allocator>(
 ) -> Result<FormatState, Refusal>
     requires { length octets.now < 2 ^ 62 }
     ensures well { IfOk result (FormatsEntries octets.now seam out.old.items out.new.items) }
-    ensures bad { IfErr result (IsWithoutForm octets.now) }
+    ensures bad { IfErr result (HasFirstError seam.above octets.now) }
 {
     let line_state = write_all(octets, seam, out)?;
     Ok(line_state.seam())
@@ -41,7 +41,7 @@ pub fn format_last<A: Allocator>(
 ) -> Result<(), Refusal>
     requires { length octets.now < 2 ^ 62 }
     ensures well { IfOk result (λ _. FormatsLast octets.now seam out.old.items out.new.items) }
-    ensures bad { IfErr result (IsWithoutForm octets.now) }
+    ensures bad { IfErr result (HasFirstError seam.above octets.now) }
 {
     let line_state = write_all(octets, seam, out)?;
     push_end(out, line_state)?;

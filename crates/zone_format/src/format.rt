@@ -1,14 +1,13 @@
 //! Formats zone files in their canonical form.
 ghost use Rattle.std.specs.Prelude.{◌≡◌, ◌==◌, ◌&&◌, ◌+◌, ◌<◌, ◌≤◌, ◌^◌, IfErr, IfOk, IfSome, IsNone};
-ghost use Rattle.std.specs.Prelude.{if◌then◌else◌, length, slice_index, true};
-ghost use Rattle.dns_lexer.specs.Pieces.{between};
+ghost use Rattle.std.specs.Prelude.{if◌then◌else◌, length, slice_index, take, true};
 ghost use Rattle.dns_lexer.specs.CursorStates.{blank_at};
 ghost use Rattle.zone_format.specs.Marks.{shortened};
-ghost use Rattle.zone_format.specs.Refusal.{begins_order_mark, has_no_nul, IsWithoutForm, IsUnfit};
+ghost use Rattle.zone_format.specs.Refusal.{begins_order_mark, has_no_nul, HasFirstError};
 ghost use Rattle.zone_format.specs.Formats.{Formats};
-ghost use Rattle.zone_format.specs.Writing.{accepts, LineFits, is_edge, led, Reaches};
+ghost use Rattle.zone_format.specs.Writing.{accepts, is_edge, IsUnfit, led, LineFits, Reaches, RejectsToken};
 ghost use Rattle.zone_format.specs.Writing.{WritesEnd, WritesNote, WritesToken};
-ghost use Rattle.zone_format.specs.Blocks.{WritesBelow};
+ghost use Rattle.zone_format.specs.Blocks.{first_seam, WritesBelow};
 
 use crate::blocks::format_last;
 use crate::columns::{Turn, is_blank};
@@ -40,10 +39,11 @@ fn blank_at(octets: &[u8], at: usize) -> bool
     }
 }
 
-/// Returns the offset of a NUL among octets, or `None` if there is none.
+/// Returns the offset of the first NUL among octets, or `None` if there is none.
 #[inline(always)]
 fn find_nul(octets: &[u8]) -> Option<usize>
     ensures some { IfSome result (λ i. (i < length octets.now) × (slice_index octets.now i ≡ 0)) }
+    ensures first { IfSome result (λ i. has_no_nul (take i octets.now) ≡ true) }
     ensures none { IsNone result → has_no_nul octets.now ≡ true }
 {
     let mut place = 0;
@@ -86,18 +86,18 @@ impl LineState {
     }
 }
 
-/// Checks that a token which begins at an offset may be written.
+/// Checks that a token which begins at an offset may be written. Fails with its first error.
 #[inline(always)]
 fn accept(token: &[u8], line_state: LineState, start: usize) -> Result<(), Refusal>
     requires { start + length token.now < 2 ^ 64 }
     ensures well { IfOk result (λ _. accepts line_state token.now ≡ true) }
-    ensures bad { IfErr result (IsUnfit token.now start) }
+    ensures bad { IfErr result (IsUnfit line_state token.now start) }
 {
-    if let Some(place) = find_nul(token) {
-        return Err(Refusal::Nul(start + place));
-    }
     if line_state.is_edge() && begins_order_mark(token) {
         return Err(Refusal::OrderMark(start));
+    }
+    if let Some(place) = find_nul(token) {
+        return Err(Refusal::Nul(start + place));
     }
     Ok(())
 }
@@ -136,7 +136,7 @@ fn write_token<A: Allocator>(
     requires room { length octets.now < 2 ^ 62 }
     requires within { span.end ≤ length octets.now }
     ensures well { IfOk result (WritesToken octets.now progress span out.old.items out.new.items) }
-    ensures bad { IfErr result (IsUnfit (between octets.now span.start span.end) span.start) }
+    ensures bad { IfErr result (RejectsToken octets.now progress span) }
 {
     let line_state = push_gap(out, progress.line_state, &octets[progress.at..span.start])?;
     let token = span.of_octets(octets);
@@ -193,7 +193,8 @@ fn write_end<A: Allocator>(
     })
 }
 
-/// Appends the form of the marks of octets, and returns the state of the line after them.
+/// Appends the form of the marks of octets, and returns the state of the line after them. Fails
+/// with the first error.
 pub(crate) fn write_all<A: Allocator>(
     octets: &[u8],
     seam: FormatState,
@@ -201,7 +202,7 @@ pub(crate) fn write_all<A: Allocator>(
 ) -> Result<LineState, Refusal>
     requires { length octets.now < 2 ^ 62 }
     ensures well { IfOk result (WritesBelow octets.now seam out.old.items out.new.items) }
-    ensures bad { IfErr result (IsWithoutForm octets.now) }
+    ensures bad { IfErr result (HasFirstError seam.above octets.now) }
 {
     let mut progress = Progress {
         line_state: seam.line_state().led_if(blank_at(octets, 0)),
@@ -224,12 +225,13 @@ pub(crate) fn write_all<A: Allocator>(
 ///
 /// Fails with [`Refusal::Wrong`] if the octets aren't of the grammar of zone files, with
 /// [`Refusal::Nul`] if they have a NUL outside comments, with [`Refusal::OrderMark`] if they begin
-/// with a byte order mark, and with [`Refusal::OutOfMemory`] if an allocation fails. The first
-/// error in the text is returned. After an error `out` has more octets, which are unspecified.
+/// with a byte order mark, and with [`Refusal::OutOfMemory`] if an allocation fails. The error with
+/// the least offset is returned. A token that a syntax error ends isn't searched for the others.
+/// After an error `out` has more octets, which are unspecified.
 pub fn format<A: Allocator>(octets: &[u8], out: &mut Vec<u8, A>) -> Result<(), Refusal>
     requires { length octets.now < 2 ^ 62 }
     ensures well { IfOk result (λ _. Formats octets.now out.old.items out.new.items) }
-    ensures bad { IfErr result (IsWithoutForm octets.now) }
+    ensures bad { IfErr result (HasFirstError first_seam.above octets.now) }
 {
     format_last(FormatState::first(), octets, out)?;
     Ok(())
