@@ -1,9 +1,9 @@
 //! Checks the octets of a zone file, without its records.
-ghost use Rattle.std.specs.Prelude.{◌≡◌, ◌+◌, ◌++◌, ◌<◌, ◌≤◌, ◌^◌, IfOk, IfSome, OnOk, length, true, false, Ok};
+ghost use Rattle.std.specs.Prelude.{◌≡◌, ◌+◌, ◌++◌, ◌<◌, ◌≤◌, ◌^◌, IfOk, IfSome, OnOk, length, Ok};
 ghost use Rattle.std.specs.List.{position};
 ghost use Rattle.std.specs.Option.{ForSome};
 ghost use Rattle.dns_lexer.specs.Pieces.{IsWithin, piece_start};
-ghost use Rattle.zone_format.specs.Refusal.{begins_order_mark};
+ghost use Rattle.zone_format.specs.Refusal.{order_mark_length};
 ghost use Rattle.zonetext_report.specs.Lint.{adjacent_remarks, beginning_remarks, code_of_first, open_after, depth_by, is_high, is_nul};
 ghost use Rattle.zonetext_report.specs.Lint.{is_token_piece, is_unusual_control, is_return, nested_remarks, opens_inside, piece_end};
 ghost use Rattle.zonetext_report.specs.Lint.{piece_remarks, remarks_at, token_remarks};
@@ -32,8 +32,7 @@ pub struct Block {
 /// Returns the number of octets of a byte order mark at the start of a file: 3 of UTF-8, 2 of
 /// UTF-16, or 0.
 pub fn order_mark_len(octets: &[u8]) -> usize
-    ensures some { 0 < result → begins_order_mark octets.now ≡ true }
-    ensures none { result ≡ 0 → begins_order_mark octets.now ≡ false }
+    ensures length { result ≡ order_mark_length octets.now }
     ensures within { result ≤ length octets.now }
 {
     if octets.starts_with(&[0xEF, 0xBB, 0xBF]) {
