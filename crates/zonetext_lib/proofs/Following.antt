@@ -22,7 +22,7 @@ use Rattle.zonetext_lib.proofs.Cuts.{EndedFront, read_on}
 use Rattle.zonetext_lib.proofs.Feeds.{EndsFeed, column_after, ends_feed, feeds_after}
 
 -- between places of octets that come first, and of octets that follow
-between_front : (before x : List ℕ) (s e : ℕ) → s ≤ e → e ≤ length before → between (before ++ x) s e ≡ between before s e
+pub between_front : (before x : List ℕ) (s e : ℕ) → s ≤ e → e ≤ length before → between (before ++ x) s e ≡ between before s e
 between_front before x s e h k =
     ap (take (e - s)) (drop-append-le s before x (omega arith)) ∙ take-append-le (e - s) (drop s before) x (omega (arith, length-drop s before))
 

@@ -1,37 +1,37 @@
 -- The form of octets that arrive in chunks, and why others have none.
-use Rattle.std.proofs.Common.{◌≡◌, ℕ, ◌+◌, ◌-◌, ◌<◌, ◌≤◌, ◌^◌, false, List, [], ◌∷◌, ◌++◌, length, take, drop, refl, sym, ap, ◌∙◌, subst, arith, inl, inr, append-nil, append_assoc, length-append, length-drop}
-use Rattle.std.specs.Prelude.{map, Result, Ok, Err}
-use Rattle.std.proofs.lemmas.List.{drop-append-le, get_or-append-add, get_or_append_left, take-append-drop, take-append-le}
+use Rattle.std.proofs.Common.{◌≡◌, ℕ, ◌+◌, ◌<◌, ◌≤◌, ◌^◌, List, [], ◌∷◌, ◌++◌, length, take, drop, refl, sym, ap, ◌∙◌, subst, arith, inl, inr, append-nil, append_assoc}
+use Rattle.std.specs.Prelude.{Ok, Err}
+use Rattle.std.proofs.lemmas.List.{take-append-drop, take-append-le}
 use Rattle.std.proofs.Math.Seq.{take-append-add, take-append_seam}
 use Rattle.dns_lexer.specs.declared.pieces.Piece.{Piece}
-use Rattle.dns_lexer.specs.declared.pieces.Piece.TheVariants.{Word as WordAt, Quote as QuoteAt, Comment as CommentAt, End as EndAt}
 use Rattle.dns_lexer.specs.declared.pieces.Fault.{Fault}
 use Rattle.dns_lexer.specs.declared.position.Position.{Position}
-use Rattle.dns_lexer.specs.Pieces.{AreOctets, AreItemsOf, between, end_at, later}
-use Rattle.dns_lexer.proofs.Blocks.{back_octets, both_octets, faults_stay}
-use Rattle.dns_lexer.proofs.OctetsOnce.{given_once, run_given}
+use Rattle.dns_lexer.specs.Pieces.{AreOctets, moved_fault}
+use Rattle.dns_lexer.proofs.Blocks.{back_octets, both_octets}
 use Rattle.zone_format.specs.Blocks.{AreEntries, FormatsEntries, FormatsLast, FormedTo, first_seam}
 use Rattle.zone_format.specs.Formats.{Formats}
 use Rattle.zone_format.proofs.Seams.{none_formed}
-use Rattle.zone_format.specs.Refusal.{HasToken, IsWithoutForm, IsTokenBetween, begins_order_mark}
+use Rattle.zone_format.specs.Refusal.{HasFirstError, HasTokenAfter}
+use Rattle.zone_format.specs.declared.line_state.Above.{Above}
+use Rattle.zone_format.specs.declared.line_state.Above.TheVariants.{Nothing}
 use Rattle.zone_format.specs.declared.refusal.Refusal.TheVariants.{Nul as NulAt, OrderMark as OrderMarkAt, Wrong as WrongAt}
 use Rattle.zone_format.specs.declared.line_state.FormatState.{FormatState}
-use Rattle.zonetext_lib.specs.Blocks.{EndsEntry, Holds, IsHeld, Releases, Settled, StoresChunk}
-use Rattle.zonetext_lib.specs.Found.{IsOctetFault, IsZone}
+use Rattle.zonetext_lib.specs.Blocks.{EndsEntry, Holds, IsHeld, Releases, Settled, SettlesHeld, StoresChunk}
+use Rattle.zonetext_lib.specs.Found.{IsOctetFault}
 use Rattle.zonetext_lib.specs.declared.blocks.ChunkError.{ChunkError}
 use Rattle.zonetext_lib.specs.declared.blocks.ChunkError.TheVariants.{Wrong as WrongHalt, OutOfMemory as OutOfMemoryHalt, TooLong as TooLongHalt}
+use Rattle.zonetext_lib.specs.declared.check.Found.{Found}
 use Rattle.zonetext_lib.specs.declared.formatter.NoForm.{NoForm}
 use Rattle.zonetext_lib.specs.declared.formatter.NoForm.TheVariants.{Wrong, Nul, OrderMark, OutOfMemory, TooLong}
-use Rattle.zonetext_lib.specs.Forming.{AddsForm, FormedSoFar, FormsSettled, HasNoFormAfter, HasPosition, as_no_form}
+use Rattle.zonetext_lib.specs.Forming.{AddsForm, FormedSoFar, FormsSettled, HasNoForm, HasNoFormAfter, as_no_form}
 use Rattle.zonetext_lib.specs.Held.{Held}
 use Rattle.zonetext_lib.specs.HeldForm.{Forming}
 use Rattle.zone_format.specs.Place.{IsAt}
 use Rattle.zonetext_lib.proofs.After.{entry_line}
-use Rattle.zonetext_lib.proofs.Cuts.{read_on, take_octets}
-use Rattle.zonetext_lib.proofs.Following.{between_back}
-use Rattle.zonetext_lib.proofs.Holding.{added, ended_at, held_at, discard_read}
-use Rattle.zonetext_lib.proofs.Made.{cut_whole, whole_not_bad}
-use Rattle.zonetext_lib.proofs.Together.{still_well}
+use Rattle.zonetext_lib.proofs.Cuts.{take_octets}
+use Rattle.zonetext_lib.proofs.ErrorsStay.{mark_first, mark_on, nul_first, nul_on, same_fault, stays_bad, stays_ended, wrong_first, wrong_on}
+use Rattle.zonetext_lib.proofs.Holding.{added, discard_read, ended_at, ended_bad, halted, held_at}
+use Rattle.zonetext_lib.proofs.Made.{cut_whole, whole_not_bad, zone_not_bad}
 
 abbrev pub forming : Held → FormatState → Forming
 forming h s = record { held = h; seam = s }
@@ -59,100 +59,13 @@ formed_on all written from to old new s t cut x o settled f r =
       record { held = discard_read all old new cut x.held o settled r.octets r.at r.position; formed = e.2 x.held.before written x.formed },
     )
 
--- tokens of octets between others
-has_front : (s e at : ℕ) (front : List Piece) (rest : List (Result Piece Fault)) → HasToken s e (map Ok front ++ Ok (end_at at false) ∷ []) → HasToken s e (map Ok front ++ rest)
-has_front s e at [] rest h = absurd h
-has_front s e at (WordAt p ∷ front) rest (inl h) = inl h
-has_front s e at (WordAt p ∷ front) rest (inr h) = inr (has_front s e at front rest h)
-has_front s e at (QuoteAt p ∷ front) rest (inl h) = inl h
-has_front s e at (QuoteAt p ∷ front) rest (inr h) = inr (has_front s e at front rest h)
-has_front s e at (CommentAt p ∷ front) rest h = has_front s e at front rest h
-has_front s e at (EndAt p ∷ front) rest h = has_front s e at front rest h
+-- ---- the first error, among all octets
 
-has_later : (n s e : ℕ) (given : List (Result Piece Fault)) → HasToken s e given → HasToken (n + s) (n + e) (later n given)
-has_later n s e [] h = absurd h
-has_later n s e (Ok (WordAt p) ∷ given) (inl h) = inl (ap (λ i. n + i) h.0, ap (λ i. n + i) h.1)
-has_later n s e (Ok (WordAt p) ∷ given) (inr h) = inr (has_later n s e given h)
-has_later n s e (Ok (QuoteAt p) ∷ given) (inl h) = inl (ap (λ i. n + i) h.0, ap (λ i. n + i) h.1)
-has_later n s e (Ok (QuoteAt p) ∷ given) (inr h) = inr (has_later n s e given h)
-has_later n s e (Ok (CommentAt p) ∷ given) h = has_later n s e given h
-has_later n s e (Ok (EndAt p) ∷ given) h = has_later n s e given h
-has_later n s e (Err f ∷ given) h = has_later n s e given h
+place_on : (before y : List ℕ) (at : ℕ) (p : Position) → IsAt 0 (before ++ take at y) p → IsAt 0 (take (length before + at) (before ++ y)) p
+place_on before y at p h = subst (λ l. IsAt 0 l p) (sym (take-append-add before y at)) h
 
-has_behind : (s e : ℕ) (front : List Piece) (rest : List (Result Piece Fault)) → HasToken s e rest → HasToken s e (map Ok front ++ rest)
-has_behind s e [] rest h = h
-has_behind s e (WordAt p ∷ front) rest h = inr (has_behind s e front rest h)
-has_behind s e (QuoteAt p ∷ front) rest h = inr (has_behind s e front rest h)
-has_behind s e (CommentAt p ∷ front) rest h = has_behind s e front rest h
-has_behind s e (EndAt p ∷ front) rest h = has_behind s e front rest h
-
-token_after : (before x : List ℕ) (s e : ℕ) → AreOctets before → AreOctets x → EndsEntry before → IsTokenBetween x s e → IsTokenBetween (before ++ x) (length before + s) (length before + e)
-token_after before x s e b o ends t =
-    let r = read_on before x t.0 b o ends t.1 in
-    let n : ℕ = length before in
-    (map Ok r.front ++ later n t.0, r.is, has_behind (n + s) (n + e) r.front (later n t.0) (has_later n s e t.0 t.2))
-
-token_ended : (x z : List ℕ) (s e : ℕ) → AreOctets x → AreOctets z → EndsEntry x → IsTokenBetween x s e → IsTokenBetween (x ++ z) s e
-token_ended x z s e o y ends t =
-    let read : (given : List (Result Piece Fault)) × AreItemsOf z given = (_, run_given z y) in
-    let r = read_on x z read.0 o y ends read.1 in
-    let own : List (Result Piece Fault) = map Ok r.front ++ Ok (end_at (length x) false) ∷ [] in
-    let there : HasToken s e own = subst (HasToken s e) (given_once x t.0 own t.1 r.own) t.2 in
-    (map Ok r.front ++ later (length x) read.0, r.is, has_front s e (length x) r.front (later (length x) read.0) there)
-
-token_bad : (x more : List ℕ) (f : Fault) (s e : ℕ) → AreOctets x → AreOctets more → Settled x (Err f) → IsTokenBetween x s e → IsTokenBetween (x ++ more) s e
-token_bad x more f s e o m b t =
-    let own : List (Result Piece Fault) = map Ok b.0 ++ Err f ∷ [] in
-    (own, faults_stay x more b.0 f o m b.1 b.2, subst (HasToken s e) (given_once x t.0 own t.1 b.1) t.2)
-
-between_first : (x z : List ℕ) (s e : ℕ) → s ≤ e → e ≤ length x → between (x ++ z) s e ≡ between x s e
-between_first x z s e h k =
-    ap (take (e - s)) (drop-append-le s x z (omega (arith, h, k))) ∙ take-append-le (e - s) (drop s x) z (omega (arith, length-drop s x, h, k))
-
--- octets between others, with the error of them alone, if their tokens stay
-module _ (before x z : List ℕ) (stays : (s e : ℕ) → IsTokenBetween x s e → IsTokenBetween (before ++ (x ++ z)) (length before + s) (length before + e)) where
-  abbrev all : List ℕ
-  all = before ++ (x ++ z)
-
-  nul_stays : (at : ℕ) → IsWithoutForm x (NulAt at) → IsWithoutForm all (NulAt (length before + at))
-  nul_stays at h = (
-    length before + h.0,
-    length before + h.1,
-    stays h.0 h.1 h.2,
-    omega (arith, h.3),
-    omega (arith, h.4),
-    omega (arith, h.5, length-append before (x ++ z), length-append x z),
-    get_or-append-add before (x ++ z) at 0 ∙ get_or_append_left x z 0 at (omega (arith, h.4, h.5)) ∙ h.6,
-  )
-
-  mark_stays : (at : ℕ) → IsWithoutForm x (OrderMarkAt at) → IsWithoutForm all (OrderMarkAt (length before + at))
-  mark_stays at h = (
-    length before + h.0,
-    stays at h.0 h.1,
-    omega (arith, h.2),
-    omega (arith, h.3, length-append before (x ++ z), length-append x z),
-    ap begins_order_mark (between_back before (x ++ z) at h.0 ∙ between_first x z at h.0 h.2 h.3) ∙ h.4,
-  )
-
-  place_stays : (at : ℕ) (p : Position) → at ≤ length x → IsAt 0 (before ++ take at x) p → IsAt 0 (take (length before + at) all) p
-  place_stays at p w h = subst (λ l. IsAt 0 l p) (sym (take-append-add before (x ++ z) at ∙ ap (λ l. before ++ l) (take-append-le at x z w))) h
-
-  pub nul_there : (at : ℕ) (p : Position) → IsWithoutForm x (NulAt at) → IsAt 0 (before ++ take at x) p → (i : ℕ) × IsWithoutForm all (NulAt i) × IsAt 0 (take i all) p
-  nul_there at p h k = (length before + at, nul_stays at h, place_stays at p (omega (arith, h.4, h.5)) k)
-
-  pub mark_there : (at : ℕ) (p : Position) → IsWithoutForm x (OrderMarkAt at) → IsAt 0 (before ++ take at x) p → (i : ℕ) × IsWithoutForm all (OrderMarkAt i) × IsAt 0 (take i all) p
-  mark_there at p h k = (length before + at, mark_stays at h, place_stays at p (omega (arith, h.2, h.3)) k)
-
--- in what is settled
-stays_settled : (before octets more : List ℕ) (cut : ℕ) → AreOctets before → AreOctets octets → AreOctets more → EndsEntry before → Settled octets (Ok cut) → (s e : ℕ) → IsTokenBetween (take cut octets) s e
-    → IsTokenBetween (before ++ (take cut octets ++ (drop cut octets ++ more))) (length before + s) (length before + e)
-stays_settled before octets more cut b o m ends settled s e t =
-    let x = take cut octets in
-    let z = drop cut octets ++ more in
-    let ox = take_octets cut octets o in
-    let oz = both_octets (drop cut octets) more (back_octets x (drop cut octets) (subst AreOctets (sym (take-append-drop cut octets)) o)) m in
-    subst (λ l. IsTokenBetween l (length before + s) (length before + e)) (append_assoc before x z)
-    (token_ended (before ++ x) z (length before + s) (length before + e) (both_octets before x b ox) oz (ended_at before octets cut b o ends settled) (token_after before x s e b ox ends t))
+place_first : (before x z : List ℕ) (at : ℕ) (p : Position) → at ≤ length x → IsAt 0 (before ++ take at x) p → IsAt 0 (take (length before + at) (before ++ (x ++ z))) p
+place_first before x z at p w h = place_on before (x ++ z) at p (subst (λ l. IsAt 0 (before ++ l) p) (sym (take-append-le at x z w)) h)
 
 pub whole_settled : (all more : List ℕ) (h : Held) (x : Holds all h) (cut : ℕ) → x.before ++ (take cut h.octets ++ (drop cut h.octets ++ more)) ≡ all ++ more
 whole_settled all more h x cut =
@@ -162,64 +75,124 @@ whole_settled all more h x cut =
 whole_held : (all more : List ℕ) (h : Held) (x : Holds all h) → x.before ++ (h.octets ++ more) ≡ all ++ more
 whole_held all more h x = sym (append_assoc x.before h.octets more) ∙ ap (λ l. l ++ more) (sym x.is)
 
-abbrev HasNul : List ℕ → Position → Type 0
-HasNul all p = (i : ℕ) × IsWithoutForm all (NulAt i) × IsAt 0 (take i all) p
-
-abbrev HasMark : List ℕ → Position → Type 0
-HasMark all p = (i : ℕ) × IsWithoutForm all (OrderMarkAt i) × IsAt 0 (take i all) p
-
-abbrev StandsAt : Held → List ℕ → ℕ → Position → Type 0
-StandsAt h octets at p = HasPosition h.place octets at p
-
-pub settled_nul : (all more : List ℕ) (h : Held) (cut at : ℕ) (p : Position) → AreOctets h.octets → Settled h.octets (Ok cut) → IsWithoutForm (take cut h.octets) (NulAt at) → StandsAt h (take cut h.octets) at p
-    → Holds all h → AreOctets more → HasNul (all ++ more) p
-settled_nul all more h cut at p o s r k x m =
-    subst (λ l. HasNul l p) (whole_settled all more h x cut)
-    (nul_there x.before (take cut h.octets) (drop cut h.octets ++ more) (stays_settled x.before h.octets more cut x.octets o m x.ended s) at p r (k x.before x.position))
-
-pub settled_mark : (all more : List ℕ) (h : Held) (cut at : ℕ) (p : Position) → AreOctets h.octets → Settled h.octets (Ok cut) → IsWithoutForm (take cut h.octets) (OrderMarkAt at) → StandsAt h (take cut h.octets) at p
-    → Holds all h → AreOctets more → HasMark (all ++ more) p
-settled_mark all more h cut at p o s r k x m =
-    subst (λ l. HasMark l p) (whole_settled all more h x cut)
-    (mark_there x.before (take cut h.octets) (drop cut h.octets ++ more) (stays_settled x.before h.octets more cut x.octets o m x.ended s) at p r (k x.before x.position))
-
--- before an error that stays
-stays_bad : (before octets more : List ℕ) (f : Fault) → AreOctets before → AreOctets octets → AreOctets more → EndsEntry before → Settled octets (Err f) → (s e : ℕ) → IsTokenBetween octets s e
-    → IsTokenBetween (before ++ (octets ++ more)) (length before + s) (length before + e)
-stays_bad before octets more f b o m ends bad s e t = token_after before (octets ++ more) s e b (both_octets octets more o m) ends (token_bad octets more f s e o m bad t)
-
-pub bad_nul : (all more : List ℕ) (h : Held) (f : Fault) (at : ℕ) (p : Position) → AreOctets h.octets → Settled h.octets (Err f) → IsWithoutForm h.octets (NulAt at) → StandsAt h h.octets at p → Holds all h → AreOctets more → HasNul (all ++ more) p
-bad_nul all more h f at p o s r k x m =
-    subst (λ l. HasNul l p) (whole_held all more h x) (nul_there x.before h.octets more (stays_bad x.before h.octets more f x.octets o m x.ended s) at p r (k x.before x.position))
-
-pub bad_mark : (all more : List ℕ) (h : Held) (f : Fault) (at : ℕ) (p : Position) → AreOctets h.octets → Settled h.octets (Err f) → IsWithoutForm h.octets (OrderMarkAt at) → StandsAt h h.octets at p → Holds all h → AreOctets more → HasMark (all ++ more) p
-bad_mark all more h f at p o s r k x m =
-    subst (λ l. HasMark l p) (whole_held all more h x) (mark_there x.before h.octets more (stays_bad x.before h.octets more f x.octets o m x.ended s) at p r (k x.before x.position))
-
--- at the end
-stays_last : (before octets : List ℕ) → AreOctets before → AreOctets octets → EndsEntry before → (s e : ℕ) → IsTokenBetween octets s e → IsTokenBetween (before ++ (octets ++ [])) (length before + s) (length before + e)
-stays_last before octets b o ends s e t =
-    subst (λ l. IsTokenBetween (before ++ l) (length before + s) (length before + e)) (sym (append-nil octets)) (token_after before octets s e b o ends t)
-
-last_is : (all : List ℕ) (h : Held) (x : Holds all h) → x.before ++ (h.octets ++ []) ≡ all
-last_is all h x = ap (λ l. x.before ++ l) (append-nil h.octets) ∙ sym x.is
-
-pub last_nul : (all : List ℕ) (h : Held) (at : ℕ) (p : Position) → AreOctets h.octets → IsWithoutForm h.octets (NulAt at) → StandsAt h h.octets at p → Holds all h → HasNul all p
-last_nul all h at p o r k x = subst (λ l. HasNul l p) (last_is all h x) (nul_there x.before h.octets [] (stays_last x.before h.octets x.octets o x.ended) at p r (k x.before x.position))
-
-pub last_mark : (all : List ℕ) (h : Held) (at : ℕ) (p : Position) → AreOctets h.octets → IsWithoutForm h.octets (OrderMarkAt at) → StandsAt h h.octets at p → Holds all h → HasMark all p
-last_mark all h at p o r k x = subst (λ l. HasMark l p) (last_is all h x) (mark_there x.before h.octets [] (stays_last x.before h.octets x.octets o x.ended) at p r (k x.before x.position))
-
 -- what is settled has no error
 cut_not_bad : (octets : List ℕ) (at : ℕ) (f : Fault) → AreOctets octets → Settled octets (Ok at) → IsOctetFault (take at octets) f → ⊥
 cut_not_bad octets at f o s bad = let w = cut_whole octets at o s in whole_not_bad (take at octets) f w bad
 
-pub settled_forms : (h : Held) (s : FormatState) (at : ℕ) (why : NoForm) (from to : List ℕ) → AreOctets h.octets → Settled h.octets (Ok at) → HasNoFormAfter h.place (take at h.octets) why → FormsSettled (forming h s) from to (Err why)
-settled_forms h s at (Wrong r) from to o st k = λ all more x m. absurd (cut_not_bad h.octets at k.0 o st k.1)
-settled_forms h s at (Nul p) from to o st k = λ all more x m. settled_nul all more h at k.0 p o st k.1 k.2 x m
-settled_forms h s at (OrderMark p) from to o st k = λ all more x m. settled_mark all more h at k.0 p o st k.1 k.2 x m
+nul_within : (above : Above) (octets : List ℕ) (at : ℕ) → HasFirstError above octets (NulAt at) → at ≤ length octets
+nul_within above octets at (found, s, e, token, start, less, within, zero_there, formed) = omega (arith, less, within)
+
+mark_within : (above : Above) (octets : List ℕ) (at : ℕ) → HasFirstError above octets (OrderMarkAt at) → at ≤ length octets
+mark_within above octets at (found, e, token, start, within, marked, formed, unformed) = omega (arith, start, within)
+
+-- in what is settled
+module _ (all more written : List ℕ) (h : Held) (s : FormatState) (cut : ℕ) (o : AreOctets h.octets) (st : Settled h.octets (Ok cut)) (f : FormedSoFar all written (forming h s)) (m : AreOctets more) where
+  abbrev x : List ℕ
+  x = take cut h.octets
+
+  abbrev z : List ℕ
+  z = drop cut h.octets ++ more
+
+  ox : AreOctets x
+  ox = take_octets cut h.octets o
+
+  oz : AreOctets z
+  oz = both_octets (drop cut h.octets) more (back_octets x (drop cut h.octets) (subst AreOctets (sym (take-append-drop cut h.octets)) o)) m
+
+  stay : (found : List Piece) (i e : ℕ) → HasTokenAfter x found i e → HasTokenAfter (x ++ z) found i e
+  stay = stays_ended x z ox oz (ended_at [] h.octets cut refl o (inl refl) st)
+
+  settled_error : (why : NoForm) → HasNoFormAfter s.above h.place x why → HasNoForm (all ++ more) why
+  settled_error (Wrong r) k = absurd (cut_not_bad h.octets cut k.0 o st (record { within = k.1.0; is = k.1.1 }))
+  settled_error (Nul p) k =
+      subst (λ l. HasNoForm l (Nul p)) (whole_settled all more h f.held cut) (
+        length f.held.before + k.0,
+        nul_on f.held.before (x ++ z) written s f.held.octets (both_octets x z ox oz) f.held.ended f.formed k.0 (nul_first x z s.above stay k.0 k.1),
+        place_first f.held.before x z k.0 p (nul_within s.above x k.0 k.1) (k.2 f.held.before f.held.position),
+      )
+  settled_error (OrderMark p) k =
+      subst (λ l. HasNoForm l (OrderMark p)) (whole_settled all more h f.held cut) (
+        length f.held.before + k.0,
+        mark_on f.held.before (x ++ z) written s f.held.octets (both_octets x z ox oz) f.held.ended f.formed k.0 (mark_first x z s.above stay k.0 k.1),
+        place_first f.held.before x z k.0 p (mark_within s.above x k.0 k.1) (k.2 f.held.before f.held.position),
+      )
+  settled_error OutOfMemory k = tt
+  settled_error TooLong k = k
+
+pub settled_forms : (h : Held) (s : FormatState) (at : ℕ) (why : NoForm) (from to : List ℕ) → AreOctets h.octets → Settled h.octets (Ok at) → HasNoFormAfter s.above h.place (take at h.octets) why → FormsSettled (forming h s) from to (Err why)
+settled_forms h s at (Wrong r) from to o st k = λ all written more f m. settled_error all more written h s at o st f m (Wrong r) k
+settled_forms h s at (Nul p) from to o st k = λ all written more f m. settled_error all more written h s at o st f m (Nul p) k
+settled_forms h s at (OrderMark p) from to o st k = λ all written more f m. settled_error all more written h s at o st f m (OrderMark p) k
 settled_forms h s at OutOfMemory from to o st k = tt
 settled_forms h s at TooLong from to o st k = k
+
+-- at or before a syntax error that stays
+module _ (all more written : List ℕ) (h : Held) (s : FormatState) (e : Fault) (o : AreOctets h.octets) (bad : Settled h.octets (Err e)) (f : FormedSoFar all written (forming h s)) (m : AreOctets more) where
+  abbrev y : List ℕ
+  y = h.octets ++ more
+
+  oy : AreOctets y
+  oy = both_octets h.octets more o m
+
+  stay_bad : (found : List Piece) (i j : ℕ) → HasTokenAfter h.octets found i j → HasTokenAfter y found i j
+  stay_bad = stays_bad h.octets more e o m bad
+
+  bad_error : (why : NoForm) → HasNoFormAfter s.above h.place h.octets why → HasNoForm (all ++ more) why
+  bad_error (Wrong r) k =
+      let same = same_fault h.octets k.1.2 e k.0 bad k.1.3 in
+      let here : Settled h.octets (Err k.0) = subst (λ (g : Fault). Settled h.octets (Err g)) same bad in
+      let moved : r.fault ≡ moved_fault (λ i. length f.held.before + i) k.0 = subst (λ n. r.fault ≡ moved_fault (λ i. n + i) k.0) f.held.at k.2.fault in (
+        halted all more h k.0 r f.held o m here k.2,
+        subst (λ l. HasFirstError Nothing l (WrongAt r.fault)) (whole_held all more h f.held)
+            (subst (λ (g : Fault). HasFirstError Nothing (f.held.before ++ y) (WrongAt g)) (sym moved)
+            (wrong_on f.held.before y written s f.held.octets oy f.held.ended f.formed k.0 (wrong_first h.octets more s.above e k.0 o m bad k.1))),
+      )
+  bad_error (Nul p) k =
+      subst (λ l. HasNoForm l (Nul p)) (whole_held all more h f.held) (
+        length f.held.before + k.0,
+        nul_on f.held.before y written s f.held.octets oy f.held.ended f.formed k.0 (nul_first h.octets more s.above stay_bad k.0 k.1),
+        place_first f.held.before h.octets more k.0 p (nul_within s.above h.octets k.0 k.1) (k.2 f.held.before f.held.position),
+      )
+  bad_error (OrderMark p) k =
+      subst (λ l. HasNoForm l (OrderMark p)) (whole_held all more h f.held) (
+        length f.held.before + k.0,
+        mark_on f.held.before y written s f.held.octets oy f.held.ended f.formed k.0 (mark_first h.octets more s.above stay_bad k.0 k.1),
+        place_first f.held.before h.octets more k.0 p (mark_within s.above h.octets k.0 k.1) (k.2 f.held.before f.held.position),
+      )
+  bad_error OutOfMemory k = tt
+  bad_error TooLong k = k
+
+pub bad_forms : (h : Held) (s : FormatState) (e : Fault) (why : NoForm) (from to : List ℕ) → AreOctets h.octets → Settled h.octets (Err e) → HasNoFormAfter s.above h.place h.octets why → FormsSettled (forming h s) from to (Err why)
+bad_forms h s e (Wrong r) from to o bad k = λ all written more f m. bad_error all more written h s e o bad f m (Wrong r) k
+bad_forms h s e (Nul p) from to o bad k = λ all written more f m. bad_error all more written h s e o bad f m (Nul p) k
+bad_forms h s e (OrderMark p) from to o bad k = λ all written more f m. bad_error all more written h s e o bad f m (OrderMark p) k
+bad_forms h s e OutOfMemory from to o bad k = tt
+bad_forms h s e TooLong from to o bad k = k
+
+-- octets with a syntax error have no form
+pub never_formed : (h : Held) (s : FormatState) (r : Found) (from to : List ℕ) → SettlesHeld h (Err r) → FormatsLast h.octets s from to → (all written : List ℕ) → FormedSoFar all written (forming h s) → ⊥
+never_formed h s r from to bad l all written f =
+    let formed = l.2 f.held.before written f.formed in
+    let found = bad.2 all [] f.held refl in
+    let fault : IsOctetFault all r.fault = subst (λ k. IsOctetFault k r.fault) (append-nil all) found.fault in
+    zone_not_bad (f.held.before ++ h.octets) _ r.fault (formed.read.0, formed.read.1, refl) (subst (λ k. IsOctetFault k r.fault) f.held.is fault)
+
+-- at the end
+pub last_error : (all written : List ℕ) (h : Held) (s : FormatState) (why : NoForm) → AreOctets h.octets → HasNoFormAfter s.above h.place h.octets why → FormedSoFar all written (forming h s) → HasNoForm all why
+last_error all written h s (Wrong r) o k f =
+    let moved : r.fault ≡ moved_fault (λ i. length f.held.before + i) k.0 = subst (λ n. r.fault ≡ moved_fault (λ i. n + i) k.0) f.held.at k.2.fault in (
+      ended_bad all h k.0 r f.held o (k.1.2, k.1.3) k.2,
+      subst (λ l. HasFirstError Nothing l (WrongAt r.fault)) (sym f.held.is)
+          (subst (λ (g : Fault). HasFirstError Nothing (f.held.before ++ h.octets) (WrongAt g)) (sym moved) (wrong_on f.held.before h.octets written s f.held.octets o f.held.ended f.formed k.0 k.1)),
+    )
+last_error all written h s (Nul p) o k f =
+    subst (λ l. HasNoForm l (Nul p)) (sym f.held.is)
+    (length f.held.before + k.0, nul_on f.held.before h.octets written s f.held.octets o f.held.ended f.formed k.0 k.1, place_on f.held.before h.octets k.0 p (k.2 f.held.before f.held.position))
+last_error all written h s (OrderMark p) o k f =
+    subst (λ l. HasNoForm l (OrderMark p)) (sym f.held.is)
+    (length f.held.before + k.0, mark_on f.held.before h.octets written s f.held.octets o f.held.ended f.formed k.0 k.1, place_on f.held.before h.octets k.0 p (k.2 f.held.before f.held.position))
+last_error all written h s OutOfMemory o k f = tt
+last_error all written h s TooLong o k f = k
 
 -- at the beginning
 none_before : (before octets : List ℕ) → [] ≡ before ++ octets → ([] ≡ before) × ([] ≡ octets)
@@ -250,6 +223,3 @@ given_back old mid new s block count n is place left k =
 -- all is written
 pub formed_last : (h : Held) (s : FormatState) (from to : List ℕ) → FormatsLast h.octets s from to → (all written : List ℕ) → FormedSoFar all written (forming h s) → (more : List ℕ) × (to ≡ from ++ more) × Formats all [] (written ++ more)
 formed_last h s from to l all written x = (l.0, l.1, subst (λ k. Formats k [] (written ++ l.0)) (sym x.held.is) (l.2 x.held.before written x.formed))
-
-pub ended_fault : (all : List ℕ) (h : Held) (f : Fault) → Holds all h → AreOctets h.octets → IsWithoutForm h.octets (WrongAt f) → IsZone all → ⊥
-ended_fault all h f x o r zone = still_well all h f x o (record { within = r.0; is = r.1 }) zone

@@ -5,7 +5,7 @@ use Rattle.std.proofs.lemmas.List.{take-append-drop}
 use Rattle.dns_lexer.specs.declared.pieces.Fault.{Fault}
 use Rattle.dns_lexer.specs.Pieces.{AreOctets, moved_fault}
 use Rattle.zonetext_lib.specs.Blocks.{EndsEntry, EndsWith, Holds, Settled}
-use Rattle.zonetext_lib.specs.Found.{IsFound, IsOctetFault, IsOpenedAfter, IsZone}
+use Rattle.zonetext_lib.specs.Found.{IsFound, IsFoundAfter, IsOctetFault, IsZone}
 use Rattle.zonetext_lib.specs.Held.{Held}
 use Rattle.zone_format.specs.Place.{IsAt}
 use Rattle.zonetext_lib.specs.declared.check.Found.{Found}
@@ -18,10 +18,8 @@ abbrev pub held_at : List ℕ → LocatedOffset → ℕ → Held
 held_at octets place left = record { octets = octets; place = place; left = left }
 
 -- an error of what is held, with its positions
-pub record Located (h : Held) (f : Fault) (r : Found) : Type 0 where
-  pub fault : r.fault ≡ moved_fault (λ i. h.place.at + i) f
-  pub position : (before : List ℕ) → IsAt 0 before h.place.position → IsAt 0 (before ++ take f.at h.octets) r.position
-  pub opened : (before : List ℕ) → IsAt 0 before h.place.position → IsOpenedAfter 0 before h.octets f.wrong r.opened
+abbrev pub Located : Held → Fault → Found → Type 0
+Located h f r = IsFoundAfter h.place h.octets f r
 
 located_on : (all more : List ℕ) (h : Held) (f : Fault) (r : Found) (x : Holds all h) → f.at ≤ length h.octets → Located h f r
     → IsOctetFault (x.before ++ (h.octets ++ more)) (moved_fault (λ i. length x.before + i) f) → IsFound (all ++ more) 0 r

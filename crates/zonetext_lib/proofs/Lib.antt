@@ -3,7 +3,9 @@ pub mod Beginnings
 pub mod Comparing
 pub mod Counted
 pub mod Cuts
+pub mod ErrorsStay
 pub mod Feeds
+pub mod FirstErrors
 pub mod Following
 pub mod Forming
 pub mod Givens

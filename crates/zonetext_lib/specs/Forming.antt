@@ -5,8 +5,10 @@ use Rattle.dns_lexer.specs.declared.pieces.Fault.{Fault}
 use Rattle.dns_lexer.specs.declared.position.Position.{Position}
 use Rattle.zone_format.specs.Blocks.{FormatsEntries, FormedTo}
 use Rattle.zone_format.specs.Formats.{Formats}
-use Rattle.zone_format.specs.Refusal.{IsWithoutForm}
-use Rattle.zone_format.specs.declared.refusal.Refusal.TheVariants.{Nul as NulAt, OrderMark as OrderMarkAt}
+use Rattle.zone_format.specs.Refusal.{HasFirstError}
+use Rattle.zone_format.specs.declared.line_state.Above.{Above}
+use Rattle.zone_format.specs.declared.line_state.Above.TheVariants.{Nothing}
+use Rattle.zone_format.specs.declared.refusal.Refusal.TheVariants.{Wrong as WrongAt, Nul as NulAt, OrderMark as OrderMarkAt}
 use Rattle.zonetext_lib.specs.declared.formatter.FormedCut.{FormedCut}
 use Rattle.zonetext_lib.specs.declared.formatter.NoForm.{NoForm}
 use Rattle.zonetext_lib.specs.declared.formatter.NoForm.TheVariants.{Wrong, Nul, OrderMark, OutOfMemory, TooLong}
@@ -14,7 +16,7 @@ use Rattle.zonetext_lib.specs.declared.blocks.ChunkError.{ChunkError}
 use Rattle.zonetext_lib.specs.declared.blocks.ChunkError.TheVariants.{Wrong as WrongHalt, OutOfMemory as OutOfMemoryHalt, TooLong as TooLongHalt}
 use Rattle.zone_format.specs.declared.place.LocatedOffset.{LocatedOffset}
 use Rattle.zonetext_lib.specs.Blocks.{Holds, Settled}
-use Rattle.zonetext_lib.specs.Found.{IsFound, IsOctetFault}
+use Rattle.zonetext_lib.specs.Found.{IsFound, IsFoundAfter}
 use Rattle.zonetext_lib.specs.HeldForm.{Forming}
 use Rattle.zone_format.specs.Place.{IsAt}
 
@@ -32,21 +34,21 @@ pub record FormedSoFar (all written : List ℕ) (f : Forming) : Type 0 where
 abbrev pub HasPosition : LocatedOffset → List ℕ → ℕ → Position → Type 0
 HasPosition place octets at p = (before : List ℕ) → IsAt 0 before place.position → IsAt 0 (before ++ take at octets) p
 
--- why octets have no form, and at which position
+-- the first error of octets that have no form, and its position
 abbrev pub HasNoForm : List ℕ → NoForm → Type 0
-HasNoForm all (Wrong f) = IsFound all 0 f
-HasNoForm all (Nul p) = (at : ℕ) × IsWithoutForm all (NulAt at) × IsAt 0 (take at all) p
-HasNoForm all (OrderMark p) = (at : ℕ) × IsWithoutForm all (OrderMarkAt at) × IsAt 0 (take at all) p
+HasNoForm all (Wrong f) = IsFound all 0 f × HasFirstError Nothing all (WrongAt f.fault)
+HasNoForm all (Nul p) = (at : ℕ) × HasFirstError Nothing all (NulAt at) × IsAt 0 (take at all) p
+HasNoForm all (OrderMark p) = (at : ℕ) × HasFirstError Nothing all (OrderMarkAt at) × IsAt 0 (take at all) p
 HasNoForm all OutOfMemory = ⊤
 HasNoForm all TooLong = ⊥
 
--- why octets that follow others have no form, and where among all
-abbrev pub HasNoFormAfter : LocatedOffset → List ℕ → NoForm → Type 0
-HasNoFormAfter place octets (Wrong r) = (f : Fault) × IsOctetFault octets f
-HasNoFormAfter place octets (Nul p) = (at : ℕ) × IsWithoutForm octets (NulAt at) × HasPosition place octets at p
-HasNoFormAfter place octets (OrderMark p) = (at : ℕ) × IsWithoutForm octets (OrderMarkAt at) × HasPosition place octets at p
-HasNoFormAfter place octets OutOfMemory = ⊤
-HasNoFormAfter place octets TooLong = ⊥
+-- the first error of octets that follow others, below lines above, and its position among all
+abbrev pub HasNoFormAfter : Above → LocatedOffset → List ℕ → NoForm → Type 0
+HasNoFormAfter above place octets (Wrong r) = (f : Fault) × HasFirstError above octets (WrongAt f) × IsFoundAfter place octets f r
+HasNoFormAfter above place octets (Nul p) = (at : ℕ) × HasFirstError above octets (NulAt at) × HasPosition place octets at p
+HasNoFormAfter above place octets (OrderMark p) = (at : ℕ) × HasFirstError above octets (OrderMarkAt at) × HasPosition place octets at p
+HasNoFormAfter above place octets OutOfMemory = ⊤
+HasNoFormAfter above place octets TooLong = ⊥
 
 -- a block was added, and what it adds to the form was appended; or all octets with it have no form, whatever follows; or nothing was added
 abbrev pub AddsForm : {U : Type 0} → Forming → Forming → List ℕ → List ℕ → List ℕ → Result U NoForm → Type 0
@@ -60,7 +62,7 @@ abbrev pub FormsSettled : Forming → List ℕ → List ℕ → Result FormedCut
 FormsSettled f from to (Ok c) = AreOctets f.held.octets × Settled f.held.octets (Ok c.at) × FormatsEntries (take c.at f.held.octets) f.seam from to c.seam
 FormsSettled f from to (Err OutOfMemory) = ⊤
 FormsSettled f from to (Err TooLong) = ⊥
-FormsSettled f from to (Err why) = (all more : List ℕ) → Holds all f.held → AreOctets more → HasNoForm (all ++ more) why
+FormsSettled f from to (Err why) = (all written more : List ℕ) → FormedSoFar all written f → AreOctets more → HasNoForm (all ++ more) why
 
 -- with this all is written, and is the form of all octets
 abbrev pub FormsAll : Forming → List ℕ → List ℕ → Type 0

@@ -1,7 +1,7 @@
 //! Formats a zone file that arrives in chunks.
 ghost use Rattle.std.specs.Prelude.{◌≡◌, ◌+◌, ◌<◌, ◌≤◌, ◌^◌, ℕ, [], List, length, IfErr, IfOk};
-ghost use Rattle.zone_format.specs.Refusal.{IsWithoutForm};
-ghost use Rattle.zonetext_lib.specs.Blocks.{Holds};
+ghost use Rattle.zone_format.specs.Refusal.{HasFirstError};
+ghost use Rattle.zone_format.specs.declared.line_state.Above.{Above};
 ghost use Rattle.zonetext_lib.specs.Forming.{AddsForm, FormedSoFar, FormsAll, FormsSettled};
 ghost use Rattle.zonetext_lib.specs.Forming.{HasNoForm, HasNoFormAfter, HasPosition};
 
@@ -62,8 +62,9 @@ fn why_after(place: LocatedOffset, octets: &[u8], refusal: Refusal) -> NoForm
     requires room { place.at + length octets.now + 2 < 2 ^ 64 }
     requires line { place.position.line ≤ place.at + 1 }
     requires column { place.position.column ≤ place.at + 1 }
-    requires refused { IsWithoutForm octets.now refusal }
-    ensures { HasNoFormAfter place octets.now result }
+    requires refused { (above : Above) × HasFirstError above octets.now refusal }
+    ensures { (above : Above) → HasFirstError above octets.now refusal
+        → HasNoFormAfter above place octets.now result }
 {
     match refusal {
         Refusal::Wrong(fault) => NoForm::Wrong(locate_after(place, octets, fault)),
@@ -125,10 +126,7 @@ impl<A: Allocator> Formatter<A> {
             },
             Err(found) => match format_last(self.seam, held, out) {
                 Ok(()) => Err(NoForm::Wrong(found)),
-                Err(Refusal::Wrong(_)) => Err(NoForm::Wrong(found)),
-                Err(Refusal::Nul(at)) => Err(NoForm::Nul(position_in(place, held, at))),
-                Err(Refusal::OrderMark(at)) => Err(NoForm::OrderMark(position_in(place, held, at))),
-                Err(Refusal::OutOfMemory) => Err(NoForm::OutOfMemory),
+                Err(refusal) => Err(why_after(place, held, refusal)),
             },
         }
     }
@@ -175,26 +173,10 @@ impl<A: Allocator> Formatter<A> {
         ensures bad { (all written : List ℕ) → FormedSoFar all written self.now
             → IfErr result (HasNoForm all) }
     {
-        match format_last(self.seam, self.checker.held(), out) {
+        let held = self.checker.held();
+        match format_last(self.seam, held, out) {
             Ok(()) => Ok(()),
-            Err(refusal) => Err(self.why_last(refusal)),
-        }
-    }
-
-    /// Returns the error of all octets, with its position.
-    fn why_last(&self, refusal: Refusal) -> NoForm
-        requires { IsWithoutForm self.now.held.octets refusal }
-        ensures { (all : List ℕ) → Holds all self.now.held → HasNoForm all result }
-    {
-        let (place, held) = (self.checker.place(), self.checker.held());
-        match refusal {
-            Refusal::Wrong(fault) => match self.checker.finish() {
-                Ok(()) => NoForm::Wrong(locate_after(place, held, fault)),
-                Err(found) => NoForm::Wrong(found),
-            },
-            Refusal::Nul(at) => NoForm::Nul(position_in(place, held, at)),
-            Refusal::OrderMark(at) => NoForm::OrderMark(position_in(place, held, at)),
-            Refusal::OutOfMemory => NoForm::OutOfMemory,
+            Err(refusal) => Err(why_after(self.checker.place(), held, refusal)),
         }
     }
 }

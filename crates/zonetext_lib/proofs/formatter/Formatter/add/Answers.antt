@@ -28,7 +28,7 @@ returns-in-Err-Wrong g c = λ all written more x m.
     let s = c.self.inside.seam in
     let held = c.in_ok-store.ensures in
     let here = formed_more all block written c.self.inside.checker c.store.new.self s (subst (FormedSoFar all written) (sym c.self.view_is) x) held.0 held.1 in
-    subst (λ (w : NoForm). FormsSettled (forming c.store.new.self s) c.args.out.now.items c.form_settled.new.out.items (Err w)) c.in-Err-Wrong.field-0-is c.in-Err-Wrong.ensures (all ++ block) more here.held m
+    subst (λ (w : NoForm). FormsSettled (forming c.store.new.self s) c.args.out.now.items c.form_settled.new.out.items (Err w)) c.in-Err-Wrong.field-0-is c.in-Err-Wrong.ensures (all ++ block) written more here m
 
 pub returns-in-Err-Nul : goal.returns-in-Err-Nul
 returns-in-Err-Nul g c = λ all written more x m.
@@ -36,7 +36,7 @@ returns-in-Err-Nul g c = λ all written more x m.
     let s = c.self.inside.seam in
     let held = c.in_ok-store.ensures in
     let here = formed_more all block written c.self.inside.checker c.store.new.self s (subst (FormedSoFar all written) (sym c.self.view_is) x) held.0 held.1 in
-    subst (λ (w : NoForm). FormsSettled (forming c.store.new.self s) c.args.out.now.items c.form_settled.new.out.items (Err w)) c.in-Err-Nul.field-0-is c.in-Err-Nul.ensures (all ++ block) more here.held m
+    subst (λ (w : NoForm). FormsSettled (forming c.store.new.self s) c.args.out.now.items c.form_settled.new.out.items (Err w)) c.in-Err-Nul.field-0-is c.in-Err-Nul.ensures (all ++ block) written more here m
 
 pub returns-in-Err-OrderMark : goal.returns-in-Err-OrderMark
 returns-in-Err-OrderMark g c = λ all written more x m.
@@ -44,4 +44,4 @@ returns-in-Err-OrderMark g c = λ all written more x m.
     let s = c.self.inside.seam in
     let held = c.in_ok-store.ensures in
     let here = formed_more all block written c.self.inside.checker c.store.new.self s (subst (FormedSoFar all written) (sym c.self.view_is) x) held.0 held.1 in
-    subst (λ (w : NoForm). FormsSettled (forming c.store.new.self s) c.args.out.now.items c.form_settled.new.out.items (Err w)) c.in-Err-OrderMark.field-0-is c.in-Err-OrderMark.ensures (all ++ block) more here.held m
+    subst (λ (w : NoForm). FormsSettled (forming c.store.new.self s) c.args.out.now.items c.form_settled.new.out.items (Err w)) c.in-Err-OrderMark.field-0-is c.in-Err-OrderMark.ensures (all ++ block) written more here m
