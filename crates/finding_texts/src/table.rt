@@ -135,7 +135,7 @@ pub fn text_of(code: Code) -> &'static str {
         Code::Nul =>
             "Name servers end a string or the file at a NUL. Write it as \\000 if it is part of a name or string (RFC 1035 section 5.1).",
         Code::ByteOrderMark =>
-            "It is read as part of the first name. Save the file as UTF-8 without a mark, or better as ASCII: zone files are octets without an encoding (RFC 1035 section 5.1).",
+            "A mark of UTF-8 is skipped, and a file in UTF-16 is not read. Name servers read the mark as part of the first word. Save the file as UTF-8 without a mark, or better as ASCII: zone files are octets without an encoding (RFC 1035 section 5.1).",
         Code::ControlZ =>
             "Editors of CP/M and DOS end files with the octet 0x1A, which name servers read as a name. Remove it.",
         Code::MaxEntry =>
@@ -168,7 +168,7 @@ pub fn text_of(code: Code) -> &'static str {
         Code::NsAddress =>
             "The target of an NS of the apex is a name of this zone, and has neither A nor AAAA, also by no wildcard (RFC 1035 section 3.3.11). Add an address, or correct the name.",
         Code::Cname =>
-            "A name with a CNAME has no other records but those of DNSSEC (RFC 1034 section 3.6.2, RFC 2181 section 10.1).",
+            "A name with a CNAME has no other records but RRSIG, NSEC and KEY (RFC 4035 section 2.5, RFC 2181 section 10.1).",
         Code::Dname => "A name has at most one DNAME (RFC 6672 section 2.4).",
         Code::DsApex =>
             "The DS of a zone belongs to its parent, at the delegation (RFC 4035 section 2.4).",
