@@ -1,3 +1,4 @@
 mod Found
+mod LabelEnds
 mod LabelSteps
 mod Words

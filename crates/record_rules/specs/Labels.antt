@@ -98,6 +98,15 @@ abbrev pub ends_in_name : List (List ℕ) → List (List ℕ) → Bool
 ends_in_name [] top = same_name [] top
 ends_in_name (label ∷ labels) top = same_name (label ∷ labels) top || ends_in_name labels top
 
+-- the last two labels, or all of them if there are fewer
+abbrev pub last_two : List (List ℕ) → List (List ℕ)
+last_two (a ∷ b ∷ c ∷ labels) = last_two (b ∷ c ∷ labels)
+last_two labels = labels
+
+-- the parent of a name is a top or below it, if and only if its end is the top
+abbrev pub IsEndBelow : List (List ℕ) → List (List ℕ) → List (List ℕ) → Type 0
+IsEndBelow top end labels = ends_in_name (drop 1 labels) top ≡ same_name end top
+
 -- a label with a slash or a hyphen comes before the labels of another name
 abbrev pub is_divided_below : List (List ℕ) → List (List ℕ) → Bool
 is_divided_below [] top = false

@@ -6,7 +6,7 @@ use Rattle.rdata_values.specs.declared.types.RecordType.{RecordType}
 use Rattle.dns_wire.specs.Wire.{wire}
 use Rattle.record_rules.specs.Comments.{has_word_at_comment}
 use Rattle.record_rules.specs.FoundAlone.{found_alone}
-use Rattle.record_rules.specs.Labels.{beyond_name, is_octet_label, name_labels}
+use Rattle.record_rules.specs.Labels.{beyond_name, is_octet_label, last_two, name_labels}
 use Rattle.record_rules.specs.LoneRules.{breaks_alone}
 use Rattle.record_rules.specs.Substitutions.{group_count, is_substitution}
 use Rattle.record_rules.specs.declared.regexp.Spot.TheVariants.{Plain}
@@ -41,6 +41,12 @@ labels_row = refl
 beyond_row : beyond_name (wire (under (codes "a")) ++ 1 ∷ 2 ∷ []) ≡ 1 ∷ 2 ∷ []
 unfolding beyond_name
 beyond_row = refl
+
+two_labels_left_row : last_two (codes "1" ∷ codes "0" ∷ codes "ip6" ∷ codes "arpa" ∷ []) ≡ codes "ip6" ∷ codes "arpa" ∷ []
+two_labels_left_row = refl
+
+one_label_left_row : last_two (codes "arpa" ∷ []) ≡ codes "arpa" ∷ []
+one_label_left_row = refl
 
 -- ---- SPF
 

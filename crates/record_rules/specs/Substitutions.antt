@@ -7,7 +7,7 @@ use Rattle.dns_symbol.specs.Characters.{backslash}
 use Rattle.record_rules.specs.declared.regexp.Spot.{Spot}
 use Rattle.record_rules.specs.declared.regexp.Spot.TheVariants.{Plain, Escaped, Opened, Negated, Listed, Nested, Class, Closing}
 
--- a delimiter is neither a digit nor a backslash nor the flag `i`
+-- a delimiter is neither a digit nor a backslash nor the flag `i` (RFC 3402 section 3.2 forbids 1 to 9, BIND 0 too)
 abbrev pub is_delimiter : ℕ → Bool
 is_delimiter o = not (is_ascii_digit o) && (not (o == backslash) && not (o == 105))
 

@@ -4,7 +4,7 @@ ghost use Rattle.std.specs.List.{list_any};
 ghost use Rattle.std.specs.Option.{option_copied, option_map};
 ghost use Rattle.dns_wire.specs.Order.{same_name};
 ghost use Rattle.record_rules.specs.LoneRules.{is_nil_list};
-ghost use Rattle.record_rules.specs.Labels.{beyond_name, beyond_passing, beyond_string, ends_in_name, has_at_sign, has_slash_or_hyphen, is_asterisk, is_divided_below, is_nibble_label, is_octet_label, leading_string, name_labels, passes_test, HasFirstLabel, IsRootBefore};
+ghost use Rattle.record_rules.specs.Labels.{beyond_name, beyond_passing, beyond_string, ends_in_name, has_at_sign, has_slash_or_hyphen, is_asterisk, is_divided_below, is_nibble_label, is_octet_label, last_two, leading_string, name_labels, passes_test, HasFirstLabel, IsRootBefore};
 
 use dns_octets::lowered::same_octets;
 
@@ -209,16 +209,21 @@ pub(crate) fn after_passing(test: LabelTest, count: usize, name: &[u8]) -> Optio
     ensures { option_map name_labels (option_copied result)
         ≡ beyond_passing (passes_test test) count (name_labels name.now) }
 {
-    if count == 0 {
-        return Some(name);
+    let mut left = count;
+    let mut rest = name;
+    'labels: loop {
+        if left == 0 {
+            return Some(rest);
+        }
+        let Some((label, after)) = first_label(rest) else {
+            return None;
+        };
+        if !passes_test(test, label) {
+            return None;
+        }
+        left -= 1;
+        rest = after;
     }
-    let Some((label, rest)) = first_label(name) else {
-        return None;
-    };
-    if !passes_test(test, label) {
-        return None;
-    }
-    after_passing(test, count - 1, rest)
 }
 
 /// Returns whether two names are equal, ignoring letter case.
@@ -254,6 +259,22 @@ pub(crate) fn is_within(name: &[u8], top: &[u8]) -> bool
         rest = after;
     }
     is_root(top)
+}
+
+/// Returns the octets from the last two labels of a name on, or the name if it has fewer.
+#[tactic(auto, using(crate::proofs::LabelSteps::parent_label, crate::proofs::LabelEnds::next_two, crate::proofs::LabelEnds::just_two))]
+pub(crate) fn last_two(name: &[u8]) -> &[u8]
+    ensures { name_labels result.now ≡ last_two (name_labels name.now) }
+{
+    let mut last = name;
+    let mut next = parent(last);
+    let mut rest = parent(next);
+    while let Some((_, after)) = first_label(rest) {
+        last = next;
+        next = rest;
+        rest = after;
+    }
+    last
 }
 
 /// Returns whether a label with a slash or a hyphen comes before the labels of another name.

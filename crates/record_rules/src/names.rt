@@ -1,11 +1,11 @@
 //! Checks owners, and names of hosts.
-ghost use Rattle.std.specs.Prelude.{◌≡◌, codes, [], ◌∷◌};
-ghost use Rattle.record_rules.specs.Labels.{ends_in_name, is_nibble_label, is_octet_label, name_labels, passes_test};
+ghost use Rattle.std.specs.Prelude.{◌≡◌, codes, drop, [], ◌∷◌};
+ghost use Rattle.record_rules.specs.Labels.{ends_in_name, is_nibble_label, is_octet_label, last_two, name_labels, passes_test, IsEndBelow};
 ghost use Rattle.record_rules.specs.LoneRules.{has_address_target, has_inner_asterisk, in_addr_top, ip6_top, is_address_name, is_address_target, is_bad_in_tree, is_bad_reverse, is_free_in_tree, is_origin_of, target_offset};
 
 use crate::labels::{
     LabelTest, after_count, after_passing, any_label, first_label, is_asterisk, is_divided_below,
-    is_root, is_same, is_within, parent,
+    is_root, is_same, is_within, last_two, parent,
 };
 use rdata_values::RecordType;
 
@@ -47,35 +47,40 @@ fn is_free_in_tree(top: &[u8], name: &[u8]) -> bool
     }
 }
 
-/// Returns whether a name below the top of a tree is not the name of an address.
-fn is_bad_in_tree(test: LabelTest, count: usize, top: &[u8], name: &[u8]) -> bool
+/// Returns whether a name below the top of a tree is not the name of an address. `end` is the top if
+/// and only if the name is below it.
+fn is_bad_in_tree(test: LabelTest, count: usize, top: &[u8], end: &[u8], name: &[u8]) -> bool
+    requires { IsEndBelow (name_labels top.now) (name_labels end.now) (name_labels name.now) }
     ensures { result
         ≡ is_bad_in_tree (passes_test test) count (name_labels top.now) (name_labels name.now) }
 {
-    is_within(parent(name), top)
-        && !is_address_name(test, count, top, name)
-        && !is_free_in_tree(top, name)
+    is_same(end, top) && !is_address_name(test, count, top, name) && !is_free_in_tree(top, name)
 }
 
-/// Returns whether a name below `in-addr.arpa` is not the name of an IPv4 address.
-fn is_bad_in_addr(name: &[u8]) -> bool
+/// Returns whether a name below `in-addr.arpa` is not the name of an IPv4 address. `end` is the last
+/// two labels of its parent.
+fn is_bad_in_addr(end: &[u8], name: &[u8]) -> bool
+    requires { name_labels end.now ≡ last_two (drop 1 (name_labels name.now)) }
     ensures { result ≡ is_bad_in_tree is_octet_label 4 in_addr_top (name_labels name.now) }
 {
-    is_bad_in_tree(LabelTest::Number, 4, IN_ADDR_ARPA, name)
+    is_bad_in_tree(LabelTest::Number, 4, IN_ADDR_ARPA, end, name)
 }
 
-/// Returns whether a name below `ip6.arpa` is not the name of an IPv6 address.
-fn is_bad_in_ip6(name: &[u8]) -> bool
+/// Returns whether a name below `ip6.arpa` is not the name of an IPv6 address. `end` is the last two
+/// labels of its parent.
+fn is_bad_in_ip6(end: &[u8], name: &[u8]) -> bool
+    requires { name_labels end.now ≡ last_two (drop 1 (name_labels name.now)) }
     ensures { result ≡ is_bad_in_tree is_nibble_label 32 ip6_top (name_labels name.now) }
 {
-    is_bad_in_tree(LabelTest::HexDigit, 32, IP6_ARPA, name)
+    is_bad_in_tree(LabelTest::HexDigit, 32, IP6_ARPA, end, name)
 }
 
 /// Returns whether a name in a reverse tree is not the name of an address.
 pub(crate) fn is_bad_reverse(name: &[u8]) -> bool
     ensures { result ≡ is_bad_reverse (name_labels name.now) }
 {
-    is_bad_in_addr(name) || is_bad_in_ip6(name)
+    let end = last_two(parent(name));
+    is_bad_in_addr(end, name) || is_bad_in_ip6(end, name)
 }
 
 /// Returns the number of octets before the name of a host or the target of an alias, in RDATA of a

@@ -25,7 +25,8 @@ pub(crate) enum Spot {
     Closing(u8),
 }
 
-/// Returns whether an octet can be a delimiter.
+/// Returns whether an octet can be a delimiter. RFC 3402 section 3.2 forbids the digits 1 to 9; BIND forbids
+/// 0 too.
 fn is_delimiter(octet: u8) -> bool
     ensures { result ≡ is_delimiter octet }
 {
