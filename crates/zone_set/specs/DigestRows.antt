@@ -1,10 +1,14 @@
 -- Worked examples of the definitions.
 use Rattle.std.specs.Prelude.{◌≡◌, ℕ, true, false, List, [], ◌∷◌, ◌++◌, codes, refl}
+use Rattle.std.proofs.Common.{arith}
 use Rattle.rdata_values.specs.Rtype as Rtype
 use Rattle.rdata_values.specs.declared.types.RecordType.{RecordType}
 use Rattle.zone_record.specs.declared.record.Record.{Record}
 use Rattle.zone_set.specs.Checks.{alike_count}
 use Rattle.zone_set.specs.Hashed.{hashed_octets, is_hashed, is_in_zone}
+use Rattle.zone_set.specs.Verdicts.{IsVerdict}
+use Rattle.zone_set.specs.declared.verdict.Verdict.TheVariants.{OtherSerial, Repeated}
+use Rattle.zone_set.specs.declared.zonemd.Zonemd.{Zonemd}
 
 -- names
 abbrev apex : List (List ℕ)
@@ -56,3 +60,16 @@ alike_row : alike_count (record { serial = 9; scheme = 1; hash = 2; digest = rec
     (record { rtype = Rtype.zonemd; octets = 0 ∷ 0 ∷ 0 ∷ 1 ∷ 1 ∷ 2 ∷ [] } ∷ record { rtype = Rtype.zonemd; octets = 0 ∷ 0 ∷ 0 ∷ 1 ∷ 1 ∷ 1 ∷ [] } ∷ record { rtype = Rtype.zonemd; octets = 0 ∷ 0 ∷ 0 ∷ 2 ∷ 1 ∷ 2 ∷ [] } ∷ [])
     ≡ 2
 alike_row = refl
+
+-- a ZONEMD with a stale serial, one of two of its scheme and algorithm: the serial decides
+abbrev stale : Zonemd
+stale = record { serial = 1; scheme = 1; hash = 1; digest = record { ref_ptr = (0, 0); now = [] } }
+
+stale_row : (octets : List ℕ) → IsVerdict 2 octets 2 stale OtherSerial
+stale_row octets e = omega (arith, e)
+
+stale_repeated_row : (octets : List ℕ) → IsVerdict 2 octets 2 stale Repeated → ⊥
+stale_repeated_row octets h = omega (arith, h.0)
+
+repeated_row : (octets : List ℕ) → IsVerdict 1 octets 2 stale Repeated
+repeated_row octets = (refl, refl, omega arith)

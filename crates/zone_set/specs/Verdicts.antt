@@ -23,11 +23,11 @@ pub record IsUsable (serial count : ℕ) (z : Zonemd) : Type 0 where
   pub hash_is : (z.hash ≡ 1) ⊎ (z.hash ≡ 2)
   pub single : count ≤ 1
 
--- the verdict on a ZONEMD, by the serial of the zone's SOA, the octets that are hashed, and the number of ZONEMD records with this scheme and algorithm
+-- the verdict on a ZONEMD, by the serial of the zone's SOA, the octets that are hashed, and the number of ZONEMD records with this scheme and algorithm: the first that applies
 abbrev pub IsVerdict : ℕ → List ℕ → ℕ → Zonemd → Verdict → Type 0
+IsVerdict serial octets count z OtherSerial = z.serial ≢ serial
+IsVerdict serial octets count z UnknownScheme = (z.serial ≡ serial) × (z.scheme ≢ 1)
+IsVerdict serial octets count z Repeated = (z.serial ≡ serial) × (z.scheme ≡ 1) × (1 < count)
+IsVerdict serial octets count z UnknownHash = (z.serial ≡ serial) × (z.scheme ≡ 1) × (count ≤ 1) × (z.hash ≢ 1) × (z.hash ≢ 2)
 IsVerdict serial octets count z Matches = IsUsable serial count z × IsDigest z.hash octets z.digest.now
 IsVerdict serial octets count z Differs = IsUsable serial count z × (IsDigest z.hash octets z.digest.now → ⊥)
-IsVerdict serial octets count z OtherSerial = z.serial ≢ serial
-IsVerdict serial octets count z UnknownScheme = z.scheme ≢ 1
-IsVerdict serial octets count z UnknownHash = (z.hash ≢ 1) × (z.hash ≢ 2)
-IsVerdict serial octets count z Repeated = 1 < count

@@ -1,5 +1,5 @@
 //! Entries: the first octets of the key of each record, and where its other octets are in a store.
-ghost use Rattle.std.specs.Prelude.{◌≡◌, ◌<◌, ◌^◌, ◌++◌, All, IfSome, OnErr, OnOk, length, take};
+ghost use Rattle.std.specs.Prelude.{◌≡◌, ◌<◌, ◌≤◌, ◌↔◌, ◌^◌, ◌++◌, All, IfSome, IsNone, OnErr, OnOk, length, take};
 ghost use Rattle.std.specs.List.Sorted.{IsPermutation, IsSorted};
 ghost use Rattle.std.specs.Ordering.{nat_cmp, ordering_then};
 ghost use Rattle.zone_record.specs.Names.{octet_order};
@@ -110,7 +110,8 @@ impl Entry {
     /// Returns `None` if the offset is 2^40 or greater.
     pub(crate) fn new(prefix: u64, offset: usize) -> Option<Entry>
         requires { prefix < 2 ^ 56 }
-        ensures { IfSome result (IsEntryFor prefix offset) }
+        ensures fits { IfSome result (IsEntryFor prefix offset) }
+        ensures none { IsNone result ↔ 2 ^ 40 ≤ offset }
     {
         let offset = offset as u64;
         if offset >= MAX_OFFSET {
