@@ -9,6 +9,7 @@ pub mod LedNames
 pub mod Lookups
 pub mod NameParts
 pub mod Neighbours
+mod OwnDigests
 pub mod OwnRecords
 mod PairTests
 pub mod Searches

@@ -1,9 +1,9 @@
 -- Records that a zone lends, with their octets in other types, and the rules of their hosts.
-use Rattle.std.proofs.Common.{ℕ, ◌≡◌, ◌+◌, ◌<◌, ◌≤◌, ◌⊎◌, inl, inr, Bool, true, false, Option, Some, None, List, length, get_or, refl, sym, ap, ◌∙◌, arith}
+use Rattle.std.proofs.Common.{ℕ, zero, suc, ◌≡◌, ◌+◌, ◌-◌, ◌<◌, ◌≤◌, ◌⊎◌, inl, inr, Bool, true, false, Option, Some, None, List, [], ◌∷◌, length, get_or, refl, sym, ap, ◌∙◌, arith}
 use Rattle.std.specs.Prelude.{◌==◌, ◌&&◌, not, option_and_then, slice_get}
 use Rattle.std.specs.List.{AllWithin, list_any}
 use Rattle.std.specs.Option.{option_map, option_map_or}
-use Rattle.std.proofs.lemmas.Bool.{cases_lt}
+use Rattle.std.proofs.lemmas.Bool.{cases_lt, false≢true, or_left, or_right}
 use Rattle.std.proofs.lemmas.Option.{slice_get-get_or}
 use Rattle.rdata_values.specs.Classes.{internet}
 use Rattle.rdata_values.specs.Rtype as Rtype
@@ -12,13 +12,13 @@ use Rattle.dns_wire.specs.Order.{same_name}
 use Rattle.zone_rules.specs.Above.{is_below, is_within}
 use Rattle.zone_rules.specs.Findings.{breaks_at}
 use Rattle.zone_rules.specs.Present.{has_address_in}
-use Rattle.zone_rules.specs.Rules.{breaks, is_alias, is_below_own_dname, is_missing, is_of_sha1, are_of_one_key, is_record_at_apex, is_without_glue, lacks_address, names_host}
+use Rattle.zone_rules.specs.Rules.{breaks, is_alias, is_below_own_dname, is_beside_aliases, is_missing, is_of_sha1, are_of_one_key, is_record_at_apex, is_without_glue, lacks_address, names_host}
 use Rattle.zone_rules.specs.Searches.{AreOwnedFrom}
 use Rattle.zone_rules.specs.Spf.{is_spf}
 use Rattle.zone_rules.specs.Subjects.{alike, is_apex_server, is_server_above, relates, wants_host, AreHostFaults, IsSubject}
 use Rattle.zone_rules.specs.Zones.{as_listed, comes_before, host_of, is_equal_record, record_before, type_of}
 use Rattle.zone_rules.specs.declared.beside.Relation.{Relation}
-use Rattle.zone_rules.specs.declared.beside.Relation.TheVariants.{Alias, Spf, Digest, Server}
+use Rattle.zone_rules.specs.declared.beside.Relation.TheVariants.{Alias, Spf, Digest, Sha1, Server}
 use Rattle.zone_rules.specs.declared.refused.RrsetName.{RrsetName}
 use Rattle.zone_rules.specs.declared.rule.Rule.{Rule}
 use Rattle.zone_rules.specs.declared.rule.Rule.TheVariants.{NoSoa, NoNs, Outside, TwoSoas, NsAddress, Cname, TwoDnames, BelowDname, DsAtApex, WildcardNs, SoaNotApex, NsBesideDname, Nsec3Owner, MissingGlue, HostIsAlias, HostBelowDname, HostMissing, HostName, CdsWithoutKey, DsWithoutNs, NotAtApex, KeyProtocol, KeyAlgorithm, CnameTargetMissing, CnameLoop, TwoSpf, WeakDigest, SingleNs, TtlDiffers, Duplicate}
@@ -90,6 +90,7 @@ listed_related R S relation one None = refl
 listed_related R S Alias one (Some r) = refl
 listed_related R S Spf one (Some r) = refl
 listed_related R S Digest one (Some r) = refl
+listed_related R S Sha1 one (Some r) = refl
 listed_related R S Server one (Some r) = refl
 
 pub related_listed : {N O M P R S : Type 0} (relation : Relation) (one : Record M P) (o : Option (Record N O)) (got : Option (Record R S)) → got ≡ option_map as_listed o
@@ -108,10 +109,29 @@ one_more p xs first place lt h e i d low less = by (cases_lt i place)
     by (inl before) = h i d low before
     by (inr more) = let same : i ≡ place = omega (arith, less, more) in ap (λ j. p (get_or xs j d)) same ∙ at
 
+-- one element more before them
+pub one_before : {X : Type 0} (p : X → Bool) (xs : List X) (from place : ℕ) → 0 < from → from ≤ length xs → AllWithin (λ x. p x ≡ false) xs from place → option_map_or p (slice_get xs (from - 1)) false ≡ false
+    → AllWithin (λ x. p x ≡ false) xs (from - 1) place
+one_before p xs from place some bound h e i d low less = by (cases_lt i from)
+  where
+    at : p (get_or xs (from - 1) d) ≡ false
+    at = ap (λ o. option_map_or p o false) (sym (slice_get-get_or xs (from - 1) d (omega (arith, some, bound)))) ∙ e
+
+    by : (i < from) ⊎ (from ≤ i) → p (get_or xs i d) ≡ false
+    by (inl under) = let same : i ≡ from - 1 = omega (arith, low, under) in ap (λ j. p (get_or xs j d)) same ∙ at
+    by (inr above) = h i d above less
+
+-- some element passes a test if the one at an index does
+pub any_found : {X : Type 0} (p : X → Bool) (xs : List X) (k : ℕ) → option_map_or p (slice_get xs k) false ≡ true → list_any p xs ≡ true
+any_found p [] k h = absurd (false≢true h)
+any_found p (x ∷ xs) zero h = or_left (p x) (list_any p xs) h
+any_found p (x ∷ xs) (suc k) h = or_right (p x) (list_any p xs) (any_found p xs k h)
+
 related_owned : {N O M P : Type 0} (relation : Relation) (one : Record M P) (r : Record N O) → same_name r.owner one.owner ≡ false → relates relation one r ≡ false
-related_owned Alias one r h = ap (λ b. b && (not (type_of r == Rtype.rrsig) && (not (type_of r == Rtype.nsec) && not (is_equal_record one r)))) h
+related_owned Alias one r h = ap (λ b. b && (not (is_beside_aliases (type_of r)) && not (is_equal_record one r))) h
 related_owned Spf one r h = ap (λ b. b && (is_spf r && comes_before r one)) h
-related_owned Digest one r h = ap (λ b. b && (type_of r == Rtype.ds && (not (is_of_sha1 r) && are_of_one_key one r))) h
+related_owned Digest one r h = ap (λ b. (b && (r.class == one.class && (type_of r == Rtype.ds && are_of_one_key one r))) && not (is_of_sha1 r)) h
+related_owned Sha1 one r h = ap (λ b. (b && (r.class == one.class && (type_of r == Rtype.ds && are_of_one_key one r))) && is_of_sha1 r) h
 related_owned Server one r h = ap (λ b. b && (type_of r == Rtype.ns && not (is_equal_record one r))) h
 
 -- no record passes a test that is of an owner if none of those at this owner does

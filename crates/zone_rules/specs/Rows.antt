@@ -122,13 +122,17 @@ encloser_row = refl
 closer_row : is_synthesized Rtype.a (two_under (codes "a") (codes "b")) below_b [] ≡ false
 closer_row = refl
 
--- an RRSIG and an equal alias may have the same owner as an alias, but not a TXT
+-- an RRSIG, a KEY and an equal alias may have the same owner as an alias, but not a TXT
 abbrev alias : Record ℕ ℕ
 alias = entry (under (codes "www")) Rtype.cname (wire (under (codes "a")))
 
 signed_alias_row : is_alias_in_company (alias ∷ slow_entry (under (codes "WWW")) Rtype.cname (wire (under (codes "A"))) ∷ entry (under (codes "www")) Rtype.rrsig [] ∷ []) alias ≡ false
 unfolding type_shapes
 signed_alias_row = refl
+
+key_alias_row : is_alias_in_company (alias ∷ entry (under (codes "www")) Rtype.key [] ∷ []) alias ≡ false
+unfolding type_shapes
+key_alias_row = refl
 
 text_alias_row : is_alias_in_company (alias ∷ entry (under (codes "www")) Rtype.txt (0 ∷ []) ∷ []) alias ≡ true
 unfolding type_shapes
@@ -411,6 +415,10 @@ weak_row = refl
 
 strong_row : is_weak_digest (digest_of 1 1 ∷ digest_of 1 2 ∷ []) [] (digest_of 1 1) ≡ false
 strong_row = refl
+
+-- a DS of another class is of another RRset
+other_class_row : is_weak_digest (digest_of 1 1 ∷ record { owner = under (codes "d"); ttl = 60; class = 3; «data» = record { rtype = Rtype.ds; octets = 0 ∷ 1 ∷ 8 ∷ 2 ∷ 255 ∷ [] } } ∷ []) [] (digest_of 1 1) ≡ true
+other_class_row = refl
 
 -- a rejected DS may be the other digest
 refused_digest_row : is_weak_digest (digest_of 1 1 ∷ []) (named (under (codes "d")) Rtype.ds ∷ []) (digest_of 1 1) ≡ false

@@ -43,9 +43,13 @@ passes_after test before r = option_map_or (λ b. test b r) before false
 abbrev pub follows : {N O : Type 0} → (Record N O → Record N O → Bool) → List (Record N O) → ℕ → Record N O → Bool
 follows test records place r = passes_after test (record_before records place) r
 
--- the record has the same owner as an alias, isn't equal to it, and is neither an RRSIG nor an NSEC
+-- the types that a CNAME's owner may have besides it: RRSIG, NSEC, and KEY for secure dynamic update (RFC 4035 section 2.5)
+abbrev pub is_beside_aliases : RecordType → Bool
+is_beside_aliases rtype = rtype == Rtype.rrsig || (rtype == Rtype.nsec || rtype == Rtype.key)
+
+-- the record has the same owner as an alias, isn't equal to it, and is of no type that may be there
 abbrev pub is_beside_alias : {N O M P : Type 0} → Record N O → Record M P → Bool
-is_beside_alias alias r = same_name r.owner alias.owner && (not (type_of r == Rtype.rrsig) && (not (type_of r == Rtype.nsec) && not (is_equal_record alias r)))
+is_beside_alias alias r = same_name r.owner alias.owner && (not (is_beside_aliases (type_of r)) && not (is_equal_record alias r))
 
 -- the record is an alias, and another record must not have the same owner
 abbrev pub is_alias_in_company : {N O M P : Type 0} → List (Record N O) → Record M P → Bool
@@ -221,9 +225,13 @@ are_of_one_key a b = have_one_octet 0 a b && (have_one_octet 1 a b && have_one_o
 abbrev pub is_of_sha1 : {N O : Type 0} → Record N O → Bool
 is_of_sha1 r = has_octet_at (λ o. o == 1) 3 r
 
--- another record at a DS's owner is a DS of the same key, with a digest other than SHA-1
+-- another record is a DS of the RRset and the key of a DS
+abbrev pub is_ds_beside : {N O M P : Type 0} → Record N O → Record M P → Bool
+is_ds_beside r other = same_name other.owner r.owner && (other.class == r.class && (type_of other == Rtype.ds && are_of_one_key r other))
+
+-- its digest is another one than SHA-1
 abbrev pub is_digest_beside : {N O M P : Type 0} → Record N O → Record M P → Bool
-is_digest_beside r other = same_name other.owner r.owner && (type_of other == Rtype.ds && (not (is_of_sha1 other) && are_of_one_key r other))
+is_digest_beside r other = is_ds_beside r other && not (is_of_sha1 other)
 
 -- a DS with SHA-1, and no other digest of its key
 abbrev pub is_weak_digest : {N O M P : Type 0} → List (Record N O) → List RrsetName → Record M P → Bool

@@ -1,5 +1,5 @@
 -- A record at an index, with what rules ask of it: words for private functions.
-use Rattle.std.specs.Prelude.{◌≡◌, ℕ, ◌==◌, ◌&&◌, not, if◌then◌else◌, Bool, true, false, Option, Some, None, List, option_and_then, slice_get}
+use Rattle.std.specs.Prelude.{◌≡◌, ◌<◌, ◌≤◌, ◌-◌, ℕ, ◌==◌, ◌&&◌, not, if◌then◌else◌, Bool, true, false, Option, Some, None, List, option_and_then, slice_get}
 use Rattle.std.specs.Option.{option_map, option_map_or}
 use Rattle.dns_wire.specs.Order.{same_name}
 use Rattle.rdata_values.specs.Classes.{internet}
@@ -8,10 +8,10 @@ use Rattle.zone_record.specs.declared.record.Record.{Record}
 use Rattle.zone_rules.specs.Above.{is_below, is_within, parent_of}
 use Rattle.zone_rules.specs.Findings.{breaks_at}
 use Rattle.zone_rules.specs.Present.{is_present}
-use Rattle.zone_rules.specs.Rules.{alias_at, breaks, is_beside_alias, is_digest_beside, is_record_at_apex, is_server_beside, leads_to, is_spf_beside, lacks_glue, lacks_ns_address, names_alias, names_missing, names_renamed}
+use Rattle.zone_rules.specs.Rules.{alias_at, breaks, is_beside_alias, is_digest_beside, is_ds_beside, is_of_sha1, is_record_at_apex, is_server_beside, leads_to, is_spf_beside, lacks_glue, lacks_ns_address, names_alias, names_missing, names_renamed}
 use Rattle.zone_rules.specs.Zones.{as_listed, has_type_at, record_before, type_of}
 use Rattle.zone_rules.specs.declared.beside.Relation.{Relation}
-use Rattle.zone_rules.specs.declared.beside.Relation.TheVariants.{Alias, Spf, Digest, Server}
+use Rattle.zone_rules.specs.declared.beside.Relation.TheVariants.{Alias, Spf, Digest, Sha1, Server}
 use Rattle.zone_rules.specs.declared.refused.RrsetName.{RrsetName}
 use Rattle.zone_rules.specs.declared.rule.Rule.{Rule}
 use Rattle.zone_rules.specs.declared.subject.HostFaults.{HostFaults}
@@ -63,16 +63,34 @@ IsFirstAlias name records place = option_and_then (slice_get records) place ≡ 
 abbrev pub IsLedFrom : {N O : Type 0} → ℕ → List (Record N O) → List (List ℕ) → Option ℕ → Bool → Type 0
 IsLedFrom count records goal place led = (name : List (List ℕ)) → IsFirstAlias name records place → led ≡ leads_to count records goal name
 
+-- another record is a DS of the RRset and the key of a DS, with SHA-1
+abbrev pub is_sha1_beside : {N O M P : Type 0} → Record N O → Record M P → Bool
+is_sha1_beside r other = is_ds_beside r other && is_of_sha1 other
+
 -- a relation of a record to another one
 abbrev pub relates : {N O M P : Type 0} → Relation → Record M P → Record N O → Bool
 relates Alias r other = is_beside_alias r other
 relates Spf r other = is_spf_beside r other
 relates Digest r other = is_digest_beside r other
+relates Sha1 r other = is_sha1_beside r other
 relates Server r other = is_server_beside r other
 
 -- the record at an index is the other one
 abbrev pub relates_at : {N O M P : Type 0} → Relation → Record M P → List (Record N O) → ℕ → Bool
 relates_at relation r records place = option_map_or (relates relation r) (slice_get records place) false
+
+-- of the DS with SHA-1 of a record's RRset and key, the index of the first from an index on, and the index after the last up to another
+pub record BeginsSha1 {N O M P : Type 0} (r : Record M P) (records : List (Record N O)) (first place from : ℕ) : Type 0 where
+  pub low : first ≤ from
+  pub high : from ≤ place
+  pub is : relates_at Sha1 r records from ≡ true
+  pub before : first < from → relates_at Sha1 r records (from - 1) ≡ false
+
+pub record EndsSha1 {N O M P : Type 0} (r : Record M P) (records : List (Record N O)) (place past next : ℕ) : Type 0 where
+  pub low : place < next
+  pub high : next ≤ past
+  pub last : relates_at Sha1 r records (next - 1) ≡ true
+  pub after : next < past → relates_at Sha1 r records next ≡ false
 
 -- the rules that the host in a record's data breaks
 pub record AreHostFaults {N O M P : Type 0} (origin : List (List ℕ)) (records : List (Record N O)) (refused : List RrsetName) (r : Record M P) (faults : HostFaults) : Type 0 where

@@ -19,8 +19,8 @@ pub enum Rule {
     /// its own or from a wildcard (RFC 4592 section 3.3.1), though it is authoritative for that
     /// host: this is neither a delegation nor below one.
     NsAddress,
-    /// The record is a CNAME, and its owner has another record that isn't equal to it, and is
-    /// neither an RRSIG nor an NSEC (RFC 1034 section 3.6.2, RFC 4034 section 4).
+    /// The record is a CNAME, and its owner has another record that isn't equal to it, and isn't an
+    /// RRSIG, an NSEC or a KEY (RFC 1034 section 3.6.2, RFC 4035 section 2.5).
     Cname,
     /// The record and the one before it are two DNAMEs with the same owner that differ (RFC 6672
     /// section 2.4).

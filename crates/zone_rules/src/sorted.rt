@@ -275,6 +275,11 @@ impl<'a, Owner: AsOctets, Octets: AsOctets> ZoneRecords for SortedRecords<'a, Ow
         self.records.len()
     }
 
+    fn are_in_order(&self) {
+        // No effect at run time: the proof reads that the records are in canonical order.
+        let _records = self.as_slice();
+    }
+
     fn record<'b>(&'b self, place: usize, _owner: &'b mut OwnerBuffer) -> ZoneRecord<'b> {
         record_at(self.records, place)
     }

@@ -36,7 +36,7 @@ pub trait ZoneRecords {
     ghost use Rattle.zone_rules.specs.Above.{is_wildcard};
     ghost use Rattle.zone_rules.specs.Present.{rrset_of_record};
     ghost use Rattle.zone_rules.specs.Searches.{AreOwnedAt, AreOwnedFrom, closest_above_earlier};
-    ghost use Rattle.zone_rules.specs.Zones.{as_listed, closest_owned, has_type_among, has_type_at, type_of, is_one_owner};
+    ghost use Rattle.zone_rules.specs.Zones.{as_listed, closest_owned, has_type_among, has_type_at, type_of, is_one_owner, AreInOrder};
 
     /// The type that holds the octets of owners in the list of records.
     type OwnerOctets;
@@ -50,6 +50,10 @@ pub trait ZoneRecords {
     /// Returns the number of records.
     fn len(&self) -> usize
         ensures { result ≡ length (contents self.now) };
+
+    /// States that the records are in canonical order.
+    fn are_in_order(&self)
+        ensures { AreInOrder (contents self.now) };
 
     /// Returns the record at an index. Its owner may be written to the buffer, in place of what is
     /// there.
