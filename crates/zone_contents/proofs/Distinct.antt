@@ -5,7 +5,7 @@ use Rattle.std.specs.Cmp.{IsTotalOrder, Equal-is}
 use Rattle.std.specs.List.{dedup, dedup_from}
 use Rattle.std.specs.List.Sorted.{IsSorted}
 use Rattle.std.specs.Option.{option_map}
-use Rattle.std.specs.Ordering.{eq_by_cmp, is_eq, is_lt, ordering_reverse, ordering_then}
+use Rattle.std.specs.Ordering.{eq_by_cmp, is_eq, is_le, is_lt, ordering_reverse, ordering_then}
 use Rattle.std.specs.declared.cmp.Ordering.{Ordering}
 use Rattle.std.specs.declared.cmp.Ordering.TheVariants.{Less, Equal, Greater}
 use Rattle.std.proofs.lemmas.Bool.{cases_lt, false≢true, lt-ltb}
@@ -21,10 +21,10 @@ use Rattle.zone_record.proofs.KeyNames.{name_read}
 use Rattle.zone_contents.specs.Contents.{contents, listed_record, listing, AreSortedRecords, IsZoneRecord, ZoneValue}
 use Rattle.zone_contents.specs.Digests.{first_at}
 use Rattle.zone_contents.specs.Steps.{distinct_from, EndsDuplicates, HasDistinct, SkipsDuplicates}
-use Rattle.zone_contents.proofs.Listings.{listed_at, listed_get, listed_length, valid_at}
+use Rattle.zone_contents.proofs.Listings.{listed_at, listed_get, listed_length, not_back, valid_at}
 use Rattle.zone_contents.proofs.ZoneKeys.{keys_in_order}
 use Rattle.zone_contents.proofs.ZoneNames.{owner_is}
-use Rattle.zone_rules.specs.Zones.{as_listed}
+use Rattle.zone_rules.specs.Zones.{as_listed, AreInOrder}
 use Rattle.zone_set.specs.Duplicates.{is_duplicate_at}
 use Rattle.zone_set.specs.Lookups.{canonical_order, same_key, AreCanonical}
 use Rattle.zone_set.specs.Stored.{AddedRecord, absent_parts, added_record, is_same_stored, parts_cmp, record_at, stored_order}
@@ -107,6 +107,15 @@ module _ (apex : List (List ℕ)) where
         ∙ ap is_lt (sym (in_order (place + (k + 1)) (place + k) next here))
         ∙ ap (λ m. is_lt (stored_order (record_at records m) (record_at records (place + k)))) (omega arith)
         ∙ are.sorted (place + k) (added_record [] absent_parts) (omega arith) (omega (arith, next))
+
+    -- the records are in canonical order
+    pub listed_in_order : AreInOrder xs
+    listed_in_order k d lt =
+        let next : k + 1 < length records = omega (arith, lt, listed_length apex records) in
+        let here : k < length records = omega (arith, next) in
+        (λ i. is_le (canonical_order (listed_at apex records k d here i) (listed_at apex records (k + 1) d next i)))
+        ∙ ap is_le (order_total.antisymm (at k) (at (k + 1)) ∙ ap ordering_reverse (sym (in_order (k + 1) k next here)))
+        ∙ not_back (stored_order (record_at records (k + 1)) (record_at records k)) (are.sorted k (added_record [] absent_parts) (omega arith) next)
 
     -- records without duplicates are in canonical order
     pub canonical_from : (place : ℕ) → AreCanonical (dedup same_key (drop place xs))

@@ -36,7 +36,7 @@ first_not Less rest h = h
 first_not Equal rest h = refl
 first_not Greater rest h = refl
 
-not_back : (o : Ordering) → is_lt o ≡ false → is_le (ordering_reverse o) ≡ true
+pub not_back : (o : Ordering) → is_lt o ≡ false → is_le (ordering_reverse o) ≡ true
 not_back Less h = absurd (false≢true (sym h))
 not_back Equal h = refl
 not_back Greater h = refl

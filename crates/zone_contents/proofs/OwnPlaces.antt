@@ -3,7 +3,7 @@ use Rattle.std.proofs.Common.{ℕ, ◌≡◌, ◌+◌, ◌-◌, ◌<◌, ◌≤�
 use Rattle.std.specs.Prelude.{All}
 use Rattle.std.specs.List.{AllWithin}
 use Rattle.std.specs.List.Sorted.{IsSorted}
-use Rattle.std.specs.Ordering.{is_lt, ordering_reverse}
+use Rattle.std.specs.Ordering.{is_le, is_lt, ordering_reverse}
 use Rattle.std.specs.declared.cmp.Ordering.{Ordering}
 use Rattle.std.specs.declared.cmp.Ordering.TheVariants.{Less, Equal, Greater}
 use Rattle.std.proofs.lemmas.Bool.{cases_lt, false≢true}
@@ -18,7 +18,7 @@ use Rattle.zone_contents.proofs.Listings.{listed_get, owned_from, valid_at}
 use Rattle.zone_contents.proofs.OneKey.{key_back}
 use Rattle.zone_rules.specs.Searches.{AreOwnedAt, AreOwnedFrom}
 use Rattle.zone_set.specs.Stored.{AddedRecord, absent_parts, added_record, record_at, stored_order, CountsBeforeKey}
-use Rattle.zone_set.proofs.EntrySearches.{keys_coarser, keys_total, lesser_first}
+use Rattle.zone_set.proofs.EntrySearches.{greater_last, keys_coarser, keys_total, lesser_first}
 
 abbrev none : AddedRecord
 none = added_record [] absent_parts
@@ -35,6 +35,65 @@ one_more P xs first place e lt h p i d low less = by (cases_lt i place)
     by (inr more) =
         let same : place ≡ i = omega (arith, less, more) in
         subst (λ j. P (get_or xs j d)) same (subst P (get_or_default xs place e d lt) p)
+
+tied : (o : Ordering) → is_lt o ≡ false → is_le o ≡ true → o ≡ Equal
+tied Less h k = absurd (false≢true (sym h))
+tied Equal h k = refl
+tied Greater h k = absurd (false≢true k)
+
+-- records of a key before the last ones
+pub ends_more : (records : List AddedRecord) (key : List ℕ) (first place past : ℕ) → first ≤ place → AllWithin (λ r. r.key ≡ key) records first place → (record_at records place).key ≡ key
+    → EndsKey (record_at records place).key records place past → EndsKey key records first past
+ends_more records key first place past low before is run = record {
+  bound = run.bound;
+  from = omega (arith, low, run.from);
+  same = λ i d from less. elim (cases_lt i place) [ inl under ↦ before i d from under | inr above ↦ run.same i d above less ∙ is ];
+  ends = λ lt e. run.ends lt (e ∙ sym is);
+}
+
+-- a record between two of one key has that key
+module _ (records : List AddedRecord) (sorted : IsSorted stored_order records) where
+  module _ (key : List ℕ) where
+    abbrev keyed : AddedRecord
+    keyed = added_record key absent_parts
+
+    itself : (i : ℕ) → (record_at records i).key ≡ key → octet_order (record_at records i).key key ≡ Equal
+    itself i e = ap (λ k. octet_order k key) e ∙ tied_itself nat_list_cmp_total key
+
+    not_before : (i m : ℕ) → i ≤ m → m < length records → (record_at records i).key ≡ key → is_lt (octet_order (record_at records m).key key) ≡ false
+    not_before i m low lt e = by (is_lt (octet_order (record_at records m).key key)) refl
+      where
+        by : (b : Bool) → is_lt (octet_order (record_at records m).key key) ≡ b → b ≡ false
+        by true t = sym (lesser_first keys_total keys_coarser keyed records sorted i m none low lt t) ∙ ap is_lt (itself i e)
+        by false t = refl
+
+    pub keys_between : (i m j : ℕ) → i ≤ m → m ≤ j → j < length records → (record_at records i).key ≡ key → (record_at records j).key ≡ key → (record_at records m).key ≡ key
+    keys_between i m j low high lt e f =
+        octets_equal (record_at records m).key key
+        (tied (octet_order (record_at records m).key key) (not_before i m low (omega (arith, high, lt)) e)
+        (greater_last keys_total keys_coarser keyed records sorted m j none high lt (ap is_le (itself j f))))
+
+  between : (key : List ℕ) (i m j : ℕ) (d : AddedRecord) → i ≤ m → m ≤ j → j < length records → (record_at records i).key ≡ key → (record_at records j).key ≡ key → (get_or records m d).key ≡ key
+  between key i m j d low high lt e f = ap (λ r. r.key) (get_or_default records m d none (omega (arith, high, lt))) ∙ keys_between key i m j low high lt e f
+
+  -- the last record of a key, and the next one
+  pub ends_run : (place last past : ℕ) → place ≤ last → last < past → past ≤ last + 1 → past ≤ length records → (record_at records last).key ≡ (record_at records place).key
+      → (past < length records → (record_at records past).key ≡ (record_at records place).key → ⊥) → EndsKey (record_at records place).key records place past
+  ends_run place last past low lt end bound same ends = record {
+    bound = bound;
+    from = omega (arith, low, lt);
+    same = λ i d from less. between (record_at records place).key place i last d from (omega (arith, less, end)) (omega (arith, lt, bound)) refl same;
+    ends = ends;
+  }
+
+  -- the first record of a key, and the one before it
+  pub begins_run : (place from first : ℕ) → from ≤ first → first ≤ from → first ≤ place → place < length records → (record_at records first).key ≡ (record_at records place).key
+      → (0 < from → (record_at records (from - 1)).key ≡ (record_at records place).key → ⊥) → BeginsKey records place first
+  begins_run place from first low high bound lt same begins = record {
+    bound = bound;
+    same = λ i d low less. between (record_at records place).key first i place d low (omega (arith, less)) lt same refl;
+    begins = λ more e. begins (omega (arith, more, high)) (ap (λ i. (record_at records (i - 1)).key) (omega (arith, low, high)) ∙ e);
+  }
 
 module _ (records : List AddedRecord) (place first past : ℕ) (lt : place < length records) (sorted : IsSorted stored_order records) (begins : BeginsKey records place first) (ends : EndsKey (record_at records place).key records place past) where
   abbrev key : List ℕ

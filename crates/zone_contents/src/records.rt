@@ -6,7 +6,9 @@ ghost use Rattle.zone_rules.specs.Zones.{as_listed};
 ghost use Rattle.zone_set.specs.Stored.{record_at};
 
 use crate::lookups::{has_type, host_types};
-use crate::searches::{closest, closest_before, have_one_owner, owner_at, places, places_at};
+use crate::searches::{
+    are_in_order, closest, closest_before, have_one_owner, owner_at, places, places_at,
+};
 use crate::stored::StoredZone;
 use crate::zone_key::Apex;
 use dns_wire::Name;
@@ -62,6 +64,10 @@ impl<A: Allocator> ZoneRecords for StoredZone<A> {
 
     fn len(&self) -> usize {
         self.store.len()
+    }
+
+    fn are_in_order(&self) {
+        are_in_order(&self.apex, &self.store);
     }
 
     fn record<'b>(&'b self, place: usize, owner: &'b mut OwnerBuffer) -> ZoneRecord<'b> {

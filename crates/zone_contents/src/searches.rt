@@ -5,7 +5,7 @@ ghost use Rattle.zone_contents.specs.Keys.{name_octets};
 ghost use Rattle.zone_contents.specs.Searches.{closest_earlier, shared_by, BeginsKey, EndsKey};
 ghost use Rattle.zone_rules.specs.Present.{rrset_of_record};
 ghost use Rattle.zone_rules.specs.Searches.{before_place, AreOwnedAt, AreOwnedFrom, PartsBefore};
-ghost use Rattle.zone_rules.specs.Zones.{closest_owned, is_one_owner};
+ghost use Rattle.zone_rules.specs.Zones.{closest_owned, is_one_owner, AreInOrder};
 ghost use Rattle.zone_set.specs.Stored.{record_at, CountsBeforeKey};
 
 use crate::zone_key::{Apex, MAX_ZONE_KEY, ZoneKey, write_name, write_split_name};
@@ -96,6 +96,12 @@ pub(crate) fn owner_at<'b, A: Allocator>(
     write_owner(apex, store, place, owner);
     name_of(owner.as_slice())
 }
+
+/// States that the records of a zone are in canonical order.
+pub(crate) fn are_in_order<A: Allocator>(apex: &Apex, store: &SortedStore<A>)
+    requires { AreSortedRecords apex.now store.now }
+    ensures { AreInOrder (listing apex.now store.now) }
+{}
 
 /// Returns whether the records at two indexes have the same owner, ignoring letter case.
 pub(crate) fn have_one_owner<A: Allocator>(
@@ -193,7 +199,48 @@ pub(crate) fn closest_before<'n, A: Allocator>(
     shared_before(apex, store, place, name)
 }
 
-/// Returns the index after the records with a key, of which the first has this index.
+/// Returns the index after the last record with the key of the record at an index. Makes a binary
+/// search.
+fn past_many<A: Allocator>(store: &SortedStore<A>, place: usize) -> usize
+    requires { place < length store.now }
+    ensures { EndsKey (record_at store.now place).key store.now place result }
+{
+    let mut last = place;
+    let mut past = store.len();
+    'halve: while past - last > 1 {
+        let middle = last + (past - last) / 2;
+        if store.have_one_key(middle, place) {
+            last = middle;
+        } else {
+            past = middle;
+        }
+    }
+    past
+}
+
+/// Returns the index of the first record with the key of the record at an index. Makes a binary search.
+fn first_of_many<A: Allocator>(store: &SortedStore<A>, place: usize) -> usize
+    requires { place < length store.now }
+    ensures { BeginsKey store.now place result }
+{
+    // No effect at run time: the proof reads that the records are in canonical order.
+    let _count = store.len();
+    let mut from = 0;
+    let mut first = place;
+    'halve: while from < first {
+        let middle = from + (first - from) / 2;
+        if store.have_one_key(middle, place) {
+            first = middle;
+        } else {
+            from = middle + 1;
+        }
+    }
+    first
+}
+
+/// Returns the index after the records with a key, of which the first has this index. Makes a binary
+/// search if there are more than [`FEW`].
+#[tactic(auto, using(crate::proofs::OwnPlaces::ends_more))]
 fn past_key<A: Allocator>(store: &SortedStore<A>, first: usize, key: &[u8]) -> usize
     requires { first ≤ length store.now }
     ensures { EndsKey key.now store.now first result }
@@ -201,6 +248,9 @@ fn past_key<A: Allocator>(store: &SortedStore<A>, first: usize, key: &[u8]) -> u
     for place in first..store.len() {
         if !store.has_key(place, key) {
             return place;
+        }
+        if place - first >= FEW {
+            return past_many(store, place);
         }
     }
     store.len()
@@ -227,7 +277,8 @@ pub(crate) fn past_few<A: Allocator>(
     Some(store.len())
 }
 
-/// Returns the index of the first record with the key of the record at an index.
+/// Returns the index of the first record with the key of the record at an index. Makes a binary search
+/// if more than [`FEW`] are before it.
 fn first_with_key<A: Allocator>(store: &SortedStore<A>, place: usize) -> usize
     requires { place < length store.now }
     ensures { BeginsKey store.now place result }
@@ -235,11 +286,15 @@ fn first_with_key<A: Allocator>(store: &SortedStore<A>, place: usize) -> usize
     let mut first = place;
     'back: while first > 0 && store.have_one_key(first - 1, place) {
         first -= 1;
+        if place - first >= FEW {
+            return first_of_many(store, place);
+        }
     }
     first
 }
 
-/// Returns the index after the last record with the key of the record at an index.
+/// Returns the index after the last record with the key of the record at an index. Makes a binary
+/// search if more than [`FEW`] are after it.
 fn past_with_key<A: Allocator>(store: &SortedStore<A>, place: usize) -> usize
     requires { place < length store.now }
     ensures { EndsKey (record_at store.now place).key store.now place result }
@@ -247,6 +302,9 @@ fn past_with_key<A: Allocator>(store: &SortedStore<A>, place: usize) -> usize
     for next in place..store.len() {
         if !store.have_one_key(next, place) {
             return next;
+        }
+        if next - place >= FEW {
+            return past_many(store, place);
         }
     }
     store.len()

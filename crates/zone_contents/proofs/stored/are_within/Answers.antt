@@ -1,5 +1,5 @@
-use Rattle.std.proofs.Common.{length, ap, sym, ◌∙◌, ◌-◌, [], ◌∷◌, arith}
-use Rattle.std.specs.Ordering.{is_ge, is_lt}
+use Rattle.std.proofs.Common.{length, ap, sym, ◌∙◌, ◌-◌, [], ◌∷◌}
+use Rattle.std.specs.Ordering.{is_lt}
 use Rattle.zone_record.specs.Names.{octet_order}
 use Rattle.zone_contents.proofs.WithinZone.{all_within, not_less, some_more}
 use Rattle.zone_set.specs.Stored.{record_at}
