@@ -6,7 +6,7 @@ use crate::findings::Findings;
 use crate::held_zone::{HeldZone, RecordLocation, SortedZone};
 use crate::lone_rules::breaks_none;
 use crate::refusals::refused_type;
-use crate::scan::needs_lint;
+use crate::scan::{may_begin_comment, needs_lint};
 use crate::scopes::{Scope, scope_of};
 use dns_lexer::entry_tokens::EntryToken;
 use dns_wire::Name;
@@ -113,7 +113,7 @@ fn directive_of<'e>(tokens: &[EntryToken<'e>], begins_blank: bool) -> Option<Ent
 /// Returns whether the comments of an entry may contain exceptions. Those of a directive apply to its
 /// entries.
 fn has_exceptions(entry: &Entry<'_>, scan: OctetScan) -> bool {
-    entry.generated.is_none() && scan.has_semicolon && may_except(entry.octets)
+    entry.generated.is_none() && may_begin_comment(entry.octets, scan) && may_except(entry.octets)
 }
 
 /// Returns whether findings about the octets of an entry are looked for. Those of a generated entry
@@ -260,7 +260,7 @@ impl<'a> Checker<'a> {
                         || (self.is_usual_ttl(*ttl)
                             && data_code(*rtype, entry.data).is_none()
                             && breaks_none(entry, scan, *rtype).unwrap_or(false)
-                            && !self.may_show_names(entry, scan)))
+                            && !self.may_show_names(entry, scan, *rtype)))
             }
             _ => false,
         }

@@ -15,4 +15,5 @@ mod scan;
 pub mod scopes;
 mod signature_groups;
 mod signed_zone;
+mod spelled_names;
 mod spelled_owners;

@@ -1,4 +1,5 @@
 //! The messages of rules that a record alone breaks, and whether it breaks none.
+use crate::scan::may_have_word_at_comment;
 use rdata_values::RecordType;
 use record_rules::{RecordRule, Written, broken_rules};
 use zone_check::scan::OctetScan;
@@ -39,7 +40,7 @@ pub fn breaks_none(
     scan: OctetScan,
     rtype: RecordType,
 ) -> Result<bool, RunError> {
-    if is_text_type(rtype) && (scan.has_semicolon || scan.has_backslash) {
+    if is_text_type(rtype) && (scan.has_backslash || may_have_word_at_comment(entry.octets, scan)) {
         return Ok(false);
     }
     let Some(record) = entry.record()? else {

@@ -8,7 +8,7 @@ use zone_check::scan::OctetScan;
 const LANES: usize = 16;
 
 /// Drops the octets before the first one that equals `octet`, or all of them if none does.
-fn skip_to(octets: &[u8], octet: u8) -> &[u8]
+pub(crate) fn skip_to(octets: &[u8], octet: u8) -> &[u8]
     ensures { length result.now ≤ length octets.now }
 {
     let mut rest = octets;
@@ -48,7 +48,7 @@ fn has_two_parentheses(octets: &[u8]) -> bool {
 }
 
 /// Returns whether a plain octet separates tokens.
-fn separates(octet: u8) -> bool {
+pub(crate) fn separates(octet: u8) -> bool {
     matches!(octet, b' ' | b'\t' | b'\n' | b'(' | b')')
 }
 
@@ -76,6 +76,55 @@ fn may_be_adjacent(octets: &[u8]) -> bool {
         rest = after;
     }
     false
+}
+
+/// Returns whether an octet occurs outside of the quoted strings of an entry without escapes and comments.
+fn has_unquoted(octets: &[u8], octet: u8) -> bool {
+    let mut rest = octets;
+    for _ in 0..octets.len() {
+        let quoted = skip_to(rest, b'"');
+        let words = &rest[..rest.len() - quoted.len()];
+        if !skip_to(words, octet).is_empty() {
+            return true;
+        }
+        let [_, text @ ..] = quoted else {
+            return false;
+        };
+        let [_, after @ ..] = skip_to(text, b'"') else {
+            return false;
+        };
+        rest = after;
+    }
+    false
+}
+
+/// Returns whether a comment is adjacent to a token, in an entry without escapes and quoted strings.
+fn has_adjacent_comment(octets: &[u8]) -> bool {
+    let mut rest = octets;
+    for _ in 0..octets.len() {
+        let comment = skip_to(rest, b';');
+        let words = &rest[..rest.len() - comment.len()];
+        if comment.is_empty() {
+            return false;
+        }
+        if touches(words.last()) {
+            return true;
+        }
+        rest = skip_to(comment, b'\n');
+    }
+    false
+}
+
+/// Returns whether an entry may have a comment. If it returns `false`, all semicolons of the entry are in
+/// quoted strings.
+pub fn may_begin_comment(octets: &[u8], scan: OctetScan) -> bool {
+    scan.has_semicolon && (!scan.has_quote || scan.has_backslash || has_unquoted(octets, b';'))
+}
+
+/// Returns whether a comment of an entry may be adjacent to a word. If it returns `false`, none is.
+pub fn may_have_word_at_comment(octets: &[u8], scan: OctetScan) -> bool {
+    may_begin_comment(octets, scan)
+        && (scan.has_quote || scan.has_backslash || has_adjacent_comment(octets))
 }
 
 /// Returns whether the octets of an entry may contain something that `lint` reports. It reports nothing

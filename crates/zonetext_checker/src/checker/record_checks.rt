@@ -1,6 +1,7 @@
 //! Findings about a record, and about a directive, by itself.
 use super::{Checker, SoaInfo};
 use crate::scan::{ends_twice, repeats_origin};
+use crate::spelled_names::has_absolute_names;
 use dns_wire::DisplayWithoutDot;
 use rdata_values::{Class, RecordType};
 use std::alloc::AllocError;
@@ -13,23 +14,32 @@ use zonetext_files::stop::RunError;
 use zonetext_files::zone_files::Entry;
 use zonetext_findings::locations::tokens_of;
 
+/// Returns whether a name of a record, as it is spelled, may end like the origin: a relative name that does
+/// has the origin twice, unless it has escapes.
+fn may_repeat_origin(entry: &Entry<'_>, scan: OctetScan, origin: &[u8]) -> bool {
+    let Ok(owner) = entry.state.owner() else {
+        return true;
+    };
+    scan.has_backslash || ends_twice(owner.as_slice(), origin) || repeats_origin(entry.data, origin)
+}
+
 impl<'a> Checker<'a> {
-    /// Returns whether the names of a record, as they are spelled, may have findings. A relative
-    /// name that ends like the origin has the origin twice, unless it has escapes.
-    pub(super) fn may_show_names(&self, entry: &Entry<'_>, scan: OctetScan) -> bool {
+    /// Returns whether the names of a record, as they are spelled, may have findings.
+    pub(super) fn may_show_names(
+        &self,
+        entry: &Entry<'_>,
+        scan: OctetScan,
+        rtype: RecordType,
+    ) -> bool {
         let Some(origin) = entry.state.origin.name() else {
             return false;
         };
         if origin.len() < 2 {
-            return self.limits.assumes_root && !self.has_reported_origin;
+            return self.limits.assumes_root
+                && !self.has_reported_origin
+                && !has_absolute_names(entry.octets, rtype);
         }
-        let origin = origin.as_slice();
-        let Ok(owner) = entry.state.owner() else {
-            return true;
-        };
-        scan.has_backslash
-            || ends_twice(owner.as_slice(), origin)
-            || repeats_origin(entry.data, origin)
+        may_repeat_origin(entry, scan, origin.as_slice())
     }
 
     /// Returns the text of the origin without its last dot, or none if names need not be looked at
@@ -40,7 +50,8 @@ impl<'a> Checker<'a> {
         scan: OctetScan,
     ) -> Result<String, AllocError> {
         match entry.state.origin.name() {
-            Some(origin) if origin.len() >= 2 && self.may_show_names(entry, scan) => {
+            Some(origin)
+                if origin.len() >= 2 && may_repeat_origin(entry, scan, origin.as_slice()) => {
                 DisplayWithoutDot::new(origin).to_string(self.alloc)
             }
             _ => Ok(String::new(self.alloc)),
