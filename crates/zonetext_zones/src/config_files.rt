@@ -1,10 +1,12 @@
 //! The files of a configuration, and those that they include.
 use crate::path_patterns::paths_of;
-use crate::zone_sources::{SourceError, error_at, place_text, read_error, text_of_file};
+use crate::zone_sources::{SourceError, error_at, located, place_text, read_error, text_of_file};
 use server_config::{ConfigError, ConfigToken, TextSpan};
 use std::alloc::{AllocError, Global};
 use std::fs::canonicalize;
 use std::io;
+use zone_format::place::LocatedOffset;
+use zonetext_files::open_file::first_place;
 
 /// Greatest number of included files in all. A file that is included again counts again.
 const MOST_FILES: usize = 10_000;
@@ -21,6 +23,8 @@ pub struct ConfigFile {
     pub from: usize,
     /// Whether reading it has begun.
     pub is_begun: bool,
+    /// Place up to which lines and columns are counted.
+    counted: LocatedOffset,
 }
 
 /// The files that are open, each included by one before it, and those that come next.
@@ -59,9 +63,11 @@ impl ConfigFile {
         )
     }
 
-    /// Returns the place of an offset, as `FILE:LINE:COLUMN`.
-    pub fn place(&self, alloc: Global, at: usize) -> Result<String, AllocError> {
-        place_text(alloc, self.name.as_str(), self.text.as_slice(), at)
+    /// Returns the place of an offset, as `FILE:LINE:COLUMN`. Lines are counted from the offset of the
+    /// call before, unless that is a later one.
+    pub fn place(&mut self, alloc: Global, at: usize) -> Result<String, AllocError> {
+        self.counted = located(self.text.as_slice(), self.counted, at);
+        place_text(alloc, self.name.as_str(), self.counted)
     }
 
     /// Returns the text of a word of the file that it means.
@@ -98,7 +104,8 @@ impl ConfigFile {
         span: TextSpan,
         path: &str,
     ) -> Result<String, AllocError> {
-        let place = self.place(alloc, span.at)?;
+        let place = located(self.text.as_slice(), self.counted, span.at);
+        let place = place_text(alloc, self.name.as_str(), place)?;
         let place = place.as_str();
         format!(in alloc; "{place}: cannot open '{path}'")
     }
@@ -120,6 +127,7 @@ impl ConfigFiles {
             text,
             from: 0,
             is_begun: false,
+            counted: first_place(),
         })?;
         Ok(ConfigFiles { waiting, count: 1 })
     }
@@ -161,6 +169,7 @@ impl ConfigFiles {
             text: text_of_file(rt, path)?,
             from: 0,
             is_begun: false,
+            counted: first_place(),
         })
     }
 

@@ -186,7 +186,7 @@ impl<'r> NamedReader<'r> {
     }
 
     /// Begins a zone.
-    fn open_zone(&mut self, file: &ConfigFile, name: BlockName) -> Result<(), SourceError> {
+    fn open_zone(&mut self, file: &mut ConfigFile, name: BlockName) -> Result<(), SourceError> {
         let alloc = self.rt.alloc();
         let mut zone = no_zone(alloc);
         zone.name = string_of(alloc, file, name.name)?;
@@ -254,7 +254,7 @@ impl<'r> NamedReader<'r> {
     /// Processes what a statement means. `before` is the state before it.
     fn process_event(
         &mut self,
-        file: &ConfigFile,
+        file: &mut ConfigFile,
         event: ConfigEvent,
         before: ConfigState,
     ) -> Result<(), SourceError> {
@@ -308,7 +308,7 @@ impl<'r> NamedReader<'r> {
                     return Ok(());
                 }
                 ConfigEvent::Include(token) => return self.include(file, token),
-                event => self.process_event(&file, event, before)?,
+                event => self.process_event(&mut file, event, before)?,
             }
         }
         Ok(())

@@ -100,7 +100,7 @@ impl<'r> NsdReader<'r> {
     /// Begins a section. `end` is the offset after its keyword.
     fn begin(
         &mut self,
-        file: &ConfigFile,
+        file: &mut ConfigFile,
         section: NsdSection,
         end: usize,
     ) -> Result<(), SourceError> {
@@ -159,7 +159,7 @@ impl<'r> NsdReader<'r> {
     /// Processes what a token means. `end` is the offset after it.
     fn process_event(
         &mut self,
-        file: &ConfigFile,
+        file: &mut ConfigFile,
         event: NsdEvent,
         end: usize,
     ) -> Result<(), SourceError> {
@@ -214,7 +214,7 @@ impl<'r> NsdReader<'r> {
             match step.event {
                 NsdEvent::End => return Ok(()),
                 NsdEvent::Include(token) => return self.include(file, token),
-                event => self.process_event(&file, event, step.next)?,
+                event => self.process_event(&mut file, event, step.next)?,
             }
         }
         Ok(())

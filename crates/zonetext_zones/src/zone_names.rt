@@ -1,12 +1,10 @@
 //! How the zone of a file is determined: by an option, or by the name of the file.
+use crate::arguments::{ArgRow, FLAG, VALUED};
 use crate::options::{Usage, name_of, zone_of};
-use clap::{Arg, ArgMatches};
+use clap::ArgMatches;
 use server_config::zone_in_path;
 use std::alloc::{AllocError, Global};
 use zone_reader::NameBuffer;
-
-/// The help text of `--zone-from-name`.
-const HELP: &str = "like --zone, with the file's name without .zone or .db";
 
 /// How a file's zone is determined.
 #[derive(Clone, Copy)]
@@ -18,15 +16,20 @@ pub enum Zone<'o> {
     FromName,
 }
 
-/// Returns the option `--zone`, which conflicts with `--zone-from-name`.
-pub fn zone_option<'a>(alloc: Global, help: &'a str) -> Result<Arg<'a>, AllocError> {
-    crate::arguments::valued(alloc, "zone", "ORIGIN", help).conflicts_with("zone-from-name")
-}
+/// The option `--zone`, without its help text.
+pub const ZONE: ArgRow = ArgRow {
+    name: "zone",
+    value_name: &["ORIGIN"],
+    conflicts: &["zone-from-name"],
+    ..VALUED
+};
 
-/// Returns the option `--zone-from-name`.
-pub fn name_option<'a>(alloc: Global) -> Arg<'a> {
-    crate::arguments::flag(alloc, "zone-from-name", HELP)
-}
+/// The option `--zone-from-name`.
+pub const ZONE_FROM_NAME: ArgRow = ArgRow {
+    name: "zone-from-name",
+    help: "like --zone, with the file's name without .zone or .db",
+    ..FLAG
+};
 
 /// Returns the zone that a file's name contains, as `example.org.zone` does.
 fn zone_of_path(path: &str) -> Option<NameBuffer> {

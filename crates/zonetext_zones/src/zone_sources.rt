@@ -6,6 +6,7 @@ use std::alloc::{AllocError, AllocFailed, Global};
 use std::io::{ErrorKind, Read};
 use std::path::Path;
 use std::{fs, io};
+use zone_format::place::LocatedOffset;
 use zonetext_files::open_file::{first_place, place_after};
 use zonetext_files::shown::{Shown, quoted};
 use zonetext_files::stop::EXIT_IO;
@@ -104,11 +105,20 @@ pub fn octets_in(text: &[u8], span: TextSpan) -> &[u8] {
     octets_between(text, span.at, span.end)
 }
 
+/// Returns an offset of a text with its position. Counts the octets from `counted` on, or from the beginning
+/// if the offset is before it.
+pub fn located(text: &[u8], counted: LocatedOffset, at: usize) -> LocatedOffset {
+    let from = if counted.at <= at {
+        counted
+    } else {
+        first_place()
+    };
+    place_after(from, octets_between(text, from.at, at.min(text.len())))
+}
+
 /// Returns the place of an offset of a file, as `FILE:LINE:COLUMN`.
-pub fn place_text(alloc: Global, file: &str, text: &[u8], at: usize) -> Result<String, AllocError> {
-    let before = octets_between(text, 0, at.min(text.len()));
-    let position = place_after(first_place(), before).position;
-    let (line, column) = (position.line, position.column);
+pub fn place_text(alloc: Global, file: &str, place: LocatedOffset) -> Result<String, AllocError> {
+    let (line, column) = (place.position.line, place.position.column);
     format!(in alloc; "{file}:{line}:{column}")
 }
 
@@ -121,7 +131,7 @@ fn message_at(
     span: TextSpan,
     message: &str,
 ) -> Result<String, AllocError> {
-    let place = place_text(alloc, file, text, span.at)?;
+    let place = place_text(alloc, file, located(text, first_place(), span.at))?;
     let place = place.as_str();
     let word = octets_in(text, span);
     if word.is_empty() {
