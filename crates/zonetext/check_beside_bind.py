@@ -25,7 +25,7 @@ import tempfile
 from urllib.parse import unquote_to_bytes
 
 HERE = os.path.dirname(os.path.realpath(__file__))
-ROWS = f"{HERE}/../test_records/stdin"
+ROWS = f"{HERE}/../test_records/rows"
 TYPES = f"{HERE}/../rdata/src/types.rt"
 ORIGIN = "example."
 # Types whose presentation format BIND reads and zonetext doesn't.

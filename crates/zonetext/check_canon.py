@@ -3,8 +3,8 @@
 expected one. Over random zones, `canon --wire` must print what ldns-read-zone prints, if that is
 installed. The changes that `diff` prints must turn the first zone into the second. `digest` must accept
 the digests that ldns-signzone and dnspython make. `canon --memory` must print the same as `canon`.
-`rt run` in this folder builds the program as out/zonetext. With UNPROVED set, large zones are a fortieth as
-large, and a third of the random zones are run.
+`rt run` in this folder builds the program as out/zonetext. With UNPROVED set, large zones are an eighth as
+large; with SANITIZED a fortieth, and a third of the random zones are run.
 
     crates/zonetext/check_canon.py [PROGRAM] [SEED]
 """
@@ -30,11 +30,11 @@ PROGRAM = os.path.abspath(sys.argv[1] if len(sys.argv) > 1 else f'{HERE}/out/zon
 SEED = int(sys.argv[2]) if len(sys.argv) > 2 else 1
 LDNS = 'ldns-read-zone'
 SIGNER = 'ldns-signzone'
-# an unproved program takes far more time: smaller zones
-UNPROVED = 'UNPROVED' in os.environ
+# (an unproved program takes more time, and a sanitized one far more)
+SANITIZED, UNPROVED = 'SANITIZED' in os.environ, 'UNPROVED' in os.environ
 ROUNDS = 40
-LINES = 20 if UNPROVED else 60
-LESS = 40 if UNPROVED else 1
+LINES = 20 if SANITIZED else 60
+LESS = 40 if SANITIZED else 8 if UNPROVED else 1
 counts = {'rows': 0, 'wrong': 0}
 
 
@@ -161,9 +161,9 @@ def digest_rows():
     same('another serial', run('digest', '--zone', 'example.', 'digest'),
          (1, front + "another serial number than the SOA's\n", ''))
     same('no digest', run('digest', 'old'), (1, '', "zonetext: old: no ZONEMD at the zone's name\n"))
-    same('no SOA', run('digest', '-', given='a. 60 A 192.0.2.1\n'), (3, '', 'zonetext: -: no SOA\n'))
+    same('no SOA', run('digest', '-', given='a. 60 A 192.0.2.1\n'), (1, '', 'zonetext: -: no SOA\n'))
     same('two SOAs', run('digest', '-', given=text(SOA, SOA.replace(' 5 ', ' 6 '))),
-         (3, '', "zonetext: -: no single SOA at the zone's name\n"))
+         (1, '', "zonetext: -: no single SOA at the zone's name\n"))
     same('a fault', run('digest', '-', given='a. 60 A 192.0.2.256\n')[:2], (1, ''))
     same('an absent file', run('digest', 'absent')[:2], (3, ''))
 
@@ -183,6 +183,23 @@ def other_soa_rows():
     same('a name of its own', run('canon', 'sub')[0], 0)
     same('two files', run('canon', 'one', 'sub'), (1, '', 'sub:1:1: ' + said))
     same('records go on', run('records', 'two')[::2], (0, ''))
+
+
+def most_rows():
+    """`records --max N` reports at most N errors, by default 20, or all with 0. It prints the records in any case."""
+    put('faulty', text(SOA, NS) + 'a.example. 60 IN A 192.0.2.256\n' * 25)
+    errors = [f"faulty:{line}:20: error: a A: address: expected IPv4 address '192.0.2.256' [data]" for line in range(3, 28)]
+    for words, most in ([], 20), (['--max', '3'], 3), (['--max', '24'], 24):
+        said = text(*errors[:most], f'25 errors, 0 warnings, {25 - most} not shown')
+        same(f'{most} errors', run('records', *words, 'faulty'), (1, text(SOA, NS), said))
+    for most in '0', '25', '4294967295':
+        same(f'all errors, by {most}', run('records', '--max', most, 'faulty'), (1, text(SOA, NS), text(*errors, '25 errors, 0 warnings')))
+    same('one error, and JSON', run('records', '--json', '--max', '1', 'faulty')[::2], (1, text(errors[0], '25 errors, 0 warnings, 24 not shown')))
+    for most in 'many', '-1', '4294967296':
+        same(f'no such number: {most}', run('records', f'--max={most}', 'faulty'),
+             (2, '', f'zonetext: --max {most}: wants a number up to 4294967295\n'))
+    for command in 'canon', 'digest', 'serial', 'expand':
+        same(f'--max of {command}', run(command, '--max', '1', 'faulty')[:2], (2, ''))
 
 
 def transfer_rows():
@@ -233,7 +250,7 @@ def memory_rows():
     same('in 64M', run('canon', '--zone', 'example.', '--memory', '64M', 'big'), run('canon', '--zone', 'example.', 'big'))
     same('of standard input, in 1G', run('canon', '--zone', 'example.', '--memory', '1G', given=ZONE),
          run('canon', '--zone', 'example.', given=ZONE))
-    long = text(*(f'w{number:02} 60 IN TXT ' + ' '.join(['"' + chr(97 + number) * 250 + '"'] * 250) for number in range(3 if UNPROVED else 20, 0, -1)))
+    long = text(*(f'w{number:02} 60 IN TXT ' + ' '.join(['"' + chr(97 + number) * 250 + '"'] * 250) for number in range(3 if SANITIZED else 20, 0, -1)))
     same('records as long as memory', run('canon', '--zone', 'example.', *small, given=long), run('canon', '--zone', 'example.', given=long))
     same('what is behind', os.listdir('runs'), [])
     same('a fault', run('canon', '--zone', 'example.', *small, 'big', '-', given='a. 60 A 192.0.2.256\n', **where),
@@ -376,6 +393,7 @@ def main():
         diff_rows()
         digest_rows()
         other_soa_rows()
+        most_rows()
         transfer_rows()
         memory_rows()
         random_rows()

@@ -1,7 +1,8 @@
 #!/usr/bin/env python3
 """Runs `cut` of the built program over zones, and compares the records of the parts with those of the whole
 zone: as `records` prints them, and as named-compilezone loads them, if that is installed. `rt run` in this
-folder builds the program as out/zonetext. With UNPROVED set, zones are smaller, and memory is not limited.
+folder builds the program as out/zonetext. With UNPROVED set, zones are smaller; with SANITIZED they are smaller
+still, and memory is not limited.
 
     crates/zonetext/check_cut.py [PROGRAM] [SEED]
 """
@@ -17,8 +18,8 @@ HERE = os.path.dirname(os.path.abspath(__file__))
 PROGRAM = os.path.abspath(sys.argv[1] if len(sys.argv) > 1 else f'{HERE}/out/zonetext')
 SEED = int(sys.argv[2]) if len(sys.argv) > 2 else 1
 BIND = 'named-compilezone'
-# (an unproved program takes far more time and memory)
-UNPROVED = 'UNPROVED' in os.environ
+# (an unproved program takes more time, and a sanitized one far more, and memory)
+SANITIZED, UNPROVED = 'SANITIZED' in os.environ, 'UNPROVED' in os.environ
 NOTHING = 'zonetext: nothing is written\n'
 counts = {'rows': 0, 'wrong': 0}
 
@@ -181,7 +182,7 @@ def rows():
                   ['cut', '2', '--class', 'x', 'zone', '-o', 'part'], ['cut', '2', '--zone', 'a..b', 'zone', '-o', 'part']):
         same('usage', run(*words)[:2], (2, b''))
     same('an absent file', run('cut', '2', 'absent', '-o', 'part')[:2], (3, b''))
-    put('given', b''.join(b'h%d. 60 A 192.0.2.1\n' % number for number in range(100 if UNPROVED else 1500)))
+    put('given', b''.join(b'h%d. 60 A 192.0.2.1\n' % number for number in range(100 if SANITIZED else 1500)))
     same('many parts', (run('cut', '1200', 'given', '-o', 'part')[0], parts()[0], len(parts()[-1])), (0, 'part.0000', 9))
     clear()
 
@@ -205,9 +206,9 @@ with tempfile.TemporaryDirectory() as folder:
     os.chdir(folder)
     rows()
     random_zones(random.Random(SEED))
-    if UNPROVED:
+    if SANITIZED:
         large(1, '')
     else:
-        large(1000, 'ulimit -v 16384; ')
-print(f"check_cut.py: {counts['rows']} rows, {counts['wrong']} differ" + (', 1 left' if UNPROVED else '') + ('' if shutil.which(BIND) else f'; no {BIND}'))
+        large(100 if UNPROVED else 1000, 'ulimit -v 16384; ')
+print(f"check_cut.py: {counts['rows']} rows, {counts['wrong']} differ" + (', 1 left' if SANITIZED else '') + ('' if shutil.which(BIND) else f'; no {BIND}'))
 sys.exit(counts['wrong'] > 0)

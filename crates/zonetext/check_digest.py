@@ -254,8 +254,8 @@ def refusal_rows():
             'zone:6:5: error: a A: address: expected IPv4 address \'192.0.2.256\' [data]\n1 error, 0 warnings\n' + NOTHING, status=1)
     refused('a byte order mark', '\xef\xbb\xbf' + whole,
             'zone:1:1: error: byte order mark [byte-order-mark]\n1 error, 0 warnings\n' + NOTHING, status=1)
-    refused('no SOA', 'a 60 A 192.0.2.1\n', 'zonetext: zone: no SOA\n' + NOTHING)
-    refused('two SOAs', whole + SHORT.replace('1900', '1901'), "zonetext: zone: no single SOA at the zone's name\n" + NOTHING)
+    refused('no SOA', 'a 60 A 192.0.2.1\n', 'zonetext: zone: no SOA\n' + NOTHING, status=1)
+    refused('two SOAs', whole + SHORT.replace('1900', '1901'), "zonetext: zone: no single SOA at the zone's name\n" + NOTHING, status=1)
     other = 'sub' + SHORT.replace('example.', '').replace('1900', '1907')
     refused('an SOA of another name', other + whole, 'zone:1:1: error: SOA of sub.example., and the zone is example.\n' + NOTHING, status=1)
     put('soa', SHORT)

@@ -21,6 +21,8 @@ TOP = os.path.dirname(os.path.dirname(HERE))
 PROGRAM = os.path.abspath(os.environ.get('zonetext') or HERE + '/out/zonetext')
 GOOD = '@ 1h SOA ns h 1 2h 30m 2w 1h\n@ NS ns\n@ NS ns.o.\nns A 192.0.2.1\n'
 BAD = GOOD + '@ MX 10 mial\nw A 192.0.2.256\nmail A 192.0.2.3\n'
+# Time limit of a command.
+SECONDS = 600
 DIFFER = []
 COUNT = 0
 if sys.argv[1:2] == ['--installed']:
@@ -57,7 +59,7 @@ def run(words, folder, stdin=''):
                    GIT_CONFIG_NOSYSTEM='1', GIT_AUTHOR_NAME='a', GIT_AUTHOR_EMAIL='a@a.invalid',
                    GIT_COMMITTER_NAME='a', GIT_COMMITTER_EMAIL='a@a.invalid')
     ran = subprocess.run(words, cwd=folder, env=environ, input=stdin, stdout=subprocess.PIPE,
-                         stderr=subprocess.STDOUT, universal_newlines=True, timeout=120)
+                         stderr=subprocess.STDOUT, universal_newlines=True, timeout=SECONDS)
     return ran.returncode, ran.stdout
 
 

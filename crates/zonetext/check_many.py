@@ -174,7 +174,7 @@ ROWS = [
 
 
 def limit_stack():
-    if not os.environ.get("UNPROVED"):
+    if not os.environ.get("SANITIZED"):
         resource.setrlimit(resource.RLIMIT_STACK, (STACK, STACK))
 
 

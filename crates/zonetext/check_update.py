@@ -3,7 +3,7 @@
 compares their output with the expected one. If named and nsupdate of BIND are installed, it also loads the
 old zone into a named on the loopback address, runs nsupdate with what `diff --nsupdate` prints, and
 compares the zone that named then has with the new file. `rt run` in this folder builds the program as
-out/zonetext. With UNPROVED set, large zones are a tenth as large.
+out/zonetext. With SANITIZED set, large zones are a tenth as large.
 
     crates/zonetext/check_update.py [PROGRAM] [SEED]
 """
@@ -21,8 +21,10 @@ import time
 HERE = os.path.dirname(os.path.abspath(__file__))
 PROGRAM = os.path.abspath(sys.argv[1] if len(sys.argv) > 1 else f'{HERE}/out/zonetext')
 SEED = int(sys.argv[2]) if len(sys.argv) > 2 else 1
-LESS = 10 if 'UNPROVED' in os.environ else 1
+LESS = 10 if 'SANITIZED' in os.environ else 1
 PAIRS = 20
+# Time limit of the start of named, in seconds.
+START_SECONDS = 300
 TOOLS = 'named', 'nsupdate', 'dig'
 counts = {'rows': 0, 'wrong': 0, 'zones': 0}
 
@@ -232,12 +234,13 @@ zone "example." {{ type primary; file "{self.folder}/zone"; allow-update {{ 127.
 ''')
         with open(f'{self.folder}/log', 'wb') as log:
             self.process = subprocess.Popen(['named', '-c', f'{self.folder}/named.conf', '-g', '-n', '1'], stdout=log, stderr=log)
-        for _ in range(300):
+        began = time.monotonic()
+        while self.process.poll() is None and time.monotonic() - began < START_SECONDS:
             if 'status: NOERROR' in self.dig('+tries=1', '+time=1', 'soa'):
                 return
             time.sleep(0.1)
         with open(f'{self.folder}/log', encoding='latin-1') as log:
-            sys.exit('named does not answer\n' + log.read()[-3000:])
+            sys.exit(f'named does not answer within {START_SECONDS} s\n' + log.read()[-3000:])
 
     def dig(self, *words):
         ran = subprocess.run(['dig', '-p', str(self.port), '@127.0.0.1', 'example.', *words], stdout=subprocess.PIPE)

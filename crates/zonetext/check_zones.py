@@ -7,7 +7,7 @@ too. Words in parentheses at the end of a row's name are further options.
 usage: crates/zonetext/check_zones.py [--peers] [PROGRAM]
 
 With --peers it also runs named-checkzone, kzonecheck, nsd-checkzone and ldns-read-zone, if they are installed, and
-compares their results with their columns. The program has 128 KB of stack, unless UNPROVED is set: an unproved program
+compares their results with their columns. The program has 128 KB of stack, unless SANITIZED is set: a sanitized program
 needs more.
 
 Then it compares the records that delegations hide, in zones that are chosen at random, with those of the definition
@@ -30,8 +30,10 @@ FRONT = b"@ 60 SOA ns h 1 4 2 9 5\n@ NS ns\n@ NS ns.o.\nns A 192.0.2.1\n"
 ORIGIN = "example."
 # Octets of stack that the program has.
 STACK = 128 * 1024
-# Number of zones that are chosen at random, and length of the zone that is timed, for a proved program and an unproved one.
-ROUNDS, LENGTH = (40, 200_000) if os.environ.get("UNPROVED") else (200, 10_000_000)
+# Number of zones that are chosen at random, and length of the zone that is timed.
+ROUNDS, LENGTH = 200, 10_000_000
+if os.environ.get("UNPROVED"):
+    ROUNDS, LENGTH = (40, 200_000) if os.environ.get("SANITIZED") else (200, 2_000_000)
 # Greatest ratio of times.
 TIMES = 10
 # What each peer is run as, over a file; ldns-read-zone takes no origin, so that its file begins with one.
@@ -60,7 +62,7 @@ def options_of(name):
 
 
 def limit_stack():
-    if not os.environ.get("UNPROVED"):
+    if not os.environ.get("SANITIZED"):
         resource.setrlimit(resource.RLIMIT_STACK, (STACK, STACK))
 
 

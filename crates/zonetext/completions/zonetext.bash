@@ -21,7 +21,7 @@ _zonetext() {
         tokens) options='--json --quiet' ;;
         fmt) options='--write --check --diff --force --quiet -w' ;;
         lines) options='--tabbed --quiet' ;;
-        records) options='--json --zone --zone-from-name --class --include --base --max-generate --max-entry --quiet' ;;
+        records) options='--json --max --zone --zone-from-name --class --include --base --max-generate --max-entry --quiet' ;;
         digest)
             options='--json --write --hash --force --any --verbose --zone --zone-from-name --class --include --base'
             options+=' --max-generate --max-entry --quiet -w -v'

@@ -52,6 +52,7 @@ complete -c zonetext -n '__fish_seen_subcommand_from fmt' -l check -d 'Print the
 complete -c zonetext -n '__fish_seen_subcommand_from fmt' -l diff -d 'Print what would change as a unified diff, with status 1'
 complete -c zonetext -n '__fish_seen_subcommand_from fmt' -l force -d 'Also replace a zone that a server updates (with a .jnl file)'
 complete -c zonetext -n '__fish_seen_subcommand_from lines' -l tabbed -d 'Separate tokens by tabs'
+complete -c zonetext -n '__fish_seen_subcommand_from records' -x -l max -d 'Print at most N errors'
 complete -c zonetext -n '__fish_seen_subcommand_from canon' -l keep-order -d 'Keep the order of the files'
 complete -c zonetext -n '__fish_seen_subcommand_from canon' -l lenient -d 'Print rejected entries as comments, and status 0'
 complete -c zonetext -n '__fish_seen_subcommand_from canon' -x -l memory -d 'Sort with at most this memory, and with files in TMPDIR'

@@ -33,13 +33,22 @@ use zonetext_zones::zone_names::Zone;
 /// Number of findings that are shown as lines, unless another number is asked for.
 const MOST: usize = 20;
 
-/// The options of the command.
+/// The codes that options name.
 #[derive(Drop)]
+struct Codes {
+    denied: Vec<Code>,
+    allowed: Vec<Code>,
+}
+
+/// The options of the command.
+#[derive(Clone, Copy)]
 pub struct Options<'o> {
     pub form: Form,
     pub most: usize,
-    pub denied: Vec<Code>,
-    pub allowed: Vec<Code>,
+    pub denied: &'o [Code],
+    pub allowed: &'o [Code],
+    /// Whether names that must be host names are errors if they are not.
+    pub needs_host_names: bool,
     pub is_strict: bool,
     pub class: Class,
     pub max_ttl: Option<u32>,
@@ -73,19 +82,18 @@ fn code_of<'o>(value: &'o str, option: &'static str, is_text: bool) -> Result<Co
     }
 }
 
-/// Returns the codes that an option names.
-fn codes_of<'o>(
-    alloc: Global,
+/// Appends the codes that an option names.
+fn push_codes<'o>(
+    codes: &mut Vec<Code>,
     names: &[&'o str],
     option: &'static str,
     is_text: bool,
-) -> Result<Vec<Code>, Usage<'o>> {
-    let mut codes = Vec::new(alloc);
+) -> Result<(), Usage<'o>> {
     for name in names {
         let code = code_of(name, option, is_text)?;
         codes.push(code).map_err(AllocError::from)?;
     }
-    Ok(codes)
+    Ok(())
 }
 
 /// Returns how findings are shown: whether output is coloured, and whether it goes to a terminal.
@@ -121,21 +129,22 @@ fn form_of<'o>(rt: &HostRuntime, inner: &'o ArgMatches) -> Result<Form, Usage<'o
     }
 }
 
-/// Returns the options of the command line. `is_many` says that it names many zones.
+/// Returns the options of the command line, whose codes are appended to `codes`. `is_many` says that
+/// the command line names many zones.
 fn options_of<'o>(
     rt: &HostRuntime,
     inner: &'o ArgMatches,
     is_many: bool,
+    codes: &'o mut Codes,
 ) -> Result<Options<'o>, Usage<'o>> {
-    let alloc = rt.alloc();
     let most = number_of(inner.get_str("max"), "--max")?;
     let zone = Zone::asked(inner)?;
     let form = form_of(rt, inner)?;
     let is_text = inner.get_flag("text");
     let denied = inner.get_strs("deny").unwrap_or(&[]);
-    let denied = codes_of(alloc, denied, "--deny", is_text)?;
+    push_codes(&mut codes.denied, denied, "--deny", is_text)?;
     let allowed = inner.get_strs("allow").unwrap_or(&[]);
-    let allowed = codes_of(alloc, allowed, "--allow", is_text)?;
+    push_codes(&mut codes.allowed, allowed, "--allow", is_text)?;
     let class = match class_of(inner.get_str("class")) {
         Ok(class) => class,
         Err(usage) => return Err(usage),
@@ -147,8 +156,9 @@ fn options_of<'o>(
             None if matches!(form, Form::Machine(_)) => 0,
             None => MOST,
         },
-        denied,
-        allowed,
+        denied: codes.denied.as_slice(),
+        allowed: codes.allowed.as_slice(),
+        needs_host_names: false,
         is_strict: inner.get_flag("strict"),
         class,
         max_ttl: seconds_of(inner.get_str("max-ttl"), "--max-ttl")?,
@@ -205,12 +215,11 @@ fn report_zone(
 fn settings_of(rt: &HostRuntime, path: &str, options: &Options) -> Result<Settings, Unusable> {
     let alloc = rt.alloc();
     let mut settings = Settings::read(rt, path)?;
-    settings
-        .allowed
-        .extend_from_slice(options.allowed.as_slice())?;
-    settings
-        .denied
-        .extend_from_slice(options.denied.as_slice())?;
+    settings.allowed.extend_from_slice(options.allowed)?;
+    settings.denied.extend_from_slice(options.denied)?;
+    if options.needs_host_names {
+        settings.denied.push(Code::HostName)?;
+    }
     settings.max_ttl = options.max_ttl.or(settings.max_ttl);
     for folder in options.folders {
         settings.folders.push(String::from_str(alloc, folder)?)?;
@@ -379,14 +388,15 @@ pub fn check_argument(
     Ok(check_file(rt, file, options, totals))
 }
 
-/// Checks files, and returns the greatest status.
-#[inline(never)]
-pub fn run(rt: &HostRuntime, inner: &ArgMatches, files: &[&str]) -> io::Result<u8> {
-    if inner.get_flag("text") && !asks_for_findings(inner) {
-        return run_text(rt, inner, files);
-    }
+/// Checks files by the arguments, and returns the greatest status.
+fn check_files(
+    rt: &HostRuntime,
+    inner: &ArgMatches,
+    files: &[&str],
+    codes: &mut Codes,
+) -> io::Result<u8> {
     let is_many = !inner.get_flag("text") && many_zones::names_many(rt, inner, files);
-    let options = match options_of(rt, inner, is_many) {
+    let options = match options_of(rt, inner, is_many, codes) {
         Ok(options) => options,
         Err(usage) => return options::status_of(rt, Err(usage)),
     };
@@ -399,4 +409,17 @@ pub fn run(rt: &HostRuntime, inner: &ArgMatches, files: &[&str]) -> io::Result<u
         status = check_argument(rt, file, &options, &mut totals)?.max(status);
     }
     Ok(totals.end(rt).max(status))
+}
+
+/// Checks files, and returns the greatest status.
+#[inline(never)]
+pub fn run(rt: &HostRuntime, inner: &ArgMatches, files: &[&str]) -> io::Result<u8> {
+    if inner.get_flag("text") && !asks_for_findings(inner) {
+        return run_text(rt, inner, files);
+    }
+    let mut codes = Codes {
+        denied: Vec::new(rt.alloc()),
+        allowed: Vec::new(rt.alloc()),
+    };
+    check_files(rt, inner, files, &mut codes)
 }

@@ -1,5 +1,5 @@
 //! The commands `codes` and `explain`: list the codes of findings, and explain one.
-use clap::{ArgMatches, Command};
+use clap::ArgMatches;
 use finding_texts::{example_of, summary_of, text_of};
 use std::alloc::{AllocError, Global};
 use std::io;
@@ -9,7 +9,7 @@ use zonetext_files::lines::Lines;
 use zonetext_files::shown::Shown;
 use zonetext_files::stop::{RunError, exit_status};
 use zonetext_report::code::Code;
-use zonetext_zones::arguments::required_file;
+use zonetext_zones::arguments::{ARGUMENT, ArgRow, CommandTable};
 use zonetext_zones::options::USAGE;
 
 /// Greatest number of characters in a line of a paragraph.
@@ -18,18 +18,25 @@ const COLUMNS: usize = 78;
 /// Greatest number of changed characters of a name that was meant.
 const MOST_CHANGES: usize = 3;
 
-/// Returns the command that lists codes.
-pub fn codes_command<'a>(alloc: Global, name: &'a str) -> Result<Command<'a>, AllocError> {
-    Ok(Command::new(alloc, name).about("List the codes of findings, with their severity"))
-}
+/// The command that lists codes.
+pub const CODES: CommandTable = CommandTable {
+    name: "codes",
+    about: "List the codes of findings, with their severity",
+    example: "Example: zonetext codes",
+    groups: &[],
+};
 
-/// Returns the command that explains a code.
-pub fn explain_command<'a>(alloc: Global, name: &'a str) -> Result<Command<'a>, AllocError> {
-    let code = required_file(alloc, "CODE", "the code of a finding, as ns-address");
-    Command::new(alloc, name)
-        .about("Explain a code, with an example and the RFC")
-        .arg(code)
-}
+/// The command that explains a code.
+pub const EXPLAIN: CommandTable = CommandTable {
+    name: "explain",
+    about: "Explain a code, with an example and the RFC",
+    example: "Example: zonetext explain ns-address",
+    groups: &[&[ArgRow {
+        name: "CODE",
+        help: "the code of a finding, as ns-address",
+        ..ARGUMENT
+    }]],
+};
 
 /// Appends the line of a code: its name, severity and summary.
 fn push_code(text: &mut String, code: Code) -> Result<(), AllocError> {

@@ -1,7 +1,11 @@
 //! The command line of the program.
-use crate::expand::{MAX_GENERATE, expand_command, run_expand};
+use crate::codes::{CODES, EXPLAIN};
+use crate::cut_args::CUT;
+use crate::expand::{EXPAND, MAX_GENERATE, run_expand};
+use crate::record_args::{CANON, DIFF, DIGEST, RECORDS};
+use crate::serial_args::SERIAL;
 use crate::{check, codes, cut_args, record_args, serial_args};
-use clap::{Arg, ArgMatches, Command, Error};
+use clap::{ArgMatches, Command, Error};
 use std::alloc::{AllocError, Global};
 use std::io;
 use zonetext_edit::format;
@@ -11,36 +15,13 @@ use zonetext_findings::machine::{FORMATS, VERSION};
 use zonetext_lib::layout::Gap;
 use zonetext_lib::tokens::Form;
 use zonetext_lib::writer::Output;
-use zonetext_zones::arguments::{BASE, flag, max_entry, over_files, valued, values};
+use zonetext_zones::arguments::{
+    ArgRow, BASE, CommandTable, FLAG, MAX_ENTRY, OVER_FILES, REPEATED, VALUED, command_of,
+};
 use zonetext_zones::options::USAGE;
-use zonetext_zones::zone_names::{name_option, zone_option};
+use zonetext_zones::zone_names::{ZONE, ZONE_FROM_NAME};
 
-/// The help texts of the options of the command that checks files.
-const ZONE: &str = "zone origin; also checks the rules of a zone";
-
-const INCLUDE: &str = "also allow included files in this folder, besides the first file's";
-
-const STDIN_NAME: &str = "name of standard input, in messages and for files that it includes";
-
-const CONF: &str = "also check the zones of a named.conf or nsd.conf";
-
-const ZONES: &str =
-    "also check the zones of a list, a zone and its file a line; - is standard input";
-
-const NAME_FORM: &str =
-    "names of zone files in folders, with % for the zone (default *.zone, *.db and db.*)";
-
-const RECURSIVE: &str = "also check the zone files in folders of a folder";
-
-const DNSSEC: &str = "also check the rules of a signed zone: signatures, NSEC and NSEC3";
-
-const WITHIN: &str = "also report signatures that expire within this time, as 7d";
-
-const NOW: &str = "check at this time, not now, as 20260131235959 or seconds since 1970";
-
-const WHEN: [&str; 3] = ["auto", "always", "never"];
-
-/// The options about records, which conflict with `--text`.
+/// The options of `check` about records, which conflict with `--text`.
 const OF_RECORDS: [&str; 14] = [
     "zone",
     "zone-from-name",
@@ -58,140 +39,259 @@ const OF_RECORDS: [&str; 14] = [
     "verbose",
 ];
 
-/// Adds the options that select findings.
-fn with_findings<'a>(alloc: Global, command: Command<'a>) -> Result<Command<'a>, AllocError> {
-    command
-        .arg(values(
-            alloc,
-            "deny",
-            "CODE",
-            "report findings with this code as errors",
-        ))?
-        .arg(values(alloc, "allow", "CODE", "omit findings with this code"))?
-        .arg(flag(alloc, "strict", "report every finding as an error"))?
-        .arg(valued(alloc, "max-ttl", "TIME", "maximum TTL, as 1d"))?
-        .arg(max_entry(alloc))?
-        .arg(valued(alloc, "max-generate", "N", MAX_GENERATE))?
-        .arg(valued(alloc, "class", "CLASS", "class of the zone (default IN)"))
-}
+/// The options of `check` about zones and files.
+const OF_CHECK: [ArgRow; 6] = [
+    ArgRow {
+        name: "text",
+        help: "check the syntax alone, not the records",
+        conflicts: &OF_RECORDS,
+        ..FLAG
+    },
+    ArgRow {
+        help: "zone origin; also checks the rules of a zone",
+        ..ZONE
+    },
+    ZONE_FROM_NAME,
+    ArgRow {
+        name: "include",
+        value_name: &["DIR"],
+        help: "also allow included files in this folder, besides the first file's",
+        ..REPEATED
+    },
+    BASE,
+    ArgRow {
+        name: "stdin-name",
+        value_name: &["NAME"],
+        help: "name of standard input, in messages and for files that it includes",
+        ..VALUED
+    },
+];
 
-/// Adds the options for signed zones.
-fn with_signatures<'a>(alloc: Global, command: Command<'a>) -> Result<Command<'a>, AllocError> {
-    let within = valued(alloc, "within", "TIME", WITHIN).requires_arg("dnssec")?;
-    let now = valued(alloc, "now", "TIME", NOW).requires_arg("dnssec")?;
-    command
-        .arg(flag(alloc, "dnssec", DNSSEC))?
-        .arg(within)?
-        .arg(now)
-}
+/// The options for signed zones.
+const SIGNATURES: [ArgRow; 3] = [
+    ArgRow {
+        name: "dnssec",
+        help: "also check the rules of a signed zone: signatures, NSEC and NSEC3",
+        ..FLAG
+    },
+    ArgRow {
+        name: "within",
+        value_name: &["TIME"],
+        help: "also report signatures that expire within this time, as 7d",
+        needs: &["dnssec"],
+        ..VALUED
+    },
+    ArgRow {
+        name: "now",
+        value_name: &["TIME"],
+        help: "check at this time, not now, as 20260131235959 or seconds since 1970",
+        needs: &["dnssec"],
+        ..VALUED
+    },
+];
 
-/// Returns the option for the format of findings.
-fn with_format<'a>(alloc: Global) -> Result<Arg<'a>, AllocError> {
-    let help = "print findings for other programs, on standard output (default text)";
-    valued(alloc, "format", "FORMAT", help)
-        .value_parser(FORMATS.as_slice())
-        .conflicts_with("json")
-}
+/// The options that name many zones.
+const ZONES: [ArgRow; 4] = [
+    ArgRow {
+        name: "conf",
+        value_name: &["FILE"],
+        help: "also check the zones of a named.conf or nsd.conf",
+        conflicts: &["zone"],
+        ..VALUED
+    },
+    ArgRow {
+        name: "zones",
+        value_name: &["LIST"],
+        help: "also check the zones of a list, a zone and its file a line; - is standard input",
+        conflicts: &["zone"],
+        ..VALUED
+    },
+    ArgRow {
+        name: "name-form",
+        value_name: &["FORM"],
+        help: "names of zone files in folders, with % for the zone (default *.zone, *.db and db.*)",
+        ..REPEATED
+    },
+    ArgRow {
+        name: "recursive",
+        help: "also check the zone files in folders of a folder",
+        ..FLAG
+    },
+];
 
-/// Adds the options that decide how findings are shown.
-fn with_forms<'a>(alloc: Global, command: Command<'a>) -> Result<Command<'a>, AllocError> {
-    let most = "print at most N findings, 0 for all (default 20, with --format all)";
-    let verbose = "print the zone, its serial and its number of records";
-    let color = valued(
-        alloc,
-        "color",
-        "WHEN",
-        "when to print findings in colour, with their lines",
-    );
-    let excerpt = "print the line of each finding, with a caret, also without a terminal";
-    command
-        .arg(with_format(alloc)?)?
-        .arg(flag(alloc, "json", "the same as --format json"))?
-        .arg(flag(alloc, "excerpt", excerpt))?
-        .arg(valued(alloc, "max", "N", most))?
-        .arg(color.value_parser(WHEN.as_slice()))?
-        .arg(flag(alloc, "verbose", verbose).short('v'))
-}
+/// The options that select findings.
+const FINDINGS: [ArgRow; 7] = [
+    ArgRow {
+        name: "deny",
+        value_name: &["CODE"],
+        help: "report findings with this code as errors",
+        ..REPEATED
+    },
+    ArgRow {
+        name: "allow",
+        value_name: &["CODE"],
+        help: "omit findings with this code",
+        ..REPEATED
+    },
+    ArgRow {
+        name: "strict",
+        help: "report every finding as an error",
+        ..FLAG
+    },
+    ArgRow {
+        name: "max-ttl",
+        value_name: &["TIME"],
+        help: "maximum TTL, as 1d",
+        ..VALUED
+    },
+    MAX_ENTRY,
+    MAX_GENERATE,
+    ArgRow {
+        name: "class",
+        value_name: &["CLASS"],
+        help: "class of the zone (default IN)",
+        ..VALUED
+    },
+];
 
-/// Adds the options that name many zones.
-fn with_zones<'a>(alloc: Global, command: Command<'a>) -> Result<Command<'a>, AllocError> {
-    command
-        .arg(valued(alloc, "conf", "FILE", CONF).conflicts_with("zone")?)?
-        .arg(valued(alloc, "zones", "LIST", ZONES).conflicts_with("zone")?)?
-        .arg(values(alloc, "name-form", "FORM", NAME_FORM))?
-        .arg(flag(alloc, "recursive", RECURSIVE))
-}
+/// The options that decide how findings are shown.
+const FORMS: [ArgRow; 6] = [
+    ArgRow {
+        name: "format",
+        value_name: &["FORMAT"],
+        help: "print findings for other programs, on standard output (default text)",
+        possible_values: &FORMATS,
+        conflicts: &["json"],
+        ..VALUED
+    },
+    ArgRow {
+        name: "json",
+        help: "the same as --format json",
+        ..FLAG
+    },
+    ArgRow {
+        name: "excerpt",
+        help: "print the line of each finding, with a caret, also without a terminal",
+        ..FLAG
+    },
+    ArgRow {
+        name: "max",
+        value_name: &["N"],
+        help: "print at most N findings, 0 for all (default 20, with --format all)",
+        ..VALUED
+    },
+    ArgRow {
+        name: "color",
+        value_name: &["WHEN"],
+        help: "when to print findings in colour, with their lines",
+        possible_values: &["auto", "always", "never"],
+        ..VALUED
+    },
+    ArgRow {
+        name: "verbose",
+        short: Some('v'),
+        help: "print the zone, its serial and its number of records",
+        ..FLAG
+    },
+];
 
-/// Returns the command that checks files.
-fn check_command<'a>(alloc: Global, name: &'a str) -> Result<Command<'a>, AllocError> {
-    let mut text = flag(alloc, "text", "check the syntax alone, not the records");
-    for option in &OF_RECORDS {
-        text = text.conflicts_with(*option)?;
+/// The command that checks files.
+const CHECK: CommandTable = CommandTable {
+    name: "check",
+    about: "Report the errors in zone files",
+    example: "Example: zonetext check --zone example.org. example.org.zone",
+    groups: &[
+        &OVER_FILES,
+        &OF_CHECK,
+        &SIGNATURES,
+        &ZONES,
+        &FINDINGS,
+        &FORMS,
+    ],
+};
+
+/// The command that lists tokens.
+const TOKENS: CommandTable = CommandTable {
+    name: "tokens",
+    about: "Print each token on a line, with its position",
+    example: "Example: zonetext tokens --json example.org.zone",
+    groups: &[
+        &OVER_FILES,
+        &[ArgRow {
+            name: "json",
+            help: "print a JSON object for each token",
+            ..FLAG
+        }],
+    ],
+};
+
+/// The options of `fmt`.
+const OF_FORMAT: [ArgRow; 4] = [
+    ArgRow {
+        name: "write",
+        short: Some('w'),
+        help: "replace the files by the formatted text",
+        conflicts: &["check", "diff"],
+        ..FLAG
+    },
+    ArgRow {
+        name: "check",
+        help: "print the names of files that would change, with status 1",
+        conflicts: &["diff"],
+        ..FLAG
+    },
+    ArgRow {
+        name: "diff",
+        help: "print what would change as a unified diff, with status 1",
+        ..FLAG
+    },
+    ArgRow {
+        name: "force",
+        help: "also replace a zone that a server updates (with a .jnl file)",
+        ..FLAG
+    },
+];
+
+/// The command that formats files.
+const FORMAT: CommandTable = CommandTable {
+    name: "fmt",
+    about: "Format zone files, and keep their comments",
+    example: "Example: zonetext fmt --diff example.org.zone",
+    groups: &[&OVER_FILES, &OF_FORMAT],
+};
+
+/// The command that prints entries as lines.
+const LINES: CommandTable = CommandTable {
+    name: "lines",
+    about: "Print each entry on one line, without comments",
+    example: "Example: zonetext lines example.org.zone",
+    groups: &[
+        &OVER_FILES,
+        &[ArgRow {
+            name: "tabbed",
+            help: "separate tokens by tabs",
+            ..FLAG
+        }],
+    ],
+};
+
+/// Returns the commands.
+fn commands_of<'a>(alloc: Global) -> Result<Vec<Command<'a>>, AllocError> {
+    let mut commands = Vec::new(alloc);
+    for which in &Subcommand::ALL {
+        commands.push(command_of(alloc, &which.table())?)?;
     }
-    let command = over_files(alloc, name, "Report the errors in zone files")?
-        .arg(text)?
-        .arg(zone_option(alloc, ZONE)?)?
-        .arg(name_option(alloc))?
-        .arg(values(alloc, "include", "DIR", INCLUDE))?
-        .arg(valued(alloc, "base", "DIR", BASE))?
-        .arg(valued(alloc, "stdin-name", "NAME", STDIN_NAME))?;
-    let command = with_zones(alloc, with_signatures(alloc, command)?)?;
-    with_forms(alloc, with_findings(alloc, command)?)
-}
-
-/// Returns the command that lists tokens.
-fn tokens_command<'a>(alloc: Global, name: &'a str) -> Result<Command<'a>, AllocError> {
-    let about = "Print each token on a line, with its position";
-    let json = flag(alloc, "json", "print a JSON object for each token");
-    over_files(alloc, name, about)?.arg(json)
-}
-
-/// Returns the command that formats files.
-fn fmt_command<'a>(alloc: Global, name: &'a str) -> Result<Command<'a>, AllocError> {
-    let write = flag(alloc, "write", "replace the files by the formatted text").short('w');
-    let check = flag(
-        alloc,
-        "check",
-        "print the names of files that would change, with status 1",
-    );
-    let diff = flag(
-        alloc,
-        "diff",
-        "print what would change as a unified diff, with status 1",
-    );
-    let force = flag(
-        alloc,
-        "force",
-        "also replace a zone that a server updates (with a .jnl file)",
-    );
-    over_files(alloc, name, "Format zone files, and keep their comments")?
-        .arg(write.conflicts_with("check")?.conflicts_with("diff")?)?
-        .arg(check.conflicts_with("diff")?)?
-        .arg(diff)?
-        .arg(force)
-}
-
-/// Returns the command that prints entries as lines.
-fn lines_command<'a>(alloc: Global, name: &'a str) -> Result<Command<'a>, AllocError> {
-    let tabbed = flag(alloc, "tabbed", "separate tokens by tabs");
-    over_files(
-        alloc,
-        name,
-        "Print each entry on one line, without comments",
-    )?
-    .arg(tabbed)
+    Ok(commands)
 }
 
 /// Returns the command line.
 fn command_line<'a>(alloc: Global) -> Result<Command<'a>, AllocError> {
-    let mut all = Command::new(alloc, "zonetext")
+    let commands = commands_of(alloc)?;
+    Command::new(alloc, "zonetext")
         .version(VERSION)
         .about("Checks, formats, lists, sorts, compares, digests and cuts DNS zone files")
-        .subcommand_required(true);
-    for which in &Subcommand::ALL {
-        all = all.subcommand(which.command(alloc)?)?;
-    }
-    Ok(all)
+        .subcommand_required(true)
+        .subcommands(commands)
 }
 
 /// Parses the arguments.
@@ -253,76 +353,32 @@ impl Subcommand {
         Subcommand::Explain,
     ];
 
-    /// Returns its name.
-    fn name<'a>(self) -> &'a str {
-        match self {
-            Subcommand::Check => "check",
-            Subcommand::Tokens => "tokens",
-            Subcommand::Format => "fmt",
-            Subcommand::Lines => "lines",
-            Subcommand::Records => "records",
-            Subcommand::Canon => "canon",
-            Subcommand::Diff => "diff",
-            Subcommand::Digest => "digest",
-            Subcommand::Serial => "serial",
-            Subcommand::Cut => "cut",
-            Subcommand::Expand => "expand",
-            Subcommand::Codes => "codes",
-            Subcommand::Explain => "explain",
-        }
-    }
-
+    /// Returns the command with a name, if there is one.
     fn named(name: &str) -> Option<Subcommand> {
         for which in &Subcommand::ALL {
-            if which.name() == name {
+            if which.table().name == name {
                 return Some(*which);
             }
         }
         None
     }
 
-    /// Returns an example of its use.
-    fn example<'a>(self) -> &'a str {
+    /// Returns its name, texts, options and arguments.
+    fn table(self) -> CommandTable {
         match self {
-            Subcommand::Check => "Example: zonetext check --zone example.org. example.org.zone",
-            Subcommand::Tokens => "Example: zonetext tokens --json example.org.zone",
-            Subcommand::Format => "Example: zonetext fmt --diff example.org.zone",
-            Subcommand::Lines => "Example: zonetext lines example.org.zone",
-            Subcommand::Records => "Example: zonetext records --zone example.org. example.org.zone",
-            Subcommand::Canon => "Example: zonetext canon --zone example.org. example.org.zone",
-            Subcommand::Diff => "Example: zonetext diff --zone example.org. old.zone new.zone",
-            Subcommand::Digest =>
-                "Example: zonetext digest --write --zone example.org. example.org.zone",
-            Subcommand::Serial =>
-                "Example: zonetext serial --write --zone-from-name example.org.zone",
-            Subcommand::Cut => "Example: zonetext cut 8 example.org.zone -o part",
-            Subcommand::Expand => "Example: zonetext expand example.org.zone",
-            Subcommand::Codes => "Example: zonetext codes",
-            Subcommand::Explain => "Example: zonetext explain ns-address",
-        }
-    }
-
-    /// Returns its command-line definition.
-    fn command<'a>(self, alloc: Global) -> Result<Command<'a>, AllocError> {
-        Ok(self.plain_command(alloc)?.after_help(self.example()))
-    }
-
-    /// Returns the same without the example.
-    fn plain_command<'a>(self, alloc: Global) -> Result<Command<'a>, AllocError> {
-        match self {
-            Subcommand::Check => check_command(alloc, self.name()),
-            Subcommand::Tokens => tokens_command(alloc, self.name()),
-            Subcommand::Format => fmt_command(alloc, self.name()),
-            Subcommand::Lines => lines_command(alloc, self.name()),
-            Subcommand::Records => record_args::records_command(alloc, self.name()),
-            Subcommand::Canon => record_args::canon_command(alloc, self.name()),
-            Subcommand::Diff => record_args::diff_command(alloc, self.name()),
-            Subcommand::Digest => record_args::digest_command(alloc, self.name()),
-            Subcommand::Serial => serial_args::serial_command(alloc, self.name()),
-            Subcommand::Cut => cut_args::cut_command(alloc, self.name()),
-            Subcommand::Expand => expand_command(alloc, self.name()),
-            Subcommand::Codes => codes::codes_command(alloc, self.name()),
-            Subcommand::Explain => codes::explain_command(alloc, self.name()),
+            Subcommand::Check => CHECK,
+            Subcommand::Tokens => TOKENS,
+            Subcommand::Format => FORMAT,
+            Subcommand::Lines => LINES,
+            Subcommand::Records => RECORDS,
+            Subcommand::Canon => CANON,
+            Subcommand::Diff => DIFF,
+            Subcommand::Digest => DIGEST,
+            Subcommand::Serial => SERIAL,
+            Subcommand::Cut => CUT,
+            Subcommand::Expand => EXPAND,
+            Subcommand::Codes => CODES,
+            Subcommand::Explain => EXPLAIN,
         }
     }
 

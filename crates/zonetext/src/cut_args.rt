@@ -1,37 +1,57 @@
 //! The arguments of the command `cut`.
-use clap::{Arg, ArgAction, ArgMatches, Command};
-use std::alloc::{AllocError, Global};
+use crate::record_args::CLASS;
+use clap::ArgMatches;
 use std::io;
 use zonetext_files::generated::{GenerateMode, GenerateOptions};
 use zonetext_records::cut;
-use zonetext_records::visit::Reading;
-use zonetext_zones::arguments::{QUIET, flag, max_entry, required_file, valued};
+use zonetext_records::visit::{MOST_ERRORS, Reading};
+use zonetext_zones::arguments::{ARGUMENT, ArgRow, CommandTable, FLAG, MAX_ENTRY, QUIET, VALUED};
 use zonetext_zones::options::{Usage, class_of, max_entry_of, status_of};
-use zonetext_zones::zone_names::{name_option, zone_of_files, zone_option};
+use zonetext_zones::zone_names::{ZONE, ZONE_FROM_NAME, zone_of_files};
 
-/// Returns the command that cuts a file.
-pub fn cut_command<'a>(alloc: Global, name: &'a str) -> Result<Command<'a>, AllocError> {
-    let zone = "origin at the start of the file";
-    let output = Arg::new(alloc, "output")
-        .long("output")
-        .short('o')
-        .value_name("PREFIX")
-        .required(true)
-        .action(ArgAction::Set)
-        .help("the parts are PREFIX.000, PREFIX.001, and so on");
-    let class = "class of records without one (default IN)";
-    Command::new(alloc, name)
-        .about("Split a zone file into parts that can be read separately")
-        .arg(required_file(alloc, "N", "maximum number of parts"))?
-        .arg(required_file(alloc, "FILE", "a zone file"))?
-        .arg(output)?
-        .arg(flag(alloc, "soa", "repeat the SOA at the start of each part"))?
-        .arg(zone_option(alloc, zone)?.visible_alias("origin")?)?
-        .arg(name_option(alloc))?
-        .arg(valued(alloc, "class", "CLASS", class))?
-        .arg(max_entry(alloc))?
-        .arg(flag(alloc, "quiet", QUIET))
-}
+/// The command that cuts a file.
+pub const CUT: CommandTable = CommandTable {
+    name: "cut",
+    about: "Split a zone file into parts that can be read separately",
+    example: "Example: zonetext cut 8 example.org.zone -o part",
+    groups: &[&[
+        ArgRow {
+            name: "N",
+            help: "maximum number of parts",
+            ..ARGUMENT
+        },
+        ArgRow {
+            name: "FILE",
+            help: "a zone file",
+            ..ARGUMENT
+        },
+        ArgRow {
+            name: "output",
+            short: Some('o'),
+            value_name: &["PREFIX"],
+            help: "the parts are PREFIX.000, PREFIX.001, and so on",
+            is_required: true,
+            ..VALUED
+        },
+        ArgRow {
+            name: "soa",
+            help: "repeat the SOA at the start of each part",
+            ..FLAG
+        },
+        ArgRow {
+            aliases: &["origin"],
+            help: "origin at the start of the file",
+            ..ZONE
+        },
+        ZONE_FROM_NAME,
+        ArgRow {
+            help: "class of records without one (default IN), which readers of the parts need too",
+            ..CLASS
+        },
+        MAX_ENTRY,
+        QUIET,
+    ]],
+};
 
 /// Returns the number of parts that is asked for.
 fn count_of<'o>(value: &'o str) -> Result<usize, Usage<'o>> {
@@ -69,6 +89,7 @@ fn cut_by<'o>(rt: &HostRuntime, inner: &'o ArgMatches) -> Result<u8, Usage<'o>> 
             mode: GenerateMode::Reject,
             most: 0,
         },
+        most: MOST_ERRORS,
     };
     let work = cut::CutOptions {
         count: count_of(inner.get_str("N").unwrap_or(""))?,

@@ -1,6 +1,6 @@
 //! The command `expand`: writes a zone file with the entries of its `$GENERATE` directives in their
 //! places.
-use clap::{ArgMatches, Command};
+use clap::ArgMatches;
 use rdata_values::Class;
 use std::alloc::{AllocError, Global};
 use std::fs::metadata;
@@ -13,25 +13,37 @@ use zonetext_files::shown::Shown;
 use zonetext_files::stop::{RunError, exit_status};
 use zonetext_files::zone_files::Entry;
 use zonetext_findings::locations::begins_blank;
-use zonetext_records::visit::{EntryVisitor, Outcome, Reading, visit_entries};
-use zonetext_zones::arguments::{QUIET, flag, required_file, valued};
+use zonetext_records::visit::{EntryVisitor, MOST_ERRORS, Outcome, Reading, visit_entries};
+use zonetext_zones::arguments::{ARGUMENT, ArgRow, CommandTable, QUIET, VALUED};
 use zonetext_zones::options::{Usage, most_generated_of, status_of};
 use zonetext_zones::zone_names::Zone;
 
 /// Number of octets that are written at once.
 const BLOCK: usize = 64 * 1024;
 
-/// The help text of the option.
-pub const MAX_GENERATE: &str = "maximum number of entries of a $GENERATE (default 1048576)";
+/// The option for the greatest number of entries of a directive.
+pub const MAX_GENERATE: ArgRow = ArgRow {
+    name: "max-generate",
+    value_name: &["N"],
+    help: "maximum number of entries of a $GENERATE (default 1048576)",
+    ..VALUED
+};
 
-/// Returns the command that expands a file.
-pub fn expand_command<'a>(alloc: Global, name: &'a str) -> Result<Command<'a>, AllocError> {
-    Command::new(alloc, name)
-        .about("Print a zone file with the entries of its $GENERATE directives")
-        .arg(required_file(alloc, "FILE", "a zone file, or - for standard input"))?
-        .arg(valued(alloc, "max-generate", "N", MAX_GENERATE))?
-        .arg(flag(alloc, "quiet", QUIET))
-}
+/// The command that expands a file.
+pub const EXPAND: CommandTable = CommandTable {
+    name: "expand",
+    about: "Print a zone file with the entries of its $GENERATE directives",
+    example: "Example: zonetext expand example.org.zone",
+    groups: &[&[
+        ArgRow {
+            name: "FILE",
+            help: "a zone file, or - for standard input",
+            ..ARGUMENT
+        },
+        MAX_GENERATE,
+        QUIET,
+    ]],
+};
 
 /// What is done with the text.
 #[derive(Clone, Copy, PartialEq, Eq)]
@@ -181,6 +193,7 @@ fn run<'o>(rt: &HostRuntime, inner: &'o ArgMatches) -> Result<u8, Usage<'o>> {
             mode: GenerateMode::Texts,
             most: most_generated_of(inner)?,
         },
+        most: MOST_ERRORS,
     };
     let file = inner.get_str("FILE").unwrap_or("-");
     if !is_regular(rt, file) {

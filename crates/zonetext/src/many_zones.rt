@@ -6,10 +6,9 @@ use std::alloc::{AllocError, Global};
 use std::fs::metadata;
 use std::io;
 use zonetext_files::shown::Shown;
-use zonetext_files::stop::{EXIT_IO, RunError};
+use zonetext_files::stop::RunError;
 use zonetext_findings::reporter::{Form, Reporter};
 use zonetext_findings::totals::Totals;
-use zonetext_report::code::Code;
 use zonetext_zones::listed_zones::add_listed;
 use zonetext_zones::named_zones::add_named;
 use zonetext_zones::nsd_zones::add_nsd;
@@ -163,24 +162,17 @@ fn drop_repeated(alloc: Global, zones: &mut Vec<ZoneSource>) -> Result<(), Alloc
 
 impl<'o> Options<'o> {
     /// Returns the options for a zone.
-    fn of_source<'z>(
-        &'z self,
-        alloc: Global,
-        source: &'z ZoneSource,
-    ) -> Result<Options<'z>, AllocError> {
-        let mut denied = Vec::from_slice(alloc, self.denied.as_slice())?;
-        if source.needs_host_names {
-            denied.push(Code::HostName)?;
-        }
+    fn of_source<'z>(&'z self, source: &'z ZoneSource) -> Options<'z> {
         let base = match &source.base {
             Some(base) => Some(base.as_str()),
             None => None,
         };
-        Ok(Options {
+        Options {
             form: self.form,
             most: self.most,
-            denied,
-            allowed: Vec::from_slice(alloc, self.allowed.as_slice())?,
+            denied: self.denied,
+            allowed: self.allowed,
+            needs_host_names: source.needs_host_names,
             is_strict: self.is_strict,
             class: source.class.unwrap_or(self.class),
             max_ttl: self.max_ttl.or(source.max_ttl),
@@ -198,7 +190,7 @@ impl<'o> Options<'o> {
             is_text: self.is_text,
             is_quiet: self.is_quiet,
             is_many: true,
-        })
+        }
     }
 }
 
@@ -290,14 +282,7 @@ fn check_source(
     options: &Options,
     totals: &mut Totals,
 ) -> io::Result<u8> {
-    match options.of_source(rt.alloc(), source) {
-        Ok(options) => check_argument(rt, source.file.as_str(), &options, totals),
-        Err(_) => {
-            let file = Shown(source.file.as_str());
-            eprintln!(rt; "zonetext: {file}: not enough memory")?;
-            Ok(EXIT_IO)
-        }
-    }
+    check_argument(rt, source.file.as_str(), &options.of_source(source), totals)
 }
 
 /// Checks zones, and returns the greatest status.

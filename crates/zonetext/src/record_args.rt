@@ -1,154 +1,255 @@
 //! The arguments of the commands that read records: `records`, `canon`, `diff` and `digest`.
 use crate::expand::MAX_GENERATE;
-use clap::{ArgMatches, Command};
+use clap::ArgMatches;
 use rdata_values::RecordType;
 use std::alloc::{AllocError, Global};
 use std::io;
 use zone_set::{HashAlgorithm, Selection};
 use zonetext_edit::{digest, digest_writing};
 use zonetext_files::generated::{GenerateMode, GenerateOptions};
-use zonetext_records::visit::Reading;
+use zonetext_records::json_records::JSON;
+use zonetext_records::visit::{MOST_ERRORS, Reading};
 use zonetext_records::{canon, changes, json_records, records, update};
 use zonetext_zones::arguments::{
-    BASE, QUIET, flag, max_entry, over_files, required_file, valued, values,
+    ARGUMENT, ArgRow, BASE, CommandTable, FLAG, MAX_ENTRY, OVER_FILES, QUIET, REPEATED, VALUED,
 };
 use zonetext_zones::options::{
     Usage, class_of, max_entry_of, most_generated_of, number_of, size_of, status_of,
 };
-use zonetext_zones::zone_names::{Zone, name_option, zone_of_files, zone_option};
+use zonetext_zones::zone_names::{ZONE, ZONE_FROM_NAME, Zone, zone_of_files};
 
-/// The help texts of the options of all of them.
-const ZONE: &str = "origin at the start of each file";
+/// The option for the class.
+pub const CLASS: ArgRow = ArgRow {
+    name: "class",
+    value_name: &["CLASS"],
+    help: "class of records without one (default IN)",
+    ..VALUED
+};
 
-const INCLUDE: &str = "also allow included files in this folder, besides the file's own";
+/// The options of all commands that read records.
+pub const READING: [ArgRow; 7] = [
+    ArgRow {
+        aliases: &["origin"],
+        help: "origin at the start of each file",
+        ..ZONE
+    },
+    ZONE_FROM_NAME,
+    CLASS,
+    ArgRow {
+        name: "include",
+        value_name: &["DIR"],
+        help: "also allow included files in this folder, besides the file's own",
+        ..REPEATED
+    },
+    BASE,
+    MAX_GENERATE,
+    MAX_ENTRY,
+];
 
-const CLASS: &str = "class of records without one (default IN)";
+/// The options that omit records.
+const SELECTION: [ArgRow; 2] = [
+    ArgRow {
+        name: "no-dnssec",
+        help: "omit the records of DNSSEC: RRSIG, NSEC, DNSKEY, NSEC3, NSEC3PARAM",
+        ..FLAG
+    },
+    ArgRow {
+        name: "no-soa",
+        help: "omit SOA records",
+        ..FLAG
+    },
+];
 
-/// The help text of the memory of `canon`.
-const MEMORY: &str = "sort with at most this memory, as 64M, and with files in TMPDIR";
+/// The command that writes records.
+pub const RECORDS: CommandTable = CommandTable {
+    name: "records",
+    about: "Print each record in full, on one line",
+    example: "Example: zonetext records --zone example.org. example.org.zone",
+    groups: &[
+        &OVER_FILES,
+        &[
+            JSON,
+            ArgRow {
+                name: "max",
+                value_name: &["N"],
+                help: "print at most N errors, 0 for all (default 20)",
+                ..VALUED
+            },
+        ],
+        &READING,
+    ],
+};
 
-/// The help text of `canon --lenient`.
-const LENIENT: &str = "print rejected entries as comments, and status 0";
+/// The options of `canon`.
+const OF_CANON: [ArgRow; 7] = [
+    JSON,
+    ArgRow {
+        name: "keep-order",
+        help: "keep the order of the files",
+        ..FLAG
+    },
+    ArgRow {
+        name: "memory",
+        value_name: &["SIZE"],
+        help: "sort with at most this memory, as 64M, and with files in TMPDIR",
+        conflicts: &["keep-order"],
+        ..VALUED
+    },
+    ArgRow {
+        name: "lenient",
+        help: "print rejected entries as comments, and status 0",
+        ..FLAG
+    },
+    ArgRow {
+        name: "wire",
+        help: "print types as TYPEn, and RDATA in hexadecimal",
+        ..FLAG
+    },
+    ArgRow {
+        name: "type",
+        value_name: &["TYPE"],
+        help: "print only records of this type",
+        ..REPEATED
+    },
+    ArgRow {
+        name: "only-dnssec",
+        help: "print only the records that --no-dnssec omits",
+        conflicts: &["no-dnssec"],
+        ..FLAG
+    },
+];
 
-/// The help texts of the options of `diff --nsupdate`.
-const NSUPDATE: &str = "print the changes as commands of nsupdate (RFC 2136)";
+/// The command that writes records in canonical order.
+pub const CANON: CommandTable = CommandTable {
+    name: "canon",
+    about: "Print the records of zone files in canonical form and order",
+    example: "Example: zonetext canon --zone example.org. example.org.zone",
+    groups: &[&OVER_FILES, &OF_CANON, &READING, &SELECTION],
+};
 
-const NO_PREREQ: &str = "don't require the SOA of the old zone on the server";
+/// The options of `diff`.
+const OF_DIFF: [ArgRow; 8] = [
+    ArgRow {
+        name: "A",
+        help: "the old zone file",
+        ..ARGUMENT
+    },
+    ArgRow {
+        name: "B",
+        help: "the new zone file",
+        ..ARGUMENT
+    },
+    ArgRow {
+        conflicts: &["entries", "summary"],
+        ..JSON
+    },
+    ArgRow {
+        name: "entries",
+        help: "compare the entries as text, and report the first difference",
+        ..FLAG
+    },
+    ArgRow {
+        name: "summary",
+        help: "print only the number of changes for each type",
+        ..FLAG
+    },
+    ArgRow {
+        name: "max-changes",
+        value_name: &["N"],
+        help: "print at most N changes",
+        ..VALUED
+    },
+    ArgRow {
+        name: "need-serial",
+        help: "status 4 if records differ and the serial did not rise",
+        ..FLAG
+    },
+    QUIET,
+];
 
-const UPDATE_KEYS: &str = "also update DNSKEY, CDS, CDNSKEY and NSEC3PARAM";
+/// The options of `diff` for updates.
+const UPDATE: [ArgRow; 3] = [
+    ArgRow {
+        name: "nsupdate",
+        help: "print the changes as commands of nsupdate (RFC 2136)",
+        conflicts: &["entries", "summary", "max-changes"],
+        ..FLAG
+    },
+    ArgRow {
+        name: "no-prereq",
+        help: "don't require the SOA of the old zone on the server",
+        needs: &["nsupdate"],
+        ..FLAG
+    },
+    ArgRow {
+        name: "update-keys",
+        help: "also update DNSKEY, CDS, CDNSKEY and NSEC3PARAM",
+        needs: &["nsupdate"],
+        ..FLAG
+    },
+];
 
-const NEED_SERIAL: &str = "status 4 if records differ and the serial did not rise";
+/// The command that compares two files.
+pub const DIFF: CommandTable = CommandTable {
+    name: "diff",
+    about: "Print the differences between the records of two zone files",
+    example: "Example: zonetext diff --zone example.org. old.zone new.zone",
+    groups: &[&OF_DIFF, &READING, &SELECTION, &UPDATE],
+};
 
-/// Adds the options of all of them.
-pub fn with_reading<'a>(alloc: Global, command: Command<'a>) -> Result<Command<'a>, AllocError> {
-    let zone = zone_option(alloc, ZONE)?.visible_alias("origin")?;
-    command
-        .arg(zone)?
-        .arg(name_option(alloc))?
-        .arg(valued(alloc, "class", "CLASS", CLASS))?
-        .arg(values(alloc, "include", "DIR", INCLUDE))?
-        .arg(valued(alloc, "base", "DIR", BASE))?
-        .arg(valued(alloc, "max-generate", "N", MAX_GENERATE))?
-        .arg(max_entry(alloc))
-}
+/// The options of `digest`.
+const OF_DIGEST: [ArgRow; 8] = [
+    ArgRow {
+        name: "FILE",
+        help: "a zone file, or - for standard input",
+        ..ARGUMENT
+    },
+    ArgRow {
+        name: "write",
+        short: Some('w'),
+        help: "correct the digests in the file, or add one",
+        ..FLAG
+    },
+    ArgRow {
+        name: "hash",
+        value_name: &["HASH"],
+        help: "hash algorithm of a digest that is added",
+        possible_values: &["sha384", "sha512"],
+        needs: &["write"],
+        ..VALUED
+    },
+    ArgRow {
+        name: "force",
+        help: "also write to a zone that a server updates (with a .jnl file)",
+        needs: &["write"],
+        ..FLAG
+    },
+    ArgRow {
+        name: "any",
+        help: "accept the zone if one digest matches",
+        conflicts: &["write"],
+        ..FLAG
+    },
+    ArgRow {
+        conflicts: &["write"],
+        ..JSON
+    },
+    ArgRow {
+        name: "verbose",
+        short: Some('v'),
+        help: "also list digests with an unknown scheme or hash algorithm",
+        ..FLAG
+    },
+    QUIET,
+];
 
-/// Adds the options that omit records.
-fn with_selection<'a>(alloc: Global, command: Command<'a>) -> Result<Command<'a>, AllocError> {
-    let no_dnssec = "omit the records of DNSSEC: RRSIG, NSEC, DNSKEY, NSEC3, NSEC3PARAM";
-    command
-        .arg(flag(alloc, "no-dnssec", no_dnssec))?
-        .arg(flag(alloc, "no-soa", "omit SOA records"))
-}
-
-/// Returns the command that writes records.
-pub fn records_command<'a>(alloc: Global, name: &'a str) -> Result<Command<'a>, AllocError> {
-    let about = "Print each record in full, on one line";
-    let command = over_files(alloc, name, about)?.arg(json_records::option(alloc))?;
-    with_reading(alloc, command)
-}
-
-/// Returns the command that writes records in canonical order.
-pub fn canon_command<'a>(alloc: Global, name: &'a str) -> Result<Command<'a>, AllocError> {
-    let about = "Print the records of zone files in canonical form and order";
-    let only_dnssec = "print only the records that --no-dnssec omits";
-    let memory = valued(alloc, "memory", "SIZE", MEMORY).conflicts_with("keep-order")?;
-    let command = over_files(alloc, name, about)?
-        .arg(json_records::option(alloc))?
-        .arg(flag(alloc, "keep-order", "keep the order of the files"))?
-        .arg(memory)?
-        .arg(flag(alloc, "lenient", LENIENT))?
-        .arg(flag(
-            alloc,
-            "wire",
-            "print types as TYPEn, and RDATA in hexadecimal",
-        ))?
-        .arg(values(alloc, "type", "TYPE", "print only records of this type"))?
-        .arg(flag(alloc, "only-dnssec", only_dnssec).conflicts_with("no-dnssec")?)?;
-    with_selection(alloc, with_reading(alloc, command)?)
-}
-
-/// Adds the options of updates.
-fn with_update<'a>(alloc: Global, command: Command<'a>) -> Result<Command<'a>, AllocError> {
-    let update = flag(alloc, "nsupdate", NSUPDATE)
-        .conflicts_with("entries")?
-        .conflicts_with("summary")?
-        .conflicts_with("max-changes")?;
-    command
-        .arg(update)?
-        .arg(flag(alloc, "no-prereq", NO_PREREQ).requires_arg("nsupdate")?)?
-        .arg(flag(alloc, "update-keys", UPDATE_KEYS).requires_arg("nsupdate")?)
-}
-
-/// Returns the command that compares two files.
-pub fn diff_command<'a>(alloc: Global, name: &'a str) -> Result<Command<'a>, AllocError> {
-    let entries = "compare the entries as text, and report the first difference";
-    let json = json_records::option(alloc).conflicts_with("entries")?;
-    let command = Command::new(alloc, name)
-        .about("Print the differences between the records of two zone files")
-        .arg(required_file(alloc, "A", "the old zone file"))?
-        .arg(required_file(alloc, "B", "the new zone file"))?
-        .arg(json.conflicts_with("summary")?)?
-        .arg(flag(alloc, "entries", entries))?
-        .arg(flag(
-            alloc,
-            "summary",
-            "print only the number of changes for each type",
-        ))?
-        .arg(valued(alloc, "max-changes", "N", "print at most N changes"))?
-        .arg(flag(alloc, "need-serial", NEED_SERIAL))?
-        .arg(flag(alloc, "quiet", QUIET))?;
-    with_update(alloc, with_selection(alloc, with_reading(alloc, command)?)?)
-}
-
-/// The hash algorithms of digests.
-const HASHES: [&str; 2] = ["sha384", "sha512"];
-
-/// Returns the command that checks and writes digests.
-pub fn digest_command<'a>(alloc: Global, name: &'a str) -> Result<Command<'a>, AllocError> {
-    let write = "correct the digests in the file, or add one";
-    let force = "also write to a zone that a server updates (with a .jnl file)";
-    let hash = valued(
-        alloc,
-        "hash",
-        "HASH",
-        "hash algorithm of a digest that is added",
-    )
-    .value_parser(HASHES.as_slice())
-    .requires_arg("write")?;
-    let any = "accept the zone if one digest matches";
-    let verbose = "also list digests with an unknown scheme or hash algorithm";
-    let command = Command::new(alloc, name)
-        .about("Check or write the digests of a zone (ZONEMD, RFC 8976)")
-        .arg(required_file(alloc, "FILE", "a zone file, or - for standard input"))?
-        .arg(flag(alloc, "write", write).short('w'))?
-        .arg(hash)?
-        .arg(flag(alloc, "force", force).requires_arg("write")?)?
-        .arg(flag(alloc, "any", any).conflicts_with("write")?)?
-        .arg(json_records::option(alloc).conflicts_with("write")?)?
-        .arg(flag(alloc, "verbose", verbose).short('v'))?
-        .arg(flag(alloc, "quiet", QUIET))?;
-    with_reading(alloc, command)
-}
+/// The command that checks and writes digests.
+pub const DIGEST: CommandTable = CommandTable {
+    name: "digest",
+    about: "Check or write the digests of a zone (ZONEMD, RFC 8976)",
+    example: "Example: zonetext digest --write --zone example.org. example.org.zone",
+    groups: &[&OF_DIGEST, &READING],
+};
 
 /// Returns the types of an option.
 fn types_of<'o>(alloc: Global, names: &[&'o str]) -> Result<Vec<RecordType>, Usage<'o>> {
@@ -204,6 +305,7 @@ pub fn reading_with<'o>(
             mode: GenerateMode::Read,
             most: most_generated_of(inner)?,
         },
+        most: MOST_ERRORS,
     })
 }
 
@@ -220,9 +322,19 @@ fn lenient(reading: Reading<'_>) -> Reading<'_> {
     }
 }
 
+/// Returns how files are read if their records are written as they come.
+fn listing_of<'o>(inner: &'o ArgMatches, files: &[&'o str]) -> Result<Reading<'o>, Usage<'o>> {
+    let most = match number_of(inner.get_str("max"), "--max")? {
+        Some(most) => most as usize,
+        None => MOST_ERRORS,
+    };
+    let reading = reading_of(inner, files, false)?;
+    Ok(Reading { most, ..reading })
+}
+
 /// Writes the records of files as they come.
 fn list<'o>(rt: &HostRuntime, inner: &'o ArgMatches, files: &[&'o str]) -> Result<u8, Usage<'o>> {
-    match reading_of(inner, files, false) {
+    match listing_of(inner, files) {
         Ok(reading) if inner.get_flag("json") => Ok(json_records::run(rt, files, &reading)),
         Ok(reading) => Ok(records::run(rt, files, &reading)),
         Err(usage) => Err(usage),

@@ -1,62 +1,76 @@
 //! The arguments of the command `serial`.
-use crate::record_args::{reading_with, with_reading};
-use clap::{Arg, ArgMatches, Command};
-use std::alloc::{AllocError, Global};
+use crate::record_args::{READING, reading_with};
+use clap::ArgMatches;
 use std::io;
 use zone_serial::SerialMode;
 use zonetext_edit::serial;
 use zonetext_edit::serial_writing::{self, Choice, SerialOptions};
-use zonetext_records::json_records;
-use zonetext_zones::arguments::{flag, over_files, valued};
+use zonetext_records::json_records::JSON;
+use zonetext_zones::arguments::{ArgRow, CommandTable, FLAG, OVER_FILES, VALUED};
 use zonetext_zones::options::{USAGE, Usage, number_of, report_no_zone, status_of};
 use zonetext_zones::times::instant_of;
 use zonetext_zones::zone_names::Zone;
 
-/// The help texts of the options.
-const WRITE: &str = "replace the serial in the files by the next one";
+/// The options of the command, without those of reading. At most one of those that select the next
+/// serial is set.
+const OF_SERIAL: [ArgRow; 8] = [
+    JSON,
+    ArgRow {
+        name: "write",
+        short: Some('w'),
+        help: "replace the serial in the files by the next one",
+        ..FLAG
+    },
+    ArgRow {
+        name: "date",
+        help: "today's date and 01, as 2026112601 (default if the serial is a date)",
+        needs: &["write"],
+        conflicts: &["unix", "increment", "set"],
+        ..FLAG
+    },
+    ArgRow {
+        name: "unix",
+        help: "seconds since 1970",
+        needs: &["write"],
+        conflicts: &["increment", "set"],
+        ..FLAG
+    },
+    ArgRow {
+        name: "increment",
+        help: "the serial plus 1 (otherwise the default)",
+        needs: &["write"],
+        conflicts: &["set"],
+        ..FLAG
+    },
+    ArgRow {
+        name: "set",
+        value_name: &["N"],
+        help: "this number",
+        needs: &["write"],
+        ..VALUED
+    },
+    ArgRow {
+        name: "now",
+        value_name: &["TIME"],
+        help: "time for the date, not now, as 20260131235959 or seconds since 1970",
+        needs: &["write"],
+        ..VALUED
+    },
+    ArgRow {
+        name: "force",
+        help: "also write to a zone that a server updates (with a .jnl file)",
+        needs: &["write"],
+        ..FLAG
+    },
+];
 
-const DATE: &str = "today's date and 01, as 2026112601 (default if the serial is a date)";
-
-const UNIX: &str = "seconds since 1970";
-
-const INCREMENT: &str = "the serial plus 1 (otherwise the default)";
-
-const SET: &str = "this number";
-
-const NOW: &str = "time for the date, not now, as 20260131235959 or seconds since 1970";
-
-const FORCE: &str = "also write to a zone that a server updates (with a .jnl file)";
-
-/// Returns the options that select the next serial: at most one is set.
-fn with_modes<'a>(alloc: Global, command: Command<'a>) -> Result<Command<'a>, AllocError> {
-    let date = flag(alloc, "date", DATE)
-        .requires_arg("write")?
-        .conflicts_with("unix")?
-        .conflicts_with("increment")?
-        .conflicts_with("set")?;
-    let unix = flag(alloc, "unix", UNIX)
-        .requires_arg("write")?
-        .conflicts_with("increment")?
-        .conflicts_with("set")?;
-    let increment = flag(alloc, "increment", INCREMENT)
-        .requires_arg("write")?
-        .conflicts_with("set")?;
-    let set = valued(alloc, "set", "N", SET).requires_arg("write")?;
-    command.arg(date)?.arg(unix)?.arg(increment)?.arg(set)
-}
-
-/// Returns the command that prints and replaces serials.
-pub fn serial_command<'a>(alloc: Global, name: &'a str) -> Result<Command<'a>, AllocError> {
-    let about = "Print the serials of zones, or replace them by the next ones";
-    let write: Arg<'a> = flag(alloc, "write", WRITE).short('w');
-    let command = over_files(alloc, name, about)?
-        .arg(json_records::option(alloc))?
-        .arg(write)?;
-    let command = with_modes(alloc, command)?
-        .arg(valued(alloc, "now", "TIME", NOW).requires_arg("write")?)?
-        .arg(flag(alloc, "force", FORCE).requires_arg("write")?)?;
-    with_reading(alloc, command)
-}
+/// The command that prints and replaces serials.
+pub const SERIAL: CommandTable = CommandTable {
+    name: "serial",
+    about: "Print the serials of zones, or replace them by the next ones",
+    example: "Example: zonetext serial --write --zone-from-name example.org.zone",
+    groups: &[&OVER_FILES, &OF_SERIAL, &READING],
+};
 
 /// Returns how the next serial is determined.
 fn choice_of<'o>(rt: &HostRuntime, inner: &'o ArgMatches) -> Result<Choice, Usage<'o>> {

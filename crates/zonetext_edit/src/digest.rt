@@ -5,7 +5,7 @@ use zone_contents::{apex_places, check_digests};
 use zone_set::{CheckError, HashAlgorithm, Selection, Verdict, Zonemd};
 use zonetext_files::lines::Lines;
 use zonetext_files::shown::Shown;
-use zonetext_files::stop::{EXIT_IO, RunError, exit_status};
+use zonetext_files::stop::{RunError, exit_status};
 use zonetext_records::json_records::push_json_digest;
 use zonetext_records::stored_records::{StoredRecords, store_records};
 use zonetext_records::visit::Reading;
@@ -140,7 +140,7 @@ fn report_none(rt: &HostRuntime, file: &str, verdicts: &[Verdict]) -> io::Result
     }
 }
 
-/// Checks the digests of a zone, and returns the status.
+/// Checks the digests of a zone, and returns the status: 1 if it has no single SOA.
 fn check(
     rt: &HostRuntime,
     file: &str,
@@ -150,14 +150,14 @@ fn check(
     let name = Shown(file);
     let Some(seen) = &stored.seen else {
         eprintln!(rt; "zonetext: {name}: no SOA")?;
-        return Ok(EXIT_IO);
+        return Ok(1);
     };
     let alloc = rt.alloc();
     let verdicts = match check_digests(alloc, &seen.zone, &stored.zone) {
         Ok(verdicts) => verdicts,
         Err(CheckError::NoSingleSoa) => {
             eprintln!(rt; "zonetext: {name}: no single SOA at the zone's name")?;
-            return Ok(EXIT_IO);
+            return Ok(1);
         }
         Err(CheckError::ShortBuf) => return Err(RunError::OutOfMemory),
     };
@@ -171,7 +171,8 @@ fn check(
 }
 
 /// Checks the digests of the zone in a file, and returns the status: 0 if one matches, and all
-/// others of a known scheme and hash algorithm do too, unless one is enough.
+/// others of a known scheme and hash algorithm do too, unless one is enough; 1 otherwise, also if
+/// there is no single SOA; 3 if the file can't be read.
 #[inline(never)]
 pub fn run(rt: &HostRuntime, file: &str, reading: &Reading<'_>, work: DigestOptions) -> u8 {
     let stored = match store_records(rt, &[file], reading, Selection::all(), false) {

@@ -467,8 +467,12 @@ fn refuse(rt: &HostRuntime, file: &str, why: DigestWriteError) -> io::Result<u8>
     let mut status = EXIT_IO;
     match why {
         DigestWriteError::Reported(found) => status = found,
-        DigestWriteError::NoSoa => eprintln!(rt; "zonetext: {name}: no SOA")?,
+        DigestWriteError::NoSoa => {
+            status = 1;
+            eprintln!(rt; "zonetext: {name}: no SOA")?;
+        }
         DigestWriteError::NoSingleSoa => {
+            status = 1;
             eprintln!(rt; "zonetext: {name}: no single SOA at the zone's name")?;
         }
         DigestWriteError::Included { what } => {

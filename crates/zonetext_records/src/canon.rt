@@ -116,17 +116,27 @@ fn push_by_number(
     Ok(duplicates)
 }
 
-/// Writes records to standard output, and returns the number of duplicates, which are omitted.
-fn write_records(rt: &HostRuntime, stored: &StoredRecords, form: Form) -> Result<u64, RunError> {
-    let mut lines = Lines::new(rt);
+/// Writes records by way of `lines`, and returns the number of duplicates, which are omitted.
+fn write_lines(
+    lines: &mut Lines<'_>,
+    alloc: Global,
+    stored: &StoredRecords,
+    form: Form,
+) -> Result<u64, RunError> {
     let duplicates = if form.keeps_order {
-        push_by_number(&mut lines, rt.alloc(), stored, form)?
+        push_by_number(lines, alloc, stored, form)?
     } else {
-        let soas = push_soas(&mut lines, stored, form, true)?;
-        push_soas(&mut lines, stored, form, false)?.saturating_add(soas)
+        let soas = push_soas(lines, stored, form, true)?;
+        push_soas(lines, stored, form, false)?.saturating_add(soas)
     };
     lines.flush()?;
     Ok(duplicates)
+}
+
+/// Writes records to standard output, and returns the number of duplicates, which are omitted.
+fn write_records(rt: &HostRuntime, stored: &StoredRecords, form: Form) -> Result<u64, RunError> {
+    let mut lines = Lines::new(rt);
+    write_lines(&mut lines, rt.alloc(), stored, form)
 }
 
 /// Reports how many duplicates were omitted.

@@ -205,6 +205,27 @@ fn push_text(
     }
 }
 
+/// Writes the first `count` changes between two zones by way of `lines`.
+fn write_lines(
+    lines: &mut Lines<'_>,
+    old: &StoredRecords,
+    new: &StoredRecords,
+    changes: &[ZoneChange],
+    count: usize,
+    is_json: bool,
+) -> Result<(), RunError> {
+    for change in changes.iter().take(count) {
+        if is_json {
+            push_objects(&mut lines.text, old, new, *change)?;
+        } else {
+            push_text(&mut lines.text, old, new, *change)?;
+        }
+        lines.flush_block()?;
+    }
+    lines.flush()?;
+    Ok(())
+}
+
 /// Writes changes between two zones, and reports how many more there are.
 fn write_changes(
     rt: &HostRuntime,
@@ -218,15 +239,7 @@ fn write_changes(
         None => changes.len(),
     };
     let mut lines = Lines::new(rt);
-    for change in changes.iter().take(count) {
-        if output.is_json {
-            push_objects(&mut lines.text, old, new, *change)?;
-        } else {
-            push_text(&mut lines.text, old, new, *change)?;
-        }
-        lines.flush_block()?;
-    }
-    lines.flush()?;
+    write_lines(&mut lines, old, new, changes, count, output.is_json)?;
     let more = changes.len().saturating_sub(count);
     if more > 0 {
         eprintln!(rt; "zonetext: {more} changes not shown")?;
@@ -286,12 +299,12 @@ pub fn run(
 ) -> u8 {
     let old = store_records(rt, &[first], reading, selection, output.is_json);
     let new = store_records(rt, &[second], reading, selection, output.is_json);
-    let (old, new) = match (old, new) {
-        (Ok(old), Ok(new)) => (old, new),
-        (Err(status), Err(other)) => return status.max(other),
-        (Err(status), Ok(_)) | (Ok(_), Err(status)) => return status,
+    let compared = match (&old, &new) {
+        (Ok(old), Ok(new)) => compare(rt, old, new, output),
+        (Err(status), Err(other)) => Ok((*status).max(*other)),
+        (Err(status), Ok(_)) | (Ok(_), Err(status)) => Ok(*status),
     };
-    match compare(rt, &old, &new, output) {
+    match compared {
         Ok(status) => status,
         Err(stop) => exit_status(rt, "-", stop),
     }

@@ -1,6 +1,5 @@
 //! Records, and digests and serials of zones, as JSON objects, one a line.
 use crate::visit::{EntryVisitor, Reading, visit_entries};
-use clap::Arg;
 use dns_octets::AsOctets;
 use finding_formats::record_json::{
     DigestFields, RecordFields, SerialFields, push_digest, push_fields, push_serial,
@@ -12,11 +11,14 @@ use zonetext_files::lines::Lines;
 use zonetext_files::stop::{RunError, exit_status};
 use zonetext_files::zone_files::Entry;
 use zonetext_findings::locations::beginning;
+use zonetext_zones::arguments::{ArgRow, FLAG};
 
-/// Returns the option for JSON.
-pub fn option<'a>(alloc: Global) -> Arg<'a> {
-    zonetext_zones::arguments::flag(alloc, "json", "print JSON objects, one a line")
-}
+/// The option for JSON.
+pub const JSON: ArgRow = ArgRow {
+    name: "json",
+    help: "print JSON objects, one a line",
+    ..FLAG
+};
 
 /// Appends octets that are UTF-8.
 fn push_utf8(text: &mut String, octets: &[u8]) -> Result<(), AllocError> {

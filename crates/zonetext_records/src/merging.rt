@@ -115,6 +115,8 @@ impl RunReader {
 struct Merger {
     readers: Vec<RunReader>,
     heads: MergeHeads<Vec<u8>, Vec<u8>>,
+    /// The record that was passed to the consumer last.
+    last: Option<Record<Vec<u8>, Vec<u8>>>,
 }
 
 impl Merger {
@@ -128,6 +130,7 @@ impl Merger {
         let mut merger = Merger {
             readers: Vec::new(alloc),
             heads: MergeHeads::new(alloc),
+            last: None,
         };
         for (number, run) in runs.iter().enumerate() {
             merger.readers.push(RunReader::new(alloc, *run, block)?)?;
@@ -158,6 +161,45 @@ impl Merger {
         self.advance(file, run)?;
         Ok(Some(record))
     }
+
+    /// Returns whether a record is a duplicate of the last one that was passed to the consumer.
+    fn is_duplicate(&self, record: &Record<Vec<u8>, Vec<u8>>) -> bool {
+        match &self.last {
+            Some(last) => record.compare(last).is_eq(),
+            None => false,
+        }
+    }
+
+    /// Passes a record to a consumer.
+    fn pass<T: RecordVisitor>(
+        &mut self,
+        record: Record<Vec<u8>, Vec<u8>>,
+        visitor: &mut T,
+    ) -> Result<(), RunError> {
+        let passed = visitor.process_record(&record);
+        self.last = Some(record);
+        passed
+    }
+
+    /// Passes the records to a consumer, as [`merge`] does.
+    fn pass_all<T: RecordVisitor>(
+        &mut self,
+        file: &RunFile<'_>,
+        visitor: &mut T,
+    ) -> Result<u64, RunError> {
+        let mut duplicates: u64 = 0;
+        for _ in 0..u64::MAX {
+            let Some(record) = self.next_record(file)? else {
+                return Ok(duplicates);
+            };
+            if self.is_duplicate(&record) {
+                duplicates = duplicates.saturating_add(1);
+            } else {
+                self.pass(record, visitor)?;
+            }
+        }
+        Err(file.damaged())
+    }
 }
 
 /// Passes the records of runs in canonical order to a consumer, only the first one of each owner,
@@ -170,21 +212,5 @@ pub fn merge<T: RecordVisitor>(
     visitor: &mut T,
 ) -> Result<u64, RunError> {
     let mut merger = Merger::new(alloc, file, runs, block)?;
-    let mut last: Option<Record<Vec<u8>, Vec<u8>>> = None;
-    let mut duplicates: u64 = 0;
-    for _ in 0..u64::MAX {
-        let Some(record) = merger.next_record(file)? else {
-            return Ok(duplicates);
-        };
-        if last
-            .as_ref()
-            .is_some_and(|last| record.compare(last).is_eq())
-        {
-            duplicates = duplicates.saturating_add(1);
-        } else {
-            visitor.process_record(&record)?;
-            last = Some(record);
-        }
-    }
-    Err(file.damaged())
+    merger.pass_all(file, visitor)
 }

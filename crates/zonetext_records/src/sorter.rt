@@ -105,12 +105,13 @@ impl<'s> Sorter<'s> {
         if count > 0 && self.is_full(count, more) {
             self.write_run()?;
         }
-        let mut store = match self.store.take() {
-            Some(store) => store,
-            None => self.new_store(),
+        if self.store.is_none() {
+            self.store = Some(self.new_store());
+        }
+        let Some(store) = &mut self.store else {
+            return Err(RunError::Damaged);
         };
         store.add(one, 0, 0)?;
-        self.store = Some(store);
         self.octets = self.octets.saturating_add(more);
         Ok(())
     }
@@ -127,16 +128,21 @@ impl<'s> Sorter<'s> {
         Ok(())
     }
 
+    /// Writes the records in memory to a file as a run.
+    fn write_run_to(&mut self, file: &mut RunFile<'s>) -> Result<(), RunError> {
+        self.visit_held(file)?;
+        file.end_run()
+    }
+
     /// Writes the records in memory as a run.
     fn write_run(&mut self) -> Result<(), RunError> {
         let mut file = match self.file.take() {
             Some(file) => file,
             None => RunFile::create(self.rt)?,
         };
-        self.visit_held(&mut file)?;
-        file.end_run()?;
+        let written = self.write_run_to(&mut file);
         self.file = Some(file);
-        Ok(())
+        written
     }
 
     /// Returns the number of octets of a run that are read at a time.
@@ -145,33 +151,50 @@ impl<'s> Sorter<'s> {
     }
 
     /// Merges runs to fewer, in another file.
-    fn merge_some(&mut self, file: RunFile<'s>) -> Result<RunFile<'s>, RunError> {
-        let mut next = RunFile::create(self.rt)?;
+    fn merge_to(&mut self, file: &RunFile<'s>, next: &mut RunFile<'s>) -> Result<(), RunError> {
         for runs in file.runs().chunks(WIDTH) {
-            let duplicates = merge(self.rt.alloc(), &file, runs, self.block(), &mut next)?;
+            let duplicates = merge(self.rt.alloc(), file, runs, self.block(), next)?;
             self.duplicates = self.duplicates.saturating_add(duplicates);
             next.end_run()?;
         }
-        Ok(next)
+        Ok(())
+    }
+
+    /// Merges runs until a file has at most [`WIDTH`] of them.
+    fn merge_all(&mut self, file: &mut RunFile<'s>) -> Result<(), RunError> {
+        for _ in 0..PASSES {
+            if file.runs().len() > WIDTH {
+                let mut next = RunFile::create(self.rt)?;
+                self.merge_to(file, &mut next)?;
+                *file = next;
+            }
+        }
+        Ok(())
+    }
+
+    /// Passes the records of all runs to a consumer, as [`Sorter::finish`] does.
+    fn visit_runs<T: RecordVisitor>(&mut self, visitor: &mut T) -> Result<(), RunError> {
+        self.write_run()?;
+        let Some(mut file) = self.file.take() else {
+            return Err(RunError::Damaged);
+        };
+        self.merge_all(&mut file)?;
+        let duplicates = merge(self.rt.alloc(), &file, file.runs(), self.block(), visitor)?;
+        self.duplicates = self.duplicates.saturating_add(duplicates);
+        Ok(())
     }
 
     /// Passes all records to a consumer in canonical order, only the first one of each owner,
     /// class, type and data. Returns the number of duplicates that were omitted.
     pub fn finish<T: RecordVisitor>(mut self, visitor: &mut T) -> Result<u64, RunError> {
-        if self.file.is_none() {
-            self.visit_held(visitor)?;
-            return Ok(self.duplicates);
-        }
-        self.write_run()?;
-        let Some(mut file) = self.file.take() else {
-            return Err(RunError::Damaged);
+        let visited = if self.file.is_none() {
+            self.visit_held(visitor)
+        } else {
+            self.visit_runs(visitor)
         };
-        for _ in 0..PASSES {
-            if file.runs().len() > WIDTH {
-                file = self.merge_some(file)?;
-            }
+        match visited {
+            Ok(()) => Ok(self.duplicates),
+            Err(stop) => Err(stop),
         }
-        let duplicates = merge(self.rt.alloc(), &file, file.runs(), self.block(), visitor)?;
-        Ok(self.duplicates.saturating_add(duplicates))
     }
 }

@@ -396,19 +396,17 @@ impl<'r, 'h> Frame<'r, 'h> {
         MESSAGE.saturating_sub(size)
     }
 
-    /// Returns the names whose operations must be in the first message: the zone, its name servers,
+    /// Appends the names whose operations must be in the first message: the zone, its name servers,
     /// and targets of MX.
-    fn first_names(
+    fn push_first_names(
         &self,
-        alloc: Global,
         operations: &[NumberedOperation<'r, 'h>],
-    ) -> Result<Vec<&'r [u8]>, AllocError> {
-        let mut names = Vec::new(alloc);
+        names: &mut Vec<&'r [u8]>,
+    ) -> Result<(), AllocError> {
         names.push(self.zone.as_slice())?;
-        push_server_names(self.zone, self.old.records, &mut names)?;
-        push_server_names(self.zone, self.new.records, &mut names)?;
-        push_targets(operations, self.limit(), &mut names)?;
-        Ok(names)
+        push_server_names(self.zone, self.old.records, names)?;
+        push_server_names(self.zone, self.new.records, names)?;
+        push_targets(operations, self.limit(), names)
     }
 
     /// Returns the operations of each message.
@@ -417,10 +415,10 @@ impl<'r, 'h> Frame<'r, 'h> {
         alloc: Global,
         operations: &[NumberedOperation<'r, 'h>],
     ) -> Result<Vec<Vec<NumberedOperation<'r, 'h>>>, UpdateError> {
-        let names = match self.first_names(alloc, operations) {
-            Ok(names) => names,
-            Err(_) => return Err(UpdateError::OutOfMemory),
-        };
+        let mut names = Vec::new(alloc);
+        if self.push_first_names(operations, &mut names).is_err() {
+            return Err(UpdateError::OutOfMemory);
+        }
         messages_of(
             alloc,
             self.zone,
@@ -443,16 +441,14 @@ fn operations_of<'r, 'h>(
     Ok(operations)
 }
 
-/// Writes the comments of an update, and its messages.
-fn write_commands(
-    rt: &HostRuntime,
+/// Writes the comments of an update, and its messages, by way of `lines`.
+fn write_lines(
+    lines: &mut Lines<'_>,
     frame: &Frame<'_, '_>,
-    changes: &[NumberedChange<'_, '_>],
+    omitted: &BTreeMap<u16, usize>,
     messages: &[Vec<NumberedOperation<'_, '_>>],
 ) -> Result<(), RunError> {
-    let mut lines = Lines::new(rt);
-    let omitted = omitted_changes(rt.alloc(), changes, frame.work.has_keys)?;
-    push_comments(&mut lines.text, &omitted, messages.len())?;
+    push_comments(&mut lines.text, omitted, messages.len())?;
     if !messages.is_empty() {
         push_head(
             &mut lines.text,
@@ -461,7 +457,59 @@ fn write_commands(
             frame.soas.required,
         )?;
     }
-    write_messages(&mut lines, messages)
+    write_messages(lines, messages)
+}
+
+/// Writes the comments of an update, and its messages.
+fn write_commands(
+    rt: &HostRuntime,
+    frame: &Frame<'_, '_>,
+    changes: &[NumberedChange<'_, '_>],
+    messages: &[Vec<NumberedOperation<'_, '_>>],
+) -> Result<(), RunError> {
+    let omitted = omitted_changes(rt.alloc(), changes, frame.work.has_keys)?;
+    let mut lines = Lines::new(rt);
+    write_lines(&mut lines, frame, &omitted, messages)
+}
+
+/// Writes the messages of an update, and returns the status. If the serial doesn't rise by their
+/// number, that is reported, and none is written.
+fn write_fitting(
+    rt: &HostRuntime,
+    frame: &Frame<'_, '_>,
+    changes: &[NumberedChange<'_, '_>],
+    operations: &[NumberedOperation<'_, '_>],
+    messages: &[Vec<NumberedOperation<'_, '_>>],
+) -> Result<u8, RunError> {
+    let (old, new) = (frame.old.gathered, frame.new.gathered);
+    if frame.work.has_soa && !fits_messages(rt, old, new, messages.len())? {
+        return Ok(UNFIT);
+    }
+    report_host_names(rt, operations)?;
+    write_commands(rt, frame, changes, messages)?;
+    Ok(1)
+}
+
+/// Writes the update of these operations, which make changes in a zone, and returns the status.
+fn write_operations<'r, 'h>(
+    rt: &HostRuntime,
+    frame: &Frame<'r, 'h>,
+    changes: &[NumberedChange<'r, 'h>],
+    operations: &[NumberedOperation<'r, 'h>],
+) -> Result<u8, RunError> {
+    if has_unfit(rt, frame.zone, operations)? {
+        return Ok(UNFIT);
+    }
+    match frame.messages(rt.alloc(), operations) {
+        Ok(messages) => write_fitting(rt, frame, changes, operations, messages.as_slice()),
+        Err(UpdateError::OutOfMemory) => Err(RunError::OutOfMemory),
+        Err(UpdateError::TooLarge) => {
+            eprintln!(rt;
+                "zonetext: changes at one name, or at the zone and its name servers, exceed a message of {MESSAGE} octets"
+            )?;
+            Ok(UNFIT)
+        }
+    }
 }
 
 /// Writes the update that makes these changes in a zone, and returns the status.
@@ -471,27 +519,7 @@ fn write_changes<'r, 'h>(
     changes: &[NumberedChange<'r, 'h>],
 ) -> Result<u8, RunError> {
     let operations = operations_of(rt.alloc(), changes, frame.work.has_keys)?;
-    let operations = operations.as_slice();
-    if has_unfit(rt, frame.zone, operations)? {
-        return Ok(UNFIT);
-    }
-    let messages = match frame.messages(rt.alloc(), operations) {
-        Ok(messages) => messages,
-        Err(UpdateError::OutOfMemory) => return Err(RunError::OutOfMemory),
-        Err(UpdateError::TooLarge) => {
-            eprintln!(rt;
-                "zonetext: changes at one name, or at the zone and its name servers, exceed a message of {MESSAGE} octets"
-            )?;
-            return Ok(UNFIT);
-        }
-    };
-    let (old, new) = (frame.old.gathered, frame.new.gathered);
-    if frame.work.has_soa && !fits_messages(rt, old, new, messages.len())? {
-        return Ok(UNFIT);
-    }
-    report_host_names(rt, operations)?;
-    write_commands(rt, frame, changes, messages.as_slice())?;
-    Ok(1)
+    write_operations(rt, frame, changes, operations.as_slice())
 }
 
 /// Writes the update from one zone to another, and returns the status: 1 if they differ, and
@@ -577,12 +605,12 @@ pub fn run(rt: &HostRuntime, first: &str, second: &str, reading: &Reading<'_>, w
     };
     let old = gather(rt, &[first], reading, selection);
     let new = gather(rt, &[second], reading, selection);
-    let (old, new) = match (old, new) {
-        (Ok(old), Ok(new)) => (old, new),
-        (Err(status), Err(other)) => return status.max(other),
-        (Err(status), Ok(_)) | (Ok(_), Err(status)) => return status,
+    let compared = match (&old, &new) {
+        (Ok(old), Ok(new)) => compare(rt, (first, second), old, new, reading, work),
+        (Err(status), Err(other)) => Ok((*status).max(*other)),
+        (Err(status), Ok(_)) | (Ok(_), Err(status)) => Ok(*status),
     };
-    match compare(rt, (first, second), &old, &new, reading, work) {
+    match compared {
         Ok(status) => status,
         Err(stop) => exit_status(rt, "-", stop),
     }

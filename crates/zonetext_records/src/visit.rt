@@ -17,8 +17,8 @@ use zonetext_report::code::{Code, Severity};
 use zonetext_report::policy::Policy;
 use zonetext_zones::zone_names::Zone;
 
-/// Greatest number of errors that are reported.
-const MOST: usize = 20;
+/// Greatest number of errors that are reported, unless another number is asked for.
+pub const MOST_ERRORS: usize = 20;
 
 /// How files are read.
 #[derive(Drop)]
@@ -48,6 +48,9 @@ pub struct Reading<'o> {
     pub is_lenient: bool,
     /// How `$GENERATE` directives are read.
     pub generate: GenerateOptions,
+    /// Greatest number of errors that are reported; 0 means all. If rejected entries are written as
+    /// comments, all are.
+    pub most: usize,
 }
 
 impl Reading<'_> {
@@ -299,7 +302,7 @@ pub fn visit_entries<T: EntryVisitor + Drop>(
     let reporter = if reading.is_lenient {
         Reporter::new(rt, policy, form, 0).as_comments()
     } else {
-        Reporter::new(rt, policy, form, MOST)
+        Reporter::new(rt, policy, form, reading.most)
     };
     let checker = Checker::new(rt, reporter, limits, None);
     let mut giver = ReportingVisitor {
