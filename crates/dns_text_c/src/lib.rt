@@ -1,27 +1,11 @@
-//! Parses and prints DNS presentation format, for C and other languages, as a static library.
+//! The C library: the functions that C calls, as a static library.
 //!
-//! `c/include/dnstext.h` declares the functions. Octets and texts are passed as a pointer and a
-//! length, a text as its characters, one octet each. A call returns a status and writes an
-//! [`Outcome`](outcome::Outcome). Its value is at the start of the memory that was passed, and the
-//! octets after it are unchanged. None of these calls allocates memory.
+//! `c/include/dnstext.h` declares them. Each calls the function of [`c_calls`] with its name without
+//! `dnstext_`, and has the same contract. `dnstext_position` calls `line_and_column`, and
+//! `dnstext_status_text` calls `status_print`.
 #![tactic(auto)]
 
-pub mod canonical;
-pub mod codecs;
-pub mod generate;
-pub mod kept;
-pub mod kinds;
-pub mod laws;
-pub mod names;
-pub mod numbers;
-pub mod outcome;
-pub mod pieces;
-pub mod position;
-pub mod printing;
-pub mod reading;
-pub mod reasons;
-mod record_reading;
-pub mod records;
+pub mod data;
 pub mod status;
-pub mod strings;
-pub mod tokens;
+pub mod values;
+pub mod zone_files;

@@ -1,0 +1,40 @@
+-- Worked examples of the definitions, each computed.
+use Rattle.std.specs.Prelude.{◌≡◌, [], ◌∷◌, ◌++◌, map, codes, decimal, refl, Some, None}
+use Rattle.rdata_values.specs.Classes.{class_text}
+use Rattle.rdata_values.specs.Rtype as Rtype
+use Rattle.rdata_values.specs.Types.{type_rows, type_text}
+use Rattle.zone_reader.specs.declared.ttl.RecordTtl.TheVariants.{Explicit, Default, Last}
+use Rattle.c_calls.specs.Kept.{flagged}
+use Rattle.c_calls.specs.Records.{returned_ttl}
+use Rattle.c_calls.specs.Status.{status_text}
+use Rattle.c_calls.specs.Reports.{number_of}
+use Rattle.c_calls.specs.declared.outcome.Refusal.TheVariants.{NoRoom, BadPlace, BadTtl, UnknownType, UnknownClass, Closing, OpenParenthesis, OpenQuote, LoneReturn, BadEscape, NotSupported, NoOrigin, NoOwner, RefusedOwner, NoTtl}
+
+-- two types with a name and one without, and the classes 1 and 254
+types : map type_text (Rtype.mx ∷ Rtype.caa ∷ 65280 ∷ []) ≡ codes "MX" ∷ codes "CAA" ∷ (codes "TYPE" ++ decimal 65280) ∷ []
+unfolding type_rows
+types = refl
+
+classes : map class_text (1 ∷ 254 ∷ []) ≡ codes "IN" ∷ (codes "CLASS" ++ decimal 254) ∷ []
+classes = refl
+
+-- the texts of statuses
+refusals : map (λ r. status_text (number_of r)) (NoRoom ∷ BadPlace ∷ BadTtl ∷ UnknownType ∷ UnknownClass ∷ [])
+    ≡ codes "no room" ∷ codes "place past the end" ∷ codes "expected time to live" ∷ codes "unknown record type" ∷ codes "unknown class" ∷ []
+refusals = refl
+
+syntax_errors : map (λ r. status_text (number_of r)) (Closing ∷ OpenParenthesis ∷ OpenQuote ∷ LoneReturn ∷ BadEscape ∷ [])
+    ≡ codes "closing parenthesis, and none is open" ∷ codes "parenthesis is not closed" ∷ codes "quoted text is not closed" ∷ codes "CR without LF" ∷ codes "illegal escape sequence" ∷ []
+syntax_errors = refl
+
+entries : map (λ r. status_text (number_of r)) (NotSupported ∷ NoOrigin ∷ NoOwner ∷ RefusedOwner ∷ NoTtl ∷ [])
+    ≡ codes "not supported: expand it first" ∷ codes "relative name, and no origin" ∷ codes "no owner" ∷ codes "the owner before is refused" ∷ codes "no time to live" ∷ []
+entries = refl
+
+-- a TTL that is missing, and two of a minute
+ttls : flagged 0 60 ∷ flagged 1 60 ∷ flagged 255 60 ∷ [] ≡ None ∷ Some 60 ∷ Some 60 ∷ []
+ttls = refl
+
+-- a TTL of a record below 2^31, and two that are not
+returned_ttls : map returned_ttl (Explicit 2147483647 ∷ Default 2147483648 ∷ Last 4294967295 ∷ []) ≡ 2147483647 ∷ 0 ∷ 0 ∷ []
+returned_ttls = refl

@@ -1,5 +1,0 @@
-use Rattle.std.proofs.Common.{refl, inr}
-use Rattle.dns_text_c.proofs.kinds.dnstext_class_read.Goals as goal
-
-pub returns-in-Err : goal.returns-in-Err
-returns-in-Err c = inr (c.refuse_word.ensures, refl, λ v spells. c.in-Err.ensures.1 v spells)

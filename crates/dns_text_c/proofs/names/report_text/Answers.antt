@@ -1,6 +1,0 @@
-use Rattle.std.proofs.Common.{◌∙◌}
-use Rattle.dns_text_c.proofs.NameText.{given_as}
-use Rattle.dns_text_c.proofs.names.report_text.Goals as goal
-
-pub returns : goal.returns
-returns c = given_as _ _ _ _ _ _ (c.as_bytes.ensures.value ∙ c.labels_in-shown.ensures) c.copy_whole.ensures

@@ -1,9 +1,0 @@
-use Rattle.std.proofs.Common.{arith}
-use Rattle.dns_text_c.specs.DataText.{data_text}
-use Rattle.dns_text_c.proofs.PutTexts.{counted_text}
-use Rattle.dns_text_c.proofs.printing.count_text.Goals as goal
-
-pub returns : goal.returns
-returns c =
-    let all = counted_text _ (λ s. s.length) (λ s octets t is. is) _ (data_text c.args.content.now) c.print_on.new.sink c.in_ok-print_on.ensures in
-    omega (arith, all)
