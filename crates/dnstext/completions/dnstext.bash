@@ -2,7 +2,12 @@
 _dnstext() {
     local word=${COMP_WORDS[COMP_CWORD]} words=
     case $COMP_CWORD in
-        1) words='scan print line' ;;
+        1)
+            case $word in
+                -*) words=--version ;;
+                *) words='scan print line' ;;
+            esac
+            ;;
         2)
             case ${COMP_WORDS[1]} in
                 scan) words='u8 u16 u32 u64 u128 ttl charstr hex base32hex base64 name' ;;

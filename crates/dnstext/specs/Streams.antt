@@ -4,6 +4,14 @@ use Rattle.std.specs.Io.KnownBytes.{Appends, Keeps}
 use Rattle.dnstext_lib.specs.Program.{refusal_line}
 use Rattle.dnstext_lib.specs.Run.{IsUnknownCommand, RunPrinted, RunRefused}
 
+-- the usage, which also has `--version`
+abbrev pub usage_text : List ℕ
+usage_text = codes "usage: dnstext scan|print|line KIND WORD..\n       dnstext --version\n"
+
+-- the line that `--version` prints
+abbrev pub version_line : List ℕ
+version_line = codes "dnstext 0.2.0\n"
+
 -- the known bytes of a stream grow by these
 abbrev pub StreamGrows : Option (List ℕ) → List ℕ → Option (List ℕ) → Type 0
 StreamGrows o bytes p = Appends o p bytes

@@ -1,4 +1,4 @@
-//! The program `dnstext`: it runs `dnstext_lib::program::run` over its arguments.
+//! The program `dnstext`: it runs `dnstext_lib::program::run` over its arguments, or prints its version.
 #![tactic(auto)]
 
 mod streams;
@@ -25,6 +25,9 @@ fn run_arguments(rt: &HostRuntime) -> io::Result<u8> {
         words.push(argument.as_str())?;
     }
     let mut out = BufWriter::new(alloc, rt.stdout())?;
+    if words.len() == 1 && words[0] == "--version" {
+        return Ok(streams::print_version(&mut out, &mut rt.stderr()));
+    }
     Ok(streams::run(alloc, &words, &mut out, &mut rt.stderr()))
 }
 

@@ -1,15 +1,21 @@
 //! Runs the program over streams of bytes.
-ghost use Rattle.std.specs.Prelude.{◌≡◌, ◌⊎◌, ◌≤◌};
+ghost use Rattle.std.specs.Prelude.{◌≡◌, ◌⊎◌, ◌≤◌, codes};
 ghost use Rattle.std.specs.Io.KnownBytes.{Appends, Keeps};
-ghost use Rattle.dnstext_lib.specs.Program.{refusal_line, usage_line, bytes_of_words};
+ghost use Rattle.dnstext_lib.specs.Program.{refusal_line, bytes_of_words};
 ghost use Rattle.dnstext_lib.specs.Run.{IsUnknownCommand};
-ghost use Rattle.dnstext.specs.Streams.{Printed, HasRun, PrintsNothing, StreamGrows, ReportsFailure};
+ghost use Rattle.dnstext.specs.Streams.{Printed, HasRun, PrintsNothing, StreamGrows, ReportsFailure, usage_text, version_line};
 
 use arrayvec::ArrayString;
 use dnstext_lib::program;
 use std::alloc::Allocator;
 use std::fmt;
 use std::io::Write;
+
+/// The usage, which also has `--version`.
+const USAGE: &str = "usage: dnstext scan|print|line KIND WORD..\n       dnstext --version\n";
+
+/// The line that `--version` prints.
+const VERSION_LINE: &str = "dnstext 0.2.0\n";
 
 /// Maximum length of what is written to standard error: the line of an error, or the usage.
 const LINE_LENGTH: usize = 128;
@@ -63,11 +69,31 @@ pub fn refuse<E: Write>(err: &mut E, reason: &str) -> u8
 /// Writes the usage, and returns the exit status.
 pub fn refuse_usage<E: Write>(err: &mut E) -> u8
     ensures status { (result ≡ 2) ⊎ (result ≡ 3) }
-    ensures wrote { result ≡ 2 → Appends (E.contents err.old) (E.contents err.new) usage_line }
+    ensures wrote { result ≡ 2 → Appends (E.contents err.old) (E.contents err.new) usage_text }
 {
-    match err.write_all(program::USAGE.as_bytes()) {
+    match err.write_all(USAGE.as_bytes()) {
         Ok(()) => 2,
         Err(_) => 3,
+    }
+}
+
+/// Prints the version, and returns the exit status.
+///
+/// If `out` fails, also when it is flushed, the status is 1 and the line on `err` is
+/// `refused: write failed`. If `err` fails, the status is 3.
+pub fn print_version<O: Write, E: Write>(out: &mut O, err: &mut E) -> u8
+    ensures printed { result ≡ 0
+        → Appends (O.contents out.old) (O.contents out.new) version_line
+        × Keeps (E.contents err.old) (E.contents err.new) }
+    ensures refused { result ≡ 1 → StreamGrows (E.contents err.old)
+        (refusal_line (codes "write failed")) (E.contents err.new) }
+    ensures status { (result ≡ 0) ⊎ ((result ≡ 1) ⊎ (result ≡ 3)) }
+{
+    let is_lost = out.write_all(VERSION_LINE.as_bytes()).is_err() || out.flush().is_err();
+    if is_lost {
+        refuse(err, "write failed")
+    } else {
+        0
     }
 }
 
@@ -75,7 +101,8 @@ pub fn refuse_usage<E: Write>(err: &mut E) -> u8
 ///
 /// Output is written to `out` as it is produced, and `out` is flushed before anything is written to
 /// `err`. If `out` fails, also when it is flushed, the status is 1 and the only line on `err` is
-/// `refused: write failed`, whatever other error there was. If `err` fails, the status is 3.
+/// `refused: write failed`, whatever other error there was. For an unknown command the status is 2,
+/// and `err` has the usage. If `err` fails, the status is 3.
 pub fn run<A: Allocator + Copy, O: Write, E: Write>(
     alloc: A,
     words: &[&str],
@@ -90,7 +117,7 @@ pub fn run<A: Allocator + Copy, O: Write, E: Write>(
         (E.contents err.old) (E.contents err.new) }
     ensures usage { result ≡ 2 → IsUnknownCommand (bytes_of_words words.now)
         × Keeps (O.contents out.old) (O.contents out.new)
-        × Appends (E.contents err.old) (E.contents err.new) usage_line }
+        × Appends (E.contents err.old) (E.contents err.new) usage_text }
     ensures silent { result ≡ 3
         → PrintsNothing (bytes_of_words words.now) (O.contents out.old) (O.contents out.new)
         ⊎ HasRun (bytes_of_words words.now) (O.contents out.old) (O.contents out.new) }
@@ -107,6 +134,9 @@ pub fn run<A: Allocator + Copy, O: Write, E: Write>(
     let _ = &*sink.writer;
     if is_lost && status < 2 {
         return refuse(err, "write failed");
+    }
+    if status == 2 {
+        return refuse_usage(err);
     }
     if err.write_all(line.as_str().as_bytes()).is_err() {
         return 3;

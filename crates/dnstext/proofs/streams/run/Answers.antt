@@ -1,7 +1,7 @@
 use Rattle.std.proofs.Common.{rules, ◌≡◌, [], codes, refl, ap, subst, ◌∙◌, inl, inr}
 use Rattle.std.specs.Io.KnownBytes.{Appends}
-use Rattle.dnstext_lib.specs.Program.{refusal_line, usage_line, bytes_of_words}
-use Rattle.dnstext.proofs.Sinks.{kept_by_none, text_after, untouched, printed_on, refused_on, ran_on, silent_on}
+use Rattle.dnstext_lib.specs.Program.{refusal_line, bytes_of_words}
+use Rattle.dnstext.proofs.Sinks.{kept_by_none, text_after, printed_on, refused_on, ran_on, silent_on}
 use Rattle.dnstext.proofs.streams.run.Goals as goal
 
 pub returns-then-is_err-clause-silent : goal.returns-then-is_err-clause-silent
@@ -42,18 +42,6 @@ returns-clause-refused g c = λ is.
       run.0,
       inl (refused_on g.O.Write.contents _ _ c.run-status.new.out c.refuses_the_end-is_lost.new.self _ run.0
           (record { back = λ same. search rules; loan = c.refuses_the_end-is_lost.ensures.loan; kept = c.refuses_the_end-is_lost.ensures.kept }) run.1),
-      subst (λ b. Appends (g.E.Write.contents c.args.err.now) (g.E.Write.contents c.write_all.new.self) b) line wrote,
-    )
-
-pub returns-clause-usage : goal.returns-clause-usage
-returns-clause-usage g c = λ is.
-    let run = c.run-status.ensures.usage is in
-    let wrote : Appends (g.E.Write.contents c.args.err.now) (g.E.Write.contents c.write_all.new.self) c.as_bytes.result.now = search rules in
-    let line : c.as_bytes.result.now ≡ usage_line = c.as_bytes.ensures.value ∙ c.as_str.ensures.value
-    ∙ text_after (λ x. x.bytes) c.new-line.result usage_line c.run-status.new.err c.new-line.ensures run.2 in (
-      run.0,
-      untouched g.O.Write.contents _ c.run-status.new.out c.refuses_the_end-is_lost.new.self _
-          (record { back = λ same. search rules; loan = c.refuses_the_end-is_lost.ensures.loan; kept = c.refuses_the_end-is_lost.ensures.kept }) run.1,
       subst (λ b. Appends (g.E.Write.contents c.args.err.now) (g.E.Write.contents c.write_all.new.self) b) line wrote,
     )
 
