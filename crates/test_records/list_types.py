@@ -40,7 +40,7 @@ def codes():
 def rows():
     """Returns RDATA in presentation format and their octets, by type."""
     data = {}
-    for line in read("test_records/stdin").splitlines():
+    for line in read("test_records/rows").splitlines():
         call, *fields = line.split("\t")
         if call != "data" or len(fields) != 3 or fields[2].startswith("!"):
             continue

@@ -3,8 +3,6 @@ mod apl;
 mod bitmap;
 mod blocks;
 mod canonical;
-mod class;
-mod cut;
 mod data;
 mod digits;
 mod field;
@@ -14,12 +12,9 @@ mod generate;
 mod head;
 mod kind;
 mod list;
-mod location;
-mod params;
 mod record;
 mod results;
 mod rules;
-mod service;
 mod set;
 mod spelling;
 mod store;
@@ -51,21 +46,14 @@ fn call(name: &str, inputs: &Inputs, answer: &mut Answer) {
     match group {
         "field" => field::call(name, inputs, answer),
         "fields" => fields::call(name, inputs, answer),
-        "name" => spelling::name(name, inputs, answer),
-        "string" => spelling::string(name, inputs, answer),
-        "tag" => spelling::tag(name, inputs, answer),
         "octets" => spelling::octets(name, inputs, answer),
         "digits" => digits::call(name, inputs, answer),
         "bitmap" => bitmap::call(name, inputs, answer),
         "list" => list::call(name, inputs, answer),
-        "params" => params::call(name, inputs, answer),
         "apl" => apl::call(name, inputs, answer),
         "gateway" => gateway::call(name, inputs, answer),
         "generate" => generate::call(name, inputs, answer),
-        "loc" => location::call(name, inputs, answer),
-        "data" => data::call(name, inputs, answer),
         "canonical" => canonical::call(name, inputs, answer),
-        "class" => class::call(name, inputs, answer),
         "head" => head::call(name, inputs, answer),
         "record" => record::call(name, inputs, answer),
         "set" => set::call(name, inputs, answer),

@@ -1,13 +1,12 @@
 //! Types as bitmaps.
-use super::results::{Octets, add_comma, add_result, number16};
-use rdata_values::{BitmapTypes, RecordType, TypeSet, check_bitmap};
+use super::results::{Octets, add_result, number16};
+use rdata_values::{RecordType, TypeSet};
 use test_support::{Answer, Failure, Inputs};
 
 /// Answers a row: calls what it names.
 pub fn call(name: &str, inputs: &Inputs, answer: &mut Answer) {
     match name {
         "compose" => compose(inputs.octets(answer), answer),
-        "parse" => parse(inputs.octets(answer), answer),
         _ => answer.fail(Failure::NoCall),
     }
 }
@@ -31,17 +30,4 @@ fn compose(numbers: &[u8], answer: &mut Answer) {
     let mut target: Octets = Vec::new(answer.heap());
     let made = types.append_to(&mut target);
     add_result(made, target.as_slice(), answer);
-}
-
-/// Adds the types of a bitmap, separated by commas, or why octets are not a bitmap.
-fn parse(octets: &[u8], answer: &mut Answer) {
-    if let Err(error) = check_bitmap(octets) {
-        return answer.refuse(&error);
-    }
-    let mut is_first = true;
-    for rtype in BitmapTypes::new(octets) {
-        add_comma(is_first, answer);
-        answer.add_number(usize::from(rtype.0));
-        is_first = false;
-    }
 }

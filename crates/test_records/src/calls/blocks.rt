@@ -136,7 +136,7 @@ fn add_long(reader: &mut BlockReader<&Heap>, state: &mut State, answer: &mut Ans
 }
 
 /// Returns why an entry is rejected, unless it is too long.
-pub fn record_error(refusal: BlockRefusal) -> Option<RecordError> {
+fn record_error(refusal: BlockRefusal) -> Option<RecordError> {
     match refusal {
         BlockRefusal::Text(fault) => Some(RecordError::from(fault)),
         BlockRefusal::Entry(error) => Some(error),

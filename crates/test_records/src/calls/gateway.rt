@@ -10,7 +10,6 @@ pub fn call(name: &str, inputs: &Inputs, answer: &mut Answer) {
     let number = number8(number, answer);
     match name {
         "octets" => octets(number, input, answer),
-        "print" => print(number, input, answer),
         _ => answer.fail(Failure::NoCall),
     }
 }
@@ -26,15 +25,4 @@ fn octets(number: u8, text: &[u8], answer: &mut Answer) {
     let mut target: Octets = Vec::new(answer.heap());
     let made = append(number, text, &mut target);
     add_result(made, target.as_slice(), answer);
-}
-
-/// Adds the gateway with which octets begin.
-fn print(number: u8, octets: &[u8], answer: &mut Answer) {
-    match Gateway::from_octets(number, octets) {
-        Some(gateway) => {
-            answer.hold(gateway.number() == number);
-            answer.add_shown(&gateway);
-        }
-        None => answer.refuse(&ErrorKind::ExpectedGateway),
-    }
 }

@@ -1,4 +1,4 @@
-//! `$GENERATE` directives: the texts of their entries, and the records that these are.
+//! `$GENERATE` directives: the records of their entries.
 use super::results::Octets;
 use super::zone::{add_not_yielded, add_read, state_of};
 use test_support::{Answer, Failure, Inputs};
@@ -11,7 +11,6 @@ const MOST: u64 = 1000;
 /// Answers a row: calls what it names.
 pub fn call(name: &str, inputs: &Inputs, answer: &mut Answer) {
     match name {
-        "texts" => texts(inputs.octets(answer), answer),
         "records" => records(inputs.all(), answer),
         _ => answer.fail(Failure::NoCall),
     }
@@ -24,42 +23,6 @@ fn add_rejected(error: GenerateError, at: usize, answer: &mut Answer) {
     answer.add_number(at.saturating_add(error.at));
     answer.add_text("|");
     answer.add_number(error.offset);
-}
-
-/// Adds the text of an entry. Returns whether memory sufficed.
-fn add_text(directive: &Generate<'_, '_>, number: u32, answer: &mut Answer) -> bool {
-    let mut text: Octets = Vec::new(answer.heap());
-    match directive.append_entry(number, &mut text) {
-        Ok(()) => {
-            answer.add(text.as_slice());
-            true
-        }
-        Err(error) => {
-            answer.refuse(&error);
-            false
-        }
-    }
-}
-
-/// Adds the texts of the entries of a directive.
-fn texts(text: &[u8], answer: &mut Answer) {
-    let tokens = match DirectiveTokens::new(text) {
-        Ok(tokens) => tokens,
-        Err(error) => return add_rejected(error, 0, answer),
-    };
-    match tokens.parse(MOST) {
-        Ok(directive) => {
-            for index in 0..MOST {
-                let Some(number) = directive.range().number(index) else {
-                    return;
-                };
-                if !add_text(&directive, number, answer) {
-                    return;
-                }
-            }
-        }
-        Err(error) => add_rejected(error, 0, answer),
-    }
 }
 
 /// Adds the record of a number. Returns whether others may follow.

@@ -1,12 +1,9 @@
-//! Headers of entries: the meaning of an entry's first tokens.
-use super::results::Octets;
+//! Headers of records: owner, TTL, class and type.
 use dns_lexer::entry_tokens::{EntryToken, EntryTokens};
 use rdata_fields::{RecordError, TokenList, TokenSource};
 use rdata_values::Class;
 use test_support::{Answer, Failure, Inputs};
-use zone_reader::{
-    Directive, parse_default_ttl, parse_directive, parse_end, parse_file_name, parse_header,
-};
+use zone_reader::{parse_directive, parse_header};
 
 /// Answers a row: calls what it names.
 pub fn call(name: &str, inputs: &Inputs, answer: &mut Answer) {
@@ -71,51 +68,6 @@ fn record(owner: Option<EntryToken<'_>>, source: &mut TokenList<'_>, answer: &mu
     }
 }
 
-/// Adds `$TTL`, and the seconds.
-fn default_ttl(source: &mut TokenList<'_>, answer: &mut Answer) {
-    match parse_default_ttl(source) {
-        Ok(ttl) => {
-            answer.add_text("ttl ");
-            add_declared(usize::try_from(ttl).ok(), answer);
-        }
-        Err(error) => add_error(&error, answer),
-    }
-}
-
-/// Adds `$ORIGIN`, and the token of its name.
-fn origin(name: Option<EntryToken<'_>>, source: &mut TokenList<'_>, answer: &mut Answer) {
-    if name.is_some() {
-        source.advance();
-    }
-    match parse_end(source) {
-        Ok(()) => {
-            answer.add_text("origin ");
-            add_token(name, answer);
-        }
-        Err(error) => add_error(&error, answer),
-    }
-}
-
-/// Adds `$INCLUDE`, its file, and the token of an origin.
-fn include(origin: Option<EntryToken<'_>>, source: &mut TokenList<'_>, answer: &mut Answer) {
-    let mut file: Octets = Vec::new(answer.heap());
-    if let Err(error) = parse_file_name(source, &mut file) {
-        return add_error(&error, answer);
-    }
-    if origin.is_some() {
-        source.advance();
-    }
-    match parse_end(source) {
-        Ok(()) => {
-            answer.add_text("include ");
-            answer.add(file.as_slice());
-            answer.add_text("|");
-            add_token(origin, answer);
-        }
-        Err(error) => add_error(&error, answer),
-    }
-}
-
 /// Adds the meaning of the tokens of an entry, separated by bars.
 fn read(text: &[u8], answer: &mut Answer) {
     let mut tokens = Vec::new(answer.alloc());
@@ -126,15 +78,11 @@ fn read(text: &[u8], answer: &mut Answer) {
     let tokens = tokens.as_slice();
     let mut source = TokenList::new(tokens, text.len());
     match parse_directive(end.begins_blank, &mut source) {
-        Ok(Some(Directive::Origin)) => origin(tokens.get(1).copied(), &mut source, answer),
-        Ok(Some(Directive::Ttl)) => default_ttl(&mut source, answer),
-        Ok(Some(Directive::Include)) => include(tokens.get(2).copied(), &mut source, answer),
-        Ok(Some(Directive::Generate)) => answer.add_text("generate"),
         Ok(None) if end.begins_blank => record(None, &mut source, answer),
         Ok(None) => {
             source.advance();
             record(tokens.first().copied(), &mut source, answer);
         }
-        Err(error) => add_error(&error, answer),
+        Ok(Some(_)) | Err(_) => answer.fail(Failure::BadInputs),
     }
 }

@@ -6,7 +6,6 @@ use dns_wire::Name;
 use dns_zone::zonefile_fmt::{DisplayKind, ZonefileFmt};
 use rdata_fields::TokenList;
 use rdata_values::{Class, RecordType};
-use std::cmp::Ordering;
 use test_support::input::number_of;
 use test_support::{Answer, Failure, Inputs};
 use zone_record::{Data, Record, data_of_tokens};
@@ -18,9 +17,6 @@ const ORIGIN: &[u8] = b"\x07example\x00";
 pub fn call(name: &str, inputs: &Inputs, answer: &mut Answer) {
     match name {
         "print" => print(inputs.all(), answer),
-        "canonical" => canonical(inputs.all(), answer),
-        "compare" => compare(inputs.all(), answer),
-        "wire" => wire(inputs.two(answer), answer),
         "part" => part(inputs.all(), answer),
         _ => answer.fail(Failure::NoCall),
     }
@@ -94,51 +90,6 @@ fn print(inputs: &[Vec<u8>], answer: &mut Answer) {
         b"tabbed" => answer.add_shown(&record.display_zonefile(DisplayKind::Tabbed)),
         b"multiline" => answer.add_shown(&record.display_zonefile(DisplayKind::Multiline)),
         _ => answer.fail(Failure::BadInputs),
-    }
-}
-
-/// Adds the octets of a record in canonical form.
-fn canonical(inputs: &[Vec<u8>], answer: &mut Answer) {
-    let Some(record) = record_of(inputs, answer) else {
-        return;
-    };
-    let mut target: Octets = Vec::new(answer.heap());
-    match record.append_canonical(&mut target) {
-        Ok(()) => answer.add(target.as_slice()),
-        Err(error) => answer.refuse(&error),
-    }
-}
-
-/// Adds the order of two records.
-fn compare(inputs: &[Vec<u8>], answer: &mut Answer) {
-    if inputs.len() != 10 {
-        return answer.fail(Failure::BadInputs);
-    }
-    let Some(left) = record_of(&inputs[..5], answer) else {
-        return;
-    };
-    let Some(right) = record_of(&inputs[5..], answer) else {
-        return;
-    };
-    answer.add_text(match left.compare(&right) {
-        Ordering::Less => "less",
-        Ordering::Equal => "equal",
-        Ordering::Greater => "greater",
-    });
-}
-
-/// Adds octets as data of a type, and back.
-fn wire((kind, octets): (&[u8], &[u8]), answer: &mut Answer) {
-    let rtype = rtype_of(kind, answer);
-    match Data::from_octets(rtype, octets) {
-        Ok(data) => {
-            let mut target: Octets = Vec::new(answer.heap());
-            match data.compose(&mut target) {
-                Ok(()) => answer.add(target.as_slice()),
-                Err(error) => answer.refuse(&error),
-            }
-        }
-        Err(error) => answer.refuse(&error),
     }
 }
 

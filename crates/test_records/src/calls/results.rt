@@ -23,11 +23,6 @@ pub fn add_width(width: Option<usize>, answer: &mut Answer) {
     }
 }
 
-/// Adds a comma, unless the next item is the first.
-pub fn add_comma(is_first: bool, answer: &mut Answer) {
-    answer.add_text(if is_first { "" } else { "," });
-}
-
 /// Returns a number of 16 bits, from decimal digits.
 pub fn number16(digits: &[u8], answer: &mut Answer) -> u16 {
     let number = number_of(digits).unwrap_or(usize::MAX);

@@ -12,7 +12,6 @@ const BASE: usize = 100;
 /// Answers a row: calls what it names.
 pub fn call(name: &str, inputs: &Inputs, answer: &mut Answer) {
     match name {
-        "fill" => add_filled(inputs.octets(answer), answer),
         "fill_line" => add_filled_line(inputs.octets(answer), answer),
         _ => answer.fail(Failure::NoCall),
     }
@@ -25,32 +24,18 @@ fn used_tape() -> Tape {
     tape
 }
 
-/// Adds the tokens of the first entry and the offset of its end, or `none`. If `fill_line` returns
-/// an offset, it is the same, and so are the spans.
-fn add_filled(octets: &[u8], answer: &mut Answer) {
-    let mut tape = used_tape();
-    let mut line = used_tape();
-    let line_end = fill_line(octets, &mut line);
-    match fill(octets, &mut tape) {
-        Some(end) => {
-            let spans = tape.as_slice();
-            if line_end.is_some() {
-                answer.hold(line_end == Some(end) && line.as_slice() == spans);
-            }
-            add_tape(octets, spans, end, answer);
-        }
-        None => {
-            answer.hold(line_end.is_none());
-            answer.add_text("none");
-        }
-    }
-}
-
-/// Adds the same of an entry that `fill_line` fills.
+/// Adds the tokens of the first entry and the offset of its end, or `none`, by `fill_line`. What it
+/// fills, `fill` fills alike.
 fn add_filled_line(octets: &[u8], answer: &mut Answer) {
     let mut tape = used_tape();
+    let mut other = used_tape();
+    let end = fill(octets, &mut other);
     match fill_line(octets, &mut tape) {
-        Some(end) => add_tape(octets, tape.as_slice(), end, answer),
+        Some(line_end) => {
+            let spans = tape.as_slice();
+            answer.hold(end == Some(line_end) && other.as_slice() == spans);
+            add_tape(octets, spans, line_end, answer);
+        }
         None => answer.add_text("none"),
     }
 }

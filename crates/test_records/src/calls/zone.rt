@@ -1,6 +1,5 @@
 //! Entries of zone files, each by the state before it.
 use super::blocks::{blocks, limit};
-use super::cut::cut;
 use super::data::Why;
 use super::results::{Octets, origin_of};
 use super::rules::{dnssec, hash, hidden, refused, rules};
@@ -8,27 +7,14 @@ use dns_lexer::pieces::Wrong;
 use rdata_fields::RecordError;
 use rdata_values::{Class, ErrorKind};
 use test_support::{Answer, Failure, Inputs};
-use zone_reader::{NameBuffer, ParsedEntry, RecordReader, RecordTtl, State, include_parts};
-
-/// The steps of a row: each entry; or each entry from a new reader, which starts where the one
-/// before stopped; or only records and files.
-#[derive(Clone, Copy)]
-enum Step {
-    Entry,
-    Piece,
-    Record,
-}
+use zone_reader::{NameBuffer, ParsedEntry, RecordTtl, State, include_parts};
 
 /// Answers a row: calls what it names.
 pub fn call(name: &str, inputs: &Inputs, answer: &mut Answer) {
     match name {
-        "entries" => zone(inputs.all(), Step::Entry, answer),
-        "pieces" => zone(inputs.all(), Step::Piece, answer),
-        "records" => zone(inputs.all(), Step::Record, answer),
         "rules" => rules(inputs.all(), answer),
         "blocks" => blocks(inputs, answer),
         "limit" => limit(inputs, answer),
-        "cut" => cut(inputs, answer),
         "dnssec" => dnssec(inputs.all(), answer),
         "refused" => refused(inputs.all(), answer),
         "hidden" => hidden(inputs.all(), answer),
@@ -143,27 +129,6 @@ pub fn add_not_yielded(error: RecordError, answer: &mut Answer) -> bool {
     true
 }
 
-/// Reads one step. Returns whether more follow.
-fn add_step(reader: &mut RecordReader<'_>, step: Step, answer: &mut Answer) -> bool {
-    let mut target: Octets = Vec::new(answer.heap());
-    let given = match step {
-        Step::Entry | Step::Piece => reader.next_entry(&mut target),
-        Step::Record => reader.next_record(&mut target),
-    };
-    let continues = match given {
-        Some(Ok(read)) => {
-            add_read(&reader.state, read, target.as_slice(), answer);
-            true
-        }
-        Some(Err(error)) => add_not_yielded(error, answer),
-        None => return false,
-    };
-    if continues {
-        answer.add_text(";");
-    }
-    continues
-}
-
 /// Returns the state at the start of reading: with an origin, or without.
 pub fn state_of(origin: &[Vec<u8>], answer: &mut Answer) -> State {
     let state = State::new(Class::IN);
@@ -173,35 +138,5 @@ pub fn state_of(origin: &[Vec<u8>], answer: &mut Answer) -> State {
             Err(_) => state,
         },
         None => state,
-    }
-}
-
-/// Returns a reader that starts where another stopped.
-fn started_again<'t>(
-    text: &'t [u8],
-    reader: RecordReader<'t>,
-    answer: &mut Answer,
-) -> RecordReader<'t> {
-    let at = reader.place();
-    if at > text.len() {
-        answer.fail(Failure::BadInputs);
-        return reader;
-    }
-    RecordReader::starting_at(text, at, reader.state.copied())
-}
-
-/// Adds the entries of a text, one after another.
-fn zone(inputs: &[Vec<u8>], step: Step, answer: &mut Answer) {
-    let [text, origin @ ..] = inputs else {
-        return answer.fail(Failure::BadInputs);
-    };
-    let mut reader = RecordReader::new(text.as_slice(), state_of(origin, answer));
-    for _ in 0..=text.len() {
-        if !add_step(&mut reader, step, answer) {
-            return;
-        }
-        if matches!(step, Step::Piece) {
-            reader = started_again(text.as_slice(), reader, answer);
-        }
     }
 }

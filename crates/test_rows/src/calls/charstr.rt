@@ -24,7 +24,6 @@ pub fn call(name: &str, inputs: &Inputs, answer: &mut Answer) {
         "octets" => read_octets(inputs.octets(answer), answer),
         "octets_into_two" => read_octets_into_two(inputs.octets(answer), answer),
         "of" => of(inputs.octets(answer), answer),
-        "plain" => plain(inputs.octets(answer), answer),
         "quoted" => quoted(inputs.octets(answer), answer),
         "unquoted" => unquoted(inputs.octets(answer), answer),
         "lower_hex" => lower_hex(inputs.octets(answer), answer),
@@ -110,11 +109,6 @@ fn of(octets: &[u8], answer: &mut Answer) {
         Ok(string) => answer.add(string.as_slice()),
         Err(error) => answer.refuse(&error),
     }
-}
-
-fn plain(octets: &[u8], answer: &mut Answer) {
-    let string = string(octets, answer);
-    answer.add_shown(&string);
 }
 
 fn quoted(octets: &[u8], answer: &mut Answer) {

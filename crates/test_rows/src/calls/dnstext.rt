@@ -17,21 +17,6 @@ pub fn words_of<'a, A: Allocator>(
     Ok(words)
 }
 
-/// Adds what the program prints for arguments, and after `!` its error.
-pub fn run(inputs: &[Vec<u8>], answer: &mut Answer) {
-    let Ok(words) = words_of(answer.heap(), inputs) else {
-        return answer.fail_for_memory();
-    };
-    let mut out = String::new(answer.alloc());
-    let mut err = String::new(answer.alloc());
-    let status = program::run(answer.heap(), words.as_slice(), &mut out, &mut err);
-    answer.check((status == 0) == err.is_empty());
-    answer.add_text(out.as_str());
-    if status != 0 {
-        answer.refuse_text(err.as_str());
-    }
-}
-
 /// What the program writes to two sinks, each with a limit of writes, and its status.
 #[derive(Drop)]
 struct Ran {

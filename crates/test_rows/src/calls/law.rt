@@ -1,23 +1,14 @@
-//! Laws across crates, as calls: each function that states one, and each short document.
-use super::dnstext::words_of;
-use super::tally::repeated;
+//! Laws across crates, as calls: the layouts of each short document, and of a long token.
+use super::parts::repeated;
 use super::zone::{check_entries, items};
-use dns_charstr::charstr::CharStr;
-use dns_iter::scanner::IterScanner;
-use dns_octets::AsOctets;
-use dns_scan::StrError;
-use dns_text::entry::{Field, FieldKind};
-use dns_text::laws::layouts::{items_split, values_split, zone_tokens_split};
-use dns_text::laws::lines::{Scanned, fields_are_scanned_back, fields_split};
-use dns_text::laws::numbers::number_is_scanned_back;
-use dns_text::laws::strings::unquoted_text_is_a_token;
+use dns_text::laws::layouts::{items_split, values_split};
 use dns_zone::document::Document;
-use dns_zone::zonefile_fmt::{DisplayKind, ZonefileFmt};
-use std::alloc::{AllocError, Allocator, Global};
+use dns_zone::zonefile_fmt::DisplayKind;
+use std::alloc::{AllocError, Global};
 use std::slice;
 use test_support::heap::Refusing;
 use test_support::input::number_of;
-use test_support::{Answer, Failure, Heap, Inputs};
+use test_support::{Answer, Failure, Inputs};
 
 const KINDS: [DisplayKind; 3] = [
     DisplayKind::Simple,
@@ -29,12 +20,7 @@ const KINDS: [DisplayKind; 3] = [
 pub fn call(name: &str, inputs: &Inputs, answer: &mut Answer) {
     match name {
         "short" => short(inputs.octets_and_number(answer), answer),
-        "tokens_split" => tokens_split(inputs.all(), answer),
-        "items_split" => split_items(inputs.all(), answer),
         "long_item_split" => split_long_item(inputs.all(), answer),
-        "fields_split" => split_fields(answer),
-        "token" => token(inputs.octets(answer), answer),
-        "hex" | "number" => scan_back(name, inputs.all(), answer),
         _ => answer.fail(Failure::NoCall),
     }
 }
@@ -95,38 +81,6 @@ fn short((length, lists): (&[u8], usize), answer: &mut Answer) {
     }
 }
 
-/// Adds the simple layout of a document.
-fn tokens_split(words: &[Vec<u8>], answer: &mut Answer) {
-    let Ok(items) = items(answer.heap(), words) else {
-        return answer.fail_for_memory();
-    };
-    let Ok(document) = Document::from_items(items) else {
-        return answer.fail(Failure::BadInputs);
-    };
-    match zone_tokens_split(answer.heap(), &document, DisplayKind::Simple) {
-        Ok(text) => answer.add_text(text.as_str()),
-        Err(AllocError) => answer.fail_for_memory(),
-    }
-}
-
-/// Adds a text, a bar, and the number of entries that it splits into.
-fn add_result(text: &str, entries: usize, answer: &mut Answer) {
-    answer.add_text(text);
-    answer.add_text("|");
-    answer.add_number(entries);
-}
-
-/// Adds the multiline layout of items.
-fn split_items(words: &[Vec<u8>], answer: &mut Answer) {
-    let Ok(items) = items(answer.heap(), words) else {
-        return answer.fail_for_memory();
-    };
-    match items_split(answer.heap(), items, DisplayKind::Multiline) {
-        Ok((text, entries)) => add_result(text.as_str(), entries.len(), answer),
-        Err(error) => answer.refuse(&error),
-    }
-}
-
 /// Adds, for one token of repeated parts, the number of octets of its tabbed layout, a bar, and the
 /// number of entries that it splits into.
 fn split_long_item(parts: &[Vec<u8>], answer: &mut Answer) {
@@ -145,77 +99,5 @@ fn split_long_item(parts: &[Vec<u8>], answer: &mut Answer) {
             answer.add_number(entries.len());
         }
         Err(error) => answer.refuse(&error),
-    }
-}
-
-/// Adds a field of each kind.
-fn add_fields<'a>(
-    heap: &'a Heap,
-    fields: &mut Vec<Field<&'a Heap>, &'a Heap>,
-) -> Result<(), AllocError> {
-    fields.push(Field::Number(5))?;
-    fields.push(Field::Hex(b"\xDE\xAD".to_vec(heap)?))?;
-    fields.push(Field::Base64(b"f".to_vec(heap)?))?;
-    if let Ok(text) = CharStr::from_octets(b"a(b".to_vec(heap)?) {
-        fields.push(Field::Text(text))?;
-    }
-    Ok(())
-}
-
-/// Adds the multiline layout of a line with a field of each kind.
-fn split_fields(answer: &mut Answer) {
-    let mut fields = Vec::new(answer.heap());
-    if add_fields(answer.heap(), &mut fields).is_err() {
-        return answer.fail_for_memory();
-    }
-    match fields_split(answer.heap(), fields, DisplayKind::Multiline) {
-        Ok((text, entries)) => add_result(text.as_str(), entries.len(), answer),
-        Err(_) => answer.fail_for_memory(),
-    }
-}
-
-/// Adds the unquoted form of octets as a document.
-fn token(octets: &[u8], answer: &mut Answer) {
-    let string = CharStr::from_slice(octets).unwrap_or(CharStr::empty_slice());
-    if string.len() == 0 {
-        return answer.fail(Failure::BadInputs);
-    }
-    match unquoted_text_is_a_token(answer.heap(), &string) {
-        Ok(Ok(document)) => answer.add_shown(&document.display_zonefile(DisplayKind::Simple)),
-        Ok(Err((error, _))) => answer.refuse(&error),
-        Err(AllocError) => answer.fail_for_memory(),
-    }
-}
-
-/// Adds the number of a token, parsed with an allocator.
-fn scan_number<A: Allocator + Copy>(alloc: A, words: &[&str], answer: &mut Answer) {
-    let mut scanner: IterScanner<_, Vec<u8, A>> = IterScanner::new(alloc, words.iter().copied());
-    let number: Result<u8, StrError> = number_is_scanned_back(&mut scanner);
-    match number {
-        Ok(number) => answer.add_number(usize::from(number)),
-        Err(error) => answer.refuse(&error),
-    }
-}
-
-/// Adds the octets of a token.
-fn scan_hex<A: Allocator + Copy>(alloc: A, words: &[&str], answer: &mut Answer) {
-    let mut scanner: IterScanner<_, Vec<u8, A>> = IterScanner::new(alloc, words.iter().copied());
-    let octets: Result<Scanned<Vec<u8, A>>, StrError> = fields_are_scanned_back(
-        &mut scanner,
-        FieldKind::Hex,
-    );
-    match octets {
-        Ok(Scanned::Octets(octets)) => answer.add(AsOctets::as_slice(&octets)),
-        Ok(_) => answer.hold(false),
-        Err(error) => answer.refuse(&error),
-    }
-}
-
-/// Adds the octets or the number of a token.
-fn scan_back(name: &str, inputs: &[Vec<u8>], answer: &mut Answer) {
-    match words_of(answer.alloc(), inputs) {
-        Ok(words) if name == "number" => scan_number(answer.heap(), words.as_slice(), answer),
-        Ok(words) => scan_hex(answer.heap(), words.as_slice(), answer),
-        Err(_) => answer.fail_for_memory(),
     }
 }

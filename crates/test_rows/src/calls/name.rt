@@ -6,7 +6,7 @@ use dns_name::name::{FromStrError, UncertainDnameError, UncertainName};
 use dns_octets::{AsOctets, OctetsBuilder, ShortBuf};
 use dns_wire::{
     DisplayWithDot, DisplayWithoutDot, FlattenInto, Label, LabelTypeError, Name, RelativeName,
-    ToLabelIter, ToRelativeName, ZoneName,
+    ToLabelIter, ToRelativeName,
 };
 use std::hash::{DefaultHasher, Hash, Hasher};
 use std::str;
@@ -22,8 +22,6 @@ type Vector<'a> = UncertainName<Octets<'a>>;
 pub fn call(name: &str, inputs: &Inputs, answer: &mut Answer) {
     match name {
         "read" => read(inputs.text(answer), answer),
-        "plain" => plain(inputs.octets(answer), answer),
-        "zone" => zone(inputs.octets(answer), answer),
         "of" => of(inputs.octets(answer), answer),
         "are_equal" => are_equal(inputs.two(answer), answer),
         "into_absolute" => absolute::into_absolute(inputs.octets(answer), answer),
@@ -69,16 +67,6 @@ fn name_of<'a>(octets: &'a [u8], answer: &mut Answer) -> UncertainName<&'a [u8]>
             UncertainName::empty_ref()
         }
     }
-}
-
-fn plain(octets: &[u8], answer: &mut Answer) {
-    let name = name_of(octets, answer);
-    answer.add_shown(&name);
-}
-
-fn zone(octets: &[u8], answer: &mut Answer) {
-    let name = name_of(octets, answer);
-    answer.add_shown(&ZoneName::new(&name));
 }
 
 /// Checks that a name is returned as its kind, and rejected as the other kind.

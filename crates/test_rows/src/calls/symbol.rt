@@ -10,20 +10,16 @@ use test_support::{Answer, Failure, Inputs};
 /// Answers a row: calls what it names.
 pub fn call(name: &str, inputs: &Inputs, answer: &mut Answer) {
     match name {
-        "at" => at(inputs.octets_and_number(answer), answer),
         "first" => first(inputs.text(answer), answer),
         "each" => each(inputs.text(answer), answer),
-        "octet" => octet(inputs.octets(answer), answer),
         "ascii" => ascii(inputs.octets(answer), answer),
         "char" => character(inputs.octets(answer), answer),
         "digit" => digit(inputs.octets_and_number(answer), answer),
         "walk" => walk(inputs.two(answer), answer),
         "is_plain_word_char" => is_plain_word_char(inputs.text(answer), answer),
-        "is_word_char" => is_word_char(inputs.octets(answer), answer),
         "plain" => print::<Plain>(inputs.octets(answer), answer),
         "quoted" => print::<Quoted>(inputs.octets(answer), answer),
         "unquoted" => print::<Unquoted>(inputs.octets(answer), answer),
-        "from_octet" => from_octet(inputs.octets(answer), answer),
         _ => answer.fail(Failure::NoCall),
     }
 }
@@ -40,19 +36,6 @@ fn kind(symbol: Symbol) -> &'static str {
 fn add_symbol(symbol: Symbol, answer: &mut Answer) {
     answer.add_text(kind(symbol));
     answer.add_shown(&symbol);
-}
-
-/// Adds the symbol at an offset of octets, and the offset after it.
-fn at((octets, place): (&[u8], usize), answer: &mut Answer) {
-    match Symbol::from_slice_index(octets, place) {
-        Ok(Some((symbol, next))) => {
-            add_symbol(symbol, answer);
-            answer.add_text(" ");
-            answer.add_number(next);
-        }
-        Ok(None) => answer.add_text("none"),
-        Err(error) => answer.refuse(&error),
-    }
 }
 
 /// Adds the first symbol of a text, a bar, and the rest.
@@ -96,13 +79,6 @@ fn symbol_of(octets: &[u8], answer: &mut Answer) -> Symbol {
             answer.fail(Failure::BadInputs);
             Symbol::Char(' ')
         }
-    }
-}
-
-fn octet(octets: &[u8], answer: &mut Answer) {
-    match symbol_of(octets, answer).into_octet() {
-        Ok(octet) => answer.add_number(usize::from(octet)),
-        Err(error) => answer.refuse(&error),
     }
 }
 
@@ -162,11 +138,6 @@ fn walk((first, last): (&[u8], &[u8]), answer: &mut Answer) {
     answer.add_number(count);
 }
 
-fn is_word_char(octets: &[u8], answer: &mut Answer) {
-    let symbol = symbol_of(octets, answer);
-    answer.add_bool(symbol.is_word_char());
-}
-
 /// Octets that print in a form.
 #[derive(Drop)]
 struct Shown<'a, F> {
@@ -189,16 +160,4 @@ fn in_form<F: Form>(octets: &[u8]) -> Shown<'_, F> {
 
 fn print<F: Form>(octets: &[u8], answer: &mut Answer) {
     answer.add_shown(&in_form::<F>(octets));
-}
-
-/// Adds the symbols of an octet in the plain, the quoted and the unquoted form, separated by bars.
-fn from_octet(octets: &[u8], answer: &mut Answer) {
-    let [octet] = octets else {
-        return answer.fail(Failure::BadInputs);
-    };
-    answer.add_shown(&Symbol::display_from_octet(*octet));
-    answer.add_text("|");
-    answer.add_shown(&Symbol::quoted_from_octet(*octet));
-    answer.add_text("|");
-    answer.add_shown(&Symbol::from_octet(*octet));
 }

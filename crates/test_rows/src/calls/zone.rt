@@ -1,8 +1,6 @@
 //! Zone files: how they split, and their layouts.
-use super::{pieces, tally};
-use dns_lexer::entry_tokens::{EntryPart, EntryToken, EntryTokens, NextEntryError};
-use dns_lexer::pieces::{EndOfEntry, Fault, Piece, Pieces, Span, Wrong};
-use dns_lexer::position::{Position, line_and_column, line_and_column_of_octets};
+use super::parts;
+use dns_lexer::pieces::{Piece, Pieces};
 use dns_lexer::splitting::split;
 use dns_lexer::token::{content, is_token};
 use dns_lexer::unclosed::{outermost_open, outermost_open_of_octets};
@@ -18,27 +16,13 @@ use test_support::{Answer, Failure, Heap, Inputs};
 pub fn call(name: &str, inputs: &Inputs, answer: &mut Answer) {
     match name {
         "split" => split_text(inputs.text(answer), answer),
-        "pieces" => pieces::pieces(inputs.octets(answer), answer),
-        "next" => pieces::next_piece(inputs.all(), answer),
-        "needs_more" => pieces::needs_more(inputs.octets(answer), answer),
-        "tally" => tally::tally_parts(inputs.all(), answer),
-        "split_parts" => tally::split_parts(inputs.all(), answer),
-        "entries" => entries(inputs.octets(answer), answer),
-        "is_token" => is_one_token(inputs.text(answer), answer),
+        "needs_more" => needs_more(inputs.octets(answer), answer),
+        "split_parts" => parts::split_parts(inputs.all(), answer),
         "content" => token_content(inputs.text(answer), answer),
         "open" => open(inputs.octets(answer), answer),
-        "position" => position(inputs.octets_and_number(answer), answer),
-        "text_position" => text_position(inputs.octets_and_number(answer), answer),
-        "simple" => layout(DisplayKind::Simple, inputs.all(), answer),
-        "tabbed" => layout(DisplayKind::Tabbed, inputs.all(), answer),
-        "multiline" => layout(DisplayKind::Multiline, inputs.all(), answer),
         "failing" => failing(inputs.all(), answer),
         _ => answer.fail(Failure::NoCall),
     }
-}
-
-fn is_one_token(text: &str, answer: &mut Answer) {
-    answer.add_bool(is_token(text));
 }
 
 /// Adds the tokens of an entry with a bar after each, and a slash.
@@ -87,117 +71,12 @@ fn split_text(text: &str, answer: &mut Answer) {
     answer.check_same(&other);
 }
 
-/// Adds a name and two numbers, separated by spaces.
-fn add_span(name: &str, span: Span, answer: &mut Answer) {
-    answer.add_text(name);
-    answer.add_number(span.start);
-    answer.add_text(" ");
-    answer.add_number(span.end);
-}
-
-/// Adds a piece by the name of its kind.
-pub fn add_named_piece(piece: Piece, answer: &mut Answer) {
-    match piece {
-        Piece::Word(span) => add_span("word ", span, answer),
-        Piece::Quote(span) => add_span("quote ", span, answer),
-        Piece::Comment(span) => add_span("comment ", span, answer),
-        Piece::End(end) => {
-            answer.add_text(if end.begins_blank { "blank " } else { "end " });
-            answer.add_number(end.at);
-        }
+/// Adds whether the text of an error ends too early.
+fn needs_more(octets: &[u8], answer: &mut Answer) {
+    match Pieces::of_octets(octets).last() {
+        Some(Err(fault)) => answer.add_bool(fault.needs_more(octets)),
+        _ => answer.add_text("no fault"),
     }
-}
-
-/// Returns the name of the cause of an error.
-pub fn wrong_name(wrong: Wrong) -> &'static str {
-    match wrong {
-        Wrong::Closing => "closing",
-        Wrong::OpenParenthesis => "open parenthesis",
-        Wrong::OpenQuote(_) => "open quote",
-        Wrong::LoneReturn => "lone return",
-        Wrong::BadEscape => "bad escape",
-    }
-}
-
-/// Adds a syntax error.
-pub fn add_fault(fault: Fault, answer: &mut Answer) {
-    answer.add_text(wrong_name(fault.wrong));
-    if let Wrong::OpenQuote(start) = fault.wrong {
-        answer.add_text(" from ");
-        answer.add_number(start);
-    }
-    answer.add_text(" at ");
-    answer.add_number(fault.at);
-}
-
-/// Adds a token after its offset and a colon, or a plus if it is adjacent, with a bar after it.
-fn add_entry_token(token: EntryToken, answer: &mut Answer) {
-    let quote = if token.is_quoted { "\"" } else { "" };
-    answer.add_number(token.at);
-    answer.add_text(if token.is_adjacent { "+" } else { ":" });
-    answer.add_text(quote);
-    answer.add(token.text);
-    answer.add_text(quote);
-    answer.add_text("|");
-}
-
-/// Adds a slash, after `_` if the entry began with a blank.
-fn add_entry_end(end: EndOfEntry, answer: &mut Answer) {
-    answer.add_text(if end.begins_blank { "_/" } else { "/" });
-}
-
-/// Adds the entries of octets token by token, up to an error.
-fn entries_by_tokens(octets: &[u8], answer: &mut Answer) {
-    let mut left = EntryTokens::of_octets(octets);
-    let mut is_blank = None;
-    for _ in 0..=octets.len() * 2 {
-        match left.next_token() {
-            Some(
-                Ok(
-                    EntryPart::Token {
-                        token,
-                        begins_blank,
-                    },
-                ),
-            ) => {
-                answer.check(is_blank.unwrap_or(begins_blank) == begins_blank);
-                is_blank = Some(begins_blank);
-                add_entry_token(token, answer);
-            }
-            Some(Ok(EntryPart::End(end))) => {
-                answer.check(is_blank.unwrap_or(end.begins_blank) == end.begins_blank);
-                is_blank = None;
-                add_entry_end(end, answer);
-            }
-            Some(Err(fault)) => add_fault(fault, answer),
-            None => return,
-        }
-    }
-}
-
-/// Does the same an entry at a time.
-fn entries_at_once(octets: &[u8], answer: &mut Answer) {
-    let mut tokens = Vec::new(answer.heap());
-    let mut left = EntryTokens::of_octets(octets);
-    for _ in 0..=octets.len() + 1 {
-        let next = left.next_entry(&mut tokens);
-        for token in &tokens {
-            add_entry_token(*token, answer);
-        }
-        match next {
-            Ok(Some(end)) => add_entry_end(end, answer),
-            Ok(None) => return,
-            Err(NextEntryError::BadText(fault)) => add_fault(fault, answer),
-            Err(NextEntryError::ShortBuf) => return answer.fail_for_memory(),
-        }
-    }
-}
-
-fn entries(octets: &[u8], answer: &mut Answer) {
-    entries_at_once(octets, answer);
-    let mut other = answer.another();
-    entries_by_tokens(octets, &mut other);
-    answer.check_same(&other);
 }
 
 fn token_content(token: &str, answer: &mut Answer) {
@@ -214,31 +93,6 @@ fn open(octets: &[u8], answer: &mut Answer) {
     }
     if let Ok(text) = str::from_utf8(octets) {
         answer.check(outermost_open(text) == open);
-    }
-}
-
-/// Adds a line and a column.
-pub fn add_position(position: Position, answer: &mut Answer) {
-    answer.add_number(position.line);
-    answer.add_text(":");
-    answer.add_number(position.column);
-}
-
-/// Adds the line and the column of an offset, in octets.
-fn position((octets, place): (&[u8], usize), answer: &mut Answer) {
-    if place > octets.len() {
-        return answer.fail(Failure::BadInputs);
-    }
-    add_position(line_and_column_of_octets(octets, place), answer);
-}
-
-/// Adds the line and the column of an offset, in characters of a text.
-fn text_position((octets, place): (&[u8], usize), answer: &mut Answer) {
-    match str::from_utf8(octets) {
-        Ok(text) if text.is_char_boundary(place) => {
-            add_position(line_and_column(text, place), answer);
-        }
-        _ => answer.fail(Failure::BadInputs),
     }
 }
 
@@ -292,63 +146,6 @@ pub fn check_entries(text: &str, words: &[Vec<u8>], answer: &mut Answer) {
     match (wanted.into_text(), found.into_text()) {
         (Ok(wanted), Ok(found)) => answer.check(wanted == found),
         _ => answer.check(false),
-    }
-}
-
-/// Returns whether a value prints a text, or a prefix of it if an allocation fails.
-fn is_printed(heap: &Heap, value: &impl fmt::Display, wanted: &str) -> bool {
-    let mut out = String::new(heap);
-    match write!(out, "{value}") {
-        Ok(()) => out.as_str() == wanted,
-        Err(_) => heap.has_refused() && wanted.starts_with(out.as_str()),
-    }
-}
-
-/// Adds what a document of words prints, as a separate text and into one.
-fn print(value: &impl fmt::Display, words: &[Vec<u8>], answer: &mut Answer) {
-    answer.add_shown(value);
-    let Ok(text) = value.to_string(answer.heap()) else {
-        return answer.fail_for_memory();
-    };
-    let mut other = answer.another();
-    other.add_text(text.as_str());
-    answer.check_same(&other);
-    answer.hold(is_printed(answer.heap(), value, text.as_str()));
-    check_entries(text.as_str(), words, answer);
-}
-
-/// Returns whether an item is that of a word.
-fn is_item(item: &Item<&Heap>, word: &[u8]) -> bool {
-    match item {
-        Item::Begin => matches!(word, [b'(']),
-        Item::End => matches!(word, [b')']),
-        Item::Newline => matches!(word, [b'\n']),
-        Item::Comment(text) => word.strip_prefix(b"; ") == Some(text.as_str().as_bytes()),
-        Item::Token(text) => text.as_str().as_bytes() == word,
-    }
-}
-
-/// Returns whether items are those of words.
-fn are_items(items: &[Item<&Heap>], words: &[Vec<u8>]) -> bool {
-    for (item, word) in items.iter().zip(words) {
-        if !is_item(item, word.as_slice()) {
-            return false;
-        }
-    }
-    items.len() == words.len()
-}
-
-/// Adds the text of a document of words in a layout.
-fn layout(kind: DisplayKind, words: &[Vec<u8>], answer: &mut Answer) {
-    let Ok(items) = items(answer.heap(), words) else {
-        return answer.fail_for_memory();
-    };
-    match Document::from_items(items) {
-        Ok(document) => print(&document.display_zonefile(kind), words, answer),
-        Err((error, items)) => {
-            answer.hold(are_items(items.as_slice(), words));
-            answer.refuse(&error);
-        }
     }
 }
 
