@@ -75,7 +75,9 @@ def zsh_options(text):
 
 def dnstext(path):
     program = os.environ.get('dnstext', path + '/out/dnstext')
-    commands = re.search(r'dnstext (\S+) KIND', printed([program], 2))[1].split('|')
+    usage = printed([program], 2)
+    commands = re.search(r'dnstext (\S+) KIND', usage)[1].split('|')
+    taken = re.findall(r'dnstext (--[\w-]+)', usage)
     rules = open(CRATES + '/../docs/RULES.md', encoding='utf-8').read()
     kinds = [re.findall(r'`(\w+)`', line) for line in re.findall(r'KIND is ([^.;]*)[.;]', rules)]
     wanted = {'scan': kinds[0], 'print': kinds[1], 'line': kinds[1]}
@@ -86,10 +88,11 @@ def dnstext(path):
         printed([program, 'print', kind])
     for shell, ask in SHELLS.items():
         compare(shell, ['dnstext'], ask(path, ['dnstext', '']), commands)
+        compare(shell, ['dnstext', '-'], ask(path, ['dnstext', '-']), taken)
         for name in commands:
             compare(shell, ['dnstext', name], ask(path, ['dnstext', name, '']), wanted[name])
     text = open(path + '/completions/_dnstext', encoding='utf-8').read()
-    compare('zsh', ['dnstext'], re.findall(r"^ +'(\w+):", text, re.M), commands)
+    compare('zsh', ['dnstext'], re.findall(r"^ +'([\w-]+):", text, re.M), commands + taken)
     values = [line.split() for line in re.findall(r'_values \w+ ([\w ]*) ;;', text)]
     compare('zsh', ['dnstext', 'scan'], values[0], kinds[0])
     compare('zsh', ['dnstext', 'print'], values[1], kinds[1])

@@ -1,6 +1,7 @@
 #!/usr/bin/env python3
 """Compares the declarations of the library in several places: the prototypes, structs and statuses of
-the header, of the source, of status.c and of the Rust crate, and the symbols of the named archive."""
+the header, of the source, of status.c and of the Rust crate, and the symbols of the named archive. Also
+compares the clauses of each function for C with those of the function that it calls."""
 import glob
 import os
 import re
@@ -21,9 +22,11 @@ def read(path):
     return open(os.path.join(HERE, path), encoding='utf-8').read()
 
 
-def source():
-    for path in sorted(glob.glob(os.path.join(HERE, '../crates/dns_text_c/src/*.rt'))):
-        yield open(path, encoding='utf-8').read()
+def source(*crates):
+    """Yields the files of the crates: dns_text_c has the functions for C, c_calls structs and statuses."""
+    for crate in crates or ('c_calls', 'dns_text_c'):
+        for path in sorted(glob.glob(os.path.join(HERE, f'../crates/{crate}/src/*.rt'))):
+            yield open(path, encoding='utf-8').read()
 
 
 def c_types(kind):
@@ -48,6 +51,17 @@ def exported():
             kinds = [p.split(':', 1)[1] for p in parameters.split(',') if ':' in p]
             found[name] = (NUMBERS[result], [t for kind in kinds for t in c_types(kind)])
     return {**found, **declared(read('status.c'), r'\) \{')}
+
+
+def other_clauses():
+    """Returns the functions for C that don't just call a function of c_calls, or have other clauses."""
+    form = r'pub (?:extern "C" )?fn (\w+)\([^)]*\) -> u32\n(.*?)\n\{\n(.*?)\n\}'
+    called = {name: clauses for text in source('c_calls') for name, clauses, _ in re.findall(form, text, re.S)}
+    for text in source('dns_text_c'):
+        for name, clauses, body in re.findall(form, text, re.S):
+            call = re.fullmatch(r' +(\w+)\([^;]*\)', body)
+            if not call or called.get(call[1]) != clauses:
+                yield name
 
 
 def field_of(kind, field, structs):
@@ -180,6 +194,7 @@ def main():
     page = re.findall(r'^\.It Fn (\w+)$', read('dnstext.3'), re.M)
     compare('dnstext.3', {name: 'there' for name in page}, {name: 'there' for name in prototypes})
     compare('prefix', {name: 'another prefix' for name in foreign(read('include/dnstext.h'))}, {})
+    compare('clauses', {name: 'not those of the function that it calls' for name in other_clauses()}, {})
     for line in bad:
         print('signatures.py: ' + line, file=sys.stderr)
     print(f'signatures.py: {len(prototypes)} functions, {len(structs)} structs and {len(statuses)} '

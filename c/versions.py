@@ -27,6 +27,8 @@ PLACES = [
     ('c/include/dnstext.h', r'#define DNSTEXT_VERSION_NUMBER ([0-9]+)'),
     ('c/dnstext.3', r'^\.Os dnstext (.*)$'),
     ('crates/dnstext/dnstext.1', r'^\.Os dnstext (.*)$'),
+    ('crates/dnstext/src/streams.rt', r'VERSION_LINE: &str = "dnstext (.*)\\n"'),
+    ('crates/dnstext/specs/Streams.antt', r'^version_line = codes "dnstext (.*)\\n"$'),
     ('crates/zonetext/zonetext.1', r'^\.Os zonetext (.*)$'),
     ('crates/zonetext_findings/src/machine.rt', r'VERSION: &str = "(.*)"'),
     ('crates/zonetext/integration/github-actions.yml', rf'zonetext_({FORM})_amd64\.deb'),
@@ -34,6 +36,7 @@ PLACES = [
     ('rust/dns-text-sys/Cargo.toml', r'^version = "(.*)"$'),
     ('rust/Cargo.lock', r'^name = "dns-text(?:-sys)?"\nversion = "(.*)"$'),
     ('README.md', rf'(?:zonetext|dnstext|libdnstext-dev)_({FORM})_amd64\.deb'),
+    ('docs/RULES.md', rf'`dnstext ({FORM})`'),
     ('docs/BINDINGS.md', rf'(?:zonetext|dnstext|libdnstext-dev)_({FORM})_amd64\.deb'),
     ('docs/BINDINGS.md', rf'dnstext-({FORM})(?:-x86_64-linux)?\.tar\.gz'),
 ]

@@ -1,9 +1,7 @@
-/* Rows of crates/test_rows/stdin and crates/test_records/stdin that the library can answer, as they are or
- * converted to rows about RDATA by .ci/as_data.py. Most calls run with no buffer, with one octet too few, and
- * with the exact size. Prints the names of the calls that the library does not have. Rows about zones are in
- * zones.c. */
-#include "table.h"
-#include <dnstext.h>
+/* Rows of crates/test_rows and crates/test_records that the library can answer, as they are or converted to
+ * rows about RDATA by .ci/as_data.py. Most calls run with buffers of each smaller size, and with the exact
+ * one. Prints the names of the calls that the library does not have. Rows about zones are in zones.c. */
+#include "texts.h"
 
 enum { CALLS = 200 };
 
@@ -43,6 +41,22 @@ static const struct {
 static char unknown[CALLS][40];
 static size_t unknowns;
 
+/* Whether a call fails with each buffer smaller than the `needed` octets: of a long output with 256 of
+ * them, down from the largest. */
+static bool fails_with_less(call f, const uint8_t *from, size_t from_len, size_t needed) {
+    size_t step = 1 + needed / 256, room;
+    bool fails = true;
+    for (room = needed - 1; fails; room -= step) {
+        struct dnstext_outcome outcome;
+        uint8_t *to = (uint8_t *)malloc(room != 0 ? room : 1);
+        fails = f(from, from_len, to, room, &outcome) == DNSTEXT_NO_ROOM && outcome.length == needed;
+        free(to);
+        if (room < step)
+            break;
+    }
+    return fails;
+}
+
 /* Returns the output of a call, in memory of the exact size. Sets `note` if the call succeeds with less, or
  * fails with the size that it asked for. */
 static uint8_t *sized_output_of(call f, const uint8_t *from, size_t from_len, uint32_t *status,
@@ -53,8 +67,8 @@ static uint8_t *sized_output_of(call f, const uint8_t *from, size_t from_len, ui
     *status = f(from, from_len, NULL, 0, &outcome);
     needed = *status == DNSTEXT_NO_ROOM ? outcome.length : 0;
     to = (uint8_t *)malloc(needed != 0 ? needed : 1);
-    if (needed != 0 && f(from, from_len, to, needed - 1, &outcome) != DNSTEXT_NO_ROOM)
-        *note = "the call succeeds with one octet too few";
+    if (needed != 0 && !fails_with_less(f, from, from_len, needed))
+        *note = "the call succeeds in a smaller buffer, or needs another length there";
     *status = f(from, from_len, to, needed, &outcome);
     *length = outcome.length;
     if (*status == DNSTEXT_NO_ROOM || outcome.length != (*status == DNSTEXT_OK ? needed : 0))
@@ -160,21 +174,23 @@ static void add_symbol(const uint8_t *octets, size_t length, size_t *taken) {
     add_octets(octets, *taken);
 }
 
-/* The symbol at an offset, and the offset after it. */
-static bool answer_symbol_at(const char *input, const char *place) {
+/* The symbol at an offset, and the offset after it; none at the end and after it. */
+static void answer_symbol_at(const char *input, const char *place) {
     size_t length, at = strtoul(place, NULL, 10), taken;
     uint8_t *octets = octets_of(input, &length);
-    bool is_there = at < length;
-    if (is_there) {
+    if (at < length) {
         add_symbol(octets + at, length - at, &taken);
         if (!is_refused) {
             add_text(" ");
             add_number(at + taken);
         }
-        judge_row(NULL);
+    } else {
+        struct dnstext_outcome outcome = {7, 7};
+        bool is_empty = dnstext_charstr_read(octets + length, 0, NULL, 0, &outcome) == DNSTEXT_OK;
+        add_text(is_empty && outcome.length == 0 ? "none" : "a symbol of no octets");
     }
     free(octets);
-    return is_there;
+    judge_row(NULL);
 }
 
 /* The first symbol, and the text after it. Errors of `symbol.first` have other messages, and skip other
@@ -269,167 +285,6 @@ static void answer_label(const char *input) {
     judge_row(note);
 }
 
-/* ---- Zone files as text. */
-
-static const char *fault_of(uint32_t status) {
-    switch (status) {
-    case DNSTEXT_CLOSING: return "closing";
-    case DNSTEXT_OPEN_PARENTHESIS: return "open parenthesis";
-    case DNSTEXT_OPEN_QUOTE: return "open quote";
-    case DNSTEXT_LONE_RETURN: return "lone return";
-    case DNSTEXT_BAD_ESCAPE: return "bad escape";
-    default: return "no fault";
-    }
-}
-
-/* Reads the next entry, with its tokens in memory of the exact size. */
-static uint32_t next_entry(const uint8_t *text, size_t length, struct dnstext_cursor *cursor,
-                           struct dnstext_token **tokens, size_t *count) {
-    struct dnstext_outcome outcome;
-    uint32_t status = dnstext_entry_next(text, length, cursor, NULL, 0, &outcome);
-    *count = status == DNSTEXT_NO_ROOM ? outcome.length : 0;
-    *tokens = (struct dnstext_token *)malloc(*count != 0 ? *count * sizeof **tokens : 1);
-    if (status == DNSTEXT_NO_ROOM)
-        status = dnstext_entry_next(text, length, cursor, *tokens, *count, &outcome);
-    return status;
-}
-
-static void add_fault(const uint8_t *text, size_t length, uint32_t status, size_t place, size_t began) {
-    add_text(fault_of(status));
-    if (status == DNSTEXT_OPEN_QUOTE) {
-        struct dnstext_outcome outcome;
-        struct dnstext_cursor cursor = DNSTEXT_CURSOR_INIT;
-        cursor.at = began;
-        dnstext_entry_next(text, length, &cursor, NULL, 0, &outcome);
-        add_text(" from ");
-        add_number(cursor.opened);
-    }
-    add_text(" at ");
-    add_number(place);
-}
-
-static void add_piece(const uint8_t *text, size_t length, uint32_t status, const struct dnstext_piece *piece,
-                      size_t place, size_t began) {
-    static const char *const names[] = {"word ", "quote ", "comment "};
-    if (status != DNSTEXT_OK) {
-        add_fault(text, length, status, place, began);
-    } else if (piece->kind == DNSTEXT_ENTRY_END) {
-        add_text(piece->begins_blank ? "blank " : "end ");
-        add_number(piece->start);
-    } else {
-        add_text(names[piece->kind]);
-        add_number(piece->start);
-        add_text(" ");
-        add_number(piece->end);
-    }
-    add_text("|");
-}
-
-static bool is_blank_at(const uint8_t *text, size_t length, size_t place) {
-    return place < length && (text[place] == ' ' || text[place] == '\t');
-}
-
-/* The next piece, and the lexer after it. */
-static void answer_next(char **fields) {
-    size_t length;
-    uint8_t *text = octets_of(fields[1], &length);
-    struct dnstext_lexer lexer = DNSTEXT_LEXER_INIT;
-    struct dnstext_piece piece = {0, 0, 0, false};
-    struct dnstext_outcome outcome;
-    uint32_t status;
-    size_t began;
-    lexer.at = strtoul(fields[2], NULL, 10);
-    lexer.depth = strtoul(fields[3], NULL, 10);
-    lexer.began = began = strtoul(fields[4], NULL, 10);
-    status = dnstext_tokens_next(text, length, &lexer, &piece, &outcome);
-    add_piece(text, length, status, &piece, outcome.place, began);
-    if (lexer.is_done)
-        add_text("done, began ");
-    else if (lexer.at == lexer.began && lexer.depth == 0)
-        add_text("entry at ");
-    else {
-        add_text("depth ");
-        add_number(lexer.depth);
-        add_text(", began ");
-    }
-    add_number(lexer.began);
-    add_text(!lexer.is_done && is_blank_at(text, length, lexer.began) ? ", blank" : "");
-    free(text);
-    judge_row(NULL);
-}
-
-/* All pieces, and the syntax error. */
-static void answer_pieces(const char *input) {
-    size_t length, began = 0;
-    uint8_t *text = octets_of(input, &length);
-    struct dnstext_lexer lexer = DNSTEXT_LEXER_INIT;
-    struct dnstext_piece piece;
-    struct dnstext_outcome outcome;
-    uint32_t status;
-    while ((status = dnstext_tokens_next(text, length, &lexer, &piece, &outcome)) != DNSTEXT_END) {
-        add_piece(text, length, status, &piece, outcome.place, began);
-        began = lexer.began;
-    }
-    free(text);
-    judge_row(NULL);
-}
-
-/* The tokens of each entry. */
-static void answer_split(const char *input) {
-    size_t length, count, i;
-    uint8_t *text = octets_of(input, &length);
-    struct dnstext_cursor cursor = DNSTEXT_CURSOR_INIT;
-    struct dnstext_token *tokens;
-    uint32_t status;
-    while ((status = next_entry(text, length, &cursor, &tokens, &count)) == DNSTEXT_OK) {
-        for (i = 0; i < count; i++) {
-            add_octets(text + tokens[i].start, tokens[i].end - tokens[i].start);
-            add_text("|");
-        }
-        add_text("/");
-        free(tokens);
-    }
-    free(tokens);
-    free(text);
-    if (status != DNSTEXT_END) {
-        came_len = 0;
-        refuse();
-    }
-    judge_row(NULL);
-}
-
-/* Whether a text is one token. */
-static void answer_is_token(const char *input) {
-    size_t length;
-    uint8_t *text = octets_of(input, &length);
-    struct dnstext_lexer lexer = DNSTEXT_LEXER_INIT;
-    struct dnstext_piece piece = {0, 0, 0, false};
-    struct dnstext_outcome outcome;
-    bool is_token = dnstext_tokens_next(text, length, &lexer, &piece, &outcome) == DNSTEXT_OK &&
-                    piece.kind <= DNSTEXT_QUOTED && piece.start == 0 && piece.end == length;
-    free(text);
-    add_text(is_token ? "true" : "false");
-    judge_row(NULL);
-}
-
-/* Offset of the outermost parenthesis that is not closed. */
-static void answer_open(const char *input) {
-    size_t length, count;
-    uint8_t *text = octets_of(input, &length);
-    struct dnstext_cursor cursor = DNSTEXT_CURSOR_INIT;
-    struct dnstext_token *tokens;
-    uint32_t status;
-    while ((status = next_entry(text, length, &cursor, &tokens, &count)) == DNSTEXT_OK)
-        free(tokens);
-    free(tokens);
-    free(text);
-    if (status == DNSTEXT_OPEN_PARENTHESIS)
-        add_number(cursor.opened);
-    else
-        add_text("none");
-    judge_row(NULL);
-}
-
 /* ---- RDATA. */
 
 static uint16_t code_of(const char *name) {
@@ -460,15 +315,18 @@ static uint32_t data_print(const uint8_t *octets, size_t octets_len, uint8_t *te
 /* The most characters of a message. */
 enum { MESSAGE = 255 };
 
-/* Returns the output of a call in memory of the exact size, or its message. */
+/* Returns the output of a call in memory of the exact size, or its message. Sets `note` if the call succeeds
+ * with less. */
 static uint8_t *output_of(call f, const uint8_t *from, size_t from_len, uint32_t *status,
-                          struct dnstext_outcome *outcome) {
+                          struct dnstext_outcome *outcome, const char **note) {
     size_t room = MESSAGE;
     uint8_t *to;
     *status = f(from, from_len, NULL, 0, outcome);
     if (*status == DNSTEXT_NO_ROOM || *status == DNSTEXT_OK)
         room = outcome->length;
     to = (uint8_t *)malloc(room != 0 ? room : 1);
+    if (*status == DNSTEXT_NO_ROOM && !fails_with_less(f, from, from_len, room))
+        *note = "the call succeeds in a smaller buffer, or needs another length there";
     *status = f(from, from_len, to, room, outcome);
     return to;
 }
@@ -477,13 +335,13 @@ static uint8_t *output_of(call f, const uint8_t *from, size_t from_len, uint32_t
 static uint8_t *text_of(const uint8_t *octets, size_t length, size_t *text_len, const char **note) {
     struct dnstext_outcome printed, read;
     uint32_t status, again;
-    uint8_t *text = output_of(data_print, octets, length, &status, &printed), *back;
+    uint8_t *text = output_of(data_print, octets, length, &status, &printed, note), *back;
     if (status != DNSTEXT_OK) {
         free(text);
         return NULL;
     }
     *text_len = printed.length;
-    back = output_of(data_read, text, printed.length, &again, &read);
+    back = output_of(data_read, text, printed.length, &again, &read, note);
     if (again != DNSTEXT_OK || read.length != length || memcmp(back, octets, length) != 0)
         *note = "the text parses to other RDATA";
     free(back);
@@ -503,7 +361,7 @@ static void answer_data(const char *name) {
     data_code = code_of(row_fields[1]);
     data_origin = origin;
     data_origin_len = origin_len;
-    given = output_of(data_read, text, text_len, &status, &outcome);
+    given = output_of(data_read, text, text_len, &status, &outcome, &note);
     if (status != DNSTEXT_OK && strcmp(name, "data.why") == 0) {
         /* message and offset */
         refuse_for("");
@@ -560,7 +418,7 @@ static uint8_t *canonical_of(char **fields, uint32_t *status, size_t *form_len, 
     data_code = code_of(fields[0]);
     data_origin = example;
     data_origin_len = sizeof example;
-    octets = output_of(data_read, text, text_len, status, &outcome);
+    octets = output_of(data_read, text, text_len, status, &outcome, note);
     if (*status == DNSTEXT_OK)
         form = sized_output_of(data_canonical, octets, outcome.length, status, form_len, note);
     free(text);
@@ -683,6 +541,7 @@ static bool answer_one(const char *name, const char *input) {
         {"zone.is_token", answer_is_token},
         {"zone.split", answer_split},
         {"class.print", answer_class},
+        {"tape.fill", answer_tape},
     };
     size_t i;
     for (i = 0; i < sizeof known / sizeof *known; i++)
@@ -733,8 +592,14 @@ static bool answer_row(void) {
     }
     if (row_count == 3 && answer_one(name, fields[1]))
         return true;
-    if (row_count == 4 && strcmp(name, "symbol.at") == 0)
-        return answer_symbol_at(fields[1], fields[2]);
+    if (row_count == 4 && strcmp(name, "symbol.at") == 0) {
+        answer_symbol_at(fields[1], fields[2]);
+        return true;
+    }
+    if (row_count >= 4 && row_count % 2 == 0 && strcmp(name, "zone.tally") == 0) {
+        answer_tally(fields + 1, row_count - 2);
+        return true;
+    }
     if (row_count == 4 && strcmp(name, "zone.position") == 0) {
         answer_position(fields[1], fields[2]);
         return true;

@@ -1,5 +1,5 @@
 /* The parser of records: its results, each error, and zones that no call returned. With the rows of `data`
- * and of zones on standard input, in the format of crates/test_records/stdin. */
+ * and of zones on standard input, in the format of crates/test_support. */
 #include "table.h"
 #include <dnstext.h>
 
@@ -349,6 +349,49 @@ static void long_ttls(void) {
     ENDS(minimum);
     begin();
     REFUSES("a 4294967296 A 192.0.2.1", DNSTEXT_BAD_HEAD, 2, "expected time to live");
+    begin();
+    zone.has_default_ttl = true;
+    zone.default_ttl = UINT32_C(2147483648);
+    GIVES("a A 192.0.2.1", "\300\0\2\1");
+    IS(0, 0, 1, 1, "\1a\7example\0");
+    EXPECT(zone.has_default_ttl && zone.default_ttl == UINT32_C(2147483648));
+    begin();
+    zone.has_default_ttl = true;
+    zone.default_ttl = 2147483647;
+    GIVES("a A 192.0.2.1", "\300\0\2\1");
+    IS(0, 2147483647, 1, 1, "\1a\7example\0");
+    begin();
+    zone.has_last_ttl = true;
+    zone.last_ttl = UINT32_MAX;
+    GIVES("( a A\n 192.0.2.1 )", "\300\0\2\1");
+    IS(2, 0, 1, 1, "\1a\7example\0");
+}
+
+static bool is_one(const bool *flag) {
+    return *(const uint8_t *)flag == 1;
+}
+
+/* A flag may have any octet, and is written as 0 or 1. */
+static void flags(void) {
+    begin();
+    memset(&zone.has_default_ttl, 255, 1);
+    memset(&zone.has_last_ttl, 2, 1);
+    zone.default_ttl = 60;
+    GIVES("a A 192.0.2.1", "\300\0\2\1");
+    IS(0, 60, 1, 1, "\1a\7example\0");
+    EXPECT(is_one(&zone.has_default_ttl) && is_one(&zone.has_last_ttl));
+}
+
+/* An origin or an owner that is rejected has no octets. */
+static void rejected_names(void) {
+    begin();
+    REFUSES("$ORIGIN test.\n$ORIGIN a..b\n", DNSTEXT_BAD_NAME, 22, "empty label");
+    EXPECT(is_one(&zone.origin.is_refused) && zone.origin.length == 0);
+    begin();
+    GIVES("c 1 A 192.0.2.1\nc..d 1 A 192.0.2.1\n", "\300\0\2\1");
+    EXPECT(named(&zone.owner, "\1c\7example\0", 11));
+    REFUSES("c 1 A 192.0.2.1\nc..d 1 A 192.0.2.1\n", DNSTEXT_BAD_NAME, 16, "empty label");
+    EXPECT(is_one(&zone.owner.is_refused) && zone.owner.length == 0);
 }
 
 static void refusals(void) {
@@ -462,18 +505,40 @@ static void cut_texts(void) {
 
 static uint8_t text[MOST];
 
+/* The next entry of a row. Sets `note` if a smaller buffer suffices, or changes the zone or the record: each
+ * size is tried, or of large ones 256. */
+static uint32_t next_of_row(size_t length, const char **note) {
+    struct dnstext_zone before = zone;
+    struct dnstext_record was = record;
+    uint32_t status = next((char *)text, length, LONGEST);
+    size_t needed = status == DNSTEXT_OK || status == DNSTEXT_INCLUDE ? outcome.length : 0, room;
+    for (room = 0; room < needed; room += 1 + needed / 256) {
+        struct dnstext_zone tried = before;
+        struct dnstext_record given = was;
+        struct dnstext_outcome lacks;
+        uint8_t *output = (uint8_t *)malloc(room != 0 ? room : 1);
+        if (dnstext_record_next(text, length, &tried, &given, output, room, &lacks) != DNSTEXT_NO_ROOM ||
+            lacks.length != needed || memcmp(&tried, &before, sizeof tried) != 0 ||
+            memcmp(&given, &was, sizeof given) != 0)
+            *note = "a smaller buffer suffices, or changes something";
+        free(output);
+    }
+    return status;
+}
+
 /* A row of `data`: a type, a text, and the RDATA or an error. */
 static void data_row(void) {
+    const char *note = NULL;
     size_t length = (size_t)sprintf((char *)text, "a 1 %s ", row_fields[1]);
     uint32_t status;
     length += spell_octets(row_fields[2], text + length);
     begin();
-    status = next((char *)text, length, LONGEST);
+    status = next_of_row(length, &note);
     if (status != DNSTEXT_OK && status != DNSTEXT_END)
         refuse();
     else
         add_octets(octets, outcome.length);
-    judge_row(status == DNSTEXT_END ? "no record" : NULL);
+    judge_row(status == DNSTEXT_END ? "no record" : note);
 }
 
 /* Removes from an expected result what the library does not report: `$ORIGIN`, `$TTL`, and the source of
@@ -549,7 +614,7 @@ static void zone_row(void) {
     if (row_count == 4 &&
         dnstext_zone_origin(&zone, made, spell_octets(row_fields[2], made), &outcome) != DNSTEXT_OK)
         note = "the origin is refused";
-    while ((status = next((char *)text, length, LONGEST)) != DNSTEXT_END)
+    while ((status = next_of_row(length, &note)) != DNSTEXT_END)
         add_given(status);
     leave_out(wanted);
     /* The first entry can be an error. */
@@ -558,6 +623,45 @@ static void zone_row(void) {
         is_refused = has_reason = true;
     }
     judge_row(note);
+}
+
+/* A row of `head.read` about `$GENERATE`. Returns false for other rows. */
+static bool directive_row(void) {
+    static const struct dnstext_zone start = DNSTEXT_ZONE_INIT;
+    size_t length = spell_octets(row_fields[1], text);
+    if (strcmp(row_fields[0], "head.read") != 0 || strcmp(row_fields[2], "generate") != 0)
+        return false;
+    zone = start;
+    add_text(next((char *)text, length, LONGEST) == DNSTEXT_GENERATE ? "generate" : "another status");
+    judge_row(outcome.length != 0 ? "a length" : NULL);
+    return true;
+}
+
+/* A row of `generate.texts`: a directive, and the texts of its entries; or the error, the place of its token and
+ * the offset in that, which the library doesn't return. Returns false if that isn't 0, or for the error of a
+ * range with too many numbers, which the library hasn't. */
+static bool texts_row(void) {
+    const char *wanted = row_fields[2];
+    size_t length = spell_octets(row_fields[1], text);
+    uint64_t index;
+    uint32_t number, status = DNSTEXT_OK;
+    if (strcmp(row_fields[0], "generate.texts") != 0 || strstr(wanted, "too many numbers") != NULL ||
+        (*wanted == '!' && strcmp(strrchr(wanted, '|'), "|0") != 0))
+        return false;
+    for (index = 0; status == DNSTEXT_OK && index < 2000; index++) {
+        status = dnstext_generate_entry(text, length, index, &number, octets, sizeof octets, &outcome);
+        if (status == DNSTEXT_OK) {
+            add_octets(octets, outcome.length);
+        } else if (status != DNSTEXT_END) {
+            refuse_for("");
+            add_octets(octets, outcome.length);
+            add_text("|");
+            add_number(outcome.place);
+            add_text("|0");
+        }
+    }
+    judge_row(NULL);
+    return true;
 }
 
 /* Returns whether the library can answer a call about zones. */
@@ -576,11 +680,13 @@ static void rows(void) {
         } else if ((row_count == 3 || row_count == 4) && lists_entries(row_fields[0])) {
             zone_row();
             rows_of_zones++;
+        } else if (row_count == 3 && (directive_row() || texts_row())) {
+            rows_of_zones++;
         }
     }
     fprintf(lists_rows ? stderr : stdout, "zones: %lu rows of data, %lu of zones, %lu differ\n", rows_of_data,
             rows_of_zones, rows_differ);
-    EXPECT(rows_of_data > 1000 && rows_of_zones > 50);
+    EXPECT(rows_of_data + rows_of_zones > 0);
 }
 
 int main(int count, char **words) {
@@ -591,6 +697,8 @@ int main(int count, char **words) {
     long_files();
     directives();
     long_ttls();
+    flags();
+    rejected_names();
     refusals();
     origins();
     zones_that_no_call_left();
