@@ -14,6 +14,22 @@ pub fn octets_of(field: &str) -> Vec<u8> {
     octets
 }
 
+/// Returns the rows of a crate's files `stdin` and `rows`, each with its file and line.
+fn rows_of(folder: &str) -> Vec<(String, String)> {
+    let top = env!("CARGO_MANIFEST_DIR");
+    let mut rows = Vec::new();
+    for name in ["stdin", "rows"] {
+        let path = format!("crates/{folder}/{name}");
+        let text = read_to_string(format!("{top}/../../{path}")).unwrap();
+        for (number, line) in text.lines().enumerate() {
+            if !line.is_empty() && !line.starts_with('#') {
+                rows.push((format!("{path}:{}", number + 1), line.to_owned()));
+            }
+        }
+    }
+    rows
+}
+
 /// Checks a row. Prints file and line of a row that differs before the test fails.
 fn judged(place: &str, line: &str, judge: impl FnOnce() -> bool) -> bool {
     catch_unwind(AssertUnwindSafe(judge)).unwrap_or_else(|why| {
@@ -22,28 +38,21 @@ fn judged(place: &str, line: &str, judge: impl FnOnce() -> bool) -> bool {
     })
 }
 
-/// Checks the rows of a crate. Prints the names of the calls that `judge` does not answer, and file and
+/// Checks the rows of a crate, of both files. Prints the names of the calls that `judge` does not answer, and file and
 /// line of each answered row if `LIST_ROWS` is set.
 pub fn each_row(folder: &str, least: usize, mut judge: impl FnMut(&[&str]) -> bool) {
-    let top = env!("CARGO_MANIFEST_DIR");
-    let path = format!("crates/{folder}/stdin");
-    let text = read_to_string(format!("{top}/../../{path}")).unwrap();
     let lists = std::env::var_os("LIST_ROWS").is_some();
     let mut count = 0;
     let mut others = BTreeSet::new();
-    for (number, line) in text.lines().enumerate() {
-        if line.is_empty() || line.starts_with('#') {
-            continue;
-        }
-        let place = format!("{path}:{}", number + 1);
+    for (place, line) in rows_of(folder) {
         let fields: Vec<&str> = line.split('\t').collect();
-        if judged(&place, line, || judge(&fields)) {
+        if judged(&place, &line, || judge(&fields)) {
             count += 1;
             if lists {
                 println!("answered: {place}");
             }
         } else {
-            others.insert(fields[0]);
+            others.insert(fields[0].to_owned());
         }
     }
     println!(

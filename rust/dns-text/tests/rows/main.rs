@@ -1,4 +1,4 @@
-//! The rows of `crates/test_rows/stdin` that the crate's own calls can answer.
+//! The rows of `crates/test_rows` that the crate's own calls can answer.
 mod names;
 mod strings;
 #[path = "../common/table.rs"]

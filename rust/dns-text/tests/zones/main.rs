@@ -1,4 +1,4 @@
-//! The rows of `crates/test_records/stdin` that the crate's own calls can answer: RDATA of each type, zone
+//! The rows of `crates/test_records` that the crate's own calls can answer: RDATA of each type, zone
 //! files in memory and in chunks, and orders.
 #[path = "../common/blocks.rs"]
 mod blocks;
