@@ -9,7 +9,7 @@ Each answerer lists the rows that it answers, by file and line:
     rust      the tests of rust/dns-text, over the C library
     programs  .ci/program_rows.py --list
     rattle    crates/test_rows/out/test_rows and crates/test_records/out/test_records, the row programs: all rows of
-              their file, if they report that all agree
+              `stdin` of their crate, if they report that all agree. The rows of the file `rows` are for the others.
 
 c=FOLDER and rattle=FOLDER name the folder of these programs. WHO=FILE reads the list of an answerer from a file
 instead, and WHO= skips the answerer. A row counts for the first answerer in this order. The rows that only the row
@@ -24,9 +24,10 @@ import sys
 
 sys.dont_write_bytecode = True
 sys.path.insert(0, os.path.dirname(os.path.abspath(__file__)))
-from row_file import FILES, rows_of
+from row_file import FILES, STDIN, rows_of
 
 WHO = ("c", "rust", "programs", "rattle")
+CRATES = ("test_rows", "test_records")
 
 
 def run(words, given=b"", folder=None, kept=None):
@@ -56,10 +57,13 @@ def c(folder="out/c"):
                 raise ValueError(err.decode(errors="replace"))
             rows |= listed(out)
         found |= as_data
-    status, out, err = run([f"{folder}/zones", "--list", FILES[1]], octets_of(FILES[1]))
-    if status:
-        raise ValueError(err.decode(errors="replace"))
-    return found | listed(out)
+    for file in FILES:
+        if "test_records" in file:
+            status, out, err = run([f"{folder}/zones", "--list", file], octets_of(file))
+            if status:
+                raise ValueError(err.decode(errors="replace"))
+            found |= listed(out)
+    return found
 
 
 def rust(_=None):
@@ -78,7 +82,7 @@ def programs(_=None):
 
 def rattle(folder=None):
     found = set()
-    for file in FILES:
+    for file in STDIN:
         crate = file.split("/")[1]
         program = f"{folder or f'crates/{crate}/out'}/{crate}"
         if not os.path.exists(program):
@@ -122,26 +126,26 @@ def main():
 
 def print_counts(rows, answers):
     """Prints the counts, and returns the status."""
-    counts = {file: collections.Counter() for file in FILES}
+    counts = {crate: collections.Counter() for crate in CRATES}
     alone = collections.Counter()
     for place, row in rows.items():
         who = next((it for it in WHO if place in answers[it]), "nobody")
-        counts[row.file][who] += 1
+        counts[row.crate][who] += 1
         if who == "nobody":
             print(f"nobody answers {place}: {row.text[:99]}")
         if who == "rattle":
             alone[row.crate, row.call] += 1
     print(f"{'':12}{'test_rows':>12}{'test_records':>14}")
     for who in (*WHO, "nobody"):
-        print(f"{who:12}{counts[FILES[0]][who]:12}{counts[FILES[1]][who]:14}")
-    sums = [sum(counts[file].values()) for file in FILES]
-    sizes = [sum(it.file == file for it in rows.values()) for file in FILES]
+        print(f"{who:12}{counts[CRATES[0]][who]:12}{counts[CRATES[1]][who]:14}")
+    sums = [sum(counts[crate].values()) for crate in CRATES]
+    sizes = [sum(it.crate == crate for it in rows.values()) for crate in CRATES]
     print(f"{'rows':12}{sums[0]:12}{sums[1]:14}")
     print("all rows of each: " + ", ".join(f"{who} {len(answers[who])}" for who in WHO))
     print(f"{sum(alone.values())} rows answered only by the row programs:")
     for (crate, call), count in sorted(alone.items()):
         print(f"  {crate:14}{call:24}{count:5}")
-    nobody = sum(counts[file]["nobody"] for file in FILES)
+    nobody = sum(counts[crate]["nobody"] for crate in CRATES)
     print(f"{sum(sums)} rows, {nobody} by nobody")
     return 1 if nobody or sums != sizes else 0
 

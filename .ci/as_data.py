@@ -384,13 +384,21 @@ def params(row):
             raise ValueError(row.wanted)
         return [of_octets("SVCB", lead + row.inputs[0], not row.is_refused)]
     if what == "settle":
-        text = b""
-        for param in row.inputs:
-            key, _, value = param.partition(b"=")
-            if key:
-                text += b" key" + key + b'="' + escaped(value) + b'"'
-        return [data("SVCB", b"1 ." + text, None if row.is_refused else lead + row.wanted)]
+        return [data("SVCB", b"1 ." + keys_and_values(row.inputs), None if row.is_refused else lead + row.wanted)]
+    if what == "parse":
+        # The values of these rows have no comma.
+        return [data("SVCB", b"1 ." + keys_and_values(row.wanted.split(b",")), lead + row.inputs[0])]
     return []
+
+
+def keys_and_values(params):
+    """Returns the text of parameters, each of which is a number, `=` and a value as octets."""
+    text = b""
+    for param in params:
+        key, _, value = param.partition(b"=")
+        if key:
+            text += b" key" + key + b'="' + escaped(value) + b'"'
+    return text
 
 
 def gateway(row):
@@ -473,7 +481,7 @@ FORMS = {
     **{f"apl.{it}": prefixes for it in ("item", "print", "width")},
     **{f"bitmap.{it}": bitmap for it in ("compose", "parse")},
     **{f"list.{it}": strings for it in ("read", "print")},
-    **{f"params.{it}": params for it in ("read", "print", "check", "settle")},
+    **{f"params.{it}": params for it in ("read", "print", "check", "settle", "parse")},
     **{f"gateway.{it}": gateway for it in ("octets", "print")},
     **{f"digits.{it}": digits for it in ("hex", "base64", "base32hex", "digest", "hash_width", "salt_width")},
     **{f"{it}.width": spelled for it in ("name", "string", "tag")},

@@ -6,15 +6,22 @@ of the check. So a crate needs one check of these functions and not one for each
 `rt must-fail`. The result shows that the function itself is rejected, and for which goal. The crates
 below must have been built before, by `rt ci` in a clean clone or by `rt check`.
 
+An edit is BAD if it shows nothing of the contract: the code doesn't compile, the check gives no verdict, or
+the function is rejected only because its proofs name what the edit changed, whatever the function returns.
+Goals are named after variables, calls, patterns and compared numbers. So an edit of the 3 in `if n < 3` is
+BAD if Answers.antt has the goal `returns-then-n-lt3`: change what the branch returns.
+
 An edit has a line `refused: FUNCTION`, which names the function that it changes, and lines `file:`,
 `old:` and `new:` as for `rt must-fail`. First it is checked that each old text occurs once in its file,
 and that its crate or one below it has each name of the new text: an edit that names what is gone doesn't
 compile, and shows nothing. With --applies that is all, also of the edits of must-fail/.
 
-With --since COMMIT only the crates that differ from a commit are tried, and a quarter of the others: the
-number of commits selects the quarter, so that every edit is tried within four merges. COMMIT can be
-LANDED, the commit that .ci/landed names, from which a change started. If that file or commit is missing,
-all edits are tried.
+With --since COMMIT only the crates are tried whose code, definitions or edits differ from a commit, apart
+from comments, and an eighth of the others. The number of changes that landed selects the eighth, so that
+every edit is tried within eight merges. COMMIT can be LANDED, the commit that .ci/landed names, from which
+a change started. If that file or commit is missing, all edits are tried.
+
+--self-test tries edits of dns_octets whose results are known, so that a BAD one isn't counted as refused.
 """
 import argparse
 import concurrent.futures
@@ -27,8 +34,11 @@ import tempfile
 from dataclasses import dataclass
 
 ROOT = os.path.dirname(os.path.dirname(os.path.realpath(__file__)))
-# The message about a proof file that cites what an edit removed.
-STALE = re.compile(r"has no field|is not in scope|has no `|was not admitted")
+# What the check reports of a proof that names what an edit changed, or that a limit ended.
+STALE = re.compile(
+    r"has no field|is not in scope|has no `|was not admitted|rattle does not (read|use)"
+    r"|antt ran out of|outgrew the memory limit|stopped at the step limit"
+)
 # Names of std and of the kit's crates that only edits use.
 OF_STD = set(
     "MAX STD3 is_none is_some_and len_utf8 min saturating_add saturating_sub trim_end_matches truncate".split()
@@ -37,6 +47,19 @@ LITERAL = re.compile(r"\"(?:[^\"\\]|\\.)*\"|'(?:[^'\\]|\\[^u]|\\u\{\w+\})'|//.*"
 NAME = re.compile(r"(?<![\w'])[^\W\d]\w*")
 # What an edit declares: a variable, a function, a parameter of a closure.
 DECLARED = re.compile(r"\b(?:let|mut|for|fn|const|ref)\s+(\w+)|\|\s*(\w+)")
+# The edits of --self-test: the expected result, the function of crates/dns_octets/src/lowered.rt, old and new texts.
+ENDS, OTHER_ENDS = "left.len().cmp(&right.len())", "right.len().cmp(&left.len())"
+KNOWN = [
+    ("REFUSED", "compare_lowered", (ENDS, OTHER_ENDS)),
+    ("NOT REFUSED", "compare_lowered", ("left.len().min(right.len())", "right.len().min(left.len())")),
+    # a loop has another name than in Invariants.antt
+    ("BAD", "hash_lowered", ("for octet in", "for one in"), ("octet.to_ascii_lowercase().hash", "one.hash")),
+    # a goal has another name, then a call
+    ("BAD", "compare_lowered", (ENDS, f"if shared > 3 {{ {OTHER_ENDS} }} else {{ {ENDS} }}")),
+    ("BAD", "compare_lowered", ("let shared", "let most"), ("0..shared", "0..most")),
+    # it doesn't compile
+    ("BAD", "same_octets", ("eq_ignore_ascii_case(right)", "eq_ignore_ascii_case(3)")),
+]
 
 
 @dataclass
@@ -49,7 +72,7 @@ class Edit:
 @dataclass
 class Answer:
     edit: Edit
-    refused: bool
+    verdict: str  # REFUSED, NOT REFUSED or BAD
     why: str
 
 
@@ -143,14 +166,16 @@ def start_of_change(since):
 
 
 def due(names, since):
-    """Returns the crates that differ from a commit, and a quarter of the others by the count of commits."""
+    """Returns the crates that differ from a commit, and an eighth of the others, by the count of changes."""
     commit = start_of_change(since)
-    paths = git("diff", "--name-only", commit) if commit else None
-    if paths is None:
+    # Files in which only comments and blank lines differ are not listed.
+    words = ["diff", "--numstat", "--no-renames", "--ignore-blank-lines", "-I^[[:space:]]*(//|--)", commit, "--"]
+    found = git(*words, *(f"crates/*/{it}/*" for it in ("src", "specs", "edits"))) if commit else None
+    if found is None:
         return names
-    changed = {it.split("/")[1] for it in paths.split("\n") if it.startswith("crates/")}
-    turn = int(git("rev-list", "--count", "HEAD") or 0) % 4
-    return [it for number, it in enumerate(names) if it in changed or number % 4 == turn]
+    changed = set(re.findall(r"\tcrates/(\w+)/", found))
+    turn = int(git("rev-list", "--count", "HEAD", "--", ".ci/landed") or 0) % 8
+    return [it for number, it in enumerate(names) if it in changed or number % 8 == turn]
 
 
 class Crate:
@@ -236,29 +261,48 @@ class Crate:
         return f"its new text names {name}, which neither the crate nor one below it has" if name else None
 
     def told(self, edit, said):
-        """Returns whether the function is rejected, and for which goals; or why it doesn't count as rejected."""
-        lines = said.rstrip("\n").split("\n")
-        about = [it for it in lines if it.startswith(f"fn {self.name}::{edit.function}: ")]
-        if not about:
-            return Answer(edit, False, f"nothing is said of it: {lines[-1]}")
-        if not re.search(r": not proved|: no proof: expected", about[-1]):
-            return Answer(edit, False, "it is proved")
-        goals = re.findall(r"`([^` ]+)`", about[-1].partition("did not prove")[2].partition(";")[0])
-        if goals:
-            return Answer(edit, True, ", ".join(goals[:3]))
+        """Returns what the output of a check shows of an edit: the goals that aren't proved, or why it is BAD."""
+        # (a long message has more lines, which are indented)
+        lines = re.sub(r"\n {2,}", " ", said.rstrip("\n")).split("\n")
+        ends = [at for at, it in enumerate(lines) if it.startswith("fn ")]
+        start = f"fn {self.name}::{edit.function}: "
+        here = next((at for at in reversed(ends) if lines[at].startswith(start)), None)
+        if here is None:
+            error = next((it for it in lines if re.search(r": error[:\[]", it)), lines[-1])
+            return Answer(edit, "BAD", f"no contract was tried: {error}")
+        verdict = lines[here].removeprefix(start)
+        if not verdict.startswith(("not proved", "no proof: expected")):
+            return Answer(edit, "NOT REFUSED" if verdict.startswith("proved") else "BAD", verdict)
         # The directory of a recursive function begins with `+`.
         *above, own_name = edit.function.split("::")
-        folders = tuple("./" + "/".join(["proofs", *above, it + own_name, ""]) for it in ("", "+"))
-        errors = [it for it in lines if it.startswith(folders) and ": error: " in it]
-        own = [it for it in errors if not STALE.search(it)]
-        if not own:
-            return Answer(edit, False, f"no goal of its own is refused: {(errors or about)[-1]}")
-        return Answer(edit, True, own[-1].partition(": error: ")[2])
+        folder = "/".join(["proofs", *above, rf"\+?{re.escape(own_name)}"])
+        own = [it for it in lines if re.search(rf"\./{folder}/\w+\.antt", it)]
+        stale = [it for it in own if STALE.search(it)]
+        refused = [it[1] for it in (re.search(r": error: `?([^`]+)", it) for it in own if it not in stale) if it]
+        # The goals that have no answer. If an answer lost its goal, they can be proved goals with another name.
+        if not any(re.search("has no `|rattle does not", it) for it in stale):
+            block = lines[max((at for at in ends if at < here), default=-1) + 1 : here]
+            refused += re.findall(r"\(`([^` ]+)`\)", "\n".join(it for it in block if "it is not proved" in it))
+        if refused and not any("/Invariants.antt" in it for it in stale):
+            return Answer(edit, "REFUSED", ", ".join(dict.fromkeys(refused)))
+        return Answer(edit, "BAD", f"no goal of its own: {[*stale, verdict][0]}")
+
+    def is_local(self, edit):
+        """Returns whether an edit changes texts of its function alone, and not those of a constant or a table."""
+        for file, old, _ in edit.changes:
+            with open(f"{self.folder}/{file}", encoding="utf-8") as text:
+                before = text.read().partition(old)[0]
+            if re.findall(r"\bfn (\w+)", before + old)[-1:] != [edit.function.split("::")[-1]]:
+                return False
+        return True
 
     def together(self, edits):
-        """Returns those edits that can be made at once: no function and no text is in two of them."""
-        used = set()
-        for edit in edits:
+        """Returns those edits that can be made at once: no function and no text is in two of them.
+
+        An edit that isn't local is made alone: what it changes can have other functions rejected.
+        """
+        used, wide = set(), [it for it in edits if not self.is_local(it)]
+        for edit in wide[:1] or edits:
             marks = {edit.function, *((file, old) for file, old, _ in edit.changes)}
             if not used & marks:
                 yield edit
@@ -272,12 +316,26 @@ class Crate:
                 now = list(self.together(left))[:most]
                 said = self.check(now, kept)
                 told = [self.told(edit, said) for edit in now]
-                last = [it for it in told if it.refused or len(now) == 1]
+                last = [it for it in told if it.verdict == "REFUSED" or len(now) == 1]
                 answers += last
                 # A function whose callee was changed too needs a check without that change.
                 most = most if last else 1
                 left = [edit for edit in left if all(it.edit is not edit for it in last)]
         return answers
+
+
+def self_test(crate):
+    """Tries edits of dns_octets whose results are known. Returns whether each is as expected."""
+    failed = 0
+    with tempfile.TemporaryDirectory(prefix="edits-kept-") as kept:
+        for wanted, function, *changes in KNOWN:
+            edit = Edit("known", f"lowered::{function}", [("src/lowered.rt", *it) for it in changes])
+            found = crate.told(edit, crate.check([edit], kept))
+            wrong = crate.fault(edit)
+            failed += bool(wrong) or found.verdict != wanted
+            print(f"expected {wanted}: {wrong or found.verdict}: {found.why[:200]}", flush=True)
+    print(f"{len(KNOWN)} edits, {failed} not as expected")
+    return failed == 0
 
 
 def do_apply(crates):
@@ -294,17 +352,19 @@ def do_apply(crates):
 
 
 def try_all(crates):
-    """Tries the edits, and prints the results. Returns whether each was rejected."""
+    """Tries the edits, and prints the results. Returns whether each was rejected, and shows something."""
     refused = failed = 0
     with concurrent.futures.ThreadPoolExecutor(len(os.sched_getaffinity(0))) as pool:
         runs = [(it, pool.submit(it.tried)) for it in crates]
         for crate, run in runs:
             answers = run.result()
             for it in answers:
-                refused, failed = refused + it.refused, failed + (not it.refused)
-                text = ("" if it.refused else "NOT REFUSED: ") + it.why[:100]
+                if it.verdict == "REFUSED":
+                    refused, text = refused + 1, it.why[:100]
+                else:
+                    failed, text = failed + 1, f"{it.verdict}: {it.why[:300]}"
                 print(f"{crate.name}/{it.edit.name}: {it.edit.function}: {text}", flush=True)
-    print(f"edits: {refused} refused, {failed} not refused")
+    print(f"edits: {refused} refused, {failed} not refused or BAD")
     return failed == 0
 
 
@@ -314,10 +374,13 @@ def main():
     )
     words.add_argument("--applies", action="store_true")
     words.add_argument("--since", metavar="COMMIT|LANDED")
+    words.add_argument("--self-test", action="store_true")
     words.add_argument("names", nargs="*", metavar="CRATE|CRATE/EDIT")
     given = words.parse_args()
     doc = subprocess.run(["rt", "doc"], stdout=subprocess.PIPE, text=True, check=True).stdout
     known = read_crates()
+    if given.self_test:
+        return 0 if self_test(Crate("dns_octets", os.path.dirname(doc.strip()), known)) else 1
     names = given.names or [it for it in known if edits_of(it)]
     if given.since:
         every = names

@@ -65,7 +65,7 @@ RULES = [
             "rdata/specs/TypeLists.antt": 1,
             "rdata_values/src/classes.rt": 3,  # (the table)
             "rdata_values/src/type_codes.rt": 97,  # (the table)
-            "dns_text_c/src/records.rt": 2,
+            "c_calls/src/records.rt": 2,
             "zone_set/src/algorithm.rt": 3,
             "zone_rules/src/pairs.rt": 2,
             "zone_rules/src/search.rt": 1,
@@ -80,11 +80,9 @@ RULES = [
             "rdata_values/src/types.rt": 1,
             "rdata_values/src/code_set.rt": 2,
             "rdata_svcb/src/keys.rt": 1,
-            "dns_text_c/src/canonical.rt": 1,
-            "dns_text_c/src/kinds.rt": 2,
-            "dns_text_c/src/printing.rt": 1,
-            "dns_text_c/src/reading.rt": 1,
-            "dns_text_c/src/records.rt": 1,
+            "c_calls/src/records.rt": 1,
+            "dns_text_c/src/data.rt": 3,
+            "dns_text_c/src/values.rt": 2,
         },
     ),
     Rule(
@@ -97,7 +95,7 @@ RULES = [
         places={
             "rdata_fields/src/record_error.rt": 1,  # (the one)
             "dns_lexer/src/pieces.rt": 1,
-            "dns_text_c/src/outcome.rt": 1,
+            "c_calls/src/outcome.rt": 1,
             "server_config/src/error.rt": 1,  # (of configurations)
             "server_config/src/token.rt": 1,  # (a token, no error)
             "zone_generate/src/error.rt": 1,  # (below rdata_fields)
@@ -138,7 +136,7 @@ RULES = [
             "dns_lexer/src/entry_tokens.rt": 1,
             "dns_lexer/src/error.rt": 1,
             "dns_symbol/src/error.rt": 2,
-            "dns_text_c/src/outcome.rt": 1,
+            "c_calls/src/outcome.rt": 1,
             "dns_wire/src/error.rt": 3,
             "dns_zone/src/error.rt": 1,
             "zone_stream/src/error.rt": 1,
@@ -166,7 +164,7 @@ RULES = [
         places={
             "rdata_fields/src/record_ref.rt": 1,  # (the borrowed one)
             "zone_record/src/record.rt": 1,  # (the one)
-            "dns_text_c/src/records.rt": 1,
+            "c_calls/src/records.rt": 1,
             "finding_formats/src/record_json.rt": 1,  # (its fields in presentation format)
             "test_api/src/zones/example.rt": 1,
             "zonetext_checker/src/record_arena.rt": 1,

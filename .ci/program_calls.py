@@ -190,6 +190,8 @@ def fault_of(wanted):
 def dnstext_row(row):
     text, bar, why = row.wanted.partition(b"!")
     status = 0 if not bar else 2 if why.startswith(b"usage: ") else 1
+    # (the usage of the program has a line more than that of its library)
+    why += b"       dnstext --version\n" * (status == 2)
     return exact([DNSTEXT, *row.inputs], text, status, why)
 
 
@@ -234,9 +236,10 @@ def unquoted_row(row):
     return exact([DNSTEXT, b"line", b"simple", b"s:" + as_data.escaped(octets)], row.wanted + b"\n")
 
 
-def layout_row(row):
+def print_words(kind, words):
+    """Returns the command that prints a document of words in a layout."""
     items = []
-    for word in row.inputs:
+    for word in words:
         if word in (b"(", b")"):
             items.append(word)
         elif word == b"\n":
@@ -245,10 +248,36 @@ def layout_row(row):
             items.append(b"c:" + word[2:])
         else:
             items.append(b"t:" + word)
-    words = [DNSTEXT, b"print", row.call.split(".")[1].encode(), *items]
+    return [DNSTEXT, b"print", kind, *items]
+
+
+def layout_row(row):
+    kind = b"simple" if row.call == "law.tokens_split" else row.call.split(".")[1].encode()
+    words = print_words(kind, row.inputs)
     if row.is_refused:
         return exact(words, b"", 1, b"refused: " + row.wanted[1:] + b"\n")
     return exact(words, row.wanted + b"\n")
+
+
+def split_row(words):
+    """A multiline layout and the number of its entries: `lines` prints each in a line."""
+
+    def plan(row):
+        command = words or print_words(b"multiline", row.inputs)
+        if row.is_refused:
+            # The message of the program has the index of the item.
+            return judged({}, command, f"status 1, refused: {row.wanted[1:].decode()}",
+                          lambda ran: ran.status == 1 and not ran.out and ran.err.startswith(b"refused: " + row.wanted[1:]))
+        text, _, count = row.wanted.rpartition(b"|")
+        return Plan({"f": text}, [command, zonetext("lines", "f")], f"output {short(text)}, and {count.decode()} entries",
+                    lambda rans: all(it.status == 0 and not it.err for it in rans) and rans[0].out == text + b"\n"
+                    and len(lines(rans[1].out)) == int(count))
+
+    return plan
+
+
+# The fields of `law.fields_split`.
+FIELDS = [DNSTEXT, b"line", b"multiline", b"n:5", b"x:DEAD", b"b:Zg==", b"s:a(b"]
 
 
 SCANS = {"u8": b"u8", "u16": b"u16", "u32": b"u32", "u64": b"u64", "u128": b"u128", "ttl": b"ttl",
@@ -463,6 +492,12 @@ CALLS = {
     "zone.simple": layout_row,
     "zone.tabbed": layout_row,
     "zone.multiline": layout_row,
+    "law.tokens_split": layout_row,
+    "law.items_split": split_row(None),
+    "law.fields_split": split_row(FIELDS),
+    "law.token": unquoted_row,
+    "law.hex": encoding_row(b"hex"),
+    "law.number": lambda row: scanned(b"u8", row.inputs[0], row, row.wanted),
     "zone.is_token": token_row,
     "zone.text_position": text_position_row,
     "zonetext.check": check_row,

@@ -199,9 +199,16 @@ def ordered(one, other, wanted, group=b"1"):
 
 def record_compare(row):
     one, other = record_line(row.inputs[:5]), record_line(row.inputs[5:])
-    if row.inputs[2] != row.inputs[7]:
+    classes = row.inputs[2], row.inputs[7]
+    if classes[0] == classes[1]:
+        return ordered(one, other, row.wanted, classes[0])
+    # `canon` takes records of one class: the owners are equal, and the classes decide.
+    if row.inputs[0] != row.inputs[5] or row.wanted != (b"less" if int(classes[0]) < int(classes[1]) else b"greater"):
         return None
-    return ordered(one, other, row.wanted, row.inputs[2])
+    zone = origin_words(as_data.EXAMPLE)
+    commands = [zonetext("canon", "--wire", *zone, "--class", class_name(it), file) for it, file in zip(classes, "fg")]
+    return Plan({"f": one, "g": other}, commands, "a record of each class",
+                lambda rans: all(it.status == 0 and len(lines(it.out)) == 1 for it in rans))
 
 
 def canonical_names(row):
@@ -283,13 +290,16 @@ def lowers_row(row):
 def entries_row(row):
     """The records of a text print as those with the expected octets. Errors have their position and reason."""
     text, *origin = row.inputs
-    reported, records = [], b""
+    reported, records, files = [], b"", {}
     for item in items_of(row.wanted):
         if item.startswith(b"!"):
             reason, place = item[1:].rsplit(b"|", 1)
             is_of_text = reason in FAULTS.values()
             reported.append((at(text, int(place)) if is_of_text else spot(text, int(place), reason), reason))
-        elif item.startswith((b"include ", b"generate ")):
+        elif item.startswith(b"include "):
+            # (an empty file has no records)
+            files[re.fullmatch(rb"include (.*?)( [\x01-\x3f].*\0)?", item, re.S)[1].decode()] = b""
+        elif item.startswith(b"generate "):
             return None
         elif item not in (b"directive", b"nothing"):
             fields = re.fullmatch(rb"[0-9]+\|(.*)\|(?:own|default|last|minimum) ([0-9]+)\|([0-9]+)\|([0-9]+)\|(.*)", item, re.S)
@@ -306,7 +316,8 @@ def entries_row(row):
             for it, (place, reason) in zip(found, reported))
         return are_told and (whole.out, whole.status, apart.status) == (apart.out, 1 if reported else 0, 0)
 
-    return Plan({"f": text, "g": records}, [words + [b"f"], words + [b"g"]], f"the records of g, and {reported}", agrees)
+    files.update({"text": text, "wanted": records})
+    return Plan(files, [words + [b"text"], words + [b"wanted"]], f"the wanted records, and {reported}", agrees)
 
 
 ITEM = re.compile(rb"!.*?\|[0-9]+;|directive;|nothing;|include .*?;|generate [0-9]+;", re.S)
@@ -514,20 +525,39 @@ def hash_row(row):
 
 def cut_row(row):
     count, soa, text, *origin = row.inputs
-    if count == b"0":
-        return None
+    # The program wants at least one part. 0 is 1 by the clause `shares` of `Cutter::new`, and `one_row` of
+    # zone_stream/specs/Rows.antt.
+    count = b"1" if count == b"0" else count
     words = zonetext("cut", count, *origin_words(origin[0] if origin else b""), *([b"--soa"] if soa == b"soa" else []), "f", "-o", "part")
     if row.is_refused:
-        return judged({"f": text}, words, "status 1, no parts", lambda ran: ran.status == 1 and not ran.made and not ran.out)
-    wanted = row.wanted
+        return judged({"f": text}, words, f"status 1, no parts, {short(row.wanted)}",
+                      lambda ran: ran.status == 1 and not ran.made and not ran.out and not_cut(row, error_lines(ran)))
+    parts = {f"{number}": part for number, part in enumerate(row.wanted.split(b"|")[1:])}
+    # The records of the parts, each read separately, are those of the text, unless its SOA is repeated.
+    reads = [zonetext("records", *origin_words(origin[0] if origin else b""), "f")] + [zonetext("records", it) for it in parts]
 
-    def agrees(ran):
+    def agrees(rans):
+        ran, whole, *apart = rans
         names = [f"part.{number:03}" for number in range(len(ran.made))]
         return (ran.status == 0 and [it[0] for it in ran.made] == names
                 and ran.out == b"".join(it.encode() + b"\n" for it in names)
-                and b"".join(b"|" + it[1] for it in ran.made) == wanted)
+                and [it[1] for it in ran.made] == [*parts.values()]
+                and (soa == b"soa" or (whole.status == 0 and whole.out == b"".join(it.out for it in apart))))
 
-    return judged({"f": text}, words, f"status 0, parts {short(wanted)}", agrees)
+    return Plan({"f": text, **parts}, [words, *reads], f"status 0, parts {short(row.wanted)}", agrees)
+
+
+def not_cut(row, found):
+    """Whether the only error is that of the row."""
+    reason, _, place = row.wanted[1:].partition(b"|")
+    found = [it for it in found if it[2] == b"error"]
+    if len(found) != 1:
+        return False
+    if not place:
+        return {b"include": b"include", b"generate": b"directive"}[reason] == found[0][4] and b" is not cut" in found[0][3]
+    if found[0][4] in FAULTS:
+        return FAULTS[found[0][4]] == reason
+    return are_said(found, [(b"f", spot(row.inputs[2], int(place), reason), b"error", reason)])
 
 
 # ---- Record sets
@@ -634,7 +664,7 @@ def verdicts_row(row):
     words = zonetext("digest", "-v", *origin_words(origin), "f")
     wanted = [] if row.is_refused else items(row.wanted)
     if row.is_refused:
-        return judged({"f": text}, words, "status 3, no output", lambda ran: ran.status == 3 and not ran.out and b"SOA" in ran.err)
+        return judged({"f": text}, words, "status 1, no output", lambda ran: ran.status == 1 and not ran.out and b"SOA" in ran.err)
     if not wanted:
         return judged({"f": text}, words, "no ZONEMD", lambda ran: not ran.out and b"no ZONEMD" in ran.err)
 

@@ -1,22 +1,26 @@
 #!/usr/bin/env python3
 """Runs `dnstext` and `zonetext` over test rows, and compares the results.
 
-usage: .ci/program_rows.py [--list] [--refuse] [--turns] [--only CALL] [--jobs N] DNSTEXT ZONETEXT [ROWS ..]
+usage: .ci/program_rows.py [--list] [--refuse] [--turns] [--only CALL] [--line N] [--jobs N] DNSTEXT ZONETEXT [ROWS ..]
 
-ROWS are row files: by default crates/test_rows/stdin and crates/test_records/stdin. For each row that differs, its
+ROWS are row files: by default `stdin` and `rows` of crates/test_rows and crates/test_records. For each row that differs, its
 file and line, the expected result and the actual one are printed. The last line is `N rows, M differ`. The status
 is 1 if M is not 0 or there are no rows.
 
 --list runs nothing, and prints file and line of each row that the programs can answer. --only selects the rows of
-one call, or of one group such as `zone`.
+one call, or of one group such as `zone`; --line that of one line.
 
 --refuse also runs each row with its Nth allocation failing, for N = 1, 2, .. until a run makes fewer allocations
 (refuse.c). Such a run must end as it does with enough memory, or report an out-of-memory error with the status for
 it, and create no file. Allocations before a program opens its first file, as for the command line, fail only for one
-row of each command line. The last line is then `N rows, M differ, R failing allocations`.
+row of each command line. The last line is then `N rows, M differ, R failing allocations`, and at least one allocation
+for each row must fail.
 
---turns runs all rows about zones, sets of records and the commands. Of each other call, whose rows differ only in
-their text, it runs a quarter, selected by the number of commits. The last line then ends with `, L left`.
+With a C compiler, rows of `zonetext.*` also run with each read of a file returning at most 1, 2, .. octets, and must have
+the same results.
+
+--turns runs all rows about zones, sets of records and the commands, and of calls that no row program makes. Of `data` and
+of each other call it runs a quarter, selected by the number of commits. The last line then ends with `, L left`.
 """
 import argparse
 import collections
@@ -37,10 +41,15 @@ import program_records
 from row_file import FILES, rows_of
 
 # Calls of which --turns takes all rows, and the part that it takes of others.
-WHOLE = re.compile(r"zone\.(rules|hidden|dnssec|cut)|(set|zonetext)\..*|dnstext")
+WHOLE = re.compile(
+    r"zone\.(rules|hidden|dnssec|cut|entries|pieces|records|simple|tabbed|multiline)|name\.spell|dnstext"
+    r"|(set|zonetext|law|loc|params|format|generate|head|record|string|tag|digits)\..*")
 TURNS = 4
+# Calls whose files are also read in chunks, and the greatest length of those.
+CHUNKED = re.compile(r"zonetext\..*")
+CHUNK = 64
 # Time limit of a run, in seconds.
-SECONDS = 60
+SECONDS = 300
 # Out-of-memory messages of the programs, and their statuses.
 LACKS = {
     program_calls.DNSTEXT: [(rb"refused: (short buffer|buffer size exceeded|invalid domain name)\n\Z", {1})],
@@ -79,37 +88,38 @@ def plan_of(row):
 
 
 class Runner:
-    def __init__(self, programs, library):
-        self.programs, self.library = programs, library
+    def __init__(self, programs, library, refuses):
+        self.programs, self.library, self.refuses = programs, library, refuses
         self.tried, self.lock = set(), threading.Lock()
 
-    def run(self, words, folder, number=0, from_open=False):
-        """Runs a command in a folder, perhaps with a failing allocation. Returns the result, and whether one failed."""
+    def run(self, words, folder, **given):
+        """Runs a command in a folder, perhaps with variables for refuse.c. Returns the result, and whether that changed
+        the run."""
         before = {it.name: it.stat().st_mtime_ns for it in os.scandir(folder)}
         environment, notice, inherited = dict(os.environ), None, ()
-        if number:
+        if given:
             notice, notice_end = os.pipe()
             inherited = (notice_end,)
-            environment.update(LD_PRELOAD=self.library, REFUSE=str(number), REFUSE_NOTICE=str(notice_end), REFUSE_FROM_OPEN=str(int(from_open)))
+            environment.update(LD_PRELOAD=self.library, REFUSE_NOTICE=str(notice_end), **{name: str(int(it)) for name, it in given.items()})
         try:
             ran = subprocess.run([self.programs[words[0]], *words[1:]], cwd=folder, env=environment, stdin=subprocess.DEVNULL,
                                  capture_output=True, check=False, timeout=SECONDS, pass_fds=inherited)
             status, out, err = ran.returncode, ran.stdout, ran.stderr
         except subprocess.TimeoutExpired as ended:
-            status, out, err = "none: no end", ended.stdout or b"", ended.stderr or b""
+            status, out, err = f"none: no end within {SECONDS} s", ended.stdout or b"", ended.stderr or b""
         finally:
             for descriptor in inherited:
                 os.close(descriptor)
-        was_refused = False
+        is_changed = False
         if notice is not None:
-            was_refused = os.read(notice, 1) == b"r"
+            is_changed = os.read(notice, 1) != b""
             os.close(notice)
         made = []
         for entry in sorted(os.scandir(folder), key=lambda it: it.name):
             if before.get(entry.name) != entry.stat().st_mtime_ns:
                 with open(entry.path, "rb") as file:
                     made.append((entry.name, file.read()))
-        return program_calls.Ran(status, out, err, tuple(made)), was_refused
+        return program_calls.Ran(status, out, err, tuple(made)), is_changed
 
     def lay(self, plan, folder):
         for name in os.listdir(folder):
@@ -136,7 +146,7 @@ class Runner:
                 self.tried.add(name)
             for number in range(1, 100000):
                 self.lay(plan, folder)
-                ran, was_refused = self.run(words, folder, number, from_open)
+                ran, was_refused = self.run(words, folder, REFUSE=number, REFUSE_FROM_OPEN=from_open)
                 if not was_refused:
                     break
                 count += 1
@@ -145,6 +155,19 @@ class Runner:
                 if not (says_so or ran.same(ample)):
                     return count, f"allocation {number}{' after the first file is opened' if from_open else ''} fails: {ran}"
         return count, None
+
+
+    def chunks(self, plan, folder, rans):
+        """Runs each command with its files read in chunks of each length. Returns a description of the first wrong
+        result, if there is one."""
+        for words, ample in zip(plan.commands, rans):
+            longest = max((len(octets) for name, octets in plan.files.items() if name.encode() in words), default=0)
+            for most in range(1, min(longest, CHUNK)):
+                self.lay(plan, folder)
+                ran, is_cut = self.run(words, folder, READ_MOST=most)
+                if not is_cut or not ran.same(ample):
+                    return f"read in chunks of {most} octets: {ran}" + " (read at once)" * (not is_cut)
+        return None
 
 
 def is_part(words, out, whole):
@@ -168,7 +191,11 @@ def answered(row, plans, runner):
                 agrees, rans = False, [*rans, f"(unexpected output: {error!r})"]
             if not agrees:
                 found = f"  wanted: {plan.wanted}\n" + "\n".join(f"  came:   {it}" for it in rans)
-            elif runner.library:
+            elif runner.library and CHUNKED.fullmatch(row.call):
+                wrong = runner.chunks(plan, folder, rans)
+                if wrong:
+                    found = f"  wanted: the same result\n  came:   {wrong}"
+            if not found and runner.refuses:
                 refused, wrong = runner.refusals(plan, folder, rans)
                 count += refused
                 if wrong:
@@ -181,9 +208,11 @@ def answered(row, plans, runner):
 
 
 def library_of(folder):
-    """Compiles refuse.c."""
+    """Compiles refuse.c. Returns None without a compiler."""
     made = os.path.join(folder, "refuse.so")
     compiler = os.environ.get("CC", "cc")
+    if shutil.which(compiler) is None:
+        return None
     subprocess.run([compiler, "-shared", "-fPIC", "-O1", os.path.join(HERE, "refuse.c"), "-o", made, "-ldl"], check=True)
     return made
 
@@ -194,6 +223,7 @@ def main():
     parser.add_argument("--refuse", action="store_true")
     parser.add_argument("--turns", action="store_true")
     parser.add_argument("--only", metavar="CALL")
+    parser.add_argument("--line", type=int)
     parser.add_argument("--jobs", type=int, default=len(os.sched_getaffinity(0)))
     parser.add_argument("dnstext")
     parser.add_argument("zonetext")
@@ -209,6 +239,8 @@ def main():
     plans = []
     for path in options.rows or FILES:
         for row in rows_of(path):
+            if options.line not in (None, row.line):
+                continue
             if only is None or row.call == only or row.call.startswith(only + "."):
                 plan = checked_plan_of(row)
                 if plan:
@@ -244,7 +276,11 @@ def run_all(plans, programs, options):
             return 2
     differ = refused = 0
     with tempfile.TemporaryDirectory() as folder:
-        runner = Runner(programs, library_of(folder) if options.refuse else None)
+        library = library_of(folder)
+        if options.refuse and library is None:
+            print("no C compiler", file=sys.stderr)
+            return 2
+        runner = Runner(programs, library, options.refuse)
         with concurrent.futures.ThreadPoolExecutor(options.jobs) as pool:
             for count, found in pool.map(lambda it: answered(*it, runner), plans):
                 refused += count
@@ -254,6 +290,9 @@ def run_all(plans, programs, options):
     failing = f", {refused} failing allocations" if options.refuse else ""
     left = f", {options.left} left" if options.turns else ""
     print(f"{len(plans)} rows, {differ} differ{failing}{left}")
+    if options.refuse and refused < len(plans):
+        print("fewer allocations failed than rows ran")
+        return 1
     return 1 if differ or not plans else 0
 
 

@@ -1,10 +1,12 @@
-/* Makes one allocation of a program fail:
+/* Makes one allocation of a program fail, or lets it read a few octets at a time:
  *
  *     cc -shared -fPIC -O1 refuse.c -o refuse.so -ldl
  *     LD_PRELOAD=./refuse.so REFUSE=3 program
+ *     LD_PRELOAD=./refuse.so READ_MOST=2 program
  *
  * REFUSE is the number of the allocation, from 1. REFUSE_FROM_OPEN=1 counts them after the first open().
- * REFUSE_NOTICE is a file descriptor: an octet is written to it when the allocation fails.
+ * READ_MOST is the most octets that a call of read() returns. REFUSE_NOTICE is a file descriptor: an octet is
+ * written to it when the allocation fails, or when read() first returns fewer octets than it was asked for.
  *
  * A proved program is linked dynamically, and calls malloc and realloc of this library. A program that `rt try`
  * built contains AddressSanitizer with its own malloc and realloc: they are overwritten by jumps to functions
@@ -25,7 +27,7 @@ extern void *__libc_calloc(size_t, size_t);
 extern void *__libc_realloc(void *, size_t);
 extern void *__libc_memalign(size_t, size_t);
 
-static long calls, number;
+static long calls, number, most;
 static int counts, notice = -1;
 
 static int is_refused(void) {
@@ -63,6 +65,21 @@ int open(const char *path, int flags, ...) {
     }
     counts = number != 0;
     return next(path, flags, mode);
+}
+
+ssize_t read(int descriptor, void *octets, size_t count) {
+    ssize_t (*next)(int, void *, size_t), length;
+    void *found = dlsym(RTLD_NEXT, "read");
+    memcpy(&next, &found, sizeof next);
+    if (most == 0 || count <= (size_t)most)
+        return next(descriptor, octets, count);
+    length = next(descriptor, octets, (size_t)most);
+    if (length == most && notice >= 0) {
+        if (write(notice, "l", 1) != 1)
+            abort();
+        notice = -1;
+    }
+    return length;
 }
 
 /* Functions of AddressSanitizer. */
@@ -104,10 +121,15 @@ static void replace(const char *name, void *with) {
 
 __attribute__((constructor)) static void begin(void) {
     const char *word = getenv("REFUSE"), *descriptor = getenv("REFUSE_NOTICE"),
-               *from_open = getenv("REFUSE_FROM_OPEN");
+               *from_open = getenv("REFUSE_FROM_OPEN"), *size = getenv("READ_MOST");
     Dl_info its, ours;
     /* A shell script may start the program. */
-    if (word == NULL || strcmp(program_invocation_short_name, "sh") == 0)
+    if (strcmp(program_invocation_short_name, "sh") == 0)
+        return;
+    most = size != NULL ? atol(size) : 0;
+    if (descriptor != NULL)
+        notice = atoi(descriptor);
+    if (word == NULL)
         return;
     if (dladdr(dlsym(RTLD_DEFAULT, "malloc"), &its) && dladdr(&calls, &ours) &&
         its.dli_fbase != ours.dli_fbase) {
@@ -121,8 +143,6 @@ __attribute__((constructor)) static void begin(void) {
         replace("malloc", (void *)its_malloc);
         replace("realloc", (void *)its_realloc);
     }
-    if (descriptor != NULL)
-        notice = atoi(descriptor);
     number = atol(word);
     counts = from_open == NULL || strcmp(from_open, "1") != 0;
 }

@@ -1,8 +1,10 @@
 """Parses files of test rows: a call, its inputs and the expected result, separated by tabs (crates/test_support)."""
 from urllib.parse import unquote_to_bytes
 
-# The row files, by their path in the repository.
-FILES = ("crates/test_rows/stdin", "crates/test_records/stdin")
+# The row files, by their path in the repository: those that a row program in Rattle runs, and those that only the C
+# library, Rust and the programs answer.
+STDIN = ("crates/test_rows/stdin", "crates/test_records/stdin")
+FILES = (*STDIN, "crates/test_rows/rows", "crates/test_records/rows")
 
 
 class Row:

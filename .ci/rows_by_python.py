@@ -1,7 +1,7 @@
 #!/usr/bin/env python3
-"""Answers rows of crates/test_rows/stdin independently, by Python's libraries, a few lines here, and zone_text.py.
+"""Answers rows of crates/test_rows independently, by Python's libraries, a few lines here, and zone_text.py.
 
-usage: .ci/rows_by_python.py < crates/test_rows/stdin
+usage: cat crates/test_rows/stdin crates/test_rows/rows | .ci/rows_by_python.py
 """
 import base64
 import binascii

@@ -10,7 +10,9 @@ the call) begins with a number above COUNT; the last line counts them as left. W
 run, and the number of selected rows is printed.
 
 The last line is `N rows, M differ`, with `, L left` if rows were skipped by --at-most. The status is
-1 if a row differs or couldn't be run, if the program counted other rows, or if the file is cut off.
+1 if a row differs or couldn't be run, if the program counted other rows, or if the file is cut off. If a
+signal ends the program, the first row that causes it is searched for, and printed with what the program
+wrote to standard error.
 """
 import argparse
 import re
@@ -61,6 +63,26 @@ def reports(text):
     return found, others
 
 
+def run(program, rows):
+    return subprocess.run(
+        [program],
+        input="".join(f"{it}\n" for it in ["# rows", *rows, "# end"]),
+        stdout=subprocess.PIPE, stderr=subprocess.PIPE, encoding="utf-8", errors="replace", check=False,
+    )
+
+
+def first_that_ends(program, rows):
+    """Returns the index of the first row that ends the program by a signal, where all rows together do."""
+    before, end = 0, len(rows)
+    while end - before > 1:
+        middle = (before + end) // 2
+        if run(program, rows[:middle]).returncode < 0:
+            end = middle
+        else:
+            before = middle
+    return before
+
+
 def main():
     words = argparse.ArgumentParser(
         description=__doc__, formatter_class=argparse.RawDescriptionHelpFormatter
@@ -92,11 +114,13 @@ def main():
         fault(f"{given.file}: cut off: the last line is not the only `# end`")
     if not rows:
         fault(f"{given.file}: no rows are chosen")
-    ran = subprocess.run(
-        [given.program],
-        input="".join(f"{it}\n" for it in ["# rows", *rows.values(), "# end"]),
-        stdout=subprocess.PIPE, stderr=subprocess.PIPE, encoding="utf-8", errors="replace",
-    )
+    ran = run(given.program, list(rows.values()))
+    is_ended = ran.returncode < 0 and rows
+    if is_ended:
+        number, row = list(rows.items())[first_that_ends(given.program, list(rows.values()))]
+        call = row.split("\t")[0]
+        said = ran.stderr.strip()[-999:]
+        fault(f"{given.file}:{number}: {call}\n    row: {row}\n    signal {-ran.returncode} ends the program: {said}")
     found, others = reports(ran.stdout)
     numbers = {}
     for number, row in rows.items():
@@ -104,11 +128,12 @@ def main():
     for row, said in found:
         call, *_, wanted = row.split("\t")
         fault(f"{given.file}:{numbers.get(row, '?')}: {call}\n    row: {row}\n    wanted: {wanted}\n    {said}")
-    counts = COUNTS.search(ran.stderr)
-    if not counts or int(counts[1]) != len(rows) or int(counts[2]) != len(rows) - len(found):
-        fault(f"{given.file}: of {len(rows)} rows the program says: {ran.stderr[-999:]!r}")
-    if (ran.returncode, others) != (0, ["all rows agree"]) and not found:
-        fault(f"{given.file}: status {ran.returncode}, and the program says: {others!r:.999}")
+    if not is_ended:
+        counts = COUNTS.search(ran.stderr)
+        if not counts or int(counts[1]) != len(rows) or int(counts[2]) != len(rows) - len(found):
+            fault(f"{given.file}: of {len(rows)} rows the program says: {ran.stderr[-999:]!r}")
+        if (ran.returncode, others) != (0, ["all rows agree"]) and not found:
+            fault(f"{given.file}: status {ran.returncode}, and the program says: {others!r:.999}")
     print(f"{len(rows)} rows, {faults} differ" + (f", {left} left" if left else ""))
     return 1 if faults else 0
 

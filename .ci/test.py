@@ -2,19 +2,25 @@
 """Runs the checks of .ci/checks without proofs: all test rows, the tests, the commands of the pages, and
 the checks of both programs. `.ci/run` proves first, and then runs the same checks.
 
-usage: ./test [--jobs N] [NAME..]     all checks, or those of these names
-       ./test FILE:LINE..             one row, by the row program of its crate: crates/test_rows/stdin:812
+usage: ./test [--jobs N] [--sanitized] [NAME..]    all checks, or those of these names
+       ./test FILE:LINE..             one row: crates/test_rows/stdin:812, by the row program of its crate;
+                                      crates/test_rows/rows:812, by dnstext and zonetext or the C library
        ./test --list
 
-It needs the Rattle kit (`rt`), bash, Python and git, and creates no file in the clone. `rt try` builds
-the programs: they stop at an overflow, an index out of bounds or an invalid access, and need far more
-memory and time than proved ones. A check that needs a proved program runs in the gate only, and has a
-line `left` here. Each other check has a line with its result, its elapsed seconds, its seconds of
-processor time, and what it ran. The output of a failed check follows its line. The last line is
-`N passed, M failed`. The status is 1 if a check failed, and 2 if the arguments are wrong or the kit is
-missing.
+It needs the Rattle kit (`rt`), bash, Python and git, and creates no file in the clone. `.ci/unproved.py`
+builds the programs and the C library. A program that has an overflow, an index out of bounds, or a wrong
+cast or unwrap writes the name of the function, and stops. With --sanitized, `rt try` builds the programs:
+they also stop at an invalid access to memory, and write the line. They need far more memory and time, so
+large inputs are smaller, and memory is not limited.
+
+Each check has a line with its result, its elapsed seconds, its seconds of processor time, and what it ran.
+The output of a failed check follows its line. A line `left` names a check that doesn't run here, since it
+takes long or needs a proved program. A line of two dots names what runs, if no other line was printed for
+20 seconds. The last line is `N passed, M failed`. The status is 1 if a check failed, and 2 if the
+arguments are wrong or the kit is missing.
 """
 import argparse
+import contextlib
 import os
 import re
 import shutil
@@ -26,16 +32,23 @@ import threading
 import time
 
 TOP = os.path.dirname(os.path.dirname(os.path.realpath(__file__)))
-# Time limit of a check in seconds, and octets of its output that are shown.
-LIMIT = 1800
+# Time limit of a check or a build in seconds, for those that never end, and octets of output that are shown.
+LIMIT = 7200
 SHOWN = 6000
 # Maximum memory of a build, in megabytes.
 BUILD_SIZE = 2200
+# Seconds without a line after which one names what runs.
+SILENT = 20
 # The arguments with which `rt try` runs each program after building it, and the expected status. The run must
 # last about a second: meanwhile the program is linked under another name.
 RUNS = {
     "zonetext": ('tokens "$OLDPWD/crates/test_rows/stdin"', 1),
     "dnstext": ("scan charstr $(seq 30000)", 0),
+}
+# The variables of each check: git works in a clone of another user, and Python writes no files beside its sources.
+SETTINGS = {
+    "GIT_CONFIG_COUNT": "1", "GIT_CONFIG_KEY_0": "safe.directory", "GIT_CONFIG_VALUE_0": TOP,
+    "PYTHONDONTWRITEBYTECODE": "1",
 }
 # Lines of a file of rows that are run to build a row program.
 FIRST_ROWS = 300
@@ -80,7 +93,7 @@ def run(command, room, stdin=subprocess.DEVNULL, wanted=0, env=None):
     with open(f"{room}/output", "wb") as output:
         process = subprocess.Popen(
             ["bash", "-c", command], cwd=TOP, stdin=stdin, stdout=output, stderr=output,
-            start_new_session=True, env={**os.environ, **(env or {}), "TMPDIR": room},
+            start_new_session=True, env={**os.environ, **SETTINGS, **(env or {}), "TMPDIR": room},
         )
         timer = threading.Timer(LIMIT, lambda: os.killpg(process.pid, signal.SIGKILL))
         timer.start()
@@ -103,11 +116,13 @@ def run(command, room, stdin=subprocess.DEVNULL, wanted=0, env=None):
 
 RUNNING = set()
 PRINTING = threading.Lock()
+PRINTED = [time.monotonic()]
 
 
 def say(text):
     with PRINTING:
         print(text, flush=True)
+        PRINTED[0] = time.monotonic()
 
 
 class Runner:
@@ -120,8 +135,35 @@ class Runner:
         self.clock, self.processor, self.parts = 0.0, 0.0, []
 
     def build(self, name):
+        """Builds a program, the tests of a crate that has none, or the C library. Returns its path: empty if there is
+        no C compiler for the library, None if the build fails."""
+        room, path = f"{self.room}/build-{name}", f"{self.room}/{name}"
+        if name == "archive":
+            if shutil.which("cc") is None:
+                return ""
+            path = f"{self.room}/unproved/libdnstext.a"
+            result = self.built(path, f"nice -n 4 make -s -C c unproved-lib out='{self.room}'", room)
+        elif self.library:
+            result = self.build_sanitized(name, room)
+        else:
+            tests = "" if os.path.exists(f"{TOP}/crates/{name}/src/main.rt") else "--test"
+            # (most checks wait for zonetext, which takes longest)
+            nice = "" if name == "zonetext" else "nice -n 4"
+            result = self.built(path, f"{nice} .ci/unproved.py {tests} crates/{name} '{path}'", room)
+        shutil.rmtree(room, ignore_errors=True)
+        self.tell(f"build_{name}", result, False)
+        return path if not result.why else None
+
+    @staticmethod
+    def built(path, command, room):
+        """Returns the result of a command that builds a file."""
+        result = run(f"exec {command}", room)
+        if not result.why:
+            result.last = f"built, {os.path.getsize(path) / 1e6:.1f} MB"
+        return result
+
+    def build_sanitized(self, name, room):
         """Builds a program by `rt try`, and keeps it."""
-        room = f"{self.room}/build-{name}"
         os.makedirs(room)
         # (a row program runs its first rows, which may fail: a check reports that)
         words, wanted = RUNS.get(name, ("", None))
@@ -140,8 +182,7 @@ class Runner:
         if not result.why:
             self.write_starter(name, kept)
             result.last = f"built, {os.path.getsize(kept) >> 20} MB"
-        self.tell(f"build_{name}", result, False)
-        return f"{self.room}/{name}" if not result.why else None
+        return result
 
     @staticmethod
     def first_rows(name, room):
@@ -188,8 +229,8 @@ class Runner:
         lines[0] += f"; without {missing}" * bool(missing)
         if result.why:
             lines += [f"       {it}" for it in result.output[-SHOWN:].rstrip("\n").split("\n")]
+        say("\n".join(lines))
         with PRINTING:
-            print("\n".join(lines), flush=True)
             self.processor += result.processor
             self.parts.append((name, result.clock, result.processor, result.megabytes))
             if result.why:
@@ -201,7 +242,7 @@ class Runner:
 
     def check(self, check):
         env = {**self.env, **{it: self.programs[it] for it in check.uses if it in self.programs}}
-        lacking = [it for it in check.uses if self.programs.get(it) is None and it != "archive"]
+        lacking = [it for it in check.uses if self.programs.get(it) is None]
         if lacking:
             result = Result(f"{lacking[0]} is not built", "", 0, 0, 0)
         else:
@@ -211,11 +252,12 @@ class Runner:
 
     def all(self, checks, jobs):
         """Builds the programs that the checks use, the most used first, and runs each check once they are built."""
-        names = list(dict.fromkeys(it for check in checks for it in check.uses if it != "archive"))
+        names = list(dict.fromkeys(it for check in checks for it in check.uses))
         wanted = [it for it in names if it not in self.programs]
         wanted.sort(key=lambda it: (it != "zonetext", it != "test_records"))
-        built = {"archive", *self.programs}
-        waiting, active, changed = list(checks), set(), threading.Condition()
+        built = set(self.programs)
+        waiting, active, changed = list(checks), {}, threading.Condition()
+        began = time.monotonic()
 
         def work(task):
             name = task.name if isinstance(task, Check) else f"build_{task}"
@@ -229,7 +271,7 @@ class Runner:
             finally:
                 with changed:
                     built.add(task)
-                    active.discard(threading.current_thread())
+                    active.pop(threading.current_thread())
                     changed.notify()
 
         while wanted or waiting or active:
@@ -240,10 +282,12 @@ class Runner:
                     if isinstance(task, Check):
                         waiting.remove(task)
                     thread = threading.Thread(target=work, args=(task,), daemon=True)
-                    active.add(thread)
+                    active[thread] = task.name if isinstance(task, Check) else f"build_{task}"
                     thread.start()
                 else:
                     changed.wait(1)
+                    if time.monotonic() - PRINTED[0] > SILENT:
+                        say(f"..     {time.monotonic() - began:3.0f} s: {', '.join(active.values())}")
 
 
 def most_jobs():
@@ -256,7 +300,7 @@ def most_jobs():
 def files_here():
     """Returns the files of the clone that are unknown to git or changed."""
     ran = subprocess.run(
-        ["git", "-c", f"safe.directory={TOP}", "-C", TOP, "status", "--porcelain", "--ignored"],
+        ["git", "-C", TOP, "status", "--porcelain", "--ignored"], env={**os.environ, **SETTINGS},
         stdout=subprocess.PIPE, stderr=subprocess.DEVNULL, universal_newlines=True,
     )
     return ran.stdout if ran.returncode == 0 else None
@@ -264,8 +308,6 @@ def files_here():
 
 def kit_library():
     """Returns the folder of the kit's C library."""
-    if shutil.which("rt") is None:
-        stop("no Rattle kit: rt is not on the path")
     doc = subprocess.run(["rt", "doc"], stdout=subprocess.PIPE, universal_newlines=True).stdout.strip()
     library = os.path.dirname(doc) + "/toolchain/lib"
     if not os.path.isdir(library):
@@ -278,12 +320,23 @@ def rows_of(names):
     checks = []
     for name in names:
         file, _, line = name.rpartition(":")
-        found = re.fullmatch(r"(?:\./)?(crates/(test_rows|test_records)/(?:stdin|wire))", file)
+        found = re.fullmatch(r"(?:\./)?(crates/(test_rows|test_records)/(stdin|rows|wire))", file)
         if not found or not line.isdigit():
-            stop(f"{name}: a row is crates/test_rows/stdin:LINE, or so of test_records, or crates/test_records/wire:LINE")
-        program = found[2]
-        checks.append(Check(f'{name} both {program} .ci/run_rows.py "${program}" {found[1]} --line {line}'))
+            stop(f"{name}: a row is crates/test_rows/stdin:LINE, or of its file `rows`, or so of test_records and its file `wire`")
+        file, program, kind = found.groups()
+        if kind != "rows":
+            checks.append(Check(f'{name} both {program} .ci/run_rows.py "${program}" {file} --line {line}'))
+        elif is_of_programs(file, line):
+            checks.append(Check(f'{name} both dnstext,zonetext .ci/program_rows.py --line {line} "$dnstext" "$zonetext" {file}'))
+        else:
+            checks.append(Check(f"{name} both archive c/run-row {file} {line}"))
     return checks
+
+
+def is_of_programs(file, line):
+    """Returns whether `dnstext` and `zonetext` answer a row."""
+    words = [f"{TOP}/.ci/program_rows.py", "--list", "--line", line, "-", "-", f"{TOP}/{file}"]
+    return subprocess.run(words, stdout=subprocess.PIPE).stdout != b""
 
 
 def main():
@@ -292,6 +345,7 @@ def main():
     )
     words.add_argument("--list", action="store_true", help="the names of all checks, and what each runs")
     words.add_argument("--jobs", type=int, metavar="N", help="run N at a time")
+    words.add_argument("--sanitized", action="store_true", help="stop at invalid accesses to memory too")
     words.add_argument("--proved", action="store_true", help=argparse.SUPPRESS)
     words.add_argument("names", nargs="*", metavar="NAME")
     given = words.parse_args()
@@ -306,32 +360,45 @@ def main():
     for name in names:
         if name not in known:
             stop(f"{name}: no such check: ./test --list")
-    has_archive = os.path.isfile(f"{TOP}/out/libdnstext.a")
     if given.proved:
         chosen = [it for it in checks if it.when != "test"]
     else:
-        chosen = [
-            it for it in checks
-            if it.when in ("both", "test") or (it.name in names and it.when == "named")
-            or (it.when == "gate" and "archive" in it.uses and has_archive)
-        ]
+        always = ("both", "test") if given.sanitized else ("both", "test", "long")
+        on_request = ("named", "long")
+        chosen = [it for it in checks if it.when in always or (it.when in on_request and it.name in names)]
     left = [it for it in checks if it not in chosen and it.when != "test"]
     if given.names:
         chosen = [it for it in chosen if it.name in names] + single
         left = [it for it in left if it.name in names]
-    library = "" if given.proved else kit_library()
+    if not given.proved and shutil.which("rt") is None:
+        stop("no Rattle kit: rt is not on the path")
+    library = kit_library() if given.sanitized else ""
     before, began = files_here(), time.monotonic()
-    with tempfile.TemporaryDirectory(prefix="dnstext-test-") as room:
+    # (make has no paths with blanks)
+    place = "/tmp" if " " in tempfile.gettempdir() else None
+    with tempfile.TemporaryDirectory(prefix="dnstext-test-", dir=place) as room:
         os.chmod(room, 0o755)
-        runner = Runner(room, library, {} if given.proved else {"UNPROVED": "1"})
+        env = {} if given.proved else {"UNPROVED": "1"}
+        runner = Runner(room, library, {**env, "SANITIZED": "1"} if given.sanitized else env)
         if given.proved:
-            for name in {use for it in chosen for use in it.uses if use != "archive"}:
+            for name in {use for it in chosen for use in it.uses}:
                 runner.programs[name] = f"{TOP}/crates/{name}/out/{name}"
+            archive = f"{TOP}/out/libdnstext.a"
+            runner.programs["archive"] = archive if os.path.exists(archive) else ""
+        elif given.sanitized:
+            # (.ci/tests-of both builds and runs the tests of a crate)
+            runner.programs["test_api"] = ""
+        for it in (signal.SIGTERM, signal.SIGHUP):
+            signal.signal(it, signal.default_int_handler)
         try:
             runner.all(chosen, given.jobs or most_jobs())
         except KeyboardInterrupt:
-            for pid in list(RUNNING):
-                os.killpg(pid, signal.SIGKILL)
+            # (`rt try` ends what it started in a group of its own)
+            for how in (signal.SIGTERM, signal.SIGKILL):
+                for pid in list(RUNNING):
+                    with contextlib.suppress(ProcessLookupError):
+                        os.killpg(pid, how)
+                time.sleep(1)
             print("stopped", file=sys.stderr)
             return 1
     if not given.proved and before is not None and files_here() != before:
@@ -343,9 +410,7 @@ def main():
             ran = subprocess.run(["bash", "-c", f"{it.command} --count"], cwd=TOP, stdout=subprocess.PIPE)
             count = int(ran.stdout or b"0")
             runner.left, runner.rows = runner.left + count, runner.rows + count
-        why = {"named": f"takes long: ./test {it.name} runs it", "gate": "needs a proved program"}[it.when]
-        if "archive" in it.uses:
-            why = "needs out/libdnstext.a, which make -C c builds"
+        why = "needs proved programs" if it.when == "gate" else f"takes long: ./test {it.name} runs it"
         say(f"left   {it.name:18}{count} rows: {why}")
     if given.proved:
         for name, clock, processor, megabytes in sorted(runner.parts, key=lambda it: -it[2]):
