@@ -7,9 +7,10 @@ The program must be built (`rt run` in crates/zonetext), and valgrind installed.
 (1000000 10000000) are generated below DIR, `bench/target/zones`. Prints a row for each shape; its last
 column is the greatest count divided by the least. Fails if one is above 1.1.
 
-Two more tables have a limit of 1.3. One has the instructions of `check` without --zone a record, on a quarter of
-the first SIZE and on all of it, and those of `check --conf` a zone. The other has zones in which one owner has
-2,000 and 8,000 records whose rules or differences depend on one another.
+Three more tables have a limit of 1.3. One has the instructions of `check` without --zone a record, on a quarter of
+the first SIZE and on all of it, and those of `check --conf` a zone. One has zones in which one owner has 2,000 and
+8,000 records whose rules or differences depend on one another. The last has the instructions a finding, where one
+line has 4,000 and 16,000 of them, of several commands.
 """
 import argparse
 import base64
@@ -173,6 +174,58 @@ def check_owners(folder, program):
     return is_linear
 
 
+# ---- one line with many findings
+
+FINDINGS = [4_000, 16_000]
+MOST_OF_LINE = 1.3
+
+
+def high_octets(count):
+    """Returns a TXT with `count` strings outside of ASCII."""
+    return "text IN TXT" + ' "ü"' * count + "\n"
+
+
+def nested_parentheses(count):
+    """Returns an A with `count` open parentheses, whose address is wrong."""
+    return "host IN A " + "(" * count + " 192.0.2.256 " + ")" * count + "\n"
+
+
+def unknown_codes(count):
+    """Returns an A with an exception of `count` codes that don't exist."""
+    return "host IN A 192.0.2.1 ; zonetext: allow" + ", x" * count + "\n"
+
+
+LINES = [high_octets, nested_parentheses, unknown_codes]
+OF_LINES = [
+    ["check"],
+    ["check", "--zone", tools.ZONE],
+    ["check", "--max", "1"],
+    ["check", "--allow", "high-octet", "--allow", "nested-parentheses", "--allow", "exception"],
+    ["records"],
+    ["canon", "--lenient"],
+]
+
+
+def check_lines(folder, program):
+    """Prints the table of lines with many findings, and returns whether all of its shapes are within the limit."""
+    print(f"\n| One line | {' | '.join(f'{count} findings' for count in FINDINGS)} | greatest / least |")
+    print("|---|" + "---|" * (len(FINDINGS) + 1))
+    is_linear = True
+    for entry in LINES:
+        for words in OF_LINES:
+            counts = []
+            for count in [1, *FINDINGS]:
+                path = os.path.join(folder, f"{entry.__name__}-{count}")
+                with open(path, "w", encoding="utf-8") as file:
+                    file.write(HEAD + entry(count))
+                counts.append(tools.instructions([program, *words, path]))
+            one, *some = counts
+            text, ratio = row(f"{entry.__name__}, {' '.join(words)}", [(each - one) / (count - 1) for each, count in zip(some, FINDINGS)])
+            print(text, flush=True)
+            is_linear = is_linear and ratio <= MOST_OF_LINE
+    return is_linear
+
+
 # ---- all shapes
 
 def make_file(folder, head, entry, size):
@@ -236,6 +289,7 @@ def main():
         is_linear = is_linear and ratio <= MOST
     is_linear = without_zone(given.program, given.folder, given.sizes[0]) and is_linear
     is_linear = check_owners(given.folder, given.program) and is_linear
+    is_linear = check_lines(given.folder, given.program) and is_linear
     sys.exit(0 if is_linear else 1)
 
 

@@ -30,11 +30,12 @@ use zonetext_files::open_file::first_place;
 use zonetext_files::shown::quoted;
 use zonetext_files::stop::RunError;
 use zonetext_files::zone_files::{Entry, IncludeError, Visit};
+use zonetext_findings::cursor::Cursor;
 use zonetext_findings::exceptions::{may_except, stated_of};
 use zonetext_findings::generate_findings::refusal_text;
 use zonetext_findings::locations::{
-    beginning, begins_blank, line_spot, long_at, number_of, part_at, position_at, target_position,
-    token_at, tokens_of,
+    beginning, begins_blank, cursor_of, line_spot, located, long_at, next_position, number_of,
+    position_at, target_position, token_at, tokens_of,
 };
 use zonetext_findings::octet_texts::{is_of_file, octet_text};
 use zonetext_findings::reporter::{FindingText, Reporter};
@@ -378,15 +379,16 @@ impl<'a> Checker<'a> {
             Ok(ParsedEntry::Generate { .. }) => Some(position_at(entry, 0)),
             _ => None,
         };
+        let mut cursor = cursor_of(entry);
         for (code, part) in &stated.codes {
-            let position = position_at(entry, part.at);
+            let position = next_position(entry, &mut cursor, part.at);
             self.findings
                 .reporter
                 .exceptions
                 .add(*code, entry.number, position, record)?;
         }
         for slip in &stated.slips {
-            self.findings.report_slip(entry, *slip)?;
+            self.findings.report_slip(entry, &mut cursor, *slip)?;
         }
         Ok(())
     }
@@ -493,13 +495,23 @@ impl<'a> Checker<'a> {
     }
 
     /// Reports a finding about the octets of an entry.
-    fn report_octets(&mut self, entry: &Entry<'_>, finding: &EntryFinding) -> Result<(), RunError> {
-        let code = finding.code;
-        let spot = part_at(entry, finding.start, finding.width);
+    fn report_octets(
+        &mut self,
+        entry: &Entry<'_>,
+        cursor: &mut Cursor<'_>,
+        finding: &EntryFinding,
+    ) -> Result<(), RunError> {
+        let (code, start) = (finding.code, finding.start);
+        let position = next_position(entry, cursor, start);
         let is_fault = code.is_text_fault();
-        let Some(severity) = self.findings.reporter.count(spot, code, is_fault)? else {
+        let counted = self
+            .findings
+            .reporter
+            .count(entry.number, position, code, is_fault)?;
+        let Some(severity) = counted else {
             return Ok(());
         };
+        let spot = located(entry, start, position, finding.width);
         let (spot, text) = octet_text(self.alloc, entry, spot, finding)?;
         if is_of_file(code) {
             return self
@@ -518,6 +530,7 @@ impl<'a> Checker<'a> {
         found: &[EntryFinding],
     ) -> Result<bool, RunError> {
         let mut is_end = false;
+        let mut cursor = cursor_of(entry);
         for finding in found {
             if !is_of_octets(finding) {
                 continue;
@@ -526,7 +539,7 @@ impl<'a> Checker<'a> {
             if finding.code == Code::Crlf {
                 self.crlf_files.push(entry.number)?;
             }
-            self.report_octets(entry, finding)?;
+            self.report_octets(entry, &mut cursor, finding)?;
         }
         Ok(is_end)
     }
@@ -537,9 +550,10 @@ impl<'a> Checker<'a> {
         entry: &Entry<'_>,
         found: &[EntryFinding],
     ) -> Result<(), RunError> {
+        let mut cursor = cursor_of(entry);
         for finding in found {
             if !is_of_octets(finding) {
-                self.report_finding(entry, finding)?;
+                self.report_finding(entry, &mut cursor, finding)?;
             }
         }
         Ok(())
@@ -549,17 +563,20 @@ impl<'a> Checker<'a> {
     fn report_finding(
         &mut self,
         entry: &Entry<'_>,
+        cursor: &mut Cursor<'_>,
         finding: &EntryFinding,
     ) -> Result<(), RunError> {
         match entry.read {
-            Err(BlockRefusal::Text(fault)) => self.findings.report_fault(entry, finding, *fault),
+            Err(BlockRefusal::Text(fault)) => self
+                .findings
+                .report_fault(entry, cursor, finding, *fault),
             Err(BlockRefusal::LongEntry) => self.report_long(entry),
             Err(BlockRefusal::Entry(error)) => self
                 .findings
-                .report_explained(entry, finding, error),
+                .report_explained(entry, cursor, finding, error),
             Ok(_) => self
                 .findings
-                .report_found(entry, finding, self.limits.max_ttl),
+                .report_found(entry, cursor, finding, self.limits.max_ttl),
         }
     }
 

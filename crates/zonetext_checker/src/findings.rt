@@ -17,9 +17,12 @@ use zonetext_files::file_lines::FileLines;
 use zonetext_files::open_file::first_place;
 use zonetext_files::stop::RunError;
 use zonetext_files::zone_files::Entry;
+use zonetext_findings::cursor::Cursor;
 use zonetext_findings::exceptions::{Exception, Slip};
 use zonetext_findings::explain::{Refusal, explain};
-use zonetext_findings::locations::{begins_blank, first_tokens, line_spot, part_at, tokens_of};
+use zonetext_findings::locations::{
+    begins_blank, first_tokens, line_spot, located, next_position, tokens_of,
+};
 use zonetext_findings::octet_texts::fault_text;
 use zonetext_findings::reporter::{FindingLocation, FindingText, Reporter};
 use zonetext_findings::subjects::{Subject, Text};
@@ -143,14 +146,16 @@ impl<'a> Findings<'a> {
     pub fn report_found(
         &mut self,
         entry: &Entry<'_>,
+        cursor: &mut Cursor<'_>,
         finding: &EntryFinding,
         most: Option<u32>,
     ) -> Result<(), RunError> {
-        let code = finding.code;
-        let spot = part_at(entry, finding.start, finding.width);
-        let Some(severity) = self.reporter.count(spot, code, false)? else {
+        let (code, start) = (finding.code, finding.start);
+        let position = next_position(entry, cursor, start);
+        let Some(severity) = self.reporter.count(entry.number, position, code, false)? else {
             return Ok(());
         };
+        let spot = located(entry, start, position, finding.width);
         let text = entry_text(self.alloc, entry, finding, most)?;
         self.show_entry(entry, severity, spot, code, &text)
     }
@@ -159,12 +164,13 @@ impl<'a> Findings<'a> {
     pub fn report_fault(
         &mut self,
         entry: &Entry<'_>,
+        cursor: &mut Cursor<'_>,
         finding: &EntryFinding,
         fault: Fault,
     ) -> Result<(), RunError> {
         let code = finding.code;
-        let spot = part_at(entry, finding.start, finding.width);
-        let Some(severity) = self.reporter.count(spot, code, true)? else {
+        let position = next_position(entry, cursor, finding.start);
+        let Some(severity) = self.reporter.count(entry.number, position, code, true)? else {
             return Ok(());
         };
         let (spot, text) = fault_text(self.alloc, entry, fault)?;
@@ -178,7 +184,10 @@ impl<'a> Findings<'a> {
         spot: FindingLocation<'_>,
         text: &Text,
     ) -> Result<(), RunError> {
-        match self.reporter.count(spot, Code::Directive, true)? {
+        match self
+            .reporter
+            .count(spot.number, spot.position, Code::Directive, true)?
+        {
             Some(severity) => self.show_entry(entry, severity, spot, Code::Directive, text),
             None => Ok(()),
         }
@@ -188,11 +197,13 @@ impl<'a> Findings<'a> {
     pub fn report_explained(
         &mut self,
         entry: &Entry<'_>,
+        cursor: &mut Cursor<'_>,
         finding: &EntryFinding,
         error: &RecordError,
     ) -> Result<(), RunError> {
-        let spot = part_at(entry, finding.start, finding.width);
-        let Some(severity) = self.reporter.count(spot, finding.code, true)? else {
+        let code = finding.code;
+        let position = next_position(entry, cursor, finding.start);
+        let Some(severity) = self.reporter.count(entry.number, position, code, true)? else {
             return Ok(());
         };
         let tokens = tokens_of(self.alloc, entry)?;
@@ -200,7 +211,7 @@ impl<'a> Findings<'a> {
             tokens: tokens.as_slice(),
             is_blank: begins_blank(entry),
             error,
-            code: finding.code,
+            code,
         };
         let found = explain(self.alloc, entry, refusal)?;
         if found.is_record {
@@ -212,29 +223,38 @@ impl<'a> Findings<'a> {
     }
 
     /// Reports a part of an entry's comment that is not as exceptions are written.
-    pub fn report_slip(&mut self, entry: &Entry<'_>, slip: Slip<'_>) -> Result<(), RunError> {
+    pub fn report_slip(
+        &mut self,
+        entry: &Entry<'_>,
+        cursor: &mut Cursor<'_>,
+        slip: Slip<'_>,
+    ) -> Result<(), RunError> {
         let (part, message) = match slip {
             Slip::Word(part) => (part, "exceptions begin with 'allow', and not with"),
             Slip::Code(part) => (part, "unknown code in an exception"),
         };
-        let spot = part_at(entry, part.at, part.octets.len());
-        let Some(severity) = self.reporter.count(spot, Code::Exception, false)? else {
+        let (number, code) = (entry.number, Code::Exception);
+        let position = next_position(entry, cursor, part.at);
+        let Some(severity) = self.reporter.count(number, position, code, false)? else {
             return Ok(());
         };
+        let spot = located(entry, part.at, position, part.octets.len());
         let text = Text::worded(self.alloc, message, Some(part.octets))?;
-        self.show_entry(entry, severity, spot, Code::Exception, &text)
+        self.show_entry(entry, severity, spot, code, &text)
     }
 
     /// Reports an exception that excepts no finding. `file` is the path of its file.
     pub fn report_unused(&mut self, file: &str, exception: Exception) -> Result<(), RunError> {
         let name = exception.code.name();
-        let number = exception.number;
-        let spot = code_spot(file, exception, None);
-        let Some(severity) = self.reporter.count(spot, Code::UnusedAllow, false)? else {
+        let (number, position) = (exception.number, exception.position);
+        let counted = self
+            .reporter
+            .count(number, position, Code::UnusedAllow, false)?;
+        let Some(severity) = counted else {
             return Ok(());
         };
         let line = if self.reads_line(number) {
-            self.lines.line(number, file, exception.position.line)?
+            self.lines.line(number, file, position.line)?
         } else {
             None
         };
@@ -299,8 +319,7 @@ impl<'a> Findings<'a> {
         let found = location_of(held, record);
         let (file, position) = place_of(found, at_target);
         self.select_exceptions(found);
-        let spot = line_spot(held.file(file), file, position, None);
-        self.reporter.count(spot, code, false)
+        self.reporter.count(file, position, code, false)
     }
 
     /// Returns the owner and the type of a record, by its index, as they are shown.

@@ -2,6 +2,7 @@
 //! program `zonetext`.
 #![tactic(auto)]
 
+pub mod cursor;
 pub mod exceptions;
 pub mod explain;
 pub mod generate_findings;

@@ -1,6 +1,7 @@
 //! The locations of findings in an entry.
 ghost use Rattle.std.specs.Prelude.{◌≤◌, length};
 
+use crate::cursor::{Cursor, position_from};
 use crate::reporter::FindingLocation;
 use dns_lexer::entry_tokens::{EntryPart, EntryToken, EntryTokens};
 use dns_lexer::pieces::{Fault, Wrong};
@@ -11,6 +12,7 @@ use std::alloc::{AllocError, Global};
 use zone_check::entry_tokens;
 use zone_check::rejection_findings::fault_finding;
 use zone_check::scan::OctetScan;
+use zone_format::place::LocatedOffset;
 use zone_reader::{ParsedEntry, type_word};
 use zonetext_files::generated::Generated;
 use zonetext_files::open_file::place_after;
@@ -216,6 +218,21 @@ pub fn position_at(entry: &Entry<'_>, at: usize) -> Position {
     place_after(entry.place(), &entry.held[..count]).position
 }
 
+/// Returns a cursor at the beginning of an entry.
+pub fn cursor_of<'e>(entry: &Entry<'e>) -> Cursor<'e> {
+    Cursor::new(entry.held)
+}
+
+/// Returns the position of an offset of an entry, which is counted from the entry's beginning, by a
+/// cursor of the entry. That of a generated entry is the position of its directive.
+pub fn next_position(entry: &Entry<'_>, cursor: &mut Cursor<'_>, at: usize) -> Position {
+    let start = entry.place().position;
+    if entry.generated.is_some() {
+        return start;
+    }
+    position_from(start, cursor.position(at))
+}
+
 /// Returns the offset where the line of an offset begins.
 fn line_start(octets: &[u8], at: usize) -> usize
     ensures { result ≤ length octets.now }
@@ -251,14 +268,24 @@ fn directive_spot<'e>(entry: &Entry<'e>, generated: Generated<'e>) -> FindingLoc
     }
 }
 
+/// Returns the octets of an entry from an offset on, up to `width` of them.
+fn octets_of<'e>(entry: &Entry<'e>, at: usize, width: usize) -> &'e [u8] {
+    let rest = entry.held.get(at..).unwrap_or(&[]);
+    rest.get(..width).unwrap_or(rest)
+}
+
 /// Returns the location of `width` octets from an offset of an entry on, which is counted from the
-/// entry's beginning.
-fn spot<'e>(entry: &Entry<'e>, at: usize, width: usize) -> FindingLocation<'e> {
+/// entry's beginning, and has a position.
+pub fn located<'e>(
+    entry: &Entry<'e>,
+    at: usize,
+    position: Position,
+    width: usize,
+) -> FindingLocation<'e> {
     if let Some(generated) = entry.generated {
         return directive_spot(entry, generated);
     }
-    let position = position_at(entry, at);
-    let end = position_at(entry, at.saturating_add(width));
+    let end = place_after(LocatedOffset { at, position }, octets_of(entry, at, width)).position;
     let next = position.column.saturating_add(1);
     FindingLocation {
         file: entry.file,
@@ -273,6 +300,12 @@ fn spot<'e>(entry: &Entry<'e>, at: usize, width: usize) -> FindingLocation<'e> {
         line: Some(line_at(entry.held, at)),
         generated: None,
     }
+}
+
+/// Returns the location of `width` octets from an offset of an entry on, which is counted from the
+/// entry's beginning.
+fn spot<'e>(entry: &Entry<'e>, at: usize, width: usize) -> FindingLocation<'e> {
+    located(entry, at, position_at(entry, at), width)
 }
 
 /// Returns the location of an entry's beginning.

@@ -231,19 +231,21 @@ impl<'a> Reporter<'a> {
         }
     }
 
-    /// Counts a finding, and returns its severity if it is to be shown. A finding that an exception
+    /// Counts a finding at a position of a file, which has a number, and returns the finding's severity
+    /// if it is to be shown. A finding that an exception
     /// in effect names is omitted. A finding that keeps a record from being read is an error, and is
     /// not omitted. Fails without memory; the finding is then not counted.
     pub fn count(
         &mut self,
-        spot: FindingLocation<'_>,
+        file: usize,
+        position: Position,
         code: Code,
         is_refused: bool,
     ) -> Result<Option<Severity>, AllocError> {
         let is_excepted = can_be_excepted(code, is_refused) && self.exceptions.excepts(code);
         let found = FoundFinding {
-            file: spot.number,
-            position: spot.position,
+            file,
+            position,
             code,
             is_refused,
             is_excepted,
@@ -332,7 +334,7 @@ impl<'a> Reporter<'a> {
         is_refused: bool,
         finding_text: FindingText<'_>,
     ) -> Result<(), RunError> {
-        match self.count(spot, code, is_refused)? {
+        match self.count(spot.number, spot.position, code, is_refused)? {
             Some(severity) => self.show(severity, spot, code, finding_text),
             None => Ok(()),
         }
