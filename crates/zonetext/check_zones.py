@@ -6,6 +6,8 @@ too. Words in parentheses at the end of a row's name are further options.
 
 usage: crates/zonetext/check_zones.py [--peers] [PROGRAM]
 
+Then it compares which findings are printed with --max, and in which order, with the rows of shown.tsv.
+
 With --peers it also runs named-checkzone, kzonecheck, nsd-checkzone and ldns-read-zone, if they are installed, and
 compares their results with their columns. The program has 128 KB of stack, unless SANITIZED is set: a sanitized program
 needs more.
@@ -61,6 +63,16 @@ def options_of(name):
     return name[:-1].partition(" (--")[2].join(["--", ""]).split() if name.endswith(")") and " (--" in name else []
 
 
+def shown_rows():
+    """Name, options, octets, the findings that are printed, and the number of the others, of each row of shown.tsv."""
+    with open(os.path.join(HERE, "shown.tsv"), encoding="utf-8") as table:
+        for line in table:
+            if not line.startswith("#"):
+                name, options, text, wanted, hidden = line.rstrip("\n").split("\t")
+                octets = (FRONT if text.startswith("+") else b"") + unquote_to_bytes(text.removeprefix("+"))
+                yield name, options.split(), octets, wanted, int(hidden)
+
+
 def limit_stack():
     if not os.environ.get("SANITIZED"):
         resource.setrlimit(resource.RLIMIT_STACK, (STACK, STACK))
@@ -79,6 +91,38 @@ def printed(program, path, options):
     words = [program, "check", "--zone", ORIGIN, *options, "--max", "0", path]
     run = subprocess.run(words, capture_output=True, text=True, check=False, preexec_fn=limit_stack)
     return "\n".join(line.removeprefix(path + ":") for line in run.stderr.splitlines()[:-1])
+
+
+def shown(program, path, options):
+    """Severity, line and code of the findings that are printed, in their order, and the number of the others: as lines,
+    and as JSON."""
+    both = []
+    for form in ([], ["--json"]):
+        words = [program, "check", *options, *form, path]
+        run = subprocess.run(words, capture_output=True, text=True, check=False, preexec_fn=limit_stack)
+        if form:
+            findings = [json.loads(line) for line in run.stdout.splitlines()]
+            findings = [(it["severity"], it["line"], it["code"]) for it in findings]
+        else:
+            findings = re.findall(r":(\d+):\d+: (error|warning): .* \[(\S+)\]$", run.stderr, re.MULTILINE)
+            findings = [(severity, line, code) for line, severity, code in findings]
+        hidden = re.search(r", (\d+) not shown$", run.stderr, re.MULTILINE)
+        both.append((", ".join(f"{severity} {line} {code}" for severity, line, code in findings), int(hidden[1]) if hidden else 0))
+    return both
+
+
+def check_shown(program, path):
+    """Compares which findings are printed. Returns the number of rows, and of those that differ."""
+    count = wrong = 0
+    for name, options, octets, wanted, hidden in shown_rows():
+        with open(path, "wb") as file:
+            file.write(octets)
+        count += 1
+        got = shown(program, path, options)
+        if got != [(wanted, hidden)] * 2:
+            wrong += 1
+            print(f"differs: {name}\n  wanted {wanted}, {hidden} others\n  found  {got}")
+    return count, wrong
 
 
 def is_wanted(wanted, status, findings):
@@ -230,8 +274,9 @@ def main(words):
                 if peer in peers and says(peer, path, octets) != column:
                     wrong += 1
                     print(f"differs: {name}: {peer} does not say {column}")
-        wrong += check_hidden(program, path) + check_times(program, path)
-        count += ROUNDS + 1
+        number, differing = check_shown(program, path)
+        wrong += differing + check_hidden(program, path) + check_times(program, path)
+        count += number + ROUNDS + 1
     for peer in PEERS if "--peers" in sys.argv else []:
         if peer not in peers:
             print(f"check_zones.py: no {peer} is installed")

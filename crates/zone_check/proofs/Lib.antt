@@ -1,12 +1,14 @@
 pub mod CollectedSteps
 pub mod DataSteps
 mod DotsAtEnd
+pub mod FindingLawSteps
 pub mod FindingSteps
 pub mod GenerateSteps
 pub mod NameSteps
 pub mod NoneSteps
 pub mod OctetSteps
 pub mod PlaceOrders
+pub mod PlacesAlone
 pub mod ScanLanes
 pub mod ShownFirsts
 pub mod ShownLaws

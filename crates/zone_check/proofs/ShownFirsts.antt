@@ -1,60 +1,67 @@
 -- Of findings that are collected, those that can be shown.
 use Rattle.std.proofs.Common.{◌≡◌, ℕ, ◌==◌, Bool, false, if◌then◌else◌, List, [], ◌++◌, take, is_lt, sym, ap, subst, ◌∙◌, append_assoc, append-nil}
-use Rattle.std.specs.Cmp.{IsStrictWeakOrder}
+use Rattle.std.specs.Cmp.{IsStrictWeakOrder, IsTotalOrder}
+use Rattle.std.specs.declared.cmp.Ordering.{Ordering}
 use Rattle.std.proofs.lemmas.List.Sorted.{ranks_by}
 use Rattle.zone_check.specs.declared.finding_order.KeptFinding.{KeptFinding}
 use Rattle.zone_check.specs.Collected.{ShowAlike}
-use Rattle.zone_check.specs.FindingOrder.{IsSortedByPlace, ShownFindings, place_order}
-use Rattle.zone_check.proofs.PlaceOrders.{places_total}
+use Rattle.zone_check.specs.FindingOrder.{IsStableSort, ShownFindings, position_order, weight_order}
+use Rattle.zone_check.proofs.PlaceOrders.{weights_total}
 use Rattle.zone_check.proofs.StableSorts.{Rising, filter_all, one_sort, permuted_all, placed_all, placed_append, rising_all, rising_if_sorted, rising_taken, sorted_if_rising, take_placed_all}
 
-abbrev before : KeptFinding → KeptFinding → Bool
-before a b = is_lt (place_order a b)
+module _ {X : Type 0} (order : X → X → Ordering) (total : IsTotalOrder order) where
+  abbrev before : X → X → Bool
+  before a b = is_lt (order a b)
 
-abbrev by_place : List KeptFinding → List KeptFinding
-by_place found = placed_all before [] found
+  abbrev pub sorted_by : List X → List X
+  sorted_by found = placed_all before [] found
 
-ordered : IsStrictWeakOrder before
-ordered = ranks_by places_total (λ r. r)
+  ordered : IsStrictWeakOrder before
+  ordered = ranks_by total (λ r. r)
 
-is_sorted : (found : List KeptFinding) → IsSortedByPlace found (by_place found)
-is_sorted found = record {
-  permutation = permuted_all before [] found;
-  stable = λ t. filter_all before ordered t [] found tt;
-  in_order = sorted_if_rising before (by_place found) (rising_all before ordered [] found tt);
-}
+  pub is_sort : (found : List X) → IsStableSort order found (sorted_by found)
+  is_sort found = record {
+    permutation = permuted_all before [] found;
+    stable = λ t. filter_all before ordered t [] found tt;
+    in_order = sorted_if_rising before (sorted_by found) (rising_all before ordered [] found tt);
+  }
 
-one_order : (found sorted : List KeptFinding) → IsSortedByPlace found sorted → sorted ≡ by_place found
-one_order found sorted h =
-    one_sort before ordered sorted (by_place found) (rising_if_sorted before ordered sorted h.in_order) (rising_all before ordered [] found tt)
-    (λ t. h.stable t ∙ sym (filter_all before ordered t [] found tt))
+  pub one_order : (found sorted : List X) → IsStableSort order found sorted → sorted ≡ sorted_by found
+  one_order found sorted h =
+      one_sort before ordered sorted (sorted_by found) (rising_if_sorted before ordered sorted h.in_order) (rising_all before ordered [] found tt)
+      (λ t. h.stable t ∙ sym (filter_all before ordered t [] found tt))
 
--- sorting what is sorted changes nothing
-sorted_again : (l : List KeptFinding) → Rising before l → by_place l ≡ l
-sorted_again l h = one_sort before ordered (by_place l) l (rising_all before ordered [] l tt) h (λ t. filter_all before ordered t [] l tt)
+  -- sorting what is sorted changes nothing
+  sorted_again : (l : List X) → Rising before l → sorted_by l ≡ l
+  sorted_again l h = one_sort before ordered (sorted_by l) l (rising_all before ordered [] l tt) h (λ t. filter_all before ordered t [] l tt)
 
-taken_rising : (n : ℕ) (found : List KeptFinding) → Rising before (take n (by_place found))
-taken_rising n found = rising_taken before n (by_place found) (rising_all before ordered [] found tt)
+  taken_rising : (n : ℕ) (found : List X) → Rising before (take n (sorted_by found))
+  taken_rising n found = rising_taken before n (sorted_by found) (rising_all before ordered [] found tt)
 
--- the first of the first and of others are the first of all
-firsts : (n : ℕ) (kept more : List KeptFinding) → take n (by_place (take n (by_place kept) ++ more)) ≡ take n (by_place (kept ++ more))
-firsts n kept more =
-    let first : List KeptFinding = take n (by_place kept) in
-    ap (take n) (placed_append before [] first more)
-    ∙ ap (λ l. take n (placed_all before l more)) (sorted_again first (taken_rising n kept))
-    ∙ sym (take_placed_all before n (by_place kept) more)
-    ∙ sym (ap (take n) (placed_append before [] kept more))
+  -- the first of the first and of others are the first of all
+  pub firsts : (n : ℕ) (kept more : List X) → take n (sorted_by (take n (sorted_by kept) ++ more)) ≡ take n (sorted_by (kept ++ more))
+  firsts n kept more =
+      let first : List X = take n (sorted_by kept) in
+      ap (take n) (placed_append before [] first more)
+      ∙ ap (λ l. take n (placed_all before l more)) (sorted_again first (taken_rising n kept))
+      ∙ sym (take_placed_all before n (sorted_by kept) more)
+      ∙ sym (ap (take n) (placed_append before [] kept more))
 
-pub pruned : (most : ℕ) (kept sorted : List KeptFinding) → (most == 0) ≡ false → IsSortedByPlace kept sorted → ShowAlike most kept (take most sorted)
-pruned most kept sorted some h more shown s =
+abbrev by_weight : List KeptFinding → List KeptFinding
+by_weight found = sorted_by weight_order weights_total found
+
+-- what is beyond the first by weight is not shown, whatever is found after it
+pub pruned : (most : ℕ) (kept ranked : List KeptFinding) → (most == 0) ≡ false → IsStableSort weight_order kept ranked → ShowAlike most kept (take most ranked)
+pruned most kept ranked some h more shown s =
     let first = λ (l : List KeptFinding). ap (λ b. if b then l else take most l) some in (
-      by_place (kept ++ more),
-      is_sorted (kept ++ more),
-      s.2 ∙ first s.0
-          ∙ ap (take most) (one_order (take most sorted ++ more) s.0 s.1)
-          ∙ ap (λ l. take most (by_place (take most l ++ more))) (one_order kept sorted h)
-          ∙ firsts most kept more
-          ∙ sym (first (by_place (kept ++ more))),
+      by_weight (kept ++ more),
+      is_sort weight_order weights_total (kept ++ more),
+      subst (λ l. IsStableSort position_order l shown)
+          (first s.0
+          ∙ ap (take most) (one_order weight_order weights_total (take most ranked ++ more) s.0 s.1)
+          ∙ ap (λ l. take most (by_weight (take most l ++ more))) (one_order weight_order weights_total kept ranked h)
+          ∙ firsts weight_order weights_total most kept more
+          ∙ sym (first (by_weight (kept ++ more)))) s.2,
     )
 
 pub alike_through : (most : ℕ) (found kept less : List KeptFinding) → ShowAlike most found kept → ShowAlike most kept less → ShowAlike most found less

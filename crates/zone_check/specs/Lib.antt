@@ -4,6 +4,7 @@ pub mod Data
 pub mod DirectiveFindings
 pub mod EntryFindings
 pub mod EntryWords
+pub mod FindingLaws
 pub mod FindingOrder
 pub mod FindingSpans
 pub mod GenerateFindings

@@ -1,6 +1,7 @@
 -- Worked examples: findings about entries.
 use Rattle.std.specs.Prelude.{◌≡◌, ℕ, true, false, List, [], ◌∷◌, ◌++◌, codes, Some, None, refl}
 use Rattle.std.specs.Fmt.{digits}
+use Rattle.std.specs.declared.cmp.Ordering.TheVariants.{Less}
 use Rattle.dns_lexer.specs.EntryTokens.{TokenSeen}
 use Rattle.rdata.specs.Types.{type_shapes}
 use Rattle.rdata_values.specs.Rtype as Rtype
@@ -23,7 +24,7 @@ use Rattle.zone_check.specs.declared.shown.Decision.TheVariants.{Shown, Counted,
 use Rattle.zone_check.specs.Collected.{counted_after, kept_finding, kept_if, number_after}
 use Rattle.zone_check.specs.Data.{has_ohttp_value}
 use Rattle.zone_check.specs.EntryFindings.{is_directive, is_news, is_of_parameters, is_scanned, long_finding, rejection_with, reports_crlf}
-use Rattle.zone_check.specs.FindingOrder.{first_findings}
+use Rattle.zone_check.specs.FindingOrder.{first_findings, position_order, weight_order}
 use Rattle.zone_check.specs.FindingSpans.{finding_at, finding_of_entry}
 use Rattle.zone_check.specs.GenerateFindings.{dot_finding, dot_part, is_dot_part, of_name_field}
 use Rattle.zone_check.specs.NameFindings.{name_findings, record_names}
@@ -213,6 +214,17 @@ found_at line = record { file = 0; position = record { line = line; column = 1 }
 
 two_counted : counted_after 0 (found_at 7 ∷ found_at 2 ∷ found_at 5 ∷ []) (Some Warning ∷ None ∷ Some Error ∷ []) ≡ kept_finding 0 (found_at 7) Warning ∷ kept_finding 1 (found_at 5) Error ∷ []
 two_counted = refl
+
+-- an error comes before a warning by weight, wherever it is, and after it by position
+error_outweighs : weight_order (kept_finding 1 (found_at 9) Error) (kept_finding 0 (found_at 2) Warning) ≡ Less
+error_outweighs = refl
+
+warning_is_before : position_order (kept_finding 0 (found_at 2) Warning) (kept_finding 1 (found_at 9) Error) ≡ Less
+warning_is_before = refl
+
+-- at one place the one that was found first comes first
+first_is_before : position_order (kept_finding 0 (found_at 2) Warning) (kept_finding 1 (found_at 2) Error) ≡ Less
+first_is_before = refl
 
 two_are_counted : number_after 0 (Some Warning ∷ None ∷ Some Error ∷ []) ≡ 2
 two_are_counted = refl

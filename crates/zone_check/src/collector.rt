@@ -3,7 +3,7 @@ ghost use Rattle.std.specs.Prelude.{◌≡◌, ◌++◌, ◌∷◌, ◌*◌, ◌
 ghost use Rattle.zone_check.specs.Collected.{HasCollected, IsFew, IsKeptFinding, SendsShownOf, ShowAlike, kept_finding, kept_if, number_after};
 ghost use Rattle.zone_check.specs.declared.collector.FoundFinding.{FoundFinding};
 
-use crate::finding_order::{KeptFinding, sort_by_place};
+use crate::finding_order::{KeptFinding, sort_by_weight};
 use crate::shown::{decide, severity_of};
 use crate::sink::{FindingSink, send_shown};
 use dns_lexer::position::Position;
@@ -75,7 +75,7 @@ fn drop_hidden(kept: &mut Vec<KeptFinding>, most: usize) -> Result<(), AllocErro
     if kept.len() / 2 < most {
         return Ok(());
     }
-    sort_by_place(kept)?;
+    sort_by_weight(kept)?;
     kept.truncate(most);
     Ok(())
 }

@@ -1,7 +1,8 @@
 //! Sorts findings that are kept until all are known.
 ghost use Rattle.std.specs.Prelude.{◌≡◌, OnErr, OnOk};
 ghost use Rattle.std.specs.List.Sorted.{IsPermutation, IsSorted, IsStable};
-ghost use Rattle.zone_check.specs.FindingOrder.{place_order};
+ghost use Rattle.std.specs.Ordering.{is_lt};
+ghost use Rattle.zone_check.specs.FindingOrder.{place_order, position_order, severity_rank, weight_order};
 
 use dns_lexer::position::Position;
 use std::alloc::{AllocError, Allocator};
@@ -21,6 +22,16 @@ pub struct KeptFinding {
     pub severity: Severity,
 }
 
+/// Returns the rank of a severity: errors come first.
+fn severity_rank(severity: Severity) -> usize
+    ensures { result ≡ severity_rank severity }
+{
+    match severity {
+        Severity::Error => 0,
+        Severity::Warning => 1,
+    }
+}
+
 /// Compares the places of two findings: by file as read, then by line, and then by column.
 fn compare_places(left: &KeptFinding, right: &KeptFinding) -> Ordering
     ensures { result ≡ place_order left.now right.now }
@@ -31,13 +42,48 @@ fn compare_places(left: &KeptFinding, right: &KeptFinding) -> Ordering
         .then(left.position.column.cmp(&right.position.column))
 }
 
-/// Sorts findings by their places: by file as read, then by line, and then by column. Findings at
-/// one place stay in the order in which they were. Fails without memory; the findings are then unchanged.
-pub fn sort_by_place<A: Allocator>(findings: &mut Vec<KeptFinding, A>) -> Result<(), AllocError>
+/// Compares two findings by their places, and those at one place by which was found first.
+fn compare_positions(left: &KeptFinding, right: &KeptFinding) -> Ordering
+    ensures { result ≡ position_order left.now right.now }
+{
+    compare_places(left, right).then(left.index.cmp(&right.index))
+}
+
+/// Compares two findings by severity, errors first, and those of one severity by their positions.
+fn compare_weights(left: &KeptFinding, right: &KeptFinding) -> Ordering
+    ensures { result ≡ weight_order left.now right.now }
+{
+    severity_rank(left.severity)
+        .cmp(&severity_rank(right.severity))
+        .then(compare_positions(left, right))
+}
+
+/// Returns whether a finding comes before another by weight.
+pub fn outweighs(left: &KeptFinding, right: &KeptFinding) -> bool
+    ensures { result ≡ is_lt (weight_order left.now right.now) }
+{
+    compare_weights(left, right).is_lt()
+}
+
+/// Sorts findings by severity, errors first, and those of one severity by their places. Fails
+/// without memory; the findings are then unchanged.
+pub fn sort_by_weight<A: Allocator>(findings: &mut Vec<KeptFinding, A>) -> Result<(), AllocError>
     ensures permutation { IsPermutation findings.old.items findings.new.items }
-    ensures stable { IsStable place_order findings.old.items findings.new.items }
-    ensures sorted { OnOk result (IsSorted place_order findings.new.items) }
+    ensures stable { IsStable weight_order findings.old.items findings.new.items }
+    ensures sorted { OnOk result (IsSorted weight_order findings.new.items) }
     ensures unchanged { OnErr result (findings.new.items ≡ findings.old.items) }
 {
-    findings.sort_by(|left, right| compare_places(left, right))
+    findings.sort_by(|left, right| compare_weights(left, right))
+}
+
+/// Sorts findings by their places: by file as read, then by line, and then by column. Findings at
+/// one place are in the order in which they were found. Fails without memory; the findings are then
+/// unchanged.
+pub fn sort_by_position<A: Allocator>(findings: &mut Vec<KeptFinding, A>) -> Result<(), AllocError>
+    ensures permutation { IsPermutation findings.old.items findings.new.items }
+    ensures stable { IsStable position_order findings.old.items findings.new.items }
+    ensures sorted { OnOk result (IsSorted position_order findings.new.items) }
+    ensures unchanged { OnErr result (findings.new.items ≡ findings.old.items) }
+{
+    findings.sort_by(|left, right| compare_positions(left, right))
 }

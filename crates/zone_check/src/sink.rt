@@ -2,7 +2,7 @@
 ghost use Rattle.std.specs.Prelude.{◌≡◌, ◌++◌, ◌∷◌, [], List, OnOk};
 ghost use Rattle.zone_check.specs.FindingOrder.{SendsShown, first_findings};
 
-use crate::finding_order::{KeptFinding, sort_by_place};
+use crate::finding_order::{KeptFinding, sort_by_position, sort_by_weight};
 use std::alloc::{AllocError, Global};
 
 /// A receiver of the findings that are shown.
@@ -29,16 +29,12 @@ impl FindingSink for Vec<KeptFinding, Global> {
     }
 }
 
-/// Returns the first of some findings, up to a number, or all if that is 0.
-fn first_findings(findings: &[KeptFinding], most: usize) -> &[KeptFinding]
-    ensures { result.now ≡ first_findings most findings.now }
+/// Keeps the first of some findings, up to a number, or all if that is 0.
+fn keep_first(findings: &mut Vec<KeptFinding>, most: usize)
+    ensures { findings.new.items ≡ first_findings most findings.old.items }
 {
-    if most == 0 {
-        return findings;
-    }
-    match findings.get(..most) {
-        Some(first) => first,
-        None => findings,
+    if most > 0 {
+        findings.truncate(most);
     }
 }
 
@@ -52,8 +48,8 @@ fn send_each<S: FindingSink>(findings: &[KeptFinding], sink: &mut S) -> Result<(
     Ok(())
 }
 
-/// Sorts findings by their places, and sends the first of them to a sink, up to a number, or all if
-/// that is 0. Fails without memory.
+/// Chooses the first findings by weight, up to a number, or all if that is 0, and sends them to a sink
+/// in the order of their places. Fails without memory.
 pub fn send_shown<S: FindingSink>(
     findings: &mut Vec<KeptFinding>,
     most: usize,
@@ -62,6 +58,8 @@ pub fn send_shown<S: FindingSink>(
     ensures { OnOk result (SendsShown most findings.old.items (S.received sink.old)
         (S.received sink.new)) }
 {
-    sort_by_place(findings)?;
-    send_each(first_findings(findings.as_slice(), most), sink)
+    sort_by_weight(findings)?;
+    keep_first(findings, most);
+    sort_by_position(findings)?;
+    send_each(findings.as_slice(), sink)
 }

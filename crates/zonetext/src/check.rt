@@ -340,7 +340,11 @@ fn check_with(
         Some(origin) => state.with_origin(origin),
         None => state,
     };
-    let reporter = Reporter::new(rt, policy, options.form, options.most);
+    let mut reporter = Reporter::new(rt, policy, options.form, options.most);
+    if options.most > 0 {
+        // (errors are shown before warnings)
+        reporter.wait();
+    }
     let mut checker = Checker::new(rt, reporter, limits, zone);
     checker.findings.reporter.before.has_finding = totals.has_finding;
     if let Some(size) = size_of(rt, file) {

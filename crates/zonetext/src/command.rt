@@ -177,7 +177,7 @@ const FORMS: [ArgRow; 6] = [
     ArgRow {
         name: "max",
         value_name: &["N"],
-        help: "print at most N findings, 0 for all (default 20, with --format all)",
+        help: "print at most N findings, errors first, 0 for all (default 20, with --format all)",
         ..VALUED
     },
     ArgRow {

@@ -133,8 +133,9 @@ impl<'a> Reporter<'a> {
         }
     }
 
-    /// Lets findings wait until [`Reporter::flush`], which sorts them. Findings of several records
-    /// come after those of entries, and are before them in the file.
+    /// Lets findings wait until [`Reporter::flush`], which chooses those that are shown, errors first,
+    /// and sorts them. Findings of several records come after those of entries, and are before them in
+    /// the file.
     pub fn wait(&mut self) {
         let most = self.tally.most;
         self.collector = Some(FindingCollector::new(self.rt.alloc(), self.policy, most));

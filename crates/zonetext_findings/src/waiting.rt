@@ -1,7 +1,7 @@
 //! The texts of findings that are written once all are known.
 use dns_lexer::position::Position;
 use std::alloc::{AllocError, Global};
-use zone_check::finding_order::KeptFinding;
+use zone_check::finding_order::{KeptFinding, outweighs};
 use zone_check::sink::send_shown;
 use zonetext_report::code::Code;
 use zonetext_report::finding::Finding;
@@ -32,21 +32,24 @@ struct Row {
 #[derive(Drop)]
 pub struct Waiting {
     alloc: Global,
-    /// Greatest number of findings that are shown, which are the first ones, or 0 for all.
+    /// Greatest number of findings that are shown, which are the first ones by weight, or 0 for all.
     most: usize,
     octets: Vec<u8>,
     rows: Vec<Row>,
-    /// The last of the findings that are shown, if more were dropped.
+    /// The last by weight of the findings that are shown, if more were dropped.
     last: Option<Row>,
 }
 
-/// Returns whether a finding is before another, by file, line and column.
-fn is_before(left: &KeptFinding, right: &KeptFinding) -> bool {
-    left.file
-        .cmp(&right.file)
-        .then(left.position.line.cmp(&right.position.line))
-        .then(left.position.column.cmp(&right.position.column))
-        .is_lt()
+/// Returns the last of some findings by weight.
+fn last_of(rows: &[Row]) -> Option<Row> {
+    let mut last: Option<Row> = None;
+    for row in rows {
+        last = match last {
+            Some(other) if outweighs(&row.kept, &other.kept) => Some(other),
+            _ => Some(*row),
+        };
+    }
+    last
 }
 
 /// Returns the octets between two offsets.
@@ -74,7 +77,7 @@ impl Waiting {
     /// Returns whether a finding may be among the first ones.
     pub fn accepts(&self, kept: &KeptFinding) -> bool {
         match &self.last {
-            Some(last) => is_before(kept, &last.kept),
+            Some(last) => outweighs(kept, &last.kept),
             None => true,
         }
     }
@@ -166,7 +169,7 @@ impl Waiting {
         }
         self.octets = octets;
         self.rows = rows;
-        self.last = self.rows.last().copied();
+        self.last = last_of(self.rows.as_slice());
         Ok(())
     }
 
