@@ -3,7 +3,7 @@
 
 usage: crates/finding_texts/list_codes.py [--check PAGE] [PROGRAM]
 
-Names and severities come from `Code` of `zonetext_report`, texts from the table of `finding_texts`. With --check
+Names and severities come from the table of `finding_codes`, texts from that of `finding_texts`. With --check
 PAGE must be exactly this page. With PROGRAM, `zonetext codes` must list the same codes, and `zonetext check` must
 find the code of each example that can be tried alone.
 """
@@ -56,10 +56,8 @@ def unquoted(literal):
 
 def codes():
     """Name and whether a finding is a warning, by variant, in their order."""
-    text = read("zonetext_report/src/code.rt")
-    names = dict(re.findall(r'Code::(\w+) => "([a-z0-9-]+)"', text))
-    warnings = set(re.findall(r"Code::(\w+)", text.partition("pub fn default_severity")[2].partition("_ => ")[0]))
-    return {variant: (name, variant in warnings) for variant, name in names.items()}
+    rows = re.findall(r'\brow!\(\s*(\w+) => "([a-z0-9-]+)",\s*(Error|Warning),', read("finding_codes/src/table.rt"))
+    return {variant: (name, severity == "Warning") for variant, name, severity in rows}
 
 
 def entries():

@@ -4,7 +4,7 @@ use Rattle.std.specs.Prelude.{Result, OnOk, Some, codes}
 use Rattle.std.specs.Fmt.{decimal}
 use Rattle.dns_lexer.specs.declared.position.Position.{Position}
 use Rattle.zonetext_report.specs.declared.finding.Finding.{Finding}
-use Rattle.zonetext_report.specs.Code.{code_name, severity_name}
+use Rattle.finding_codes.specs.Code.{code_name, severity_name}
 use Rattle.zonetext_report.specs.Json.{json_finding, json_opened, json_position, json_text}
 use Rattle.zonetext_report.proofs.Appending.{append_last, append_more}
 

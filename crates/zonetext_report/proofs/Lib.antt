@@ -1,5 +1,4 @@
 pub mod Appending
-pub mod Codes
 pub mod Excerpts
 pub mod Findings
 pub mod Jsons
@@ -7,4 +6,3 @@ pub mod Linting
 pub mod OneLine
 pub mod Plain
 pub mod Showing
-pub mod Tallies

@@ -8,13 +8,14 @@ use Rattle.std.proofs.lemmas.List.Concat.{flat_map-cons}
 use Rattle.std.proofs.lemmas.List.Folds.{list_all-append}
 use Rattle.std.proofs.Common.{inl, inr}
 use Rattle.dns_lexer.specs.declared.position.Position.{Position}
-use Rattle.zonetext_report.specs.declared.code.Code.{Code}
-use Rattle.zonetext_report.specs.declared.code.Code.TheVariants.{OpenQuote}
-use Rattle.zonetext_report.specs.declared.code.Severity.{Severity}
-use Rattle.zonetext_report.specs.declared.code.Severity.TheVariants.{Error, Warning}
+use Rattle.finding_codes.specs.declared.code.Code.{Code}
+use Rattle.finding_codes.specs.declared.code.Code.TheVariants.{OpenQuote}
+use Rattle.finding_codes.specs.declared.code.Severity.{Severity}
+use Rattle.finding_codes.specs.declared.code.Severity.TheVariants.{Error, Warning}
 use Rattle.zonetext_report.specs.declared.finding.Finding.{Finding}
 use Rattle.zonetext_report.specs.declared.json.Charset.TheVariants.{Utf8}
-use Rattle.zonetext_report.specs.Code.{code_name, severity_name}
+use Rattle.finding_codes.specs.Code.{code_name, severity_name}
+use Rattle.finding_codes.specs.Table.{finding_rows}
 use Rattle.zonetext_report.specs.Finding.{FindingsAreLines, IsOneLine, IsUpToOneLine, bold, bracketed_code, finding_line, further_line, opened_text, place_text, position_text, severity_style, severity_text, style_if, subject_part, subject_text, unstyled}
 use Rattle.zonetext_report.specs.Json.{hex_digit, json_finding, json_octet, json_opened, json_position, json_text, is_written_plain}
 use Rattle.zone_format.specs.Place.{begins_character}
@@ -136,6 +137,7 @@ weight_none b s =
     both ((((codes " " ++ style_if b (severity_style s)) ++ severity_name s) ++ codes ":") ++ style_if b unstyled) (codes " ") plain refl
 
 code_none : (c : Code) → HasNone (code_name c)
+unfolding finding_rows
 code_none OpenQuote = refl
 code_none _ = refl
 

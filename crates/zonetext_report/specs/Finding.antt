@@ -4,11 +4,11 @@ use Rattle.std.specs.List.{list_all}
 use Rattle.std.specs.Fmt.{decimal}
 use Rattle.dns_symbol.specs.Characters.{line_feed}
 use Rattle.dns_lexer.specs.declared.position.Position.{Position}
-use Rattle.zonetext_report.specs.declared.code.Severity.{Severity}
-use Rattle.zonetext_report.specs.declared.code.Severity.TheVariants.{Error, Warning}
+use Rattle.finding_codes.specs.declared.code.Severity.{Severity}
+use Rattle.finding_codes.specs.declared.code.Severity.TheVariants.{Error, Warning}
 use Rattle.zonetext_report.specs.declared.finding.Finding.{Finding}
-use Rattle.zonetext_report.specs.declared.code.Code.{Code}
-use Rattle.zonetext_report.specs.Code.{code_name, severity_name}
+use Rattle.finding_codes.specs.declared.code.Code.{Code}
+use Rattle.finding_codes.specs.Code.{code_name, severity_name}
 use Rattle.zonetext_report.specs.Shown.{shown_text}
 
 -- the escape sequences that begin a style of a terminal: bold, red, magenta, green; and the one that ends each

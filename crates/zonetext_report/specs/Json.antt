@@ -8,7 +8,7 @@ use Rattle.dns_lexer.specs.declared.position.Position.{Position}
 use Rattle.zonetext_report.specs.declared.finding.Finding.{Finding}
 use Rattle.zonetext_report.specs.declared.json.Charset.{Charset}
 use Rattle.zonetext_report.specs.declared.json.Charset.TheVariants.{Octets, Utf8}
-use Rattle.zonetext_report.specs.Code.{code_name, severity_name}
+use Rattle.finding_codes.specs.Code.{code_name, severity_name}
 use Rattle.zonetext_report.specs.Finding.{IsOneLine}
 
 -- a digit of base 16

@@ -1,8 +1,6 @@
-pub mod Code
 pub mod Excerpt
 pub mod Finding
 pub mod Json
 pub mod Lint
 pub mod Rows
 pub mod Shown
-pub mod Tally

@@ -6,8 +6,8 @@ use Rattle.dns_lexer.specs.Pieces.{AreItemsOf, between, piece_start}
 use Rattle.dns_lexer.specs.declared.pieces.Piece.{Piece}
 use Rattle.dns_lexer.specs.declared.pieces.Piece.TheVariants.{Word as WordAt, Quote as QuoteAt, Comment as CommentAt, End as EndAt}
 use Rattle.dns_lexer.specs.declared.pieces.Fault.{Fault}
-use Rattle.zonetext_report.specs.declared.code.Code.{Code}
-use Rattle.zonetext_report.specs.declared.code.Code.TheVariants.{Nul, HighOctet, ControlOctet, ControlZ, NestedParentheses, LeadingParenthesis, AdjacentTokens, Crlf, NoFinalNewline}
+use Rattle.finding_codes.specs.declared.code.Code.{Code}
+use Rattle.finding_codes.specs.declared.code.Code.TheVariants.{Nul, HighOctet, ControlOctet, ControlZ, NestedParentheses, LeadingParenthesis, AdjacentTokens, Crlf, NoFinalNewline}
 use Rattle.zonetext_report.specs.declared.lint.Block.{Block}
 use Rattle.zonetext_report.specs.declared.lint.LintState.{LintState}
 use Rattle.zonetext_report.specs.declared.lint.Remark.{Remark}

@@ -8,9 +8,8 @@ use Rattle.zonetext_report.specs.Json.{json_opened, json_position, json_text}
 use Rattle.zonetext_report.specs.Lint.{entry_remarks, first_reached, remark, unended}
 use Rattle.zone_format.specs.Columns.{width_of}
 use Rattle.zonetext_report.specs.Shown.{has_c1, shown_text}
-use Rattle.zonetext_report.specs.Tally.{shows, summary}
-use Rattle.zonetext_report.specs.declared.code.Code.TheVariants.{AdjacentTokens, ControlOctet, ControlZ, HighOctet, LeadingParenthesis, NestedParentheses, NoFinalNewline, Nul}
-use Rattle.zonetext_report.specs.declared.code.Severity.TheVariants.{Error, Warning}
+use Rattle.finding_codes.specs.declared.code.Code.TheVariants.{AdjacentTokens, ControlOctet, ControlZ, HighOctet, LeadingParenthesis, NestedParentheses, NoFinalNewline, Nul}
+use Rattle.finding_codes.specs.declared.code.Severity.TheVariants.{Error, Warning}
 
 place : place_text false (codes "zone.db") (record { line = 7; column = 22 }) ++ severity_text false Error ≡ codes "zone.db:7:22: error: "
 unfolding digits
@@ -69,23 +68,6 @@ end_of_a_long_line = refl
 
 whole_line : first_shown (replicate 200 97) 180 ≡ 0
 whole_line = refl
-
-counts : summary 2 3 1 ≡ codes "3 errors, 1 warning, 2 not shown\n"
-unfolding digits
-counts = refl
-
-one_of_each : summary 20 1 1 ≡ codes "1 error, 1 warning\n"
-unfolding digits
-one_of_each = refl
-
-nothing_found : summary 20 0 0 ≡ []
-nothing_found = refl
-
-second_of_two : shows 2 (Error ∷ []) ≡ true
-second_of_two = refl
-
-third_of_two : shows 2 (Error ∷ Warning ∷ []) ≡ false
-third_of_two = refl
 
 tokens : entry_remarks (codes "a \"b" ++ 0 ∷ 1 ∷ 252 ∷ codes "\"\n" ++ 26 ∷ []) first_reached (Ok (word_at 0 1) ∷ Ok (quote_at 2 8) ∷ Ok (end_at 9 false) ∷ []) ≡ remark 4 Nul ∷ remark 6 HighOctet ∷ remark 5 ControlOctet ∷ remark 9 ControlZ ∷ []
 tokens = refl

@@ -2,10 +2,10 @@
 ghost use Rattle.std.specs.Prelude.{◌≡◌, ◌++◌, OnOk};
 ghost use Rattle.zonetext_report.specs.Finding.{bracketed_code, finding_line, finding_lines, further_line, opened_text, place_text, position_text, severity_style, severity_text, style_if, subject_part, subject_text};
 
-use crate::code::{Code, Severity};
-use crate::push::push_number;
 use crate::shown::push_shown;
 use dns_lexer::position::Position;
+use finding_codes::code::{Code, Severity};
+use finding_codes::push::push_number;
 use std::alloc::{AllocError, Allocator};
 
 /// A finding in a file, with its position. Lines and columns are counted from 1; columns count the
@@ -77,15 +77,13 @@ fn push_place<A: Allocator>(
     push_style(out, is_coloured, b"\x1b[0m")
 }
 
-impl Severity {
-    /// Returns the style of a severity.
-    fn style(self) -> &'static [u8]
-        ensures { result.now ≡ severity_style self }
-    {
-        match self {
-            Severity::Error => b"\x1b[1;31m",
-            Severity::Warning => b"\x1b[1;35m",
-        }
+/// Returns the style of a severity.
+fn style_of(severity: Severity) -> &'static [u8]
+    ensures { result.now ≡ severity_style severity }
+{
+    match severity {
+        Severity::Error => b"\x1b[1;31m",
+        Severity::Warning => b"\x1b[1;35m",
     }
 }
 
@@ -98,7 +96,7 @@ fn push_severity<A: Allocator>(
     ensures { OnOk result (out.new.items ≡ out.old.items ++ severity_text is_coloured severity) }
 {
     out.extend_from_slice(b" ")?;
-    push_style(out, is_coloured, severity.style())?;
+    push_style(out, is_coloured, style_of(severity))?;
     out.extend_from_slice(severity.name().as_bytes())?;
     out.extend_from_slice(b":")?;
     push_style(out, is_coloured, b"\x1b[0m")?;

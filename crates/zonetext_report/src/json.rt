@@ -5,8 +5,8 @@ ghost use Rattle.dns_lexer.specs.Pieces.{between};
 ghost use Rattle.zonetext_report.specs.Json.{hex_digit, json_octet, json_opened, json_position, json_finding, is_written_plain};
 
 use crate::finding::Finding;
-use crate::push::{push_number, push_text};
 use dns_lexer::position::Position;
+use finding_codes::push::{push_number, push_text};
 use std::alloc::{AllocError, Allocator};
 
 /// The encoding of a string that is written as JSON.

@@ -9,8 +9,8 @@ ghost use Rattle.zonetext_report.specs.Lint.{is_token_piece, is_unusual_control,
 ghost use Rattle.zonetext_report.specs.Lint.{piece_remarks, remarks_at, token_remarks};
 ghost use Rattle.zonetext_report.specs.Lint.{Shows, ShowsBlock, ShowsPieces, unended};
 
-use crate::code::Code;
 use dns_lexer::pieces::{Piece, Pieces};
+use finding_codes::code::Code;
 use std::alloc::{AllocError, Allocator};
 
 /// A finding at an offset of octets.

@@ -4,9 +4,9 @@ use Rattle.std.specs.Prelude.{◌||◌, nat_lt, min}
 use Rattle.std.specs.List.{count_by}
 use Rattle.std.proofs.lemmas.Bool.{cases_lt, lt-ltb, le-ltb}
 use Rattle.std.proofs.lemmas.List.Sums.{sum_by-cons}
-use Rattle.zonetext_report.specs.declared.code.Severity.{Severity}
-use Rattle.zonetext_report.specs.declared.code.Severity.TheVariants.{Error, Warning}
-use Rattle.zonetext_report.specs.Tally.{is_error, is_warning, shows}
+use Rattle.finding_codes.specs.declared.code.Severity.{Severity}
+use Rattle.finding_codes.specs.declared.code.Severity.TheVariants.{Error, Warning}
+use Rattle.finding_codes.specs.Tally.{is_error, is_warning, shows}
 
 all_counted : (found : List Severity) → count_by is_error found + count_by is_warning found ≡ length found
 all_counted [] = refl

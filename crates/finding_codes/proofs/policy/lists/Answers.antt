@@ -4,9 +4,9 @@ use Rattle.std.specs.Bool.{Decides}
 use Rattle.std.proofs.lemmas.Bool.{both_ways}
 use Rattle.std.proofs.lemmas.List.Elements.{contains_decides, Decides-contains}
 use denote.Enum.Bare.{sameb, same_true, true_same}
-use Rattle.zonetext_report.specs.declared.code.Code.{Code}
-use Rattle.zonetext_report.specs.contracts.code.Code.{the_type}
-use Rattle.zonetext_report.proofs.policy.lists.Goals as goal
+use Rattle.finding_codes.specs.declared.code.Code.{Code}
+use Rattle.finding_codes.specs.contracts.code.Code.{the_type}
+use Rattle.finding_codes.proofs.policy.lists.Goals as goal
 
 same_codes : (a b : Code) → Decides (sameb the_type a b) (a ≡ b)
 same_codes a b = (same_true the_type tt a b, true_same the_type a b)

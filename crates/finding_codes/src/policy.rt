@@ -1,7 +1,7 @@
 //! Decides the severity of findings.
 ghost use Rattle.std.specs.Prelude.{◌≡◌, ◌⊎◌, Contains, None, Some, true, false};
-ghost use Rattle.zonetext_report.specs.Code.{default_severity, is_text_fault};
-ghost use Rattle.zonetext_report.specs.declared.code.Severity.TheVariants.{Error};
+ghost use Rattle.finding_codes.specs.Code.{default_severity, is_text_fault};
+ghost use Rattle.finding_codes.specs.declared.code.Severity.TheVariants.{Error};
 
 use crate::code::{Code, Severity};
 

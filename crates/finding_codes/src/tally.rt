@@ -1,7 +1,7 @@
 //! Counts findings, and decides which of them are shown.
 ghost use Rattle.std.specs.Prelude.{◌≡◌, ◌<◌, ◌^◌, ◌++◌, ◌∷◌, [], ◌==◌, List, OnOk, if◌then◌else◌};
-ghost use Rattle.zonetext_report.specs.Tally.{IsTally, counted_text, has_room, hidden, hidden_text, shows, summary};
-ghost use Rattle.zonetext_report.specs.declared.code.Severity.{Severity};
+ghost use Rattle.finding_codes.specs.Tally.{IsTally, counted_text, has_room, hidden, hidden_text, shows, summary};
+ghost use Rattle.finding_codes.specs.declared.code.Severity.{Severity};
 
 use crate::code::Severity;
 use crate::push::push_number;

@@ -1,0 +1,4 @@
+pub mod Code
+pub mod Rows
+pub mod Table
+pub mod Tally
