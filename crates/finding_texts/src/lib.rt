@@ -10,15 +10,13 @@
 //! The codes of findings: what each means, why, and an example.
 //!
 //! [`table`] is the one table of them. `zonetext codes` and `zonetext explain`, the rules of a SARIF
-//! log and docs/CODES.md come from it. [`scope`] says what is looked at for a code.
+//! log and docs/CODES.md come from it.
 #![tactic(auto)]
 
 pub mod ascii;
 pub mod mistakes;
-pub mod scope;
 pub mod similar;
 pub mod table;
 pub mod word;
 
-pub use scope::{Scope, is_of_text, scope_of};
 pub use table::{example_of, summary_of, text_of};

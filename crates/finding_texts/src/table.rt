@@ -1,6 +1,6 @@
 //! The table of codes: what each means, in three columns.
 
-use zonetext_report::code::Code;
+use finding_codes::code::Code;
 
 /// Returns what is wrong, in a sentence without a full stop.
 pub fn summary_of(code: Code) -> &'static str {

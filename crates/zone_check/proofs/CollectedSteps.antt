@@ -1,9 +1,9 @@
 -- Findings that are collected, one after another.
 use Rattle.std.proofs.Common.{◌≡◌, ℕ, ◌+◌, ◌*◌, ◌<◌, List, [], ◌∷◌, ◌++◌, Option, Some, None, Result, Ok, Err, OnErr, option_to_list, length, length-append, refl, sym, ap, subst, ◌∙◌, arith}
 use Rattle.std.specs.List.{AllZip}
-use Rattle.zonetext_report.specs.Tally.{IsTally}
-use Rattle.zonetext_report.specs.declared.code.Severity.{Severity}
-use Rattle.zonetext_report.specs.declared.tally.Tally.{Tally}
+use Rattle.finding_codes.specs.Tally.{IsTally}
+use Rattle.finding_codes.specs.declared.code.Severity.{Severity}
+use Rattle.finding_codes.specs.declared.tally.Tally.{Tally}
 use Rattle.zone_check.specs.declared.collector.FindingCollector.{FindingCollector}
 use Rattle.zone_check.specs.declared.collector.FoundFinding.{FoundFinding}
 use Rattle.zone_check.specs.declared.finding_order.KeptFinding.{KeptFinding}

@@ -7,7 +7,7 @@ use Rattle.std.proofs.lemmas.Bool.{both_ways}
 use Rattle.std.proofs.lemmas.List.{take-append-drop}
 use Rattle.std.proofs.lemmas.List.Elements.{All-contains, All-drop, All-from_recursion, Contains-append_cases}
 use Rattle.std.proofs.lemmas.List.Sorted.{Contains-permutation, IsPermutation-sym, length_permutation, ranks_by}
-use Rattle.zonetext_report.specs.declared.code.Severity.TheVariants.{Error, Warning}
+use Rattle.finding_codes.specs.declared.code.Severity.TheVariants.{Error, Warning}
 use Rattle.zone_check.specs.declared.finding_order.KeptFinding.{KeptFinding}
 use Rattle.zone_check.specs.FindingLaws.{ErrorsAreFirst, MostAreShown, OneIsShown}
 use Rattle.zone_check.specs.FindingOrder.{IsStableSort, first_findings, position_order, severity_rank, weight_order}

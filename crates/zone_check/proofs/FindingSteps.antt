@@ -6,8 +6,8 @@ use Rattle.rdata_values.specs.declared.error.ErrorKind.{ErrorKind}
 use Rattle.zone_reader.specs.Directives.{directive_of}
 use Rattle.zone_reader.specs.declared.directive.Directive.{Directive}
 use Rattle.record_rules.specs.declared.rule.RecordRule.{RecordRule}
-use Rattle.zonetext_report.specs.declared.code.Code.{Code}
-use Rattle.zonetext_report.specs.declared.code.Code.TheVariants.{RelativeOrigin}
+use Rattle.finding_codes.specs.declared.code.Code.{Code}
+use Rattle.finding_codes.specs.declared.code.Code.TheVariants.{RelativeOrigin}
 use Rattle.zone_check.specs.declared.finding.About.TheVariants.{RuleAtToken, RuleOfRecord, Token}
 use Rattle.zone_check.specs.declared.finding.EntryFinding.{EntryFinding}
 use Rattle.zone_check.specs.Codes.{code_of_record_rule}

@@ -5,8 +5,8 @@ use Rattle.std.specs.List.{filter}
 use Rattle.dns_lexer.specs.EntryTokens.{TokenSeen, token_seen}
 use Rattle.dns_lexer.specs.declared.entry_tokens.EntryToken.{EntryToken}
 use Rattle.rdata_values.specs.declared.types.RecordType.{RecordType}
-use Rattle.zonetext_report.specs.declared.code.Code.{Code}
-use Rattle.zonetext_report.specs.declared.code.Code.TheVariants.{MissingDot, NoOrigin}
+use Rattle.finding_codes.specs.declared.code.Code.{Code}
+use Rattle.finding_codes.specs.declared.code.Code.TheVariants.{MissingDot, NoOrigin}
 use Rattle.zone_check.specs.declared.finding.About.TheVariants.{Token}
 use Rattle.zone_check.specs.declared.finding.EntryFinding.{EntryFinding}
 use Rattle.zone_check.specs.FindingSpans.{finding_of_token}

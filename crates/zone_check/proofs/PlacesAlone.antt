@@ -12,7 +12,7 @@ use Rattle.std.proofs.lemmas.List.{get_or_default, get_or_read}
 use Rattle.std.proofs.lemmas.List.Elements.{All-cons, All-from_recursion, All-head, All-nil, All-tail, Contains-append_right}
 use Rattle.std.proofs.lemmas.List.Kept.{AllPairs-cons}
 use Rattle.std.proofs.lemmas.List.Sorted.{All-permutation, IsPermutation-sym, IsPermutation-trans, ranks_by, ties_stay_sorted}
-use Rattle.zonetext_report.specs.declared.code.Severity.{Severity}
+use Rattle.finding_codes.specs.declared.code.Severity.{Severity}
 use Rattle.zone_check.specs.declared.collector.FoundFinding.{FoundFinding}
 use Rattle.zone_check.specs.declared.finding_order.KeptFinding.{KeptFinding}
 use Rattle.zone_check.specs.Collected.{counted_after, kept_finding, next_number, number_after}

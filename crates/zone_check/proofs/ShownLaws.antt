@@ -1,7 +1,7 @@
 -- Of the findings that are counted, the first are shown.
 use Rattle.std.proofs.Common.{◌≡◌, ℕ, zero, suc, ◌+◌, ◌-◌, ◌==◌, ◌||◌, nat_lt, Bool, true, false, cond, List, [], ◌∷◌, ◌++◌, Option, Some, None, length, take, refl, sym, ap, ◌∙◌, arith, append-nil, length-append, ltb-true, ltb-false}
-use Rattle.zonetext_report.specs.declared.code.Severity.{Severity}
-use Rattle.zonetext_report.specs.Tally.{shows}
+use Rattle.finding_codes.specs.declared.code.Severity.{Severity}
+use Rattle.finding_codes.specs.Tally.{shows}
 use Rattle.zone_check.specs.declared.shown.Decision.{Decision}
 use Rattle.zone_check.specs.declared.shown.Decision.TheVariants.{Shown, Counted}
 use Rattle.zone_check.specs.Shown.{FirstAreShown, counted_severities, decisions_after, shown_severities}

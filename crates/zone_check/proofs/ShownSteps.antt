@@ -1,11 +1,11 @@
 -- The severity of a finding by what is excepted.
 use Rattle.std.proofs.Common.{◌≡◌, ◌⊎◌, inl, inr, Bool, true, false, not, Option, Some, None, Contains, refl}
 use Rattle.std.proofs.lemmas.Bool.{and_cases, and_parts, both_ways, not-false, not-true}
-use Rattle.zonetext_report.specs.Code.{default_severity, is_text_fault}
-use Rattle.zonetext_report.specs.declared.code.Code.{Code}
-use Rattle.zonetext_report.specs.declared.code.Severity.{Severity}
-use Rattle.zonetext_report.specs.declared.code.Severity.TheVariants.{Error}
-use Rattle.zonetext_report.specs.declared.policy.Policy.{Policy}
+use Rattle.finding_codes.specs.Code.{default_severity, is_text_fault}
+use Rattle.finding_codes.specs.declared.code.Code.{Code}
+use Rattle.finding_codes.specs.declared.code.Severity.{Severity}
+use Rattle.finding_codes.specs.declared.code.Severity.TheVariants.{Error}
+use Rattle.finding_codes.specs.declared.policy.Policy.{Policy}
 use Rattle.zone_check.specs.Shown.{IsSeverity, can_be_excepted}
 
 module _ (p : Policy) (code : Code) (is_refused is_excepted : Bool) where

@@ -3,7 +3,7 @@ use Rattle.std.proofs.Common.{◌≡◌, ℕ, zero, suc, ◌+◌, ◌-◌, ◌�
 use Rattle.std.proofs.lemmas.List.{length-map}
 use Rattle.dns_lexer.specs.EntryTokens.{token_seen}
 use Rattle.dns_lexer.specs.declared.entry_tokens.EntryToken.{EntryToken}
-use Rattle.zonetext_report.specs.declared.code.Code.TheVariants.{OtherClass, Ttl}
+use Rattle.finding_codes.specs.declared.code.Code.TheVariants.{OtherClass, Ttl}
 use Rattle.zone_check.specs.declared.entry_words.WordKind.TheVariants.{ClassWord, LongTtl, TypeWord}
 use Rattle.zone_check.specs.declared.finding.About.TheVariants.{Entry, Token}
 use Rattle.zone_check.specs.declared.finding.EntryFinding.{EntryFinding}

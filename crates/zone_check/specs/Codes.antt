@@ -10,8 +10,8 @@ use Rattle.record_rules.specs.declared.rule.RecordRule.{RecordRule}
 use Rattle.record_rules.specs.declared.rule.RecordRule.TheVariants.{SpfType as SpfRule, NaptrRegexp as RegexpRule, NaptrBoth as BothRule, CaaUnknown, CaaCritical, CaaCapitals, SoaMailAtSign, SoaMailOneLabel, SoaRetry, SoaExpire, SoaMinimum, ReverseName as ReverseRule, WildcardInside as WildcardRule, TargetAddress as AddressRule, TxtWords as WordsRule, CommentInData as CommentRule}
 use Rattle.zone_rules.specs.declared.rule.Rule.{Rule}
 use Rattle.zone_rules.specs.declared.rule.Rule.TheVariants.{NoSoa as NoSoaRule, NoNs as NoNsRule, Outside as OutsideRule, TwoSoas as TwoSoasRule, NsAddress as NsAddressRule, Cname as CnameRule, TwoDnames as TwoDnamesRule, BelowDname as BelowDnameRule, DsAtApex as DsAtApexRule, WildcardNs as WildcardNsRule, SoaNotApex as SoaNotApexRule, NsBesideDname as NsBesideDnameRule, Nsec3Owner as Nsec3OwnerRule, MissingGlue as MissingGlueRule, HostIsAlias as HostIsAliasRule, HostBelowDname as HostBelowDnameRule, HostMissing as HostMissingRule, HostName as HostNameRule, CdsWithoutKey as CdsWithoutKeyRule, DsWithoutNs as DsWithoutNsRule, NotAtApex as NotAtApexRule, KeyProtocol as KeyProtocolRule, KeyAlgorithm as KeyAlgorithmRule, CnameTargetMissing as CnameTargetMissingRule, CnameLoop as CnameLoopRule, TwoSpf as TwoSpfRule, WeakDigest as WeakDigestRule, SingleNs as SingleNsRule, TtlDiffers as TtlDiffersRule, Duplicate as DuplicateRule}
-use Rattle.zonetext_report.specs.declared.code.Code.{Code}
-use Rattle.zonetext_report.specs.declared.code.Code.TheVariants.{OpenQuote, OpenParenthesis, ClosingParenthesis, LoneReturn, BadEscape, Directive, Owner, Ttl, RecordType, Data, NoOwner, NoTtl, NoOrigin, SpfType, NaptrRegexp, NaptrBoth, CaaTag, SoaMail, SoaTimers, ReverseName, WildcardInside, TargetAddress, TxtWords, CommentInData, NoSoa, NoNs, Outside, TwoSoas, NsAddress, Cname, Dname, BelowDname, DsApex, WildcardNs, SoaNotApex, NsBesideDname, Nsec3Wildcard, Glue, TargetCname, TargetMissing, HostName, Cds, DsWithoutNs, NotAtApex, KeyProtocol, KeyAlgorithm, CnameTargetMissing, CnameLoop, TwoSpf, WeakDigest, SingleNs, TtlDiffers, Duplicate}
+use Rattle.finding_codes.specs.declared.code.Code.{Code}
+use Rattle.finding_codes.specs.declared.code.Code.TheVariants.{OpenQuote, OpenParenthesis, ClosingParenthesis, LoneReturn, BadEscape, Directive, Owner, Ttl, RecordType, Data, NoOwner, NoTtl, NoOrigin, SpfType, NaptrRegexp, NaptrBoth, CaaTag, SoaMail, SoaTimers, ReverseName, WildcardInside, TargetAddress, TxtWords, CommentInData, NoSoa, NoNs, Outside, TwoSoas, NsAddress, Cname, Dname, BelowDname, DsApex, WildcardNs, SoaNotApex, NsBesideDname, Nsec3Wildcard, Glue, TargetCname, TargetMissing, HostName, Cds, DsWithoutNs, NotAtApex, KeyProtocol, KeyAlgorithm, CnameTargetMissing, CnameLoop, TwoSpf, WeakDigest, SingleNs, TtlDiffers, Duplicate}
 
 -- each syntax error has a code of its own
 abbrev pub code_of_fault : Wrong → Code

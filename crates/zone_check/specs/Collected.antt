@@ -1,9 +1,9 @@
 -- Findings that are collected in the order in which they are found, until all are known.
 use Rattle.std.specs.Prelude.{◌≡◌, ℕ, ◌+◌, ◌-◌, ◌*◌, ◌^◌, ◌<◌, ◌≤◌, min, length, List, [], ◌∷◌, ◌++◌, Option, Some, None}
 use Rattle.std.specs.List.{AllZip}
-use Rattle.zonetext_report.specs.Tally.{IsTally}
-use Rattle.zonetext_report.specs.declared.code.Severity.{Severity}
-use Rattle.zonetext_report.specs.declared.policy.Policy.{Policy}
+use Rattle.finding_codes.specs.Tally.{IsTally}
+use Rattle.finding_codes.specs.declared.code.Severity.{Severity}
+use Rattle.finding_codes.specs.declared.policy.Policy.{Policy}
 use Rattle.zone_check.specs.declared.collector.FindingCollector.{FindingCollector}
 use Rattle.zone_check.specs.declared.collector.FoundFinding.{FoundFinding}
 use Rattle.zone_check.specs.declared.finding_order.KeptFinding.{KeptFinding}

@@ -6,7 +6,7 @@ use Rattle.rdata_values.specs.declared.error.ErrorKind.{ErrorKind}
 use Rattle.zone_reader.specs.Directives.{directive_of}
 use Rattle.zone_reader.specs.declared.directive.Directive.{Directive}
 use Rattle.zone_reader.specs.declared.directive.Directive.TheVariants.{Origin, Ttl, Include, Generate}
-use Rattle.zonetext_report.specs.declared.code.Code.TheVariants.{RelativeOrigin}
+use Rattle.finding_codes.specs.declared.code.Code.TheVariants.{RelativeOrigin}
 use Rattle.zone_check.specs.declared.finding.About.TheVariants.{Token}
 use Rattle.zone_check.specs.declared.finding.EntryFinding.{EntryFinding}
 use Rattle.zone_check.specs.FindingSpans.{finding_of_token}

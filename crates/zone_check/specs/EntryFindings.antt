@@ -12,8 +12,8 @@ use Rattle.rdata_values.specs.declared.types.RecordType.{RecordType}
 use Rattle.zone_reader.specs.Past.{seconds_of}
 use Rattle.zone_reader.specs.declared.directive.Directive.{Directive as DirectiveKind}
 use Rattle.zone_reader.specs.declared.ttl.RecordTtl.{RecordTtl}
-use Rattle.zonetext_report.specs.declared.code.Code.{Code}
-use Rattle.zonetext_report.specs.declared.code.Code.TheVariants.{MaxEntry, NoOrigin, NoOwner}
+use Rattle.finding_codes.specs.declared.code.Code.{Code}
+use Rattle.finding_codes.specs.declared.code.Code.TheVariants.{MaxEntry, NoOrigin, NoOwner}
 use Rattle.zonetext_report.specs.declared.lint.Block.{Block}
 use Rattle.zone_check.specs.declared.entry.EntryContext.{EntryContext}
 use Rattle.zone_check.specs.declared.entry.EntryKind.{EntryKind}

@@ -1,8 +1,8 @@
 -- Laws of the findings that are shown.
 use Rattle.std.specs.Prelude.{◌≡◌, ℕ, ◌-◌, ◌^◌, ◌<◌, ◌==◌, if◌then◌else◌, List, Option, Contains, length, min}
 use Rattle.std.specs.List.{AllPairs}
-use Rattle.zonetext_report.specs.declared.code.Severity.{Severity}
-use Rattle.zonetext_report.specs.declared.code.Severity.TheVariants.{Error, Warning}
+use Rattle.finding_codes.specs.declared.code.Severity.{Severity}
+use Rattle.finding_codes.specs.declared.code.Severity.TheVariants.{Error, Warning}
 use Rattle.zone_check.specs.Collected.{counted_after, number_after}
 use Rattle.zone_check.specs.FindingOrder.{IsStableSort, ShownFindings, place_order}
 use Rattle.zone_check.specs.declared.collector.FoundFinding.{FoundFinding}

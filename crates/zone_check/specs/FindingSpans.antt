@@ -1,7 +1,7 @@
 -- Findings about an entry: a code, a span, and what the message is about.
 use Rattle.std.specs.Prelude.{ℕ, ◌+◌, if◌then◌else◌, List, [], ◌∷◌, length, Option, Some, None}
 use Rattle.dns_lexer.specs.EntryTokens.{TokenSeen}
-use Rattle.zonetext_report.specs.declared.code.Code.{Code}
+use Rattle.finding_codes.specs.declared.code.Code.{Code}
 use Rattle.zone_check.specs.declared.finding.About.{About}
 use Rattle.zone_check.specs.declared.finding.EntryFinding.{EntryFinding}
 

@@ -13,7 +13,7 @@ use Rattle.zone_generate.specs.declared.part.Part.TheVariants.{Number, Octet}
 use Rattle.zone_generate.specs.declared.part.ReadPart.{ReadPart}
 use Rattle.zone_generate.specs.declared.range.GenerateRange.{GenerateRange}
 use Rattle.zone_reader.specs.HeaderWords.{FindsWord, TokenIsType}
-use Rattle.zonetext_report.specs.declared.code.Code.TheVariants.{GenerateDot}
+use Rattle.finding_codes.specs.declared.code.Code.TheVariants.{GenerateDot}
 use Rattle.zone_check.specs.declared.finding.About.TheVariants.{Token}
 use Rattle.zone_check.specs.declared.finding.EntryFinding.{EntryFinding}
 use Rattle.zone_check.specs.declared.generate_findings.DotPart.{DotPart}

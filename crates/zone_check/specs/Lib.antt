@@ -17,7 +17,6 @@ pub mod Rows
 pub mod RuleFindings
 pub mod Scan
 pub mod Shown
-pub mod Texts
 pub mod TokensOf
 pub mod ValueFindings
 pub mod ZoneFindings

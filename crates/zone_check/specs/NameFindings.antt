@@ -7,8 +7,8 @@ use Rattle.rdata.specs.Types.{TypeShape}
 use Rattle.rdata_fields.specs.declared.field.Field.{Field}
 use Rattle.rdata_fields.specs.declared.field.Field.TheVariants.{Name as NameField}
 use Rattle.rdata_values.specs.declared.types.RecordType.{RecordType}
-use Rattle.zonetext_report.specs.declared.code.Code.{Code}
-use Rattle.zonetext_report.specs.declared.code.Code.TheVariants.{MissingDot, NoOrigin}
+use Rattle.finding_codes.specs.declared.code.Code.{Code}
+use Rattle.finding_codes.specs.declared.code.Code.TheVariants.{MissingDot, NoOrigin}
 use Rattle.zone_check.specs.declared.finding.About.TheVariants.{Token}
 use Rattle.zone_check.specs.declared.finding.EntryFinding.{EntryFinding}
 use Rattle.zone_check.specs.FindingSpans.{finding_of_token}

@@ -6,7 +6,7 @@ use Rattle.dns_lexer.specs.Unclosed.{IsOpener, LacksClosing}
 use Rattle.dns_lexer.specs.declared.pieces.Fault.{Fault}
 use Rattle.dns_lexer.specs.declared.pieces.Wrong.{Wrong}
 use Rattle.dns_lexer.specs.declared.pieces.Wrong.TheVariants.{OpenParenthesis}
-use Rattle.zonetext_report.specs.declared.code.Code.{Code}
+use Rattle.finding_codes.specs.declared.code.Code.{Code}
 use Rattle.zone_check.specs.declared.finding.About.TheVariants.{Rejection, SyntaxError}
 use Rattle.zone_check.specs.declared.finding.EntryFinding.{EntryFinding}
 use Rattle.zone_check.specs.Codes.{code_of_fault}

@@ -13,8 +13,8 @@ use Rattle.zone_generate.specs.declared.part.Part.{Part}
 use Rattle.zone_generate.specs.declared.part.Part.TheVariants.{Number}
 use Rattle.zone_reader.specs.declared.ttl.RecordTtl.TheVariants.{Explicit, Minimum}
 use Rattle.zonetext_report.specs.Lint.{remark}
-use Rattle.zonetext_report.specs.declared.code.Code.TheVariants.{CaaTag, CommentInData, ControlOctet, ControlZ, Data, GenerateDot, Glue, MaxEntry, MaxTtl, MissingDot, NaptrBoth, NaptrRegexp, NoOrigin, NoOwner, ReverseName, SoaMinimumTtl, SoaTimers, SpfType, TargetAddress, Ttl, TxtWords, WildcardInside}
-use Rattle.zonetext_report.specs.declared.code.Severity.TheVariants.{Error, Warning}
+use Rattle.finding_codes.specs.declared.code.Code.TheVariants.{CaaTag, CommentInData, ControlOctet, ControlZ, Data, GenerateDot, Glue, MaxEntry, MaxTtl, MissingDot, NaptrBoth, NaptrRegexp, NoOrigin, NoOwner, ReverseName, SoaMinimumTtl, SoaTimers, SpfType, TargetAddress, Ttl, TxtWords, WildcardInside}
+use Rattle.finding_codes.specs.declared.code.Severity.TheVariants.{Error, Warning}
 use Rattle.zone_check.specs.declared.entry.EntryKind.TheVariants.{Blank, OneRecord, TooLong}
 use Rattle.zone_check.specs.declared.finding.About.TheVariants.{Entry, Octets, Rejection, RuleAtToken, RuleOfRecord, Token}
 use Rattle.zone_check.specs.declared.octet_findings.ReportedOctets.{ReportedOctets}

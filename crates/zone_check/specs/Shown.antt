@@ -1,11 +1,11 @@
 -- Which findings are shown: by what is allowed, denied and excepted, and up to a number.
 use Rattle.std.specs.Prelude.{◌≡◌, ◌⊎◌, ℕ, ◌==◌, ◌&&◌, not, if◌then◌else◌, Bool, true, false, List, [], ◌∷◌, ◌++◌, Contains, take, option_to_list, Option, Some, None}
-use Rattle.zonetext_report.specs.Code.{default_severity, is_text_fault}
-use Rattle.zonetext_report.specs.Tally.{shows}
-use Rattle.zonetext_report.specs.declared.code.Code.{Code}
-use Rattle.zonetext_report.specs.declared.code.Severity.{Severity}
-use Rattle.zonetext_report.specs.declared.code.Severity.TheVariants.{Error}
-use Rattle.zonetext_report.specs.declared.policy.Policy.{Policy}
+use Rattle.finding_codes.specs.Code.{default_severity, is_text_fault}
+use Rattle.finding_codes.specs.Tally.{shows}
+use Rattle.finding_codes.specs.declared.code.Code.{Code}
+use Rattle.finding_codes.specs.declared.code.Severity.{Severity}
+use Rattle.finding_codes.specs.declared.code.Severity.TheVariants.{Error}
+use Rattle.finding_codes.specs.declared.policy.Policy.{Policy}
 use Rattle.zone_check.specs.declared.shown.Decision.{Decision}
 use Rattle.zone_check.specs.declared.shown.Decision.TheVariants.{Shown, Counted, Omitted}
 

@@ -7,8 +7,8 @@ use Rattle.rdata_values.specs.declared.types.RecordType.{RecordType}
 use Rattle.zone_reader.specs.Past.{seconds_of}
 use Rattle.zone_reader.specs.declared.ttl.RecordTtl.{RecordTtl}
 use Rattle.zone_reader.specs.declared.ttl.RecordTtl.TheVariants.{Explicit, Default, Last, Minimum}
-use Rattle.zonetext_report.specs.declared.code.Code.{Code}
-use Rattle.zonetext_report.specs.declared.code.Code.TheVariants.{EmptyUri, IpseckeyAlgorithm, MaxTtl, OhttpValue, OtherClass, SoaMinimumTtl, TlsaLength, Ttl}
+use Rattle.finding_codes.specs.declared.code.Code.{Code}
+use Rattle.finding_codes.specs.declared.code.Code.TheVariants.{EmptyUri, IpseckeyAlgorithm, MaxTtl, OhttpValue, OtherClass, SoaMinimumTtl, TlsaLength, Ttl}
 use Rattle.zone_check.specs.declared.entry_words.WordKind.TheVariants.{ClassWord, LongTtl}
 use Rattle.zone_check.specs.declared.finding.About.TheVariants.{Entry, Token}
 use Rattle.zone_check.specs.declared.finding.EntryFinding.{EntryFinding}

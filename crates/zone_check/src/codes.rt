@@ -4,15 +4,15 @@ ghost use Rattle.record_rules.specs.LoneRuleNames.{lone_rule_name};
 ghost use Rattle.zone_dnssec.specs.SecurityNames.{security_name};
 ghost use Rattle.zone_rules.specs.RuleNames.{rule_name};
 ghost use Rattle.zone_check.specs.Codes.{code_of_entry, code_of_fault, code_in_header, code_of_part, code_of_record_rule, code_of_zone_rule};
-ghost use Rattle.zonetext_report.specs.Code.{code_name};
+ghost use Rattle.finding_codes.specs.Code.{code_name};
 
 use dns_lexer::pieces::Wrong;
+use finding_codes::code::Code;
 use rdata_fields::RecordError;
 use rdata_values::ErrorKind;
 use record_rules::RecordRule;
 use zone_dnssec::SecurityRule;
 use zone_rules::Rule;
-use zonetext_report::code::Code;
 
 /// Returns the code of a syntax error.
 pub fn code_of_fault(wrong: Wrong) -> Code
@@ -65,6 +65,7 @@ pub fn code_of_entry(is_directive: bool, error: &RecordError) -> Code
 }
 
 /// Returns the code of a rule that a record alone breaks, which has the rule's name.
+#[tactic(auto, unfolding(finding_codes::specs::Table::finding_rows))]
 pub fn code_of_record_rule(rule: RecordRule) -> Code
     ensures name { code_name result ≡ lone_rule_name rule }
     ensures value { result ≡ code_of_record_rule rule }
@@ -85,6 +86,7 @@ pub fn code_of_record_rule(rule: RecordRule) -> Code
 }
 
 /// Returns the code of a rule that a zone breaks, which has the rule's name.
+#[tactic(auto, unfolding(finding_codes::specs::Table::finding_rows))]
 pub fn code_of_rule(rule: Rule) -> Code
     ensures name { code_name result ≡ rule_name rule }
     ensures value { result ≡ code_of_zone_rule rule }
@@ -123,6 +125,7 @@ pub fn code_of_rule(rule: Rule) -> Code
 }
 
 /// Returns the code of a rule that a signed zone breaks, which has the rule's name.
+#[tactic(auto, unfolding(finding_codes::specs::Table::finding_rows))]
 pub fn code_of_security(rule: SecurityRule) -> Code
     ensures { code_name result ≡ security_name rule }
 {

@@ -7,10 +7,10 @@ use crate::finding_order::{KeptFinding, sort_by_weight};
 use crate::shown::{decide, severity_of};
 use crate::sink::{FindingSink, send_shown};
 use dns_lexer::position::Position;
+use finding_codes::code::{Code, Severity};
+use finding_codes::policy::Policy;
+use finding_codes::tally::Tally;
 use std::alloc::{AllocError, Global};
-use zonetext_report::code::{Code, Severity};
-use zonetext_report::policy::Policy;
-use zonetext_report::tally::Tally;
 
 /// A finding, and what its severity depends on.
 #[derive(Clone, Copy)]

@@ -7,9 +7,9 @@ use crate::finding::{About, EntryFinding, finding_of_token};
 use crate::names::ends_in_dot;
 use crate::value_findings::first_long_ttl;
 use dns_lexer::entry_tokens::EntryToken;
+use finding_codes::code::Code;
 use rdata_values::ErrorKind;
 use zone_reader::{Directive, directive_word};
-use zonetext_report::code::Code;
 
 /// Returns the finding about a name of a directive that is relative. `place` is the index of its
 /// token.

@@ -16,11 +16,11 @@ use crate::record_findings::{RecordContext, find_in_record};
 use crate::rejection_findings::{fault_finding, rejected_finding};
 use crate::value_findings::append_any;
 use dns_lexer::entry_tokens::EntryToken;
+use finding_codes::code::Code;
 use rdata_fields::{RecordError, RecordRef};
 use rdata_values::{Class, RecordType};
 use std::alloc::{AllocError, Global};
 use zone_reader::{RecordTtl, directive_word};
-use zonetext_report::code::Code;
 use zonetext_report::lint::Block;
 
 /// Ctrl-Z, which ended files of CP/M and DOS.

@@ -4,8 +4,8 @@ ghost use Rattle.dns_lexer.specs.EntryTokens.{token_seen};
 ghost use Rattle.zone_check.specs.FindingSpans.{finding_at, finding_of_entry, finding_of_token, token_width};
 
 use dns_lexer::entry_tokens::EntryToken;
+use finding_codes::code::Code;
 use record_rules::RecordRule;
-use zonetext_report::code::Code;
 
 /// What the message of a finding is about.
 #[derive(Clone, Copy)]

@@ -5,9 +5,9 @@ ghost use Rattle.std.specs.Ordering.{is_lt};
 ghost use Rattle.zone_check.specs.FindingOrder.{place_order, position_order, severity_rank, weight_order};
 
 use dns_lexer::position::Position;
+use finding_codes::code::{Code, Severity};
 use std::alloc::{AllocError, Allocator};
 use std::cmp::Ordering;
-use zonetext_report::code::{Code, Severity};
 
 /// A finding that is kept until all are known.
 #[derive(Clone, Copy)]

@@ -7,13 +7,13 @@ ghost use Rattle.zone_check.specs.GenerateFindings.{IsDotOfRange, IsGenerateFind
 use crate::finding::{About, EntryFinding, finding_at};
 use crate::name_findings::is_name_field;
 use dns_lexer::entry_tokens::EntryToken;
+use finding_codes::code::Code;
 use rdata_values::RecordType;
 use std::alloc::{AllocError, Global};
 use zone_generate::{
     GenerateRange, NumberBase, Part, append_part, offset_after, read_part, read_range,
 };
 use zone_reader::type_word;
-use zonetext_report::code::Code;
 
 /// A part of the owner or the RDATA that ends a name in a dot.
 #[derive(Clone, Copy)]

@@ -1,5 +1,5 @@
-//! The findings of `zonetext check` about the entries of zone files and their records: codes and
-//! messages, and names and data that look like slips.
+//! The findings of `zonetext check` about the entries of zone files and their records: their
+//! codes, and names and data that look like slips.
 #![tactic(auto)]
 
 pub mod codes;
@@ -23,6 +23,5 @@ pub mod rule_findings;
 pub mod scan;
 pub mod shown;
 pub mod sink;
-pub mod texts;
 pub mod value_findings;
 pub mod zone_findings;

@@ -8,11 +8,11 @@ use crate::finding::{About, EntryFinding, finding_of_token};
 use crate::names::{ends_in_dot, ends_like};
 use crate::value_findings::append_any;
 use dns_lexer::entry_tokens::EntryToken;
+use finding_codes::code::Code;
 use rdata::type_row;
 use rdata_fields::Field;
 use rdata_values::RecordType;
 use std::alloc::AllocError;
-use zonetext_report::code::Code;
 
 /// What is known of the origin of an entry.
 #[derive(Clone, Copy)]

@@ -4,8 +4,8 @@ ghost use Rattle.zone_check.specs.OctetFindings.{AreOctetFindings, finding_if, i
 
 use crate::finding::{About, EntryFinding, finding_at};
 use crate::value_findings::append_any;
+use finding_codes::code::Code;
 use std::alloc::{AllocError, Global};
-use zonetext_report::code::Code;
 use zonetext_report::lint::{Block, Remark, lint};
 
 /// Which findings about octets are reported.

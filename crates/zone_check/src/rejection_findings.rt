@@ -8,7 +8,7 @@ use crate::finding::{About, EntryFinding, finding_at, finding_of_token, token_wi
 use dns_lexer::entry_tokens::EntryToken;
 use dns_lexer::pieces::{Fault, Wrong};
 use dns_lexer::unclosed::outermost_open_of_octets;
-use zonetext_report::code::Code;
+use finding_codes::code::Code;
 
 /// Returns the offset after the last token, with its double quotes.
 fn end_of_last(tokens: &[EntryToken<'_>]) -> usize

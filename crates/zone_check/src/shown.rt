@@ -1,12 +1,12 @@
 //! Decides which findings are shown.
 ghost use Rattle.std.specs.Prelude.{◌≡◌, ◌++◌, List, option_to_list};
 ghost use Rattle.zone_check.specs.Shown.{IsSeverity, can_be_excepted, decision_for};
-ghost use Rattle.zonetext_report.specs.Tally.{IsTally};
-ghost use Rattle.zonetext_report.specs.declared.code.Severity.{Severity};
+ghost use Rattle.finding_codes.specs.Tally.{IsTally};
+ghost use Rattle.finding_codes.specs.declared.code.Severity.{Severity};
 
-use zonetext_report::code::{Code, Severity};
-use zonetext_report::policy::Policy;
-use zonetext_report::tally::Tally;
+use finding_codes::code::{Code, Severity};
+use finding_codes::policy::Policy;
+use finding_codes::tally::Tally;
 
 /// What becomes of a finding.
 #[derive(Clone, Copy)]

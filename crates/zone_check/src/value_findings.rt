@@ -9,10 +9,10 @@ use crate::data::{
 use crate::entry_words::{WordKind, after_owner, first_word};
 use crate::finding::{About, EntryFinding, finding_at, finding_of_entry, finding_of_token};
 use dns_lexer::entry_tokens::EntryToken;
+use finding_codes::code::Code;
 use rdata_values::RecordType;
 use std::alloc::AllocError;
 use zone_reader::RecordTtl;
-use zonetext_report::code::Code;
 
 /// Returns the finding about a record whose TTL is the minimum of the SOA.
 fn minimum_finding(ttl: RecordTtl, tokens: &[EntryToken<'_>]) -> Option<EntryFinding>

@@ -4,9 +4,9 @@ ghost use Rattle.std.specs.List.{list_any};
 ghost use Rattle.zone_check.specs.ZoneFindings.{FindingsAfter, directives_after, is_at_target, is_missing_record, is_repeat, is_reported_rule, is_same_directive, reported_finding, repeated_directive, zone_finding};
 
 use crate::codes::code_of_rule;
+use finding_codes::code::Code;
 use std::alloc::{AllocError, Global};
 use zone_rules::{Finding, Rule};
-use zonetext_report::code::Code;
 
 /// What was read of a zone.
 #[derive(Clone, Copy)]

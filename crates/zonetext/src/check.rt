@@ -2,6 +2,8 @@
 use crate::many_zones;
 use clap::ArgMatches;
 use dns_wire::DisplayWithDot;
+use finding_codes::code::Code;
+use finding_codes::policy::Policy;
 use rdata_values::Class;
 use std::alloc::{AllocError, Global};
 use std::fs::metadata;
@@ -10,7 +12,6 @@ use std::{env, io};
 use zone_dnssec::Times;
 use zone_reader::State;
 use zonetext_checker::checker::{Checker, Limits};
-use zonetext_checker::scopes::is_of_text;
 use zonetext_files::files::check_text;
 use zonetext_files::generated::{GenerateMode, GenerateOptions};
 use zonetext_files::shown::Shown;
@@ -19,8 +20,6 @@ use zonetext_files::zone_files::{Begin, shown_name, visit_file};
 use zonetext_findings::machine;
 use zonetext_findings::reporter::{Form, Reporter};
 use zonetext_findings::totals::Totals;
-use zonetext_report::code::Code;
-use zonetext_report::policy::Policy;
 use zonetext_zones::options;
 use zonetext_zones::options::{
     Usage, class_of, max_entry_of, most_generated_of, name_of, number_of, report_no_zone,
@@ -72,7 +71,7 @@ pub struct Options<'o> {
 /// Returns the code that an option names.
 fn code_of<'o>(value: &'o str, option: &'static str, is_text: bool) -> Result<Code, Usage<'o>> {
     match Code::named(value) {
-        Some(code) if is_text && !is_of_text(code) => Err(Usage::OfRecords { option, value }),
+        Some(code) if is_text && !code.is_of_text() => Err(Usage::OfRecords { option, value }),
         Some(code) => Ok(code),
         None => Err(Usage::Value {
             option,

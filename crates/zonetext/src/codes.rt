@@ -1,5 +1,7 @@
 //! The commands `codes` and `explain`: list the codes of findings, and explain one.
 use clap::ArgMatches;
+use finding_codes::code::Code;
+use finding_codes::table::rows;
 use finding_texts::{example_of, summary_of, text_of};
 use std::alloc::{AllocError, Global};
 use std::io;
@@ -8,7 +10,6 @@ use strsim::levenshtein;
 use zonetext_files::lines::Lines;
 use zonetext_files::shown::Shown;
 use zonetext_files::stop::{RunError, exit_status};
-use zonetext_report::code::Code;
 use zonetext_zones::arguments::{ARGUMENT, ArgRow, CommandTable};
 use zonetext_zones::options::USAGE;
 
@@ -95,8 +96,8 @@ fn push_explanation(text: &mut String, code: Code) -> Result<(), AllocError> {
 /// Writes the list of codes.
 fn list(rt: &HostRuntime) -> Result<(), RunError> {
     let mut lines = Lines::new(rt);
-    for code in &Code::ALL {
-        push_code(&mut lines.text, *code)?;
+    for row in rows() {
+        push_code(&mut lines.text, row.code)?;
     }
     lines.flush()?;
     Ok(())
@@ -114,10 +115,10 @@ fn explain(rt: &HostRuntime, code: Code) -> Result<(), RunError> {
 fn similar(alloc: Global, word: &str) -> Result<Option<Code>, AllocError> {
     let mut similar = None;
     let mut least = MOST_CHANGES;
-    for code in &Code::ALL {
-        let changes = levenshtein(alloc, code.name(), word)?;
+    for row in rows() {
+        let changes = levenshtein(alloc, row.name, word)?;
         if changes <= least && changes < word.len() {
-            similar = Some(*code);
+            similar = Some(row.code);
             least = changes.saturating_sub(1);
         }
     }

@@ -7,9 +7,9 @@ use crate::held_zone::{HeldZone, RecordLocation, SortedZone};
 use crate::lone_rules::breaks_none;
 use crate::refusals::refused_type;
 use crate::scan::{may_begin_comment, needs_lint};
-use crate::scopes::{Scope, scope_of};
 use dns_lexer::entry_tokens::EntryToken;
 use dns_wire::Name;
+use finding_codes::code::{Code, Scope};
 use rdata_fields::RecordError;
 use rdata_values::{Class, RecordType};
 use std::alloc::Global;
@@ -40,7 +40,6 @@ use zonetext_findings::locations::{
 use zonetext_findings::octet_texts::{is_of_file, octet_text};
 use zonetext_findings::reporter::{FindingText, Reporter};
 use zonetext_findings::subjects::Text;
-use zonetext_report::code::Code;
 
 /// What is required of records.
 #[derive(Clone, Copy)]
@@ -359,7 +358,7 @@ impl<'a> Checker<'a> {
     /// is not used. `has_zone` says whether the rules of a zone were checked.
     fn looks_for(&self, code: Code, has_zone: bool) -> bool {
         let is_whole = has_zone && !self.has_gap;
-        match scope_of(code) {
+        match code.scope() {
             Scope::Text => self.reports_octets(code),
             Scope::Records => !self.limits.is_text,
             Scope::MaxTtl => self.limits.max_ttl.is_some(),

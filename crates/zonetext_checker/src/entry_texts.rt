@@ -1,12 +1,11 @@
 //! The messages of findings about an entry.
 use crate::lone_rules::lone_text;
+use finding_codes::code::Code;
 use std::alloc::{AllocError, Global};
 use zone_check::finding::{About, EntryFinding};
-use zone_check::texts::code_text;
 use zone_reader::ParsedEntry;
 use zonetext_files::zone_files::Entry;
 use zonetext_findings::subjects::Text;
-use zonetext_report::code::Code;
 
 /// Returns the text of the token at the span of a finding, without its double quotes.
 fn word_at<'e>(entry: &Entry<'e>, finding: &EntryFinding) -> &'e [u8] {
@@ -41,12 +40,8 @@ pub fn entry_text(
             Text::worded(alloc, lone_text(rule), Some(word_at(entry, finding)))
         }
         About::RuleOfRecord(rule) => Text::worded(alloc, lone_text(rule), None),
-        About::Token => Text::worded(
-            alloc,
-            code_text(finding.code),
-            Some(word_at(entry, finding)),
-        ),
+        About::Token => Text::worded(alloc, finding.code.message(), Some(word_at(entry, finding))),
         _ if finding.code == Code::MaxTtl => max_ttl_text(alloc, entry, most),
-        _ => Text::worded(alloc, code_text(finding.code), None),
+        _ => Text::worded(alloc, finding.code.message(), None),
     }
 }

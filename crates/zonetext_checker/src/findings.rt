@@ -5,10 +5,10 @@ use crate::rule_texts::{CheckedZone, rule_text};
 use dns_lexer::pieces::Fault;
 use dns_lexer::position::Position;
 use dns_octets::AsOctets;
+use finding_codes::code::{Code, Severity};
 use rdata_fields::RecordError;
 use std::alloc::{AllocError, Global};
 use zone_check::finding::EntryFinding;
-use zone_check::texts::code_text;
 use zone_check::zone_findings::ZoneFinding;
 use zone_reader::NameBuffer;
 use zone_rules::zone_records::OwnerBuffer;
@@ -26,7 +26,6 @@ use zonetext_findings::locations::{
 use zonetext_findings::octet_texts::fault_text;
 use zonetext_findings::reporter::{FindingLocation, FindingText, Reporter};
 use zonetext_findings::subjects::{Subject, Text};
-use zonetext_report::code::{Code, Severity};
 
 /// Greatest number of records among which names like others are looked for, in all.
 const MOST_SEARCHED: usize = 200_000;
@@ -105,7 +104,7 @@ impl<'a> Findings<'a> {
     /// Reports a finding that only has a code.
     pub fn report(&mut self, spot: FindingLocation<'_>, code: Code) -> Result<(), RunError> {
         self.reporter
-            .report(spot, code, false, FindingText::message(code_text(code)))
+            .report(spot, code, false, FindingText::message(code.message()))
     }
 
     /// Returns the owner and the type of an entry, as they are shown.
@@ -272,7 +271,7 @@ impl<'a> Findings<'a> {
         code: Code,
         record: Option<usize>,
     ) -> Result<(), RunError> {
-        let text = Text::worded(self.alloc, code_text(code), None)?;
+        let text = Text::worded(self.alloc, code.message(), None)?;
         self.report_at(held, code, record, false, &text)
     }
 

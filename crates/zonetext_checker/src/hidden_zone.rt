@@ -4,6 +4,7 @@ use crate::held_zone::RecordLocation;
 use crate::rule_texts::{CheckedZone, is_address, is_before};
 use dns_octets::AsOctets;
 use dns_wire::{DisplayWithDot, Name};
+use finding_codes::code::Code;
 use std::alloc::{AllocError, Global};
 use zone_delegations::hidden_records;
 use zone_reader::NameBuffer;
@@ -11,7 +12,6 @@ use zone_rules::hosts::is_cut;
 use zone_rules::names::{parent, view};
 use zonetext_files::stop::RunError;
 use zonetext_findings::subjects::Text;
-use zonetext_report::code::Code;
 
 /// Maximum number of labels of a name.
 const MAX_LABELS: usize = 128;

@@ -12,7 +12,6 @@ mod refusals;
 mod refused_sets;
 mod rule_texts;
 mod scan;
-pub mod scopes;
 mod signature_groups;
 mod signed_zone;
 mod spelled_names;

@@ -6,7 +6,6 @@ use finding_texts::similar::edits_between;
 use rdata_values::RecordType;
 use std::alloc::{AllocError, Global};
 use zone_check::codes::code_of_rule;
-use zone_check::texts::code_text;
 use zone_rules::hosts::dname_over_host;
 use zone_rules::names::{is_name_below, view};
 use zone_rules::zone_records::OwnerBuffer;
@@ -354,5 +353,5 @@ pub fn rule_text<Origin: AsOctets>(
             return Ok(text);
         }
     }
-    Text::worded(alloc, code_text(code_of_rule(finding.rule)), None)
+    Text::worded(alloc, code_of_rule(finding.rule).message(), None)
 }

@@ -2,9 +2,9 @@
 //! `; zonetext: allow CODE, CODE`.
 use dns_lexer::pieces::{Piece, Pieces, Span};
 use dns_lexer::position::Position;
+use finding_codes::code::Code;
 use std::alloc::{AllocError, Global};
 use std::cmp::Ordering;
-use zonetext_report::code::Code;
 
 /// What a comment with exceptions begins with, after semicolons and blanks.
 const MARK: &[u8] = b"zonetext:";

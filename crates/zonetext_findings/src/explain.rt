@@ -8,6 +8,7 @@ use error_texts::contents::{digest_text, long_string_text};
 use error_texts::digests::digest_place;
 use error_texts::errors::part_message;
 use error_texts::parts::field_name;
+use finding_codes::code::Code;
 use finding_texts::mistakes::{
     address_type, comment_mark, count_spelled, high_escape, is_conflict_marker,
 };
@@ -18,7 +19,6 @@ use std::alloc::{AllocError, Global};
 use zone_reader::{class_word, ttl_word, type_word};
 use zonetext_files::shown::quoted;
 use zonetext_files::zone_files::Entry;
-use zonetext_report::code::Code;
 
 /// The key of the parameter that lists others, and the sign before its value.
 const MANDATORY: &[u8] = b"mandatory=";

@@ -1,10 +1,11 @@
 //! Findings in formats for other programs.
 use clap::ArgMatches;
+use finding_codes::code::Severity;
+use finding_codes::table::rows;
 use finding_formats::sarif::{Rule, Tool};
 use finding_formats::{Opening, checkstyle, github, json, sarif};
 use finding_texts::{summary_of, text_of};
 use std::alloc::AllocError;
-use zonetext_report::code::{Code, Severity};
 use zonetext_report::finding::Finding;
 
 /// The version of the program.
@@ -106,12 +107,12 @@ fn push_sarif_start(out: &mut Vec<u8>) -> Result<(), AllocError> {
     };
     sarif::push_start(out, &tool)?;
     let mut is_first = true;
-    for code in &Code::ALL {
+    for row in rows() {
         let rule = Rule {
-            code: code.name().as_bytes(),
-            is_error: is_error(code.default_severity()),
-            summary: summary_of(*code).as_bytes(),
-            text: text_of(*code).as_bytes(),
+            code: row.name.as_bytes(),
+            is_error: is_error(row.severity),
+            summary: summary_of(row.code).as_bytes(),
+            text: text_of(row.code).as_bytes(),
         };
         sarif::push_rule(out, is_first, &rule)?;
         is_first = false;

@@ -8,6 +8,7 @@ use dns_lexer::entry_tokens::EntryToken;
 use dns_lexer::pieces::{Fault, Wrong};
 use error_texts::contents::high_escape_text;
 use error_texts::kinds::syntax_error_text;
+use finding_codes::code::Code;
 use finding_texts::ascii::ascii_name;
 use finding_texts::mistakes::{high_escape, quotation_mark};
 use rdata::type_row;
@@ -15,11 +16,9 @@ use rdata_fields::Field;
 use rdata_values::RecordType;
 use std::alloc::{AllocError, Global};
 use zone_check::finding::EntryFinding;
-use zone_check::texts::code_text;
 use zone_reader::ParsedEntry;
 use zonetext_files::shown::quoted;
 use zonetext_files::zone_files::Entry;
-use zonetext_report::code::Code;
 
 /// Number of octets of an escape with three digits.
 pub const ESCAPE: usize = 4;
@@ -156,7 +155,7 @@ fn high_octet_text<'e>(
     let tokens = tokens_of(alloc, entry)?;
     let tokens = tokens.as_slice();
     let Some(token) = token_of(tokens, at) else {
-        return Ok((spot, Text::worded(alloc, code_text(Code::HighOctet), None)?));
+        return Ok((spot, Text::worded(alloc, Code::HighOctet.message(), None)?));
     };
     let octets = entry.octets.get(at..).unwrap_or(&[]);
     let count = quotation_mark(octets);
@@ -188,8 +187,8 @@ pub fn octet_text<'e>(
                 Some(token) => Some(token.text),
                 None => None,
             };
-            Ok((spot, Text::worded(alloc, code_text(finding.code), word)?))
+            Ok((spot, Text::worded(alloc, finding.code.message(), word)?))
         }
-        _ => Ok((spot, Text::worded(alloc, code_text(finding.code), None)?)),
+        _ => Ok((spot, Text::worded(alloc, finding.code.message(), None)?)),
     }
 }

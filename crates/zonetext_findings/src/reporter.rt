@@ -3,17 +3,17 @@ use crate::exceptions::Exceptions;
 use crate::machine::{Before, Format};
 use crate::waiting::Waiting;
 use dns_lexer::position::Position;
+use finding_codes::code::{Code, Severity};
+use finding_codes::policy::Policy;
+use finding_codes::tally::Tally;
 use std::alloc::{AllocError, Global};
 use std::io::Write;
 use zone_check::collector::{FindingCollector, FoundFinding};
 use zone_check::finding_order::KeptFinding;
 use zone_check::shown::{Decision, can_be_excepted, decide, severity_of};
 use zonetext_files::stop::RunError;
-use zonetext_report::code::{Code, Severity};
 use zonetext_report::excerpt::push_excerpt;
 use zonetext_report::finding::{Finding, push_lines};
-use zonetext_report::policy::Policy;
-use zonetext_report::tally::Tally;
 
 /// How findings are shown.
 #[derive(Clone, Copy, PartialEq, Eq)]

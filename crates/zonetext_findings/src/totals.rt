@@ -1,9 +1,9 @@
 //! What is written before and after the findings of all files.
 use crate::machine::{push_end, push_start};
 use crate::reporter::{Form, Reporter};
+use finding_codes::tally::Tally;
 use std::io::Write;
 use zonetext_files::stop::{RunError, exit_status};
-use zonetext_report::tally::Tally;
 
 /// The findings of all files.
 #[derive(Drop)]

@@ -1,9 +1,9 @@
 //! The texts of findings that are written once all are known.
 use dns_lexer::position::Position;
+use finding_codes::code::Code;
 use std::alloc::{AllocError, Global};
 use zone_check::finding_order::{KeptFinding, outweighs};
 use zone_check::sink::send_shown;
-use zonetext_report::code::Code;
 use zonetext_report::finding::Finding;
 
 /// Number of texts of a finding: its file, owner, type, message, help, note, and line of the file.

@@ -7,10 +7,10 @@ use crate::check::{Found, locate};
 use crate::glue::is_adjacent;
 use dns_lexer::pieces::{Piece, Pieces};
 use dns_lexer::position::Position;
+use finding_codes::push::{push_number, push_text};
 use std::alloc::{AllocError, Allocator};
 use zone_format::place::{LocatedOffset, move_to, position_after};
 use zonetext_report::json::{Charset, push_string};
-use zonetext_report::push::{push_number, push_text};
 
 /// The format of a row.
 #[derive(Clone, Copy)]

@@ -1,6 +1,9 @@
 //! Reads the entries of zone files, one by one, for the commands that write, compare, digest and
 //! cut them.
 use dns_wire::DisplayWithDot;
+use finding_codes::code::{Code, Severity};
+use finding_codes::policy::Policy;
+use finding_codes::table::rows;
 use rdata_values::{Class, RecordType};
 use std::alloc::{AllocError, Global};
 use zone_format::place::LocatedOffset;
@@ -13,8 +16,6 @@ use zonetext_files::stop::{RunError, exit_status};
 use zonetext_files::zone_files::{Begin, Entry, IncludeError, Visit, visit_file};
 use zonetext_findings::locations::position_at;
 use zonetext_findings::reporter::{Form, Reporter};
-use zonetext_report::code::{Code, Severity};
-use zonetext_report::policy::Policy;
 use zonetext_zones::zone_names::Zone;
 
 /// Greatest number of errors that are reported, unless another number is asked for.
@@ -172,10 +173,10 @@ impl<T: EntryVisitor + Drop> Visit for ReportingVisitor<'_, T> {
 /// read.
 fn unsaid_codes(alloc: Global, is_one_class: bool) -> Result<Vec<Code>, AllocError> {
     let mut codes = Vec::new(alloc);
-    for code in &Code::ALL {
-        let is_slip = code.default_severity() == Severity::Warning && *code != Code::NoOrigin;
-        if is_slip || (*code == Code::OtherClass && !is_one_class) {
-            codes.push(*code)?;
+    for row in rows() {
+        let is_slip = row.severity == Severity::Warning && row.code != Code::NoOrigin;
+        if is_slip || (row.code == Code::OtherClass && !is_one_class) {
+            codes.push(row.code)?;
         }
     }
     Ok(codes)

@@ -1,5 +1,6 @@
 //! Settings of a folder: the file `.zonetext.toml`.
 use crate::options::{USAGE, seconds_in};
+use finding_codes::code::Code;
 use std::alloc::{AllocError, AllocFailed, Global};
 use std::fs::{canonicalize, exists};
 use std::io::ErrorKind;
@@ -9,7 +10,6 @@ use toml::Value;
 use zonetext_files::open_file::{first_place, place_after};
 use zonetext_files::shown::Shown;
 use zonetext_files::stop::EXIT_IO;
-use zonetext_report::code::Code;
 
 /// The name of the file.
 const NAME: &str = ".zonetext.toml";

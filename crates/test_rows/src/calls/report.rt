@@ -2,17 +2,17 @@
 ghost use Rattle.std.specs.Prelude.{◌<◌, ◌^◌, length};
 
 use dns_lexer::position::Position;
+use finding_codes::code::{Code, Severity};
+use finding_codes::policy::Policy;
+use finding_codes::tally::Tally;
 use std::alloc::AllocError;
 use std::str;
 use test_support::input::number_of;
 use test_support::{Answer, Failure, Inputs};
-use zonetext_report::code::{Code, Severity};
 use zonetext_report::excerpt::push_excerpt;
 use zonetext_report::finding::{Finding, push_lines};
 use zonetext_report::json::push_json;
 use zonetext_report::lint::{Block, lint, order_mark_len};
-use zonetext_report::policy::Policy;
-use zonetext_report::tally::Tally;
 
 /// Answers a row: calls what it names.
 pub fn call(name: &str, inputs: &Inputs, answer: &mut Answer) {

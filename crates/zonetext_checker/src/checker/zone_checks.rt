@@ -7,6 +7,7 @@ use crate::signature_groups::{groups_of, is_of_time};
 use crate::signed_zone::signed_findings;
 use dns_octets::AsOctets;
 use dns_wire::{DisplayWithDot, Name};
+use finding_codes::code::Code;
 use rdata_values::RecordType;
 use zone_check::codes::{code_of_rule, code_of_security};
 use zone_check::zone_findings::{DirectiveLine, ZoneContext, find_in_zone};
@@ -15,7 +16,6 @@ use zone_rules::names::view;
 use zone_rules::{Finding, SortedSets, ZoneRecords, find_broken, find_lacking};
 use zonetext_files::stop::RunError;
 use zonetext_findings::subjects::Text;
-use zonetext_report::code::Code;
 
 /// Number of records whose findings are held at once.
 const PART: usize = 4096;
