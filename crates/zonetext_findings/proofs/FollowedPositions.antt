@@ -17,7 +17,7 @@ feeds_cons c l b e = sum_by-cons (λ x. cond (x == 10) 1 0) c l ∙ ap (λ b. co
 line_cons : (c : ℕ) (l : List ℕ) (b : Bool) → (c == 10) ≡ b → take_while in_line (c ∷ l) ≡ cond (not b) (c ∷ take_while in_line l) []
 line_cons c l b e = take_while-cons in_line c l ∙ ap (λ b. cond (not b) (c ∷ take_while in_line l) []) e
 
--- what follows octets without a line feed goes on their line
+-- what follows octets without a line feed is on their line
 goes_on_by : (b : Bool) (c : ℕ) (l z : List ℕ) → (c == 10) ≡ b → (feeds l ≡ 0 → take_while in_line (l ++ z) ≡ l ++ take_while in_line z) → feeds (c ∷ l) ≡ 0
     → take_while in_line (c ∷ (l ++ z)) ≡ c ∷ (l ++ take_while in_line z)
 goes_on_by true c l z e rest h = absurd (omega (arith, h, feeds_cons c l true e))
