@@ -328,8 +328,10 @@ fn listing_of<'o>(inner: &'o ArgMatches, files: &[&'o str]) -> Result<Reading<'o
         Some(most) => most as usize,
         None => MOST_ERRORS,
     };
-    let reading = reading_of(inner, files, false)?;
-    Ok(Reading { most, ..reading })
+    match reading_of(inner, files, false) {
+        Ok(reading) => Ok(Reading { most, ..reading }),
+        Err(usage) => Err(usage),
+    }
 }
 
 /// Writes the records of files as they come.
