@@ -19,3 +19,4 @@ pub mod AlikeStates
 pub mod HeadReads
 pub mod HeadSteps
 pub mod ReadRecords
+pub mod RepeatedSoa

@@ -1,5 +1,5 @@
 -- The text with which a part of a zone file begins.
-use Rattle.std.specs.Prelude.{◌≡◌, ◌<◌, ◌^◌, ℕ, List, [], ◌∷◌, ◌++◌, codes, decimal, map, refl, unwrap_or, Option, Some, None}
+use Rattle.std.specs.Prelude.{⊤, ◌≡◌, ◌<◌, ◌^◌, ℕ, List, [], ◌∷◌, ◌++◌, codes, decimal, map, refl, unwrap_or, Option, Some, None}
 use Rattle.std.specs.Borrow.{Bor}
 use Rattle.std.specs.List.{AllByRecursion}
 use Rattle.std.specs.Option.{option_to_list}
@@ -10,7 +10,7 @@ use Rattle.rdata_fields.specs.declared.record_ref.RecordRef.{RecordRef}
 use Rattle.zone_reader.specs.declared.known.NameState.{NameState}
 use Rattle.zone_reader.specs.declared.known.NameState.TheVariants.{Unset, Name, Rejected}
 use Rattle.zone_reader.specs.declared.state.State.{State}
-use Rattle.zone_record.specs.Borrowed.{IsRecordOf}
+use Rattle.zone_record.specs.Borrowed.{IsNoRecord, IsRecordOf}
 use Rattle.zone_record.specs.DataTokens.{tokens_are_nested}
 use Rattle.zone_record.specs.Records.{record_document, record_nests, record_tokens}
 use Rattle.zone_record.specs.declared.record.Record.{Record}
@@ -20,6 +20,8 @@ use Rattle.dns_zone.specs.Layout.{Step, newline}
 use Rattle.dns_zone.specs.Nesting.{IsNested, lines_of, nested_append, nested_lines}
 use Rattle.dns_zone.specs.Printed.{printed}
 use Rattle.dns_zone.specs.declared.zonefile_fmt.DisplayKind.TheVariants.{Simple}
+use Rattle.zone_stream.specs.declared.cut_error.CutError.{CutError}
+use Rattle.zone_stream.specs.declared.cut_error.CutError.TheVariants.{OutOfMemory, LongTtl, NoRecord}
 use Rattle.zone_stream.specs.declared.head.PartHead.{PartHead}
 
 -- the tokens of a line
@@ -69,12 +71,46 @@ HasShortTtls h = (unwrap_or (state_of h).default_ttl 0 < 2 ^ 31) × AllByRecursi
 abbrev pub PushesHead : {N O : Type 0} → PartHead N O → List ℕ → List ℕ → Type 0
 PushesHead h old new = HasShortTtls h × (new ≡ old ++ printed Simple (head_document h))
 
--- the lines of a head are appended whose first record is the last one that was read
-pub record BeginsPart (state : State) (read : RecordRef) (old new : List ℕ) : Type 0 where
-  pub head : PartHead (Bor (List ℕ)) (Bor (List ℕ))
+-- two records have the same octets and numbers
+abbrev pub HaveSameOctets : {N O M P : Type 0} → Record N O → Record M P → Type 0
+HaveSameOctets a b = (octets : RecordRef) × IsRecordOf octets a × IsRecordOf octets b
+
+-- the second is the first again, if there is one
+abbrev pub IsRepeated : {N O M P : Type 0} → Option (Record N O) → Option (Record M P) → Type 0
+IsRepeated None None = ⊤
+IsRepeated (Some a) (Some b) = HaveSameOctets a b
+IsRepeated None (Some b) = ⊥
+IsRepeated (Some a) None = ⊥
+
+-- the head of a part: it repeats the SOA, if there is one, and its first record is the last one that was read
+pub record IsHeadOf {N O M P : Type 0} (state : State) (soa : Option (Record N O)) (read : RecordRef) (head : PartHead M P) : Type 0 where
   pub state_is : state_of head ≡ state
+  pub repeated : IsRepeated soa head.repeated
   pub first : IsRecordOf read head.first
+
+-- the lines of such a head are appended
+pub record BeginsPart {N O : Type 0} (state : State) (soa : Option (Record N O)) (read : RecordRef) (old new : List ℕ) : Type 0 where
+  pub head : PartHead (Bor (List ℕ)) (Bor (List ℕ))
+  pub is_head : IsHeadOf state soa read head
   pub pushes : PushesHead head old new
+
+-- why the lines of a head are not appended: a TTL is too long, or memory was out
+abbrev pub IsHeadError : {N O : Type 0} → PartHead N O → CutError → Type 0
+IsHeadError h LongTtl = HasShortTtls h → ⊥
+IsHeadError h OutOfMemory = HasShortTtls h
+IsHeadError h NoRecord = ⊥
+
+-- why the lines of such a head are not appended
+pub record HasHeadError {N O : Type 0} (state : State) (soa : Option (Record N O)) (read : RecordRef) (error : CutError) : Type 0 where
+  pub head : PartHead (Bor (List ℕ)) (Bor (List ℕ))
+  pub is_head : IsHeadOf state soa read head
+  pub is_error : IsHeadError head error
+
+-- why no part begins with the last record that was read
+abbrev pub IsBeginError : {N O : Type 0} → State → Option (Record N O) → RecordRef → CutError → Type 0
+IsBeginError state soa read NoRecord = IsNoRecord read
+IsBeginError state soa read LongTtl = HasHeadError state soa read LongTtl
+IsBeginError state soa read OutOfMemory = HasHeadError state soa read OutOfMemory
 
 -- ---- lemmas
 

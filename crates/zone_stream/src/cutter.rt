@@ -1,10 +1,12 @@
 //! Decides with which records of a zone file parts begin.
-ghost use Rattle.std.specs.Prelude.{◌≡◌, ◌↔◌, IfOk, IsTrue, OnOk, false, true};
+ghost use Rattle.std.specs.Prelude.{◌≡◌, ◌↔◌, [], ◌∷◌, ◌++◌, IfErr, IfOk, IsTrue, List, OnOk, false, true};
 ghost use Rattle.std.specs.String.{string_bytes};
-ghost use Rattle.zone_record.specs.Borrowed.{IsRecordOf};
-ghost use Rattle.zone_stream.specs.Heads.{BeginsPart, PushesHead};
+ghost use Rattle.zone_record.specs.Borrowed.{IsNoRecord, IsRecordOf};
+ghost use Rattle.rdata_fields.specs.declared.record_ref.RecordRef.{RecordRef};
+ghost use Rattle.zone_stream.specs.Heads.{BeginsPart, IsBeginError, IsHeadError, IsRepeated, PushesHead};
+ghost use Rattle.zone_stream.specs.declared.cut_error.CutError.TheVariants.{NoRecord};
 ghost use Rattle.zone_reader.specs.declared.known.NameState.TheVariants.{Unset};
-ghost use Rattle.zone_stream.specs.Cutting.{BeginsHere, PassesRecord, owner_changes};
+ghost use Rattle.zone_stream.specs.Cutting.{BeginsHere, HasProcessed, IsCutError, IsStoreError, MustStore, NeedsRecord, PassesRecord, owner_changes};
 ghost use Rattle.zone_stream.specs.Shares.{no_shares};
 
 use crate::cut_error::CutError;
@@ -16,6 +18,7 @@ use rdata_fields::RecordRef;
 use rdata_values::RecordType;
 use std::alloc::Allocator;
 use zone_reader::{NameState, State};
+use zone_record::laws::records_hold_values;
 use zone_record::{Record, owned_record, record_of};
 
 /// Decides with which records of a file parts begin. A part begins with the first record. It also
@@ -32,9 +35,12 @@ pub struct Cutter<A: Allocator> {
     soa: Option<Record<Vec<u8, A>, Vec<u8, A>>>,
 }
 
-/// Returns the record that was read, or fails with `NoRecord`.
-fn checked<'a>(given: &RecordRef<'a>) -> Result<Record<&'a [u8], &'a [u8]>, CutError>
-    ensures { IfOk result (IsRecordOf given.now) }
+/// Returns the record that was read, for as long as `given` is borrowed. Fails with `NoRecord` if
+/// the owner is not a name, or the RDATA is not of the type.
+fn first_of<'a>(given: &'a RecordRef<'_>) -> Result<Record<&'a [u8], &'a [u8]>, CutError>
+    ensures is { IfOk result (IsRecordOf given.now) }
+    ensures error { IfErr result (λ e. e ≡ NoRecord) }
+    ensures none { IfErr result (λ _. IsNoRecord given.now) }
 {
     match record_of(given) {
         Some(one) => Ok(one),
@@ -42,19 +48,15 @@ fn checked<'a>(given: &RecordRef<'a>) -> Result<Record<&'a [u8], &'a [u8]>, CutE
     }
 }
 
-/// Returns the record that was read, for as long as `given` is borrowed.
-fn first_of<'a>(given: &'a RecordRef<'_>) -> Result<Record<&'a [u8], &'a [u8]>, CutError>
-    ensures { IfOk result (IsRecordOf given.now) }
-{
-    checked(given)
-}
-
-/// Appends the lines with which a part begins.
+/// Appends the lines with which a part begins. Fails with `LongTtl` if zone files can't hold one of
+/// its TTLs.
 fn push_head<Owner: AsOctets, Octets: AsOctets, A: Allocator>(
     lines: &mut String<A>,
     head: &PartHead<'_, Owner, Octets>,
 ) -> Result<(), CutError>
-    ensures { OnOk result (PushesHead head.now (string_bytes lines.old) (string_bytes lines.new)) }
+    ensures pushes { OnOk result (PushesHead head.now (string_bytes lines.old)
+        (string_bytes lines.new)) }
+    ensures error { IfErr result (IsHeadError head.now) }
 {
     if !head.can_be_read() {
         return Err(CutError::LongTtl);
@@ -70,6 +72,8 @@ impl<A: Allocator + Copy> Cutter<A> {
     pub fn new(alloc: A, octets: usize, count: usize, repeats_soa: bool) -> Cutter<A>
         ensures shares { result.shares ≡ no_shares octets count }
         ensures owner { result.owner ≡ Unset }
+        ensures repeats { result.repeats_soa ≡ repeats_soa }
+        ensures none { HasProcessed [] result }
     {
         Cutter {
             alloc,
@@ -98,10 +102,15 @@ impl<A: Allocator + Copy> Cutter<A> {
     }
 
     /// Returns the record that is repeated before the first one of a part.
-    fn repeated(&self) -> Result<Option<Record<&[u8], &[u8]>>, CutError> {
+    fn repeated(&self) -> Option<Record<&[u8], &[u8]>>
+        ensures { IsRepeated self.now.soa result }
+    {
         match &self.soa {
-            Some(soa) => Ok(Some(checked(&soa.borrowed())?)),
-            None => Ok(None),
+            Some(soa) => {
+                records_hold_values(soa);
+                record_of(&soa.borrowed())
+            }
+            None => None,
         }
     }
 
@@ -112,11 +121,12 @@ impl<A: Allocator + Copy> Cutter<A> {
         given: &RecordRef<'_>,
         lines: &mut String<A>,
     ) -> Result<(), CutError>
-        ensures { OnOk result (BeginsPart state.now given.now (string_bytes lines.old)
-            (string_bytes lines.new)) }
+        ensures begins { OnOk result (BeginsPart state.now self.now.soa given.now
+            (string_bytes lines.old) (string_bytes lines.new)) }
+        ensures error { IfErr result (IsBeginError state.now self.now.soa given.now) }
     {
         let first = first_of(given)?;
-        let repeated = self.repeated()?;
+        let repeated = self.repeated();
         let head = PartHead {
             state,
             repeated,
@@ -125,12 +135,24 @@ impl<A: Allocator + Copy> Cutter<A> {
         push_head(lines, &head)
     }
 
-    /// Stores the first SOA, if it is to be repeated.
+    /// Returns whether a record is the first SOA, and is to be repeated.
+    fn must_store(&self, given: &RecordRef<'_>) -> bool
+        ensures { IsTrue result ↔ MustStore self.now given.now }
+    {
+        self.repeats_soa && given.rtype == RecordType::SOA && self.soa.is_none()
+    }
+
+    /// Stores the first SOA, if it is to be repeated. Fails with `NoRecord` as `first_of` does.
     fn keep_soa(&mut self, given: &RecordRef<'_>) -> Result<(), CutError>
         ensures shares { self.new.shares ≡ self.old.shares }
         ensures owner { self.new.owner ≡ self.old.owner }
+        ensures repeats { self.new.repeats_soa ≡ self.old.repeats_soa }
+        ensures keeps { (before : List RecordRef) → HasProcessed before self.old
+            → OnOk result (HasProcessed (before ++ given.now ∷ []) self.new) }
+        ensures error { IfErr result (IsStoreError given.now) }
+        ensures needs { IfErr result (λ _. MustStore self.old given.now) }
     {
-        if self.repeats_soa && given.rtype == RecordType::SOA && self.soa.is_none() {
+        if self.must_store(given) {
             let Some(soa) = owned_record(self.alloc, given)? else {
                 return Err(CutError::NoRecord);
             };
@@ -144,7 +166,10 @@ impl<A: Allocator + Copy> Cutter<A> {
     /// the part begins are appended, up to and with this record, and the part continues with the
     /// text after its entry.
     ///
-    /// After an error no further record may be processed.
+    /// Fails with `LongTtl` if a part would begin with the record, and zone files can't hold one of
+    /// the TTLs in its lines, and with `NoRecord` if the owner is not a name, or the RDATA is not of
+    /// the type. Only a record with which a part begins, or the SOA to repeat, can fail. After an
+    /// error no further record may be processed.
     pub fn process_record(
         &mut self,
         state: &State,
@@ -156,9 +181,15 @@ impl<A: Allocator + Copy> Cutter<A> {
         ensures passes { IfOk result (λ begins. PassesRecord self.old state.now at begins
             self.new) }
         ensures begins { IfOk result (λ begins. begins ≡ true
-            → BeginsPart state.now given.now (string_bytes lines.old) (string_bytes lines.new)) }
+            → BeginsPart state.now self.old.soa given.now (string_bytes lines.old)
+            (string_bytes lines.new)) }
         ensures goes_on { IfOk result (λ begins. begins ≡ false
             → string_bytes lines.new ≡ string_bytes lines.old) }
+        ensures repeats { self.new.repeats_soa ≡ self.old.repeats_soa }
+        ensures soa { (before : List RecordRef) → HasProcessed before self.old
+            → OnOk result (HasProcessed (before ++ given.now ∷ []) self.new) }
+        ensures error { IfErr result (IsCutError self.old state.now given.now at) }
+        ensures needs { IfErr result (λ _. NeedsRecord self.old state.now given.now at) }
     {
         let begins = self.begins(state, at);
         if begins {
