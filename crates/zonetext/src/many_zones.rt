@@ -160,40 +160,6 @@ fn drop_repeated(alloc: Global, zones: &mut Vec<ZoneSource>) -> Result<(), Alloc
     Ok(())
 }
 
-impl<'o> Options<'o> {
-    /// Returns the options for a zone.
-    fn of_source<'z>(&'z self, source: &'z ZoneSource) -> Options<'z> {
-        let base = match &source.base {
-            Some(base) => Some(base.as_str()),
-            None => None,
-        };
-        Options {
-            form: self.form,
-            most: self.most,
-            denied: self.denied,
-            allowed: self.allowed,
-            needs_host_names: source.needs_host_names,
-            is_strict: self.is_strict,
-            class: source.class.unwrap_or(self.class),
-            max_ttl: self.max_ttl.or(source.max_ttl),
-            max_entry: self.max_entry,
-            generate: self.generate,
-            folders: self.folders,
-            base: self.base.or(base),
-            stdin_name: self.stdin_name,
-            zone: match &source.zone {
-                Some(zone) => Zone::Set(zone.as_str()),
-                None => self.zone,
-            },
-            times: self.times,
-            is_verbose: self.is_verbose,
-            is_text: self.is_text,
-            is_quiet: self.is_quiet,
-            is_many: true,
-        }
-    }
-}
-
 /// Writes the file and the zone before the number of its findings, if that is written.
 pub fn begin_summary(
     rt: &HostRuntime,
@@ -275,14 +241,43 @@ fn report_zones(
     eprintln!(rt; "{zones} zone{plural}, {failed} with errors, {warnings} warning{all}")
 }
 
-/// Checks a zone, and returns the status.
+/// Checks a zone, and returns the status. Options with one value come before those of the zone.
 fn check_source(
     rt: &HostRuntime,
     source: &ZoneSource,
     options: &Options,
     totals: &mut Totals,
 ) -> io::Result<u8> {
-    check_argument(rt, source.file.as_str(), &options.of_source(source), totals)
+    let base = match &source.base {
+        Some(base) => Some(base.as_str()),
+        None => None,
+    };
+    let zone = match &source.zone {
+        Some(zone) => Zone::Set(zone.as_str()),
+        None => options.zone,
+    };
+    let own = Options {
+        form: options.form,
+        most: options.most,
+        denied: options.denied,
+        allowed: options.allowed,
+        needs_host_names: source.needs_host_names,
+        is_strict: options.is_strict,
+        class: source.class.unwrap_or(options.class),
+        max_ttl: options.max_ttl.or(source.max_ttl),
+        max_entry: options.max_entry,
+        generate: options.generate,
+        folders: options.folders,
+        base: options.base.or(base),
+        stdin_name: options.stdin_name,
+        zone,
+        times: options.times,
+        is_verbose: options.is_verbose,
+        is_text: options.is_text,
+        is_quiet: options.is_quiet,
+        is_many: true,
+    };
+    check_argument(rt, source.file.as_str(), &own, totals)
 }
 
 /// Checks zones, and returns the greatest status.
