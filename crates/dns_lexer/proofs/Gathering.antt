@@ -6,7 +6,7 @@ use Rattle.dns_lexer.specs.declared.pieces.EndOfEntry.{EndOfEntry}
 use Rattle.dns_lexer.specs.declared.pieces.Fault.{Fault}
 use Rattle.dns_lexer.specs.declared.entry_tokens.EntryToken.{EntryToken}
 use Rattle.dns_lexer.specs.declared.entry_tokens.NextEntryError.TheVariants.{BadText}
-use Rattle.dns_lexer.specs.EntryTokens.{ReturnsEntry, IsInEntries, IsOpen, PartSeen, TokenIs, EndIs, token_seen, tokens_seen}
+use Rattle.dns_lexer.specs.EntryTokens.{BeginsToken, ReturnsEntry, IsInEntries, IsOpen, PartSeen, TokenIs, EndIs, token_seen, tokens_seen}
 
 -- the tokens before, and what remains: the entry is open, or nothing was there
 pub record Gathers (old now : List (Result PartSeen Fault)) (tokens : List EntryToken) : Type 0 where
@@ -43,6 +43,13 @@ module _ (old now new : List (Result PartSeen Fault)) (tokens : List EntryToken)
 
   pub gives_fault : (f : Fault) → now ≡ Err f ∷ new → ReturnsEntry old tokens (Err (BadText f)) new
   gives_fault f e = (g.blank, g.is ∙ ap (λ l. tokens_seen g.blank tokens ++ l) e, still_open (Err f) e)
+
+  pub gives_room : (t : EntryToken) (b : Bool) → now ≡ Ok (TokenIs (token_seen t) b) ∷ new → BeginsToken old
+  gives_room t b e = subst BeginsToken (sym (g.is ∙ ap (λ l. tokens_seen g.blank tokens ++ l) e)) (token_first tokens)
+    where
+      token_first : (ts : List EntryToken) → BeginsToken (tokens_seen g.blank ts ++ Ok (TokenIs (token_seen t) b) ∷ new)
+      token_first [] = tt
+      token_first (x ∷ xs) = tt
 
   pub gives_none : now ≡ [] → new ≡ [] → ReturnsEntry old tokens (Ok None) new
   gives_none e n = go g.rest

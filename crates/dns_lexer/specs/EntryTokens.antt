@@ -125,12 +125,17 @@ IsOpen blank (Err f ∷ seen) = seen ≡ []
 abbrev pub IsInEntries : List (Result PartSeen Fault) → Type 0
 IsInEntries seen = (seen ≡ []) ⊎ ((blank : Bool) × IsOpen blank seen)
 
--- the tokens of an entry and its end are returned; or nothing remains; or the tokens before the error, after which nothing remains; or all remains, since an allocation failed
+-- a token is first
+abbrev pub BeginsToken : List (Result PartSeen Fault) → Type 0
+BeginsToken (Ok (TokenIs t b) ∷ seen) = ⊤
+BeginsToken _ = ⊥
+
+-- the tokens of an entry and its end are returned; or nothing remains; or the tokens before the error, after which nothing remains; or all remains, since a token is there and an allocation failed
 abbrev pub ReturnsEntry : List (Result PartSeen Fault) → List EntryToken → Result (Option EndOfEntry) NextEntryError → List (Result PartSeen Fault) → Type 0
 ReturnsEntry old tokens (Ok (Some end)) new = old ≡ tokens_seen end.begins_blank tokens ++ Ok (EndIs end) ∷ new
 ReturnsEntry old tokens (Ok None) new = (old ≡ []) × (tokens ≡ []) × (new ≡ [])
 ReturnsEntry old tokens (Err (BadText f)) new = (blank : Bool) × (old ≡ tokens_seen blank tokens ++ Err f ∷ new) × (new ≡ [])
-ReturnsEntry old tokens (Err ShortBuf) new = (tokens ≡ []) × (new ≡ old)
+ReturnsEntry old tokens (Err ShortBuf) new = (tokens ≡ []) × (new ≡ old) × BeginsToken old
 
 -- an offset among octets, with at most as many open parentheses as octets before it
 pub record IsOffsetAtDepth (octets : List ℕ) (s : CursorState) : Type 0 where

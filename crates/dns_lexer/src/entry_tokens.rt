@@ -236,7 +236,8 @@ impl<'t> EntryTokens<'t> {
     /// contents of the list are dropped.
     ///
     /// If an error comes before the end, the list has the tokens before it, and no more items
-    /// follow. If an allocation fails, the list is empty and the iterator is unchanged.
+    /// follow. If an allocation fails, which only a token needs, the list is empty and the iterator
+    /// is unchanged.
     pub fn next_entry<A: Allocator>(
         &mut self,
         tokens: &mut Vec<EntryToken<'t>, A>,

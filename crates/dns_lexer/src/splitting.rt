@@ -1,7 +1,7 @@
 //! Splits a zone file into entries.
-ghost use Rattle.std.specs.Prelude.{◌≡◌, ◌++◌, ◌∷◌, [], Some, OnOk, IfOk};
+ghost use Rattle.std.specs.Prelude.{◌≡◌, ◌++◌, ◌∷◌, [], Ok, Some, OnOk, IfErr, IfOk, true};
 ghost use Rattle.std.specs.List.{All, AllByRecursion};
-ghost use Rattle.dns_lexer.specs.Answer.{IsKeptOf, IsSplitOf, KeepsPiece, texts, entries_of};
+ghost use Rattle.dns_lexer.specs.Answer.{IsKeptOf, IsSplitOf, KeepsPiece, entries_of, is_stored, texts};
 ghost use Rattle.dns_lexer.specs.Pieces.{IsPieceOf};
 ghost use Rattle.dns_lexer.specs.Splitting.{SplitsOnlyInto};
 ghost use Rattle.dns_lexer.specs.Token.{IsToken};
@@ -44,7 +44,8 @@ impl<A: Allocator + Copy> Collected<A> {
     #[inline(always)]
     fn keep(&mut self, alloc: A, text: &str, piece: Piece) -> Result<(), AllocError>
         requires { IsPieceOf text.now piece }
-        ensures { OnOk result (KeepsPiece text.now piece self.old self.new) }
+        ensures keeps { OnOk result (KeepsPiece text.now piece self.old self.new) }
+        ensures stores { IfErr result (λ _. is_stored (Ok piece) ≡ true) }
     {
         match piece {
             Piece::Word(part) | Piece::Quote(part) => {
@@ -83,8 +84,8 @@ impl<A: Allocator + Copy> Collected<A> {
 /// and empty ones count. Two tokens may be adjacent if at least one of them is quoted.
 ///
 /// Fails with `BadText` if the text isn't of this grammar, with the offset up to which it could
-/// still have become one. Fails with `ShortBuf` only if an allocation fails. The time is linear in
-/// the octets.
+/// still have become one. Fails with `ShortBuf` only if an allocation fails, so not where an error
+/// comes before the first token and the first end of an entry. The time is linear in the octets.
 pub fn split<A: Allocator + Copy>(
     alloc: A,
     text: &str,
