@@ -1,5 +1,5 @@
 -- The results of parsing a list of tokens.
-use Rattle.std.specs.Prelude.{ℕ, List, [], ◌∷◌, ◌≡◌, ◌≢◌, Option, Some, None, Result, Ok, Err, MatchOption, ◌⊎◌}
+use Rattle.std.specs.Prelude.{ℕ, List, [], ◌∷◌, ◌≡◌, ◌≢◌, Option, Some, None, Result, Ok, Err, MatchOption, MatchResult, ◌⊎◌}
 use Rattle.std.proofs.Common.{replicate}
 use Rattle.dns_octets.specs.Room.{Room}
 use Rattle.dns_symbol.specs.declared.symbol.Symbol.{Symbol}
@@ -56,6 +56,10 @@ abbrev pub ReadsRest : {V : Type 0} → (List Token → Result V Cause → List 
 ReadsRest reads tokens (Ok values) rest = ReadsSome reads tokens values [] × (rest ≡ [])
 ReadsRest {V} reads tokens (Err why) rest =
     (values : List V) × (middle : List Token) × ReadsSome reads tokens values middle × (((middle ≢ []) × reads middle (Err why) rest) ⊎ ((values ≢ []) × (why ≡ short_buf) × (rest ≡ middle)))
+
+-- the same, of a result whose list is read by `items`
+abbrev pub ReadsRestAs : {V W E : Type 0} → (E → Cause) → (W → List V) → (List Token → Result V Cause → List Token → Type 0) → List Token → Result W E → List Token → Type 0
+ReadsRestAs cause items reads tokens r rest = MatchResult r (λ v. ReadsRest reads tokens (Ok (items v)) rest) (λ e. ReadsRest reads tokens (Err (cause e)) rest)
 
 -- two results of the same call are equal
 abbrev pub HasOneAnswer : {A : Type 0} → (A → Type 0) → Type 0

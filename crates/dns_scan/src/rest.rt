@@ -1,10 +1,12 @@
 //! Parses the remaining tokens of an entry.
 ghost use Rattle.std.specs.Prelude.{◌≡◌, ◌⊎◌, ℕ, List, [], All, IfOk, IsOkAnd, MatchResult, Ok, Err};
 ghost use Rattle.std.specs.List.{AllZip};
+ghost use Rattle.dns_octets.specs.Room.{within};
+ghost use Rattle.dns_charstr.specs.Limits.{max_string};
 ghost use Rattle.dns_charstr.specs.Reading.{HasOctets};
 ghost use Rattle.dns_symbol.specs.Cause.{IsCause, short_buf, trailing_tokens};
 ghost use Rattle.dns_scan.specs.Join.{ConvertsTokens, LeavesLast};
-ghost use Rattle.dns_scan.specs.Reads.{ReadsRest};
+ghost use Rattle.dns_scan.specs.Reads.{OctetsRead, ReadsFirstToken, ReadsRestAs};
 ghost use Rattle.dns_scan.specs.Unread.{HasTokens, first_of, OfTokens};
 ghost use Rattle.dns_scan.specs.Tokens.{Token, LooksAhead, AtEnd};
 ghost use Rattle.dns_scan.specs.Strings.{AreShort, HaveStrings};
@@ -44,9 +46,9 @@ pub fn scan_rest<A: Allocator, S: Scanner, T: Scan<S> + Drop>(
 ) -> Result<Vec<T, A>, S::Error>
     requires { S.can_scan scanner.old }
     ensures ready { S.can_scan scanner.new }
-    ensures reads { (tokens : List Token) → HasTokens S.next_token scanner.old tokens
-        → (rest : List Token) × MatchResult result (λ v. ReadsRest T.scan_reads tokens (Ok v.items) rest) (λ e. ReadsRest T.scan_reads tokens (Err (S.Error.cause e)) rest)
-        × HasTokens S.next_token scanner.new rest }
+    ensures reads { OfTokens S.next_token scanner.old (λ tokens. (rest : List Token)
+        × ReadsRestAs S.Error.cause (λ v. v.items) T.scan_reads tokens result rest
+        × HasTokens S.next_token scanner.new rest) }
     ensures none { HasTokens S.next_token scanner.old [] → IsOkAnd result (λ v. v.items ≡ []) }
 {
     let mut values = Vec::new(alloc);
@@ -90,7 +92,7 @@ impl<S: Scanner, C: ConvertSymbols<EntrySymbol, S::Error> + Default> Scan<S>
 /// no token remains.
 ///
 /// Tokens that are character strings of at most 255 octets are parsed as these, unless an
-/// allocation fails. Any other tokens are rejected.
+/// allocation fails. Any other tokens are rejected, with the error of the first that isn't one.
 pub fn strings_rest<A: Allocator, S: Scanner>(
     alloc: A,
     scanner: &mut S,
@@ -104,6 +106,10 @@ where
     ensures whole { (tokens : List Token) (strings : List (List ℕ))
         → HasTokens S.next_token scanner.old tokens → AllZip HasOctets tokens strings → AreShort strings
         → IsOkAnd result (λ v. v.items ≡ strings) ⊎ IsCause S.Error.cause result short_buf }
+    ensures reads { OfTokens S.next_token scanner.old (λ tokens. (rest : List Token)
+        × ReadsRestAs S.Error.cause (λ v. v.items)
+        (ReadsFirstToken (OctetsRead (within max_string S.OctetsBuilder.room))) tokens result rest
+        × HasTokens S.next_token scanner.new rest) }
     ensures none { HasTokens S.next_token scanner.old [] → IsOkAnd result (λ v. v.items ≡ []) }
     ensures rest { LeavesLast S.next_token scanner.old result scanner.new }
 {
