@@ -1,14 +1,16 @@
 -- Character strings that are all remaining tokens.
 use Rattle.std.proofs.Common.{ℕ, ◌≡◌, ◌<◌, ◌≤◌, false, List, [], ◌∷◌, ◌++◌, length, refl, sym, ap, ◌∙◌, arith, subst, ⊎_elim, inl, inr, Vec, Option, Result, Ok, Err}
-use Rattle.std.specs.Prelude.{is_some, All, IsOkAnd, ◌⊎◌}
+use Rattle.std.specs.Prelude.{◌≢◌, is_some, All, IsOkAnd, ◌⊎◌}
 use Rattle.std.specs.List.{AllZip}
 use Rattle.std.proofs.lemmas.List.Elements.{All-cons, All-head, All-nil, All-tail}
-use Rattle.dns_octets.specs.Room.{Room}
+use Rattle.dns_octets.specs.Room.{Room, within}
+use Rattle.dns_charstr.specs.Limits.{max_string}
 use Rattle.dns_charstr.specs.Reading.{HasOctets}
 use Rattle.dns_charstr.proofs.ReadBack.{reads_back}
 use Rattle.dns_symbol.specs.Cause.{Cause, short_buf}
 use Rattle.dns_scan.specs.Join.{LeavesOf}
 use Rattle.dns_scan.specs.Octets.{IsPrinted}
+use Rattle.dns_scan.specs.Reads.{OctetsRead, ReadsFirstToken, ReadsRest, ReadsRestAs}
 use Rattle.dns_scan.specs.Unread.{HasTokens, consumes_first}
 use Rattle.dns_scan.specs.Tokens.{Token, Peeks}
 use Rattle.dns_scan.proofs.TokensLeft.{none_left}
@@ -78,3 +80,12 @@ module _ {S E : Type 0} (next : S → Option Token → S → Type 0) (cause : E 
       → ReadsBack {T = List (List ℕ)} next cause room strings_of (strings_of strings) (past ++ strings_of strings) [] (Err e) new
   strings_lack e valid some texts whole =
       ⊎_elim (λ is. absurd is) (λ lack. inr (inl lack, may_after room past (strings_of strings) (may_lack strings some))) (whole (texts_read strings tokens valid texts) (short_each strings valid))
+
+-- strings that were read of some tokens are some, and are the value
+pub strings_read : {E : Type 0} (room : Room) (cause : E → Cause) (tokens rest : List Token) (strings : List (List ℕ)) (r : Result (List (List ℕ)) E) → tokens ≢ []
+    → ReadsRest (ReadsFirstToken (OctetsRead (within max_string room))) tokens (Ok strings) rest → (0 < length strings → IsOkAnd r (λ s. s ≡ strings))
+    → ReadsRestAs cause (λ s. s) (ReadsFirstToken (OctetsRead (within max_string room))) tokens r rest
+strings_read room cause tokens rest [] r some h made = absurd (some (sym h.0))
+strings_read room cause tokens rest (x ∷ xs) (Ok s) some h made =
+    subst (λ l. ReadsRest (ReadsFirstToken (OctetsRead (within max_string room))) tokens (Ok l) rest) (sym (made (omega arith))) h
+strings_read room cause tokens rest (x ∷ xs) (Err e) some h made = absurd (made (omega arith))

@@ -1,11 +1,16 @@
 -- The result of parsing the text of a record.
 use Rattle.std.specs.List.{concat}
-use Rattle.std.specs.Prelude.{List, [], ◌≡◌, ◌++◌, ◌⊎◌, Option, Result, IsOkAnd, codes}
+use Rattle.std.specs.Prelude.{ℕ, List, [], ◌≡◌, ◌≢◌, ◌++◌, ◌⊎◌, Option, Some, Result, Ok, Err, IfErr, IsOkAnd, codes}
 use Rattle.dns_octets.specs.Room.{Room}
-use Rattle.dns_symbol.specs.Cause.{Cause, IsCause, custom_text, end_of_entry, short_buf}
-use Rattle.dns_scan.specs.Unread.{HasTokens, OfTokens}
-use Rattle.dns_scan.specs.Tokens.{Token}
+use Rattle.dns_symbol.specs.Cause.{Cause, IsCause, custom_text, end_of_entry, short_buf, trailing_tokens}
+use Rattle.dns_codec.specs.Base.{Base}
+use Rattle.dns_scan.specs.Join.{IsJoin}
+use Rattle.dns_scan.specs.Numbers.{by_cause}
+use Rattle.dns_scan.specs.Reads.{ReadsBoth}
+use Rattle.dns_scan.specs.Unread.{HasTokens, OfTokens, first_of}
+use Rattle.dns_scan.specs.Tokens.{Token, marker}
 use Rattle.dns_iter.specs.Name.{invalid_name}
+use Rattle.dns_laws.specs.Encodings.{AnswersEncoding}
 use Rattle.custom_record.specs.Spellings.{ConsumesOnlySpellings}
 use Rattle.custom_record.specs.Values.{Value, AreFields, AreTexts, AreValues, SomeMayLack}
 
@@ -45,6 +50,36 @@ ReadsLast {T = T} are next cause room values old r new = (x : T) (past : List Va
 abbrev pub ParsesRecord : {S T E : Type 0} → (S → Option Token → S → Type 0) → (E → Cause) → Room → (T → List Value) → S → Result T E → S → Type 0
 ParsesRecord {T = T} next cause room values old r new =
     (x : T) (tokens : List Token) → AreFields (values x) → AreTexts (values x) tokens [] → HasTokens next old tokens → ReadsBack next cause room values (values x) (values x) [] r new
+
+-- the results of parsing tokens, and the tokens after them
+abbrev pub TokenReading : Type 0 → Type 1
+TokenReading V = List Token → Result V Cause → List Token → Type 0
+
+-- a call that parses the tokens before which it was made as a reading states, and leaves those after them
+abbrev pub ParsesAs : {S V E : Type 0} → (S → Option Token → S → Type 0) → (E → Cause) → TokenReading V → S → Result V E → S → Type 0
+ParsesAs next cause reads old r new = OfTokens next old (λ tokens. (rest : List Token) × reads tokens (by_cause cause r) rest × HasTokens next new rest)
+
+-- three values in a row, and five, of which the first that is rejected has its error
+abbrev pub ReadsThree : {A B C : Type 0} → TokenReading A → TokenReading B → TokenReading C → TokenReading (A × B × C)
+ReadsThree a b c tokens (Ok x) rest = ReadsBoth a (ReadsBoth b c) tokens (Ok (x.0, (x.1, x.2))) rest
+ReadsThree a b c tokens (Err why) rest = ReadsBoth a (ReadsBoth b c) tokens (Err why) rest
+
+abbrev pub ReadsFive : {A B C D E : Type 0} → TokenReading A → TokenReading B → TokenReading C → TokenReading D → TokenReading E → TokenReading (A × B × C × D × E)
+ReadsFive a b c d e tokens (Ok x) rest = ReadsBoth a (ReadsBoth b (ReadsBoth c (ReadsBoth d e))) tokens (Ok (x.0, (x.1, (x.2, (x.3, x.4))))) rest
+ReadsFive a b c d e tokens (Err why) rest = ReadsBoth a (ReadsBoth b (ReadsBoth c (ReadsBoth d e))) tokens (Err why) rest
+
+-- the result of a record for tokens: `\#` comes first; or the fields are rejected; or tokens remain after them; or there is a value, and no more tokens
+abbrev pub RecordRead : {R : Type 0} → TokenReading R → List Token → Result R Cause → Type 0
+RecordRead reads tokens (Ok y) = (first_of tokens ≢ Some marker) × reads tokens (Ok y) []
+RecordRead {R} reads tokens (Err why) =
+    ((first_of tokens ≡ Some marker) × (why ≡ generic_data))
+    ⊎ ((first_of tokens ≢ Some marker) × (rest : List Token)
+    × (reads tokens (Err why) rest ⊎ ((y : R) × reads tokens (Ok y) rest × (rest ≢ []) × (why ≡ trailing_tokens))))
+
+-- tokens that aren't empty are rejected as their join would be, as one token
+abbrev pub RejectsJoin : {S V E : Type 0} → Base → (S → Option Token → S → Type 0) → (E → Cause) → Room → S → Result V E → Type 0
+RejectsJoin b next cause room old r =
+    OfTokens next old (λ tokens. (text : List ℕ) → IsJoin tokens text → concat tokens ≢ [] → IfErr r (λ e. AnswersEncoding {O = List ℕ} b cause (λ s. s) room text (Err e)))
 
 -- tokens without octets are rejected as an entry that ended early
 abbrev pub WantsSome : {S T E : Type 0} → (S → Option Token → S → Type 0) → (E → Cause) → S → Result T E → Type 0

@@ -6,7 +6,7 @@ ghost use Rattle.dns_scan.specs.Tokens.{Token};
 ghost use Rattle.dns_zone.specs.Layout.{token};
 ghost use Rattle.dns_entry.specs.Field.{text_octets};
 ghost use Rattle.custom_record.specs.FieldLaws.{number8_back, number16_back, number32_back, string_back, long_text_back, both_back, name_read};
-ghost use Rattle.custom_record.specs.ReadsBack.{FieldBack, ParsesFields, five_values, three_values};
+ghost use Rattle.custom_record.specs.ReadsBack.{FieldBack, ParsesAs, ParsesFields, ReadsFive, ReadsThree, five_values, three_values};
 ghost use Rattle.custom_record.specs.SpellingLaws.{number8_only, number16_only, number32_only, string_only, long_text_only, both_only, name_only};
 ghost use Rattle.custom_record.specs.Spellings.{AreSpellingsOf};
 ghost use Rattle.custom_record.specs.Values.{Value, number8, number16, number32, name, string, long_text, AreValues, AreTexts};
@@ -203,11 +203,14 @@ impl<'a, Iter: Iterator<Item = &'a str>, Octets: ScanOctets, E: ScannerError> Fi
 
 /// Parses the texts of fields: they parse as the same values, and the tokens after them remain.
 /// Parsing their texts fails for lack of capacity or memory only if a field of the record exceeds
-/// the guaranteed capacity. Tokens that don't spell such fields are rejected.
+/// the guaranteed capacity. Tokens that don't spell such fields are rejected, with the error of the
+/// first field that is rejected.
 pub fn scan_fields<S: Scanner, T: Field<S>>(scanner: &mut S) -> Result<T, S::Error>
     requires { S.can_scan scanner.old }
     ensures ready { S.can_scan scanner.new }
     ensures fields { ParsesFields S.next_token S.Error.cause S.OctetsBuilder.room T.values
+        scanner.old result scanner.new }
+    ensures reads { ParsesAs S.next_token S.Error.cause T.scan_reads
         scanner.old result scanner.new }
 {
     T::scan(scanner)
@@ -224,6 +227,8 @@ where
     ensures fields { ParsesFields S.next_token S.Error.cause S.OctetsBuilder.room
         (three_values A.values B.values C.values)
         scanner.old result scanner.new }
+    ensures reads { ParsesAs S.next_token S.Error.cause
+        (ReadsThree A.scan_reads B.scan_reads C.scan_reads) scanner.old result scanner.new }
 {
     let (a, others) = scan_fields::<S, (A, (B, C))>(scanner)?;
     let (b, c) = others;
@@ -242,6 +247,9 @@ where
     ensures ready { S.can_scan scanner.new }
     ensures fields { ParsesFields S.next_token S.Error.cause S.OctetsBuilder.room
         (five_values A.values B.values C.values D.values E.values)
+        scanner.old result scanner.new }
+    ensures reads { ParsesAs S.next_token S.Error.cause
+        (ReadsFive A.scan_reads B.scan_reads C.scan_reads D.scan_reads E.scan_reads)
         scanner.old result scanner.new }
 {
     let (a, others) = scan_fields::<S, (A, (B, (C, (D, E))))>(scanner)?;

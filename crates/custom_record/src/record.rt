@@ -1,10 +1,11 @@
 //! RDATA: values that print as the tokens of one entry, and parse from them.
 ghost use Rattle.std.specs.Prelude.{◌≡◌, ◌≢◌, ◌⊎◌, List, [], ◌∷◌, IfOk, IfSome, IsOk, IsOkAnd, MatchResult};
-ghost use Rattle.dns_symbol.specs.Cause.{IsCause};
+ghost use Rattle.dns_symbol.specs.Cause.{Cause, IsCause};
+ghost use Rattle.dns_scan.specs.Numbers.{by_cause};
 ghost use Rattle.dns_scan.specs.Unread.{HasTokens, first_of, others_of, OfTokens};
 ghost use Rattle.dns_scan.specs.Tokens.{Token, marker};
 ghost use Rattle.custom_record.specs.Parts.{Part, IsLaidOut, steps_of, values_of, HasSameFields};
-ghost use Rattle.custom_record.specs.ReadsBack.{Lacks, generic_data, ParsesRecord};
+ghost use Rattle.custom_record.specs.ReadsBack.{Lacks, generic_data, ParsesAs, ParsesRecord, RecordRead, TokenReading};
 ghost use Rattle.custom_record.specs.Spellings.{AreSpellingsOf, ConsumesOnlySpellings};
 ghost use Rattle.custom_record.specs.Values.{AreFields, AreTexts, SomeMayLack};
 ghost use Rattle.dns_iter.specs.Entry.{entry_next};
@@ -31,6 +32,9 @@ pub trait RecordData<Octets: ScanOctets, A: Allocator + Copy>: ZonefileFmt {
     fn known(&self)
         ensures { AreFields (values_of (parts self.now)) };
 
+    // The tokens before, the value or the error, and the tokens after, for an error with that cause.
+    ghost data_reads: { {E : Type 0} → (E → Cause) → TokenReading Self };
+
     /// Parses the tokens of the RDATA, and rejects tokens that don't spell such RDATA.
     /// [`scan_record`] has checked that they don't begin with the marker of unknown RDATA.
     fn scan_data<'a, T: TokenText, E: ScannerError>(
@@ -42,7 +46,9 @@ pub trait RecordData<Octets: ScanOctets, A: Allocator + Copy>: ZonefileFmt {
         ensures back { ParsesRecord (entry_next T.text) E.cause Octets.Builder.room
             (λ y. values_of (parts y)) scanner.old result scanner.new }
         ensures only { ConsumesOnlySpellings (entry_next T.text)
-            (λ y. values_of (parts y)) scanner.old result scanner.new };
+            (λ y. values_of (parts y)) scanner.old result scanner.new }
+        ensures reads { ParsesAs (entry_next T.text) E.cause (data_reads E.cause)
+            scanner.old result scanner.new };
 
     // The document is that of the parts.
     ghost shown: { (x : Self) → Self.document x ≡ steps_of (parts x) };
@@ -69,7 +75,8 @@ pub fn expect_no_marker<S: Scanner>(scanner: &mut S) -> Result<(), S::Error>
 }
 
 /// Parses the RDATA and the end of the entry: a remaining token is rejected. So a value is returned
-/// only if all tokens are a spelling of its fields.
+/// only if all tokens are a spelling of its fields. The error is that of the fields, or "trailing
+/// data" if tokens remain after them.
 ///
 /// RDATA that begins with `\#` is rejected with "generic record data is not supported", for every
 /// type: no value is parsed from RFC 3597's generic form, nor is that form parsed as the type's
@@ -93,6 +100,8 @@ where
     ensures generic { (others : List Token)
         → HasTokens (entry_next T.text) scanner.old (marker ∷ others)
         → IsCause E.cause result generic_data × HasTokens (entry_next T.text) scanner.new others }
+    ensures reads { OfTokens (entry_next T.text) scanner.old
+        (λ tokens. RecordRead (R.data_reads E.cause) tokens (by_cause E.cause result)) }
     ensures all { OfTokens (entry_next T.text) scanner.new (λ tokens. IsOk result → tokens ≡ []) }
 {
     expect_no_marker(scanner)?;

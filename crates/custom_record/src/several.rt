@@ -1,9 +1,14 @@
 //! Fields that are all remaining tokens of an entry.
-ghost use Rattle.std.specs.Prelude.{◌≡◌, ◌↔◌, ◌<◌, List, ℕ, [], length, All, IfOk, IfErr, IsOk, IsOkAnd};
+ghost use Rattle.std.specs.Prelude.{◌≡◌, ◌≢◌, ◌↔◌, ◌<◌, List, ℕ, [], length, All, IfOk, IfErr, IsOk, IsOkAnd};
 ghost use Rattle.dns_symbol.specs.Cause.{IsCause, end_of_entry};
-ghost use Rattle.dns_scan.specs.Unread.{HasTokens};
+ghost use Rattle.dns_charstr.specs.Limits.{max_string};
+ghost use Rattle.dns_codec.specs.Base.{base16, base64};
+ghost use Rattle.dns_octets.specs.Room.{within};
+ghost use Rattle.dns_scan.specs.Reads.{OctetsRead, ReadsFirstToken, ReadsRestAs};
+ghost use Rattle.dns_scan.specs.Tokens.{Token};
+ghost use Rattle.dns_scan.specs.Unread.{HasTokens, OfTokens};
 ghost use Rattle.dns_zone.specs.Writers.{StepsOnOk};
-ghost use Rattle.custom_record.specs.ReadsBack.{ReadsLast, WantsSome};
+ghost use Rattle.custom_record.specs.ReadsBack.{ReadsLast, RejectsJoin, WantsSome};
 ghost use Rattle.custom_record.specs.Several.{IsString, string_steps, strings_of};
 ghost use Rattle.custom_record.specs.Spellings.{ConsumesOnlySpellings};
 ghost use Rattle.custom_record.specs.Values.{Value, AreFields, AreValues, base64_values, hex_values};
@@ -58,7 +63,8 @@ impl<Octets: AsOctets> SomeOctets<Octets> {
 
 /// Parses all remaining tokens as octets in base 16 (RFC 4648 section 8).
 ///
-/// If there are no octets, the entry is rejected as one that ended early.
+/// If there are no octets, the entry is rejected as one that ended early. Other tokens are rejected
+/// as their join would be as one token.
 pub fn hex_rest<S: Scanner>(scanner: &mut S) -> Result<SomeOctets<S::Octets>, S::Error>
 where
     S::Octets: Drop,
@@ -68,6 +74,8 @@ where
         scanner.old result scanner.new }
     ensures only { ConsumesOnlySpellings S.next_token hex_values scanner.old result scanner.new }
     ensures none { WantsSome S.next_token S.Error.cause scanner.old result }
+    ensures rejects { RejectsJoin base16 S.next_token S.Error.cause S.OctetsBuilder.room
+        scanner.old result }
 {
     let octets = hex_entry_is_scanned_back(scanner)?;
     some_octets(octets)
@@ -75,7 +83,8 @@ where
 
 /// Parses all remaining tokens as octets in base 64 (RFC 4648 section 4).
 ///
-/// If there are no octets, the entry is rejected as one that ended early.
+/// If there are no octets, the entry is rejected as one that ended early. Other tokens are rejected
+/// as their join would be as one token.
 pub fn base64_rest<S: Scanner>(scanner: &mut S) -> Result<SomeOctets<S::Octets>, S::Error>
 where
     S::Octets: Drop,
@@ -85,6 +94,8 @@ where
         scanner.old result scanner.new }
     ensures only { ConsumesOnlySpellings S.next_token base64_values scanner.old result scanner.new }
     ensures none { WantsSome S.next_token S.Error.cause scanner.old result }
+    ensures rejects { RejectsJoin base64 S.next_token S.Error.cause S.OctetsBuilder.room
+        scanner.old result }
 {
     let octets = base64_entry_is_scanned_back(scanner)?;
     some_octets(octets)
@@ -186,7 +197,8 @@ impl<Octets: AsOctets, A: Allocator> ZonefileFmt for Strings<Octets, A> {
 
 /// Parses all remaining tokens as character strings, at least one.
 ///
-/// If there is no string, the entry is rejected as one that ended early.
+/// If there is no string, the entry is rejected as one that ended early. Other tokens are rejected
+/// with the error of the first that isn't a character string.
 pub fn strings_rest<S: Scanner, A: Allocator>(
     alloc: A,
     scanner: &mut S,
@@ -199,6 +211,10 @@ where
         scanner.old result scanner.new }
     ensures only { ConsumesOnlySpellings S.next_token strings_of scanner.old result scanner.new }
     ensures none { HasTokens S.next_token scanner.old [] → IsCause S.Error.cause result end_of_entry }
+    ensures reads { OfTokens S.next_token scanner.old (λ tokens. tokens ≢ [] → (rest : List Token)
+        × ReadsRestAs S.Error.cause (λ s. s)
+        (ReadsFirstToken (OctetsRead (within max_string S.OctetsBuilder.room))) tokens result rest
+        × HasTokens S.next_token scanner.new rest) }
 {
     some_strings(dns_scan::strings_rest(alloc, scanner)?)
 }

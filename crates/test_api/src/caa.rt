@@ -2,6 +2,7 @@
 ghost use Rattle.std.specs.Prelude.{refl};
 ghost use Rattle.custom_record.specs.Parts.{steps_of};
 ghost use Rattle.test_api.specs.Parts.{caa_parts};
+ghost use Rattle.test_api.specs.Readings.{caa_reads};
 
 use dns_text::charstr::CharStr;
 use dns_text::record::{
@@ -37,6 +38,8 @@ impl<Octets: AsOctets> ZonefileFmt for Caa<Octets> {
 
 impl<Octets: ScanOctets, A: Allocator + Copy> RecordData<Octets, A> for Caa<Octets> {
     ghost parts = { caa_parts };
+
+    ghost data_reads = { caa_reads Octets Octets.Builder.room };
 
     fn known(&self) {
         self.flags.known();

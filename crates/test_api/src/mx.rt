@@ -2,6 +2,7 @@
 ghost use Rattle.std.specs.Prelude.{refl};
 ghost use Rattle.custom_record.specs.Parts.{steps_of};
 ghost use Rattle.test_api.specs.Parts.{mx_parts};
+ghost use Rattle.test_api.specs.Readings.{mx_reads};
 
 use dns_text::record::{FieldValue, RecordData, scan_fields};
 use dns_text::scan::{EntryScanner, ScanOctets, ScannerError, TokenText};
@@ -32,6 +33,8 @@ impl<Octets: AsOctets> ZonefileFmt for Mx<Octets> {
 
 impl<Octets: ScanOctets, A: Allocator + Copy> RecordData<Octets, A> for Mx<Octets> {
     ghost parts = { mx_parts };
+
+    ghost data_reads = { mx_reads Octets Octets.Builder.room };
 
     fn known(&self) {
         self.preference.known();

@@ -19,3 +19,11 @@ returns-in_err-a-clause-fields g c =
       before = λ x. fields.before (x.0, (x.1, (x.2, (x.3, x.4))));
       only = fields.only;
     })
+
+pub returns-clause-reads : goal.returns-clause-reads
+returns-clause-reads g c = c.in_ok-a.ensures.reads
+
+pub returns-in_err-a-clause-reads : goal.returns-in_err-a-clause-reads
+returns-in_err-a-clause-reads g c =
+    let p = err_from_is_err_and c.from_residual.result c.from_residual.ensures.1 in
+    rw (p.1, p.2) c.in_err-a.ensures.reads

@@ -4,6 +4,7 @@ use Rattle.std.proofs.lemmas.Result.{err_from_is_err_and}
 use Rattle.custom_record.specs.Values.{hex}
 use Rattle.custom_record.proofs.OnlySpelled.{rest_only, none_made, none_lacks, no_hex}
 use Rattle.custom_record.proofs.FieldsBack.{hex_text, some_rest, no_rest}
+use Rattle.custom_record.proofs.NoOctets.{hex_empty, some_accepted, error_same}
 use Rattle.custom_record.proofs.several.hex_rest.Goals as goal
 
 pub returns-clause-back : goal.returns-clause-back
@@ -33,3 +34,13 @@ pub returns-in_err-octets-clause-none : goal.returns-in_err-octets-clause-none
 returns-in_err-octets-clause-none g c = λ tokens stands empty.
     let given = (c.in_err-octets.ensures.takes tokens stands).0 in
     absurd (none_lacks g.S.OctetsBuilder.OctetsBuilder.room (given.back [] tt (empty ∙ no_hex)))
+
+pub returns-clause-rejects : goal.returns-clause-rejects
+returns-clause-rejects g c = λ tokens stands text join some.
+    let given = (c.in_ok-octets.ensures.takes tokens stands).0 in
+    some_accepted _ (g.S.Octets.AsOctets.octets c.in_ok-octets.octets) c.some_octets.result (λ none. some (hex_empty _ _ given.only none)) c.some_octets.ensures.some
+
+pub returns-in_err-octets-clause-rejects : goal.returns-in_err-octets-clause-rejects
+returns-in_err-octets-clause-rejects g c = λ tokens stands text join some.
+    let p = err_from_is_err_and c.from_residual.result c.from_residual.ensures.1 in
+    rw (p.1, p.2) (error_same _ _ _ _ _ _ ((c.in_err-octets.ensures.takes tokens stands).0.answer text join))

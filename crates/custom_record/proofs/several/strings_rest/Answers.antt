@@ -1,7 +1,7 @@
 use Rattle.std.proofs.Common.{ap, length}
 use Rattle.std.proofs.lemmas.Result.{err_from_is_err_and}
 use Rattle.custom_record.proofs.OnlySpelled.{strings_only}
-use Rattle.custom_record.proofs.StringsBack.{strings_given, strings_lack}
+use Rattle.custom_record.proofs.StringsBack.{strings_given, strings_lack, strings_read}
 use Rattle.custom_record.proofs.several.strings_rest.Goals as goal
 
 pub returns-clause-back : goal.returns-clause-back
@@ -26,3 +26,13 @@ returns-clause-none g c = λ stands. c.some_strings.ensures.none (ap length (c.i
 
 pub returns-in_err-strings_rest-clause-none : goal.returns-in_err-strings_rest-clause-none
 returns-in_err-strings_rest-clause-none g c = λ stands. absurd (c.in_err-strings_rest.ensures.none stands)
+
+pub returns-clause-reads : goal.returns-clause-reads
+returns-clause-reads g c = λ tokens stands some.
+    let read = c.in_ok-strings_rest.ensures.reads tokens stands in
+    (read.0, strings_read g.S.OctetsBuilder.OctetsBuilder.room g.S.Error.ScannerError.cause tokens read.0 c.in_ok-strings_rest.field-0.items c.some_strings.result some read.1 c.some_strings.ensures.some, read.2)
+
+pub returns-in_err-strings_rest-clause-reads : goal.returns-in_err-strings_rest-clause-reads
+returns-in_err-strings_rest-clause-reads g c = λ tokens stands some.
+    let p = err_from_is_err_and c.from_residual.result c.from_residual.ensures.1 in
+    rw (p.1, p.2) (c.in_err-strings_rest.ensures.reads tokens stands)

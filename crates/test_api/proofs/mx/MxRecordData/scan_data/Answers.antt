@@ -12,3 +12,11 @@ returns-in_err-preference-clause-back g c = λ x tokens is texts stands.
 
 pub returns-clause-only : goal.returns-clause-only
 returns-clause-only g c = λ tokens stands. c.in_ok-preference.ensures.fields.only tokens stands
+
+pub returns-clause-reads : goal.returns-clause-reads
+returns-clause-reads g c = c.in_ok-preference.ensures.reads
+
+pub returns-in_err-preference-clause-reads : goal.returns-in_err-preference-clause-reads
+returns-in_err-preference-clause-reads g c =
+    let p = err_from_is_err_and c.from_residual.result c.from_residual.ensures.1 in
+    rw (p.1, p.2) c.in_err-preference.ensures.reads
