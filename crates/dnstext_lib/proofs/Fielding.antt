@@ -1,5 +1,5 @@
 -- Fields from arguments and tokens.
-use Rattle.std.proofs.Common.{◌≡◌, ℕ, ◌+◌, ◌<◌, ◌≤◌, List, [], ◌∷◌, ◌++◌, map, drop, arith, refl, sym, ap, subst, ◌∙◌, append_assoc, append-nil, ◌⊎◌, inl, inr, Option, Some, None, Ok, Err}
+use Rattle.std.proofs.Common.{◌≡◌, ℕ, zero, suc, ◌+◌, ◌<◌, ◌≤◌, List, [], ◌∷◌, ◌++◌, length, map, drop, arith, refl, sym, ap, subst, ◌∙◌, append_assoc, append-nil, ◌⊎◌, inl, inr, ⊎_elim, Option, Some, None, Ok, Err}
 use Rattle.std.proofs.lemmas.List.{map-append}
 use Rattle.dns_octets.specs.Room.{Room, within}
 use Rattle.dns_symbol.specs.declared.symbol.Symbol.{Symbol}
@@ -13,9 +13,10 @@ use Rattle.dns_scan.specs.Tokens.{Token}
 use Rattle.dns_scan.proofs.Answered.{builds_read, all_given_in}
 use Rattle.dns_entry.specs.Field.{Content, content_of, contents_of, number, text_octets}
 use Rattle.dns_entry.specs.declared.entry.Field.{Field}
-use Rattle.dns_entry.specs.Codecs.{Codec, ConvertsTo, OctetsRefused}
-use Rattle.dnstext_lib.specs.EntryLine.{asked_of, FieldsRun, FieldHolds, NoField}
-use Rattle.dnstext_lib.specs.Program.{Stops}
+use Rattle.dns_entry.specs.Codecs.{Codec, ConvertsTo, MadeOf}
+use Rattle.dnstext_lib.specs.EntryLine.{Asked, AsksFields, asked_of, field_word, FieldsRun, FieldHolds, FirstHolds, NoField}
+use Rattle.dnstext_lib.specs.Print.{BeginsBy}
+use Rattle.dnstext_lib.specs.Program.{OctetsStop}
 use Rattle.dns_entry.specs.declared.entry.FieldKind.TheVariants.{Text}
 use Rattle.dnstext_lib.specs.declared.line.FieldWord.{FieldWord}
 
@@ -27,10 +28,11 @@ pub number_held : {E : Type 0} (cause : E → Cause) (limit : ℕ) (t : Token) (
 number_held cause limit t v h = (h.symbols, subst (λ e. SymbolsOf t h.symbols e) h.reads.1 h.read, (v, h.reads.0, refl))
 
 -- octets that a token doesn't convert to
-pub octets_stop : (codec : Codec) (token : Token) (why : Cause) {room : Room} {count : ℕ} → ((ConvertsTo codec token (Err why) × (count ≤ room.capacity)) ⊎ ((why ≡ short_buf) × (room.fits < count)))
-    → Stops (OctetsRefused codec) token why
-octets_stop codec token why (inl h) = inl h.0
-octets_stop codec token why (inr h) = inr h.0
+pub octets_stop : (codec : Codec) (token : Token) (why : Cause) {room : Room}
+    → (built : List ℕ) × MadeOf codec token built × ((ConvertsTo codec token (Err why) × (length built ≤ room.capacity)) ⊎ ((why ≡ short_buf) × (room.fits < length built)))
+    → OctetsStop codec token why
+octets_stop codec token why h =
+    ⊎_elim (λ k. inl k.0) (λ k. inr (k.0, (h.0, h.1, λ none. let z : length h.0 ≡ 0 = ap length none in omega (arith, k.1, z)))) h.2
 
 -- a character string that was scanned
 pub text_held : {E : Type 0} (cause : E → Cause) (room : Room) (t : Token) (s : List ℕ)
@@ -47,6 +49,16 @@ text_held cause room t s h =
 -- the fields of the tokens that remain, after those that were made, are all
 abbrev pub FieldsLeft : List FieldWord → ℕ → List Content → Type 0
 FieldsLeft words i made = (more : List Content) (refusal : Option Cause) → FieldsRun (map asked_of (drop i words)) more refusal → FieldsRun (map asked_of words) (made ++ more) refusal
+
+-- and once one was made, the first was
+pub record FieldsSoFar (words : List FieldWord) (i : ℕ) (made : List Content) : Type 0 where
+  pub left : FieldsLeft words i made
+  pub first : 0 < i → FirstHolds (map asked_of words)
+
+pub first_held : (words : List FieldWord) (i : ℕ) (w : FieldWord) (c : Content) → drop i words ≡ w ∷ drop (i + 1) words → FieldHolds w.kind w.text.now c → (0 < i → FirstHolds (map asked_of words))
+    → FirstHolds (map asked_of words)
+first_held words zero w c at holds before = subst (λ l. FirstHolds (map asked_of l)) (sym at) (c, holds)
+first_held words (suc i) w c at holds before = before (omega arith)
 
 pub fields_more : {A : Type 0} (words : List FieldWord) (i : ℕ) (w : FieldWord) (fields longer : List (Field A)) (field : Field A) → drop i words ≡ w ∷ drop (i + 1) words
     → FieldHolds w.kind w.text.now (content_of field)
@@ -66,3 +78,8 @@ pub fields_all : (words : List FieldWord) (i : ℕ) (made : List Content) → dr
 fields_all words i made at left =
     subst (λ l. FieldsRun (map asked_of words) l None) (append-nil made)
     (left [] None (subst (λ l. FieldsRun (map asked_of l) [] None) (sym at) (refl, refl)))
+
+-- fields of which the first was made begin by its argument
+pub held_begin : (words : List (List ℕ)) (asked : List Asked) → AsksFields words asked → FirstHolds asked → BeginsBy field_word words
+held_begin words [] e held = absurd held
+held_begin words (x ∷ xs) e held = (x, map field_word xs, e)

@@ -1,6 +1,6 @@
 -- Arguments that are parsed in order, each as one item.
 use Rattle.std.proofs.Common.{◌≡◌, ℕ, Result, Ok, Err, ◌+◌, List, [], ◌∷◌, ◌++◌, map, drop, refl, sym, ap, ◌∙◌, append_assoc, append-nil}
-use Rattle.std.specs.Prelude.{◌≢◌, IsErr, MatchResult}
+use Rattle.std.specs.Prelude.{IsErr, MatchResult}
 use Rattle.std.proofs.lemmas.List.{map-append}
 use Rattle.std.specs.Borrow.{Bor}
 use Rattle.dnstext_lib.specs.Program.{bytes_of_words}
@@ -10,11 +10,6 @@ use Rattle.dnstext_lib.specs.Print.{BeginsBy}
 pub when_err : {T E : Type 0} (P : T → Type 0) (Q : E → Type 0) (r : Result T E) → IsErr r → ((e : E) → Q e) → MatchResult r P Q
 when_err P Q (Ok v) h k = cc
 when_err P Q (Err e) h k = k e
-
--- of some things the first word is one for something
-pub some_begin : {X : Type 0} (word : X → List ℕ) (words : List (List ℕ)) (xs : List X) → words ≡ map word xs → xs ≢ [] → BeginsBy word words
-some_begin word words [] e some = absurd (some refl)
-some_begin word words (x ∷ xs) e some = (x, map word xs, e)
 
 module _ {Y X : Type 0} (of : Y → X) (word : X → List ℕ) where
   -- the words are those of what was read, and those but the first `i`

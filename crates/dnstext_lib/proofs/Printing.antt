@@ -1,12 +1,16 @@
 -- The output of the program for tokens.
 use Rattle.std.proofs.Common.{ℕ, zero, suc, ◌+◌, ◌≡◌, ◌<◌, ◌≤◌, ◌∙◌, List, [], ◌∷◌, ◌++◌, length, drop, add-one, arith, refl, sym, subst, ap, inl, inr, ⊎_elim, None, Result, Ok, Err}
-use Rattle.std.specs.Prelude.{Vec, MatchResult, encode_utf8_all}
+use Rattle.std.specs.Prelude.{Vec, IsOk, MatchResult, Option, Some, codes, encode_utf8_all, map}
+use Rattle.std.specs.List.{concat}
 use Rattle.dns_codec.specs.Base.{base16, encoded}
 use Rattle.dns_symbol.specs.Characters.{line_feed}
 use Rattle.std.specs.Fmt.{WritesInCalls, decimal}
 use Rattle.std.proofs.Output.{writes_in_calls_append, writes_in_calls_nil}
 use Rattle.dns_octets.specs.Room.{Room, of_memory, within}
-use Rattle.dns_symbol.specs.Symbol.{chars_error_text}
+use Rattle.dns_symbol.specs.declared.symbol.Symbol.{Symbol as PlainSymbol}
+use Rattle.dns_symbol.specs.declared.error.BadSymbol.{BadSymbol}
+use Rattle.dns_symbol.specs.declared.error.SymbolCharsError.{SymbolCharsError}
+use Rattle.dns_symbol.specs.Symbol.{chars_error_text, octet_of}
 use Rattle.dns_symbol.specs.Text.{SymbolsOf}
 use Rattle.dns_wire.specs.Printed.{dotted_text}
 use Rattle.dns_name.specs.Reading.{ReadsName}
@@ -16,12 +20,12 @@ use Rattle.dns_name.specs.declared.name.UncertainName.{UncertainName}
 use Rattle.dns_name.specs.declared.name.UncertainName.TheVariants.{Absolute, Relative}
 use Rattle.dns_name.specs.declared.name.error.FromStrError.{FromStrError}
 use Rattle.dns_name.specs.declared.name.error.FromStrError.TheVariants.{Symbol, BadOctet, BinaryLabel, EmptyLabel, LongLabel, LongName, ShortBuf}
-use Rattle.dns_scan.specs.Answers.{AllOctetsFit}
+use Rattle.dns_scan.specs.Answers.{AllOctetsFit, FirstFault, IsSymbolFault}
 use Rattle.dns_scan.specs.Asks.{Builds}
-use Rattle.dns_symbol.specs.Cause.{Cause, custom_text, IsCause}
+use Rattle.dns_symbol.specs.Cause.{Cause, custom_text, short_buf, IsCause}
 use Rattle.dns_scan.specs.Numbers.{ScannedNumber}
 use Rattle.dns_scan.specs.Octets.{unquoted_token}
-use Rattle.dns_scan.specs.Steps.{HasStepOctets, step_octet}
+use Rattle.dns_scan.specs.Steps.{HasStepOctets, bad_or, step_octet}
 use Rattle.dns_scan.specs.Tokens.{Token}
 use Rattle.dns_scan.proofs.Answered.{builds_read, all_given_in, first_fault_in}
 use Rattle.dnstext_lib.specs.declared.program.ScanKind.{ScanKind}
@@ -29,7 +33,7 @@ use Rattle.dnstext_lib.specs.declared.program.RunError.{RunError}
 use Rattle.dnstext_lib.specs.declared.program.RunError.TheVariants.{Refused, WriteFailed}
 use Rattle.dns_iter.specs.Name.{AnswersName, ReadsNames, ReadsToken, invalid_name}
 use Rattle.dns_scan.specs.Numbers.{by_cause}
-use Rattle.dnstext_lib.specs.Program.{Stops, StringPrints, StringRefused, NumberPrints, NumberRefused, NamePrints, LineBy, LineWritten, LinesWritten, OctetsLine}
+use Rattle.dnstext_lib.specs.Program.{BeginsWithOctet, Stops, StringPrints, StringRefused, StringAllocates, NumberPrints, NumberRefused, NamePrints, LineBy, LineWritten, LinesWritten, OctetsLine}
 
 -- what a text reads as, over octets of another type: a name is its labels
 abbrev recast : {O : Type 0} (P : Type 0) → Result (UncertainName O) FromStrError → Result (UncertainName P) FromStrError
@@ -61,6 +65,28 @@ recast_answers P room (Err LongLabel) r h = h
 recast_answers P room (Err LongName) r h = h
 recast_answers P room (Err ShortBuf) r h = h
 
+-- a symbol whose octets are built has one
+has_octet : (q : Result ℕ BadSymbol) (p : List ℕ) → bad_or (λ o. o ∷ []) q ≡ Ok p → IsOk q
+has_octet (Ok o) p is = refl
+has_octet (Err why) p is = cc
+
+-- if the octets of symbols don't fit, the first one has an octet
+short_begins : (room : Room) (symbols : List PlainSymbol) (error : Option SymbolCharsError) (why : Cause) → FirstFault step_octet room symbols error why → why ≡ short_buf → BeginsWithOctet symbols
+short_begins room symbols error why h is = subst BeginsWithOctet (sym h.whole) (by h.front h.rest h.parts error h.gives h.fault)
+  where
+    later : (x : PlainSymbol) (q : Result ℕ BadSymbol) (count : ℕ) → octet_of x ≡ q
+        → MatchResult (bad_or (λ o. o ∷ []) q) (λ o. (room.fits < count + length o) × (why ≡ short_buf)) (λ text. why ≡ custom_text text) → IsOk (octet_of x)
+    later x (Ok o) count at k = subst (λ (r : Result ℕ BadSymbol). IsOk r) (sym at) refl
+    later x (Err bad) count at k = let no : short_buf ≡ custom_text (codes "bad symbol") = sym is ∙ k in cc
+
+    by : (front rest : List PlainSymbol) (parts : List (List ℕ)) (error : Option SymbolCharsError) → map step_octet front ≡ map Ok parts
+        → IsSymbolFault step_octet room (length (concat parts)) rest error why → BeginsWithOctet (front ++ rest)
+    by (x ∷ xs) rest [] error gives fault = cc
+    by (x ∷ xs) rest (p ∷ ps) error gives fault = let one : step_octet x ≡ Ok p = cc in has_octet (octet_of x) p one
+    by [] [] parts None gives fault = absurd fault
+    by [] [] parts (Some e) gives fault = let no : short_buf ≡ custom_text (chars_error_text e) = sym is ∙ fault in cc
+    by [] (x ∷ xs) parts error gives fault = later x (octet_of x) (length (concat parts)) refl fault
+
 module _ {E : Type 0} (cause : E → Cause) where
   -- a character string that was scanned prints as the token's value
   pub charstr_prints : (room : Room) (t : Token) (s : List ℕ) → Builds cause (HasStepOctets cause (within 255 room) step_octet) (λ s. s) t (Ok s) → StringPrints t (unquoted_token s)
@@ -76,12 +102,12 @@ module _ {E : Type 0} (cause : E → Cause) where
         ),
       )
 
-  pub charstr_stops : (room : Room) (t : Token) (e : E) → Builds cause (HasStepOctets cause (within 255 room) step_octet) (λ s. s) t (Err e) → Stops StringRefused t (cause e)
+  pub charstr_stops : (room : Room) (t : Token) (e : E) → Builds cause (HasStepOctets cause (within 255 room) step_octet) (λ s. s) t (Err e) → Stops StringRefused StringAllocates t (cause e)
   charstr_stops room t e h =
       let read = builds_read cause step_octet (within 255 room) (λ s. s) t (Err e) h in
       ⊎_elim
       (λ k. inl (read.0, read.1, read.2, k))
-      (λ k. inr k)
+      (λ k. inr (k, (read.0, read.1, read.2, short_begins (within 255 room) read.0 read.1 (cause e) read.3 k)))
       (first_fault_in step_octet (within 255 room) 255 (omega arith) read.0 read.1 (cause e) read.3)
 
   -- a number that was scanned prints as the token's value

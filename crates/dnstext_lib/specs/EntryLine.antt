@@ -1,5 +1,5 @@
 -- The arguments, the output and the status of the program's `line`.
-use Rattle.std.specs.Prelude.{ℕ, List, [], ◌∷◌, ◌++◌, ◌≡◌, ◌≢◌, ◌⊎◌, Option, Some, None, Ok, codes, map, Result, MatchResult}
+use Rattle.std.specs.Prelude.{ℕ, List, [], ◌∷◌, ◌++◌, ◌≡◌, ◌⊎◌, Option, Some, None, Ok, codes, map, Result, MatchResult}
 use Rattle.std.specs.Fmt.{WritesInCalls}
 use Rattle.dns_octets.specs.Room.{exactly}
 use Rattle.dns_symbol.specs.Characters.{line_feed}
@@ -84,10 +84,15 @@ FieldsRun (asked ∷ more) fields refusal =
     ((c : Content) × (others : List Content) × FieldHolds asked.0 asked.1 c × (fields ≡ c ∷ others) × FieldsRun more others refusal)
     ⊎ ((why : Cause) × NoField asked.0 asked.1 why × (fields ≡ []) × (refusal ≡ Some why))
 
--- why fields weren't made: a token was rejected, or the list couldn't be allocated
+-- the first field was made
+abbrev pub FirstHolds : List Asked → Type 0
+FirstHolds [] = ⊥
+FirstHolds (asked ∷ more) = (c : Content) × FieldHolds asked.0 asked.1 c
+
+-- why fields weren't made: a token was rejected; or the list couldn't be allocated, after a field was made
 abbrev pub FieldsUnmade : List Asked → FieldsError → Type 0
 FieldsUnmade asked (Refused e) = (fields : List Content) × FieldsRun asked fields (Some (str_cause e))
-FieldsUnmade asked OutOfMemory = asked ≢ []
+FieldsUnmade asked OutOfMemory = FirstHolds asked
 
 -- the fields are a line, and its text in the layout was written, and a line end
 abbrev pub LinePrinted : {O : Type 0} → (O → List ℕ → O → Type 0) → DisplayKind → List Asked → O → O → Type 0

@@ -1,11 +1,12 @@
 -- The output and the status of the program.
-use Rattle.std.specs.Prelude.{ℕ, List, [], ◌∷◌, ◌++◌, ◌≡◌, ◌⊎◌, Option, Some, None, Result, Ok, Err, IfSome, MatchOption, MatchResult, codes, map, encode_utf8_all}
+use Rattle.std.specs.Prelude.{ℕ, List, [], ◌∷◌, ◌++◌, ◌≡◌, ◌≢◌, ◌⊎◌, Option, Some, None, Result, Ok, Err, IfSome, IsOk, MatchOption, MatchResult, codes, map, encode_utf8_all}
 use Rattle.std.specs.Borrow.{Bor}
 use Rattle.std.specs.Fmt.{WritesInCalls, decimal}
 use Rattle.dns_octets.specs.Room.{exactly}
 use Rattle.dns_symbol.specs.Characters.{line_feed}
 use Rattle.dns_symbol.specs.declared.symbol.Symbol.{Symbol}
 use Rattle.dns_symbol.specs.declared.error.SymbolCharsError.{SymbolCharsError}
+use Rattle.dns_symbol.specs.Symbol.{octet_of}
 use Rattle.dns_symbol.specs.Text.{SymbolsOf}
 use Rattle.dns_wire.specs.Printed.{dotted_text}
 use Rattle.dns_codec.specs.Base.{base16, encoded}
@@ -15,7 +16,7 @@ use Rattle.dns_scan.specs.Numbers.{IsNumber, ReadsNumber, greatest}
 use Rattle.dns_scan.specs.Octets.{unquoted_token}
 use Rattle.dns_scan.specs.Steps.{step_octet}
 use Rattle.dns_scan.specs.Tokens.{Token}
-use Rattle.dns_entry.specs.Codecs.{OctetsPrint, OctetsRefused, hex_codec, base32hex_codec, base64_codec}
+use Rattle.dns_entry.specs.Codecs.{Codec, MadeOf, OctetsPrint, OctetsRefused, hex_codec, base32hex_codec, base64_codec}
 use Rattle.dns_iter.specs.Name.{NameRead}
 use Rattle.dnstext_lib.specs.declared.program.ScanKind.{ScanKind}
 use Rattle.dnstext_lib.specs.declared.program.ScanKind.TheVariants.{U8, U16, U32, U64, U128, Ttl, Charstr, Hex, Base32hex, Base64, Name}
@@ -93,9 +94,26 @@ PrintsAs Base32hex = OctetsPrint base32hex_codec
 PrintsAs Base64 = OctetsPrint base64_codec
 PrintsAs Name = NamePrints
 
--- the token is rejected, or its value couldn't be allocated
-abbrev pub Stops : (Token → Cause → Type 0) → Token → Cause → Type 0
-Stops refused token why = refused token why ⊎ (why ≡ short_buf)
+-- the first symbol has an octet
+abbrev pub BeginsWithOctet : List Symbol → Type 0
+BeginsWithOctet [] = ⊥
+BeginsWithOctet (x ∷ xs) = IsOk (octet_of x)
+
+-- the octets of a token are allocated: it begins with a symbol that has one
+abbrev pub StringAllocates : Token → Type 0
+StringAllocates token = (symbols : List Symbol) × (error : Option SymbolCharsError) × SymbolsOf token symbols error × BeginsWithOctet symbols
+
+-- and those that a converter makes of a token: it makes some before an error
+abbrev pub OctetsAllocate : Codec → Token → Type 0
+OctetsAllocate codec token = (octets : List ℕ) × MadeOf codec token octets × (octets ≢ [])
+
+-- the token is rejected, or an allocation for its value failed
+abbrev pub Stops : (Token → Cause → Type 0) → (Token → Type 0) → Token → Cause → Type 0
+Stops refused allocates token why = refused token why ⊎ ((why ≡ short_buf) × allocates token)
+
+-- such a token of an encoding
+abbrev pub OctetsStop : Codec → Token → Cause → Type 0
+OctetsStop codec = Stops (OctetsRefused codec) (OctetsAllocate codec)
 
 -- the token isn't a value of the kind, or its allocation failed, and that is the error
 abbrev pub IsRefused : ScanKind → Token → Cause → Type 0
@@ -105,10 +123,10 @@ IsRefused U32 = NumberRefused (greatest 32)
 IsRefused U64 = NumberRefused (greatest 64)
 IsRefused U128 = NumberRefused (greatest 128)
 IsRefused Ttl = NumberRefused (greatest 32)
-IsRefused Charstr = Stops StringRefused
-IsRefused Hex = Stops (OctetsRefused hex_codec)
-IsRefused Base32hex = Stops (OctetsRefused base32hex_codec)
-IsRefused Base64 = Stops (OctetsRefused base64_codec)
+IsRefused Charstr = Stops StringRefused StringAllocates
+IsRefused Hex = OctetsStop hex_codec
+IsRefused Base32hex = OctetsStop base32hex_codec
+IsRefused Base64 = OctetsStop base64_codec
 IsRefused Name = NameRefused
 
 -- the lines of tokens up to the first error, and that error

@@ -46,7 +46,7 @@ returns-in_err-octets-in-Hex g c =
     let p = err_from_is_err_and c.from_residual-in_err-octets-in-Hex.result c.from_residual-in_err-octets-in-Hex.ensures.1 in
     rw (p.1, p.2) (subst (λ k. NoField k c.args.text.now (str_cause c.in_err-octets-in-Hex.field-0.0)) (sym c.in-Hex.is)
     (octets_stop _ _ _ (base_answer str_cause of_memory base16 (λ v. v.items) c.args.text.now c.new.result (Err c.in_err-octets-in-Hex.field-0.0) c.new.ensures
-    (of_first _ _ _ _ _ _ _ [] (c.new-scanner.ensures.stands _ (texts_from road)) c.in_err-octets-in-Hex.ensures.scans).0).2))
+    (of_first _ _ _ _ _ _ _ [] (c.new-scanner.ensures.stands _ (texts_from road)) c.in_err-octets-in-Hex.ensures.scans).0)))
 
 pub returns-in_ok-octets-in-Base64 : goal.returns-in_ok-octets-in-Base64
 returns-in_ok-octets-in-Base64 g c =
@@ -64,7 +64,7 @@ returns-in_err-octets-in-Base64 g c =
     let p = err_from_is_err_and c.from_residual-in_err-octets-in-Base64.result c.from_residual-in_err-octets-in-Base64.ensures.1 in
     rw (p.1, p.2) (subst (λ k. NoField k c.args.text.now (str_cause c.in_err-octets-in-Base64.field-0.0)) (sym c.in-Base64.is)
     (octets_stop _ _ _ (base_answer str_cause of_memory base64 (λ v. v.items) c.args.text.now c.new-in-Base64.result (Err c.in_err-octets-in-Base64.field-0.0) c.new-in-Base64.ensures
-    (of_first _ _ _ _ _ _ _ [] (c.new-scanner.ensures.stands _ (texts_from road)) c.in_err-octets-in-Base64.ensures.scans).0).2))
+    (of_first _ _ _ _ _ _ _ [] (c.new-scanner.ensures.stands _ (texts_from road)) c.in_err-octets-in-Base64.ensures.scans).0)))
 
 pub returns-in_ok-scan_charstr-in-Text : goal.returns-in_ok-scan_charstr-in-Text
 returns-in_ok-scan_charstr-in-Text g c =

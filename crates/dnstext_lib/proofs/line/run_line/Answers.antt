@@ -2,10 +2,10 @@ use Rattle.std.proofs.Common.{refl, ap, inl, inr, Err, map}
 use Rattle.std.specs.Prelude.{codes}
 use Rattle.dns_entry.specs.Field.{contents_of}
 use Rattle.dns_entry.specs.EntryError.{entry_error_text}
-use Rattle.dnstext_lib.specs.EntryLine.{asked_of, field_word}
+use Rattle.dnstext_lib.specs.EntryLine.{asked_of}
 use Rattle.dnstext_lib.specs.Program.{cause_text, bytes_of_words}
 use Rattle.dns_scan.specs.StrError.{str_cause}
-use Rattle.dnstext_lib.proofs.InTurn.{some_begin}
+use Rattle.dnstext_lib.proofs.Fielding.{held_begin}
 use Rattle.dnstext_lib.proofs.line.run_line.Goals as goal
 
 pub returns-in-Err-NoMemory-clause-refused : goal.returns-in-Err-NoMemory-clause-refused
@@ -28,14 +28,14 @@ pub returns-in-Err-NoMemory-make_fields-clause-refused : goal.returns-in-Err-NoM
 returns-in-Err-NoMemory-make_fields-clause-refused g c = λ is.
     let asked = map asked_of c.in-Ok.found.items in
     let some = rw (c.deref.ensures.value, c.in-Err-NoMemory-make_fields.field-0-is) at c.in-Err-NoMemory-make_fields.ensures in
-    let begins = some_begin field_word (bytes_of_words c.args.words.now) asked c.in-Ok.ensures.found some in
+    let begins = held_begin (bytes_of_words c.args.words.now) asked c.in-Ok.ensures.found some in
     (codes "short buffer", inr (inr (inr (begins, refl, refl))), c.refuse-in-Err-NoMemory-make_fields.ensures.wrote is)
 
 pub returns-in-Err-NoMemory-make_fields-clause-silent : goal.returns-in-Err-NoMemory-make_fields-clause-silent
 returns-in-Err-NoMemory-make_fields-clause-silent g c = λ is.
     let asked = map asked_of c.in-Ok.found.items in
     let some = rw (c.deref.ensures.value, c.in-Err-NoMemory-make_fields.field-0-is) at c.in-Err-NoMemory-make_fields.ensures in
-    let begins = some_begin field_word (bytes_of_words c.args.words.now) asked c.in-Ok.ensures.found some in
+    let begins = held_begin (bytes_of_words c.args.words.now) asked c.in-Ok.ensures.found some in
     inr (codes "short buffer", inr (inr (inr (begins, refl, refl))))
 
 pub returns-in-Ok-new-clause-refused : goal.returns-in-Ok-new-clause-refused

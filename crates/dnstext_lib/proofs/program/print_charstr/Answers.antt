@@ -1,7 +1,7 @@
 use Rattle.std.proofs.Common.{refl}
 use Rattle.dns_scan.specs.Octets.{unquoted_token}
 use Rattle.dns_scan.proofs.Whole.{of_first}
-use Rattle.dnstext_lib.specs.Program.{Stops, StringPrints, StringRefused}
+use Rattle.dnstext_lib.specs.Program.{Stops, StringPrints, StringRefused, StringAllocates}
 use Rattle.dnstext_lib.proofs.Printing.{charstr_prints, charstr_stops, line_by}
 use Rattle.dnstext_lib.proofs.program.print_charstr.Goals as goal
 
@@ -14,7 +14,7 @@ returns-in-Err-clause-rest g c = λ token others stands. (of_first g.S.Scanner.n
 
 pub returns-clause-line : goal.returns-clause-line
 returns-clause-line g c = λ token others stands.
-    line_by g.S.Error.ScannerError.cause _ StringPrints (Stops StringRefused) token (unquoted_token c.in-Ok.string) _ _ c.print_line.result
+    line_by g.S.Error.ScannerError.cause _ StringPrints (Stops StringRefused StringAllocates) token (unquoted_token c.in-Ok.string) _ _ c.print_line.result
     (charstr_prints g.S.Error.ScannerError.cause _ token c.in-Ok.string (of_first g.S.Scanner.next_token g.S.Error.ScannerError.cause _ _ _ _ token others stands c.in-Ok.ensures.scans).0)
     (rw c.display_unquoted.ensures at c.print_line.ensures)
 
