@@ -5,10 +5,10 @@ use Rattle.rdata_fields.specs.Source.{next_place}
 use Rattle.rdata_fields.specs.RecordErrors.{error_of_fault}
 use Rattle.rdata_fields.specs.declared.record_error.RecordError.{RecordError}
 use Rattle.rdata_values.specs.declared.types.RecordType.{RecordType}
-use Rattle.dns_lexer.specs.EntryTokens.{EndIs, TokenIs}
+use Rattle.dns_lexer.specs.EntryTokens.{BeginsToken, EndIs, TokenIs}
 use Rattle.dns_lexer.specs.declared.pieces.EndOfEntry.{EndOfEntry}
 use Rattle.dns_lexer.specs.declared.pieces.Fault.{Fault}
-use Rattle.zone_reader.specs.Source.{BeginsEntry, BeginsToken, FinishesEntry, SourceSeen, parts_after_unread, entry_end, unread_entry_tokens, tokens_first}
+use Rattle.zone_reader.specs.Source.{BeginsEntry, FinishesEntry, SourceSeen, parts_after_unread, entry_end, unread_entry_tokens, tokens_first}
 use Rattle.zone_reader.specs.declared.source.StartOfEntry.{StartOfEntry}
 use Rattle.zone_reader.proofs.Kept.{rest_kept}
 use Rattle.zone_reader.proofs.SeenParts.{Parts}

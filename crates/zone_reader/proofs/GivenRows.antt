@@ -2,7 +2,7 @@
 use Rattle.std.proofs.Common.{ℕ, ◌≡◌, ◌≢◌, Bool, true, false, List, [], ◌∷◌, ◌++◌, refl, sym, ◌∙◌, subst, append_assoc, append-nil, Option, Some, None, Result, Ok, Err}
 use Rattle.dns_octets.specs.Room.{Room}
 use Rattle.dns_lexer.specs.declared.pieces.Fault.{Fault}
-use Rattle.dns_lexer.specs.EntryTokens.{EndIs, TokenIs, TokenSeen}
+use Rattle.dns_lexer.specs.EntryTokens.{BeginsToken, EndIs, TokenIs, TokenSeen}
 use Rattle.rdata_fields.specs.declared.record_error.RecordError.{RecordError}
 use Rattle.rdata_values.specs.declared.error.ErrorKind.{ErrorKind}
 use Rattle.zone_reader.specs.EntryMeanings.{DirectiveMeans, EntryMeaning, EntryMeans, FirstTokenMeans, says_nothing, says_origin, says_default_ttl, says_include, says_generate, says_record, says_refused}
@@ -11,7 +11,7 @@ use Rattle.zone_reader.specs.declared.directive.Directive.TheVariants.{Origin, T
 use Rattle.zone_reader.specs.declared.header.RecordHeader.{RecordHeader}
 use Rattle.zone_reader.specs.EntryReading.{ReadsMeaning, directive_with, record_with}
 use Rattle.zone_reader.specs.Records.{AreSuccessiveResults, ReadsBegun, given_next, none_given}
-use Rattle.zone_reader.specs.Source.{BeginsEntry, BeginsToken, entry_end, unread_entry_tokens, tokens_first}
+use Rattle.zone_reader.specs.Source.{BeginsEntry, entry_end, unread_entry_tokens, tokens_first}
 use Rattle.zone_reader.specs.WholeTexts.{RecordsEndRows, RowsJoin, NoCallIsBlank}
 use Rattle.zone_reader.specs.declared.entry.ParsedEntry.TheVariants.{Empty}
 use Rattle.zone_reader.specs.declared.known.NameState.{NameState}

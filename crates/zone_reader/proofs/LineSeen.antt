@@ -7,7 +7,7 @@ use Rattle.dns_octets.specs.Room.{Room}
 use Rattle.dns_lexer.specs.declared.pieces.EndOfEntry.{EndOfEntry}
 use Rattle.dns_lexer.specs.declared.pieces.Piece.{Piece}
 use Rattle.dns_lexer.specs.declared.pieces.Piece.TheVariants.{Word as WordAt, Quote as QuoteAt, Comment as CommentAt, End as EndAt}
-use Rattle.dns_lexer.specs.EntryTokens.{EndIs, IsOpen, IsSeenFrom, TokenIs, TokenSeen, quote_seen, seen_from, word_seen}
+use Rattle.dns_lexer.specs.EntryTokens.{BeginsToken, EndIs, IsOpen, IsSeenFrom, TokenIs, TokenSeen, quote_seen, seen_from, word_seen}
 use Rattle.dns_lexer.specs.PassedLine.{HasNoEnd}
 use Rattle.dns_lexer.specs.Pieces.{AreOctets, between, later, next_blank}
 use Rattle.dns_lexer.specs.CursorStates.{at_entry, blank_at}
@@ -19,7 +19,7 @@ use Rattle.zone_reader.specs.Tape.{FillsLine, IsSpanIn, span_token}
 use Rattle.zone_reader.specs.declared.tape.TokenSpan.{TokenSpan}
 use Rattle.zone_reader.specs.EntryReading.{ReadsZoneEntry}
 use Rattle.zone_reader.specs.Line.{ReadsLine, line_seen, tokens_at}
-use Rattle.zone_reader.specs.Source.{BeginsToken, parts_after_tokens, last_token_end, token_end, tokens_first}
+use Rattle.zone_reader.specs.Source.{parts_after_tokens, last_token_end, token_end, tokens_first}
 use Rattle.zone_reader.specs.TextPieces.{seen_later}
 use Rattle.zone_reader.specs.declared.line.LineRead.{LineRead}
 use Rattle.zone_reader.specs.declared.state.State.{State}

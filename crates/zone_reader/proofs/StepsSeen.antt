@@ -4,12 +4,12 @@ use Rattle.std.specs.Prelude.{map, unwrap_or}
 use Rattle.dns_octets.specs.Room.{Room}
 use Rattle.dns_lexer.specs.declared.pieces.EndOfEntry.{EndOfEntry}
 use Rattle.dns_lexer.specs.declared.pieces.Fault.{Fault}
-use Rattle.dns_lexer.specs.EntryTokens.{EndIs, TokenIs, TokenSeen}
+use Rattle.dns_lexer.specs.EntryTokens.{BeginsToken, EndIs, TokenIs, TokenSeen}
 use Rattle.rdata_fields.specs.RecordErrors.{error_of_fault}
 use Rattle.rdata_fields.specs.declared.record_error.RecordError.{RecordError}
 use Rattle.zone_reader.specs.EntryReading.{ReadsZoneEntry}
 use Rattle.zone_reader.specs.Records.{ReadsBegun, ReadsNextEntry, IsAfterEntry, result_of_entry}
-use Rattle.zone_reader.specs.Source.{BeginsEntry, BeginsToken, SourceSeen, StartsAfterLine, parts_after_unread, parts_after_tokens, entry_end, unread_entry_tokens, last_token_end, tokens_first}
+use Rattle.zone_reader.specs.Source.{BeginsEntry, SourceSeen, StartsAfterLine, parts_after_unread, parts_after_tokens, entry_end, unread_entry_tokens, last_token_end, tokens_first}
 use Rattle.zone_reader.specs.TextEntries.{TextEntry, end_seen, entry_counts, parts_of_entry, tokens_end}
 use Rattle.zone_reader.specs.declared.entry.ParsedEntry.{ParsedEntry}
 use Rattle.zone_reader.specs.declared.entry.ParsedEntry.TheVariants.{Empty}

@@ -4,10 +4,10 @@ use Rattle.std.specs.Prelude.{map}
 use Rattle.std.specs.List.{filter}
 use Rattle.dns_lexer.specs.declared.pieces.EndOfEntry.{EndOfEntry}
 use Rattle.dns_lexer.specs.declared.pieces.Fault.{Fault}
-use Rattle.dns_lexer.specs.EntryTokens.{EndIs, IsOpen, IsSeen, IsSeenFrom, TokenIs}
+use Rattle.dns_lexer.specs.EntryTokens.{BeginsToken, EndIs, IsOpen, IsSeen, IsSeenFrom, TokenIs}
 use Rattle.dns_lexer.specs.Pieces.{AreOctets}
 use Rattle.dns_lexer.proofs.Standings.{entry_left, given_left}
-use Rattle.zone_reader.specs.Source.{BeginsToken, SourceSeen, StartsAfterLine, parts_after_unread, parts_after_tokens, tokens_first}
+use Rattle.zone_reader.specs.Source.{SourceSeen, StartsAfterLine, parts_after_unread, parts_after_tokens, tokens_first}
 use Rattle.zone_reader.specs.TextEntries.{IsSeenPastFaults, TextEntry, at_start, behind_fault, counts_with, entry_counts, parts_of_entries}
 use Rattle.zone_reader.proofs.SeenParts.{Parts}
 use Rattle.zone_reader.proofs.Passing.{ends_of}

@@ -6,7 +6,7 @@ use Rattle.dns_symbol.specs.Characters.{line_feed}
 use Rattle.dns_lexer.specs.declared.pieces.EndOfEntry.{EndOfEntry}
 use Rattle.dns_lexer.specs.declared.pieces.Fault.{Fault}
 use Rattle.dns_lexer.specs.declared.entry_tokens.EntryPart.{EntryPart}
-use Rattle.dns_lexer.specs.EntryTokens.{EndIs, IsOpen, IsSeenFrom, PartSeen, TokenIs, TokenSeen, answer_seen, spelled}
+use Rattle.dns_lexer.specs.EntryTokens.{BeginsToken, EndIs, IsOpen, IsSeenFrom, PartSeen, TokenIs, TokenSeen, answer_seen, spelled}
 use Rattle.rdata_fields.specs.Source.{EntryEnd}
 use Rattle.zone_reader.specs.declared.source.StartOfEntry.{StartOfEntry}
 
@@ -84,10 +84,6 @@ stop_place s = if s.is_open then end_first s.began (parts_after_tokens s.parts) 
 -- where the last of its tokens ends, and what the text has after them; if no entry is open, where the last one ended
 abbrev pub entry_end : SourceSeen → EntryEnd
 entry_end s = if s.is_open then record { at = last_token_end (unwrap_or s.taken s.began) (tokens_first s.parts); behind = Some (parts_after_tokens s.parts) } else record { at = s.began; behind = None }
-
-abbrev pub BeginsToken : List (Result PartSeen Fault) → Type 0
-BeginsToken (Ok (TokenIs t b) ∷ parts) = ⊤
-BeginsToken _ = ⊥
 
 -- the source is where an entry of tokens begins; or nothing is left; or a syntax error comes next
 abbrev pub IsAtStart : Result (Option StartOfEntry) Fault → SourceSeen → Type 0

@@ -118,7 +118,8 @@ impl State {
     /// Returns the owner of a record without one: the last owner, whatever the origin is by now.
     /// Fails if no owner is known, or if the last one is rejected.
     pub fn owner(&self) -> Result<&NameBuffer, ErrorKind>
-        ensures { MatchResult result (λ name. self.now.owner ≡ known_as name.now) (λ e. WhyNoOwner self.now.owner e) }
+        ensures { MatchResult result (λ name. self.now.owner ≡ known_as name.now)
+            (λ e. WhyNoOwner self.now.owner e) }
     {
         match &self.owner {
             NameState::Name(name) => Ok(name),

@@ -5,12 +5,12 @@ use Rattle.dns_lexer.specs.declared.pieces.EndOfEntry.{EndOfEntry}
 use Rattle.dns_lexer.specs.declared.pieces.Fault.{Fault}
 use Rattle.dns_lexer.specs.declared.pieces.Piece.{Piece}
 use Rattle.dns_lexer.specs.declared.pieces.Piece.TheVariants.{Word as WordAt, Quote as QuoteAt, Comment as CommentAt, End as EndAt}
-use Rattle.dns_lexer.specs.EntryTokens.{EndIs, IsSeen, PartSeen, TokenIs, TokenSeen, seen_from}
+use Rattle.dns_lexer.specs.EntryTokens.{BeginsToken, EndIs, IsSeen, PartSeen, TokenIs, TokenSeen, seen_from}
 use Rattle.dns_lexer.specs.Pieces.{EachWithin}
 use Rattle.dns_lexer.specs.CursorStates.{blank_at}
 use Rattle.dns_lexer.proofs.OctetsOnce.{given_once}
 use Rattle.zone_reader.specs.declared.source.StartOfEntry.{StartOfEntry}
-use Rattle.zone_reader.specs.Source.{BeginsEntry, BeginsToken, IsAtStart, SourceSeen, parts_after_tokens, end_first, unread_entry_tokens, last_end, stop_place, tokens_first}
+use Rattle.zone_reader.specs.Source.{BeginsEntry, IsAtStart, SourceSeen, parts_after_tokens, end_first, unread_entry_tokens, last_end, stop_place, tokens_first}
 use Rattle.zone_reader.specs.FirstEntry.{StopsFirst, piece_tokens, stop_offset}
 use Rattle.zone_reader.specs.TapeSource.{tokens_after}
 use Rattle.zone_stream.specs.First.{parts_of}

@@ -1,10 +1,13 @@
--- Worked examples: shares, owners, and the lines of a head.
-use Rattle.std.specs.Prelude.{◌≡◌, true, false, [], ◌∷◌, codes, decimal, Some, None, refl}
+-- Worked examples: shares, owners, the SOA that parts repeat, and the lines of a head.
+use Rattle.std.specs.Prelude.{◌≡◌, ℕ, true, false, [], ◌∷◌, codes, decimal, Some, None, refl}
 use Rattle.std.proofs.Common.{arith}
 use Rattle.rdata.specs.GatewayKeys.{plain_word}
+use Rattle.rdata_fields.specs.declared.record_ref.RecordRef.{RecordRef}
+use Rattle.rdata_values.specs.Rtype as Rtype
+use Rattle.rdata_values.specs.declared.types.RecordType.{RecordType}
 use Rattle.zone_reader.specs.Past.{nothing_declared}
 use Rattle.zone_reader.specs.declared.known.NameState.TheVariants.{Unset, Name}
-use Rattle.zone_stream.specs.Cutting.{owner_changes}
+use Rattle.zone_stream.specs.Cutting.{owner_changes, soa_to_repeat}
 use Rattle.zone_stream.specs.Heads.{directive_lines}
 use Rattle.zone_stream.specs.Shares.{BeginsShare, MayBegin, SharesSeen, no_shares, share_of}
 
@@ -36,6 +39,20 @@ owner_row = (refl, refl)
 
 first_row : owner_changes Unset (Name (codes "a" ∷ [] ∷ [])) ≡ true
 first_row = refl
+
+-- a record at the root without RDATA
+abbrev of_type : RecordType → ℕ → RecordRef
+of_type rtype ttl = record {
+  owner = record { ref_ptr = (0, 0); now = 0 ∷ [] };
+  ttl = ttl;
+  class = 1;
+  rtype = rtype;
+  «data» = record { ref_ptr = (0, 0); now = [] };
+}
+
+-- the first SOA among the records, and none unless parts repeat it
+soa_row : (soa_to_repeat true (of_type Rtype.ns 1 ∷ of_type Rtype.soa 2 ∷ of_type Rtype.soa 3 ∷ []) ≡ Some (of_type Rtype.soa 2)) × (soa_to_repeat false (of_type Rtype.soa 2 ∷ []) ≡ None)
+soa_row = (refl, refl)
 
 -- an empty state has no lines; and `$TTL 60`
 ttl_row : directive_lines (record (nothing_declared 1) { default_ttl = Some 60; last_ttl = Some 5 }) ≡ (plain_word (codes "$TTL") ∷ plain_word (decimal 60) ∷ []) ∷ []
