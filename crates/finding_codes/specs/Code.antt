@@ -18,6 +18,12 @@ code_name c = (row_of_code c).name
 abbrev pub is_text_fault : Code → Bool
 is_text_fault c = (row_of_code c).traits.is_text_fault
 
+abbrev pub is_of_absence : Code → Bool
+is_of_absence c = (row_of_code c).traits.is_of_absence
+
+abbrev pub is_of_time : Code → Bool
+is_of_time c = (row_of_code c).traits.is_of_time
+
 abbrev pub default_severity : Code → Severity
 default_severity c = (row_of_code c).severity
 

@@ -1,4 +1,5 @@
 pub mod Code
 pub mod Rows
+pub mod Rule
 pub mod Table
 pub mod Tally

@@ -8,8 +8,11 @@ use Rattle.finding_codes.specs.declared.code.Scope.{Scope}
 use Rattle.finding_codes.specs.declared.code.Scope.TheVariants.{Text as OfText, Records as OfRecords, MaxTtl as OfTtl, Zone as OfZone, Signed as OfSigned}
 use Rattle.finding_codes.specs.declared.code.Severity.{Severity}
 use Rattle.finding_codes.specs.declared.code.Severity.TheVariants.{Error, Warning}
+use Rattle.finding_codes.specs.declared.table.Part.{Part}
+use Rattle.finding_codes.specs.declared.table.Part.TheVariants.{Whole, Owner as OwnOwner, Target, Last, Field}
 use Rattle.finding_codes.specs.declared.table.Row.{Row}
 use Rattle.finding_codes.specs.declared.table.Traits.{Traits}
+use Rattle.finding_codes.specs.declared.table.Way.{Way}
 
 pub record FindingRow : Type 0 where
   pub code : Code
@@ -20,137 +23,170 @@ pub record FindingRow : Type 0 where
   -- the text of an entry; the records of a zone; those of a signed zone; the TTL of a record, if a limit is set; and else records and directives one by one
   pub scope : Scope
   pub traits : Traits
-  -- the message of a finding that only has a code; none if each finding has its own
+  -- the part of an entry that a finding is about, in the first way
+  pub part : Part
+  -- the message of a finding that only has a code, in the first way; none if each finding has its own
   pub message : List ℕ
 
-abbrev finding_row : Code → List ℕ → Severity → Scope → Traits → List ℕ → FindingRow
-finding_row c n s o t m = record { code = c; name = n; severity = s; scope = o; traits = t; message = m }
+abbrev finding_row : Code → List ℕ → Severity → Scope → Traits → Part → List ℕ → FindingRow
+finding_row c n s o t p m = record { code = c; name = n; severity = s; scope = o; traits = t; part = p; message = m }
+
+-- a further way in which a finding has a code
+pub record FindingWay : Type 0 where
+  pub code : Code
+  pub number : ℕ
+  pub part : Part
+  pub message : List ℕ
+
+abbrev finding_way : Code → ℕ → Part → List ℕ → FindingWay
+finding_way c n p m = record { code = c; number = n; part = p; message = m }
 
 abbrev none : Traits
-none = record { is_text_fault = false }
+none = record { is_text_fault = false; is_of_absence = false; is_of_time = false }
 
 -- the text can't be read as entries, or not safely
 abbrev text_fault : Traits
-text_fault = record { is_text_fault = true }
+text_fault = record { is_text_fault = true; is_of_absence = false; is_of_time = false }
+
+-- a record is missing
+abbrev of_absence : Traits
+of_absence = record { is_text_fault = false; is_of_absence = true; is_of_time = false }
+
+-- what is found depends on the time
+abbrev of_time : Traits
+of_time = record { is_text_fault = false; is_of_absence = false; is_of_time = true }
 
 -- the rows are in the order of the codes
 unfoldable pub finding_rows : List FindingRow
 finding_rows =
-    finding_row OpenQuote (codes "open-quote") Error OfText text_fault [] ∷
-    finding_row OpenParenthesis (codes "open-parenthesis") Error OfText text_fault [] ∷
-    finding_row ClosingParenthesis (codes "closing-parenthesis") Error OfText text_fault [] ∷
-    finding_row LoneReturn (codes "lone-return") Error OfText text_fault [] ∷
-    finding_row BadEscape (codes "bad-escape") Error OfText text_fault [] ∷
-    finding_row Nul (codes "nul") Error OfText text_fault (codes "NUL") ∷
-    finding_row ByteOrderMark (codes "byte-order-mark") Error OfText text_fault (codes "byte order mark") ∷
-    finding_row ControlZ (codes "control-z") Error OfText text_fault (codes "Ctrl-Z") ∷
-    finding_row MaxEntry (codes "max-entry") Error OfText text_fault [] ∷
-    finding_row Directive (codes "directive") Error OfRecords none [] ∷
-    finding_row Owner (codes "owner") Error OfRecords none [] ∷
-    finding_row Ttl (codes "ttl") Warning OfRecords none (codes "time to live above 2147483647: read as 0") ∷
-    finding_row Class (codes "class") Error OfRecords none [] ∷
-    finding_row RecordType (codes "type") Error OfRecords none [] ∷
-    finding_row Data (codes "data") Error OfRecords none [] ∷
-    finding_row Include (codes "include") Error OfRecords none [] ∷
-    finding_row NoOwner (codes "no-owner") Error OfRecords none [] ∷
-    finding_row NoTtl (codes "no-ttl") Error OfRecords none [] ∷
-    finding_row OtherClass (codes "other-class") Error OfRecords none (codes "another class than the zone's") ∷
-    finding_row NoSoa (codes "no-soa") Error OfZone none (codes "no SOA at the zone's name") ∷
-    finding_row TwoSoas (codes "two-soas") Error OfZone none (codes "two SOAs that differ") ∷
-    finding_row NoNs (codes "no-ns") Error OfZone none (codes "no NS at the zone's name") ∷
-    finding_row NsAddress (codes "ns-address") Error OfZone none (codes "name server in the zone without an address") ∷
-    finding_row Cname (codes "cname") Error OfZone none (codes "CNAME beside other records") ∷
-    finding_row Dname (codes "dname") Error OfZone none (codes "two DNAMEs of one name") ∷
-    finding_row DsApex (codes "ds-apex") Error OfZone none (codes "DS at the zone's name") ∷
-    finding_row WildcardNs (codes "wildcard-ns") Error OfZone none (codes "NS of a wildcard") ∷
-    finding_row SoaNotApex (codes "soa-not-apex") Error OfZone none (codes "SOA below the zone's name") ∷
-    finding_row NsBesideDname (codes "ns-beside-dname") Error OfZone none (codes "DNAME beside an NS") ∷
-    finding_row Nsec3Wildcard (codes "nsec3-wildcard") Error OfZone none (codes "first label of an NSEC3 is not base 32 hex") ∷
-    finding_row BelowDname (codes "below-dname") Error OfZone none (codes "record below a DNAME") ∷
-    finding_row Outside (codes "outside") Error OfZone none (codes "record outside of the zone") ∷
-    finding_row MaxTtl (codes "max-ttl") Error OfTtl none (codes "time to live above the greatest that is allowed") ∷
-    finding_row NoOrigin (codes "no-origin") Warning OfRecords none (codes "relative name, and no origin: read below the root") ∷
-    finding_row HighOctet (codes "high-octet") Warning OfText none (codes "octet outside of ASCII") ∷
-    finding_row ControlOctet (codes "control-octet") Warning OfText none (codes "control octet") ∷
-    finding_row Crlf (codes "crlf") Warning OfText none (codes "lines end in CR LF") ∷
-    finding_row NestedParentheses (codes "nested-parentheses") Warning OfText none (codes "parenthesis inside of parentheses") ∷
-    finding_row LeadingParenthesis (codes "leading-parenthesis") Warning OfText none (codes "entry begins with a parenthesis") ∷
-    finding_row AdjacentTokens (codes "adjacent-tokens") Warning OfRecords none (codes "no blank between two tokens") ∷
-    finding_row NoFinalNewline (codes "no-final-newline") Warning OfText none (codes "no line end at the end of the file") ∷
-    finding_row RelativeOrigin (codes "relative-origin") Warning OfRecords none (codes "relative name as origin") ∷
-    finding_row SoaMinimumTtl (codes "soa-minimum-ttl") Warning OfRecords none (codes "minimum of the SOA is taken as time to live") ∷
-    finding_row IncludeTtl (codes "include-ttl") Warning OfRecords none (codes "$TTL of the included file stays in force") ∷
-    finding_row MissingDot (codes "missing-dot") Warning OfRecords none (codes "name ends like the origin: a dot at its end may be missing") ∷
-    finding_row GenerateDot (codes "generate-dot") Warning OfRecords none (codes "name ends in a dot: nibbles of an even width end in one") ∷
-    finding_row EmptyUri (codes "empty-uri") Warning OfRecords none (codes "empty target") ∷
-    finding_row TlsaLength (codes "tlsa-length") Warning OfRecords none (codes "wrong number of octets for the matching type") ∷
-    finding_row IpseckeyAlgorithm (codes "ipseckey-algorithm") Warning OfRecords none (codes "algorithm 0: BIND 9.18 doesn't load it without a key, Knot 3.2 doesn't with one") ∷
-    finding_row OhttpValue (codes "ohttp-value") Warning OfRecords none (codes "ohttp has no value (RFC 9540)") ∷
-    finding_row Glue (codes "glue") Warning OfZone none (codes "name server below the delegation without an address") ∷
-    finding_row TargetCname (codes "target-cname") Warning OfZone none (codes "target is a CNAME or below a DNAME") ∷
-    finding_row TargetMissing (codes "target-missing") Warning OfZone none (codes "target is not in the zone") ∷
-    finding_row HostName (codes "host-name") Warning OfZone none (codes "not a host name: letters, digits and hyphens only") ∷
-    finding_row Cds (codes "cds") Warning OfZone none (codes "CDS or CDNSKEY without a DNSKEY") ∷
-    finding_row TtlDiffers (codes "ttl-differs") Warning OfZone none (codes "another time to live than the set's") ∷
-    finding_row Duplicate (codes "duplicate") Warning OfZone none (codes "record stands twice") ∷
-    finding_row NotAtApex (codes "not-at-apex") Warning OfZone none (codes "type that belongs at the zone's name") ∷
-    finding_row KeyProtocol (codes "key-protocol") Warning OfZone none (codes "DNSKEY of another protocol than 3") ∷
-    finding_row KeyAlgorithm (codes "key-algorithm") Warning OfZone none (codes "algorithm 0 is reserved") ∷
-    finding_row CnameTargetMissing (codes "cname-target-missing") Warning OfZone none (codes "CNAME target has no records in the zone") ∷
-    finding_row CnameLoop (codes "cname-loop") Warning OfZone none (codes "CNAMEs lead back to this name") ∷
-    finding_row TwoSpf (codes "two-spf") Warning OfZone none (codes "name has another SPF record") ∷
-    finding_row WeakDigest (codes "weak-digest") Warning OfZone none (codes "SHA-1 is the only digest of this key") ∷
-    finding_row SingleNs (codes "single-ns") Warning OfZone none (codes "zone has only one name server") ∷
-    finding_row Hidden (codes "hidden") Warning OfZone none (codes "hidden by a delegation") ∷
-    finding_row NoDnskey (codes "no-dnskey") Error OfSigned none (codes "no DNSKEY at the zone's name: it is not signed") ∷
-    finding_row Expired (codes "expired") Error OfSigned none (codes "signature has expired") ∷
-    finding_row ExpiresSoon (codes "expires-soon") Warning OfSigned none (codes "signature expires soon") ∷
-    finding_row NotYetValid (codes "not-yet-valid") Error OfSigned none (codes "signature is not valid yet") ∷
-    finding_row RrsigTimes (codes "rrsig-times") Error OfSigned none (codes "signature ends before it begins") ∷
-    finding_row RrsigSigner (codes "rrsig-signer") Error OfSigned none (codes "signer is not the zone") ∷
-    finding_row RrsigLabels (codes "rrsig-labels") Error OfSigned none (codes "labels are not as many as the owner's") ∷
-    finding_row OriginalTtl (codes "original-ttl") Error OfSigned none (codes "original TTL is not the set's TTL") ∷
-    finding_row RrsigTtl (codes "rrsig-ttl") Warning OfSigned none (codes "TTL of the signature is not the set's TTL") ∷
-    finding_row Unsigned (codes "unsigned") Error OfSigned none (codes "set without a signature") ∷
-    finding_row NoKey (codes "no-key") Error OfSigned none (codes "no signature of the set fits a DNSKEY of the zone") ∷
-    finding_row KeyMissing (codes "key-missing") Warning OfSigned none (codes "signature fits no DNSKEY of the zone") ∷
-    finding_row RrsigKey (codes "rrsig-key") Error OfSigned none (codes "signature by a revoked key") ∷
-    finding_row SignsNothing (codes "signs-nothing") Error OfSigned none (codes "signature of records that are not there") ∷
-    finding_row OccludedDnssec (codes "occluded-dnssec") Error OfSigned none (codes "NSEC or RRSIG where the zone has no authority") ∷
-    finding_row NoNsec (codes "no-nsec") Error OfSigned none (codes "name without an NSEC") ∷
-    finding_row NsecNext (codes "nsec-next") Error OfSigned none (codes "NSEC names another than the next name") ∷
-    finding_row NsecTypes (codes "nsec-types") Error OfSigned none (codes "NSEC lists other types than the name has") ∷
-    finding_row DsWithoutNs (codes "ds-without-ns") Warning OfZone none (codes "DS without an NS") ∷
-    finding_row NoNsec3 (codes "no-nsec3") Error OfSigned none (codes "name, or empty name above it, without an NSEC3") ∷
-    finding_row Nsec3Next (codes "nsec3-next") Error OfSigned none (codes "NSEC3 names another than the next hash") ∷
-    finding_row Nsec3Types (codes "nsec3-types") Error OfSigned none (codes "NSEC3 of the name, or of an empty name above it, lists other types") ∷
-    finding_row Nsec3Owner (codes "nsec3-owner") Error OfSigned none (codes "owner of the NSEC3 is not a hash one label below the zone's name") ∷
-    finding_row Nsec3Iterations (codes "nsec3-iterations") Error OfSigned none (codes "more than 150 iterations: validators treat the zone as unsigned") ∷
-    finding_row Nsec3Iterations50 (codes "nsec3-iterations-50") Warning OfSigned none (codes "more than 50 iterations: newer validators treat the zone as unsigned") ∷
-    finding_row Nsec3Iterations0 (codes "nsec3-iterations-0") Warning OfSigned none (codes "NSEC3 has iterations: 0 is advised (RFC 9276)") ∷
-    finding_row NsecTtl (codes "nsec-ttl") Warning OfSigned none (codes "TTL is not the lesser of the SOA's TTL and minimum") ∷
-    finding_row CdsDelete (codes "cds-delete") Error OfSigned none (codes "CDS or CDNSKEY asks to delete, and another asks for keys") ∷
-    finding_row SpfType (codes "spf-type") Warning OfRecords none [] ∷
-    finding_row NaptrRegexp (codes "naptr-regexp") Error OfRecords none [] ∷
-    finding_row NaptrBoth (codes "naptr-both") Warning OfRecords none [] ∷
-    finding_row CaaTag (codes "caa-tag") Warning OfRecords none [] ∷
-    finding_row SoaMail (codes "soa-mail") Warning OfRecords none [] ∷
-    finding_row SoaTimers (codes "soa-timers") Warning OfRecords none [] ∷
-    finding_row ReverseName (codes "reverse-name") Warning OfRecords none [] ∷
-    finding_row WildcardInside (codes "wildcard-inside") Warning OfRecords none [] ∷
-    finding_row TargetAddress (codes "target-address") Warning OfRecords none [] ∷
-    finding_row TxtWords (codes "txt-words") Warning OfRecords none [] ∷
-    finding_row CommentInData (codes "comment-in-data") Warning OfRecords none [] ∷
-    finding_row Exception (codes "exception") Error OfRecords none [] ∷
-    finding_row UnusedAllow (codes "unused-allow") Warning OfRecords none [] ∷
+    finding_row OpenQuote (codes "open-quote") Error OfText text_fault Whole [] ∷
+    finding_row OpenParenthesis (codes "open-parenthesis") Error OfText text_fault Whole [] ∷
+    finding_row ClosingParenthesis (codes "closing-parenthesis") Error OfText text_fault Whole [] ∷
+    finding_row LoneReturn (codes "lone-return") Error OfText text_fault Whole [] ∷
+    finding_row BadEscape (codes "bad-escape") Error OfText text_fault Whole [] ∷
+    finding_row Nul (codes "nul") Error OfText text_fault Whole (codes "NUL") ∷
+    finding_row ByteOrderMark (codes "byte-order-mark") Error OfText text_fault Whole (codes "byte order mark") ∷
+    finding_row ControlZ (codes "control-z") Error OfText text_fault Whole (codes "Ctrl-Z") ∷
+    finding_row MaxEntry (codes "max-entry") Error OfText text_fault Whole [] ∷
+    finding_row Directive (codes "directive") Error OfRecords none Whole [] ∷
+    finding_row Owner (codes "owner") Error OfRecords none Whole [] ∷
+    finding_row Ttl (codes "ttl") Warning OfRecords none Whole (codes "time to live above 2147483647: read as 0") ∷
+    finding_row Class (codes "class") Error OfRecords none Whole [] ∷
+    finding_row RecordType (codes "type") Error OfRecords none Whole [] ∷
+    finding_row Data (codes "data") Error OfRecords none Whole [] ∷
+    finding_row Include (codes "include") Error OfRecords none Whole [] ∷
+    finding_row NoOwner (codes "no-owner") Error OfRecords none Whole [] ∷
+    finding_row NoTtl (codes "no-ttl") Error OfRecords none Whole [] ∷
+    finding_row OtherClass (codes "other-class") Error OfRecords none Whole (codes "another class than the zone's") ∷
+    finding_row NoSoa (codes "no-soa") Error OfZone of_absence Whole (codes "no SOA at the zone's name") ∷
+    finding_row TwoSoas (codes "two-soas") Error OfZone none Whole (codes "two SOAs that differ") ∷
+    finding_row NoNs (codes "no-ns") Error OfZone of_absence Whole (codes "no NS at the zone's name") ∷
+    finding_row NsAddress (codes "ns-address") Error OfZone of_absence Target (codes "name server in the zone without an address") ∷
+    finding_row Cname (codes "cname") Error OfZone none Whole (codes "CNAME beside other records") ∷
+    finding_row Dname (codes "dname") Error OfZone none Whole (codes "two DNAMEs of one name") ∷
+    finding_row DsApex (codes "ds-apex") Error OfZone none Whole (codes "DS at the zone's name") ∷
+    finding_row WildcardNs (codes "wildcard-ns") Error OfZone none Whole (codes "NS of a wildcard") ∷
+    finding_row SoaNotApex (codes "soa-not-apex") Error OfZone none Whole (codes "SOA below the zone's name") ∷
+    finding_row NsBesideDname (codes "ns-beside-dname") Error OfZone none Whole (codes "DNAME beside an NS") ∷
+    finding_row Nsec3Wildcard (codes "nsec3-wildcard") Error OfZone none Whole (codes "first label of an NSEC3 is not base 32 hex") ∷
+    finding_row BelowDname (codes "below-dname") Error OfZone none Whole (codes "record below a DNAME") ∷
+    finding_row Outside (codes "outside") Error OfZone none Whole (codes "record outside of the zone") ∷
+    finding_row MaxTtl (codes "max-ttl") Error OfTtl none Whole (codes "time to live above the greatest that is allowed") ∷
+    finding_row NoOrigin (codes "no-origin") Warning OfRecords none Whole (codes "relative name, and no origin: read below the root") ∷
+    finding_row HighOctet (codes "high-octet") Warning OfText none Whole (codes "octet outside of ASCII") ∷
+    finding_row ControlOctet (codes "control-octet") Warning OfText none Whole (codes "control octet") ∷
+    finding_row Crlf (codes "crlf") Warning OfText none Whole (codes "lines end in CR LF") ∷
+    finding_row NestedParentheses (codes "nested-parentheses") Warning OfText none Whole (codes "parenthesis inside of parentheses") ∷
+    finding_row LeadingParenthesis (codes "leading-parenthesis") Warning OfText none Whole (codes "entry begins with a parenthesis") ∷
+    finding_row AdjacentTokens (codes "adjacent-tokens") Warning OfRecords none Whole (codes "no blank between two tokens") ∷
+    finding_row NoFinalNewline (codes "no-final-newline") Warning OfText none Whole (codes "no line end at the end of the file") ∷
+    finding_row RelativeOrigin (codes "relative-origin") Warning OfRecords none Whole (codes "relative name as origin") ∷
+    finding_row SoaMinimumTtl (codes "soa-minimum-ttl") Warning OfRecords none Whole (codes "minimum of the SOA is taken as time to live") ∷
+    finding_row IncludeTtl (codes "include-ttl") Warning OfRecords none Whole (codes "$TTL of the included file stays in force") ∷
+    finding_row MissingDot (codes "missing-dot") Warning OfRecords none Whole (codes "name ends like the origin: a dot at its end may be missing") ∷
+    finding_row GenerateDot (codes "generate-dot") Warning OfRecords none Whole (codes "name ends in a dot: nibbles of an even width end in one") ∷
+    finding_row EmptyUri (codes "empty-uri") Warning OfRecords none Whole (codes "empty target") ∷
+    finding_row TlsaLength (codes "tlsa-length") Warning OfRecords none Whole (codes "wrong number of octets for the matching type") ∷
+    finding_row IpseckeyAlgorithm (codes "ipseckey-algorithm") Warning OfRecords none Whole (codes "algorithm 0: BIND 9.18 doesn't load it without a key, Knot 3.2 doesn't with one") ∷
+    finding_row OhttpValue (codes "ohttp-value") Warning OfRecords none Whole (codes "ohttp has no value (RFC 9540)") ∷
+    finding_row Glue (codes "glue") Warning OfZone of_absence Target (codes "name server below the delegation without an address") ∷
+    finding_row TargetCname (codes "target-cname") Warning OfZone none Target (codes "target is a CNAME or below a DNAME") ∷
+    finding_row TargetMissing (codes "target-missing") Warning OfZone of_absence Target (codes "target is not in the zone") ∷
+    finding_row HostName (codes "host-name") Warning OfZone none Whole (codes "not a host name: letters, digits and hyphens only") ∷
+    finding_row Cds (codes "cds") Warning OfZone of_absence Whole (codes "CDS or CDNSKEY without a DNSKEY") ∷
+    finding_row TtlDiffers (codes "ttl-differs") Warning OfZone none Whole (codes "another time to live than the set's") ∷
+    finding_row Duplicate (codes "duplicate") Warning OfZone none Whole (codes "record stands twice") ∷
+    finding_row NotAtApex (codes "not-at-apex") Warning OfZone none Whole (codes "type that belongs at the zone's name") ∷
+    finding_row KeyProtocol (codes "key-protocol") Warning OfZone none Whole (codes "DNSKEY of another protocol than 3") ∷
+    finding_row KeyAlgorithm (codes "key-algorithm") Warning OfZone none Whole (codes "algorithm 0 is reserved") ∷
+    finding_row CnameTargetMissing (codes "cname-target-missing") Warning OfZone of_absence Target (codes "CNAME target has no records in the zone") ∷
+    finding_row CnameLoop (codes "cname-loop") Warning OfZone none Whole (codes "CNAMEs lead back to this name") ∷
+    finding_row TwoSpf (codes "two-spf") Warning OfZone none Whole (codes "name has another SPF record") ∷
+    finding_row WeakDigest (codes "weak-digest") Warning OfZone of_absence Whole (codes "SHA-1 is the only digest of this key") ∷
+    finding_row SingleNs (codes "single-ns") Warning OfZone of_absence Whole (codes "zone has only one name server") ∷
+    finding_row Hidden (codes "hidden") Warning OfZone none Whole (codes "hidden by a delegation") ∷
+    finding_row NoDnskey (codes "no-dnskey") Error OfSigned none Whole (codes "no DNSKEY at the zone's name: it is not signed") ∷
+    finding_row Expired (codes "expired") Error OfSigned of_time Whole (codes "signature has expired") ∷
+    finding_row ExpiresSoon (codes "expires-soon") Warning OfSigned of_time Whole (codes "signature expires soon") ∷
+    finding_row NotYetValid (codes "not-yet-valid") Error OfSigned of_time Whole (codes "signature is not valid yet") ∷
+    finding_row RrsigTimes (codes "rrsig-times") Error OfSigned none Whole (codes "signature ends before it begins") ∷
+    finding_row RrsigSigner (codes "rrsig-signer") Error OfSigned none Whole (codes "signer is not the zone") ∷
+    finding_row RrsigLabels (codes "rrsig-labels") Error OfSigned none Whole (codes "labels are not as many as the owner's") ∷
+    finding_row OriginalTtl (codes "original-ttl") Error OfSigned none Whole (codes "original TTL is not the set's TTL") ∷
+    finding_row RrsigTtl (codes "rrsig-ttl") Warning OfSigned none Whole (codes "TTL of the signature is not the set's TTL") ∷
+    finding_row Unsigned (codes "unsigned") Error OfSigned of_absence Whole (codes "set without a signature") ∷
+    finding_row NoKey (codes "no-key") Error OfSigned none Whole (codes "no signature of the set fits a DNSKEY of the zone") ∷
+    finding_row KeyMissing (codes "key-missing") Warning OfSigned none Whole (codes "signature fits no DNSKEY of the zone") ∷
+    finding_row RrsigKey (codes "rrsig-key") Error OfSigned none Whole (codes "signature by a revoked key") ∷
+    finding_row SignsNothing (codes "signs-nothing") Error OfSigned of_absence Whole (codes "signature of records that are not there") ∷
+    finding_row OccludedDnssec (codes "occluded-dnssec") Error OfSigned none Whole (codes "NSEC or RRSIG where the zone has no authority") ∷
+    finding_row NoNsec (codes "no-nsec") Error OfSigned of_absence Whole (codes "name without an NSEC") ∷
+    finding_row NsecNext (codes "nsec-next") Error OfSigned of_absence Whole (codes "NSEC names another than the next name") ∷
+    finding_row NsecTypes (codes "nsec-types") Error OfSigned of_absence Whole (codes "NSEC lists other types than the name has") ∷
+    finding_row DsWithoutNs (codes "ds-without-ns") Warning OfZone of_absence Whole (codes "DS without an NS") ∷
+    finding_row NoNsec3 (codes "no-nsec3") Error OfSigned of_absence Whole (codes "name, or empty name above it, without an NSEC3") ∷
+    finding_row Nsec3Next (codes "nsec3-next") Error OfSigned of_absence Whole (codes "NSEC3 names another than the next hash") ∷
+    finding_row Nsec3Types (codes "nsec3-types") Error OfSigned of_absence Whole (codes "NSEC3 of the name, or of an empty name above it, lists other types") ∷
+    finding_row Nsec3Owner (codes "nsec3-owner") Error OfSigned none Whole (codes "owner of the NSEC3 is not a hash one label below the zone's name") ∷
+    finding_row Nsec3Iterations (codes "nsec3-iterations") Error OfSigned none Whole (codes "more than 150 iterations: validators treat the zone as unsigned") ∷
+    finding_row Nsec3Iterations50 (codes "nsec3-iterations-50") Warning OfSigned none Whole (codes "more than 50 iterations: newer validators treat the zone as unsigned") ∷
+    finding_row Nsec3Iterations0 (codes "nsec3-iterations-0") Warning OfSigned none Whole (codes "NSEC3 has iterations: 0 is advised (RFC 9276)") ∷
+    finding_row NsecTtl (codes "nsec-ttl") Warning OfSigned none Whole (codes "TTL is not the lesser of the SOA's TTL and minimum") ∷
+    finding_row CdsDelete (codes "cds-delete") Error OfSigned none Whole (codes "CDS or CDNSKEY asks to delete, and another asks for keys") ∷
+    finding_row SpfType (codes "spf-type") Warning OfRecords none Whole (codes "type SPF, which no receiver looks up (RFC 7208): publish it as TXT") ∷
+    finding_row NaptrRegexp (codes "naptr-regexp") Error OfRecords none (Field 4) (codes "not a substitution expression, as !ERE!REPLACEMENT!i") ∷
+    finding_row NaptrBoth (codes "naptr-both") Warning OfRecords none (Field 5) (codes "both a regexp and a replacement") ∷
+    finding_row CaaTag (codes "caa-tag") Warning OfRecords none (Field 1) (codes "unknown CAA tag, which has no effect") ∷
+    finding_row SoaMail (codes "soa-mail") Warning OfRecords none (Field 1) (codes "'@' in the mail name of the SOA, where a dot is meant") ∷
+    finding_row SoaTimers (codes "soa-timers") Warning OfRecords none (Field 4) (codes "retry of the SOA is not less than refresh") ∷
+    finding_row ReverseName (codes "reverse-name") Warning OfRecords none OwnOwner (codes "owner of a PTR is not the name of an address") ∷
+    finding_row WildcardInside (codes "wildcard-inside") Warning OfRecords none OwnOwner (codes "'*' is not the first label, so this is not a wildcard") ∷
+    finding_row TargetAddress (codes "target-address") Warning OfRecords none Target (codes "IPv4 address in place of a name") ∷
+    finding_row TxtWords (codes "txt-words") Warning OfRecords none (Field 0) (codes "several strings without quotes, which are joined without blanks") ∷
+    finding_row CommentInData (codes "comment-in-data") Warning OfRecords none Last (codes "a comment begins inside of this word: write the text in quotes") ∷
+    finding_row Exception (codes "exception") Error OfRecords none Whole [] ∷
+    finding_row UnusedAllow (codes "unused-allow") Warning OfRecords none Whole [] ∷
     []
 
 -- a row of the source
 abbrev pub row_seen : Row → FindingRow
-row_seen r = finding_row r.code r.name.now r.severity r.scope r.traits r.message.now
+row_seen r = finding_row r.code r.name.now r.severity r.scope r.traits r.part r.message.now
 
 abbrev pub no_row : FindingRow
-no_row = finding_row OpenQuote [] Error OfText none []
+no_row = finding_row OpenQuote [] Error OfText none Whole []
 
 abbrev pub row_of_code : Code → FindingRow
 row_of_code c = get_or finding_rows (tag_of the_type c) no_row
+
+-- the ways of codes with more than one, but the first
+unfoldable pub way_rows : List FindingWay
+way_rows =
+    finding_way CaaTag 1 (Field 1) (codes "unknown CAA tag with flag 128: no certificate is issued") ∷
+    finding_way CaaTag 2 (Field 1) (codes "CAA tag in capital letters, which NSD rejects") ∷
+    finding_way SoaMail 1 (Field 1) (codes "mail name of the SOA has one label") ∷
+    finding_way SoaTimers 1 (Field 5) (codes "expire of the SOA is less than refresh and retry together") ∷
+    finding_way SoaTimers 2 (Field 6) (codes "minimum of the SOA, the TTL of negative answers, is above a day") ∷
+    []
+
+abbrev pub way_seen : Way → FindingWay
+way_seen w = finding_way w.code w.number w.part w.message.now

@@ -1,6 +1,6 @@
 //! The codes of findings in zone files.
 ghost use Rattle.std.specs.Prelude.{◌≡◌, IfSome, Some, map};
-ghost use Rattle.finding_codes.specs.Code.{code_name, code_named, code_scope, default_severity, finding_text, is_of_text, is_text_fault, severity_name};
+ghost use Rattle.finding_codes.specs.Code.{code_name, code_named, code_scope, default_severity, finding_text, is_of_absence, is_of_text, is_of_time, is_text_fault, severity_name};
 ghost use Rattle.finding_codes.specs.Table.{row_of_code, row_seen};
 
 use crate::table::{Row, rows};
@@ -43,9 +43,10 @@ pub enum Scope {
 
 /// The code of a finding, with the name by which it is allowed or denied, and which JSON output
 /// has. The names are stable: callers write them into their own files.
-#[derive(Clone, Copy, PartialEq, Eq)]
+#[derive(Clone, Copy, PartialEq, Eq, Default)]
 pub enum Code {
     /// A quoted text is not closed.
+    #[default]
     OpenQuote,
     /// A parenthesis is not closed.
     OpenParenthesis,
@@ -179,60 +180,85 @@ pub enum Code {
     Hidden,
     /// The zone must be signed, and has no DNSKEY at its apex.
     NoDnskey,
-    /// An RRSIG has expired.
+    /// The record is an RRSIG, and its time of expiration has passed (RFC 4034 section 3.1.5).
     Expired,
-    /// An RRSIG expires within the time that was asked for.
+    /// The record is an RRSIG that expires within the margin.
     ExpiresSoon,
-    /// An RRSIG is not valid yet.
+    /// The record is an RRSIG, and its time of inception is still to come (RFC 4034 section
+    /// 3.1.5).
     NotYetValid,
-    /// An RRSIG ends before it begins.
+    /// The record is an RRSIG that expires before its inception (RFC 4034 section 3.1.5). It is then
+    /// neither expired nor early.
     RrsigTimes,
-    /// The signer of an RRSIG is not the zone.
+    /// The record is an RRSIG, and its signer is not the zone (RFC 4034 section 3.1.7).
     RrsigSigner,
-    /// The number of labels of an RRSIG is not that of its owner.
+    /// The record is an RRSIG, and its number of labels is not that of its owner without the root
+    /// and without an asterisk as the first label (RFC 4034 section 3.1.3).
     RrsigLabels,
-    /// The original TTL of an RRSIG is not the TTL of its RRset.
+    /// The record is an RRSIG, and no record of the set that it covers has its original TTL (RFC 4034
+    /// section 3).
     OriginalTtl,
-    /// The TTL of an RRSIG is not the TTL of its RRset.
+    /// The record is an RRSIG, and no record of the set that it covers has the TTL of the RRSIG (RFC
+    /// 4034 section 3).
     RrsigTtl,
-    /// An RRset has no RRSIG.
+    /// The record is the first of an RRset that must be signed, and no RRSIG at its owner covers
+    /// its type (RFC 4035 section 2.2).
     Unsigned,
-    /// No RRSIG of an RRset fits a DNSKEY at the apex.
+    /// The record is the first of an RRset that must be signed and is, and none of its RRSIGs fits
+    /// a DNSKEY at the apex by algorithm and key tag (RFC 4035 section 2.2).
     NoKey,
-    /// An RRSIG fits no DNSKEY at the apex, and another of its RRset does.
+    /// The record is an RRSIG that fits no DNSKEY at the apex, and another RRSIG of the RRset does.
+    /// This is normal while an algorithm is rolled over (RFC 6781 section 4.1.4).
     KeyMissing,
-    /// An RRSIG that does not cover DNSKEY is by a revoked key.
+    /// The record is an RRSIG by a revoked key, and does not cover DNSKEY (RFC 5011 section 2.1).
     RrsigKey,
-    /// An RRSIG covers a type that its owner does not have.
+    /// The record is an RRSIG, and its owner has no record of the type that it covers.
     SignsNothing,
-    /// An NSEC or RRSIG is below a delegation, or an RRSIG at one covers neither DS nor NSEC.
+    /// The record is an RRSIG or NSEC below a delegation, or an RRSIG at one that covers another type
+    /// than DS and NSEC (RFC 4035 sections 2.2 and 2.3).
     OccludedDnssec,
-    /// A name has no NSEC.
+    /// The record is the first at a name for which the zone is authoritative, or at a delegation.
+    /// The name has no NSEC, and no NSEC3PARAM at the apex names a chain (RFC 4035 section 2.3, RFC
+    /// 5155 section 4.1.2).
     NoNsec,
-    /// The next name of an NSEC is wrong.
+    /// The record is an NSEC, and its next name is not that of the chain: the next authoritative
+    /// name or delegation in canonical order, and after the last one the apex (RFC 4034 section
+    /// 4.1.1).
     NsecNext,
-    /// The types of an NSEC differ from those of its owner.
+    /// The record is an NSEC, and its types differ from those at its owner. At a delegation only
+    /// NS, DS, RRSIG and NSEC count (RFC 4035 section 2.3).
     NsecTypes,
     /// The owner of a DS has no NS.
     DsWithoutNs,
-    /// A name, or an empty non-terminal above it, has no NSEC3.
+    /// The record is the first at a name for which the zone is authoritative, or at a delegation.
+    /// An NSEC3PARAM at the apex names a chain, in which no NSEC3 matches the name, or an empty
+    /// non-terminal above it. A delegation without DS may be omitted if the NSEC3 that covers it
+    /// has Opt-Out (RFC 5155 section 7.1).
     NoNsec3,
-    /// The next hash of an NSEC3 is wrong.
+    /// The record is an NSEC3 of such a chain, and its next hash isn't that of the owner that comes
+    /// next in the chain. After the last owner comes the first (RFC 5155 section 3.1.7).
     Nsec3Next,
-    /// The types of the NSEC3 of a name, or of an empty non-terminal above it, differ from those
-    /// there.
+    /// The record is the first at a name as for `no-nsec3`, and the types of the NSEC3 that matches
+    /// the name, or an empty non-terminal above it, differ from those there. At a delegation only
+    /// NS, DS and RRSIG count (RFC 5155 section 7.1).
     Nsec3Types,
-    /// The owner of an NSEC3 is not a hash one label below the apex.
+    /// The record is an NSEC3, and its owner is not one label below the apex, or the label is not a
+    /// hash of 20 octets in base32hex, with hash algorithm 1 (RFC 5155 section 3).
     Nsec3Owner,
-    /// An NSEC3PARAM has more than 150 iterations.
+    /// The record is an NSEC3PARAM that names a chain of more than 150 iterations. Validators treat
+    /// the zone as unsigned (RFC 9276 section 3.2), and no name is hashed for the chain.
     Nsec3Iterations,
-    /// An NSEC3PARAM has more than 50 iterations.
+    /// The record is an NSEC3PARAM that names a chain of 51 to 150 iterations. Newer validators treat the
+    /// zone as unsigned (RFC 9276 section 3.2).
     Nsec3Iterations50,
-    /// An NSEC3PARAM has iterations.
+    /// The record is an NSEC3PARAM that names a chain of 1 to 50 iterations. There should be none (RFC
+    /// 9276 section 3.1).
     Nsec3Iterations0,
-    /// The TTL of an NSEC or NSEC3 is not the lesser of the SOA's TTL and minimum.
+    /// The record is an NSEC or NSEC3, and its TTL is not the lesser of the SOA's TTL and minimum (RFC
+    /// 9077 section 3).
     NsecTtl,
-    /// A CDS or CDNSKEY asks to delete, and another asks for keys.
+    /// The record is a CDS or CDNSKEY at the apex that asks to delete DS records, and another there
+    /// asks for keys (RFC 8078 section 4).
     CdsDelete,
     /// A record has the type SPF, which no receiver looks up.
     SpfType,
@@ -295,6 +321,21 @@ impl Code {
         ensures { result ≡ is_text_fault self }
     {
         self.row().traits.is_text_fault
+    }
+
+    /// Returns whether findings say that a record is missing, so that another record may be at fault
+    /// that was not read.
+    pub fn is_of_absence(self) -> bool
+        ensures { result ≡ is_of_absence self }
+    {
+        self.row().traits.is_of_absence
+    }
+
+    /// Returns whether findings depend on the time at which a signed zone is checked.
+    pub fn is_of_time(self) -> bool
+        ensures { result ≡ is_of_time self }
+    {
+        self.row().traits.is_of_time
     }
 
     /// Returns the severity of a finding, unless a caller decides otherwise.

@@ -1,6 +1,6 @@
-//! The table of codes: a row for each, in the order of [`Code`].
+//! The table of codes: a row for each, in the order of [`Code`], and the further ways of a few.
 ghost use Rattle.std.specs.Prelude.{◌≡◌, ◌<◌, get_or, length, map};
-ghost use Rattle.finding_codes.specs.Table.{finding_rows, no_row, row_of_code, row_seen};
+ghost use Rattle.finding_codes.specs.Table.{finding_rows, no_row, row_of_code, row_seen, way_rows, way_seen};
 
 use crate::code::{Code, Scope, Severity};
 
@@ -9,15 +9,68 @@ use crate::code::{Code, Scope, Severity};
 pub struct Traits {
     /// Whether the text itself is malformed: it can't be read as entries, or not safely.
     pub is_text_fault: bool,
+    /// Whether a record is missing, so that another record may be at fault that was not read.
+    pub is_of_absence: bool,
+    /// Whether the finding depends on the time at which a signed zone is checked.
+    pub is_of_time: bool,
+}
+
+/// The part of an entry that a finding is about.
+#[derive(Clone, Copy)]
+pub enum Part {
+    /// The record or the text as a whole, or a part that only the finding knows.
+    Whole,
+    /// The owner of a record.
+    Owner,
+    /// The host or target in the RDATA.
+    Target,
+    /// The last word of the RDATA.
+    Last,
+    /// The field of the RDATA with this index.
+    Field(u8),
 }
 
 const NONE: Traits = Traits {
     is_text_fault: false,
+    is_of_absence: false,
+    is_of_time: false,
 };
 
 const TEXT_FAULT: Traits = Traits {
     is_text_fault: true,
+    is_of_absence: false,
+    is_of_time: false,
 };
+
+const ABSENCE: Traits = Traits {
+    is_text_fault: false,
+    is_of_absence: true,
+    is_of_time: false,
+};
+
+const TIME: Traits = Traits {
+    is_text_fault: false,
+    is_of_absence: false,
+    is_of_time: true,
+};
+
+const WHOLE: Part = Part::Whole;
+
+const OWNER: Part = Part::Owner;
+
+const TARGET: Part = Part::Target;
+
+const LAST: Part = Part::Last;
+
+const FIELD_0: Part = Part::Field(0);
+
+const FIELD_1: Part = Part::Field(1);
+
+const FIELD_4: Part = Part::Field(4);
+
+const FIELD_5: Part = Part::Field(5);
+
+const FIELD_6: Part = Part::Field(6);
 
 /// A code of findings, with what is known of each finding that has it.
 pub struct Row {
@@ -30,133 +83,193 @@ pub struct Row {
     /// What is looked at for a finding.
     pub scope: Scope,
     pub traits: Traits,
-    /// The message of a finding that only has a code. It is empty if each finding has its own.
+    /// The part that a finding is about. If it has further ways, this is that of the first.
+    pub part: Part,
+    /// The message of a finding that only has a code. It is empty if each finding has its own. If a
+    /// code has further ways, this is that of the first.
     pub message: &'static str,
 }
 
-/// A row, as `row!(CODE => NAME, SEVERITY, SCOPE, TRAITS, MESSAGE)`.
+/// A further way of a code, which is at another part or has another message than the first.
+pub struct Way {
+    pub code: Code,
+    /// Number of the way, from 1 on.
+    pub number: u8,
+    pub part: Part,
+    pub message: &'static str,
+}
+
+/// A row, as `row!(CODE => NAME, SEVERITY, SCOPE, TRAITS, PART, MESSAGE)`.
 macro_rules! row {
-    ($code:ident => $name:literal, $severity:ident, $scope:ident, $traits:ident, $message:literal) => {
+    ($code:ident => $name:literal, $severity:ident, $scope:ident, $traits:ident, $part:ident, $message:literal) => {
         Row {
             code: Code::$code,
             name: $name,
             severity: Severity::$severity,
             scope: Scope::$scope,
             traits: $traits,
+            part: $part,
+            message: $message,
+        }
+    };
+}
+
+/// A further way, as `way!(CODE, NUMBER, PART, MESSAGE)`.
+macro_rules! way {
+    ($code:ident, $number:literal, $part:ident, $message:literal) => {
+        Way {
+            code: Code::$code,
+            number: $number,
+            part: $part,
             message: $message,
         }
     };
 }
 
 static TABLE: [Row; 107] = [
-    row!(OpenQuote => "open-quote", Error, Text, TEXT_FAULT, ""),
-    row!(OpenParenthesis => "open-parenthesis", Error, Text, TEXT_FAULT, ""),
-    row!(ClosingParenthesis => "closing-parenthesis", Error, Text, TEXT_FAULT, ""),
-    row!(LoneReturn => "lone-return", Error, Text, TEXT_FAULT, ""),
-    row!(BadEscape => "bad-escape", Error, Text, TEXT_FAULT, ""),
-    row!(Nul => "nul", Error, Text, TEXT_FAULT, "NUL"),
-    row!(ByteOrderMark => "byte-order-mark", Error, Text, TEXT_FAULT, "byte order mark"),
-    row!(ControlZ => "control-z", Error, Text, TEXT_FAULT, "Ctrl-Z"),
-    row!(MaxEntry => "max-entry", Error, Text, TEXT_FAULT, ""),
-    row!(Directive => "directive", Error, Records, NONE, ""),
-    row!(Owner => "owner", Error, Records, NONE, ""),
-    row!(Ttl => "ttl", Warning, Records, NONE, "time to live above 2147483647: read as 0"),
-    row!(Class => "class", Error, Records, NONE, ""),
-    row!(RecordType => "type", Error, Records, NONE, ""),
-    row!(Data => "data", Error, Records, NONE, ""),
-    row!(Include => "include", Error, Records, NONE, ""),
-    row!(NoOwner => "no-owner", Error, Records, NONE, ""),
-    row!(NoTtl => "no-ttl", Error, Records, NONE, ""),
-    row!(OtherClass => "other-class", Error, Records, NONE, "another class than the zone's"),
-    row!(NoSoa => "no-soa", Error, Zone, NONE, "no SOA at the zone's name"),
-    row!(TwoSoas => "two-soas", Error, Zone, NONE, "two SOAs that differ"),
-    row!(NoNs => "no-ns", Error, Zone, NONE, "no NS at the zone's name"),
-    row!(NsAddress => "ns-address", Error, Zone, NONE, "name server in the zone without an address"),
-    row!(Cname => "cname", Error, Zone, NONE, "CNAME beside other records"),
-    row!(Dname => "dname", Error, Zone, NONE, "two DNAMEs of one name"),
-    row!(DsApex => "ds-apex", Error, Zone, NONE, "DS at the zone's name"),
-    row!(WildcardNs => "wildcard-ns", Error, Zone, NONE, "NS of a wildcard"),
-    row!(SoaNotApex => "soa-not-apex", Error, Zone, NONE, "SOA below the zone's name"),
-    row!(NsBesideDname => "ns-beside-dname", Error, Zone, NONE, "DNAME beside an NS"),
-    row!(Nsec3Wildcard => "nsec3-wildcard", Error, Zone, NONE, "first label of an NSEC3 is not base 32 hex"),
-    row!(BelowDname => "below-dname", Error, Zone, NONE, "record below a DNAME"),
-    row!(Outside => "outside", Error, Zone, NONE, "record outside of the zone"),
-    row!(MaxTtl => "max-ttl", Error, MaxTtl, NONE, "time to live above the greatest that is allowed"),
-    row!(NoOrigin => "no-origin", Warning, Records, NONE, "relative name, and no origin: read below the root"),
-    row!(HighOctet => "high-octet", Warning, Text, NONE, "octet outside of ASCII"),
-    row!(ControlOctet => "control-octet", Warning, Text, NONE, "control octet"),
-    row!(Crlf => "crlf", Warning, Text, NONE, "lines end in CR LF"),
-    row!(NestedParentheses => "nested-parentheses", Warning, Text, NONE, "parenthesis inside of parentheses"),
-    row!(LeadingParenthesis => "leading-parenthesis", Warning, Text, NONE, "entry begins with a parenthesis"),
-    row!(AdjacentTokens => "adjacent-tokens", Warning, Records, NONE, "no blank between two tokens"),
-    row!(NoFinalNewline => "no-final-newline", Warning, Text, NONE, "no line end at the end of the file"),
-    row!(RelativeOrigin => "relative-origin", Warning, Records, NONE, "relative name as origin"),
-    row!(SoaMinimumTtl => "soa-minimum-ttl", Warning, Records, NONE, "minimum of the SOA is taken as time to live"),
-    row!(IncludeTtl => "include-ttl", Warning, Records, NONE, "$TTL of the included file stays in force"),
-    row!(MissingDot => "missing-dot", Warning, Records, NONE, "name ends like the origin: a dot at its end may be missing"),
-    row!(GenerateDot => "generate-dot", Warning, Records, NONE, "name ends in a dot: nibbles of an even width end in one"),
-    row!(EmptyUri => "empty-uri", Warning, Records, NONE, "empty target"),
-    row!(TlsaLength => "tlsa-length", Warning, Records, NONE, "wrong number of octets for the matching type"),
-    row!(IpseckeyAlgorithm => "ipseckey-algorithm", Warning, Records, NONE, "algorithm 0: BIND 9.18 doesn't load it without a key, Knot 3.2 doesn't with one"),
-    row!(OhttpValue => "ohttp-value", Warning, Records, NONE, "ohttp has no value (RFC 9540)"),
-    row!(Glue => "glue", Warning, Zone, NONE, "name server below the delegation without an address"),
-    row!(TargetCname => "target-cname", Warning, Zone, NONE, "target is a CNAME or below a DNAME"),
-    row!(TargetMissing => "target-missing", Warning, Zone, NONE, "target is not in the zone"),
-    row!(HostName => "host-name", Warning, Zone, NONE, "not a host name: letters, digits and hyphens only"),
-    row!(Cds => "cds", Warning, Zone, NONE, "CDS or CDNSKEY without a DNSKEY"),
-    row!(TtlDiffers => "ttl-differs", Warning, Zone, NONE, "another time to live than the set's"),
-    row!(Duplicate => "duplicate", Warning, Zone, NONE, "record stands twice"),
-    row!(NotAtApex => "not-at-apex", Warning, Zone, NONE, "type that belongs at the zone's name"),
-    row!(KeyProtocol => "key-protocol", Warning, Zone, NONE, "DNSKEY of another protocol than 3"),
-    row!(KeyAlgorithm => "key-algorithm", Warning, Zone, NONE, "algorithm 0 is reserved"),
-    row!(CnameTargetMissing => "cname-target-missing", Warning, Zone, NONE, "CNAME target has no records in the zone"),
-    row!(CnameLoop => "cname-loop", Warning, Zone, NONE, "CNAMEs lead back to this name"),
-    row!(TwoSpf => "two-spf", Warning, Zone, NONE, "name has another SPF record"),
-    row!(WeakDigest => "weak-digest", Warning, Zone, NONE, "SHA-1 is the only digest of this key"),
-    row!(SingleNs => "single-ns", Warning, Zone, NONE, "zone has only one name server"),
-    row!(Hidden => "hidden", Warning, Zone, NONE, "hidden by a delegation"),
-    row!(NoDnskey => "no-dnskey", Error, Signed, NONE, "no DNSKEY at the zone's name: it is not signed"),
-    row!(Expired => "expired", Error, Signed, NONE, "signature has expired"),
-    row!(ExpiresSoon => "expires-soon", Warning, Signed, NONE, "signature expires soon"),
-    row!(NotYetValid => "not-yet-valid", Error, Signed, NONE, "signature is not valid yet"),
-    row!(RrsigTimes => "rrsig-times", Error, Signed, NONE, "signature ends before it begins"),
-    row!(RrsigSigner => "rrsig-signer", Error, Signed, NONE, "signer is not the zone"),
-    row!(RrsigLabels => "rrsig-labels", Error, Signed, NONE, "labels are not as many as the owner's"),
-    row!(OriginalTtl => "original-ttl", Error, Signed, NONE, "original TTL is not the set's TTL"),
-    row!(RrsigTtl => "rrsig-ttl", Warning, Signed, NONE, "TTL of the signature is not the set's TTL"),
-    row!(Unsigned => "unsigned", Error, Signed, NONE, "set without a signature"),
-    row!(NoKey => "no-key", Error, Signed, NONE, "no signature of the set fits a DNSKEY of the zone"),
-    row!(KeyMissing => "key-missing", Warning, Signed, NONE, "signature fits no DNSKEY of the zone"),
-    row!(RrsigKey => "rrsig-key", Error, Signed, NONE, "signature by a revoked key"),
-    row!(SignsNothing => "signs-nothing", Error, Signed, NONE, "signature of records that are not there"),
-    row!(OccludedDnssec => "occluded-dnssec", Error, Signed, NONE, "NSEC or RRSIG where the zone has no authority"),
-    row!(NoNsec => "no-nsec", Error, Signed, NONE, "name without an NSEC"),
-    row!(NsecNext => "nsec-next", Error, Signed, NONE, "NSEC names another than the next name"),
-    row!(NsecTypes => "nsec-types", Error, Signed, NONE, "NSEC lists other types than the name has"),
-    row!(DsWithoutNs => "ds-without-ns", Warning, Zone, NONE, "DS without an NS"),
-    row!(NoNsec3 => "no-nsec3", Error, Signed, NONE, "name, or empty name above it, without an NSEC3"),
-    row!(Nsec3Next => "nsec3-next", Error, Signed, NONE, "NSEC3 names another than the next hash"),
-    row!(Nsec3Types => "nsec3-types", Error, Signed, NONE, "NSEC3 of the name, or of an empty name above it, lists other types"),
-    row!(Nsec3Owner => "nsec3-owner", Error, Signed, NONE, "owner of the NSEC3 is not a hash one label below the zone's name"),
-    row!(Nsec3Iterations => "nsec3-iterations", Error, Signed, NONE, "more than 150 iterations: validators treat the zone as unsigned"),
-    row!(Nsec3Iterations50 => "nsec3-iterations-50", Warning, Signed, NONE, "more than 50 iterations: newer validators treat the zone as unsigned"),
-    row!(Nsec3Iterations0 => "nsec3-iterations-0", Warning, Signed, NONE, "NSEC3 has iterations: 0 is advised (RFC 9276)"),
-    row!(NsecTtl => "nsec-ttl", Warning, Signed, NONE, "TTL is not the lesser of the SOA's TTL and minimum"),
-    row!(CdsDelete => "cds-delete", Error, Signed, NONE, "CDS or CDNSKEY asks to delete, and another asks for keys"),
-    row!(SpfType => "spf-type", Warning, Records, NONE, ""),
-    row!(NaptrRegexp => "naptr-regexp", Error, Records, NONE, ""),
-    row!(NaptrBoth => "naptr-both", Warning, Records, NONE, ""),
-    row!(CaaTag => "caa-tag", Warning, Records, NONE, ""),
-    row!(SoaMail => "soa-mail", Warning, Records, NONE, ""),
-    row!(SoaTimers => "soa-timers", Warning, Records, NONE, ""),
-    row!(ReverseName => "reverse-name", Warning, Records, NONE, ""),
-    row!(WildcardInside => "wildcard-inside", Warning, Records, NONE, ""),
-    row!(TargetAddress => "target-address", Warning, Records, NONE, ""),
-    row!(TxtWords => "txt-words", Warning, Records, NONE, ""),
-    row!(CommentInData => "comment-in-data", Warning, Records, NONE, ""),
-    row!(Exception => "exception", Error, Records, NONE, ""),
-    row!(UnusedAllow => "unused-allow", Warning, Records, NONE, ""),
+    row!(OpenQuote => "open-quote", Error, Text, TEXT_FAULT, WHOLE, ""),
+    row!(OpenParenthesis => "open-parenthesis", Error, Text, TEXT_FAULT, WHOLE, ""),
+    row!(ClosingParenthesis => "closing-parenthesis", Error, Text, TEXT_FAULT, WHOLE, ""),
+    row!(LoneReturn => "lone-return", Error, Text, TEXT_FAULT, WHOLE, ""),
+    row!(BadEscape => "bad-escape", Error, Text, TEXT_FAULT, WHOLE, ""),
+    row!(Nul => "nul", Error, Text, TEXT_FAULT, WHOLE, "NUL"),
+    row!(ByteOrderMark => "byte-order-mark", Error, Text, TEXT_FAULT, WHOLE, "byte order mark"),
+    row!(ControlZ => "control-z", Error, Text, TEXT_FAULT, WHOLE, "Ctrl-Z"),
+    row!(MaxEntry => "max-entry", Error, Text, TEXT_FAULT, WHOLE, ""),
+    row!(Directive => "directive", Error, Records, NONE, WHOLE, ""),
+    row!(Owner => "owner", Error, Records, NONE, WHOLE, ""),
+    row!(Ttl => "ttl", Warning, Records, NONE, WHOLE, "time to live above 2147483647: read as 0"),
+    row!(Class => "class", Error, Records, NONE, WHOLE, ""),
+    row!(RecordType => "type", Error, Records, NONE, WHOLE, ""),
+    row!(Data => "data", Error, Records, NONE, WHOLE, ""),
+    row!(Include => "include", Error, Records, NONE, WHOLE, ""),
+    row!(NoOwner => "no-owner", Error, Records, NONE, WHOLE, ""),
+    row!(NoTtl => "no-ttl", Error, Records, NONE, WHOLE, ""),
+    row!(OtherClass => "other-class", Error, Records, NONE, WHOLE, "another class than the zone's"),
+    row!(NoSoa => "no-soa", Error, Zone, ABSENCE, WHOLE, "no SOA at the zone's name"),
+    row!(TwoSoas => "two-soas", Error, Zone, NONE, WHOLE, "two SOAs that differ"),
+    row!(NoNs => "no-ns", Error, Zone, ABSENCE, WHOLE, "no NS at the zone's name"),
+    row!(NsAddress => "ns-address", Error, Zone, ABSENCE, TARGET, "name server in the zone without an address"),
+    row!(Cname => "cname", Error, Zone, NONE, WHOLE, "CNAME beside other records"),
+    row!(Dname => "dname", Error, Zone, NONE, WHOLE, "two DNAMEs of one name"),
+    row!(DsApex => "ds-apex", Error, Zone, NONE, WHOLE, "DS at the zone's name"),
+    row!(WildcardNs => "wildcard-ns", Error, Zone, NONE, WHOLE, "NS of a wildcard"),
+    row!(SoaNotApex => "soa-not-apex", Error, Zone, NONE, WHOLE, "SOA below the zone's name"),
+    row!(NsBesideDname => "ns-beside-dname", Error, Zone, NONE, WHOLE, "DNAME beside an NS"),
+    row!(Nsec3Wildcard => "nsec3-wildcard", Error, Zone, NONE, WHOLE, "first label of an NSEC3 is not base 32 hex"),
+    row!(BelowDname => "below-dname", Error, Zone, NONE, WHOLE, "record below a DNAME"),
+    row!(Outside => "outside", Error, Zone, NONE, WHOLE, "record outside of the zone"),
+    row!(MaxTtl => "max-ttl", Error, MaxTtl, NONE, WHOLE, "time to live above the greatest that is allowed"),
+    row!(NoOrigin => "no-origin", Warning, Records, NONE, WHOLE, "relative name, and no origin: read below the root"),
+    row!(HighOctet => "high-octet", Warning, Text, NONE, WHOLE, "octet outside of ASCII"),
+    row!(ControlOctet => "control-octet", Warning, Text, NONE, WHOLE, "control octet"),
+    row!(Crlf => "crlf", Warning, Text, NONE, WHOLE, "lines end in CR LF"),
+    row!(NestedParentheses => "nested-parentheses", Warning, Text, NONE, WHOLE, "parenthesis inside of parentheses"),
+    row!(LeadingParenthesis => "leading-parenthesis", Warning, Text, NONE, WHOLE, "entry begins with a parenthesis"),
+    row!(AdjacentTokens => "adjacent-tokens", Warning, Records, NONE, WHOLE, "no blank between two tokens"),
+    row!(NoFinalNewline => "no-final-newline", Warning, Text, NONE, WHOLE, "no line end at the end of the file"),
+    row!(RelativeOrigin => "relative-origin", Warning, Records, NONE, WHOLE, "relative name as origin"),
+    row!(SoaMinimumTtl => "soa-minimum-ttl", Warning, Records, NONE, WHOLE, "minimum of the SOA is taken as time to live"),
+    row!(IncludeTtl => "include-ttl", Warning, Records, NONE, WHOLE, "$TTL of the included file stays in force"),
+    row!(MissingDot => "missing-dot", Warning, Records, NONE, WHOLE, "name ends like the origin: a dot at its end may be missing"),
+    row!(GenerateDot => "generate-dot", Warning, Records, NONE, WHOLE, "name ends in a dot: nibbles of an even width end in one"),
+    row!(EmptyUri => "empty-uri", Warning, Records, NONE, WHOLE, "empty target"),
+    row!(TlsaLength => "tlsa-length", Warning, Records, NONE, WHOLE, "wrong number of octets for the matching type"),
+    row!(IpseckeyAlgorithm => "ipseckey-algorithm", Warning, Records, NONE, WHOLE, "algorithm 0: BIND 9.18 doesn't load it without a key, Knot 3.2 doesn't with one"),
+    row!(OhttpValue => "ohttp-value", Warning, Records, NONE, WHOLE, "ohttp has no value (RFC 9540)"),
+    row!(Glue => "glue", Warning, Zone, ABSENCE, TARGET, "name server below the delegation without an address"),
+    row!(TargetCname => "target-cname", Warning, Zone, NONE, TARGET, "target is a CNAME or below a DNAME"),
+    row!(TargetMissing => "target-missing", Warning, Zone, ABSENCE, TARGET, "target is not in the zone"),
+    row!(HostName => "host-name", Warning, Zone, NONE, WHOLE, "not a host name: letters, digits and hyphens only"),
+    row!(Cds => "cds", Warning, Zone, ABSENCE, WHOLE, "CDS or CDNSKEY without a DNSKEY"),
+    row!(TtlDiffers => "ttl-differs", Warning, Zone, NONE, WHOLE, "another time to live than the set's"),
+    row!(Duplicate => "duplicate", Warning, Zone, NONE, WHOLE, "record stands twice"),
+    row!(NotAtApex => "not-at-apex", Warning, Zone, NONE, WHOLE, "type that belongs at the zone's name"),
+    row!(KeyProtocol => "key-protocol", Warning, Zone, NONE, WHOLE, "DNSKEY of another protocol than 3"),
+    row!(KeyAlgorithm => "key-algorithm", Warning, Zone, NONE, WHOLE, "algorithm 0 is reserved"),
+    row!(CnameTargetMissing => "cname-target-missing", Warning, Zone, ABSENCE, TARGET, "CNAME target has no records in the zone"),
+    row!(CnameLoop => "cname-loop", Warning, Zone, NONE, WHOLE, "CNAMEs lead back to this name"),
+    row!(TwoSpf => "two-spf", Warning, Zone, NONE, WHOLE, "name has another SPF record"),
+    row!(WeakDigest => "weak-digest", Warning, Zone, ABSENCE, WHOLE, "SHA-1 is the only digest of this key"),
+    row!(SingleNs => "single-ns", Warning, Zone, ABSENCE, WHOLE, "zone has only one name server"),
+    row!(Hidden => "hidden", Warning, Zone, NONE, WHOLE, "hidden by a delegation"),
+    row!(NoDnskey => "no-dnskey", Error, Signed, NONE, WHOLE, "no DNSKEY at the zone's name: it is not signed"),
+    row!(Expired => "expired", Error, Signed, TIME, WHOLE, "signature has expired"),
+    row!(ExpiresSoon => "expires-soon", Warning, Signed, TIME, WHOLE, "signature expires soon"),
+    row!(NotYetValid => "not-yet-valid", Error, Signed, TIME, WHOLE, "signature is not valid yet"),
+    row!(RrsigTimes => "rrsig-times", Error, Signed, NONE, WHOLE, "signature ends before it begins"),
+    row!(RrsigSigner => "rrsig-signer", Error, Signed, NONE, WHOLE, "signer is not the zone"),
+    row!(RrsigLabels => "rrsig-labels", Error, Signed, NONE, WHOLE, "labels are not as many as the owner's"),
+    row!(OriginalTtl => "original-ttl", Error, Signed, NONE, WHOLE, "original TTL is not the set's TTL"),
+    row!(RrsigTtl => "rrsig-ttl", Warning, Signed, NONE, WHOLE, "TTL of the signature is not the set's TTL"),
+    row!(Unsigned => "unsigned", Error, Signed, ABSENCE, WHOLE, "set without a signature"),
+    row!(NoKey => "no-key", Error, Signed, NONE, WHOLE, "no signature of the set fits a DNSKEY of the zone"),
+    row!(KeyMissing => "key-missing", Warning, Signed, NONE, WHOLE, "signature fits no DNSKEY of the zone"),
+    row!(RrsigKey => "rrsig-key", Error, Signed, NONE, WHOLE, "signature by a revoked key"),
+    row!(SignsNothing => "signs-nothing", Error, Signed, ABSENCE, WHOLE, "signature of records that are not there"),
+    row!(OccludedDnssec => "occluded-dnssec", Error, Signed, NONE, WHOLE, "NSEC or RRSIG where the zone has no authority"),
+    row!(NoNsec => "no-nsec", Error, Signed, ABSENCE, WHOLE, "name without an NSEC"),
+    row!(NsecNext => "nsec-next", Error, Signed, ABSENCE, WHOLE, "NSEC names another than the next name"),
+    row!(NsecTypes => "nsec-types", Error, Signed, ABSENCE, WHOLE, "NSEC lists other types than the name has"),
+    row!(DsWithoutNs => "ds-without-ns", Warning, Zone, ABSENCE, WHOLE, "DS without an NS"),
+    row!(NoNsec3 => "no-nsec3", Error, Signed, ABSENCE, WHOLE, "name, or empty name above it, without an NSEC3"),
+    row!(Nsec3Next => "nsec3-next", Error, Signed, ABSENCE, WHOLE, "NSEC3 names another than the next hash"),
+    row!(Nsec3Types => "nsec3-types", Error, Signed, ABSENCE, WHOLE, "NSEC3 of the name, or of an empty name above it, lists other types"),
+    row!(Nsec3Owner => "nsec3-owner", Error, Signed, NONE, WHOLE, "owner of the NSEC3 is not a hash one label below the zone's name"),
+    row!(Nsec3Iterations => "nsec3-iterations", Error, Signed, NONE, WHOLE, "more than 150 iterations: validators treat the zone as unsigned"),
+    row!(Nsec3Iterations50 => "nsec3-iterations-50", Warning, Signed, NONE, WHOLE, "more than 50 iterations: newer validators treat the zone as unsigned"),
+    row!(Nsec3Iterations0 => "nsec3-iterations-0", Warning, Signed, NONE, WHOLE, "NSEC3 has iterations: 0 is advised (RFC 9276)"),
+    row!(NsecTtl => "nsec-ttl", Warning, Signed, NONE, WHOLE, "TTL is not the lesser of the SOA's TTL and minimum"),
+    row!(CdsDelete => "cds-delete", Error, Signed, NONE, WHOLE, "CDS or CDNSKEY asks to delete, and another asks for keys"),
+    row!(SpfType => "spf-type", Warning, Records, NONE, WHOLE, "type SPF, which no receiver looks up (RFC 7208): publish it as TXT"),
+    row!(NaptrRegexp => "naptr-regexp", Error, Records, NONE, FIELD_4, "not a substitution expression, as !ERE!REPLACEMENT!i"),
+    row!(NaptrBoth => "naptr-both", Warning, Records, NONE, FIELD_5, "both a regexp and a replacement"),
+    row!(CaaTag => "caa-tag", Warning, Records, NONE, FIELD_1, "unknown CAA tag, which has no effect"),
+    row!(SoaMail => "soa-mail", Warning, Records, NONE, FIELD_1, "'@' in the mail name of the SOA, where a dot is meant"),
+    row!(SoaTimers => "soa-timers", Warning, Records, NONE, FIELD_4, "retry of the SOA is not less than refresh"),
+    row!(ReverseName => "reverse-name", Warning, Records, NONE, OWNER, "owner of a PTR is not the name of an address"),
+    row!(WildcardInside => "wildcard-inside", Warning, Records, NONE, OWNER, "'*' is not the first label, so this is not a wildcard"),
+    row!(TargetAddress => "target-address", Warning, Records, NONE, TARGET, "IPv4 address in place of a name"),
+    row!(TxtWords => "txt-words", Warning, Records, NONE, FIELD_0, "several strings without quotes, which are joined without blanks"),
+    row!(CommentInData => "comment-in-data", Warning, Records, NONE, LAST, "a comment begins inside of this word: write the text in quotes"),
+    row!(Exception => "exception", Error, Records, NONE, WHOLE, ""),
+    row!(UnusedAllow => "unused-allow", Warning, Records, NONE, WHOLE, ""),
 ];
+
+static WAYS: [Way; 5] = [
+    way!(
+        CaaTag,
+        1,
+        FIELD_1,
+        "unknown CAA tag with flag 128: no certificate is issued"
+    ),
+    way!(
+        CaaTag,
+        2,
+        FIELD_1,
+        "CAA tag in capital letters, which NSD rejects"
+    ),
+    way!(SoaMail, 1, FIELD_1, "mail name of the SOA has one label"),
+    way!(
+        SoaTimers,
+        1,
+        FIELD_5,
+        "expire of the SOA is less than refresh and retry together"
+    ),
+    way!(
+        SoaTimers,
+        2,
+        FIELD_6,
+        "minimum of the SOA, the TTL of negative answers, is above a day"
+    ),
+];
+
+/// Returns the further ways of all codes.
+pub fn ways() -> &'static [Way; 5]
+    ensures { map way_seen result.now ≡ way_rows }
+{
+    &WAYS
+}
 
 /// Returns the rows of all codes, in their order.
 pub fn rows() -> &'static [Row; 107]
