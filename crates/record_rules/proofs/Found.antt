@@ -2,11 +2,10 @@
 use Rattle.std.proofs.Common.{ℕ, zero, suc, ◌≡◌, ◌+◌, ◌<◌, ◌⊎◌, ⊎_elim, inl, inr, Bool, true, false, cond, Option, List, [], ◌∷◌, ◌++◌, length, take, get_or, refl, sym, ap, ◌∙◌, arith}
 use Rattle.std.specs.List.{Contains, filter}
 use Rattle.std.proofs.lemmas.List.Elements.{filter_more}
+use Rattle.finding_codes.specs.declared.rule.Rule.{Rule}
 use Rattle.rdata_fields.specs.declared.record_ref.RecordRef.{RecordRef}
 use Rattle.record_rules.specs.FoundAlone.{lone_rules, FindsBrokenRules}
 use Rattle.record_rules.specs.LoneRules.{breaks_record_rule}
-use Rattle.record_rules.specs.declared.rule.RecordRule.{RecordRule}
-use Rattle.record_rules.specs.declared.rule.RecordRule.TheVariants.{SpfType, NaptrRegexp, NaptrBoth, CaaUnknown, CaaCritical, CaaCapitals, SoaMailAtSign, SoaMailOneLabel, SoaRetry, SoaExpire, SoaMinimum, ReverseName, WildcardInside, TargetAddress, TxtWords, CommentInData}
 use Rattle.record_rules.specs.declared.written.Written.{Written}
 
 -- ---- elements of filtered lists
@@ -42,31 +41,22 @@ from_filter : {X : Type 0} (p : X → Bool) (xs : List X) (x : X) → Contains (
 from_filter p [] x h = absurd (in_nothing x h)
 from_filter p (y ∷ xs) x h = from_kept p (p y) y (filter p xs) x refl (λ t. from_filter p xs x t) h
 
+kept_is_among : {X : Type 0} (b : Bool) (y : X) (xs : List X) (x : X) (more : List X) → (Contains more x → Contains xs x) → Contains (cond b (y ∷ more) more) x → Contains (y ∷ xs) x
+kept_is_among true y xs x more h k = ⊎_elim (λ is. (0, omega arith, is)) (λ t. in_tail y xs x (h t)) (in_cons y more x k.0 k.1 k.2)
+kept_is_among false y xs x more h k = in_tail y xs x (h k)
+
+among_all : {X : Type 0} (p : X → Bool) (xs : List X) (x : X) → Contains (filter p xs) x → Contains xs x
+among_all p [] x h = h
+among_all p (y ∷ xs) x h = kept_is_among (p y) y xs x (filter p xs) (among_all p xs x) h
+
 -- ---- rules
 
-each_rule : (rule : RecordRule) → Contains lone_rules rule
-each_rule SpfType = (0, omega arith, refl)
-each_rule NaptrRegexp = (1, omega arith, refl)
-each_rule NaptrBoth = (2, omega arith, refl)
-each_rule CaaUnknown = (3, omega arith, refl)
-each_rule CaaCritical = (4, omega arith, refl)
-each_rule CaaCapitals = (5, omega arith, refl)
-each_rule SoaMailAtSign = (6, omega arith, refl)
-each_rule SoaMailOneLabel = (7, omega arith, refl)
-each_rule SoaRetry = (8, omega arith, refl)
-each_rule SoaExpire = (9, omega arith, refl)
-each_rule SoaMinimum = (10, omega arith, refl)
-each_rule ReverseName = (11, omega arith, refl)
-each_rule WildcardInside = (12, omega arith, refl)
-each_rule TargetAddress = (13, omega arith, refl)
-each_rule TxtWords = (14, omega arith, refl)
-each_rule CommentInData = (15, omega arith, refl)
-
-found_if_broken : (p : RecordRule → Bool) (rule : RecordRule) → (Contains (filter p lone_rules) rule → p rule ≡ true) × (p rule ≡ true → Contains (filter p lone_rules) rule)
-found_if_broken p rule = (from_filter p lone_rules rule, λ e. in_filter p lone_rules rule e (each_rule rule))
-
 pub broken_rules_are_found : (r : RecordRef) (text : Option Written) → FindsBrokenRules r text
-broken_rules_are_found r text = λ rule. found_if_broken (breaks_record_rule r text) rule
+broken_rules_are_found r text =
+    λ rule. (
+      λ h. (among_all (breaks_record_rule r text) lone_rules rule h, from_filter (breaks_record_rule r text) lone_rules rule h),
+      λ h. in_filter (breaks_record_rule r text) lone_rules rule h.1 h.0,
+    )
 
 -- ---- a loop over rules
 

@@ -1,10 +1,14 @@
 -- The last two labels of a name.
-use Rattle.std.proofs.Common.{ℕ, ◌≡◌, false, List, [], ◌∷◌, drop, refl, sym, ap, ◌∙◌}
+use Rattle.std.proofs.Common.{ℕ, zero, suc, ◌≡◌, Bool, true, false, cond, Option, Some, None, List, [], ◌∷◌, drop, refl, sym, ap, ◌∙◌}
 use Rattle.std.proofs.Math.Bool.{and-false, or-false}
-use Rattle.std.specs.Prelude.{◌&&◌, ◌||◌}
-use Rattle.dns_octets.specs.Lowered.{same_lowered}
+use Rattle.std.specs.Cmp.{first_so}
+use Rattle.std.specs.Cmp.Lexicographic.{pointwise, bytes_decides}
+use Rattle.std.specs.Option.{option_map_or}
+use Rattle.std.specs.Prelude.{◌&&◌, ◌||◌, not, nat_eq, codes}
+use Rattle.dns_octets.specs.Lowered.{lowered, same_lowered}
 use Rattle.dns_wire.specs.Order.{same_name}
-use Rattle.record_rules.specs.Labels.{ends_in_name, last_two, name_labels, HasFirstLabel, IsEndBelow}
+use Rattle.record_rules.specs.Labels.{beyond_passing, ends_in_name, is_nibble_label, last_two, name_labels, HasFirstLabel, IsEndBelow}
+use Rattle.record_rules.specs.LoneRules.{in_addr_top, ip6_top, is_address_name, is_bad_reverse}
 
 -- ---- a name, by those that begin at its second and at its third label
 
@@ -50,3 +54,49 @@ ends_in_two (a ∷ b ∷ c ∷ labels) x y =
 pub end_of_two : (top end labels : List (List ℕ)) (x y : List ℕ) → top ≡ x ∷ y ∷ [] → end ≡ last_two (drop 1 labels) → IsEndBelow top end labels
 end_of_two top end labels x y is e =
     ap (ends_in_name (drop 1 labels)) is ∙ ends_in_two (drop 1 labels) x y ∙ (λ i. same_name (sym e i) (sym is i))
+
+-- ---- the name of an IPv6 address is not in the tree of IPv4 addresses
+
+passed : (b : Bool) (x : Option (List (List ℕ))) (y : List (List ℕ)) → cond b x None ≡ Some y → x ≡ Some y
+passed true x y e = e
+passed false x y e = cc
+
+one_more : (label : List ℕ) (labels : List (List ℕ)) (a b : List ℕ) → last_two labels ≡ a ∷ b ∷ [] → last_two (label ∷ labels) ≡ a ∷ b ∷ []
+one_more label [] a b e = cc
+one_more label (x ∷ []) a b e = cc
+one_more label (x ∷ y ∷ labels) a b e = e
+
+end_after : (p : List ℕ → Bool) (n : ℕ) (labels : List (List ℕ)) (a b : List ℕ) → beyond_passing p n labels ≡ Some (a ∷ b ∷ []) → last_two labels ≡ a ∷ b ∷ []
+end_after p zero labels a b e = let is : labels ≡ a ∷ b ∷ [] = cc in ap last_two is
+end_after p (suc n) [] a b e = cc
+end_after p (suc n) (label ∷ labels) a b e = one_more label labels a b (end_after p n labels a b (passed (p label) (beyond_passing p n labels) _ e))
+
+end_after_first : (p : List ℕ → Bool) (n : ℕ) (labels : List (List ℕ)) (a b : List ℕ) → beyond_passing p (suc n) labels ≡ Some (a ∷ b ∷ [])
+    → last_two (drop 1 labels) ≡ a ∷ b ∷ []
+end_after_first p n [] a b e = cc
+end_after_first p n (label ∷ labels) a b e = end_after p n labels a b (passed (p label) (beyond_passing p n labels) _ e)
+
+other_top : (a b : List ℕ) → same_name (a ∷ b ∷ []) ip6_top ≡ true → same_name (a ∷ b ∷ []) in_addr_top ≡ false
+other_top a b e =
+    let is : lowered a ≡ lowered (codes "ip6") = (bytes_decides (lowered a) (lowered (codes "ip6"))).0 (first_so (same_lowered a (codes "ip6")) _ e) in
+    ap (λ l. pointwise nat_eq l (lowered (codes "in-addr")) && same_name (b ∷ []) (codes "arpa" ∷ [])) is
+
+no_other_top : (p : List ℕ → Bool) (n : ℕ) (labels rest : List (List ℕ)) → beyond_passing p (suc n) labels ≡ Some rest → same_name rest ip6_top ≡ true
+    → same_name (last_two (drop 1 labels)) in_addr_top ≡ false
+no_other_top p n labels [] e same = cc
+no_other_top p n labels (a ∷ []) e same = let differs = one_differs a (codes "ip6") (codes "arpa") in cc
+no_other_top p n labels (a ∷ b ∷ []) e same = ap (λ l. same_name l in_addr_top) (end_after_first p n labels a b e) ∙ other_top a b same
+no_other_top p n labels (a ∷ b ∷ c ∷ rest) e same = let differs = three_differ a b c (codes "ip6") (codes "arpa") rest in cc
+
+no_other_tree : (p : List ℕ → Bool) (n : ℕ) (labels : List (List ℕ)) (o : Option (List (List ℕ))) → beyond_passing p (suc n) labels ≡ o
+    → option_map_or (λ rest. same_name rest ip6_top) o false ≡ true → same_name (last_two (drop 1 labels)) in_addr_top ≡ false
+no_other_tree p n labels None e same = cc
+no_other_tree p n labels (Some rest) e same = no_other_top p n labels rest e same
+
+not_bad : (a b d e f : Bool) → a ≡ false → e ≡ true → ((a && b) || (d && (not e && f))) ≡ false
+not_bad a b d e f outside address = (λ i. (outside i && b) || (d && (not (address i) && f))) ∙ and-false d
+
+pub address_is_not_bad : (labels : List (List ℕ)) → is_address_name is_nibble_label 32 ip6_top labels ≡ true → is_bad_reverse labels ≡ false
+address_is_not_bad labels e =
+    let elsewhere = no_other_tree is_nibble_label 31 labels (beyond_passing is_nibble_label 32 labels) refl e in
+    not_bad (ends_in_name (drop 1 labels) in_addr_top) _ _ _ _ (ends_in_two (drop 1 labels) (codes "in-addr") (codes "arpa") ∙ elsewhere) e

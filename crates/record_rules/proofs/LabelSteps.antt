@@ -1,5 +1,5 @@
 -- Names label by label.
-use Rattle.std.proofs.Common.{ℕ, zero, suc, ◌≡◌, ◌≤◌, ◌-◌, Bool, true, false, cond, Some, None, List, [], ◌∷◌, length, take, drop, refl, sym, ap, ◌∙◌, arith, length-drop}
+use Rattle.std.proofs.Common.{ℕ, zero, suc, ◌≡◌, ◌≤◌, ◌-◌, Bool, true, false, cond, Some, None, List, [], ◌∷◌, length, take, drop, refl, sym, subst, ap, ◌∙◌, arith, length-drop}
 use Rattle.std.specs.Prelude.{◌&&◌, ◌||◌, not, codes}
 use Rattle.std.specs.List.{list_any}
 use Rattle.dns_octets.specs.Lowered.{same_lowered}
@@ -58,6 +58,11 @@ pub first_parts : (name : List ℕ) (count : ℕ) (rest : List ℕ) → name ≡
 first_parts [] count rest e some = cc
 first_parts (zero ∷ octets) count rest e some = absurd (some cc)
 first_parts (suc n ∷ octets) count rest e some = some_label n octets
+
+pub one_octet : (name : List ℕ) (count : ℕ) (rest : List ℕ) (octet : ℕ) (after : List ℕ) → name ≡ count ∷ rest → count ≡ 1 → rest ≡ octet ∷ after
+    → HasFirstLabel name (octet ∷ []) after
+one_octet name count rest octet after e one is =
+    subst (λ n. HasFirstLabel n (octet ∷ []) after) (sym (e ∙ (λ i. one i ∷ is i))) (some_label 0 (octet ∷ after))
 
 -- ---- definitions by labels, at a label and at the root
 

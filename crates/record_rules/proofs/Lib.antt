@@ -1,3 +1,4 @@
+mod Asterisks
 mod Found
 mod LabelEnds
 mod LabelSteps

@@ -1,7 +1,6 @@
 pub mod Comments
 pub mod FoundAlone
 pub mod Labels
-pub mod LoneRuleNames
 pub mod LoneRules
 pub mod Rows
 pub mod Substitutions

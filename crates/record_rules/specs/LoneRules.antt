@@ -6,14 +6,15 @@ use Rattle.std.specs.List.{list_any}
 use Rattle.std.specs.Option.{option_map_or}
 use Rattle.dns_octets.specs.Lowered.{same_lowered}
 use Rattle.dns_wire.specs.Order.{same_name}
+use Rattle.finding_codes.specs.declared.code.Code.{Code}
+use Rattle.finding_codes.specs.declared.code.Code.TheVariants.{SpfType, NaptrRegexp, NaptrBoth, CaaTag, SoaMail, SoaTimers, ReverseName, WildcardInside, TargetAddress, TxtWords, CommentInData}
+use Rattle.finding_codes.specs.declared.rule.Rule.{Rule}
 use Rattle.rdata_values.specs.Rtype as Rtype
 use Rattle.rdata_values.specs.declared.types.RecordType.{RecordType}
 use Rattle.rdata_fields.specs.declared.record_ref.RecordRef.{RecordRef}
 use Rattle.record_rules.specs.Comments.{has_word_at_comment}
 use Rattle.record_rules.specs.Labels.{beyond_name, beyond_string, ends_in_name, has_at_sign, is_asterisk, is_divided_below, is_nibble_label, is_octet_label, beyond_passing, name_labels, leading_string}
 use Rattle.record_rules.specs.Substitutions.{is_substitution}
-use Rattle.record_rules.specs.declared.rule.RecordRule.{RecordRule}
-use Rattle.record_rules.specs.declared.rule.RecordRule.TheVariants.{SpfType, NaptrRegexp, NaptrBoth, CaaUnknown, CaaCritical, CaaCapitals, SoaMailAtSign, SoaMailOneLabel, SoaRetry, SoaExpire, SoaMinimum, ReverseName, WildcardInside, TargetAddress, TxtWords, CommentInData}
 use Rattle.record_rules.specs.declared.written.Written.{Written}
 
 abbrev pub is_nil_list : {A : Type 0} → List A → Bool
@@ -190,25 +191,31 @@ is_text_type rtype = rtype == Rtype.txt || (rtype == Rtype.spf || rtype == Rtype
 
 -- ---- all rules
 
+-- the ways of rules with more than one
+abbrev pub has_bad_tag : (way : ℕ) → List ℕ → Bool
+has_bad_tag way octets = if way == 0 then has_unknown_tag octets else if way == 1 then has_critical_tag octets else has_capital_tag octets
+
+abbrev pub has_bad_mail : (way : ℕ) → List ℕ → Bool
+has_bad_mail way octets = if way == 0 then has_mail_sign octets else is_one_mail_label (soa_mail octets)
+
+abbrev pub has_bad_timer : (way : ℕ) → List ℕ → Bool
+has_bad_timer way octets = if way == 0 then has_late_retry octets else if way == 1 then has_early_expire octets else has_long_minimum octets
+
 -- whether a record with this owner, type and RDATA breaks a rule; some depend on how its RDATA was written, if that is known
-abbrev pub breaks_alone : RecordRule → List ℕ → RecordType → List ℕ → Option Written → Bool
-breaks_alone SpfType owner rtype octets text = rtype == Rtype.spf
-breaks_alone NaptrRegexp owner rtype octets text = rtype == Rtype.naptr && has_bad_expression octets
-breaks_alone NaptrBoth owner rtype octets text = rtype == Rtype.naptr && has_two_results octets
-breaks_alone CaaUnknown owner rtype octets text = rtype == Rtype.caa && has_unknown_tag octets
-breaks_alone CaaCritical owner rtype octets text = rtype == Rtype.caa && has_critical_tag octets
-breaks_alone CaaCapitals owner rtype octets text = rtype == Rtype.caa && has_capital_tag octets
-breaks_alone SoaMailAtSign owner rtype octets text = rtype == Rtype.soa && has_mail_sign octets
-breaks_alone SoaMailOneLabel owner rtype octets text = rtype == Rtype.soa && is_one_mail_label (soa_mail octets)
-breaks_alone SoaRetry owner rtype octets text = rtype == Rtype.soa && has_late_retry octets
-breaks_alone SoaExpire owner rtype octets text = rtype == Rtype.soa && has_early_expire octets
-breaks_alone SoaMinimum owner rtype octets text = rtype == Rtype.soa && has_long_minimum octets
-breaks_alone ReverseName owner rtype octets text = rtype == Rtype.ptr && is_bad_reverse (name_labels owner)
-breaks_alone WildcardInside owner rtype octets text = has_inner_asterisk (name_labels owner)
-breaks_alone TargetAddress owner rtype octets text = has_address_target owner rtype octets
-breaks_alone TxtWords owner rtype octets text = rtype == Rtype.txt && (option_map_or (λ w. not w.has_quotes) text false && has_version_words octets)
-breaks_alone CommentInData owner rtype octets text = is_text_type rtype && option_map_or (λ w. has_word_at_comment w.last.now) text false
+abbrev pub breaks_alone : Code → (way : ℕ) → List ℕ → RecordType → List ℕ → Option Written → Bool
+breaks_alone SpfType way owner rtype octets text = rtype == Rtype.spf
+breaks_alone NaptrRegexp way owner rtype octets text = rtype == Rtype.naptr && has_bad_expression octets
+breaks_alone NaptrBoth way owner rtype octets text = rtype == Rtype.naptr && has_two_results octets
+breaks_alone CaaTag way owner rtype octets text = rtype == Rtype.caa && has_bad_tag way octets
+breaks_alone SoaMail way owner rtype octets text = rtype == Rtype.soa && has_bad_mail way octets
+breaks_alone SoaTimers way owner rtype octets text = rtype == Rtype.soa && has_bad_timer way octets
+breaks_alone ReverseName way owner rtype octets text = rtype == Rtype.ptr && is_bad_reverse (name_labels owner)
+breaks_alone WildcardInside way owner rtype octets text = has_inner_asterisk (name_labels owner)
+breaks_alone TargetAddress way owner rtype octets text = has_address_target owner rtype octets
+breaks_alone TxtWords way owner rtype octets text = rtype == Rtype.txt && (option_map_or (λ w. not w.has_quotes) text false && has_version_words octets)
+breaks_alone CommentInData way owner rtype octets text = is_text_type rtype && option_map_or (λ w. has_word_at_comment w.last.now) text false
+breaks_alone _ way owner rtype octets text = false
 
 -- the same, of a record whose octets are borrowed
-abbrev pub breaks_record_rule : RecordRef → Option Written → RecordRule → Bool
-breaks_record_rule r text rule = breaks_alone rule r.owner.now r.rtype r.data.now text
+abbrev pub breaks_record_rule : RecordRef → Option Written → Rule → Bool
+breaks_record_rule r text rule = breaks_alone rule.code rule.way r.owner.now r.rtype r.data.now text

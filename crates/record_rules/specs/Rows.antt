@@ -10,8 +10,10 @@ use Rattle.record_rules.specs.Labels.{beyond_name, is_octet_label, last_two, nam
 use Rattle.record_rules.specs.LoneRules.{breaks_alone}
 use Rattle.record_rules.specs.Substitutions.{group_count, is_substitution}
 use Rattle.record_rules.specs.declared.regexp.Spot.TheVariants.{Plain}
-use Rattle.record_rules.specs.declared.rule.RecordRule.{RecordRule}
-use Rattle.record_rules.specs.declared.rule.RecordRule.TheVariants.{SpfType, NaptrRegexp, NaptrBoth, CaaUnknown, CaaCritical, CaaCapitals, SoaMailAtSign, SoaMailOneLabel, SoaRetry, SoaExpire, SoaMinimum, ReverseName, WildcardInside, TargetAddress, TxtWords, CommentInData}
+use Rattle.finding_codes.specs.Rule.{coded_rule}
+use Rattle.finding_codes.specs.declared.code.Code.{Code}
+use Rattle.finding_codes.specs.declared.code.Code.TheVariants.{SpfType, NaptrRegexp, NaptrBoth, CaaTag, SoaMail, SoaTimers, ReverseName, WildcardInside, TargetAddress, TxtWords, CommentInData}
+use Rattle.finding_codes.specs.declared.rule.Rule.{Rule}
 use Rattle.record_rules.specs.declared.written.Written.{Written}
 
 -- `example.`, and names below it
@@ -22,10 +24,10 @@ abbrev under : List ℕ → List (List ℕ)
 under label = label ∷ apex
 
 -- a rule is broken by a record at a name, whatever its text
-abbrev broken_at : RecordRule → List (List ℕ) → RecordType → List ℕ → Bool
-broken_at rule owner rtype octets = breaks_alone rule (wire owner) rtype octets None
+abbrev broken_at : Rule → List (List ℕ) → RecordType → List ℕ → Bool
+broken_at rule owner rtype octets = breaks_alone rule.code rule.way (wire owner) rtype octets None
 
-abbrev broken : RecordRule → RecordType → List ℕ → Bool
+abbrev broken : Rule → RecordType → List ℕ → Bool
 broken rule = broken_at rule apex
 
 -- a character string
@@ -50,10 +52,10 @@ one_label_left_row = refl
 
 -- ---- SPF
 
-spf_row : broken SpfType Rtype.spf (text (codes "v=spf1 -all")) ≡ true
+spf_row : broken (coded_rule SpfType 0) Rtype.spf (text (codes "v=spf1 -all")) ≡ true
 spf_row = refl
 
-txt_row : broken SpfType Rtype.txt (text (codes "v=spf1 -all")) ≡ false
+txt_row : broken (coded_rule SpfType 0) Rtype.txt (text (codes "v=spf1 -all")) ≡ false
 txt_row = refl
 
 -- ---- NAPTR (RFC 3402 section 3.2); BIND 9.18 loads and rejects the same ones
@@ -155,21 +157,21 @@ listed_backslash_row = refl
 abbrev naptr : List ℕ → List (List ℕ) → List ℕ
 naptr regexp replacement = 0 ∷ 1 ∷ 0 ∷ 1 ∷ (text (codes "u") ++ (text (codes "E2U+sip") ++ (text regexp ++ wire replacement)))
 
-naptr_row : broken NaptrRegexp Rtype.naptr (naptr (codes "!a!b") ([] ∷ [])) ≡ true
+naptr_row : broken (coded_rule NaptrRegexp 0) Rtype.naptr (naptr (codes "!a!b") ([] ∷ [])) ≡ true
 naptr_row = refl
 
-no_regexp_row : broken NaptrRegexp Rtype.naptr (naptr [] apex) ≡ false
+no_regexp_row : broken (coded_rule NaptrRegexp 0) Rtype.naptr (naptr [] apex) ≡ false
 no_regexp_row = refl
 
-both_row : broken NaptrBoth Rtype.naptr (naptr (codes "!a!b!") apex) ≡ true
+both_row : broken (coded_rule NaptrBoth 0) Rtype.naptr (naptr (codes "!a!b!") apex) ≡ true
 unfolding name_labels
 both_row = refl
 
-regexp_row : broken NaptrBoth Rtype.naptr (naptr (codes "!a!b!") ([] ∷ [])) ≡ false
+regexp_row : broken (coded_rule NaptrBoth 0) Rtype.naptr (naptr (codes "!a!b!") ([] ∷ [])) ≡ false
 unfolding name_labels
 regexp_row = refl
 
-replacement_row : broken NaptrBoth Rtype.naptr (naptr [] apex) ≡ false
+replacement_row : broken (coded_rule NaptrBoth 0) Rtype.naptr (naptr [] apex) ≡ false
 unfolding name_labels
 replacement_row = refl
 
@@ -178,34 +180,34 @@ replacement_row = refl
 abbrev caa : ℕ → List ℕ → List ℕ
 caa flags tag = flags ∷ (text tag ++ codes "ca.example")
 
-unknown_row : broken CaaUnknown Rtype.caa (caa 0 (codes "isue")) ≡ true
+unknown_row : broken (coded_rule CaaTag 0) Rtype.caa (caa 0 (codes "isue")) ≡ true
 unknown_row = refl
 
-unknown_not_critical_row : broken CaaCritical Rtype.caa (caa 127 (codes "isue")) ≡ false
+unknown_not_critical_row : broken (coded_rule CaaTag 1) Rtype.caa (caa 127 (codes "isue")) ≡ false
 unknown_not_critical_row = refl
 
-critical_row : broken CaaCritical Rtype.caa (caa 128 (codes "isue")) ≡ true
+critical_row : broken (coded_rule CaaTag 1) Rtype.caa (caa 128 (codes "isue")) ≡ true
 critical_row = refl
 
-critical_once_row : broken CaaUnknown Rtype.caa (caa 128 (codes "isue")) ≡ false
+critical_once_row : broken (coded_rule CaaTag 0) Rtype.caa (caa 128 (codes "isue")) ≡ false
 critical_once_row = refl
 
-known_critical_row : broken CaaCritical Rtype.caa (caa 128 (codes "issue")) ≡ false
+known_critical_row : broken (coded_rule CaaTag 1) Rtype.caa (caa 128 (codes "issue")) ≡ false
 known_critical_row = refl
 
-wild_row : broken CaaUnknown Rtype.caa (caa 0 (codes "IssueWild")) ≡ false
+wild_row : broken (coded_rule CaaTag 0) Rtype.caa (caa 0 (codes "IssueWild")) ≡ false
 wild_row = refl
 
-vmc_row : broken CaaUnknown Rtype.caa (caa 0 (codes "issuevmc")) ≡ false
+vmc_row : broken (coded_rule CaaTag 0) Rtype.caa (caa 0 (codes "issuevmc")) ≡ false
 vmc_row = refl
 
-phone_row : broken CaaUnknown Rtype.caa (caa 0 (codes "contactphone")) ≡ false
+phone_row : broken (coded_rule CaaTag 0) Rtype.caa (caa 0 (codes "contactphone")) ≡ false
 phone_row = refl
 
-capital_tag_row : broken CaaCapitals Rtype.caa (caa 0 (codes "Issue")) ≡ true
+capital_tag_row : broken (coded_rule CaaTag 2) Rtype.caa (caa 0 (codes "Issue")) ≡ true
 capital_tag_row = refl
 
-small_tag_row : broken CaaCapitals Rtype.caa (caa 0 (codes "issue")) ≡ false
+small_tag_row : broken (coded_rule CaaTag 2) Rtype.caa (caa 0 (codes "issue")) ≡ false
 small_tag_row = refl
 
 -- ---- SOA
@@ -225,50 +227,50 @@ abbrev soa : List (List ℕ) → List ℕ → List ℕ
 soa mail rest = wire (under (codes "ns")) ++ (wire mail ++ rest)
 
 -- admin@example., where BIND, NSD and ldns see no fault
-sign_row : broken SoaMailAtSign Rtype.soa (soa (codes "admin@example" ∷ [] ∷ []) catalog_timers) ≡ true
+sign_row : broken (coded_rule SoaMail 0) Rtype.soa (soa (codes "admin@example" ∷ [] ∷ []) catalog_timers) ≡ true
 unfolding beyond_name name_labels
 sign_row = refl
 
-sign_once_row : broken SoaMailOneLabel Rtype.soa (soa (codes "admin@example" ∷ [] ∷ []) catalog_timers) ≡ false
+sign_once_row : broken (coded_rule SoaMail 1) Rtype.soa (soa (codes "admin@example" ∷ [] ∷ []) catalog_timers) ≡ false
 unfolding beyond_name name_labels
 sign_once_row = refl
 
-relative_sign_row : broken SoaMailAtSign Rtype.soa (soa (under (codes "admin@example")) catalog_timers) ≡ true
+relative_sign_row : broken (coded_rule SoaMail 0) Rtype.soa (soa (under (codes "admin@example")) catalog_timers) ≡ true
 unfolding beyond_name name_labels
 relative_sign_row = refl
 
-mail_row : broken SoaMailAtSign Rtype.soa (soa (under (codes "admin")) catalog_timers) ≡ false
+mail_row : broken (coded_rule SoaMail 0) Rtype.soa (soa (under (codes "admin")) catalog_timers) ≡ false
 unfolding beyond_name name_labels
 mail_row = refl
 
-one_label_row : broken SoaMailOneLabel Rtype.soa (soa (codes "admin" ∷ [] ∷ []) catalog_timers) ≡ true
+one_label_row : broken (coded_rule SoaMail 1) Rtype.soa (soa (codes "admin" ∷ [] ∷ []) catalog_timers) ≡ true
 unfolding beyond_name name_labels
 one_label_row = refl
 
-two_labels_row : broken SoaMailOneLabel Rtype.soa (soa (under (codes "admin")) catalog_timers) ≡ false
+two_labels_row : broken (coded_rule SoaMail 1) Rtype.soa (soa (under (codes "admin")) catalog_timers) ≡ false
 unfolding beyond_name name_labels
 two_labels_row = refl
 
-invalid_row : broken SoaMailOneLabel Rtype.soa (soa (codes "Invalid" ∷ [] ∷ []) catalog_timers) ≡ false
+invalid_row : broken (coded_rule SoaMail 1) Rtype.soa (soa (codes "Invalid" ∷ [] ∷ []) catalog_timers) ≡ false
 unfolding beyond_name name_labels
 invalid_row = refl
 
-root_mail_row : broken SoaMailOneLabel Rtype.soa (soa ([] ∷ []) catalog_timers) ≡ false
+root_mail_row : broken (coded_rule SoaMail 1) Rtype.soa (soa ([] ∷ []) catalog_timers) ≡ false
 unfolding beyond_name name_labels
 root_mail_row = refl
 
-abbrev broken_timer : RecordRule → List ℕ → Bool
+abbrev broken_timer : Rule → List ℕ → Bool
 broken_timer rule rest = broken rule Rtype.soa (soa (under (codes "admin")) rest)
 
-catalog_retry_row : broken_timer SoaRetry catalog_timers ≡ false
+catalog_retry_row : broken_timer (coded_rule SoaTimers 0) catalog_timers ≡ false
 unfolding beyond_name
 catalog_retry_row = refl
 
-catalog_expire_row : broken_timer SoaExpire catalog_timers ≡ false
+catalog_expire_row : broken_timer (coded_rule SoaTimers 1) catalog_timers ≡ false
 unfolding beyond_name
 catalog_expire_row = refl
 
-catalog_minimum_row : broken_timer SoaMinimum catalog_timers ≡ false
+catalog_minimum_row : broken_timer (coded_rule SoaTimers 2) catalog_timers ≡ false
 unfolding beyond_name
 catalog_minimum_row = refl
 
@@ -276,15 +278,15 @@ catalog_minimum_row = refl
 abbrev bad_timers : List ℕ
 bad_timers = timers (number 0 60) (number 14 16) (number 0 60) (0 ∷ 9 ∷ 58 ∷ 128 ∷ [])
 
-late_retry_row : broken_timer SoaRetry bad_timers ≡ true
+late_retry_row : broken_timer (coded_rule SoaTimers 0) bad_timers ≡ true
 unfolding beyond_name
 late_retry_row = refl
 
-early_expire_row : broken_timer SoaExpire bad_timers ≡ true
+early_expire_row : broken_timer (coded_rule SoaTimers 1) bad_timers ≡ true
 unfolding beyond_name
 early_expire_row = refl
 
-long_minimum_row : broken_timer SoaMinimum bad_timers ≡ true
+long_minimum_row : broken_timer (coded_rule SoaTimers 2) bad_timers ≡ true
 unfolding beyond_name
 long_minimum_row = refl
 
@@ -292,15 +294,15 @@ long_minimum_row = refl
 abbrev edge_timers : List ℕ
 edge_timers = timers (number 0 60) (number 0 60) (number 0 120) (0 ∷ 1 ∷ 81 ∷ 128 ∷ [])
 
-equal_retry_row : broken_timer SoaRetry edge_timers ≡ true
+equal_retry_row : broken_timer (coded_rule SoaTimers 0) edge_timers ≡ true
 unfolding beyond_name
 equal_retry_row = refl
 
-least_expire_row : broken_timer SoaExpire edge_timers ≡ false
+least_expire_row : broken_timer (coded_rule SoaTimers 1) edge_timers ≡ false
 unfolding beyond_name
 least_expire_row = refl
 
-one_day_row : broken_timer SoaMinimum edge_timers ≡ false
+one_day_row : broken_timer (coded_rule SoaTimers 2) edge_timers ≡ false
 unfolding beyond_name
 one_day_row = refl
 
@@ -319,7 +321,7 @@ abbrev below_ip6 : List (List ℕ) → List (List ℕ)
 below_ip6 labels = labels ++ (codes "ip6" ∷ codes "arpa" ∷ [] ∷ [])
 
 abbrev is_told : List (List ℕ) → Bool
-is_told owner = broken_at ReverseName owner Rtype.ptr (wire apex)
+is_told owner = broken_at (coded_rule ReverseName 0) owner Rtype.ptr (wire apex)
 
 address_row : is_told (below_in_addr (codes "1" ∷ codes "2" ∷ codes "0" ∷ codes "192" ∷ [])) ≡ false
 unfolding name_labels
@@ -387,19 +389,19 @@ elsewhere_row = refl
 -- ---- wildcards
 
 -- b.*.x
-inner_star_row : broken_at WildcardInside (codes "b" ∷ codes "*" ∷ under (codes "x")) Rtype.a [] ≡ true
+inner_star_row : broken_at (coded_rule WildcardInside 0) (codes "b" ∷ codes "*" ∷ under (codes "x")) Rtype.a [] ≡ true
 unfolding name_labels
 inner_star_row = refl
 
-first_star_row : broken_at WildcardInside (codes "*" ∷ under (codes "x")) Rtype.a [] ≡ false
+first_star_row : broken_at (coded_rule WildcardInside 0) (codes "*" ∷ under (codes "x")) Rtype.a [] ≡ false
 unfolding name_labels
 first_star_row = refl
 
-two_stars_row : broken_at WildcardInside (codes "*" ∷ under (codes "*")) Rtype.txt [] ≡ true
+two_stars_row : broken_at (coded_rule WildcardInside 0) (codes "*" ∷ under (codes "*")) Rtype.txt [] ≡ true
 unfolding name_labels
 two_stars_row = refl
 
-part_star_row : broken_at WildcardInside (codes "b" ∷ under (codes "a*")) Rtype.a [] ≡ false
+part_star_row : broken_at (coded_rule WildcardInside 0) (codes "b" ∷ under (codes "a*")) Rtype.a [] ≡ false
 unfolding name_labels
 part_star_row = refl
 
@@ -409,7 +411,7 @@ abbrev address_before : List (List ℕ) → List (List ℕ)
 address_before labels = codes "192" ∷ codes "0" ∷ codes "2" ∷ codes "1" ∷ labels
 
 abbrev targets_address : List (List ℕ) → RecordType → List ℕ → Bool
-targets_address owner rtype octets = broken_at TargetAddress owner rtype octets
+targets_address owner rtype octets = broken_at (coded_rule TargetAddress 0) owner rtype octets
 
 -- MX 10 192.0.2.1.
 mx_dot_row : targets_address apex Rtype.mx (0 ∷ 10 ∷ wire (address_before ([] ∷ []))) ≡ true
@@ -464,19 +466,19 @@ from_text quotes last = record { has_quotes = quotes; last = record { ref_ptr = 
 abbrev words : List ℕ
 words = text (codes "v=spf1") ++ (text (codes "a") ++ text (codes "-all"))
 
-words_row : breaks_alone TxtWords (wire apex) Rtype.txt words (Some (from_text false (codes "-all\n"))) ≡ true
+words_row : breaks_alone TxtWords 0 (wire apex) Rtype.txt words (Some (from_text false (codes "-all\n"))) ≡ true
 words_row = refl
 
-quoted_words_row : breaks_alone TxtWords (wire apex) Rtype.txt words (Some (from_text true (codes "-all\n"))) ≡ false
+quoted_words_row : breaks_alone TxtWords 0 (wire apex) Rtype.txt words (Some (from_text true (codes "-all\n"))) ≡ false
 quoted_words_row = refl
 
-unknown_words_row : breaks_alone TxtWords (wire apex) Rtype.txt words None ≡ false
+unknown_words_row : breaks_alone TxtWords 0 (wire apex) Rtype.txt words None ≡ false
 unknown_words_row = refl
 
-one_word_row : breaks_alone TxtWords (wire apex) Rtype.txt (text (codes "v=spf1")) (Some (from_text false (codes "v=spf1\n"))) ≡ false
+one_word_row : breaks_alone TxtWords 0 (wire apex) Rtype.txt (text (codes "v=spf1")) (Some (from_text false (codes "v=spf1\n"))) ≡ false
 one_word_row = refl
 
-other_words_row : breaks_alone TxtWords (wire apex) Rtype.txt (text (codes "a") ++ text (codes "b")) (Some (from_text false (codes "b\n"))) ≡ false
+other_words_row : breaks_alone TxtWords 0 (wire apex) Rtype.txt (text (codes "a") ++ text (codes "b")) (Some (from_text false (codes "b\n"))) ≡ false
 other_words_row = refl
 
 -- v=DKIM1; p=..
@@ -501,13 +503,13 @@ line_row = refl
 parenthesis_row : has_word_at_comment (codes "v=DKIM1); p\n") ≡ false
 parenthesis_row = refl
 
-caa_comment_row : breaks_alone CommentInData (wire apex) Rtype.caa (caa 0 (codes "issue")) (Some (from_text false (codes "ca.example;x=y\n"))) ≡ true
+caa_comment_row : breaks_alone CommentInData 0 (wire apex) Rtype.caa (caa 0 (codes "issue")) (Some (from_text false (codes "ca.example;x=y\n"))) ≡ true
 caa_comment_row = refl
 
-spf_comment_row : breaks_alone CommentInData (wire apex) Rtype.spf (text (codes "a")) (Some (from_text false (codes "a;b\n"))) ≡ true
+spf_comment_row : breaks_alone CommentInData 0 (wire apex) Rtype.spf (text (codes "a")) (Some (from_text false (codes "a;b\n"))) ≡ true
 spf_comment_row = refl
 
-address_comment_row : breaks_alone CommentInData (wire apex) Rtype.a (192 ∷ 0 ∷ 2 ∷ 1 ∷ []) (Some (from_text false (codes "192.0.2.1;x\n"))) ≡ false
+address_comment_row : breaks_alone CommentInData 0 (wire apex) Rtype.a (192 ∷ 0 ∷ 2 ∷ 1 ∷ []) (Some (from_text false (codes "192.0.2.1;x\n"))) ≡ false
 address_comment_row = refl
 
 -- ---- all rules
@@ -521,10 +523,10 @@ borrowed owner rtype octets = record {
   «data» = record { ref_ptr = (0, 0); now = octets };
 }
 
-spf_found_row : found_alone (borrowed (wire apex) Rtype.spf (text (codes "v=spf1"))) (Some (from_text false (codes "v=spf1;\n"))) ≡ SpfType ∷ CommentInData ∷ []
+spf_found_row : found_alone (borrowed (wire apex) Rtype.spf (text (codes "v=spf1"))) (Some (from_text false (codes "v=spf1;\n"))) ≡ coded_rule SpfType 0 ∷ coded_rule CommentInData 0 ∷ []
 unfolding name_labels
 spf_found_row = refl
 
-soa_found_row : found_alone (borrowed (wire apex) Rtype.soa (soa (codes "admin" ∷ [] ∷ []) bad_timers)) None ≡ SoaMailOneLabel ∷ SoaRetry ∷ SoaExpire ∷ SoaMinimum ∷ []
+soa_found_row : found_alone (borrowed (wire apex) Rtype.soa (soa (codes "admin" ∷ [] ∷ []) bad_timers)) None ≡ coded_rule SoaMail 1 ∷ coded_rule SoaTimers 0 ∷ coded_rule SoaTimers 1 ∷ coded_rule SoaTimers 2 ∷ []
 unfolding beyond_name name_labels
 soa_found_row = refl

@@ -1,44 +1,121 @@
 //! Checks a record against the rules.
-ghost use Rattle.std.specs.Prelude.{◌≡◌, ◌<◌, ◌≤◌, ◌+◌, ◌++◌, ◌∷◌, [], if◌then◌else◌, not, false};
+ghost use Rattle.std.specs.Prelude.{◌≡◌, ◌<◌, ◌≤◌, ◌+◌, ◌++◌, ◌∷◌, [], if◌then◌else◌, length, not, false};
 ghost use Rattle.arrayvec.specs.ArrayVec.{array_vec_len};
 ghost use Rattle.std.specs.Option.{option_map_or};
 ghost use Rattle.record_rules.specs.Comments.{has_word_at_comment};
-ghost use Rattle.record_rules.specs.FoundAlone.{found_alone};
-ghost use Rattle.record_rules.specs.LoneRules.{begins_version, breaks_record_rule, has_version_words, is_text_type};
+ghost use Rattle.record_rules.specs.FoundAlone.{found_alone, ListsRulesOf};
+ghost use Rattle.record_rules.specs.LoneRules.{begins_version, breaks_record_rule, has_bad_mail, has_bad_tag, has_bad_timer, has_version_words, is_text_type};
 
 use crate::caa::{has_capital_tag, has_critical_tag, has_unknown_tag};
 use crate::comments::has_word_at_comment;
 use crate::labels::{after_string, first_string};
 use crate::names::{has_address_target, has_inner_asterisk, is_bad_reverse};
 use crate::naptr::{has_bad_expression, has_two_results};
-use crate::rule::RecordRule;
 use crate::soa::{
     has_early_expire, has_late_retry, has_long_minimum, has_mail_sign, has_one_mail_label,
 };
 use crate::written::Written;
 use arrayvec::ArrayVec;
+use finding_codes::code::Code;
+use finding_codes::rule::Rule;
 use rdata_fields::RecordRef;
 use rdata_values::RecordType;
 
+/// A rule, as `rule!(CODE, WAY)`.
+macro_rules! rule {
+    ($code:ident, $way:literal) => {
+        Rule {
+            code: Code::$code,
+            way: $way,
+        }
+    };
+}
+
 /// All rules, in the order in which they are checked.
-pub static LONE_RULES: [RecordRule; 16] = [
-    RecordRule::SpfType,
-    RecordRule::NaptrRegexp,
-    RecordRule::NaptrBoth,
-    RecordRule::CaaUnknown,
-    RecordRule::CaaCritical,
-    RecordRule::CaaCapitals,
-    RecordRule::SoaMailAtSign,
-    RecordRule::SoaMailOneLabel,
-    RecordRule::SoaRetry,
-    RecordRule::SoaExpire,
-    RecordRule::SoaMinimum,
-    RecordRule::ReverseName,
-    RecordRule::WildcardInside,
-    RecordRule::TargetAddress,
-    RecordRule::TxtWords,
-    RecordRule::CommentInData,
+pub static LONE_RULES: [Rule; 16] = [
+    rule!(SpfType, 0),
+    rule!(NaptrRegexp, 0),
+    rule!(NaptrBoth, 0),
+    rule!(CaaTag, 0),
+    rule!(CaaTag, 1),
+    rule!(CaaTag, 2),
+    rule!(SoaMail, 0),
+    rule!(SoaMail, 1),
+    rule!(SoaTimers, 0),
+    rule!(SoaTimers, 1),
+    rule!(SoaTimers, 2),
+    rule!(ReverseName, 0),
+    rule!(WildcardInside, 0),
+    rule!(TargetAddress, 0),
+    rule!(TxtWords, 0),
+    rule!(CommentInData, 0),
 ];
+
+/// Those for a record of any type.
+static RULES_OF_ANY: [Rule; 2] = [rule!(WildcardInside, 0), rule!(TargetAddress, 0)];
+
+/// Those for a PTR.
+static RULES_OF_PTR: [Rule; 3] = [
+    rule!(ReverseName, 0),
+    rule!(WildcardInside, 0),
+    rule!(TargetAddress, 0),
+];
+
+/// Those for a TXT.
+static RULES_OF_TXT: [Rule; 3] = [
+    rule!(WildcardInside, 0),
+    rule!(TxtWords, 0),
+    rule!(CommentInData, 0),
+];
+
+/// Those for an SPF.
+static RULES_OF_SPF: [Rule; 3] = [
+    rule!(SpfType, 0),
+    rule!(WildcardInside, 0),
+    rule!(CommentInData, 0),
+];
+
+/// Those for a NAPTR.
+static RULES_OF_NAPTR: [Rule; 3] = [
+    rule!(NaptrRegexp, 0),
+    rule!(NaptrBoth, 0),
+    rule!(WildcardInside, 0),
+];
+
+/// Those for a CAA.
+static RULES_OF_CAA: [Rule; 5] = [
+    rule!(CaaTag, 0),
+    rule!(CaaTag, 1),
+    rule!(CaaTag, 2),
+    rule!(WildcardInside, 0),
+    rule!(CommentInData, 0),
+];
+
+/// Those for an SOA.
+static RULES_OF_SOA: [Rule; 6] = [
+    rule!(SoaMail, 0),
+    rule!(SoaMail, 1),
+    rule!(SoaTimers, 0),
+    rule!(SoaTimers, 1),
+    rule!(SoaTimers, 2),
+    rule!(WildcardInside, 0),
+];
+
+/// Returns the rules that a record of a type may break, in the order of [`LONE_RULES`].
+fn rules_of(rtype: RecordType) -> &'static [Rule]
+    ensures found { ListsRulesOf rtype result.now }
+    ensures few { length result.now ≤ 16 }
+{
+    match rtype {
+        RecordType::PTR => &RULES_OF_PTR,
+        RecordType::TXT => &RULES_OF_TXT,
+        RecordType::SPF => &RULES_OF_SPF,
+        RecordType::NAPTR => &RULES_OF_NAPTR,
+        RecordType::CAA => &RULES_OF_CAA,
+        RecordType::SOA => &RULES_OF_SOA,
+        _ => &RULES_OF_ANY,
+    }
+}
 
 /// Returns whether a string begins with `v=`.
 fn begins_version(text: &[u8]) -> bool
@@ -84,38 +161,67 @@ fn is_text_type(rtype: RecordType) -> bool
     matches!(rtype, RecordType::TXT | RecordType::SPF | RecordType::CAA)
 }
 
+/// Returns whether the tag of a CAA is bad: not known and not critical, not known and critical, and
+/// in the third way known and with capital letters.
+fn has_bad_tag(way: u8, data: &[u8]) -> bool
+    ensures { result ≡ has_bad_tag way «data».now }
+{
+    match way {
+        0 => has_unknown_tag(data),
+        1 => has_critical_tag(data),
+        _ => has_capital_tag(data),
+    }
+}
+
+/// Returns whether the mail name of an SOA is bad: it has an `@`, and in the second way one label.
+fn has_bad_mail(way: u8, data: &[u8]) -> bool
+    ensures { result ≡ has_bad_mail way «data».now }
+{
+    match way {
+        0 => has_mail_sign(data),
+        _ => has_one_mail_label(data),
+    }
+}
+
+/// Returns whether a timer of an SOA is bad: retry, expire, and in the third way the minimum.
+fn has_bad_timer(way: u8, data: &[u8]) -> bool
+    ensures { result ≡ has_bad_timer way «data».now }
+{
+    match way {
+        0 => has_late_retry(data),
+        1 => has_early_expire(data),
+        _ => has_long_minimum(data),
+    }
+}
+
 /// Returns whether a record breaks a rule.
 ///
 /// Some rules depend on how the RDATA was written. If that is not known, as for RDATA from a
 /// message or in the form `\#`, the record doesn't break them.
-pub fn breaks_rule(rule: RecordRule, record: &RecordRef<'_>, written: Option<Written<'_>>) -> bool
+pub fn breaks_rule(rule: Rule, record: &RecordRef<'_>, written: Option<Written<'_>>) -> bool
     ensures { result ≡ breaks_record_rule «record».now written.entry rule }
 {
     let rtype = record.rtype;
-    match rule {
-        RecordRule::SpfType => rtype == RecordType::SPF,
-        RecordRule::NaptrRegexp => rtype == RecordType::NAPTR && has_bad_expression(record.data),
-        RecordRule::NaptrBoth => rtype == RecordType::NAPTR && has_two_results(record.data),
-        RecordRule::CaaUnknown => rtype == RecordType::CAA && has_unknown_tag(record.data),
-        RecordRule::CaaCritical => rtype == RecordType::CAA && has_critical_tag(record.data),
-        RecordRule::CaaCapitals => rtype == RecordType::CAA && has_capital_tag(record.data),
-        RecordRule::SoaMailAtSign => rtype == RecordType::SOA && has_mail_sign(record.data),
-        RecordRule::SoaMailOneLabel => rtype == RecordType::SOA && has_one_mail_label(record.data),
-        RecordRule::SoaRetry => rtype == RecordType::SOA && has_late_retry(record.data),
-        RecordRule::SoaExpire => rtype == RecordType::SOA && has_early_expire(record.data),
-        RecordRule::SoaMinimum => rtype == RecordType::SOA && has_long_minimum(record.data),
-        RecordRule::ReverseName => rtype == RecordType::PTR && is_bad_reverse(record.owner),
-        RecordRule::WildcardInside => has_inner_asterisk(record.owner),
-        RecordRule::TargetAddress => has_address_target(record.owner, rtype, record.data),
-        RecordRule::TxtWords => {
+    match rule.code {
+        Code::SpfType => rtype == RecordType::SPF,
+        Code::NaptrRegexp => rtype == RecordType::NAPTR && has_bad_expression(record.data),
+        Code::NaptrBoth => rtype == RecordType::NAPTR && has_two_results(record.data),
+        Code::CaaTag => rtype == RecordType::CAA && has_bad_tag(rule.way, record.data),
+        Code::SoaMail => rtype == RecordType::SOA && has_bad_mail(rule.way, record.data),
+        Code::SoaTimers => rtype == RecordType::SOA && has_bad_timer(rule.way, record.data),
+        Code::ReverseName => rtype == RecordType::PTR && is_bad_reverse(record.owner),
+        Code::WildcardInside => has_inner_asterisk(record.owner),
+        Code::TargetAddress => has_address_target(record.owner, rtype, record.data),
+        Code::TxtWords => {
             rtype == RecordType::TXT && is_unquoted(written) && has_version_words(record.data)
         }
-        RecordRule::CommentInData => is_text_type(rtype) && ends_at_comment(written),
+        Code::CommentInData => is_text_type(rtype) && ends_at_comment(written),
+        _ => false,
     }
 }
 
 /// Appends a rule, if it is broken.
-fn add_if(is_broken: bool, rule: RecordRule, found: &mut ArrayVec<RecordRule, 16>)
+fn add_if(is_broken: bool, rule: Rule, found: &mut ArrayVec<Rule, 16>)
     requires { array_vec_len found.old < 16 }
     ensures items { found.new.items ≡ found.old.items ++ (if is_broken then rule ∷ [] else []) }
     ensures len { array_vec_len found.new ≤ array_vec_len found.old + 1 }
@@ -126,14 +232,12 @@ fn add_if(is_broken: bool, rule: RecordRule, found: &mut ArrayVec<RecordRule, 16
 }
 
 /// Returns the rules that a record breaks, in the order of [`LONE_RULES`].
-pub fn broken_rules(
-    record: &RecordRef<'_>,
-    written: Option<Written<'_>>,
-) -> ArrayVec<RecordRule, 16>
+pub fn broken_rules(record: &RecordRef<'_>, written: Option<Written<'_>>) -> ArrayVec<Rule, 16>
     ensures { result.items ≡ found_alone «record».now written.entry }
 {
     let mut found = ArrayVec::new();
-    for rule in &LONE_RULES {
+    let rules = rules_of(record.rtype);
+    for rule in rules {
         add_if(breaks_rule(*rule, record, written), *rule, &mut found);
     }
     found

@@ -1,5 +1,5 @@
 //! Reads character strings and names at the beginning of octets, and tests labels.
-ghost use Rattle.std.specs.Prelude.{◌≡◌, ◌+◌, ◌-◌, ◌*◌, ◌≤◌, nat_le, MatchOption, MatchResult, [], drop};
+ghost use Rattle.std.specs.Prelude.{◌≡◌, ◌+◌, ◌-◌, ◌*◌, ◌≤◌, nat_le, IfSome, MatchOption, MatchResult, [], ◌∷◌, drop};
 ghost use Rattle.std.specs.List.{list_any};
 ghost use Rattle.std.specs.Option.{option_copied, option_map};
 ghost use Rattle.dns_wire.specs.Order.{same_name};
@@ -222,6 +222,45 @@ pub(crate) fn after_passing(test: LabelTest, count: usize, name: &[u8]) -> Optio
             return None;
         }
         left -= 1;
+        rest = after;
+    }
+}
+
+/// Splits the first label off a name, if it has one octet. Returns the octet, and the octets after it.
+fn one_octet_label(name: &[u8]) -> Option<(&u8, &[u8])>
+    ensures { IfSome result (λ p. HasFirstLabel name.now (p.0.now ∷ []) p.1.now) }
+{
+    let Some((count, rest)) = name.split_first() else {
+        return None;
+    };
+    if *count != 1 {
+        return None;
+    }
+    match rest.split_first() {
+        Some((octet, after)) => Some((octet, after)),
+        None => None,
+    }
+}
+
+/// Returns the octets after as many labels that are all hexadecimal digits, or `None` if they aren't.
+#[tactic(auto, using(crate::proofs::LabelSteps::passing_label, crate::proofs::LabelSteps::passing_all))]
+pub(crate) fn after_nibbles(count: usize, name: &[u8]) -> Option<&[u8]>
+    ensures { option_map name_labels (option_copied result)
+        ≡ beyond_passing is_nibble_label count (name_labels name.now) }
+{
+    let mut missing = count;
+    let mut rest = name;
+    'labels: loop {
+        if missing == 0 {
+            return Some(rest);
+        }
+        let Some((digit, after)) = one_octet_label(rest) else {
+            return after_passing(LabelTest::HexDigit, missing, rest);
+        };
+        if !digit.is_ascii_hexdigit() {
+            return None;
+        }
+        missing -= 1;
         rest = after;
     }
 }

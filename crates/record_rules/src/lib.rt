@@ -9,11 +9,9 @@ mod laws;
 mod names;
 mod naptr;
 mod regexp;
-mod rule;
 mod soa;
 mod written;
 
 pub use check::{LONE_RULES, breaks_rule, broken_rules};
 pub use laws::broken_rules_are_found;
-pub use rule::RecordRule;
 pub use written::Written;

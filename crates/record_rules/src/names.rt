@@ -4,8 +4,8 @@ ghost use Rattle.record_rules.specs.Labels.{ends_in_name, is_nibble_label, is_oc
 ghost use Rattle.record_rules.specs.LoneRules.{has_address_target, has_inner_asterisk, in_addr_top, ip6_top, is_address_name, is_address_target, is_bad_in_tree, is_bad_reverse, is_free_in_tree, is_origin_of, target_offset};
 
 use crate::labels::{
-    LabelTest, after_count, after_passing, any_label, first_label, is_asterisk, is_divided_below,
-    is_root, is_same, is_within, last_two, parent,
+    LabelTest, after_count, after_nibbles, after_passing, any_label, first_label, is_asterisk,
+    is_divided_below, is_root, is_same, is_within, last_two, parent,
 };
 use rdata_values::RecordType;
 
@@ -22,6 +22,9 @@ const ARPA: &[u8] = b"\x04arpa\x00";
 pub(crate) fn has_inner_asterisk(owner: &[u8]) -> bool
     ensures { result ≡ has_inner_asterisk (name_labels owner.now) }
 {
+    if !owner.contains(&b'*') {
+        return false;
+    }
     any_label(parent(owner), LabelTest::Asterisk)
 }
 
@@ -75,10 +78,23 @@ fn is_bad_in_ip6(end: &[u8], name: &[u8]) -> bool
     is_bad_in_tree(LabelTest::HexDigit, 32, IP6_ARPA, end, name)
 }
 
+/// Returns whether a name is the name of an IPv6 address.
+fn is_ip6_address(name: &[u8]) -> bool
+    ensures { result ≡ is_address_name is_nibble_label 32 ip6_top (name_labels name.now) }
+{
+    match after_nibbles(32, name) {
+        Some(rest) => is_same(rest, IP6_ARPA),
+        None => false,
+    }
+}
+
 /// Returns whether a name in a reverse tree is not the name of an address.
 pub(crate) fn is_bad_reverse(name: &[u8]) -> bool
     ensures { result ≡ is_bad_reverse (name_labels name.now) }
 {
+    if is_ip6_address(name) {
+        return false;
+    }
     let end = last_two(parent(name));
     is_bad_in_addr(end, name) || is_bad_in_ip6(end, name)
 }
