@@ -11,7 +11,6 @@ pub mod OwnedRecords
 pub mod Parameters
 pub mod Rows
 pub mod SecurityFindings
-pub mod SecurityNames
 pub mod SignatureFields
 pub mod SignatureTimes
 pub mod SignedSets

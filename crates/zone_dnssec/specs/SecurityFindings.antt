@@ -17,54 +17,55 @@ use Rattle.zone_dnssec.specs.ZoneKeys.{is_by_revoked_key, lacks_known_key, misse
 use Rattle.zone_dnssec.specs.ZoneViews.{ZoneView, zone_with}
 use Rattle.zone_dnssec.specs.declared.hashed.LinkFault.TheVariants.{Missing, DifferentTypes}
 use Rattle.zone_dnssec.specs.declared.rule.SecurityFinding.{SecurityFinding}
-use Rattle.zone_dnssec.specs.declared.rule.SecurityRule.{SecurityRule}
-use Rattle.zone_dnssec.specs.declared.rule.SecurityRule.TheVariants.{Expired, ExpiresSoon, NotYetValid, TimesReversed, OtherSigner, OtherLabels, OtherOriginalTtl, OtherSignatureTtl, Unsigned, NoKey, KeyMissing, RevokedKey, SignsNothing, Occluded, NoNsec, OtherNext, OtherTypes, NoNsec3, OtherNextHash, OtherHashedTypes, OtherLinkOwner, TooManyIterations, ManyIterations, SomeIterations, OtherDenialTtl, DeleteBesideKeys}
+use Rattle.finding_codes.specs.declared.code.Code.{Code}
+use Rattle.finding_codes.specs.declared.code.Code.TheVariants.{Expired, ExpiresSoon, NotYetValid, RrsigTimes, RrsigSigner, RrsigLabels, OriginalTtl, RrsigTtl, Unsigned, NoKey, KeyMissing, RrsigKey, SignsNothing, OccludedDnssec, NoNsec, NsecNext, NsecTypes, NoNsec3, Nsec3Next, Nsec3Types, Nsec3Owner, Nsec3Iterations, Nsec3Iterations50, Nsec3Iterations0, NsecTtl, CdsDelete}
 use Rattle.zone_dnssec.specs.declared.times.Times.{Times}
 
--- whether a record breaks a rule, beside the one before it
-abbrev pub breaks_security : {N O M P : Type 0} → SecurityRule → ZoneView N O → Times → Option (Record M P) → Record M P → Bool
+-- whether a record breaks a rule, which the code of a finding names, beside the one before it
+abbrev pub breaks_security : {N O M P : Type 0} → Code → ZoneView N O → Times → Option (Record M P) → Record M P → Bool
 breaks_security Expired zone times before r = is_expired times.instant r
 breaks_security ExpiresSoon zone times before r = expires_within times.margin times.instant r
 breaks_security NotYetValid zone times before r = is_early times.instant r
-breaks_security TimesReversed zone times before r = has_reversed_times r
-breaks_security OtherSigner zone times before r = has_other_signer zone.origin r
-breaks_security OtherLabels zone times before r = has_other_labels r
-breaks_security OtherOriginalTtl zone times before r = has_other_original_ttl zone.records r
-breaks_security OtherSignatureTtl zone times before r = has_other_own_ttl zone.records r
+breaks_security RrsigTimes zone times before r = has_reversed_times r
+breaks_security RrsigSigner zone times before r = has_other_signer zone.origin r
+breaks_security RrsigLabels zone times before r = has_other_labels r
+breaks_security OriginalTtl zone times before r = has_other_original_ttl zone.records r
+breaks_security RrsigTtl zone times before r = has_other_own_ttl zone.records r
 breaks_security Unsigned zone times before r = is_missing_signature zone.origin zone.records before r
 breaks_security NoKey zone times before r = lacks_known_key (zone_keys zone.origin zone.records) zone.origin zone.records before r
 breaks_security KeyMissing zone times before r = misses_key (zone_keys zone.origin zone.records) zone.records r
-breaks_security RevokedKey zone times before r = is_by_revoked_key (zone_keys zone.origin zone.records) r
+breaks_security RrsigKey zone times before r = is_by_revoked_key (zone_keys zone.origin zone.records) r
 breaks_security SignsNothing zone times before r = signs_nothing zone.records r
-breaks_security Occluded zone times before r = is_occluded zone.origin zone.records r
+breaks_security OccludedDnssec zone times before r = is_occluded zone.origin zone.records r
 breaks_security NoNsec zone times before r = lacks_nsec zone.origin zone.records before r
-breaks_security OtherNext zone times before r = names_other_next zone.origin zone.records r
-breaks_security OtherTypes zone times before r = lists_other_types zone.origin zone.records r
+breaks_security NsecNext zone times before r = names_other_next zone.origin zone.records r
+breaks_security NsecTypes zone times before r = lists_other_types zone.origin zone.records r
 breaks_security NoNsec3 zone times before r = fails_chain Missing zone before r
-breaks_security OtherNextHash zone times before r = names_other_hash zone r
-breaks_security OtherHashedTypes zone times before r = fails_chain DifferentTypes zone before r
-breaks_security OtherLinkOwner zone times before r = has_other_link_owner zone.origin r
-breaks_security TooManyIterations zone times before r = iterates_within 150 65535 zone.origin r
-breaks_security ManyIterations zone times before r = iterates_within 50 150 zone.origin r
-breaks_security SomeIterations zone times before r = iterates_within 0 50 zone.origin r
-breaks_security OtherDenialTtl zone times before r = has_other_denial_ttl (denial_ttl zone.origin zone.records) r
-breaks_security DeleteBesideKeys zone times before r = deletes_beside_keys zone.origin zone.records r
+breaks_security Nsec3Next zone times before r = names_other_hash zone r
+breaks_security Nsec3Types zone times before r = fails_chain DifferentTypes zone before r
+breaks_security Nsec3Owner zone times before r = has_other_link_owner zone.origin r
+breaks_security Nsec3Iterations zone times before r = iterates_within 150 65535 zone.origin r
+breaks_security Nsec3Iterations50 zone times before r = iterates_within 50 150 zone.origin r
+breaks_security Nsec3Iterations0 zone times before r = iterates_within 0 50 zone.origin r
+breaks_security NsecTtl zone times before r = has_other_denial_ttl (denial_ttl zone.origin zone.records) r
+breaks_security CdsDelete zone times before r = deletes_beside_keys zone.origin zone.records r
+breaks_security _ zone times before r = false
 
 -- a finding of a rule, if the rule is broken
-abbrev pub insecure_if : Bool → SecurityRule → ℕ → List SecurityFinding
+abbrev pub insecure_if : Bool → Code → ℕ → List SecurityFinding
 insecure_if is_broken rule place = if is_broken then record { rule = rule; «record» = place } ∷ [] else []
 
 -- the rules, in the order in which their findings are reported
-abbrev pub security_rules : List SecurityRule
+abbrev pub security_rules : List Code
 security_rules =
-    Expired ∷ ExpiresSoon ∷ NotYetValid ∷ TimesReversed ∷ OtherSigner ∷ OtherLabels ∷ OtherOriginalTtl ∷ OtherSignatureTtl ∷ Unsigned ∷ NoKey ∷ KeyMissing ∷ RevokedKey ∷ SignsNothing ∷ Occluded ∷ NoNsec ∷ OtherNext ∷ OtherTypes ∷ NoNsec3 ∷ OtherNextHash ∷ OtherHashedTypes ∷ OtherLinkOwner ∷ TooManyIterations ∷ ManyIterations ∷ SomeIterations ∷ OtherDenialTtl ∷ DeleteBesideKeys ∷ []
+    Expired ∷ ExpiresSoon ∷ NotYetValid ∷ RrsigTimes ∷ RrsigSigner ∷ RrsigLabels ∷ OriginalTtl ∷ RrsigTtl ∷ Unsigned ∷ NoKey ∷ KeyMissing ∷ RrsigKey ∷ SignsNothing ∷ OccludedDnssec ∷ NoNsec ∷ NsecNext ∷ NsecTypes ∷ NoNsec3 ∷ Nsec3Next ∷ Nsec3Types ∷ Nsec3Owner ∷ Nsec3Iterations ∷ Nsec3Iterations50 ∷ Nsec3Iterations0 ∷ NsecTtl ∷ CdsDelete ∷ []
 
 -- the record at an index breaks the rule
-abbrev pub breaks_security_at : {N O : Type 0} → ZoneView N O → Times → ℕ → SecurityRule → Bool
+abbrev pub breaks_security_at : {N O : Type 0} → ZoneView N O → Times → ℕ → Code → Bool
 breaks_security_at zone times place rule = option_map_or (breaks_security rule zone times (record_before zone.records place)) (slice_get zone.records place) false
 
 -- a finding of a rule, if the record at an index breaks it
-abbrev pub insecure_of : {N O : Type 0} → ZoneView N O → Times → ℕ → SecurityRule → List SecurityFinding
+abbrev pub insecure_of : {N O : Type 0} → ZoneView N O → Times → ℕ → Code → List SecurityFinding
 insecure_of zone times place rule = insecure_if (breaks_security_at zone times place rule) rule place
 
 -- findings of the rules that the record at an index breaks

@@ -17,7 +17,7 @@ use Rattle.zone_dnssec.specs.ZoneKeys.{zone_keys}
 use Rattle.zone_dnssec.specs.ZoneViews.{zone_with}
 use Rattle.zone_dnssec.specs.declared.check.Facts.{Facts}
 use Rattle.zone_dnssec.specs.declared.hashed.LinkFault.TheVariants.{Missing, DifferentTypes}
-use Rattle.zone_dnssec.specs.declared.rule.SecurityRule.{SecurityRule}
+use Rattle.finding_codes.specs.declared.code.Code.{Code}
 use Rattle.zone_dnssec.specs.declared.sets.KnownOwner.{KnownOwner}
 use Rattle.zone_dnssec.specs.declared.subject.OwnerFacts.{OwnerFacts}
 use Rattle.zone_dnssec.specs.declared.subject.Subject.{Subject}
@@ -87,9 +87,9 @@ pub record IsSignedSubject {N O : Type 0} (origin : List (List ℕ)) (records : 
   pub next : s.faults.has_other_next ≡ names_other_hash (zone_with origin records) s.found
 
 -- the record of a subject breaks a rule
-abbrev pub breaks_security_by : {N O : Type 0} → SecurityRule → List (List ℕ) → List (Record N O) → Times → Subject → Bool
+abbrev pub breaks_security_by : {N O : Type 0} → Code → List (List ℕ) → List (Record N O) → Times → Subject → Bool
 breaks_security_by rule origin records times s = breaks_security rule (zone_with origin records) times s.before s.found
 
 -- the record at the index of a subject breaks a rule
-abbrev pub is_security_broken : {N O : Type 0} → SecurityRule → List (List ℕ) → List (Record N O) → Times → Subject → Bool
+abbrev pub is_security_broken : {N O : Type 0} → Code → List (List ℕ) → List (Record N O) → Times → Subject → Bool
 is_security_broken rule origin records times s = breaks_security_at (zone_with origin records) times s.place rule

@@ -16,7 +16,7 @@ use crate::faults::{faults_by_number, faults_of_chains, record_before};
 use crate::hashed::MOST_ITERATIONS;
 use crate::keys::{Key, is_of_revoked_key, is_of_unknown_key, is_without_key, keys_at_apex};
 use crate::links::has_wrong_next;
-use crate::rule::{SecurityFinding, SecurityRule};
+use crate::rule::SecurityFinding;
 use crate::sets::{KnownOwner, covers_some_set, is_unsigned, is_without_set, owner_facts_once};
 use crate::signatures::{
     has_wrong_labels, has_wrong_original_ttl, has_wrong_own_ttl, has_wrong_signer,
@@ -25,6 +25,7 @@ use crate::subject::{ChainFaults, Subject};
 use crate::times::{Times, has_expired, has_reversed_times, is_expiring, is_too_early};
 use dns_octets::AsOctets;
 use dns_wire::Name;
+use finding_codes::code::Code;
 use rdata_values::RecordType;
 use std::alloc::{AllocError, Allocator};
 use zone_rules::ZoneRecords;
@@ -32,33 +33,33 @@ use zone_rules::names::view;
 use zone_rules::zone_records::OwnerBuffer;
 
 /// The rules, in the order in which their findings are reported.
-const SECURITY_RULES: [SecurityRule; 26] = [
-    SecurityRule::Expired,
-    SecurityRule::ExpiresSoon,
-    SecurityRule::NotYetValid,
-    SecurityRule::TimesReversed,
-    SecurityRule::OtherSigner,
-    SecurityRule::OtherLabels,
-    SecurityRule::OtherOriginalTtl,
-    SecurityRule::OtherSignatureTtl,
-    SecurityRule::Unsigned,
-    SecurityRule::NoKey,
-    SecurityRule::KeyMissing,
-    SecurityRule::RevokedKey,
-    SecurityRule::SignsNothing,
-    SecurityRule::Occluded,
-    SecurityRule::NoNsec,
-    SecurityRule::OtherNext,
-    SecurityRule::OtherTypes,
-    SecurityRule::NoNsec3,
-    SecurityRule::OtherNextHash,
-    SecurityRule::OtherHashedTypes,
-    SecurityRule::OtherLinkOwner,
-    SecurityRule::TooManyIterations,
-    SecurityRule::ManyIterations,
-    SecurityRule::SomeIterations,
-    SecurityRule::OtherDenialTtl,
-    SecurityRule::DeleteBesideKeys,
+const SECURITY_RULES: [Code; 26] = [
+    Code::Expired,
+    Code::ExpiresSoon,
+    Code::NotYetValid,
+    Code::RrsigTimes,
+    Code::RrsigSigner,
+    Code::RrsigLabels,
+    Code::OriginalTtl,
+    Code::RrsigTtl,
+    Code::Unsigned,
+    Code::NoKey,
+    Code::KeyMissing,
+    Code::RrsigKey,
+    Code::SignsNothing,
+    Code::OccludedDnssec,
+    Code::NoNsec,
+    Code::NsecNext,
+    Code::NsecTypes,
+    Code::NoNsec3,
+    Code::Nsec3Next,
+    Code::Nsec3Types,
+    Code::Nsec3Owner,
+    Code::Nsec3Iterations,
+    Code::Nsec3Iterations50,
+    Code::Nsec3Iterations0,
+    Code::NsecTtl,
+    Code::CdsDelete,
 ];
 
 /// Greatest number of iterations with which newer validators, too, treat a zone as signed.
@@ -75,7 +76,7 @@ pub(crate) struct Facts<'a> {
 
 /// Returns whether the record of a subject breaks a rule.
 fn breaks_rule<Z: ZoneRecords>(
-    rule: SecurityRule,
+    rule: Code,
     origin: &Name<&[u8]>,
     records: &Z,
     times: Times,
@@ -89,48 +90,39 @@ fn breaks_rule<Z: ZoneRecords>(
 {
     let record = &subject.found;
     match rule {
-        SecurityRule::Expired => has_expired(times.instant, record),
-        SecurityRule::ExpiresSoon => is_expiring(times, record),
-        SecurityRule::NotYetValid => is_too_early(times.instant, record),
-        SecurityRule::TimesReversed => has_reversed_times(record),
-        SecurityRule::OtherSigner => has_wrong_signer(origin, record),
-        SecurityRule::OtherLabels => has_wrong_labels(record),
-        SecurityRule::OtherOriginalTtl => has_wrong_original_ttl(records, subject),
-        SecurityRule::OtherSignatureTtl => has_wrong_own_ttl(records, subject),
-        SecurityRule::Unsigned => is_unsigned(origin, records, subject),
-        SecurityRule::NoKey => is_without_key(facts.keys, origin, records, subject),
-        SecurityRule::KeyMissing => is_of_unknown_key(facts.keys, records, subject),
-        SecurityRule::RevokedKey => is_of_revoked_key(facts.keys, record),
-        SecurityRule::SignsNothing => is_without_set(records, subject),
-        SecurityRule::Occluded => is_out_of_place(subject),
-        SecurityRule::NoNsec => is_without_nsec(origin, records, facts.has_chain, subject),
-        SecurityRule::OtherNext => has_wrong_next(origin, records, subject),
-        SecurityRule::OtherTypes => has_wrong_types(origin, records, subject),
-        SecurityRule::NoNsec3 => subject.faults.is_missing,
-        SecurityRule::OtherNextHash => subject.faults.has_other_next,
-        SecurityRule::OtherHashedTypes => subject.faults.has_other_types,
-        SecurityRule::OtherLinkOwner => has_wrong_owner(origin, record),
-        SecurityRule::TooManyIterations => has_iterations(
-            MOST_ITERATIONS,
-            u16::MAX,
-            origin,
-            record,
-        ),
-        SecurityRule::ManyIterations => has_iterations(
-            FEW_ITERATIONS,
-            MOST_ITERATIONS,
-            origin,
-            record,
-        ),
-        SecurityRule::SomeIterations => has_iterations(0, FEW_ITERATIONS, origin, record),
-        SecurityRule::OtherDenialTtl => has_wrong_denial_ttl(facts.denial_ttl, record),
-        SecurityRule::DeleteBesideKeys => is_delete_beside_keys(origin, records, record),
+        Code::Expired => has_expired(times.instant, record),
+        Code::ExpiresSoon => is_expiring(times, record),
+        Code::NotYetValid => is_too_early(times.instant, record),
+        Code::RrsigTimes => has_reversed_times(record),
+        Code::RrsigSigner => has_wrong_signer(origin, record),
+        Code::RrsigLabels => has_wrong_labels(record),
+        Code::OriginalTtl => has_wrong_original_ttl(records, subject),
+        Code::RrsigTtl => has_wrong_own_ttl(records, subject),
+        Code::Unsigned => is_unsigned(origin, records, subject),
+        Code::NoKey => is_without_key(facts.keys, origin, records, subject),
+        Code::KeyMissing => is_of_unknown_key(facts.keys, records, subject),
+        Code::RrsigKey => is_of_revoked_key(facts.keys, record),
+        Code::SignsNothing => is_without_set(records, subject),
+        Code::OccludedDnssec => is_out_of_place(subject),
+        Code::NoNsec => is_without_nsec(origin, records, facts.has_chain, subject),
+        Code::NsecNext => has_wrong_next(origin, records, subject),
+        Code::NsecTypes => has_wrong_types(origin, records, subject),
+        Code::NoNsec3 => subject.faults.is_missing,
+        Code::Nsec3Next => subject.faults.has_other_next,
+        Code::Nsec3Types => subject.faults.has_other_types,
+        Code::Nsec3Owner => has_wrong_owner(origin, record),
+        Code::Nsec3Iterations => has_iterations(MOST_ITERATIONS, u16::MAX, origin, record),
+        Code::Nsec3Iterations50 => has_iterations(FEW_ITERATIONS, MOST_ITERATIONS, origin, record),
+        Code::Nsec3Iterations0 => has_iterations(0, FEW_ITERATIONS, origin, record),
+        Code::NsecTtl => has_wrong_denial_ttl(facts.denial_ttl, record),
+        Code::CdsDelete => is_delete_beside_keys(origin, records, record),
+        _ => false,
     }
 }
 
 /// Returns whether the record at the index of a subject breaks a rule.
 fn is_broken<Z: ZoneRecords>(
-    rule: SecurityRule,
+    rule: Code,
     origin: &Name<&[u8]>,
     records: &Z,
     times: Times,
@@ -148,7 +140,7 @@ fn is_broken<Z: ZoneRecords>(
 /// Appends a finding, if the rule is broken.
 fn add_if<A: Allocator>(
     is_broken: bool,
-    rule: SecurityRule,
+    rule: Code,
     place: usize,
     found: &mut Vec<SecurityFinding, A>,
 ) -> Result<(), AllocError>
@@ -166,7 +158,7 @@ fn add_if<A: Allocator>(
 /// Appends findings of those of some rules that the record at an index breaks.
 #[tactic(auto, using(zone_rules::proofs::Steps::found_more))]
 fn add_each<Z: ZoneRecords, A: Allocator>(
-    rules: &[SecurityRule],
+    rules: &[Code],
     origin: &Name<&[u8]>,
     records: &Z,
     times: Times,

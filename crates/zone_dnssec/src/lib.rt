@@ -23,5 +23,5 @@ pub mod subject;
 pub mod times;
 
 pub use check::check_signed;
-pub use rule::{SecurityFinding, SecurityRule};
+pub use rule::SecurityFinding;
 pub use times::Times;

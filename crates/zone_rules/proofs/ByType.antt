@@ -5,6 +5,10 @@ use Rattle.std.specs.List.{flat_map}
 use Rattle.std.specs.Option.{option_map, option_map_or}
 use Rattle.std.proofs.lemmas.Bool.Decides.{nat_tests}
 use Rattle.dns_wire.specs.Order.{same_name}
+use Rattle.finding_codes.specs.Rule.{coded_rule}
+use Rattle.finding_codes.specs.declared.code.Code.{Code}
+use Rattle.finding_codes.specs.declared.code.Code.TheVariants.{Outside, TwoSoas, NsAddress, Cname, BelowDname, WildcardNs, SoaNotApex, NsBesideDname, HostName, DsWithoutNs, NotAtApex, KeyProtocol, KeyAlgorithm, CnameTargetMissing, CnameLoop, TwoSpf, WeakDigest, SingleNs, TtlDiffers, Duplicate, Dname, DsApex, Nsec3Wildcard, Glue, TargetCname, TargetMissing, Cds}
+use Rattle.finding_codes.specs.declared.rule.Rule.{Rule}
 use Rattle.rdata_values.specs.Rtype as Rtype
 use Rattle.rdata_values.specs.declared.types.RecordType.{RecordType}
 use Rattle.rdata_tokens.specs.PrintedNames.{labels_in_octets}
@@ -13,13 +17,11 @@ use Rattle.zone_record.specs.Records.{data_of}
 use Rattle.zone_record.specs.declared.record.Record.{Record}
 use Rattle.zone_rules.specs.Above.{is_below, is_wildcard}
 use Rattle.zone_rules.specs.Findings.{found_at, found_if, found_of, record_rules}
-use Rattle.zone_rules.specs.Rules.{breaks, is_apex_type}
-use Rattle.zone_rules.specs.RulesByType.{has_host_field, may_break, HasRulesOf}
+use Rattle.zone_rules.specs.Rules.{breaks, breaks_in_way, is_apex_type}
+use Rattle.zone_rules.specs.RulesByType.{has_host_field, may_break, may_break_code, HasRulesOf}
 use Rattle.zone_rules.specs.Subjects.{alike}
 use Rattle.zone_rules.specs.Zones.{as_listed, but_root, host_field, host_of, is_equal_record, record_before, type_of}
 use Rattle.zone_rules.specs.declared.refused.RrsetName.{RrsetName}
-use Rattle.zone_rules.specs.declared.rule.Rule.{Rule}
-use Rattle.zone_rules.specs.declared.rule.Rule.TheVariants.{NoSoa, NoNs, Outside, TwoSoas, NsAddress, Cname, TwoDnames, BelowDname, DsAtApex, WildcardNs, SoaNotApex, NsBesideDname, Nsec3Owner, MissingGlue, HostIsAlias, HostBelowDname, HostMissing, HostName, CdsWithoutKey, DsWithoutNs, NotAtApex, KeyProtocol, KeyAlgorithm, CnameTargetMissing, CnameLoop, TwoSpf, WeakDigest, SingleNs, TtlDiffers, Duplicate}
 use Rattle.zone_rules.proofs.PairTests.{other_owner, other_type}
 
 -- ---- a record and one of another owner or type
@@ -44,38 +46,40 @@ not_equal a b false s e f h = other_type a b e
 not_equal a b true false e f h = other_owner a b f
 not_equal a b true true e f h = cc
 
+other_in_way : {N O M P : Type 0} (code : Code) (way : ℕ) (origin : List (List ℕ)) (records : List (Record N O)) (refused : List RrsetName) (b r : Record M P) → (type_of b == type_of r && same_name b.owner r.owner) ≡ false
+    → breaks_in_way code way origin records refused None r ≡ breaks_in_way code way origin records refused (Some b) r
+other_in_way Outside way origin records refused b r h = refl
+other_in_way TwoSoas way origin records refused b r h = sym (not_both (type_of b) (type_of r) Rtype.soa (same_name b.owner r.owner) (not (is_equal_record b r)) h)
+other_in_way NsAddress way origin records refused b r h = refl
+other_in_way Cname way origin records refused b r h = refl
+other_in_way Dname way origin records refused b r h = sym (not_both (type_of b) (type_of r) Rtype.dname (same_name b.owner r.owner) (not (is_equal_record b r)) h)
+other_in_way BelowDname way origin records refused b r h = refl
+other_in_way DsApex way origin records refused b r h = refl
+other_in_way WildcardNs way origin records refused b r h = refl
+other_in_way SoaNotApex way origin records refused b r h = refl
+other_in_way NsBesideDname way origin records refused b r h = refl
+other_in_way Nsec3Wildcard way origin records refused b r h = refl
+other_in_way Glue way origin records refused b r h = refl
+other_in_way TargetCname way origin records refused b r h = refl
+other_in_way TargetMissing way origin records refused b r h = refl
+other_in_way HostName way origin records refused b r h = refl
+other_in_way Cds way origin records refused b r h = refl
+other_in_way DsWithoutNs way origin records refused b r h = refl
+other_in_way NotAtApex way origin records refused b r h = refl
+other_in_way KeyProtocol way origin records refused b r h = refl
+other_in_way KeyAlgorithm way origin records refused b r h = refl
+other_in_way CnameTargetMissing way origin records refused b r h = refl
+other_in_way CnameLoop way origin records refused b r h = refl
+other_in_way TwoSpf way origin records refused b r h = refl
+other_in_way WeakDigest way origin records refused b r h = refl
+other_in_way SingleNs way origin records refused b r h = refl
+other_in_way TtlDiffers way origin records refused b r h = sym (not_one_set (same_name b.owner r.owner) (b.class == r.class) (type_of b == type_of r) _ _ h)
+other_in_way Duplicate way origin records refused b r h = sym (not_equal b r (type_of b == type_of r) (same_name b.owner r.owner) refl refl h)
+other_in_way _ way origin records refused b r h = refl
+
 other_breaks : {N O M P : Type 0} (rule : Rule) (origin : List (List ℕ)) (records : List (Record N O)) (refused : List RrsetName) (b r : Record M P) → (type_of b == type_of r && same_name b.owner r.owner) ≡ false
     → breaks rule origin records refused None r ≡ breaks rule origin records refused (Some b) r
-other_breaks NoSoa origin records refused b r h = refl
-other_breaks NoNs origin records refused b r h = refl
-other_breaks Outside origin records refused b r h = refl
-other_breaks TwoSoas origin records refused b r h = sym (not_both (type_of b) (type_of r) Rtype.soa (same_name b.owner r.owner) (not (is_equal_record b r)) h)
-other_breaks NsAddress origin records refused b r h = refl
-other_breaks Cname origin records refused b r h = refl
-other_breaks TwoDnames origin records refused b r h = sym (not_both (type_of b) (type_of r) Rtype.dname (same_name b.owner r.owner) (not (is_equal_record b r)) h)
-other_breaks BelowDname origin records refused b r h = refl
-other_breaks DsAtApex origin records refused b r h = refl
-other_breaks WildcardNs origin records refused b r h = refl
-other_breaks SoaNotApex origin records refused b r h = refl
-other_breaks NsBesideDname origin records refused b r h = refl
-other_breaks Nsec3Owner origin records refused b r h = refl
-other_breaks MissingGlue origin records refused b r h = refl
-other_breaks HostIsAlias origin records refused b r h = refl
-other_breaks HostBelowDname origin records refused b r h = refl
-other_breaks HostMissing origin records refused b r h = refl
-other_breaks HostName origin records refused b r h = refl
-other_breaks CdsWithoutKey origin records refused b r h = refl
-other_breaks DsWithoutNs origin records refused b r h = refl
-other_breaks NotAtApex origin records refused b r h = refl
-other_breaks KeyProtocol origin records refused b r h = refl
-other_breaks KeyAlgorithm origin records refused b r h = refl
-other_breaks CnameTargetMissing origin records refused b r h = refl
-other_breaks CnameLoop origin records refused b r h = refl
-other_breaks TwoSpf origin records refused b r h = refl
-other_breaks WeakDigest origin records refused b r h = refl
-other_breaks SingleNs origin records refused b r h = refl
-other_breaks TtlDiffers origin records refused b r h = sym (not_one_set (same_name b.owner r.owner) (b.class == r.class) (type_of b == type_of r) _ _ h)
-other_breaks Duplicate origin records refused b r h = sym (not_equal b r (type_of b == type_of r) (same_name b.owner r.owner) refl refl h)
+other_breaks rule origin records refused b r h = other_in_way rule.code rule.way origin records refused b r h
 
 alike_if : {N O M P : Type 0} (rule : Rule) (origin : List (List ℕ)) (records : List (Record N O)) (refused : List RrsetName) (b r : Record M P) (t : Bool) → (type_of b == type_of r && same_name b.owner r.owner) ≡ t
     → breaks rule origin records refused (if t then Some b else None) r ≡ breaks rule origin records refused (Some b) r
@@ -134,40 +138,46 @@ neither true q x y h = cc
 neither false true x y h = cc
 neither false false x y h = refl
 
+either_way : (b x y : Bool) → x ≡ false → y ≡ false → (if b then x else y) ≡ false
+either_way true x y h k = h
+either_way false x y h k = k
+
+none_in_way : {N O M P : Type 0} (code : Code) (way : ℕ) (origin : List (List ℕ)) (records : List (Record N O)) (refused : List RrsetName) (before : Option (Record M P)) (r : Record M P) → may_break_code (type_of r) code ≡ false
+    → breaks_in_way code way origin records refused before r ≡ false
+none_in_way Outside way origin records refused before r h = cc
+none_in_way TwoSoas way origin records refused None r h = refl
+none_in_way TwoSoas way origin records refused (Some b) r h = second_no (type_of b == Rtype.soa) _ (ap (λ t. t && (same_name b.owner r.owner && not (is_equal_record b r))) h)
+none_in_way NsAddress way origin records refused before r h = both_first _ _ _ h
+none_in_way Cname way origin records refused before r h = first_false _ _ h
+none_in_way Dname way origin records refused None r h = refl
+none_in_way Dname way origin records refused (Some b) r h = second_no (type_of b == Rtype.dname) _ (ap (λ t. t && (same_name b.owner r.owner && not (is_equal_record b r))) h)
+none_in_way BelowDname way origin records refused before r h = cc
+none_in_way DsApex way origin records refused before r h = ap (λ t. t && same_name r.owner origin) h
+none_in_way WildcardNs way origin records refused before r h = ap (λ t. t && is_wildcard r.owner) h
+none_in_way SoaNotApex way origin records refused before r h = ap (λ t. t && is_below r.owner origin) h
+none_in_way NsBesideDname way origin records refused before r h = first_false _ _ h
+none_in_way Nsec3Wildcard way origin records refused before r h = first_false _ _ h
+none_in_way Glue way origin records refused before r h = first_false _ _ h
+none_in_way TargetCname way origin records refused before r h = either_way (way == 0) _ _ (names_none _ r h) (names_none _ r h)
+none_in_way TargetMissing way origin records refused before r h = second_no _ _ (second_no (r.class == _) _ (names_none _ r h))
+none_in_way HostName way origin records refused before r h = cc
+none_in_way Cds way origin records refused before r h = first_false _ _ h
+none_in_way DsWithoutNs way origin records refused before r h = first_false _ _ h
+none_in_way NotAtApex way origin records refused before r h = neither (is_apex_type (type_of r)) (type_of r == Rtype.dnskey) _ _ h
+none_in_way KeyProtocol way origin records refused before r h = first_false _ _ h
+none_in_way KeyAlgorithm way origin records refused before r h = first_no (type_of r == Rtype.dnskey) (type_of r == Rtype.ds) _ _ h
+none_in_way CnameTargetMissing way origin records refused before r h = no_target _ _ _ h
+none_in_way CnameLoop way origin records refused before r h = first_false _ _ h
+none_in_way TwoSpf way origin records refused before r h = both_first _ _ _ h
+none_in_way WeakDigest way origin records refused before r h = first_false _ _ h
+none_in_way SingleNs way origin records refused before r h = first_false _ _ h
+none_in_way TtlDiffers way origin records refused before r h = cc
+none_in_way Duplicate way origin records refused before r h = cc
+none_in_way _ way origin records refused before r h = refl
+
 none_breaks : {N O M P : Type 0} (rule : Rule) (origin : List (List ℕ)) (records : List (Record N O)) (refused : List RrsetName) (before : Option (Record M P)) (r : Record M P) → may_break (type_of r) rule ≡ false
     → breaks rule origin records refused before r ≡ false
-none_breaks NoSoa origin records refused before r h = refl
-none_breaks NoNs origin records refused before r h = refl
-none_breaks Outside origin records refused before r h = cc
-none_breaks TwoSoas origin records refused None r h = refl
-none_breaks TwoSoas origin records refused (Some b) r h = second_no (type_of b == Rtype.soa) _ (ap (λ t. t && (same_name b.owner r.owner && not (is_equal_record b r))) h)
-none_breaks NsAddress origin records refused before r h = both_first _ _ _ h
-none_breaks Cname origin records refused before r h = first_false _ _ h
-none_breaks TwoDnames origin records refused None r h = refl
-none_breaks TwoDnames origin records refused (Some b) r h = second_no (type_of b == Rtype.dname) _ (ap (λ t. t && (same_name b.owner r.owner && not (is_equal_record b r))) h)
-none_breaks BelowDname origin records refused before r h = cc
-none_breaks DsAtApex origin records refused before r h = ap (λ t. t && same_name r.owner origin) h
-none_breaks WildcardNs origin records refused before r h = ap (λ t. t && is_wildcard r.owner) h
-none_breaks SoaNotApex origin records refused before r h = ap (λ t. t && is_below r.owner origin) h
-none_breaks NsBesideDname origin records refused before r h = first_false _ _ h
-none_breaks Nsec3Owner origin records refused before r h = first_false _ _ h
-none_breaks MissingGlue origin records refused before r h = first_false _ _ h
-none_breaks HostIsAlias origin records refused before r h = names_none _ r h
-none_breaks HostBelowDname origin records refused before r h = names_none _ r h
-none_breaks HostMissing origin records refused before r h = second_no _ _ (second_no (r.class == _) _ (names_none _ r h))
-none_breaks HostName origin records refused before r h = cc
-none_breaks CdsWithoutKey origin records refused before r h = first_false _ _ h
-none_breaks DsWithoutNs origin records refused before r h = first_false _ _ h
-none_breaks NotAtApex origin records refused before r h = neither (is_apex_type (type_of r)) (type_of r == Rtype.dnskey) _ _ h
-none_breaks KeyProtocol origin records refused before r h = first_false _ _ h
-none_breaks KeyAlgorithm origin records refused before r h = first_no (type_of r == Rtype.dnskey) (type_of r == Rtype.ds) _ _ h
-none_breaks CnameTargetMissing origin records refused before r h = no_target _ _ _ h
-none_breaks CnameLoop origin records refused before r h = first_false _ _ h
-none_breaks TwoSpf origin records refused before r h = both_first _ _ _ h
-none_breaks WeakDigest origin records refused before r h = first_false _ _ h
-none_breaks SingleNs origin records refused before r h = first_false _ _ h
-none_breaks TtlDiffers origin records refused before r h = cc
-none_breaks Duplicate origin records refused before r h = cc
+none_breaks rule origin records refused before r h = none_in_way rule.code rule.way origin records refused before r h
 
 -- ---- lists that have the rules of a type
 
@@ -178,22 +188,22 @@ pub has_rules : (rtype code : ℕ) (rules : List Rule) → rtype ≡ code → Ha
 has_rules rtype code rules e h = subst (λ t. HasRulesOf t rules) (sym e) h
 
 abbrev pub any_rules : List Rule
-any_rules = Outside ∷ BelowDname ∷ HostName ∷ TtlDiffers ∷ Duplicate ∷ []
+any_rules = coded_rule Outside 0 ∷ coded_rule BelowDname 0 ∷ coded_rule HostName 0 ∷ coded_rule TtlDiffers 0 ∷ coded_rule Duplicate 0 ∷ []
 
 abbrev pub ns_rules : List Rule
-ns_rules = Outside ∷ NsAddress ∷ BelowDname ∷ WildcardNs ∷ MissingGlue ∷ HostIsAlias ∷ HostBelowDname ∷ HostMissing ∷ HostName ∷ SingleNs ∷ TtlDiffers ∷ Duplicate ∷ []
+ns_rules = coded_rule Outside 0 ∷ coded_rule NsAddress 0 ∷ coded_rule BelowDname 0 ∷ coded_rule WildcardNs 0 ∷ coded_rule Glue 0 ∷ coded_rule TargetCname 0 ∷ coded_rule TargetCname 1 ∷ coded_rule TargetMissing 0 ∷ coded_rule HostName 0 ∷ coded_rule SingleNs 0 ∷ coded_rule TtlDiffers 0 ∷ coded_rule Duplicate 0 ∷ []
 
 abbrev pub host_rules : List Rule
-host_rules = Outside ∷ BelowDname ∷ HostIsAlias ∷ HostBelowDname ∷ HostMissing ∷ HostName ∷ TtlDiffers ∷ Duplicate ∷ []
+host_rules = coded_rule Outside 0 ∷ coded_rule BelowDname 0 ∷ coded_rule TargetCname 0 ∷ coded_rule TargetCname 1 ∷ coded_rule TargetMissing 0 ∷ coded_rule HostName 0 ∷ coded_rule TtlDiffers 0 ∷ coded_rule Duplicate 0 ∷ []
 
 abbrev pub cname_rules : List Rule
-cname_rules = Outside ∷ Cname ∷ BelowDname ∷ HostName ∷ CnameTargetMissing ∷ CnameLoop ∷ TtlDiffers ∷ Duplicate ∷ []
+cname_rules = coded_rule Outside 0 ∷ coded_rule Cname 0 ∷ coded_rule BelowDname 0 ∷ coded_rule HostName 0 ∷ coded_rule CnameTargetMissing 0 ∷ coded_rule CnameLoop 0 ∷ coded_rule TtlDiffers 0 ∷ coded_rule Duplicate 0 ∷ []
 
 abbrev pub txt_rules : List Rule
-txt_rules = Outside ∷ BelowDname ∷ HostName ∷ TwoSpf ∷ TtlDiffers ∷ Duplicate ∷ []
+txt_rules = coded_rule Outside 0 ∷ coded_rule BelowDname 0 ∷ coded_rule HostName 0 ∷ coded_rule TwoSpf 0 ∷ coded_rule TtlDiffers 0 ∷ coded_rule Duplicate 0 ∷ []
 
 abbrev pub ds_rules : List Rule
-ds_rules = Outside ∷ BelowDname ∷ DsAtApex ∷ HostName ∷ DsWithoutNs ∷ KeyAlgorithm ∷ WeakDigest ∷ TtlDiffers ∷ Duplicate ∷ []
+ds_rules = coded_rule Outside 0 ∷ coded_rule BelowDname 0 ∷ coded_rule DsApex 0 ∷ coded_rule HostName 0 ∷ coded_rule DsWithoutNs 0 ∷ coded_rule KeyAlgorithm 0 ∷ coded_rule WeakDigest 0 ∷ coded_rule TtlDiffers 0 ∷ coded_rule Duplicate 0 ∷ []
 
 -- ---- the findings of a record, by the rules that it may break
 

@@ -5,6 +5,9 @@ use Rattle.std.specs.List.{AllWithin, list_any}
 use Rattle.std.specs.Option.{option_map, option_map_or}
 use Rattle.std.proofs.lemmas.Bool.{cases_lt, false≢true, or_left, or_right}
 use Rattle.std.proofs.lemmas.Option.{slice_get-get_or}
+use Rattle.finding_codes.specs.declared.code.Code.{Code}
+use Rattle.finding_codes.specs.declared.code.Code.TheVariants.{Outside, TwoSoas, NsAddress, Cname, BelowDname, WildcardNs, SoaNotApex, NsBesideDname, HostName, DsWithoutNs, NotAtApex, KeyProtocol, KeyAlgorithm, CnameTargetMissing, CnameLoop, TwoSpf, WeakDigest, SingleNs, TtlDiffers, Duplicate, Dname, DsApex, Nsec3Wildcard, Glue, TargetCname, TargetMissing, Cds}
+use Rattle.finding_codes.specs.declared.rule.Rule.{Rule}
 use Rattle.rdata_values.specs.Classes.{internet}
 use Rattle.rdata_values.specs.Rtype as Rtype
 use Rattle.zone_record.specs.declared.record.Record.{Record}
@@ -12,7 +15,7 @@ use Rattle.dns_wire.specs.Order.{same_name}
 use Rattle.zone_rules.specs.Above.{is_below, is_within}
 use Rattle.zone_rules.specs.Findings.{breaks_at}
 use Rattle.zone_rules.specs.Present.{has_address_in}
-use Rattle.zone_rules.specs.Rules.{breaks, is_alias, is_below_own_dname, is_beside_aliases, is_missing, is_of_sha1, are_of_one_key, is_record_at_apex, is_without_glue, lacks_address, names_host}
+use Rattle.zone_rules.specs.Rules.{breaks, breaks_in_way, is_alias, is_below_own_dname, is_beside_aliases, is_missing, is_of_sha1, are_of_one_key, is_record_at_apex, is_without_glue, lacks_address, names_host}
 use Rattle.zone_rules.specs.Searches.{AreOwnedFrom}
 use Rattle.zone_rules.specs.Spf.{is_spf}
 use Rattle.zone_rules.specs.Subjects.{alike, is_apex_server, is_server_above, relates, wants_host, AreHostFaults, IsSubject}
@@ -20,8 +23,6 @@ use Rattle.zone_rules.specs.Zones.{as_listed, comes_before, host_of, is_equal_re
 use Rattle.zone_rules.specs.declared.beside.Relation.{Relation}
 use Rattle.zone_rules.specs.declared.beside.Relation.TheVariants.{Alias, Spf, Digest, Sha1, Server}
 use Rattle.zone_rules.specs.declared.refused.RrsetName.{RrsetName}
-use Rattle.zone_rules.specs.declared.rule.Rule.{Rule}
-use Rattle.zone_rules.specs.declared.rule.Rule.TheVariants.{NoSoa, NoNs, Outside, TwoSoas, NsAddress, Cname, TwoDnames, BelowDname, DsAtApex, WildcardNs, SoaNotApex, NsBesideDname, Nsec3Owner, MissingGlue, HostIsAlias, HostBelowDname, HostMissing, HostName, CdsWithoutKey, DsWithoutNs, NotAtApex, KeyProtocol, KeyAlgorithm, CnameTargetMissing, CnameLoop, TwoSpf, WeakDigest, SingleNs, TtlDiffers, Duplicate}
 use Rattle.zone_rules.specs.declared.subject.HostFaults.{HostFaults}
 use Rattle.zone_rules.specs.declared.subject.Subject.{Subject}
 use Rattle.zone_rules.proofs.ByType.{breaks_alike}
@@ -32,42 +33,44 @@ some_same x y h = cc
 
 -- ---- a record breaks the rules that it breaks in the list
 
+listed_in_way : {N O : Type 0} (R S : Type 0) (code : Code) (way : ℕ) (origin : List (List ℕ)) (records : List (Record N O)) (refused : List RrsetName) (before : Option (Record N O)) (r : Record N O)
+    → breaks_in_way {M = R} {P = S} code way origin records refused (option_map as_listed before) (as_listed r) ≡ breaks_in_way code way origin records refused before r
+listed_in_way R S Outside way origin records refused before r = refl
+listed_in_way R S TwoSoas way origin records refused None r = refl
+listed_in_way R S TwoSoas way origin records refused (Some b) r = refl
+listed_in_way R S NsAddress way origin records refused before r = refl
+listed_in_way R S Cname way origin records refused before r = refl
+listed_in_way R S Dname way origin records refused None r = refl
+listed_in_way R S Dname way origin records refused (Some b) r = refl
+listed_in_way R S BelowDname way origin records refused before r = refl
+listed_in_way R S DsApex way origin records refused before r = refl
+listed_in_way R S WildcardNs way origin records refused before r = refl
+listed_in_way R S SoaNotApex way origin records refused before r = refl
+listed_in_way R S NsBesideDname way origin records refused before r = refl
+listed_in_way R S Nsec3Wildcard way origin records refused before r = refl
+listed_in_way R S Glue way origin records refused before r = refl
+listed_in_way R S TargetCname way origin records refused before r = refl
+listed_in_way R S TargetMissing way origin records refused before r = refl
+listed_in_way R S HostName way origin records refused before r = refl
+listed_in_way R S Cds way origin records refused before r = refl
+listed_in_way R S DsWithoutNs way origin records refused before r = refl
+listed_in_way R S NotAtApex way origin records refused before r = refl
+listed_in_way R S KeyProtocol way origin records refused before r = refl
+listed_in_way R S KeyAlgorithm way origin records refused before r = refl
+listed_in_way R S CnameTargetMissing way origin records refused before r = refl
+listed_in_way R S CnameLoop way origin records refused before r = refl
+listed_in_way R S TwoSpf way origin records refused before r = refl
+listed_in_way R S WeakDigest way origin records refused before r = refl
+listed_in_way R S SingleNs way origin records refused before r = refl
+listed_in_way R S TtlDiffers way origin records refused None r = refl
+listed_in_way R S TtlDiffers way origin records refused (Some b) r = refl
+listed_in_way R S Duplicate way origin records refused None r = refl
+listed_in_way R S Duplicate way origin records refused (Some b) r = refl
+listed_in_way R S _ way origin records refused before r = refl
+
 breaks_listed : {N O : Type 0} (R S : Type 0) (rule : Rule) (origin : List (List ℕ)) (records : List (Record N O)) (refused : List RrsetName) (before : Option (Record N O)) (r : Record N O)
     → breaks {M = R} {P = S} rule origin records refused (option_map as_listed before) (as_listed r) ≡ breaks rule origin records refused before r
-breaks_listed R S NoSoa origin records refused before r = refl
-breaks_listed R S NoNs origin records refused before r = refl
-breaks_listed R S Outside origin records refused before r = refl
-breaks_listed R S TwoSoas origin records refused None r = refl
-breaks_listed R S TwoSoas origin records refused (Some b) r = refl
-breaks_listed R S NsAddress origin records refused before r = refl
-breaks_listed R S Cname origin records refused before r = refl
-breaks_listed R S TwoDnames origin records refused None r = refl
-breaks_listed R S TwoDnames origin records refused (Some b) r = refl
-breaks_listed R S BelowDname origin records refused before r = refl
-breaks_listed R S DsAtApex origin records refused before r = refl
-breaks_listed R S WildcardNs origin records refused before r = refl
-breaks_listed R S SoaNotApex origin records refused before r = refl
-breaks_listed R S NsBesideDname origin records refused before r = refl
-breaks_listed R S Nsec3Owner origin records refused before r = refl
-breaks_listed R S MissingGlue origin records refused before r = refl
-breaks_listed R S HostIsAlias origin records refused before r = refl
-breaks_listed R S HostBelowDname origin records refused before r = refl
-breaks_listed R S HostMissing origin records refused before r = refl
-breaks_listed R S HostName origin records refused before r = refl
-breaks_listed R S CdsWithoutKey origin records refused before r = refl
-breaks_listed R S DsWithoutNs origin records refused before r = refl
-breaks_listed R S NotAtApex origin records refused before r = refl
-breaks_listed R S KeyProtocol origin records refused before r = refl
-breaks_listed R S KeyAlgorithm origin records refused before r = refl
-breaks_listed R S CnameTargetMissing origin records refused before r = refl
-breaks_listed R S CnameLoop origin records refused before r = refl
-breaks_listed R S TwoSpf origin records refused before r = refl
-breaks_listed R S WeakDigest origin records refused before r = refl
-breaks_listed R S SingleNs origin records refused before r = refl
-breaks_listed R S TtlDiffers origin records refused None r = refl
-breaks_listed R S TtlDiffers origin records refused (Some b) r = refl
-breaks_listed R S Duplicate origin records refused None r = refl
-breaks_listed R S Duplicate origin records refused (Some b) r = refl
+breaks_listed R S rule origin records refused before r = listed_in_way R S rule.code rule.way origin records refused before r
 
 broken_in : {N O R S : Type 0} (rule : Rule) (origin : List (List ℕ)) (records : List (Record N O)) (refused : List RrsetName) (before : Option (Record R S)) (found : Record R S) (place : ℕ) (o : Option (Record N O))
     → Some found ≡ option_map as_listed o → before ≡ option_map as_listed (option_and_then (λ r. option_and_then (alike r) (record_before records place)) o)

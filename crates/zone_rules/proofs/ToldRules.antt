@@ -4,14 +4,15 @@ use Rattle.std.specs.Prelude.{not}
 use Rattle.std.specs.List.{Contains, flat_map, range_with_len}
 use Rattle.std.proofs.lemmas.List.Elements.{Contains-append_left, Contains-append_right, Contains-append_cases}
 use Rattle.std.proofs.lemmas.List.FromFn.{length-range_with_len, get_or-range_with_len}
+use Rattle.finding_codes.specs.Rule.{coded_rule}
+use Rattle.finding_codes.specs.declared.code.Code.TheVariants.{NoSoa, NoNs}
+use Rattle.finding_codes.specs.declared.rule.Rule.{Rule}
 use Rattle.rdata_values.specs.Rtype as Rtype
 use Rattle.zone_record.specs.declared.record.Record.{Record}
 use Rattle.zone_rules.specs.Findings.{found_if, found_at_apex, record_rules, breaks_at, found_of, found_at, found_in_zone, ReportsBrokenRules}
 use Rattle.zone_rules.specs.Present.{is_present}
 use Rattle.zone_rules.specs.declared.refused.RrsetName.{RrsetName}
 use Rattle.zone_rules.specs.declared.rule.Finding.{Finding}
-use Rattle.zone_rules.specs.declared.rule.Rule.{Rule}
-use Rattle.zone_rules.specs.declared.rule.Rule.TheVariants.{NoSoa, NoNs}
 
 -- ---- elements of lists that are put together
 
@@ -72,9 +73,9 @@ module _ {N O : Type 0} (origin : List (List ℕ)) (records : List (Record N O))
   not_at_apex rule place h =
       let told : Finding = record { rule = rule; «record» = Some place } in
       ⊎_elim
-      (λ a. none_is place (from_found (not (is_present Rtype.soa origin records refused)) NoSoa None told a).2)
-      (λ a. none_is place (from_found (not (is_present Rtype.ns origin records refused)) NoNs None told a).2)
-      (Contains-append_cases (found_if (not (is_present Rtype.soa origin records refused)) NoSoa None) (found_if (not (is_present Rtype.ns origin records refused)) NoNs None) told h)
+      (λ a. none_is place (from_found (not (is_present Rtype.soa origin records refused)) (coded_rule NoSoa 0) None told a).2)
+      (λ a. none_is place (from_found (not (is_present Rtype.ns origin records refused)) (coded_rule NoNs 0) None told a).2)
+      (Contains-append_cases (found_if (not (is_present Rtype.soa origin records refused)) (coded_rule NoSoa 0) None) (found_if (not (is_present Rtype.ns origin records refused)) (coded_rule NoNs 0) None) told h)
 
   told_is_broken : (rule : Rule) (place : ℕ) → Contains (found_in_zone origin records refused) (record { rule = rule; «record» = Some place })
       → Contains record_rules rule × (place < length records) × (breaks_at origin records refused place rule ≡ true)

@@ -2,6 +2,9 @@
 use Rattle.std.specs.Prelude.{ℕ, ◌≡◌, ◌<◌, ◌-◌, ◌↔◌, IsTrue, not, if◌then◌else◌, Bool, false, Option, Some, None, List, [], ◌∷◌, ◌++◌, length, slice_get, Vec}
 use Rattle.std.specs.List.{Contains, flat_map, range_with_len}
 use Rattle.std.specs.Option.{option_map_or}
+use Rattle.finding_codes.specs.Rule.{coded_rule}
+use Rattle.finding_codes.specs.declared.code.Code.TheVariants.{NoSoa, NoNs, Outside, TwoSoas, NsAddress, Cname, BelowDname, WildcardNs, SoaNotApex, NsBesideDname, HostName, DsWithoutNs, NotAtApex, KeyProtocol, KeyAlgorithm, CnameTargetMissing, CnameLoop, TwoSpf, WeakDigest, SingleNs, TtlDiffers, Duplicate, Dname, DsApex, Nsec3Wildcard, Glue, TargetCname, TargetMissing, Cds}
+use Rattle.finding_codes.specs.declared.rule.Rule.{Rule}
 use Rattle.rdata_values.specs.Rtype as Rtype
 use Rattle.zone_record.specs.declared.record.Record.{Record}
 use Rattle.zone_rules.specs.Present.{is_present}
@@ -9,8 +12,6 @@ use Rattle.zone_rules.specs.Rules.{breaks}
 use Rattle.zone_rules.specs.Zones.{record_before}
 use Rattle.zone_rules.specs.declared.refused.RrsetName.{RrsetName}
 use Rattle.zone_rules.specs.declared.rule.Finding.{Finding}
-use Rattle.zone_rules.specs.declared.rule.Rule.{Rule}
-use Rattle.zone_rules.specs.declared.rule.Rule.TheVariants.{NoSoa, NoNs, Outside, TwoSoas, NsAddress, Cname, TwoDnames, BelowDname, DsAtApex, WildcardNs, SoaNotApex, NsBesideDname, Nsec3Owner, MissingGlue, HostIsAlias, HostBelowDname, HostMissing, HostName, CdsWithoutKey, DsWithoutNs, NotAtApex, KeyProtocol, KeyAlgorithm, CnameTargetMissing, CnameLoop, TwoSpf, WeakDigest, SingleNs, TtlDiffers, Duplicate}
 
 -- a finding of a rule, if the rule is broken
 abbrev pub found_if : Bool → Rule → Option ℕ → List Finding
@@ -18,13 +19,13 @@ found_if is_broken rule place = if is_broken then record { rule = rule; «record
 
 -- what is missing at the zone's apex
 abbrev pub found_at_apex : {N O : Type 0} → List (List ℕ) → List (Record N O) → List RrsetName → List Finding
-found_at_apex origin records refused = found_if (not (is_present Rtype.soa origin records refused)) NoSoa None ++ found_if (not (is_present Rtype.ns origin records refused)) NoNs None
+found_at_apex origin records refused = found_if (not (is_present Rtype.soa origin records refused)) (coded_rule NoSoa 0) None ++ found_if (not (is_present Rtype.ns origin records refused)) (coded_rule NoNs 0) None
 
 -- the rules for records
 abbrev pub record_rules : List Rule
 record_rules =
-    Outside ∷ TwoSoas ∷ NsAddress ∷ Cname ∷ TwoDnames ∷ BelowDname ∷ DsAtApex ∷ WildcardNs ∷ SoaNotApex ∷ NsBesideDname ∷ Nsec3Owner ∷ MissingGlue ∷ HostIsAlias
-    ∷ HostBelowDname ∷ HostMissing ∷ HostName ∷ CdsWithoutKey ∷ DsWithoutNs ∷ NotAtApex ∷ KeyProtocol ∷ KeyAlgorithm ∷ CnameTargetMissing ∷ CnameLoop ∷ TwoSpf ∷ WeakDigest ∷ SingleNs ∷ TtlDiffers ∷ Duplicate ∷ []
+    coded_rule Outside 0 ∷ coded_rule TwoSoas 0 ∷ coded_rule NsAddress 0 ∷ coded_rule Cname 0 ∷ coded_rule Dname 0 ∷ coded_rule BelowDname 0 ∷ coded_rule DsApex 0 ∷ coded_rule WildcardNs 0 ∷ coded_rule SoaNotApex 0 ∷ coded_rule NsBesideDname 0 ∷ coded_rule Nsec3Wildcard 0 ∷ coded_rule Glue 0 ∷ coded_rule TargetCname 0
+    ∷ coded_rule TargetCname 1 ∷ coded_rule TargetMissing 0 ∷ coded_rule HostName 0 ∷ coded_rule Cds 0 ∷ coded_rule DsWithoutNs 0 ∷ coded_rule NotAtApex 0 ∷ coded_rule KeyProtocol 0 ∷ coded_rule KeyAlgorithm 0 ∷ coded_rule CnameTargetMissing 0 ∷ coded_rule CnameLoop 0 ∷ coded_rule TwoSpf 0 ∷ coded_rule WeakDigest 0 ∷ coded_rule SingleNs 0 ∷ coded_rule TtlDiffers 0 ∷ coded_rule Duplicate 0 ∷ []
 
 -- the record at an index breaks the rule
 abbrev pub breaks_at : {N O : Type 0} → List (List ℕ) → List (Record N O) → List RrsetName → ℕ → Rule → Bool

@@ -4,7 +4,6 @@ pub mod Findings
 pub mod HostNames
 pub mod Present
 pub mod Rows
-pub mod RuleNames
 pub mod RulesByType
 pub mod Rules
 pub mod Searches

@@ -1,5 +1,7 @@
 -- Worked examples of the rules, each computed.
 use Rattle.std.specs.Prelude.{◌≡◌, ℕ, true, false, Some, None, List, [], ◌∷◌, ◌++◌, codes, refl}
+use Rattle.finding_codes.specs.Rule.{coded_rule}
+use Rattle.finding_codes.specs.declared.code.Code.TheVariants.{NoSoa, NsAddress, SingleNs}
 use Rattle.rdata_values.specs.Rtype as Rtype
 use Rattle.rdata_values.specs.declared.types.RecordType.{RecordType}
 use Rattle.rdata_tokens.specs.PrintedNames.{labels_in_octets}
@@ -15,7 +17,6 @@ use Rattle.zone_rules.specs.Rules.{are_two_of, has_spf_before, have_other_ttls, 
 use Rattle.zone_rules.specs.Spf.{is_spf}
 use Rattle.zone_rules.specs.Zones.{host_of, is_one_set, is_one_owner}
 use Rattle.zone_rules.specs.declared.refused.RrsetName.{RrsetName}
-use Rattle.zone_rules.specs.declared.rule.Rule.TheVariants.{NoSoa, NsAddress, SingleNs}
 
 -- `example.`, and names below it
 abbrev apex : List (List ℕ)
@@ -468,6 +469,6 @@ ttl_row = refl
 
 -- ---- a zone of one record
 
-zone_row : found_in_zone apex (server ∷ []) [] ≡ record { rule = NoSoa; «record» = None } ∷ record { rule = NsAddress; «record» = Some 0 } ∷ record { rule = SingleNs; «record» = Some 0 } ∷ []
+zone_row : found_in_zone apex (server ∷ []) [] ≡ record { rule = coded_rule NoSoa 0; «record» = None } ∷ record { rule = coded_rule NsAddress 0; «record» = Some 0 } ∷ record { rule = coded_rule SingleNs 0; «record» = Some 0 } ∷ []
 unfolding type_shapes labels_in_octets
 zone_row = refl

@@ -4,6 +4,9 @@ use Rattle.std.specs.Cmp.Lexicographic.{pointwise}
 use Rattle.std.specs.List.{find, list_any}
 use Rattle.std.specs.Option.{option_map_or}
 use Rattle.dns_wire.specs.Order.{same_name}
+use Rattle.finding_codes.specs.declared.code.Code.{Code}
+use Rattle.finding_codes.specs.declared.code.Code.TheVariants.{Outside, TwoSoas, NsAddress, Cname, BelowDname, WildcardNs, SoaNotApex, NsBesideDname, HostName, DsWithoutNs, NotAtApex, KeyProtocol, KeyAlgorithm, CnameTargetMissing, CnameLoop, TwoSpf, WeakDigest, SingleNs, TtlDiffers, Duplicate, Dname, DsApex, Nsec3Wildcard, Glue, TargetCname, TargetMissing, Cds}
+use Rattle.finding_codes.specs.declared.rule.Rule.{Rule}
 use Rattle.rdata_values.specs.Classes.{internet}
 use Rattle.rdata_values.specs.Rtype as Rtype
 use Rattle.rdata_values.specs.declared.types.RecordType.{RecordType}
@@ -16,8 +19,6 @@ use Rattle.zone_rules.specs.Present.{closest_dname, has_any_address, yields_reco
 use Rattle.zone_rules.specs.Spf.{is_spf}
 use Rattle.zone_rules.specs.Zones.{comes_before, type_of, has_type_at, is_equal_record, record_before, host_of, set_type, is_one_set}
 use Rattle.zone_rules.specs.declared.refused.RrsetName.{RrsetName}
-use Rattle.zone_rules.specs.declared.rule.Rule.{Rule}
-use Rattle.zone_rules.specs.declared.rule.Rule.TheVariants.{NoSoa, NoNs, Outside, TwoSoas, NsAddress, Cname, TwoDnames, BelowDname, DsAtApex, WildcardNs, SoaNotApex, NsBesideDname, Nsec3Owner, MissingGlue, HostIsAlias, HostBelowDname, HostMissing, HostName, CdsWithoutKey, DsWithoutNs, NotAtApex, KeyProtocol, KeyAlgorithm, CnameTargetMissing, CnameLoop, TwoSpf, WeakDigest, SingleNs, TtlDiffers, Duplicate}
 
 -- the record is neither at the origin nor below it
 abbrev pub is_out_of_zone : {N O : Type 0} → List (List ℕ) → Record N O → Bool
@@ -268,34 +269,35 @@ is_lone_server origin records refused r =
 -- ---- all rules
 
 -- whether a record breaks a rule after the one before it, if there is one; no record breaks the rules about what is missing at the apex
+abbrev pub breaks_in_way : {N O M P : Type 0} → Code → (way : ℕ) → List (List ℕ) → List (Record N O) → List RrsetName → Option (Record M P) → Record M P → Bool
+breaks_in_way Outside way origin records refused before r = is_out_of_zone origin r
+breaks_in_way TwoSoas way origin records refused before r = passes_after (are_two_of Rtype.soa) before r
+breaks_in_way NsAddress way origin records refused before r = lacks_ns_address origin records refused r
+breaks_in_way Cname way origin records refused before r = is_alias_in_company records r
+breaks_in_way Dname way origin records refused before r = passes_after (are_two_of Rtype.dname) before r
+breaks_in_way BelowDname way origin records refused before r = is_below_dname records r
+breaks_in_way DsApex way origin records refused before r = is_record_at_apex Rtype.ds origin r
+breaks_in_way WildcardNs way origin records refused before r = is_wildcard_ns r
+breaks_in_way SoaNotApex way origin records refused before r = is_soa_below_apex origin r
+breaks_in_way NsBesideDname way origin records refused before r = is_dname_at_cut origin records r
+breaks_in_way Nsec3Wildcard way origin records refused before r = is_unhashed_nsec3 r
+breaks_in_way Glue way origin records refused before r = lacks_glue origin records refused r
+breaks_in_way TargetCname way origin records refused before r = if way == 0 then names_alias origin records refused r else names_renamed origin records refused r
+breaks_in_way TargetMissing way origin records refused before r = names_missing origin records refused r
+breaks_in_way HostName way origin records refused before r = is_bad_host_name r
+breaks_in_way Cds way origin records refused before r = lacks_key origin records refused r
+breaks_in_way DsWithoutNs way origin records refused before r = lacks_ns origin records refused r
+breaks_in_way NotAtApex way origin records refused before r = is_below_its_apex origin records refused r
+breaks_in_way KeyProtocol way origin records refused before r = has_other_protocol r
+breaks_in_way KeyAlgorithm way origin records refused before r = has_no_algorithm r
+breaks_in_way CnameTargetMissing way origin records refused before r = names_nothing origin records refused r
+breaks_in_way CnameLoop way origin records refused before r = is_alias_loop records r
+breaks_in_way TwoSpf way origin records refused before r = has_spf_before records r
+breaks_in_way WeakDigest way origin records refused before r = is_weak_digest records refused r
+breaks_in_way SingleNs way origin records refused before r = is_lone_server origin records refused r
+breaks_in_way TtlDiffers way origin records refused before r = passes_after have_other_ttls before r
+breaks_in_way Duplicate way origin records refused before r = passes_after is_equal_record before r
+breaks_in_way _ way origin records refused before r = false
+
 abbrev pub breaks : {N O M P : Type 0} → Rule → List (List ℕ) → List (Record N O) → List RrsetName → Option (Record M P) → Record M P → Bool
-breaks NoSoa origin records refused before r = false
-breaks NoNs origin records refused before r = false
-breaks Outside origin records refused before r = is_out_of_zone origin r
-breaks TwoSoas origin records refused before r = passes_after (are_two_of Rtype.soa) before r
-breaks NsAddress origin records refused before r = lacks_ns_address origin records refused r
-breaks Cname origin records refused before r = is_alias_in_company records r
-breaks TwoDnames origin records refused before r = passes_after (are_two_of Rtype.dname) before r
-breaks BelowDname origin records refused before r = is_below_dname records r
-breaks DsAtApex origin records refused before r = is_record_at_apex Rtype.ds origin r
-breaks WildcardNs origin records refused before r = is_wildcard_ns r
-breaks SoaNotApex origin records refused before r = is_soa_below_apex origin r
-breaks NsBesideDname origin records refused before r = is_dname_at_cut origin records r
-breaks Nsec3Owner origin records refused before r = is_unhashed_nsec3 r
-breaks MissingGlue origin records refused before r = lacks_glue origin records refused r
-breaks HostIsAlias origin records refused before r = names_alias origin records refused r
-breaks HostBelowDname origin records refused before r = names_renamed origin records refused r
-breaks HostMissing origin records refused before r = names_missing origin records refused r
-breaks HostName origin records refused before r = is_bad_host_name r
-breaks CdsWithoutKey origin records refused before r = lacks_key origin records refused r
-breaks DsWithoutNs origin records refused before r = lacks_ns origin records refused r
-breaks NotAtApex origin records refused before r = is_below_its_apex origin records refused r
-breaks KeyProtocol origin records refused before r = has_other_protocol r
-breaks KeyAlgorithm origin records refused before r = has_no_algorithm r
-breaks CnameTargetMissing origin records refused before r = names_nothing origin records refused r
-breaks CnameLoop origin records refused before r = is_alias_loop records r
-breaks TwoSpf origin records refused before r = has_spf_before records r
-breaks WeakDigest origin records refused before r = is_weak_digest records refused r
-breaks SingleNs origin records refused before r = is_lone_server origin records refused r
-breaks TtlDiffers origin records refused before r = passes_after have_other_ttls before r
-breaks Duplicate origin records refused before r = passes_after is_equal_record before r
+breaks rule origin records refused before r = breaks_in_way rule.code rule.way origin records refused before r

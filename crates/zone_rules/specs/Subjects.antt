@@ -2,6 +2,7 @@
 use Rattle.std.specs.Prelude.{◌≡◌, ◌<◌, ◌≤◌, ◌-◌, ℕ, ◌==◌, ◌&&◌, not, if◌then◌else◌, Bool, true, false, Option, Some, None, List, option_and_then, slice_get}
 use Rattle.std.specs.Option.{option_map, option_map_or}
 use Rattle.dns_wire.specs.Order.{same_name}
+use Rattle.finding_codes.specs.declared.rule.Rule.{Rule}
 use Rattle.rdata_values.specs.Classes.{internet}
 use Rattle.rdata_values.specs.Rtype as Rtype
 use Rattle.zone_record.specs.declared.record.Record.{Record}
@@ -13,7 +14,6 @@ use Rattle.zone_rules.specs.Zones.{as_listed, has_type_at, record_before, type_o
 use Rattle.zone_rules.specs.declared.beside.Relation.{Relation}
 use Rattle.zone_rules.specs.declared.beside.Relation.TheVariants.{Alias, Spf, Digest, Sha1, Server}
 use Rattle.zone_rules.specs.declared.refused.RrsetName.{RrsetName}
-use Rattle.zone_rules.specs.declared.rule.Rule.{Rule}
 use Rattle.zone_rules.specs.declared.subject.HostFaults.{HostFaults}
 use Rattle.zone_rules.specs.declared.subject.Subject.{Subject}
 

@@ -1,5 +1,5 @@
 //! Checks a zone against the rules.
-ghost use Rattle.std.specs.Prelude.{◌≡◌, ◌<◌, ◌≤◌, ◌++◌, OnOk, IfOk, length};
+ghost use Rattle.std.specs.Prelude.{◌≡◌, ◌<◌, ◌≤◌, ◌==◌, ◌++◌, OnOk, IfOk, if◌then◌else◌, length};
 ghost use Rattle.std.specs.List.{flat_map};
 ghost use Rattle.std.specs.Option.{option_map};
 ghost use Rattle.zone_rules.specs.Findings.{found_at, found_at_apex, found_if, found_in_zone, found_of, HasZoneFindings, HasPartFindings};
@@ -21,14 +21,28 @@ use crate::owners::{
 use crate::pairs::{has_other_ttl, is_duplicate, is_second};
 use crate::present::has_set;
 use crate::refused::SortedSets;
-use crate::rule::{Finding, Rule};
+use crate::rule::Finding;
 use crate::rules_by_type::rules_of;
-use crate::subject::Subject;
+use crate::subject::{HostFaults, Subject};
 use crate::zone_records::{OwnerBuffer, ZoneRecord, ZoneRecords};
 use dns_octets::AsOctets;
 use dns_wire::Name;
+use finding_codes::code::Code;
+use finding_codes::rule::Rule;
 use rdata_values::RecordType;
 use std::alloc::{AllocError, Allocator};
+
+/// Returns whether the host in a record's data is not a host: it is an alias, and in the second way
+/// below a DNAME.
+fn names_other(way: u8, faults: &HostFaults) -> bool
+    ensures { result ≡ (if way == 0 then faults.now.is_alias else faults.now.is_renamed) }
+{
+    if way == 0 {
+        faults.is_alias
+    } else {
+        faults.is_renamed
+    }
+}
 
 /// Returns whether the record of a subject breaks a rule.
 fn breaks_rule<Z: ZoneRecords>(
@@ -45,36 +59,35 @@ fn breaks_rule<Z: ZoneRecords>(
     let before = &subject.before;
     let record = &subject.found;
     let faults = &subject.faults;
-    match rule {
-        Rule::NoSoa | Rule::NoNs => false,
-        Rule::Outside => is_outside_zone(origin, record),
-        Rule::TwoSoas => is_second(RecordType::SOA, before, record),
-        Rule::NsAddress => faults.lacks_address,
-        Rule::Cname => has_company(records, place, record),
-        Rule::TwoDnames => is_second(RecordType::DNAME, before, record),
-        Rule::BelowDname => is_under_dname(records, record),
-        Rule::DsAtApex => is_apex_record(RecordType::DS, origin, record),
-        Rule::WildcardNs => is_ns_at_wildcard(record),
-        Rule::SoaNotApex => is_soa_elsewhere(origin, record),
-        Rule::NsBesideDname => is_dname_at_delegation(origin, records, place, record),
-        Rule::Nsec3Owner => is_nsec3_without_hash(record),
-        Rule::MissingGlue => faults.lacks_glue,
-        Rule::HostIsAlias => faults.is_alias,
-        Rule::HostBelowDname => faults.is_renamed,
-        Rule::HostMissing => faults.is_missing,
-        Rule::HostName => is_no_host_name(record),
-        Rule::CdsWithoutKey => is_without_key(origin, records, refused, record),
-        Rule::DsWithoutNs => is_ds_without_ns(origin, records, refused, place, record),
-        Rule::NotAtApex => is_not_at_apex(origin, records, refused, place, record),
-        Rule::KeyProtocol => is_of_other_protocol(record),
-        Rule::KeyAlgorithm => is_without_algorithm(record),
-        Rule::CnameTargetMissing => is_target_missing(origin, records, refused, record),
-        Rule::CnameLoop => is_loop(records, place, record),
-        Rule::TwoSpf => is_second_spf(records, place, record),
-        Rule::WeakDigest => is_weak_ds(records, refused, place, record),
-        Rule::SingleNs => is_lone_server(origin, records, refused, place, record),
-        Rule::TtlDiffers => has_other_ttl(before, record),
-        Rule::Duplicate => is_duplicate(before, record),
+    match rule.code {
+        Code::Outside => is_outside_zone(origin, record),
+        Code::TwoSoas => is_second(RecordType::SOA, before, record),
+        Code::NsAddress => faults.lacks_address,
+        Code::Cname => has_company(records, place, record),
+        Code::Dname => is_second(RecordType::DNAME, before, record),
+        Code::BelowDname => is_under_dname(records, record),
+        Code::DsApex => is_apex_record(RecordType::DS, origin, record),
+        Code::WildcardNs => is_ns_at_wildcard(record),
+        Code::SoaNotApex => is_soa_elsewhere(origin, record),
+        Code::NsBesideDname => is_dname_at_delegation(origin, records, place, record),
+        Code::Nsec3Wildcard => is_nsec3_without_hash(record),
+        Code::Glue => faults.lacks_glue,
+        Code::TargetCname => names_other(rule.way, faults),
+        Code::TargetMissing => faults.is_missing,
+        Code::HostName => is_no_host_name(record),
+        Code::Cds => is_without_key(origin, records, refused, record),
+        Code::DsWithoutNs => is_ds_without_ns(origin, records, refused, place, record),
+        Code::NotAtApex => is_not_at_apex(origin, records, refused, place, record),
+        Code::KeyProtocol => is_of_other_protocol(record),
+        Code::KeyAlgorithm => is_without_algorithm(record),
+        Code::CnameTargetMissing => is_target_missing(origin, records, refused, record),
+        Code::CnameLoop => is_loop(records, place, record),
+        Code::TwoSpf => is_second_spf(records, place, record),
+        Code::WeakDigest => is_weak_ds(records, refused, place, record),
+        Code::SingleNs => is_lone_server(origin, records, refused, place, record),
+        Code::TtlDiffers => has_other_ttl(before, record),
+        Code::Duplicate => is_duplicate(before, record),
+        _ => false,
     }
 }
 
@@ -189,13 +202,19 @@ fn add_lacking<Z: ZoneRecords, A: Allocator>(
 {
     add_if(
         !has_set(records, refused, origin, RecordType::SOA),
-        Rule::NoSoa,
+        Rule {
+            code: Code::NoSoa,
+            way: 0,
+        },
         None,
         found,
     )?;
     add_if(
         !has_set(records, refused, origin, RecordType::NS),
-        Rule::NoNs,
+        Rule {
+            code: Code::NoNs,
+            way: 0,
+        },
         None,
         found,
     )

@@ -24,6 +24,6 @@ pub mod zone_records;
 
 pub use check::{check_zone, find_broken, find_lacking};
 pub use refused::{RrsetName, SortedSets};
-pub use rule::{Finding, Rule};
+pub use rule::Finding;
 pub use sorted::SortedRecords;
 pub use zone_records::ZoneRecords;

@@ -1,111 +1,122 @@
 //! The rules that a record may break, by its type.
 ghost use Rattle.zone_rules.specs.RulesByType.{HasRulesOf};
 
-use crate::rule::Rule;
+use finding_codes::code::Code;
+use finding_codes::rule::Rule;
 use rdata_values::RecordType;
+
+/// A rule, as `rule!(CODE, WAY)`.
+macro_rules! rule {
+    ($code:ident, $way:literal) => {
+        Rule {
+            code: Code::$code,
+            way: $way,
+        }
+    };
+}
 
 /// The rules for records, in the order in which their findings are reported.
 const RECORD_RULES: [Rule; 28] = [
-    Rule::Outside,
-    Rule::TwoSoas,
-    Rule::NsAddress,
-    Rule::Cname,
-    Rule::TwoDnames,
-    Rule::BelowDname,
-    Rule::DsAtApex,
-    Rule::WildcardNs,
-    Rule::SoaNotApex,
-    Rule::NsBesideDname,
-    Rule::Nsec3Owner,
-    Rule::MissingGlue,
-    Rule::HostIsAlias,
-    Rule::HostBelowDname,
-    Rule::HostMissing,
-    Rule::HostName,
-    Rule::CdsWithoutKey,
-    Rule::DsWithoutNs,
-    Rule::NotAtApex,
-    Rule::KeyProtocol,
-    Rule::KeyAlgorithm,
-    Rule::CnameTargetMissing,
-    Rule::CnameLoop,
-    Rule::TwoSpf,
-    Rule::WeakDigest,
-    Rule::SingleNs,
-    Rule::TtlDiffers,
-    Rule::Duplicate,
+    rule!(Outside, 0),
+    rule!(TwoSoas, 0),
+    rule!(NsAddress, 0),
+    rule!(Cname, 0),
+    rule!(Dname, 0),
+    rule!(BelowDname, 0),
+    rule!(DsApex, 0),
+    rule!(WildcardNs, 0),
+    rule!(SoaNotApex, 0),
+    rule!(NsBesideDname, 0),
+    rule!(Nsec3Wildcard, 0),
+    rule!(Glue, 0),
+    rule!(TargetCname, 0),
+    rule!(TargetCname, 1),
+    rule!(TargetMissing, 0),
+    rule!(HostName, 0),
+    rule!(Cds, 0),
+    rule!(DsWithoutNs, 0),
+    rule!(NotAtApex, 0),
+    rule!(KeyProtocol, 0),
+    rule!(KeyAlgorithm, 0),
+    rule!(CnameTargetMissing, 0),
+    rule!(CnameLoop, 0),
+    rule!(TwoSpf, 0),
+    rule!(WeakDigest, 0),
+    rule!(SingleNs, 0),
+    rule!(TtlDiffers, 0),
+    rule!(Duplicate, 0),
 ];
 
 /// Those for a record of any type.
 const RULES_OF_ANY: [Rule; 5] = [
-    Rule::Outside,
-    Rule::BelowDname,
-    Rule::HostName,
-    Rule::TtlDiffers,
-    Rule::Duplicate,
+    rule!(Outside, 0),
+    rule!(BelowDname, 0),
+    rule!(HostName, 0),
+    rule!(TtlDiffers, 0),
+    rule!(Duplicate, 0),
 ];
 
 /// Those for an NS.
 const RULES_OF_NS: [Rule; 12] = [
-    Rule::Outside,
-    Rule::NsAddress,
-    Rule::BelowDname,
-    Rule::WildcardNs,
-    Rule::MissingGlue,
-    Rule::HostIsAlias,
-    Rule::HostBelowDname,
-    Rule::HostMissing,
-    Rule::HostName,
-    Rule::SingleNs,
-    Rule::TtlDiffers,
-    Rule::Duplicate,
+    rule!(Outside, 0),
+    rule!(NsAddress, 0),
+    rule!(BelowDname, 0),
+    rule!(WildcardNs, 0),
+    rule!(Glue, 0),
+    rule!(TargetCname, 0),
+    rule!(TargetCname, 1),
+    rule!(TargetMissing, 0),
+    rule!(HostName, 0),
+    rule!(SingleNs, 0),
+    rule!(TtlDiffers, 0),
+    rule!(Duplicate, 0),
 ];
 
 /// Those for an MX or SRV.
 const RULES_OF_HOST: [Rule; 8] = [
-    Rule::Outside,
-    Rule::BelowDname,
-    Rule::HostIsAlias,
-    Rule::HostBelowDname,
-    Rule::HostMissing,
-    Rule::HostName,
-    Rule::TtlDiffers,
-    Rule::Duplicate,
+    rule!(Outside, 0),
+    rule!(BelowDname, 0),
+    rule!(TargetCname, 0),
+    rule!(TargetCname, 1),
+    rule!(TargetMissing, 0),
+    rule!(HostName, 0),
+    rule!(TtlDiffers, 0),
+    rule!(Duplicate, 0),
 ];
 
 /// Those for a CNAME.
 const RULES_OF_CNAME: [Rule; 8] = [
-    Rule::Outside,
-    Rule::Cname,
-    Rule::BelowDname,
-    Rule::HostName,
-    Rule::CnameTargetMissing,
-    Rule::CnameLoop,
-    Rule::TtlDiffers,
-    Rule::Duplicate,
+    rule!(Outside, 0),
+    rule!(Cname, 0),
+    rule!(BelowDname, 0),
+    rule!(HostName, 0),
+    rule!(CnameTargetMissing, 0),
+    rule!(CnameLoop, 0),
+    rule!(TtlDiffers, 0),
+    rule!(Duplicate, 0),
 ];
 
 /// Those for a TXT.
 const RULES_OF_TXT: [Rule; 6] = [
-    Rule::Outside,
-    Rule::BelowDname,
-    Rule::HostName,
-    Rule::TwoSpf,
-    Rule::TtlDiffers,
-    Rule::Duplicate,
+    rule!(Outside, 0),
+    rule!(BelowDname, 0),
+    rule!(HostName, 0),
+    rule!(TwoSpf, 0),
+    rule!(TtlDiffers, 0),
+    rule!(Duplicate, 0),
 ];
 
 /// Those for a DS.
 const RULES_OF_DS: [Rule; 9] = [
-    Rule::Outside,
-    Rule::BelowDname,
-    Rule::DsAtApex,
-    Rule::HostName,
-    Rule::DsWithoutNs,
-    Rule::KeyAlgorithm,
-    Rule::WeakDigest,
-    Rule::TtlDiffers,
-    Rule::Duplicate,
+    rule!(Outside, 0),
+    rule!(BelowDname, 0),
+    rule!(DsApex, 0),
+    rule!(HostName, 0),
+    rule!(DsWithoutNs, 0),
+    rule!(KeyAlgorithm, 0),
+    rule!(WeakDigest, 0),
+    rule!(TtlDiffers, 0),
+    rule!(Duplicate, 0),
 ];
 
 /// Returns the rules that a record of a type may break, in the order in which their findings are

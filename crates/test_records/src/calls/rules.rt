@@ -127,7 +127,7 @@ fn add_broken(rule: &str, place: Option<usize>, records: &[HeapRecord<'_>], answ
 
 /// Adds a finding of a zone, by rule and record.
 fn add_finding(finding: &Finding, records: &[HeapRecord<'_>], answer: &mut Answer) {
-    add_broken(finding.rule.name(), finding.record, records, answer);
+    add_broken(finding.rule.code.name(), finding.record, records, answer);
 }
 
 /// Adds a finding of a signed zone, by rule and record.
